@@ -1,0 +1,4 @@
+pub mod Number
+pub mod Shape
+pub mod Texts
+pub mod Writing
