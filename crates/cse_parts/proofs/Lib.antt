@@ -1,0 +1,5 @@
+pub mod Names
+pub mod CodeLaws
+pub mod OpcodeLaws
+pub mod PieceLaws
+pub mod WrittenLaws

@@ -1,0 +1,10 @@
+pub mod Image
+pub mod Limits
+pub mod Codes
+pub mod Texts
+pub mod Fields
+pub mod Opcodes
+pub mod Placeholders
+pub mod Pieces
+pub mod Written
+pub mod Ranges
