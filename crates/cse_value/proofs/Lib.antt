@@ -1,2 +1,4 @@
+pub mod FieldLaws
+pub mod FieldSteps
 pub mod TextLaws
 pub mod WriteLaws

@@ -1,6 +1,6 @@
 -- The order of two texts, character by character.
 use Rattle.std.proofs.Common.{◌≡◌, ℕ, zero, suc, ◌+◌, ◌-◌, ◌<◌, ◌≤◌, max, List, [], ◌∷◌, ◌++◌, length, get_or, drop, refl, ap, sym, ◌∙◌, arith, length-append, add-one, drop-cons}
-use Rattle.std.proofs.lemmas.List.{get_or-replicate, get_or_past, length-replicate, drop_all}
+use Rattle.std.proofs.lemmas.List.{length-replicate, drop_all}
 use Rattle.std.specs.declared.cmp.Ordering.{Ordering}
 use Rattle.std.specs.declared.cmp.Ordering.TheVariants.{Equal}
 use Rattle.std.specs.Ordering.{nat_cmp, ordering_then}
@@ -45,7 +45,7 @@ order_from-step i x y h =
     let q : i < length (padded n y) = omega (arith, length-padded n y (omega arith)) in
     from_drops i (padded n x) (padded n y) p q
     ∙ ap (λ v. ordering_then v (slice_cmp nat_cmp (drop (i + 1) (padded n x)) (drop (i + 1) (padded n y))))
-        (ap (λ v. nat_cmp v (get_or (padded n y) i 32)) (padded_at x (n - length x) i) ∙ ap (λ v. nat_cmp (get_or x i 32) v) (padded_at y (n - length y) i))
+    (ap (λ v. nat_cmp v (get_or (padded n y) i 32)) (padded_at x (n - length x) i) ∙ ap (λ v. nat_cmp (get_or x i 32) v) (padded_at y (n - length y) i))
 
 pub order_from-end : (i : ℕ) (x y : List ℕ) → max (length x) (length y) ≤ i → order_from i x y ≡ Equal
 unfolding order_from

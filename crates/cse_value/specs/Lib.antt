@@ -1,3 +1,4 @@
+pub mod Field
 pub mod Number
 pub mod Shape
 pub mod Texts

@@ -3,15 +3,26 @@
 //! A device tells its bytes where they are known (memory tells all, a file none) and whether it has
 //! failed. A call answers `Err` exactly where the device has failed, and a failed one fails for good.
 
-ghost use Rattle.std.specs.Prelude.{◌≡◌, ◌≤◌, ◌<◌, ℕ, List, Bool, false, Option, is_err, IfOk, OnOk, length};
+ghost use Rattle.std.specs.Prelude.{◌≡◌, ◌≤◌, ◌<◌, ℕ, List, Bool, false, Option, is_err, IfOk, OnOk, Some, codes, length};
 ghost use Rattle.std.specs.Io.KnownBytes.{ReadConsumes, WriteAppends};
 ghost use Rattle.cse_value.specs.Writing.{WritesAll, FailsAtErr};
 
-use std::io;
+use std::error::Error;
+use std::{fmt, io};
 
 /// The device has failed, and fails from then on.
 #[derive(Clone, Copy, Debug, PartialEq, Eq)]
 pub struct Failed;
+
+impl fmt::Display for Failed {
+    ghost output = { λ _. Some (codes "the device has failed") };
+
+    fn fmt<W: fmt::Write>(&self, f: &mut fmt::Formatter<W>) -> fmt::Result {
+        write!(f, "the device has failed")
+    }
+}
+
+impl Error for Failed {}
 
 /// What gives bytes.
 pub trait Input {
@@ -59,10 +70,8 @@ impl<R: io::Read> Reads<R> {
         ensures bytes { ⟦<Reads<R> as Input>⟧.remaining result ≡ R.remaining reader }
         ensures sound { ⟦<Reads<R> as Input>⟧.has_failed result ≡ false }
     {
-        Reads {
-            reader,
-            failed: false,
-        }
+        let failed = false;
+        Reads { reader, failed }
     }
 }
 
@@ -99,10 +108,8 @@ impl<W: io::Write> Writes<W> {
         ensures bytes { ⟦<Writes<W> as Output>⟧.contents result ≡ W.contents writer }
         ensures sound { ⟦<Writes<W> as Output>⟧.has_failed result ≡ false }
     {
-        Writes {
-            writer,
-            failed: false,
-        }
+        let failed = false;
+        Writes { writer, failed }
     }
 
     /// The writer.

@@ -29,7 +29,6 @@ pub enum Rel {
     AtLeast = 5,
 }
 
-
 /// The sum. A special operand, or a sum out of 64 bits, gives `Undef`.
 pub fn add(x: Num, y: Num) -> Num
     ensures { result ≡ sum_of x y }
