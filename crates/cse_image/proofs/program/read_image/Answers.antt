@@ -1,0 +1,16 @@
+use Rattle.std.proofs.Common.{arith}
+use Rattle.cse_parts.specs.Image.{image_with}
+use Rattle.cse_image.proofs.Whole.{reading_found, reading_only, stopped_only}
+use Rattle.cse_image.proofs.program.read_image.Goals as goal
+
+pub with_code-requires : goal.with_code-requires
+with_code-requires c = (reading_found c.args.bytes.now (image_with c.in-Ok.tables c.in-Ok.code.items) (λ i. omega (arith, c.type_inv.bytes i)) c.in-Ok.ensures).fits
+
+pub returns-in-Ok-clause-found : goal.returns-in-Ok-clause-found
+returns-in-Ok-clause-found c = rw c.with_code.ensures (reading_found c.args.bytes.now (image_with c.in-Ok.tables c.in-Ok.code.items) (λ i. omega (arith, c.type_inv.bytes i)) c.in-Ok.ensures)
+
+pub returns-in-Ok-clause-only : goal.returns-in-Ok-clause-only
+returns-in-Ok-clause-only c = λ x spells. let e = reading_only c.args.bytes.now x spells in cc (e, c.in-Ok.ensures, c.with_code.ensures)
+
+pub returns-in-Err-clause-only : goal.returns-in-Err-clause-only
+returns-in-Err-clause-only c = λ x spells. stopped_only (λ p. p) c.in-Err.stop _ c.error_within.result _ x c.in-Err.ensures (reading_only c.args.bytes.now x spells) c.error_within.ensures

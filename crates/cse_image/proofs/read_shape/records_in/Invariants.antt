@@ -1,0 +1,7 @@
+use Rattle.std.proofs.Common.{◌≡◌, ◌-◌, []}
+use Rattle.cse_codec.specs.Reader.{many}
+use Rattle.cse_image.specs.Reading.{record_at}
+use Rattle.cse_image.proofs.read_shape.records_in.Given as goal
+
+abbrev pub invariant-loop : goal.invariant-loop
+invariant-loop l = many (λ _. record_at) l.records.items (l.count - l.counter) l.rest ≡ many (λ _. record_at) [] l.count l.bytes

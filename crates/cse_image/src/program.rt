@@ -1,0 +1,226 @@
+//! A program: its tables, and its code wherever it lies.
+
+ghost use Rattle.std.specs.Prelude.{◌≡◌, List, ℕ, MatchOption, IfOk, IfErr, OnOk, Ok, map, length, ◌++◌};
+ghost use Rattle.std.specs.Bool.{Decides};
+ghost use Rattle.std.specs.List.{flat_map};
+ghost use Rattle.std.specs.String.{string_bytes};
+ghost use Rattle.cse_parts.specs.Image.{Image, lists_of, image_of, image_with, array_lists, message_lists, routine_lists};
+ghost use Rattle.cse_image.specs.Spelling.{Fits, Spells, spelling, instr};
+ghost use Rattle.cse_image.specs.Reading.{reading};
+ghost use Rattle.cse_image.specs.Place.{Answers, placed, out_of_memory};
+
+use crate::code::{Code, Owned};
+use crate::error::{ImageError, error_within};
+use crate::fitting::{each_instr_fits, is_code_of, tables_fit};
+use crate::reading::whole_image;
+use crate::sections::put_tables;
+use crate::writing::{put_header, put_instr};
+use cse_parts::entries::{Array, EventEntry, GlobalVariable, Message, Parts, Routine, Tables};
+use cse_parts::instruction::Instr;
+use cse_value::shape::{ItemShape, RecordShape, SetShape};
+use std::alloc::{AllocError, Global};
+use std::marker::Model;
+
+/// A program that has a spelling.
+#[derive(Drop)]
+pub struct Program<C: Code = Owned> {
+    tables: Tables,
+    code: C,
+}
+
+impl<C: Code> Model for Program<C> {
+    ghost Value = { Image };
+
+    ghost view = { λ p. record { lists = lists_of p.tables; code = C.list p.code } };
+
+    ghost invariant = { λ p. Fits (record { lists = lists_of p.tables; code = C.list p.code }) };
+}
+
+impl<C: Code> Program<C> {
+    /// The program of tables and code that fit.
+    pub(crate) fn with(tables: Tables, code: C) -> Self
+        requires { Fits (image_with tables (C.list code)) }
+        ensures { result ≡ image_with tables (C.list code) }
+    {
+        Program { tables, code }
+    }
+
+    /// All sections but the code.
+    pub fn tables(&self) -> &Tables
+        ensures lists { lists_of result.now ≡ self.now.lists }
+        ensures fits { Fits self.now }
+    {
+        &self.tables
+    }
+
+    /// The instructions of routine 0, then those of routine 1, and so on.
+    pub fn code(&self) -> &C
+        ensures { C.list result.now ≡ self.now.code }
+    {
+        &self.code
+    }
+
+    pub fn records(&self) -> &[RecordShape]
+        ensures { result.now ≡ self.now.lists.records }
+    {
+        &self.tables.records
+    }
+
+    pub fn items(&self) -> &[ItemShape]
+        ensures { result.now ≡ self.now.lists.items }
+    {
+        &self.tables.items
+    }
+
+    pub fn sets(&self) -> &[SetShape]
+        ensures { result.now ≡ self.now.lists.sets }
+    {
+        &self.tables.sets
+    }
+
+    /// The records in edit order.
+    pub fn order(&self) -> &[u32]
+        ensures { result.now ≡ self.now.lists.order }
+    {
+        &self.tables.order
+    }
+
+    pub fn constants(&self) -> &[i64]
+        ensures { result.now ≡ self.now.lists.constants }
+    {
+        &self.tables.constants
+    }
+
+    pub fn texts(&self) -> &[String]
+        ensures { map string_bytes result.now ≡ self.now.lists.texts }
+    {
+        &self.tables.texts
+    }
+
+    pub fn globals(&self) -> &[GlobalVariable]
+        ensures { result.now ≡ self.now.lists.globals }
+    {
+        &self.tables.globals
+    }
+
+    pub fn arrays(&self) -> &[Array]
+        ensures { map array_lists result.now ≡ self.now.lists.arrays }
+    {
+        &self.tables.arrays
+    }
+
+    pub fn messages(&self) -> &[Message]
+        ensures { map message_lists result.now ≡ self.now.lists.messages }
+    {
+        &self.tables.messages
+    }
+
+    pub fn routines(&self) -> &[Routine]
+        ensures { map routine_lists result.now ≡ self.now.lists.routines }
+    {
+        &self.tables.routines
+    }
+
+    pub fn events(&self) -> &[EventEntry]
+        ensures { result.now ≡ self.now.lists.events }
+    {
+        &self.tables.events
+    }
+}
+
+/// The program of tables and instructions that fit.
+fn with_code(tables: Tables, instructions: Vec<Instr>) -> Program
+    requires { Fits (image_with tables instructions.items) }
+    ensures { result ≡ image_with tables instructions.items }
+{
+    Program::with(tables, Owned { instructions })
+}
+
+/// The program that the bytes spell.
+pub fn read_image(alloc: Global, bytes: &[u8]) -> Result<Program, ImageError>
+    // What is read is spelled so.
+    ensures found { IfOk result (λ p. Spells p bytes.now) }
+    // What is spelled so is read, unless memory runs out.
+    ensures only { (x : Image) → Spells x bytes.now → Answers (λ p. p) result (Ok x) }
+    // Which rule is broken first, and where.
+    ensures exact { Answers (λ p. p) result (placed (length bytes.now) (reading bytes.now)) }
+{
+    match whole_image(alloc, bytes) {
+        Ok((tables, code)) => Ok(with_code(tables, code)),
+        Err(stop) => Err(error_within(stop, bytes.len())),
+    }
+}
+
+/// The one spelling of the program. The only error is want of memory, 90.
+pub fn write_image<C: Code>(alloc: Global, program: &Program<C>) -> Result<Vec<u8>, ImageError>
+    ensures spelling { IfOk result (λ v. v.items ≡ spelling program.now) }
+    ensures memory { IfErr result (λ e. e ≡ out_of_memory) }
+{
+    match put_program(alloc, program) {
+        Ok(bytes) => Ok(bytes),
+        Err(_) => Err(ImageError { number: 90, at: 0 }),
+    }
+}
+
+fn put_program<C: Code>(alloc: Global, program: &Program<C>) -> Result<Vec<u8>, AllocError>
+    ensures { IfOk result (λ v. v.items ≡ spelling program.now) }
+{
+    let mut out = Vec::new(alloc);
+    put_header(&mut out)?;
+    put_tables(&mut out, &program.tables)?;
+    put_code(&mut out, &program.code)?;
+    Ok(out)
+}
+
+fn put_code<C: Code>(out: &mut Vec<u8>, code: &C) -> Result<(), AllocError>
+    ensures { OnOk result (out.new.items ≡ out.old.items ++ flat_map instr (C.list code.now)) }
+{
+    for i in 0..code.len() {
+        put_instr(out, code.at(i))?;
+    }
+    Ok(())
+}
+
+impl Program {
+    /// The program of these parts, where they have a spelling; else the parts are given up. Takes no
+    /// memory.
+    pub fn from_parts(parts: Parts) -> Option<Program>
+        ensures { MatchOption result ((bytes : List ℕ) → Spells (image_of parts) bytes → ⊥) (λ p. (p ≡ image_of parts) × Spells p (spelling p)) }
+    {
+        let (tables, code) = split(parts);
+        if fits(&tables, &code) {
+            Some(with_code(tables, code))
+        } else {
+            None
+        }
+    }
+}
+
+/// The tables and the code of parts.
+fn split(parts: Parts) -> (Tables, Vec<Instr>)
+    ensures { image_with result.0 result.1.items ≡ image_of parts }
+{
+    (
+        Tables {
+            records: parts.records,
+            items: parts.items,
+            sets: parts.sets,
+            order: parts.order,
+            constants: parts.constants,
+            texts: parts.texts,
+            globals: parts.globals,
+            arrays: parts.arrays,
+            messages: parts.messages,
+            routines: parts.routines,
+            events: parts.events,
+        },
+        parts.code,
+    )
+}
+
+/// Do tables and code have a spelling?
+fn fits(tables: &Tables, code: &[Instr]) -> bool
+    ensures { Decides result (Fits (image_with tables.now code.now)) }
+{
+    tables_fit(tables) && is_code_of(&tables.routines, code) && each_instr_fits(code)
+}

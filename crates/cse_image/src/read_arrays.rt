@@ -1,0 +1,192 @@
+//! The section of arrays.
+
+ghost use Rattle.std.specs.Prelude.{◌≡◌, ◌<◌, ◌≤◌, ◌+◌, ◌^◌, [], ◌∷◌, ◌++◌, IfOk, map, length};
+ghost use Rattle.std.specs.String.{string_bytes};
+ghost use Rattle.cse_codec.specs.Reader.{Gives, GivesFault, number, checked, many, counted};
+ghost use Rattle.cse_codec.specs.declared.fault.Rule.TheVariants.{Limit};
+ghost use Rattle.cse_parts.specs.Image.{array_lists};
+ghost use Rattle.cse_parts.specs.Fields.{product, cells_in, is_dimension_count, fits_cells};
+ghost use Rattle.cse_image.specs.Reading.{has_room_at_last, dimension_at, name_at, array_at};
+
+use crate::read_shape::flag_of;
+use cse_codec::{
+    Fault, Rule, Stop, broken, bytes_at, count_at, i64s_at, u8_at, u16_at, u32_at, zero_u8_at,
+};
+use cse_parts::entries::Array;
+use cse_parts::limits::{MOST_ARRAYS, MOST_CELLS, MOST_DIMENSIONS};
+use cse_parts::rules::{
+    cells_for, is_count_of_dimensions, is_right_cell_count, is_right_dimension,
+};
+use cse_parts::texts::{array_name, is_new_name};
+use std::alloc::Global;
+
+/// How many dimensions an array has.
+#[tactic(auto, unfolding(cse_codec::specs::Reader::checked))]
+fn rank_of(bytes: &[u8]) -> Result<(u8, &[u8]), Fault>
+    ensures exact { GivesFault (λ x. (x.0, x.1.now)) result (checked Limit is_dimension_count (number 1) bytes.now) }
+    ensures some { IfOk result (λ x. 0 < x.0) }
+    ensures few { IfOk result (λ x. x.0 ≤ MOST_DIMENSIONS) }
+{
+    let (rank, rest) = u8_at(bytes)?;
+    if !is_count_of_dimensions(rank) {
+        return Err(broken(Rule::Limit, bytes));
+    }
+    Ok((rank, rest))
+}
+
+/// How many cells an array of these dimensions and one more has.
+fn cells_with(before: &[u16], last: u16) -> u64
+    requires { length before.now < MOST_DIMENSIONS }
+    ensures same { result ≡ product (before.now ++ last ∷ []) }
+    ensures small { result < 2 ^ 48 }
+{
+    match before {
+        [] => last as u64,
+        [a] => *a as u64 * last as u64,
+        [a, b] => *a as u64 * *b as u64 * last as u64,
+        _ => unreachable!(),
+    }
+}
+
+/// Is this not the last of so many dimensions, or has its array room beside so many cells?
+pub fn fits_last(cells: u64, rank: u8, before: &[u16], dimension: u16) -> bool
+    requires few { length before.now < MOST_DIMENSIONS }
+    requires small { cells ≤ MOST_CELLS }
+    ensures { result ≡ has_room_at_last cells rank (before.now ++ dimension ∷ []) }
+{
+    before.len() + 1 != rank as usize || cells + cells_with(before, dimension) <= MOST_CELLS
+}
+
+/// One of so many dimensions, after those before it, beside so many cells.
+#[tactic(auto, unfolding(cse_codec::specs::Reader::checked, crate::specs::Reading::dimension_at))]
+fn dimension_of<'a>(
+    cells: u64,
+    rank: u8,
+    before: &[u16],
+    bytes: &'a [u8],
+) -> Result<(u16, &'a [u8]), Fault>
+    requires few { length before.now < MOST_DIMENSIONS }
+    requires small { cells ≤ MOST_CELLS }
+    ensures exact { GivesFault (λ x. (x.0, x.1.now)) result (dimension_at cells rank before.now bytes.now) }
+    ensures room { IfOk result (λ x. length before.now + 1 ≡ rank → cells + product (before.now ++ x.0 ∷ []) ≤ MOST_CELLS) }
+{
+    let (dimension, rest) = u16_at(bytes)?;
+    if !is_right_dimension(dimension) {
+        return Err(broken(Rule::Form, bytes));
+    }
+    if !fits_last(cells, rank, before, dimension) {
+        return Err(broken(Rule::Limit, bytes));
+    }
+    Ok((dimension, rest))
+}
+
+#[tactic(auto, using(cse_codec::proofs::Loop::many_done))]
+fn dimensions_in(
+    alloc: Global,
+    cells: u64,
+    rank: u8,
+    bytes: &[u8],
+) -> Result<(Vec<u16>, &[u8]), Stop>
+    requires few { rank ≤ MOST_DIMENSIONS }
+    requires small { cells ≤ MOST_CELLS }
+    ensures exact { Gives (λ x. (x.0.items, x.1.now)) result (many (dimension_at cells rank) [] rank bytes.now) }
+    ensures count { IfOk result (λ x. length x.0.items ≡ rank) }
+    ensures room { IfOk result (λ x. 0 < rank → cells + product x.0.items ≤ MOST_CELLS) }
+{
+    let mut dimensions = Vec::new(alloc);
+    let mut rest = bytes;
+    for _ in 0..rank {
+        let (dimension, after) = dimension_of(cells, rank, &dimensions, rest)?;
+        dimensions.push(dimension)?;
+        rest = after;
+    }
+    Ok((dimensions, rest))
+}
+
+#[tactic(auto, unfolding(cse_codec::specs::Reader::checked, crate::specs::Reading::name_at))]
+fn name_of<'a>(
+    alloc: Global,
+    before: &[Array],
+    len: u8,
+    bytes: &'a [u8],
+) -> Result<(String, &'a [u8]), Stop>
+    ensures { Gives (λ x. (string_bytes x.0, x.1.now)) result (name_at (map array_lists before.now) len bytes.now) }
+{
+    let (name, rest) = bytes_at(len as usize, bytes)?;
+    let Some(text) = array_name(name) else {
+        return Err(Stop::from(broken(Rule::Form, bytes)));
+    };
+    if !is_new_name(before, name) {
+        return Err(Stop::from(broken(Rule::Form, bytes)));
+    }
+    Ok((String::from_str(alloc, text)?, rest))
+}
+
+#[tactic(auto, unfolding(cse_codec::specs::Reader::checked))]
+fn cell_count_of<'a>(dimensions: &[u16], bytes: &'a [u8]) -> Result<(u32, &'a [u8]), Fault>
+    requires { length dimensions.now ≤ MOST_DIMENSIONS }
+    ensures { GivesFault (λ x. (x.0, x.1.now)) result (checked Limit (fits_cells dimensions.now) (number 4) bytes.now) }
+{
+    let (count, rest) = u32_at(bytes)?;
+    if !is_right_cell_count(dimensions, count) {
+        return Err(broken(Rule::Limit, bytes));
+    }
+    Ok((count, rest))
+}
+
+/// An array, after arrays that have so many cells.
+#[tactic(auto, unfolding(cse_codec::specs::Reader::then_at, cse_codec::specs::Reader::done, crate::specs::Reading::zero_at, crate::specs::Reading::array_at))]
+fn array_of<'a>(
+    alloc: Global,
+    before: &[Array],
+    cells: u64,
+    bytes: &'a [u8],
+) -> Result<(Array, &'a [u8]), Stop>
+    requires cells { cells ≡ cells_in (map array_lists before.now) }
+    requires small { cells ≤ MOST_CELLS }
+    ensures exact { Gives (λ x. (array_lists x.0, x.1.now)) result (array_at (map array_lists before.now) bytes.now) }
+    ensures few { IfOk result (λ x. length x.0.dimensions.items ≤ MOST_DIMENSIONS) }
+    ensures room { IfOk result (λ x. cells + product x.0.dimensions.items ≤ MOST_CELLS) }
+{
+    let (saved, rest) = flag_of(bytes)?;
+    let (rank, rest) = rank_of(rest)?;
+    let (len, rest) = u8_at(rest)?;
+    let (_, rest) = zero_u8_at(rest)?;
+    let (dimensions, rest) = dimensions_in(alloc, cells, rank, rest)?;
+    let (name, rest) = name_of(alloc, before, len, rest)?;
+    let (count, rest) = cell_count_of(&dimensions, rest)?;
+    let (cells, rest) = i64s_at(alloc, count, rest)?;
+    Ok((
+        Array {
+            saved,
+            dimensions,
+            name,
+            cells,
+        },
+        rest,
+    ))
+}
+
+#[tactic(auto, using(cse_codec::proofs::Loop::many_done))]
+fn arrays_in(alloc: Global, count: u32, bytes: &[u8]) -> Result<(Vec<Array>, &[u8]), Stop>
+    ensures { Gives (λ x. (map array_lists x.0.items, x.1.now)) result (many array_at [] count bytes.now) }
+{
+    let mut arrays = Vec::new(alloc);
+    let mut cells = 0;
+    let mut rest = bytes;
+    for _ in 0..count {
+        let (array, after) = array_of(alloc, &arrays, cells, rest)?;
+        cells += cells_for(&array.dimensions);
+        arrays.push(array)?;
+        rest = after;
+    }
+    Ok((arrays, rest))
+}
+
+#[tactic(auto, unfolding(cse_codec::specs::Reader::then_at, cse_codec::specs::Reader::counted))]
+pub fn arrays_of(alloc: Global, bytes: &[u8]) -> Result<(Vec<Array>, &[u8]), Stop>
+    ensures { Gives (λ x. (map array_lists x.0.items, x.1.now)) result (counted MOST_ARRAYS array_at bytes.now) }
+{
+    let (count, rest) = count_at(MOST_ARRAYS, bytes)?;
+    arrays_in(alloc, count, rest)
+}

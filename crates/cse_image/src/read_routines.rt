@@ -1,0 +1,259 @@
+//! The sections of routines and events.
+
+ghost use Rattle.std.specs.Prelude.{◌≡◌, ◌≤◌, ◌+◌, [], IfOk, map, length};
+ghost use Rattle.cse_codec.specs.Reader.{Gives, GivesFault, number, checked, decoded, many, counted};
+ghost use Rattle.cse_codec.specs.declared.fault.Rule.TheVariants.{Form, Limit};
+ghost use Rattle.cse_parts.specs.Codes.{ambient_of as spec_ambient_of, gift_of as spec_gift_of, event_code_of as spec_event_code_of, local_kind_of as spec_local_kind_of};
+ghost use Rattle.cse_parts.specs.Image.{routine_lists};
+ghost use Rattle.cse_parts.specs.Fields.{fits_kind, fits_owner, fits_local_length, are_locals, instructions_in, is_room_for_code, last_event, is_after};
+ghost use Rattle.cse_image.specs.Reading.{local_at, routine_at, event_at};
+
+use cse_codec::{Fault, Rule, Stop, broken, count_at, u8_at, u16_at, u32_at, zero_u8_at};
+use cse_parts::codes::{ambient_named, event_code_named, gift_named, local_kind_named};
+use cse_parts::entries::{Ambient, EventCode, EventEntry, Gift, Local, LocalKind, Routine};
+use cse_parts::limits::{MOST_EVENTS, MOST_INSTRUCTIONS, MOST_ROUTINES};
+use cse_parts::rules::{
+    comes_after, has_parameters, has_room_for_code, is_right_kind, is_right_local_length,
+    is_right_owner, last_of,
+};
+use std::alloc::Global;
+
+/// The kind of the local at this place, from 0, beside so many parameters.
+#[tactic(auto, unfolding(cse_codec::specs::Reader::checked, cse_codec::specs::Reader::decoded))]
+fn local_kind_of(parameters: u8, index: u8, bytes: &[u8]) -> Result<(LocalKind, &[u8]), Fault>
+    ensures { GivesFault (λ x. (x.0, x.1.now)) result (checked Form (fits_kind parameters index) (decoded Form spec_local_kind_of (number 1)) bytes.now) }
+{
+    let (code, rest) = u8_at(bytes)?;
+    let Some(kind) = local_kind_named(code) else {
+        return Err(broken(Rule::Form, bytes));
+    };
+    if !is_right_kind(parameters, index, kind) {
+        return Err(broken(Rule::Form, bytes));
+    }
+    Ok((kind, rest))
+}
+
+#[tactic(auto, unfolding(cse_codec::specs::Reader::checked))]
+fn owner_of(kind: LocalKind, bytes: &[u8]) -> Result<(u8, &[u8]), Fault>
+    ensures { GivesFault (λ x. (x.0, x.1.now)) result (checked Form (fits_owner kind) (number 1) bytes.now) }
+{
+    let (owner, rest) = u8_at(bytes)?;
+    if !is_right_owner(kind, owner) {
+        return Err(broken(Rule::Form, bytes));
+    }
+    Ok((owner, rest))
+}
+
+#[tactic(auto, unfolding(cse_codec::specs::Reader::checked))]
+fn local_length_of(kind: LocalKind, bytes: &[u8]) -> Result<(u16, &[u8]), Fault>
+    ensures { GivesFault (λ x. (x.0, x.1.now)) result (checked Form (fits_local_length kind) (number 2) bytes.now) }
+{
+    let (length, rest) = u16_at(bytes)?;
+    if !is_right_local_length(kind, length) {
+        return Err(broken(Rule::Form, bytes));
+    }
+    Ok((length, rest))
+}
+
+#[tactic(auto, unfolding(cse_codec::specs::Reader::then_at, cse_codec::specs::Reader::done, crate::specs::Reading::local_at))]
+fn local_of(parameters: u8, index: u8, bytes: &[u8]) -> Result<(Local, &[u8]), Fault>
+    ensures { GivesFault (λ x. (x.0, x.1.now)) result (local_at parameters index bytes.now) }
+{
+    let (kind, rest) = local_kind_of(parameters, index, bytes)?;
+    let (owner, rest) = owner_of(kind, rest)?;
+    let (length, rest) = local_length_of(kind, rest)?;
+    Ok((
+        Local {
+            kind,
+            owner,
+            length,
+        },
+        rest,
+    ))
+}
+
+#[tactic(auto, using(cse_codec::proofs::Loop::many_step, cse_codec::proofs::Loop::many_done))]
+fn locals_in(
+    alloc: Global,
+    parameters: u8,
+    count: u8,
+    bytes: &[u8],
+) -> Result<(Vec<Local>, &[u8]), Stop>
+    ensures { Gives (λ x. (x.0.items, x.1.now)) result (many (λ before. local_at parameters (length before)) [] count bytes.now) }
+{
+    let mut locals = Vec::new(alloc);
+    let mut rest = bytes;
+    for index in 0..count {
+        let (local, after) = local_of(parameters, index, rest)?;
+        locals.push(local)?;
+        rest = after;
+    }
+    Ok((locals, rest))
+}
+
+#[tactic(auto, unfolding(cse_codec::specs::Reader::decoded))]
+fn ambient_of(bytes: &[u8]) -> Result<(Ambient, &[u8]), Fault>
+    ensures { GivesFault (λ x. (x.0, x.1.now)) result (decoded Form spec_ambient_of (number 1) bytes.now) }
+{
+    let (code, rest) = u8_at(bytes)?;
+    match ambient_named(code) {
+        Some(ambient) => Ok((ambient, rest)),
+        None => Err(broken(Rule::Form, bytes)),
+    }
+}
+
+#[tactic(auto, unfolding(cse_codec::specs::Reader::decoded))]
+fn gift_of(bytes: &[u8]) -> Result<(Gift, &[u8]), Fault>
+    ensures { GivesFault (λ x. (x.0, x.1.now)) result (decoded Form spec_gift_of (number 1) bytes.now) }
+{
+    let (code, rest) = u8_at(bytes)?;
+    match gift_named(code) {
+        Some(gives) => Ok((gives, rest)),
+        None => Err(broken(Rule::Form, bytes)),
+    }
+}
+
+/// The count of the locals, among which are so many parameters.
+#[tactic(auto, unfolding(cse_codec::specs::Reader::checked))]
+fn local_count_of(parameters: u8, bytes: &[u8]) -> Result<(u8, &[u8]), Fault>
+    ensures { GivesFault (λ x. (x.0, x.1.now)) result (checked Form (are_locals parameters) (number 1) bytes.now) }
+{
+    let (count, rest) = u8_at(bytes)?;
+    if !has_parameters(parameters, count) {
+        return Err(broken(Rule::Form, bytes));
+    }
+    Ok((count, rest))
+}
+
+/// The count of a routine's instructions, after routines of so many together.
+#[tactic(auto, unfolding(cse_codec::specs::Reader::checked))]
+fn instruction_count_of(before: u32, bytes: &[u8]) -> Result<(u32, &[u8]), Fault>
+    requires { before ≤ MOST_INSTRUCTIONS }
+    ensures exact { GivesFault (λ x. (x.0, x.1.now)) result (checked Limit (is_room_for_code before) (number 4) bytes.now) }
+    ensures room { IfOk result (λ x. before + x.0 ≤ MOST_INSTRUCTIONS) }
+{
+    let (count, rest) = u32_at(bytes)?;
+    if !has_room_for_code(before, count) {
+        return Err(broken(Rule::Limit, bytes));
+    }
+    Ok((count, rest))
+}
+
+/// A routine, after routines of so many instructions together.
+#[tactic(auto, unfolding(cse_codec::specs::Reader::then_at, cse_codec::specs::Reader::done, crate::specs::Reading::routine_at))]
+fn routine_of(alloc: Global, before: u32, bytes: &[u8]) -> Result<(Routine, &[u8]), Stop>
+    requires { before ≤ MOST_INSTRUCTIONS }
+    ensures exact { Gives (λ x. (routine_lists x.0, x.1.now)) result (routine_at before bytes.now) }
+    ensures room { IfOk result (λ x. before + x.0.instructions ≤ MOST_INSTRUCTIONS) }
+{
+    let (ambient, rest) = ambient_of(bytes)?;
+    let (gives, rest) = gift_of(rest)?;
+    let (parameters, rest) = u8_at(rest)?;
+    let (count, rest) = local_count_of(parameters, rest)?;
+    let (locals, rest) = locals_in(alloc, parameters, count, rest)?;
+    let (instructions, rest) = instruction_count_of(before, rest)?;
+    Ok((
+        Routine {
+            ambient,
+            gives,
+            parameters,
+            locals,
+            instructions,
+        },
+        rest,
+    ))
+}
+
+#[tactic(auto, using(cse_codec::proofs::Loop::many_done))]
+fn routines_in(alloc: Global, count: u32, bytes: &[u8]) -> Result<(Vec<Routine>, &[u8]), Stop>
+    ensures exact { Gives (λ x. (map routine_lists x.0.items, x.1.now)) result (many (λ before. routine_at (instructions_in before)) [] count bytes.now) }
+    ensures room { IfOk result (λ x. instructions_in (map routine_lists x.0.items) ≤ MOST_INSTRUCTIONS) }
+{
+    let mut routines = Vec::new(alloc);
+    let mut so_far = 0;
+    let mut rest = bytes;
+    for _ in 0..count {
+        let (routine, after) = routine_of(alloc, so_far, rest)?;
+        so_far += routine.instructions;
+        routines.push(routine)?;
+        rest = after;
+    }
+    Ok((routines, rest))
+}
+
+#[tactic(auto, unfolding(cse_codec::specs::Reader::then_at, cse_codec::specs::Reader::counted))]
+pub fn routines_of(alloc: Global, bytes: &[u8]) -> Result<(Vec<Routine>, &[u8]), Stop>
+    ensures exact { Gives (λ x. (map routine_lists x.0.items, x.1.now)) result (counted MOST_ROUTINES (λ before. routine_at (instructions_in before)) bytes.now) }
+    ensures room { IfOk result (λ x. instructions_in (map routine_lists x.0.items) ≤ MOST_INSTRUCTIONS) }
+{
+    let (count, rest) = count_at(MOST_ROUTINES, bytes)?;
+    routines_in(alloc, count, rest)
+}
+
+#[tactic(auto, unfolding(cse_codec::specs::Reader::decoded))]
+fn event_code_of(bytes: &[u8]) -> Result<(EventCode, &[u8]), Fault>
+    ensures { GivesFault (λ x. (x.0, x.1.now)) result (decoded Form spec_event_code_of (number 1) bytes.now) }
+{
+    let (number, rest) = u8_at(bytes)?;
+    match event_code_named(number) {
+        Some(code) => Ok((code, rest)),
+        None => Err(broken(Rule::Form, bytes)),
+    }
+}
+
+/// The index of an event with this code, after the event that was last.
+#[tactic(auto, unfolding(cse_codec::specs::Reader::checked))]
+fn event_index_of(
+    last: Option<EventEntry>,
+    code: EventCode,
+    bytes: &[u8],
+) -> Result<(u16, &[u8]), Fault>
+    ensures { GivesFault (λ x. (x.0, x.1.now)) result (checked Form (is_after last code) (number 2) bytes.now) }
+{
+    let (index, rest) = u16_at(bytes)?;
+    if !comes_after(last, code, index) {
+        return Err(broken(Rule::Form, bytes));
+    }
+    Ok((index, rest))
+}
+
+/// An event, after the event that was last.
+#[tactic(auto, unfolding(cse_codec::specs::Reader::then_at, cse_codec::specs::Reader::done, crate::specs::Reading::zero_at, crate::specs::Reading::event_at))]
+fn event_of(last: Option<EventEntry>, bytes: &[u8]) -> Result<(EventEntry, &[u8]), Fault>
+    ensures { GivesFault (λ x. (x.0, x.1.now)) result (event_at last bytes.now) }
+{
+    let (code, rest) = event_code_of(bytes)?;
+    let (_, rest) = zero_u8_at(rest)?;
+    let (index, rest) = event_index_of(last, code, rest)?;
+    let (routine, rest) = u32_at(rest)?;
+    Ok((
+        EventEntry {
+            code,
+            index,
+            routine,
+        },
+        rest,
+    ))
+}
+
+#[tactic(auto, using(cse_codec::proofs::Loop::many_done))]
+fn events_in(alloc: Global, count: u32, bytes: &[u8]) -> Result<(Vec<EventEntry>, &[u8]), Stop>
+    ensures { Gives (λ x. (x.0.items, x.1.now)) result (many (λ before. event_at (last_event before)) [] count bytes.now) }
+{
+    let mut events = Vec::new(alloc);
+    let mut rest = bytes;
+    for _ in 0..count {
+        let (event, after) = event_of(last_of(&events), rest)?;
+        events.push(event)?;
+        rest = after;
+    }
+    Ok((events, rest))
+}
+
+#[tactic(auto, unfolding(cse_codec::specs::Reader::then_at, cse_codec::specs::Reader::counted))]
+pub fn events_of(alloc: Global, bytes: &[u8]) -> Result<(Vec<EventEntry>, &[u8]), Stop>
+    ensures { Gives (λ x. (x.0.items, x.1.now)) result (counted MOST_EVENTS (λ before. event_at (last_event before)) bytes.now) }
+{
+    let (count, rest) = count_at(MOST_EVENTS, bytes)?;
+    events_in(alloc, count, rest)
+}

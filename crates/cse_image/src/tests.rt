@@ -1,0 +1,340 @@
+//! Worked images, and for each rule of the format bytes that break it, with the number and the place.
+
+use super::*;
+use std::alloc::Global;
+use std::test::*;
+
+/// Lists "Hi" in the application's preproc: one message, one routine of two instructions, one event.
+const HELLO: [u8; 94] = [
+    67, 83, 69, 66, 1, 0, 0, 0, // header
+    0, 0, 0, 0, 0, 0, 0, 0, 0, 0, 0, 0, 0, 0, 0, 0, // records, items, sets, order
+    0, 0, 0, 0, 0, 0, 0, 0, 0, 0, 0, 0, 0, 0, 0, 0, // constants, texts, globals, arrays
+    1, 0, 0, 0, 0, 0, 0, 0, 0, 0, 2, 0, 72, 105, // messages
+    1, 0, 0, 0, 0, 0, 0, 0, 2, 0, 0, 0, // routines
+    1, 0, 0, 0, 0, 0, 0, 0, 0, 0, 0, 0, // events
+    37, 0, 0, 0, 0, 0, 0, 0, // Message 0
+    40, 0, 0, 0, 0, 0, 0, 0, // Return
+];
+
+/// Each section has an entry or two. In front of a line, the place of its first byte.
+const FULL: [u8; 210] = [
+    67, 83, 69, 66, 1, 0, 0, 0, // 0: header
+    1, 0, 0, 0, 30, 0, 0, 0, 12, 0, 0, 0, // 8: records
+    1, 0, 0, 0, 0, 1, 1, 0, 5, 0, 0, 0, // 20: items
+    1, 0, 0, 0, 0, 0, 2, 0, 0, 0, 0, 0, // 32: sets
+    1, 0, 0, 0, 0, 0, 0, 0, // 44: order
+    1, 0, 0, 0, 254, 255, 255, 255, 255, 255, 255, 255, // 52: constants, -2
+    1, 0, 0, 0, 2, 0, 104, 105, // 64: texts, "hi"
+    2, 0, 0, 0, 1, 0, 0, 0, 2, 0, 5, 0, // 72: globals, a number and a text
+    2, 0, 0, 0, // 84: arrays
+    1, 2, 1, 0, 3, 0, 2, 0, 65, 1, 0, 0, 0, 7, 0, 0, 0, 0, 0, 0, 0, // 88: A(3, 2) = 7
+    0, 1, 1, 0, 4, 0, 66, 0, 0, 0, 0, // 109: B(4)
+    1, 0, 0, 0, 9, 0, 0, 0, 1, 0, 2, 0, 37, 100, // 120: messages, "%d"
+    2, 0, 0, 0, // 134: routines
+    0, 0, 0, 1, 1, 0, 0, 0, 1, 0, 0, 0, // 138: a local number, one instruction
+    1, 1, 1, 2, 3, 0, 0, 0, 2, 0, 255, 0, 2, 0, 0, 0, // 150: an occurrence and a text, two
+    2, 0, 0, 0, 0, 0, 0, 0, 0, 0, 0, 0, 6, 0, 0, 0, 1, 0, 0, 0, // 166: events
+    40, 0, 0, 0, 0, 0, 0, 0, // 186: Return
+    1, 0, 0, 0, 0, 0, 0, 0, // 194: Number 0
+    40, 0, 0, 0, 0, 0, 0, 0, // 202: Return
+];
+
+/// Bytes of `FULL` that are changed, with the number and the place of the fault.
+const FAULTS: [(usize, &[u8], u8, usize); 72] = [
+    (0, b"X", 60, 0),
+    (3, b"X", 60, 0),
+    (4, &[2], 60, 4),
+    (5, &[1], 60, 4),
+    (6, &[1], 63, 6),
+    (7, &[1], 63, 6),
+    (8, &[201], 64, 8),
+    (14, &[1], 63, 14),
+    (15, &[1], 63, 14),
+    (20, &[17, 39], 64, 20),
+    (25, &[3], 63, 25),
+    (32, &[17, 39], 64, 32),
+    (40, &[2], 63, 40),
+    (41, &[1], 63, 41),
+    (43, &[1], 63, 41),
+    (44, &[201], 64, 44),
+    (52, &[1, 0, 1], 64, 52),
+    (52, &[255, 255, 255, 255], 64, 52),
+    (64, &[1, 0, 1], 64, 64),
+    (68, &[255, 255], 61, 210),
+    (71, &[31], 63, 70),
+    (71, &[255], 63, 70),
+    (72, &[1, 0, 1], 64, 72),
+    (76, &[0], 63, 76),
+    (76, &[3], 63, 76),
+    (77, &[1], 63, 77),
+    (78, &[1], 63, 78),
+    (82, &[0], 63, 82),
+    (82, &[0, 1], 63, 82),
+    (84, &[1, 16], 64, 84),
+    (88, &[2], 63, 88),
+    (89, &[0], 64, 89),
+    (89, &[4], 64, 89),
+    (91, &[1], 63, 91),
+    (92, &[0], 63, 92),
+    (94, &[0], 63, 94),
+    // cells: an array alone, and both together, whose first alone has as many as may be
+    (92, &[255, 255, 255, 255], 64, 94),
+    (92, &[232, 3, 232, 3], 64, 113),
+    // a dimension 0 after as many cells as may be
+    (
+        92,
+        &[
+            232, 3, 232, 3, 65, 1, 0, 0, 0, 7, 0, 0, 0, 0, 0, 0, 0, 0, 1, 1, 0, 0,
+        ],
+        63,
+        113,
+    ),
+    (96, b"a", 63, 96),
+    (96, b"1", 63, 96),
+    (90, &[0], 63, 96),
+    (90, &[33], 63, 96),
+    (115, b"A", 63, 115),
+    (97, &[7], 64, 97),
+    (120, &[1, 0, 1], 64, 120),
+    (128, &[2], 63, 128),
+    (129, &[1], 63, 129),
+    (132, &[10], 63, 132),
+    (134, &[1, 16], 64, 134),
+    (138, &[2], 63, 138),
+    (139, &[2], 63, 139),
+    (140, &[2], 63, 141),
+    (142, &[0], 63, 142),
+    (142, &[3], 63, 142),
+    (143, &[1], 63, 143),
+    (144, &[1], 63, 144),
+    (146, &[0], 64, 146),
+    (146, &[65, 66, 15], 64, 146),
+    (146, &[64, 66, 15], 64, 162),
+    (158, &[4], 63, 158),
+    (160, &[0], 63, 160),
+    (160, &[0, 1], 63, 160),
+    (166, &[81, 195], 64, 166),
+    (170, &[8], 63, 170),
+    (171, &[1], 63, 171),
+    (170, &[7], 63, 180),
+    (178, &[0], 63, 180),
+    (186, &[46], 63, 186),
+    (187, &[1], 63, 187),
+    (189, &[1], 63, 188),
+    (193, &[1], 63, 190),
+];
+
+/// The number and the place of the fault that reading tells; 0 and 0 for a program.
+fn fault_of(alloc: Global, bytes: &[u8]) -> (u8, usize) {
+    match read_image(alloc, bytes) {
+        Ok(_) => (0, 0),
+        Err(error) => (error.number, error.at),
+    }
+}
+
+/// The same for a view.
+fn fault_in_view(alloc: Global, bytes: &[u8]) -> (u8, usize) {
+    match view_image(alloc, bytes) {
+        Ok(_) => (0, 0),
+        Err(error) => (error.number, error.at),
+    }
+}
+
+/// The bytes with these from a place on.
+fn changed(alloc: Global, bytes: &[u8], at: usize, new: &[u8]) -> Result<Vec<u8>, Fail> {
+    let mut all = Vec::from_slice(alloc, bytes)?;
+    for (i, byte) in new.iter().enumerate() {
+        if let Some(place) = all.get_mut(at.saturating_add(i)) {
+            *place = *byte;
+        }
+    }
+    Ok(all)
+}
+
+/// An instruction whose fields are 0.
+fn plain(op: Op) -> Instr {
+    Instr {
+        op,
+        a: 0,
+        b: 0,
+        c: 0,
+    }
+}
+
+fn hello(alloc: Global) -> Result<Parts, Fail> {
+    let message = Message {
+        number: 0,
+        summary: false,
+        text: String::from_str(alloc, "Hi")?,
+    };
+    let routine = Routine {
+        ambient: Ambient::Run,
+        gives: Gift::Nothing,
+        parameters: 0,
+        locals: Vec::new(alloc),
+        instructions: 2,
+    };
+    let event = EventEntry {
+        code: EventCode::ApplicationPreproc,
+        index: 0,
+        routine: 0,
+    };
+    Ok(Parts {
+        records: Vec::new(alloc),
+        items: Vec::new(alloc),
+        sets: Vec::new(alloc),
+        order: Vec::new(alloc),
+        constants: Vec::new(alloc),
+        texts: Vec::new(alloc),
+        globals: Vec::new(alloc),
+        arrays: Vec::new(alloc),
+        messages: vec![in alloc; message]?,
+        routines: vec![in alloc; routine]?,
+        events: vec![in alloc; event]?,
+        code: vec![in alloc; plain(Op::Message), plain(Op::Return)]?,
+    })
+}
+
+#[test]
+fn says_hello(rt: HostRuntime) -> Result<(), Fail> {
+    let program = Program::from_parts(hello(rt.alloc())?).ok_or("these parts have a spelling")?;
+    let written = write_image(rt.alloc(), &program)?;
+    assert_eq!(rt; written.as_slice(), HELLO.as_slice());
+    Ok(())
+}
+
+#[test]
+fn parts_without_a_spelling(rt: HostRuntime) -> Result<(), Fail> {
+    let mut parts = hello(rt.alloc())?;
+    parts.code.push(plain(Op::Return))?;
+    assert!(rt; Program::from_parts(parts).is_none());
+    Ok(())
+}
+
+#[test]
+fn there_and_back(rt: HostRuntime) -> Result<(), Fail> {
+    let read = read_image(rt.alloc(), &FULL)?;
+    let written = write_image(rt.alloc(), &read)?;
+    assert_eq!(rt; written.as_slice(), FULL.as_slice());
+    let view = view_image(rt.alloc(), &FULL)?;
+    let written = write_image(rt.alloc(), &view)?;
+    assert_eq!(rt; written.as_slice(), FULL.as_slice());
+    assert_eq!(rt; view.code().len(), 3);
+    Ok(())
+}
+
+#[test]
+fn each_rule(rt: HostRuntime) -> Result<(), Fail> {
+    for (at, new, number, place) in FAULTS.iter() {
+        let bytes = changed(rt.alloc(), &FULL, *at, new)?;
+        let want = (*number, *place);
+        assert_eq!(rt; fault_of(rt.alloc(), &bytes), want, "at {at}");
+        assert_eq!(rt;
+            fault_in_view(rt.alloc(), &bytes),
+            want,
+            "in a view, at {at}"
+        );
+    }
+    Ok(())
+}
+
+#[test]
+fn cut_short(rt: HostRuntime) {
+    for n in 0..94usize {
+        if let Some(bytes) = HELLO.get(..n) {
+            assert_eq!(rt; fault_of(rt.alloc(), bytes), (61, n));
+        }
+    }
+    for n in 0..210usize {
+        if let Some(bytes) = FULL.get(..n) {
+            assert_eq!(rt; fault_of(rt.alloc(), bytes), (61, n));
+            assert_eq!(rt; fault_in_view(rt.alloc(), bytes), (61, n));
+        }
+    }
+}
+
+#[test]
+fn bytes_left_over(rt: HostRuntime) -> Result<(), Fail> {
+    let mut bytes = Vec::from_slice(rt.alloc(), &HELLO)?;
+    bytes.push(0)?;
+    assert_eq!(rt; fault_of(rt.alloc(), &bytes), (62, 94));
+    assert_eq!(rt; fault_in_view(rt.alloc(), &bytes), (62, 94));
+    Ok(())
+}
+
+/// Each byte replaced by each other: refused, or read as a program that is spelled so.
+#[test]
+fn each_byte_replaced(rt: HostRuntime) -> Result<(), Fail> {
+    for at in 0..94usize {
+        for value in 0..=255u8 {
+            let bytes = changed(rt.alloc(), &HELLO, at, &[value])?;
+            if let Ok(program) = read_image(rt.alloc(), &bytes) {
+                let written = write_image(rt.alloc(), &program)?;
+                assert_eq!(rt; written.as_slice(), bytes.as_slice());
+            }
+        }
+    }
+    Ok(())
+}
+
+/// `HELLO` with another text: as its message, or in the section of texts.
+fn with_text(alloc: Global, is_message: bool, text: &str) -> Result<Vec<u8>, Fail> {
+    let len = u16::try_from(text.len()).ok().ok_or("a short text")?;
+    let mut bytes = Vec::new(alloc);
+    if is_message {
+        bytes.extend_from_slice(&HELLO[..50])?;
+        bytes.extend_from_slice(&len.to_le_bytes())?;
+        bytes.extend_from_slice(text.as_bytes())?;
+        bytes.extend_from_slice(&HELLO[54..])?;
+    } else {
+        bytes.extend_from_slice(&HELLO[..28])?;
+        bytes.extend_from_slice(&[1, 0, 0, 0])?;
+        bytes.extend_from_slice(&len.to_le_bytes())?;
+        bytes.extend_from_slice(text.as_bytes())?;
+        bytes.extend_from_slice(&HELLO[32..])?;
+    }
+    Ok(bytes)
+}
+
+fn repeated(alloc: Global, piece: &str, count: usize) -> Result<String, Fail> {
+    let mut text = String::new(alloc);
+    for _ in 0..count {
+        text.push_str(piece)?;
+    }
+    Ok(text)
+}
+
+#[test]
+fn long_texts(rt: HostRuntime) -> Result<(), Fail> {
+    // a text, how often, and the faults as a message and as a text
+    let cases = [
+        ("a", 255, (0, 0), (0, 0)),
+        ("a", 256, (64, 52), (64, 34)),
+        ("\u{e9}", 255, (0, 0), (0, 0)),
+        ("\u{e9}", 256, (64, 52), (64, 34)),
+        ("\n", 256, (63, 52), (63, 34)),
+        ("%d", 16, (0, 0), (0, 0)),
+        ("%s", 17, (64, 52), (0, 0)),
+        ("%%", 100, (0, 0), (0, 0)),
+    ];
+    for (piece, count, message, text) in cases.iter() {
+        let long = repeated(rt.alloc(), piece, *count)?;
+        let bytes = with_text(rt.alloc(), true, &long)?;
+        assert_eq!(rt;
+            fault_of(rt.alloc(), &bytes),
+            *message,
+            "a message of {piece}"
+        );
+        let bytes = with_text(rt.alloc(), false, &long)?;
+        assert_eq!(rt; fault_of(rt.alloc(), &bytes), *text, "a text of {piece}");
+    }
+    Ok(())
+}
+
+#[test]
+fn shows_an_error(rt: HostRuntime) -> Result<(), Fail> {
+    let error = ImageError { number: 61, at: 93 };
+    let text = format!(in rt.alloc(); "{error}")?;
+    assert_eq!(rt; text.as_str(), "fault 61 at byte 93");
+    Ok(())
+}
