@@ -1,0 +1,135 @@
+-- Steps of the one call that runs, and where they lead.
+use Rattle.std.proofs.Common.{◌≡◌, ℕ, ◌+◌, ◌<◌, List, [], ◌∷◌, Option, Some, None, Bool, true, false, cond, refl, ap, sym, ◌∙◌, subst, arith, inl, inr, ◌⊎◌, add-one, eqb}
+use Rattle.std.specs.Prelude.{slice_get, option_map, option_and_then, not, ◌&&◌, ◌||◌, nat_lt}
+use Rattle.std.proofs.lemmas.Bool.Decides.{nat_tests}
+use Rattle.cse_value.specs.Number.{is_condition}
+use Rattle.cse_parts.specs.declared.instruction.Op.{Op}
+use Rattle.cse_parts.specs.declared.instruction.Op.TheVariants as ops
+use Rattle.cse_parts.specs.declared.instruction.Instr.{Instr}
+use Rattle.cse_parts.specs.declared.entries.Local.{Local}
+use Rattle.cse_parts.specs.Image.{Image, RoutineLists}
+use Rattle.cse_verify.specs.Code.{code_of}
+use Rattle.cse_verify.specs.Jumps.{is_return, may_jump, is_bracket, leads_on, ends_well, keeps_rules}
+use Rattle.csbatch.specs.declared.cell.Cell.{Cell}
+use Rattle.csbatch.specs.State.{Call, Store, Reports, State}
+use Rattle.csbatch.specs.Values.{index_of, top_number, calculated}
+use Rattle.csbatch.specs.Step.{Here, here, next, goes, branched, indexed, index_made, acted, stepped, call_step, returned, resumed, is_event_routine, step}
+use Rattle.csbatch.specs.Run.{run}
+
+-- the state of one call alone
+abbrev pub one : Call → Store → Reports → State
+one c s r = record { calls = c ∷ []; store = s; reports = r }
+
+pub run_zero : (x : Image) (s : State) → run x 0 s ≡ Some s
+unfolding run
+run_zero x s = refl
+
+-- a run, and one step more
+pub run_more : (x : Image) (n : ℕ) (from s : State) (after : Option State) → run x n from ≡ Some s → step x s ≡ after → run x (n + 1) from ≡ after
+unfolding run
+run_more x n from s after e next = rw add-one (ap (option_and_then (step x)) e ∙ next)
+
+-- the step of a call at an instruction that is there
+pub step_at : (x : Image) (head : RoutineLists) (c : Call) (s : Store) (r : Reports) (i : Instr)
+    → slice_get x.lists.routines c.routine ≡ Some head → is_event_routine head ≡ true → slice_get (code_of x c.routine) c.place ≡ Some i
+    → step x (one c s r) ≡ stepped x head.locals i c [] s r
+unfolding step
+step_at x head c s r i there fits at =
+    ap (option_and_then (λ routine. call_step x routine c [] s r)) there
+    ∙ (ap (λ b. cond b (option_and_then (λ i. stepped x head.locals i c [] s r) (slice_get (code_of x c.routine) c.place)) None) fits
+    ∙ ap (option_and_then (λ i. stepped x head.locals i c [] s r)) at)
+
+-- an instruction other than Return
+pub step_acts : (x : Image) (head : RoutineLists) (c : Call) (s : Store) (r : Reports) (i : Instr) (after : Option Here)
+    → slice_get x.lists.routines c.routine ≡ Some head → is_event_routine head ≡ true → slice_get (code_of x c.routine) c.place ≡ Some i
+    → is_return i.op ≡ false → acted x head.locals i.op i (here c s r) ≡ after → step x (one c s r) ≡ option_map (resumed c.routine []) after
+step_acts x head c s r i after there fits at other acts =
+    step_at x head c s r i there fits at
+    ∙ (ap (λ b. cond b (returned c.cells [] s r) (option_map (resumed c.routine []) (acted x head.locals i.op i (here c s r)))) other
+    ∙ ap (option_map (resumed c.routine [])) acts)
+
+-- Return
+pub step_returns : (x : Image) (head : RoutineLists) (c : Call) (s : Store) (r : Reports) (i : Instr)
+    → slice_get x.lists.routines c.routine ≡ Some head → is_event_routine head ≡ true → slice_get (code_of x c.routine) c.place ≡ Some i
+    → is_return i.op ≡ true → step x (one c s r) ≡ returned c.cells [] s r
+step_returns x head c s r i there fits at is =
+    step_at x head c s r i there fits at
+    ∙ ap (λ b. cond b (returned c.cells [] s r) (option_map (resumed c.routine []) (acted x head.locals i.op i (here c s r)))) is
+
+-- ---- where an instruction leads
+
+-- to the next place, or where it may jump to the place in its field
+abbrev pub Leads : Op → Instr → Here → Here → Type 0
+Leads o i h after = (after.place ≡ h.place + 1) ⊎ ((may_jump o i.a ≡ true) × (after.place ≡ i.c))
+
+mapped : {A : Type 0} (f : A → Here) (P : Here → Type 0) (o : Option A) (after : Here) → ((a : A) → P (f a)) → option_map f o ≡ Some after → P after
+mapped f P None after all e = cc
+mapped f P (Some a) after all e = let same : f a ≡ after = cc in subst P same (all a)
+
+branch_leads : (h : Here) (to : ℕ) (b : Bool) (cells : List Cell) → let g : Here = cond b (next h cells) (goes h to cells) in (g.place ≡ h.place + 1) ⊎ (g.place ≡ to)
+branch_leads h to true cells = inl refl
+branch_leads h to false cells = inr refl
+
+index_leads : (h : Here) (cells : List Cell) (size to : ℕ) (o : Option ℕ) → ((index_made h cells size to o).place ≡ h.place + 1) ⊎ ((index_made h cells size to o).place ≡ to)
+index_leads h cells size to None = inr refl
+index_leads h cells size to (Some i) = inl refl
+
+-- every instruction but Return that has a step goes on, or where it may jump
+acted_leads : (x : Image) (d : List Local) (o : Op) (i : Instr) (h after : Here) → acted x d o i h ≡ Some after → Leads o i h after
+unfolding acted may_jump
+acted_leads x d ops.Jump i h after e = let same : goes h i.c h.cells ≡ after = cc in inr (refl, ap (λ (v : Here). v.place) (sym same))
+acted_leads x d ops.JumpUnless i h after e =
+    mapped (branched h i.c) (Leads ops.JumpUnless i h) (top_number h.cells) after
+    (λ r. elim (branch_leads h i.c (is_condition r.0) r.1) [ inl p ↦ inl p | inr p ↦ inr (refl, p) ]) e
+acted_leads x d ops.Index i h after e =
+    mapped (indexed h i.b i.c) (Leads ops.Index i h) (top_number h.cells) after
+    (λ r. elim (index_leads h r.1 i.b i.c (index_of i.b r.0)) [ inl p ↦ inl p | inr p ↦ inr (refl, p) ]) e
+acted_leads x d ops.Number i h after e = mapped _ (Leads ops.Number i h) _ after (λ a. inl refl) e
+acted_leads x d ops.Special i h after e = mapped _ (Leads ops.Special i h) _ after (λ a. inl refl) e
+acted_leads x d ops.Text i h after e = mapped _ (Leads ops.Text i h) _ after (λ a. inl refl) e
+acted_leads x d ops.LoadLocal i h after e = mapped _ (Leads ops.LoadLocal i h) _ after (λ a. inl refl) e
+acted_leads x d ops.StoreLocal i h after e = mapped _ (Leads ops.StoreLocal i h) _ after (λ a. inl refl) e
+acted_leads x d ops.LoadGlobal i h after e = mapped _ (Leads ops.LoadGlobal i h) _ after (λ a. inl refl) e
+acted_leads x d ops.StoreGlobal i h after e = mapped _ (Leads ops.StoreGlobal i h) _ after (λ a. inl refl) e
+acted_leads x d ops.LoadCell i h after e = mapped _ (Leads ops.LoadCell i h) _ after (λ a. inl refl) e
+acted_leads x d ops.StoreCell i h after e = mapped _ (Leads ops.StoreCell i h) _ after (λ a. inl refl) e
+acted_leads x d ops.Message i h after e = mapped _ (Leads ops.Message i h) _ after (λ a. inl refl) e
+acted_leads x d ops.Pop i h after e = mapped _ (Leads ops.Pop i h) _ after (λ a. inl refl) e
+acted_leads x d o i h after e = mapped (next h) (Leads o i h) (calculated o i.a h.cells) after (λ cells. inl refl) e
+
+both_true : (a b : Bool) → (a && b) ≡ true → (a ≡ true) × (b ≡ true)
+both_true true true e = (refl, refl)
+both_true true false e = cc
+both_true false b e = cc
+
+not_or : (a b : Bool) → (not a || b) ≡ true → b ≡ false → a ≡ false
+not_or true b e f = cc
+not_or false b e f = refl
+
+implied : (a b : Bool) → (not a || b) ≡ true → a ≡ true → b ≡ true
+implied true b e f = e
+implied false b e f = cc
+
+not_equal : (a b : ℕ) → eqb a b ≡ false → a ≡ b → ⊥
+not_equal a b e f = grind (arith, nat_tests)
+
+below : (a b : ℕ) → nat_lt a b ≡ true → a < b
+below a b e = grind (arith, nat_tests)
+
+-- where the rules hold, a place of the routine follows
+stays : (size : ℕ) (i : Instr) (h after : Here) → leads_on size h.place i ≡ true → ends_well size h.place i ≡ true → is_return i.op ≡ false
+    → h.place < size → Leads i.op i h after → (h.place < after.place) × (after.place < size)
+stays size i h after leads ends other within (inl p) =
+    let last = not_equal (h.place + 1) size (not_or (eqb (h.place + 1) size) (is_return i.op) ends other) in
+    (omega arith, omega (arith, last))
+stays size i h after leads ends other within (inr p) =
+    let ahead = both_true (nat_lt h.place i.c) (nat_lt i.c size) (implied (may_jump i.op i.a) (nat_lt h.place i.c && nat_lt i.c size) leads p.0) in
+    (omega (arith, p.1, below h.place i.c ahead.0), omega (arith, p.1, below i.c size ahead.1))
+
+pub goes_on : (x : Image) (d : List Local) (size : ℕ) (i : Instr) (h after : Here) → keeps_rules size h.place i ≡ true → is_return i.op ≡ false
+    → h.place < size → acted x d i.op i h ≡ Some after → (h.place < after.place) × (after.place < size)
+unfolding keeps_rules
+goes_on x d size i h after rules other within acts =
+    let both = both_true (not (is_bracket i.op)) (leads_on size h.place i && ends_well size h.place i) rules in
+    let two = both_true (leads_on size h.place i) (ends_well size h.place i) both.1 in
+    stays size i h after two.0 two.1 other within (acted_leads x d i.op i h after acts)

@@ -1,0 +1,9 @@
+pub mod Ending
+pub mod Machine
+pub mod Printed
+pub mod Run
+pub mod State
+pub mod Step
+pub mod Tried
+pub mod Values
+pub mod Variables

@@ -1,0 +1,113 @@
+//! Faults as the program tells them: a line of text, and an exit status.
+
+ghost use Rattle.std.specs.Prelude.{◌≡◌};
+ghost use Rattle.cse_value.specs.Writing.{FailsAtErr};
+ghost use Rattle.csbatch.specs.Ending.{status_of};
+
+use crate::printing::write_parts;
+use crate::try_image::TryFault;
+use cse_value::{Failed, Output};
+use cse_verify::{NONE, Refusal};
+use itoa::Buffer;
+
+/// The number of a failed read.
+pub const READ_FAILED: u8 = 70;
+/// The number of a failed write.
+pub const WRITE_FAILED: u8 = 71;
+/// The number of a file that can't be opened.
+pub const NOT_OPENED: u8 = 72;
+/// The number of want of memory.
+pub const NO_MEMORY: u8 = 90;
+
+/// A fault: its number, and what it tells of its place.
+#[derive(Clone, Copy, Debug, PartialEq, Eq)]
+pub struct Fault {
+    pub number: u8,
+    /// The line, from 1.
+    pub line: Option<u64>,
+    /// The column, from 1.
+    pub column: Option<u64>,
+    /// The byte, from 0.
+    pub byte: Option<u64>,
+    /// The routine, from 0.
+    pub routine: Option<u32>,
+    /// The place in the routine, from 0.
+    pub place: Option<u32>,
+}
+
+impl Fault {
+    /// A fault that tells its number alone.
+    pub fn of_number(number: u8) -> Fault {
+        Fault {
+            number,
+            line: None,
+            column: None,
+            byte: None,
+            routine: None,
+            place: None,
+        }
+    }
+
+    /// A refusal; a routine and a place that stand for none are not told.
+    pub fn of_refusal(refusal: Refusal) -> Fault {
+        Fault {
+            routine: told(refusal.routine),
+            place: told(refusal.at),
+            ..Fault::of_number(refusal.number)
+        }
+    }
+
+    /// The fault of `try`.
+    pub fn of_try(fault: &TryFault) -> Fault {
+        match fault {
+            TryFault::Image(error) => Fault {
+                byte: Some(error.at as u64),
+                ..Fault::of_number(error.number)
+            },
+            TryFault::Refused(refusal) => Fault::of_refusal(*refusal),
+            TryFault::Write => Fault::of_number(WRITE_FAILED),
+            TryFault::Memory => Fault::of_number(NO_MEMORY),
+        }
+    }
+}
+
+fn told(number: u32) -> Option<u32> {
+    if number == NONE { None } else { Some(number) }
+}
+
+/// The exit status of a fault's number: 3 for a device, a file or memory (70, 71, 72, 90), else 1.
+pub fn ending(number: u8) -> u8
+    ensures { result ≡ status_of number }
+{
+    match number {
+        READ_FAILED | WRITE_FAILED | NOT_OPENED | NO_MEMORY => 3,
+        _ => 1,
+    }
+}
+
+/// Writes `refused N` and what the fault tells of its place, as one line: ` line L`, ` column C`,
+/// ` byte B`, ` routine R`, ` place P`. A write that fails is the only fault (71).
+pub fn fault_line<W: Output>(fault: &Fault, out: &mut W) -> Result<(), Failed>
+    ensures failed { FailsAtErr result (W.has_failed out.old) (W.has_failed out.new) }
+{
+    write_told(b"refused ", Some(u64::from(fault.number)), out)?;
+    write_told(b" line ", fault.line, out)?;
+    write_told(b" column ", fault.column, out)?;
+    write_told(b" byte ", fault.byte, out)?;
+    write_told(b" routine ", fault.routine.map(u64::from), out)?;
+    write_told(b" place ", fault.place.map(u64::from), out)?;
+    write_parts(&[b"\n"], out)
+}
+
+/// Writes a word and a number, where the number is told.
+fn write_told<W: Output>(word: &[u8], number: Option<u64>, out: &mut W) -> Result<(), Failed>
+    ensures failed { FailsAtErr result (W.has_failed out.old) (W.has_failed out.new) }
+{
+    match number {
+        Some(number) => {
+            let mut buffer = Buffer::new();
+            write_parts(&[word, buffer.format(number).as_bytes()], out)
+        }
+        None => Ok(()),
+    }
+}

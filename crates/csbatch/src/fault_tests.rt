@@ -1,0 +1,102 @@
+//! Statuses and lines of faults, and words of command lines.
+
+use crate::fault::{Fault, NO_MEMORY, ending, fault_line};
+use crate::plan::{Command, PlanFault, plan};
+use cse_value::Writes;
+use std::test::Fail;
+
+#[test]
+fn ends_with_statuses(rt: HostRuntime) {
+    for number in 0..=255u8 {
+        let want = if matches!(number, 70 | 71 | 72 | 90) {
+            3
+        } else {
+            1
+        };
+        assert_eq!(rt; ending(number), want, "at {number}");
+    }
+}
+
+#[test]
+fn tells_faults(rt: HostRuntime) -> Result<(), Fail> {
+    let alloc = rt.alloc();
+    let plain = Fault::of_number(NO_MEMORY);
+    let table = [
+        (plain, "refused 90\n"),
+        (
+            Fault {
+                number: 12,
+                line: Some(5),
+                ..plain
+            },
+            "refused 12 line 5\n",
+        ),
+        (
+            Fault {
+                number: 33,
+                line: Some(2),
+                column: Some(1),
+                ..plain
+            },
+            "refused 33 line 2 column 1\n",
+        ),
+        (
+            Fault {
+                number: 60,
+                byte: Some(0),
+                ..plain
+            },
+            "refused 60 byte 0\n",
+        ),
+        (
+            Fault {
+                number: 66,
+                routine: Some(0),
+                place: Some(2),
+                ..plain
+            },
+            "refused 66 routine 0 place 2\n",
+        ),
+    ];
+    for (fault, want) in table {
+        let mut out = Writes::new(Vec::new(alloc));
+        assert!(rt; fault_line(&fault, &mut out).is_ok());
+        assert_eq!(rt; out.into_inner().as_slice(), want.as_bytes());
+    }
+    Ok(())
+}
+
+#[test]
+fn plans_words(rt: HostRuntime) {
+    let wrong: [&[&str]; 10] = [
+        &[],
+        &["try"],
+        &["try", "a", "b"],
+        &["try", "--what", "a"],
+        &["--help"],
+        &["help"],
+        &["try", "--help"],
+        &["--version"],
+        &["run"],
+        &["verify", "a", "b"],
+    ];
+    for words in wrong {
+        assert_eq!(rt; plan(rt.alloc(), words), Err(PlanFault::Usage));
+    }
+    assert_eq!(rt;
+        plan(rt.alloc(), &["try", "a"]),
+        Ok(Command::Try { image: "a" })
+    );
+    assert_eq!(rt;
+        plan(rt.alloc(), &["try", "-"]),
+        Ok(Command::Try { image: "-" })
+    );
+    assert_eq!(rt;
+        plan(rt.alloc(), &["try", ""]),
+        Ok(Command::Try { image: "" })
+    );
+    assert_eq!(rt;
+        plan(rt.alloc(), &["try", "--", "-x"]),
+        Ok(Command::Try { image: "-x" })
+    );
+}
