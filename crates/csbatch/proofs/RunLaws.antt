@@ -11,9 +11,10 @@ use Rattle.cse_parts.specs.Image.{Image, RoutineLists}
 use Rattle.cse_verify.specs.Code.{code_of}
 use Rattle.cse_verify.specs.Jumps.{is_return, may_jump, is_bracket, leads_on, ends_well, keeps_rules}
 use Rattle.csbatch.specs.declared.cell.Cell.{Cell}
+use Rattle.cse_value.specs.declared.number.Num.{Num}
 use Rattle.csbatch.specs.State.{Call, Store, Reports, State}
 use Rattle.csbatch.specs.Values.{index_of, top_number, calculated}
-use Rattle.csbatch.specs.Step.{Here, here, next, goes, branched, indexed, index_made, acted, stepped, call_step, returned, resumed, is_event_routine, step}
+use Rattle.csbatch.specs.Step.{Here, here, next, moved, branched, indexed, index_made, acted, stepped, call_step, returned, resumed, is_event_routine, step}
 use Rattle.csbatch.specs.Run.{run}
 
 -- the state of one call alone
@@ -66,24 +67,37 @@ mapped : {A : Type 0} (f : A → Here) (P : Here → Type 0) (o : Option A) (aft
 mapped f P None after all e = cc
 mapped f P (Some a) after all e = let same : f a ≡ after = cc in subst P same (all a)
 
-branch_leads : (h : Here) (to : ℕ) (b : Bool) (cells : List Cell) → let g : Here = cond b (next h cells) (goes h to cells) in (g.place ≡ h.place + 1) ⊎ (g.place ≡ to)
-branch_leads h to true cells = inl refl
-branch_leads h to false cells = inr refl
+-- a pair whose place is one of two
+pairs : {A : Type 0} (f : A → ℕ × List Cell) (p q : ℕ) (o : Option A) (r : ℕ × List Cell) → ((a : A) → ((f a).0 ≡ p) ⊎ ((f a).0 ≡ q)) → option_map f o ≡ Some r → (r.0 ≡ p) ⊎ (r.0 ≡ q)
+pairs f p q None r all e = cc
+pairs f p q (Some a) r all e = let same : f a ≡ r = cc in subst (λ (v : ℕ × List Cell). (v.0 ≡ p) ⊎ (v.0 ≡ q)) same (all a)
 
-index_leads : (h : Here) (cells : List Cell) (size to : ℕ) (o : Option ℕ) → ((index_made h cells size to o).place ≡ h.place + 1) ⊎ ((index_made h cells size to o).place ≡ to)
-index_leads h cells size to None = inr refl
-index_leads h cells size to (Some i) = inl refl
+branch_leads : (place to : ℕ) (b : Bool) (cells : List Cell) → let g : ℕ × List Cell = cond b (place + 1, cells) (to, cells) in (g.0 ≡ place + 1) ⊎ (g.0 ≡ to)
+branch_leads place to true cells = inl refl
+branch_leads place to false cells = inr refl
+
+index_leads : (place : ℕ) (cells : List Cell) (size to : ℕ) (o : Option ℕ) → ((index_made place cells size to o).0 ≡ place + 1) ⊎ ((index_made place cells size to o).0 ≡ to)
+index_leads place cells size to None = inr refl
+index_leads place cells size to (Some i) = inl refl
+
+-- what moves to one of two places
+moved_leads : (h after : Here) (p q : ℕ) (o : Option (ℕ × List Cell)) → ((r : ℕ × List Cell) → o ≡ Some r → (r.0 ≡ p) ⊎ (r.0 ≡ q)) → option_map (moved h) o ≡ Some after
+    → (after.place ≡ p) ⊎ (after.place ≡ q)
+moved_leads h after p q None all e = cc
+moved_leads h after p q (Some r) all e = let same : moved h r ≡ after = cc in subst (λ (v : Here). (v.place ≡ p) ⊎ (v.place ≡ q)) same (all r refl)
 
 -- every instruction but Return that has a step goes on, or where it may jump
 acted_leads : (x : Image) (d : List Local) (o : Op) (i : Instr) (h after : Here) → acted x d o i h ≡ Some after → Leads o i h after
 unfolding acted may_jump
-acted_leads x d ops.Jump i h after e = let same : goes h i.c h.cells ≡ after = cc in inr (refl, ap (λ (v : Here). v.place) (sym same))
+acted_leads x d ops.Jump i h after e = let same : moved h (i.c, h.cells) ≡ after = cc in inr (refl, ap (λ (v : Here). v.place) (sym same))
 acted_leads x d ops.JumpUnless i h after e =
-    mapped (branched h i.c) (Leads ops.JumpUnless i h) (top_number h.cells) after
-    (λ r. elim (branch_leads h i.c (is_condition r.0) r.1) [ inl p ↦ inl p | inr p ↦ inr (refl, p) ]) e
+    elim (moved_leads h after (h.place + 1) i.c (branched h.place i.c h.cells)
+    (λ r. pairs (λ (v : Num × List Cell). cond (is_condition v.0) (h.place + 1, v.1) (i.c, v.1)) (h.place + 1) i.c (top_number h.cells) r (λ v. branch_leads h.place i.c (is_condition v.0) v.1)) e)
+    [ inl p ↦ inl p | inr p ↦ inr (refl, p) ]
 acted_leads x d ops.Index i h after e =
-    mapped (indexed h i.b i.c) (Leads ops.Index i h) (top_number h.cells) after
-    (λ r. elim (index_leads h r.1 i.b i.c (index_of i.b r.0)) [ inl p ↦ inl p | inr p ↦ inr (refl, p) ]) e
+    elim (moved_leads h after (h.place + 1) i.c (indexed h.place i.b i.c h.cells)
+    (λ r. pairs (λ (v : Num × List Cell). index_made h.place v.1 i.b i.c (index_of i.b v.0)) (h.place + 1) i.c (top_number h.cells) r (λ v. index_leads h.place v.1 i.b i.c (index_of i.b v.0))) e)
+    [ inl p ↦ inl p | inr p ↦ inr (refl, p) ]
 acted_leads x d ops.Number i h after e = mapped _ (Leads ops.Number i h) _ after (λ a. inl refl) e
 acted_leads x d ops.Special i h after e = mapped _ (Leads ops.Special i h) _ after (λ a. inl refl) e
 acted_leads x d ops.Text i h after e = mapped _ (Leads ops.Text i h) _ after (λ a. inl refl) e

@@ -1,11 +1,11 @@
 //! The machine that runs an event of an image without case, loops and calls of routines: it keeps a
 //! stack of cells that carry their kind, and tests every operand of every instruction.
 
-ghost use Rattle.std.specs.Prelude.{◌≡◌, ◌+◌, ◌<◌, ◌^◌, false, IfOk, map, slice_get, if◌then◌else◌};
+ghost use Rattle.std.specs.Prelude.{option_map, is_some, unwrap_or, ◌≡◌, ◌+◌, ◌<◌, ◌^◌, false, IfOk, map, slice_get, if◌then◌else◌};
 ghost use Rattle.std.specs.String.{string_bytes};
 ghost use Rattle.cse_parts.specs.Image.{array_lists, message_lists};
 ghost use Rattle.csbatch.specs.Values.{if_true};
-ghost use Rattle.csbatch.specs.Step.{constant_pushed, special_pushed, text_pushed, acted, cell_pushed, cell_put, message_reported, is_plain, counted};
+ghost use Rattle.csbatch.specs.Step.{constant_pushed, special_pushed, text_pushed, acted, branched, indexed, cell_pushed, cell_put, message_reported, is_plain, counted};
 ghost use Rattle.csbatch.specs.Machine.{here_of, reports_of};
 
 use crate::arrays::{ArrayCells, load_cell};
@@ -148,6 +148,45 @@ fn count(counts: &mut Vec<u64>, message: u32)
     }
 }
 
+/// On where the topmost condition holds, and else to a place; none without a number.
+fn branch(place: u32, to: u32, cells: &mut Stack<Cell>) -> Option<u32>
+    requires { place + 1 < 2 ^ 32 }
+    ensures { branched place to cells.old ≡ option_map (λ next. (next, cells.new)) result }
+{
+    let x = take_number(cells)?;
+    if truth(x) { Some(place + 1) } else { Some(to) }
+}
+
+/// On with an index where the topmost number is one of this size, and else to a place; none without a
+/// number.
+fn index(place: u32, size: u16, to: u32, cells: &mut Stack<Cell>) -> Result<Option<u32>, AllocError>
+    requires { place + 1 < 2 ^ 32 }
+    ensures { IfOk result (λ next. indexed place size to cells.old ≡ option_map (λ n. (n, cells.new)) next) }
+{
+    let Some(x) = take_number(cells) else {
+        return Ok(None);
+    };
+    let Some(i) = index_of(size, x) else {
+        return Ok(Some(to));
+    };
+    cells.push(Cell::Index(i, u32::from(size)))?;
+    Ok(Some(place + 1))
+}
+
+/// To the place that an instruction leads to, if it leads anywhere.
+fn go(to: Option<u32>, place: &mut u32) -> bool
+    ensures went { result ≡ is_some to }
+    ensures place { place.new ≡ unwrap_or to place.old }
+{
+    match to {
+        Some(to) => {
+            *place = to;
+            true
+        }
+        None => false,
+    }
+}
+
 /// On to the next place, where the instruction went.
 fn on(went: bool, place: &mut u32) -> bool
     requires { place.old + 1 < 2 ^ 32 }
@@ -213,30 +252,14 @@ pub fn act<C: Code>(
             call.place = c;
             Ok(true)
         }
-        Op::JumpUnless => match take_number(&mut call.cells) {
-            None => Ok(false),
-            Some(x) => {
-                if truth(x) {
-                    call.place += 1;
-                } else {
-                    call.place = c;
-                }
-                Ok(true)
-            }
-        },
-        Op::Index => match take_number(&mut call.cells) {
-            None => Ok(false),
-            Some(x) => {
-                match index_of(b, x) {
-                    None => call.place = c,
-                    Some(i) => {
-                        call.cells.push(Cell::Index(i, u32::from(b)))?;
-                        call.place += 1;
-                    }
-                }
-                Ok(true)
-            }
-        },
+        Op::JumpUnless => {
+            let to = branch(call.place, c, &mut call.cells);
+            Ok(go(to, &mut call.place))
+        }
+        Op::Index => {
+            let to = index(call.place, b, c, &mut call.cells)?;
+            Ok(go(to, &mut call.place))
+        }
         Op::LoadCell => {
             let went = load_from(program.arrays(), &store.arrays, c, &mut call.cells)?;
             Ok(on(went, &mut call.place))
