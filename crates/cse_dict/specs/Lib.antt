@@ -1,0 +1,10 @@
+pub mod Keys
+pub mod Names
+pub mod Types
+pub mod Pairs
+pub mod Fields
+pub mod Context
+pub mod Faults
+pub mod Dictionary
+pub mod Reading
+pub mod Kept

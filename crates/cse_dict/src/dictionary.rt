@@ -1,0 +1,248 @@
+//! A dictionary, and how it is read.
+ghost use Rattle.std.specs.Prelude.{◌≡◌, ℕ, ◌≤◌, [], ◌∷◌, None, map, find, length, unwrap_or, OnOk, IfOk, IfErr};
+ghost use Rattle.cse_value.specs.Shape.{shape_lists};
+ghost use Rattle.cse_sections.specs.Sections.{sections_of};
+ghost use Rattle.std.specs.Option.{option_copied};
+ghost use Rattle.std.specs.String.{string_bytes};
+ghost use Rattle.cse_dict.specs.Faults.{faults_of, is_level, note_all};
+ghost use Rattle.cse_dict.specs.Fields.{type_columns_of};
+ghost use Rattle.cse_dict.specs.Reading.{IsAnswer, IsNoted, text_faults};
+ghost use Rattle.cse_dict.specs.Kept.{IsKept};
+ghost use Rattle.cse_dict.specs.Dictionary.{DictionaryText, IsSmall, dictionary_of, level_name_of, no_columns};
+
+use crate::context::covered_by;
+use crate::fault::DictError;
+use crate::field::{Columns, type_columns_of};
+use crate::parts::{Item, Record, Set, items_of, name_at, records_of, sets_of};
+use crate::places::{Places, item_places, record_places, set_places};
+use crate::record_type::type_len_of;
+use crate::whole::{is_level, least_fault, read_len};
+use cse_sections::sections::{Section, sections_of};
+use cse_sections::text::is_utf8;
+use cse_value::shape::{ItemShape, RecordShape, SetShape, Shape};
+use std::alloc::{AllocError, Global};
+use std::marker::Model;
+
+/// A dictionary: the names of its file and level, the columns of the record type, and its records,
+/// items and value sets, each numbered from 0 in order of appearance.
+#[derive(Drop)]
+pub struct Dictionary {
+    pub(crate) name: String,
+    pub(crate) level_name: String,
+    pub(crate) type_columns: Columns,
+    pub(crate) records: Vec<Record>,
+    pub(crate) items: Vec<Item>,
+    pub(crate) sets: Vec<Set>,
+    pub(crate) record_places: Places,
+    pub(crate) item_places: Places,
+    pub(crate) set_places: Places,
+    pub(crate) shape: Shape,
+}
+
+impl Model for Dictionary {
+    ghost Value = { DictionaryText };
+
+    ghost view = { λ d. record {
+      name = string_bytes d.name;
+      level_name = string_bytes d.level_name;
+      type_columns = d.type_columns;
+      records = d.records.items;
+      items = d.items.items;
+      sets = d.sets.items;
+    } };
+
+    ghost invariant = { λ d. IsKept d.records.items d.items.items d.sets.items d.record_places d.item_places d.set_places (shape_lists d.shape) };
+}
+
+/// The shapes of records.
+fn record_shapes(alloc: Global, records: &[Record]) -> Result<Vec<RecordShape>, AllocError>
+    ensures { IfOk result (λ v. v.items ≡ map (λ r. r.shape) records.now) }
+{
+    let mut shapes = Vec::new(alloc);
+    'records: for record in records {
+        shapes.push(record.shape)?;
+    }
+    Ok(shapes)
+}
+
+/// The shapes of items.
+fn item_shapes(alloc: Global, items: &[Item]) -> Result<Vec<ItemShape>, AllocError>
+    ensures { IfOk result (λ v. v.items ≡ map (λ i. i.shape) items.now) }
+{
+    let mut shapes = Vec::new(alloc);
+    'items: for item in items {
+        shapes.push(item.shape)?;
+    }
+    Ok(shapes)
+}
+
+/// The shapes of value sets.
+fn set_shapes(alloc: Global, sets: &[Set]) -> Result<Vec<SetShape>, AllocError>
+    ensures { IfOk result (λ v. v.items ≡ map (λ s. s.shape) sets.now) }
+{
+    let mut shapes = Vec::new(alloc);
+    'sets: for set in sets {
+        shapes.push(set.shape)?;
+    }
+    Ok(shapes)
+}
+
+/// The first level.
+fn level_of<'s, 'a>(read: &'s [Section<'a>]) -> Option<&'s Section<'a>>
+    ensures { option_copied result ≡ find is_level read.now }
+{
+    read.iter().find(|section| is_level(section))
+}
+
+/// The name of the level.
+#[tactic(auto, unfolding(crate::specs::Dictionary::level_name_of))]
+fn level_name_of(alloc: Global, read: &[Section<'_>]) -> Result<String, AllocError>
+    ensures { IfOk result (λ s. string_bytes s ≡ level_name_of read.now) }
+{
+    match level_of(read) {
+        Some(level) => name_at(alloc, level),
+        None => Ok(String::new(alloc)),
+    }
+}
+
+/// The columns of the record type, or 0 and 0.
+fn type_columns_or_none(first: &Section<'_>) -> Columns
+    ensures { result ≡ unwrap_or (type_columns_of first.now) no_columns }
+{
+    match type_columns_of(first) {
+        Some(columns) => columns,
+        None => Columns { start: 0, len: 0 },
+    }
+}
+
+/// What stands at the names of records, items and value sets, and their shapes.
+fn dictionary_with(
+    alloc: Global,
+    names: (String, String),
+    type_columns: Columns,
+    records: Vec<Record>,
+    items: Vec<Item>,
+    sets: Vec<Set>,
+) -> Result<Dictionary, AllocError>
+    requires records { length records.items ≤ 200 }
+    requires items { length items.items ≤ 10000 }
+    requires sets { length sets.items ≤ 10000 }
+    ensures { IfOk result (λ d. d ≡ record {
+      name = string_bytes names.0;
+      level_name = string_bytes names.1;
+      type_columns = type_columns;
+      records = records.items;
+      items = items.items;
+      sets = sets.items;
+    }) }
+{
+    let record_places = record_places(alloc, &records)?;
+    let item_places = item_places(alloc, &items)?;
+    let set_places = set_places(alloc, &sets)?;
+    let shape = Shape {
+        records: record_shapes(alloc, &records)?,
+        items: item_shapes(alloc, &items)?,
+        sets: set_shapes(alloc, &sets)?,
+    };
+    let (name, level_name) = names;
+    Ok(Dictionary {
+        name,
+        level_name,
+        type_columns,
+        records,
+        items,
+        sets,
+        record_places,
+        item_places,
+        set_places,
+        shape,
+    })
+}
+
+/// The dictionary of a first section and those behind it.
+#[tactic(auto, unfolding(crate::specs::Dictionary::dictionary_of, crate::specs::Faults::read_part))]
+fn dictionary_behind(
+    alloc: Global,
+    first: &Section<'_>,
+    rest: &[Section<'_>],
+) -> Result<Dictionary, AllocError>
+    requires { IsSmall (dictionary_of (first.now ∷ rest.now)) }
+    ensures { IfOk result (λ d. d ≡ dictionary_of (first.now ∷ rest.now)) }
+{
+    let read = &rest[..read_len(rest)];
+    let name = name_at(alloc, first)?;
+    let level_name = level_name_of(alloc, read)?;
+    let type_columns = type_columns_or_none(first);
+    let records = records_of(alloc, type_len_of(first), read)?;
+    let covered = covered_by(alloc, first, read)?;
+    let items = items_of(alloc, &covered, read)?;
+    let sets = sets_of(alloc, read)?;
+    dictionary_with(
+        alloc,
+        (name, level_name),
+        type_columns,
+        records,
+        items,
+        sets,
+    )
+}
+
+/// The dictionary of sections without a fault.
+fn dictionary_of(alloc: Global, sections: &[Section<'_>]) -> Result<Dictionary, AllocError>
+    requires { faults_of sections.now ≡ [] }
+    ensures { IfOk result (λ d. d ≡ dictionary_of sections.now) }
+{
+    let [first, rest @ ..] = sections else {
+        unreachable!();
+    };
+    dictionary_behind(alloc, first, rest)
+}
+
+/// Want of memory.
+const WANT_OF_MEMORY: DictError = DictError {
+    number: 90,
+    line: 0,
+};
+
+/// The sections of a text without a fault, or its least fault.
+#[tactic(auto, unfolding(crate::specs::Reading::text_faults))]
+fn sound_sections(alloc: Global, text: &[u8]) -> Result<Vec<Section<'_>>, DictError>
+    ensures sections { IfOk result (λ v. v.items ≡ sections_of text.now) }
+    ensures sound { OnOk result (note_all None (text_faults text.now) ≡ None) }
+    ensures fault { IfErr result (λ error. IsNoted (text_faults text.now) error) }
+{
+    if !is_utf8(text) {
+        return Err(DictError {
+            number: 10,
+            line: 0,
+        });
+    }
+    let Ok(sections) = sections_of(alloc, text) else {
+        return Err(WANT_OF_MEMORY);
+    };
+    match least_fault(alloc, &sections) {
+        Ok(None) => Ok(sections),
+        Ok(Some(fault)) => Err(fault),
+        Err(_) => Err(WANT_OF_MEMORY),
+    }
+}
+
+impl Dictionary {
+    /// The dictionary of a text, or the least of its faults by line and then by number; want of memory
+    /// is 90.
+    pub fn read(alloc: Global, text: &[u8]) -> Result<Dictionary, DictError>
+        ensures dictionary { IfOk result (λ d. d ≡ dictionary_of (sections_of text.now)) }
+        ensures sound { OnOk result (text_faults text.now ≡ []) }
+        ensures small { IfOk result (λ d. IsSmall d) }
+        ensures fault { IfErr result (λ error. IsAnswer text.now error) }
+    {
+        let sections = match sound_sections(alloc, text) {
+            Ok(sections) => sections,
+            Err(error) => return Err(error),
+        };
+        match dictionary_of(alloc, &sections) {
+            Ok(dictionary) => Ok(dictionary),
+            Err(_) => Err(WANT_OF_MEMORY),
+        }
+    }
+}

@@ -1,0 +1,27 @@
+//! A dictionary of a census file, read from the text that CSPro writes.
+#![tactic(auto)]
+
+mod check;
+mod context;
+mod dictionary;
+mod fault;
+mod faults;
+mod field;
+mod keys;
+mod lookup;
+mod names;
+mod pairs;
+mod parts;
+mod places;
+mod record_type;
+mod rows;
+mod search;
+mod seen;
+mod whole;
+
+pub use dictionary::Dictionary;
+pub use fault::DictError;
+pub use lookup::Unseen;
+
+#[cfg(test)]
+mod tests;

@@ -1,0 +1,10 @@
+use Rattle.std.proofs.Common.{◌≡◌, length}
+use Rattle.std.specs.Prelude.{reverse}
+use Rattle.cse_sections.specs.Text.{without_blanks}
+use Rattle.cse_sections.proofs.text.without_back.Given as goal
+
+abbrev pub invariant-blanks : goal.invariant-blanks
+invariant-blanks l = without_blanks (reverse l.rest) ≡ without_blanks (reverse l.fn.text)
+
+abbrev pub decreases-blanks : goal.decreases-blanks
+decreases-blanks l = length l.rest

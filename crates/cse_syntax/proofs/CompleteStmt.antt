@@ -1,0 +1,338 @@
+-- Statements of the grammar are read, up to a rest that begins none.
+use Rattle.std.proofs.Common.{◌≡◌, ℕ, zero, suc, ◌≤◌, Bool, true, false, List, [], ◌∷◌, ◌++◌, length, Option, Some, None, refl, ap, ◌∙◌, arith, append_assoc}
+use Rattle.std.proofs.lemmas.List.{append-nil}
+use Rattle.std.specs.Str.{str_eq_ignore_ascii_case}
+use Rattle.cse_syntax.specs.declared.token.Mark.{Mark}
+use Rattle.cse_syntax.specs.declared.token.Mark.TheVariants as m
+use Rattle.cse_syntax.specs.declared.tree.Count.{Count}
+use Rattle.cse_syntax.specs.declared.tree.Count.TheVariants as c
+use Rattle.cse_syntax.specs.declared.tree.Jump.{Jump}
+use Rattle.cse_syntax.specs.declared.tree.Jump.TheVariants as j
+use Rattle.cse_syntax.specs.Word.{Word, Name, Digits, Sign}
+use Rattle.cse_syntax.specs.Tree.{Spelling, Expr, Exprs, none, more, exprs, Literal, Limit, Fixed, Counted, Counting, Message, Own, Numbered, Stmt, Empty, Assign, Call, If, For, Do, Jump', Impute, PutDeck, ErrMsg, Stmts, done, next, stmts, Arms, no_arm, arm, arms, Otherwise, no_else, else_of}
+use Rattle.cse_syntax.specs.Grammar.{is_within, Below, HasRoom, spell_mark, spell_expr, spell_exprs, spell_others, spell_subscripts, IsExpr, AreInner, spell_literal, spell_limit, spell_by, spell_counting, spell_message, spell_stmt, spell_stmts, spell_arms, spell_otherwise, IsLimit, IsBy, IsCounting, IsMessage, IsStmt, AreStmts, AreArms, IsOtherwise}
+use Rattle.cse_syntax.specs.Reading.{Parser, sees, after, snoc, nested}
+use Rattle.cse_syntax.specs.ReadingStmt.{literal, counted, fixed, limit, step, again, counting, message, assigned, called, named_stmt, putdeck, errmsg, jump, imputed, impute, guarded, elseifs, elseifs_from, otherwise, conditional, body_to_end, over, over_at, counted_at, marked_stmt, statement, starts_stmt, statements, statements_from, body_at, statements_at}
+use Rattle.cse_syntax.proofs.Complete.{longer_expr, longer_exprs, longer_others, longer_subscripts, list_of, exprs-list_of, enter_reads, has_room, others_read, subscripts_read, arguments_read, nested_reads, expr_reads}
+
+abbrev pub stmt_list : Stmts → List Stmt
+stmt_list done = []
+stmt_list (next x xs) = x ∷ stmt_list xs
+
+pub stmts-stmt_list : (xs : Stmts) → stmts (stmt_list xs) ≡ xs
+stmts-stmt_list done = refl
+stmts-stmt_list (next x xs) = ap (next x) (stmts-stmt_list xs)
+
+abbrev arm_list : Arms → List (Expr × Stmts)
+arm_list no_arm = []
+arm_list (arm condition body others) = (condition, body) ∷ arm_list others
+
+arms-arm_list : (xs : Arms) → arms (arm_list xs) ≡ xs
+arms-arm_list no_arm = refl
+arms-arm_list (arm condition body others) = ap (arm condition body) (arms-arm_list others)
+
+longer_mark : (mark : Mark) (b : Bool) (rest : List Word) → length rest ≤ length (spell_mark mark b rest)
+longer_mark mark true rest = omega arith
+longer_mark mark false rest = omega arith
+
+pub longer_literal : (x : Literal) (rest : List Word) → length rest ≤ length (spell_literal x rest)
+longer_literal x rest = omega (arith, longer_mark m.Minus x.minus (Digits x.digits ∷ rest))
+
+longer_limit : (x : Limit) (rest : List Word) → length rest ≤ length (spell_limit x rest)
+longer_limit (Fixed x) rest = longer_literal x rest
+longer_limit (Counted count name) rest = omega arith
+
+longer_by : (x : Option Spelling) (rest : List Word) → length rest ≤ length (spell_by x rest)
+longer_by None rest = omega arith
+longer_by (Some digits) rest = omega arith
+
+longer_counting : (x : Counting) (rest : List Word) → length rest ≤ length (spell_counting x rest)
+longer_counting x rest =
+    omega (arith, longer_limit x.start (Sign m.Until ∷ Name x.again ∷ Sign m.More ∷ spell_limit x.stop (spell_by x.by rest)), longer_limit x.stop (spell_by x.by rest), longer_by x.by rest)
+
+longer_message : (x : Message) (rest : List Word) → length rest ≤ length (spell_message x rest)
+longer_message (Own text) rest = omega arith
+longer_message (Numbered digits) rest = omega arith
+
+mutual
+  longer_stmt : (x : Stmt) (rest : List Word) → suc (length rest) ≤ length (spell_stmt x rest)
+  longer_stmt Empty rest = omega arith
+  longer_stmt (Assign name is value) rest = omega (arith, longer_subscripts is (Sign m.Equals ∷ spell_expr value (Sign m.Semicolon ∷ rest)), longer_expr value (Sign m.Semicolon ∷ rest))
+  longer_stmt (Call name xs) rest = omega (arith, longer_exprs xs (Sign m.Close ∷ Sign m.Semicolon ∷ rest))
+  longer_stmt (If condition body others last) rest =
+      let end : List Word = Sign m.EndIf ∷ Sign m.Semicolon ∷ rest in
+      omega (arith, longer_expr condition (Sign m.Then ∷ spell_stmts body (spell_arms others (spell_otherwise last end))), longer_stmts body (spell_arms others (spell_otherwise last end)), longer_arms others (spell_otherwise last end), longer_otherwise last end)
+  longer_stmt (For variable record_name body) rest = omega (arith, longer_stmts body (Sign m.EndDo ∷ Sign m.Semicolon ∷ rest))
+  longer_stmt (Do head body) rest = omega (arith, longer_counting head (spell_stmts body (Sign m.EndDo ∷ Sign m.Semicolon ∷ rest)), longer_stmts body (Sign m.EndDo ∷ Sign m.Semicolon ∷ rest))
+  longer_stmt (Jump' which) rest = omega arith
+  longer_stmt (Impute name is value) rest = omega (arith, longer_subscripts is (Sign m.Comma ∷ spell_expr value (Sign m.Close ∷ Sign m.Semicolon ∷ rest)), longer_expr value (Sign m.Close ∷ Sign m.Semicolon ∷ rest))
+  longer_stmt (PutDeck deck value) rest = omega (arith, longer_expr value (Sign m.Close ∷ Sign m.Semicolon ∷ rest))
+  longer_stmt (ErrMsg what values summary) rest =
+      let end : List Word = spell_mark m.Summary summary (Sign m.Semicolon ∷ rest) in
+      omega (arith, longer_message what (spell_others values (Sign m.Close ∷ end)), longer_others values (Sign m.Close ∷ end), longer_mark m.Summary summary (Sign m.Semicolon ∷ rest))
+
+  pub longer_stmts : (xs : Stmts) (rest : List Word) → length rest ≤ length (spell_stmts xs rest)
+  longer_stmts done rest = omega arith
+  longer_stmts (next x xs) rest = omega (arith, longer_stmt x (spell_stmts xs rest), longer_stmts xs rest)
+
+  longer_arms : (xs : Arms) (rest : List Word) → length rest ≤ length (spell_arms xs rest)
+  longer_arms no_arm rest = omega arith
+  longer_arms (arm condition body others) rest = omega (arith, longer_expr condition (Sign m.Then ∷ spell_stmts body (spell_arms others rest)), longer_stmts body (spell_arms others rest), longer_arms others rest)
+
+  longer_otherwise : (x : Otherwise) (rest : List Word) → length rest ≤ length (spell_otherwise x rest)
+  longer_otherwise no_else rest = omega arith
+  longer_otherwise (else_of body) rest = omega (arith, longer_stmts body rest)
+
+-- ---- the head of a `do`
+
+pub literal_reads : (most : ℕ) (x : Literal) (rest : List Word) → is_within 0 most x.digits ≡ true → literal most (spell_literal x rest) ≡ Some (x, rest)
+unfolding literal
+literal_reads most x rest h =
+    let by : (b : Bool) → literal most (spell_mark m.Minus b (Digits x.digits ∷ rest)) ≡ Some (record { minus = b; digits = x.digits }, rest) = λ b. elim b as (λ b. literal most (spell_mark m.Minus b (Digits x.digits ∷ rest)) ≡ Some (record { minus = b; digits = x.digits }, rest)) [
+      | true ↦ rw h refl
+      | false ↦ rw h refl
+    ] in by x.minus
+
+counted_reads : (room : ℕ) (count : Count) (name : Spelling) (rest : List Word) → HasRoom room → counted room count (Sign m.Open ∷ Name name ∷ Sign m.Close ∷ rest) ≡ Some (Counted count name, rest)
+unfolding counted
+counted_reads room count name rest h = rw (enter_reads room (Name name ∷ Sign m.Close ∷ rest) h) refl
+
+fixed_reads : (x : Literal) (rest : List Word) → is_within 0 999999999 x.digits ≡ true → fixed (spell_literal x rest) ≡ Some (Fixed x, rest)
+unfolding fixed
+fixed_reads x rest h = rw (literal_reads 999999999 x rest h) refl
+
+limit_is_fixed : (room : ℕ) (minus : Bool) (digits : Spelling) (rest : List Word) → limit room (spell_mark m.Minus minus (Digits digits ∷ rest)) ≡ fixed (spell_mark m.Minus minus (Digits digits ∷ rest))
+unfolding limit
+limit_is_fixed room true digits rest = refl
+limit_is_fixed room false digits rest = refl
+
+limit_reads : (room : ℕ) (x : Limit) (rest : List Word) → IsLimit x room → limit room (spell_limit x rest) ≡ Some (x, rest)
+unfolding limit
+limit_reads room (Fixed x) rest h = limit_is_fixed room x.minus x.digits rest ∙ fixed_reads x rest h
+limit_reads room (Counted c.TotOcc name) rest h = counted_reads room c.TotOcc name rest h
+limit_reads room (Counted c.MaxOcc name) rest h = counted_reads room c.MaxOcc name rest h
+
+step_reads : (x : Option Spelling) (rest : List Word) → IsBy x → sees m.By rest ≡ false → step (spell_by x rest) ≡ Some (x, rest)
+unfolding step
+step_reads None rest h b = rw b refl
+step_reads (Some digits) rest h b = rw h refl
+
+again_reads : (variable name : Spelling) (rest : List Word) → str_eq_ignore_ascii_case variable name ≡ true → again variable (Name name ∷ rest) ≡ Some (name, rest)
+unfolding again
+again_reads variable name rest h = rw h refl
+
+counting_reads : (room : ℕ) (x : Counting) (rest : List Word) → IsCounting x room → sees m.By rest ≡ false → counting room (spell_counting x rest) ≡ Some (x, rest)
+unfolding counting
+counting_reads room x rest h b =
+    let start = limit_reads room x.start (Sign m.Until ∷ Name x.again ∷ Sign m.More ∷ spell_limit x.stop (spell_by x.by rest)) h.0 in
+    let second = again_reads x.variable x.again (Sign m.More ∷ spell_limit x.stop (spell_by x.by rest)) h.1 in
+    let stop = limit_reads room x.stop (spell_by x.by rest) h.2 in
+    let by = step_reads x.by rest h.3 b in
+    rw (start, second, stop, by) refl
+
+message_reads : (x : Message) (rest : List Word) → IsMessage x → message (spell_message x rest) ≡ Some (x, rest)
+unfolding message
+message_reads (Own text) rest h = refl
+message_reads (Numbered digits) rest h = rw h refl
+
+-- ---- first words
+
+starts : (x : Stmt) (rest : List Word) → starts_stmt (spell_stmt x rest) ≡ true
+starts Empty rest = refl
+starts (Assign name is value) rest = refl
+starts (Call name xs) rest = refl
+starts (If condition body others last) rest = refl
+starts (For variable record_name body) rest = refl
+starts (Do head body) rest = refl
+starts (Jump' j.Break) rest = refl
+starts (Jump' j.Next) rest = refl
+starts (Jump' j.Exit) rest = refl
+starts (Impute name is value) rest = refl
+starts (PutDeck deck value) rest = refl
+starts (ErrMsg what values summary) rest = refl
+
+arms_start : (xs : Arms) (rest : List Word) → starts_stmt rest ≡ false → starts_stmt (spell_arms xs rest) ≡ false
+arms_start no_arm rest h = h
+arms_start (arm condition body others) rest h = refl
+
+otherwise_starts : (x : Otherwise) (rest : List Word) → starts_stmt rest ≡ false → starts_stmt (spell_otherwise x rest) ≡ false
+otherwise_starts no_else rest h = h
+otherwise_starts (else_of body) rest h = refl
+
+no_elseif : (x : Otherwise) (rest : List Word) → sees m.ElseIf rest ≡ false → sees m.ElseIf (spell_otherwise x rest) ≡ false
+no_elseif no_else rest h = h
+no_elseif (else_of body) rest h = refl
+
+-- statements begin with no `by`
+no_by : (xs : Stmts) (rest : List Word) → sees m.By rest ≡ false → sees m.By (spell_stmts xs rest) ≡ false
+no_by done rest h = h
+no_by (next (Jump' j.Break) xs) rest h = refl
+no_by (next (Jump' j.Next) xs) rest h = refl
+no_by (next (Jump' j.Exit) xs) rest h = refl
+no_by (next x xs) rest h = refl
+
+-- ---- statements without others in them
+
+module _ (room : ℕ) where
+  assigned_reads : (name : Spelling) (xs : List Expr) (value : Expr) (rest : List Word) → IsExpr value room → assigned room name xs (spell_expr value (Sign m.Semicolon ∷ rest)) ≡ Some (Assign name (exprs xs) value, rest)
+  unfolding assigned
+  assigned_reads name xs value rest h = rw (expr_reads room value (Sign m.Semicolon ∷ rest) h (omega arith)) refl
+
+  assign_some : (name : Spelling) (x : Expr) (xs : Exprs) (value : Expr) (rest : List Word) → AreInner (more x xs) room → IsExpr value room
+      → named_stmt room name (spell_subscripts (more x xs) (Sign m.Equals ∷ spell_expr value (Sign m.Semicolon ∷ rest))) ≡ Some (Assign name (more x xs) value, rest)
+  unfolding named_stmt called
+  assign_some name x xs value rest h i =
+      let a = arguments_read room (nested room) (nested_reads room) (more x xs) (Sign m.Equals ∷ spell_expr value (Sign m.Semicolon ∷ rest)) (has_room room (IsExpr x) h.0) h in
+      let b = assigned_reads name (x ∷ list_of xs) value rest i in
+      rw (a, b, exprs-list_of xs) refl
+
+  assign_reads : (name : Spelling) (xs : Exprs) (value : Expr) (rest : List Word) → AreInner xs room → IsExpr value room
+      → named_stmt room name (spell_subscripts xs (Sign m.Equals ∷ spell_expr value (Sign m.Semicolon ∷ rest))) ≡ Some (Assign name xs value, rest)
+  unfolding named_stmt
+  assign_reads name none value rest h i = assigned_reads name [] value rest i
+  assign_reads name (more x xs) value rest h i = assign_some name x xs value rest h i
+
+  call_reads : (name : Spelling) (xs : Exprs) (rest : List Word) → HasRoom room → AreInner xs room → named_stmt room name (Sign m.Open ∷ spell_exprs xs (Sign m.Close ∷ Sign m.Semicolon ∷ rest)) ≡ Some (Call name xs, rest)
+  unfolding named_stmt called
+  call_reads name xs rest h i = rw (arguments_read room (nested room) (nested_reads room) xs (Sign m.Semicolon ∷ rest) h i, exprs-list_of xs) refl
+
+  putdeck_reads : (deck : Spelling) (value : Expr) (rest : List Word) → Below room (IsExpr value) → putdeck room (Sign m.Open ∷ Name deck ∷ Sign m.Comma ∷ spell_expr value (Sign m.Close ∷ Sign m.Semicolon ∷ rest)) ≡ Some (PutDeck deck value, rest)
+  unfolding putdeck
+  putdeck_reads deck value rest h =
+      let a = enter_reads room (Name deck ∷ Sign m.Comma ∷ spell_expr value (Sign m.Close ∷ Sign m.Semicolon ∷ rest)) (has_room room (IsExpr value) h) in
+      rw (a, nested_reads room value (Sign m.Close ∷ Sign m.Semicolon ∷ rest) h (omega arith)) refl
+
+  summary_is : (b : Bool) (rest : List Word) → sees m.Summary (spell_mark m.Summary b (Sign m.Semicolon ∷ rest)) ≡ b
+  summary_is true rest = refl
+  summary_is false rest = refl
+
+  behind_summary : (b : Bool) (rest : List Word) → after m.Summary (spell_mark m.Summary b (Sign m.Semicolon ∷ rest)) ≡ Sign m.Semicolon ∷ rest
+  behind_summary true rest = refl
+  behind_summary false rest = refl
+
+  errmsg_reads : (what : Message) (values : Exprs) (summary : Bool) (rest : List Word) → HasRoom room → IsMessage what → AreInner values room
+      → errmsg room (Sign m.Open ∷ spell_message what (spell_others values (Sign m.Close ∷ spell_mark m.Summary summary (Sign m.Semicolon ∷ rest)))) ≡ Some (ErrMsg what values summary, rest)
+  unfolding errmsg
+  errmsg_reads what values summary rest h i k =
+      let end : List Word = spell_mark m.Summary summary (Sign m.Semicolon ∷ rest) in
+      let a = enter_reads room (spell_message what (spell_others values (Sign m.Close ∷ end))) h in
+      let b = message_reads what (spell_others values (Sign m.Close ∷ end)) i in
+      let d = others_read room (nested room) (nested_reads room) values (Sign m.Close ∷ end) k (omega arith) refl in
+      rw (a, b, d, behind_summary summary rest, summary_is summary rest, exprs-list_of values) refl
+
+  jump_reads : (which : Jump) (rest : List Word) → jump room which (Sign m.Semicolon ∷ rest) ≡ Some (Jump' which, rest)
+  unfolding jump
+  jump_reads which rest = refl
+
+  imputed_reads : (name : Spelling) (xs : Exprs) (value : Expr) (rest : List Word) → AreInner xs room → IsExpr value room
+      → imputed room (Name name ∷ spell_subscripts xs (Sign m.Comma ∷ spell_expr value (Sign m.Close ∷ Sign m.Semicolon ∷ rest))) ≡ Some (Impute name xs value, rest)
+  unfolding imputed
+  imputed_reads name xs value rest h i =
+      let a = subscripts_read room (nested room) (nested_reads room) xs (Sign m.Comma ∷ spell_expr value (Sign m.Close ∷ Sign m.Semicolon ∷ rest)) h (omega arith) in
+      let b = expr_reads room value (Sign m.Close ∷ Sign m.Semicolon ∷ rest) i (omega arith) in
+      rw (a, b, exprs-list_of xs) refl
+
+impute_reads : (room : ℕ) (name : Spelling) (xs : Exprs) (value : Expr) (rest : List Word) → Below room (AreInner xs) → Below room (IsExpr value)
+    → impute room (Sign m.Open ∷ Name name ∷ spell_subscripts xs (Sign m.Comma ∷ spell_expr value (Sign m.Close ∷ Sign m.Semicolon ∷ rest))) ≡ Some (Impute name xs value, rest)
+unfolding impute
+impute_reads zero name xs value rest h i = absurd h
+impute_reads (suc room) name xs value rest h i = imputed_reads room name xs value rest h i
+
+-- ---- statements with others in them
+
+abbrev ReadsBody : ℕ → Parser (List Stmt) → Type 0
+ReadsBody room read = (xs : Stmts) (rest : List Word) → Below room (AreStmts xs) → starts_stmt rest ≡ false → read (spell_stmts xs rest) ≡ Some (stmt_list xs, rest)
+
+module _ (room : ℕ) (body : Parser (List Stmt)) (body_reads : ReadsBody room body) where
+  guarded_reads : (x : Expr) (xs : Stmts) (rest : List Word) → Below room (IsExpr x) → Below room (AreStmts xs) → starts_stmt rest ≡ false → guarded room body (spell_expr x (Sign m.Then ∷ spell_stmts xs rest)) ≡ Some ((x, xs), rest)
+  unfolding guarded
+  guarded_reads x xs rest h i s = rw (nested_reads room x (Sign m.Then ∷ spell_stmts xs rest) h (omega arith), body_reads xs rest i s, stmts-stmt_list xs) refl
+
+  arms_read : (xs : Arms) (n : ℕ) (found : List (Expr × Stmts)) (rest : List Word) → AreArms xs room → sees m.ElseIf rest ≡ false → starts_stmt rest ≡ false → length (spell_arms xs rest) ≤ n
+      → elseifs_from room body n found (spell_arms xs rest) ≡ Some (found ++ arm_list xs, rest)
+  arms_read no_arm zero found rest h e s le = rw append-nil refl
+  arms_read no_arm (suc n) found rest h e s le = rw (e, append-nil) refl
+  arms_read (arm x b xs) zero found rest h e s le = absurd (omega arith)
+  arms_read (arm x b xs) (suc n) found rest h e s le =
+      let one = guarded_reads x b (spell_arms xs rest) h.0 h.1 (arms_start xs rest s) in
+      let go = arms_read xs n (snoc found (x, b)) rest h.2 e s (omega (arith, longer_expr x (Sign m.Then ∷ spell_stmts b (spell_arms xs rest)), longer_stmts b (spell_arms xs rest))) in
+      rw (one, go) (rw append_assoc refl)
+
+  elseifs_read : (xs : Arms) (rest : List Word) → AreArms xs room → sees m.ElseIf rest ≡ false → starts_stmt rest ≡ false → elseifs room body (spell_arms xs rest) ≡ Some (arm_list xs, rest)
+  unfolding elseifs
+  elseifs_read xs rest h e s = arms_read xs (length (spell_arms xs rest)) [] rest h e s (omega arith)
+
+  otherwise_reads : (x : Otherwise) (rest : List Word) → IsOtherwise x room → sees m.Else rest ≡ false → starts_stmt rest ≡ false → otherwise room body (spell_otherwise x rest) ≡ Some (x, rest)
+  unfolding otherwise
+  otherwise_reads no_else rest h e s = rw e refl
+  otherwise_reads (else_of xs) rest h e s = rw (body_reads xs rest h s, stmts-stmt_list xs) refl
+
+  conditional_reads : (x : Expr) (b : Stmts) (others : Arms) (last : Otherwise) (rest : List Word) → IsStmt (If x b others last) room
+      → conditional room body (spell_expr x (Sign m.Then ∷ spell_stmts b (spell_arms others (spell_otherwise last (Sign m.EndIf ∷ Sign m.Semicolon ∷ rest))))) ≡ Some (If x b others last, rest)
+  unfolding conditional
+  conditional_reads x b others last rest h =
+      let end : List Word = Sign m.EndIf ∷ Sign m.Semicolon ∷ rest in
+      let s = otherwise_starts last end refl in
+      let first = guarded_reads x b (spell_arms others (spell_otherwise last end)) h.0 h.1 (arms_start others (spell_otherwise last end) s) in
+      rw (first, elseifs_read others (spell_otherwise last end) h.2 (no_elseif last end refl) s, otherwise_reads last end h.3 refl refl, arms-arm_list others) refl
+
+  body_to_end_reads : (xs : Stmts) (rest : List Word) → Below room (AreStmts xs) → body_to_end room body (spell_stmts xs (Sign m.EndDo ∷ Sign m.Semicolon ∷ rest)) ≡ Some (xs, rest)
+  unfolding body_to_end
+  body_to_end_reads xs rest h = rw (body_reads xs (Sign m.EndDo ∷ Sign m.Semicolon ∷ rest) h refl, stmts-stmt_list xs) refl
+
+  over_reads : (variable record_name : Spelling) (xs : Stmts) (rest : List Word) → Below room (AreStmts xs)
+      → over room body (Name variable ∷ Sign m.In ∷ Name record_name ∷ Sign m.Do ∷ spell_stmts xs (Sign m.EndDo ∷ Sign m.Semicolon ∷ rest)) ≡ Some (For variable record_name xs, rest)
+  unfolding over
+  over_reads variable record_name xs rest h = rw (body_to_end_reads xs rest h) refl
+
+over_at_reads : (room : ℕ) (body : Parser (List Stmt)) → ReadsBody room body → (variable record_name : Spelling) (xs : Stmts) (rest : List Word) → Below room (AreStmts xs)
+    → over_at room body (Name variable ∷ Sign m.In ∷ Name record_name ∷ Sign m.Do ∷ spell_stmts xs (Sign m.EndDo ∷ Sign m.Semicolon ∷ rest)) ≡ Some (For variable record_name xs, rest)
+unfolding over_at
+over_at_reads zero body reads variable record_name xs rest h = absurd h
+over_at_reads (suc room) body reads variable record_name xs rest h = over_reads (suc room) body reads variable record_name xs rest h
+
+counted_at_reads : (room : ℕ) (body : Parser (List Stmt)) → ReadsBody room body → (head : Counting) (xs : Stmts) (rest : List Word) → Below room (IsCounting head) → Below room (AreStmts xs)
+    → counted_at room body (spell_counting head (spell_stmts xs (Sign m.EndDo ∷ Sign m.Semicolon ∷ rest))) ≡ Some (Do head xs, rest)
+unfolding counted_at
+counted_at_reads zero body reads head xs rest h i = absurd h
+counted_at_reads (suc room) body reads head xs rest h i =
+    let end : List Word = Sign m.EndDo ∷ Sign m.Semicolon ∷ rest in
+    rw (counting_reads room head (spell_stmts xs end) h (no_by xs end refl), body_to_end_reads (suc room) body reads xs rest i) refl
+
+module _ (room : ℕ) (body : Parser (List Stmt)) (body_reads : ReadsBody room body) where
+  statement_reads : (x : Stmt) (rest : List Word) → IsStmt x room → statement room body (spell_stmt x rest) ≡ Some (x, rest)
+  unfolding statement marked_stmt
+  statement_reads Empty rest h = refl
+  statement_reads (Assign name is value) rest h = assign_reads room name is value rest h.0 h.1
+  statement_reads (Call name xs) rest h = call_reads room name xs rest h.0 h.1
+  statement_reads (If x b others last) rest h = conditional_reads room body body_reads x b others last rest h
+  statement_reads (For variable record_name xs) rest h = over_at_reads room body body_reads variable record_name xs rest h
+  statement_reads (Do head xs) rest h = counted_at_reads room body body_reads head xs rest h.0 h.1
+  statement_reads (Jump' j.Break) rest h = jump_reads room j.Break rest
+  statement_reads (Jump' j.Next) rest h = jump_reads room j.Next rest
+  statement_reads (Jump' j.Exit) rest h = jump_reads room j.Exit rest
+  statement_reads (Impute name xs value) rest h = impute_reads room name xs value rest h.0 h.1
+  statement_reads (PutDeck deck value) rest h = putdeck_reads room deck value rest h
+  statement_reads (ErrMsg what values summary) rest h = errmsg_reads room what values summary rest h.0 h.1 h.2
+
+  all_read : (xs : Stmts) (n : ℕ) (found : List Stmt) (rest : List Word) → AreStmts xs room → starts_stmt rest ≡ false → length (spell_stmts xs rest) ≤ n
+      → statements_from room body n found (spell_stmts xs rest) ≡ Some (found ++ stmt_list xs, rest)
+  all_read done zero found rest h s le = rw append-nil refl
+  all_read done (suc n) found rest h s le = rw (s, append-nil) refl
+  all_read (next x xs) zero found rest h s le = absurd (omega (arith, longer_stmt x (spell_stmts xs rest)))
+  all_read (next x xs) (suc n) found rest h s le =
+      let go = all_read xs n (snoc found x) rest h.1 s (omega (arith, longer_stmt x (spell_stmts xs rest))) in
+      rw (starts x (spell_stmts xs rest), statement_reads x (spell_stmts xs rest) h.0, go) (rw append_assoc refl)
+
+  statements_read : (xs : Stmts) (rest : List Word) → AreStmts xs room → starts_stmt rest ≡ false → statements room body (spell_stmts xs rest) ≡ Some (stmt_list xs, rest)
+  unfolding statements
+  statements_read xs rest h s = all_read xs (length (spell_stmts xs rest)) [] rest h s (omega arith)
+
+body_at_reads : (room : ℕ) → ReadsBody room (body_at room)
+unfolding body_at
+body_at_reads zero xs rest h s = absurd h
+body_at_reads (suc room) xs rest h s = statements_read room (body_at room) (body_at_reads room) xs rest h s
+
+-- statements are read
+pub statements_at_read : (room : ℕ) (xs : Stmts) (rest : List Word) → AreStmts xs room → starts_stmt rest ≡ false → statements_at room (spell_stmts xs rest) ≡ Some (stmt_list xs, rest)
+statements_at_read room = statements_read room (body_at room) (body_at_reads room)

@@ -1,0 +1,13 @@
+pub mod Loops
+pub mod Text
+pub mod Digits
+pub mod Rows
+pub mod Steps
+pub mod Sound
+pub mod SoundStmt
+pub mod SoundSource
+pub mod Complete
+pub mod CompleteStmt
+pub mod CompleteSource
+pub mod Spans
+pub mod Whole

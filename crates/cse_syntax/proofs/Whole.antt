@@ -1,0 +1,42 @@
+-- From the tokens and the tree to the text.
+use Rattle.std.proofs.Common.{◌≡◌, ℕ, List, [], ◌∷◌, Some, refl, sym, ap, ◌∙◌}
+use Rattle.cse_syntax.specs.declared.error.ReadError.{ReadError}
+use Rattle.cse_syntax.specs.declared.error.ReadError.TheVariants as errors
+use Rattle.cse_syntax.specs.declared.token.Token.{Token}
+use Rattle.cse_syntax.specs.Word.{Word, word, words}
+use Rattle.cse_syntax.specs.Tree.{Tree}
+use Rattle.cse_syntax.specs.Grammar.{IsSource}
+use Rattle.cse_syntax.specs.Reading.{Fails}
+use Rattle.cse_syntax.specs.ReadingSource.{source_at}
+use Rattle.cse_syntax.specs.Text.{pieces, pieces_of}
+use Rattle.cse_syntax.specs.Source.{said, IsSourceText, tree_of, number_of}
+use Rattle.cse_syntax.proofs.Steps.{some_is}
+use Rattle.cse_syntax.proofs.SoundSource.{source_sound}
+use Rattle.cse_syntax.proofs.CompleteSource.{source_reads}
+
+said_pieces : (ts : List Token) → said (pieces ts) ≡ words ts
+said_pieces [] = refl
+said_pieces (t ∷ ts) = ap (λ (ws : List Word). word t.kind t.text.now ∷ ws) (said_pieces ts)
+
+pub tree_is : (room : ℕ) (text : List ℕ) (ts : List Token) → pieces_of text ≡ Some (pieces ts) → tree_of room text ≡ source_at room (words ts)
+tree_is room text ts e = rw (e, said_pieces ts) refl
+
+-- what is read is a source
+pub is_source : (room : ℕ) (text : List ℕ) (ts : List Token) (tree : Tree) → pieces_of text ≡ Some (pieces ts) → tree_of room text ≡ Some tree → IsSource room tree (words ts)
+is_source room text ts tree e g = source_sound room (words ts) tree (sym (tree_is room text ts e) ∙ g)
+
+-- a source text is read as its tree
+source_text : (room : ℕ) (text : List ℕ) (tree : Tree) → IsSourceText room text tree → tree_of room text ≡ Some tree
+source_text room text tree h = rw h.1 (source_reads room tree (said h.0) h.2)
+
+pub one_tree_of : (room : ℕ) (text : List ℕ) (tree found : Tree) → tree_of room text ≡ Some found → IsSourceText room text tree → found ≡ tree
+one_tree_of room text tree found e h = some_is (sym e ∙ source_text room text tree h)
+
+-- another error than want of memory comes for no source text
+pub memory_alone : (room : ℕ) (text : List ℕ) (tree : Tree) (e : ReadError) → Fails e (tree_of room text) → IsSourceText room text tree → number_of e ≡ 90
+memory_alone room text tree errors.Memory f h = refl
+memory_alone room text tree (errors.Found fault) f h = let s = sym (source_text room text tree h) ∙ f in absurd cc
+
+-- the grammar isn't ambiguous
+pub one_tree : (room : ℕ) (ws : List Word) (x y : Tree) → IsSource room x ws → IsSource room y ws → x ≡ y
+one_tree room ws x y h i = some_is (sym (source_reads room x ws h) ∙ source_reads room y ws i)

@@ -1,0 +1,5 @@
+use Rattle.cse_syntax.proofs.Rows.{chain_is}
+use Rattle.cse_syntax.proofs.expression.chain_of.Goals as goal
+
+pub returns : goal.returns
+returns c = chain_is c.args.first c.args.rest

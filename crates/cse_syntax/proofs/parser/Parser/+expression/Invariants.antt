@@ -1,0 +1,76 @@
+use Rattle.std.proofs.Common.{◌≤◌, [], length, map, ℕ, ◌+◌, ◌*◌}
+use Rattle.cse_syntax.specs.declared.parser.Level.{Level}
+use Rattle.cse_syntax.specs.declared.parser.Level.TheVariants as level
+use Rattle.cse_syntax.specs.Word.{words}
+use Rattle.cse_syntax.specs.Tree.{expr, operation_tree}
+use Rattle.cse_syntax.specs.Reading as spec
+use Rattle.cse_syntax.proofs.Loops.{Within}
+use Rattle.cse_syntax.proofs.parser.Parser.+expression.Given as goal
+
+-- The calls lead from a rule to a tighter one, and from there into parentheses, with less room.
+abbrev rank : Level → ℕ
+rank level.Or = 19
+rank level.And = 16
+rank level.Sum = 11
+rank level.Product = 8
+
+abbrev pub decreases-nested : goal.decreases-nested
+decreases-nested l = 25 * l.room
+
+abbrev pub decreases-others : goal.decreases-others
+decreases-others l = 25 * l.room + 1
+
+abbrev pub decreases-listed : goal.decreases-listed
+decreases-listed l = 25 * l.room + 2
+
+abbrev pub decreases-arguments : goal.decreases-arguments
+decreases-arguments l = 25 * l.room + 3
+
+abbrev pub decreases-named : goal.decreases-named
+decreases-named l = 25 * l.room + 4
+
+abbrev pub decreases-group : goal.decreases-group
+decreases-group l = 25 * l.room + 4
+
+abbrev pub decreases-apply : goal.decreases-apply
+decreases-apply l = 25 * l.room + 4
+
+abbrev pub decreases-marked : goal.decreases-marked
+decreases-marked l = 25 * l.room + 5
+
+abbrev pub decreases-prim : goal.decreases-prim
+decreases-prim l = 25 * l.room + 6
+
+abbrev pub decreases-unary : goal.decreases-unary
+decreases-unary l = 25 * l.room + 7
+
+abbrev pub decreases-operand : goal.decreases-operand
+decreases-operand l = 25 * l.room + rank l.level
+
+abbrev pub decreases-operations : goal.decreases-operations
+decreases-operations l = 25 * l.room + rank l.level + 1
+
+abbrev pub decreases-chain : goal.decreases-chain
+decreases-chain l = 25 * l.room + rank l.level + 2
+
+abbrev pub decreases-relation : goal.decreases-relation
+decreases-relation l = 25 * l.room + 14
+
+abbrev pub decreases-negation : goal.decreases-negation
+decreases-negation l = 25 * l.room + 15
+
+abbrev pub invariant-others-others : goal.invariant-others-others
+invariant-others-others l =
+    (length l.self.rest.now ≤ length l.initial.self.rest.now) × Within (λ n. spec.others_from (spec.nested l.room) n (map expr l.found.items)) (words l.self.rest.now)
+    (spec.others_from (spec.nested l.room) (length (words l.fn.self.rest.now)) (map expr l.fn.before.items) (words l.fn.self.rest.now))
+
+abbrev pub decreases-others-others : goal.decreases-others-others
+decreases-others-others l = length l.self.rest.now
+
+abbrev pub invariant-operations-operands : goal.invariant-operations-operands
+invariant-operations-operands l =
+    (length l.self.rest.now ≤ length l.initial.self.rest.now) × Within (λ n. spec.operations_from (spec.operator_of l.level) (spec.operand_of l.room (spec.nested l.room) l.level) n (map operation_tree l.found.items)) (words l.self.rest.now)
+    (spec.operations_from (spec.operator_of l.level) (spec.operand_of l.room (spec.nested l.room) l.level) (length (words l.fn.self.rest.now)) [] (words l.fn.self.rest.now))
+
+abbrev pub decreases-operations-operands : goal.decreases-operations-operands
+decreases-operations-operands l = length l.self.rest.now

@@ -1,0 +1,53 @@
+use Rattle.std.proofs.Common.{◌≤◌, length, map, ◌+◌, ◌*◌}
+use Rattle.cse_syntax.specs.Word.{words}
+use Rattle.cse_syntax.specs.Tree.{stmt, arm_tree}
+use Rattle.cse_syntax.specs.ReadingStmt as rule
+use Rattle.cse_syntax.proofs.Loops.{Within}
+use Rattle.cse_syntax.proofs.parser.Parser.+statement.Given as goal
+
+abbrev pub decreases-body : goal.decreases-body
+decreases-body l = 10 * l.room
+
+abbrev pub decreases-body_to_end : goal.decreases-body_to_end
+decreases-body_to_end l = 10 * l.room + 1
+
+abbrev pub decreases-guarded : goal.decreases-guarded
+decreases-guarded l = 10 * l.room + 1
+
+abbrev pub decreases-otherwise : goal.decreases-otherwise
+decreases-otherwise l = 10 * l.room + 1
+
+abbrev pub decreases-elseifs : goal.decreases-elseifs
+decreases-elseifs l = 10 * l.room + 2
+
+abbrev pub decreases-over : goal.decreases-over
+decreases-over l = 10 * l.room + 2
+
+abbrev pub decreases-repeated : goal.decreases-repeated
+decreases-repeated l = 10 * l.room + 2
+
+abbrev pub decreases-conditional : goal.decreases-conditional
+decreases-conditional l = 10 * l.room + 3
+
+abbrev pub decreases-marked_statement : goal.decreases-marked_statement
+decreases-marked_statement l = 10 * l.room + 4
+
+abbrev pub decreases-statement : goal.decreases-statement
+decreases-statement l = 10 * l.room + 5
+
+abbrev pub decreases-statements : goal.decreases-statements
+decreases-statements l = 10 * l.room + 6
+
+abbrev pub invariant-statements-all : goal.invariant-statements-all
+invariant-statements-all l =
+    (length l.self.rest.now ≤ length l.initial.self.rest.now) × Within (λ n. rule.statements_from l.room (rule.body_at l.room) n (map stmt l.found.items)) (words l.self.rest.now) (rule.statements_at l.room (words l.fn.self.rest.now))
+
+abbrev pub decreases-statements-all : goal.decreases-statements-all
+decreases-statements-all l = length l.self.rest.now
+
+abbrev pub invariant-elseifs-all : goal.invariant-elseifs-all
+invariant-elseifs-all l =
+    (length l.self.rest.now ≤ length l.initial.self.rest.now) × Within (λ n. rule.elseifs_from l.room (rule.body_at l.room) n (map arm_tree l.found.items)) (words l.self.rest.now) (rule.elseifs l.room (rule.body_at l.room) (words l.fn.self.rest.now))
+
+abbrev pub decreases-elseifs-all : goal.decreases-elseifs-all
+decreases-elseifs-all l = length l.self.rest.now

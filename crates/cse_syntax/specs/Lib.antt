@@ -1,0 +1,10 @@
+pub mod Loop
+pub mod Word
+pub mod Text
+pub mod Lexed
+pub mod Tree
+pub mod Grammar
+pub mod Reading
+pub mod ReadingStmt
+pub mod ReadingSource
+pub mod Source

@@ -1,0 +1,252 @@
+-- Reading statements from left to right.
+use Rattle.std.specs.Prelude.{ℕ, zero, suc, Bool, true, false, ◌&&◌, if◌then◌else◌, List, [], ◌∷◌, length, drop, Option, Some, None}
+use Rattle.std.specs.Str.{str_eq_ignore_ascii_case}
+use Rattle.cse_syntax.specs.declared.token.Mark.{Mark}
+use Rattle.cse_syntax.specs.declared.token.Mark.TheVariants as m
+use Rattle.cse_syntax.specs.declared.tree.Count.{Count}
+use Rattle.cse_syntax.specs.declared.tree.Count.TheVariants as c
+use Rattle.cse_syntax.specs.declared.tree.Jump.{Jump}
+use Rattle.cse_syntax.specs.declared.tree.Jump.TheVariants as j
+use Rattle.cse_syntax.specs.Word.{Word, Name, Digits, Quoted, Sign}
+use Rattle.cse_syntax.specs.Tree.{Spelling, Expr, exprs, Literal, Limit, Fixed, Counted, Counting, Message, Own, Numbered, Stmt, Empty, Assign, Call, If, For, Do, Jump', Impute, PutDeck, ErrMsg, Stmts, stmts, arms, Otherwise, no_else, else_of}
+use Rattle.cse_syntax.specs.Grammar.{is_within, MOST}
+use Rattle.cse_syntax.specs.Reading.{◌>>=◌, Parser, loop, snoc, sees, expect, after, enter, take_name, take_number, others_from, subscripts, arguments, nested, expr_at}
+
+abbrev pub starts_mark : Mark → Bool
+starts_mark m.Semicolon = true
+starts_mark m.If = true
+starts_mark m.For = true
+starts_mark m.Do = true
+starts_mark m.Break = true
+starts_mark m.Next = true
+starts_mark m.Exit = true
+starts_mark m.Impute = true
+starts_mark m.PutDeck = true
+starts_mark m.ErrMsg = true
+starts_mark _ = false
+
+abbrev pub starts_stmt : List Word → Bool
+starts_stmt (Name name ∷ ws) = true
+starts_stmt (Sign mark ∷ ws) = starts_mark mark
+starts_stmt _ = false
+
+-- a number with or without a minus
+unfoldable pub literal : ℕ → Parser Literal
+literal most ws = do
+  found ← take_number 0 most (after m.Minus ws)
+  Some (record { minus = sees m.Minus ws; digits = found.0 }, found.1)
+
+unfoldable pub counted : ℕ → Count → Parser Limit
+counted room count ws = do
+  rest ← enter room ws
+  name ← take_name rest
+  behind ← expect m.Close name.1
+  Some (Counted count name.0, behind)
+
+unfoldable pub fixed : Parser Limit
+fixed ws = do
+  found ← literal 999999999 ws
+  Some (Fixed found.0, found.1)
+
+unfoldable pub limit : ℕ → Parser Limit
+limit room (Sign m.TotOcc ∷ ws) = counted room c.TotOcc ws
+limit room (Sign m.MaxOcc ∷ ws) = counted room c.MaxOcc ws
+limit room ws = fixed ws
+
+unfoldable pub step : Parser (Option Spelling)
+step ws =
+    if sees m.By ws then (do
+      found ← take_number 1 999 (drop 1 ws)
+      Some (Some found.0, found.1))
+    else Some (None, ws)
+
+-- the second name of the variable, which is the first but for letter case
+unfoldable pub again : Spelling → Parser Spelling
+again variable ws = do
+  name ← take_name ws
+  if str_eq_ignore_ascii_case variable name.0 then Some (name.0, name.1) else None
+
+-- what stands between a `do` and its body
+unfoldable pub counting : ℕ → Parser Counting
+counting room ws = do
+  front ← expect m.Varying ws
+  variable ← take_name front
+  equals ← expect m.Equals variable.1
+  start ← limit room equals
+  until ← expect m.Until start.1
+  second ← again variable.0 until
+  more ← expect m.More second.1
+  stop ← limit room more
+  by ← step stop.1
+  Some (record { variable = variable.0; start = start.0; again = second.0; stop = stop.0; by = by.0 }, by.1)
+
+unfoldable pub message : Parser Message
+message (Quoted text ∷ ws) = Some (Own text, ws)
+message (Digits digits ∷ ws) = if is_within 0 MOST digits then Some (Numbered digits, ws) else None
+message _ = None
+
+-- ---- statements without others in them, with room for this many parentheses and statements
+module _ (room : ℕ) where
+  unfoldable pub assigned : Spelling → List Expr → Parser Stmt
+  assigned name subs ws = do
+    value ← expr_at room ws
+    rest ← expect m.Semicolon value.1
+    Some (Assign name (exprs subs) value.0, rest)
+
+  abbrev pub has_some : {A : Type 0} → List A → Bool
+  has_some [] = false
+  has_some (x ∷ xs) = true
+
+  -- after a name and what stands in parentheses behind it
+  unfoldable pub called : Spelling → List Expr → Parser Stmt
+  called name xs ws =
+      if (sees m.Equals ws && has_some xs)
+      then assigned name xs (drop 1 ws)
+      else (do
+        rest ← expect m.Semicolon ws
+        Some (Call name (exprs xs), rest))
+
+  -- after a name that begins a statement
+  unfoldable pub named_stmt : Spelling → Parser Stmt
+  named_stmt name ws =
+      if sees m.Open ws then (do
+        all ← arguments room (nested room) ws
+        called name all.0 all.1)
+      else (do
+        rest ← expect m.Equals ws
+        assigned name [] rest)
+
+  unfoldable pub putdeck : Parser Stmt
+  putdeck ws = do
+    rest ← enter room ws
+    name ← take_name rest
+    comma ← expect m.Comma name.1
+    value ← nested room comma
+    close ← expect m.Close value.1
+    behind ← expect m.Semicolon close
+    Some (PutDeck name.0 value.0, behind)
+
+  unfoldable pub errmsg : Parser Stmt
+  errmsg ws = do
+    rest ← enter room ws
+    what ← message rest
+    values ← others_from (nested room) (length what.1) [] what.1
+    close ← expect m.Close values.1
+    behind ← expect m.Semicolon (after m.Summary close)
+    Some (ErrMsg what.0 (exprs values.0) (sees m.Summary close), behind)
+
+  unfoldable pub jump : Jump → Parser Stmt
+  jump which ws = do
+    rest ← expect m.Semicolon ws
+    Some (Jump' which, rest)
+
+-- in the parentheses of an `impute`, and up to its end
+unfoldable pub imputed : ℕ → Parser Stmt
+imputed room ws = do
+  name ← take_name ws
+  subs ← subscripts room (nested room) name.1
+  comma ← expect m.Comma subs.1
+  value ← expr_at room comma
+  close ← expect m.Close value.1
+  behind ← expect m.Semicolon close
+  Some (Impute name.0 (exprs subs.0) value.0, behind)
+
+unfoldable pub impute : ℕ → Parser Stmt
+impute zero ws = None
+impute (suc room) ws = expect m.Open ws >>= imputed room
+
+-- ---- statements with others in them, which body reads
+module _ (room : ℕ) (body : Parser (List Stmt)) where
+  unfoldable pub guarded : Parser (Expr × Stmts)
+  guarded ws = do
+    test ← nested room ws
+    rest ← expect m.Then test.1
+    found ← body rest
+    Some ((test.0, stmts found.0), found.1)
+
+  abbrev pub elseif : Parser (Expr × Stmts)
+  elseif ws = expect m.ElseIf ws >>= guarded
+
+  abbrev pub elseifs_from : ℕ → List (Expr × Stmts) → Parser (List (Expr × Stmts))
+  elseifs_from = loop (sees m.ElseIf) elseif snoc
+
+  unfoldable pub elseifs : Parser (List (Expr × Stmts))
+  elseifs ws = elseifs_from (length ws) [] ws
+
+  unfoldable pub otherwise : Parser Otherwise
+  otherwise ws =
+      if sees m.Else ws then (do
+        found ← body (drop 1 ws)
+        Some (else_of (stmts found.0), found.1))
+      else Some (no_else, ws)
+
+  unfoldable pub conditional : Parser Stmt
+  conditional ws = do
+    first ← guarded ws
+    others ← elseifs first.1
+    last ← otherwise others.1
+    rest ← expect m.EndIf last.1
+    behind ← expect m.Semicolon rest
+    Some (If first.0.0 first.0.1 (arms others.0) last.0, behind)
+
+  unfoldable pub body_to_end : Parser Stmts
+  body_to_end ws = do
+    found ← body ws
+    rest ← expect m.EndDo found.1
+    behind ← expect m.Semicolon rest
+    Some (stmts found.0, behind)
+
+  unfoldable pub over : Parser Stmt
+  over ws = do
+    variable ← take_name ws
+    in_word ← expect m.In variable.1
+    record_name ← take_name in_word
+    do_word ← expect m.Do record_name.1
+    found ← body_to_end do_word
+    Some (For variable.0 record_name.0 found.0, found.1)
+
+-- with room for this many, the statement being one of them
+unfoldable pub over_at : ℕ → Parser (List Stmt) → Parser Stmt
+over_at zero body ws = None
+over_at (suc room) body ws = over (suc room) body ws
+
+unfoldable pub counted_at : ℕ → Parser (List Stmt) → Parser Stmt
+counted_at zero body ws = None
+counted_at (suc room) body ws = do
+  head ← counting room ws
+  found ← body_to_end (suc room) body head.1
+  Some (Do head.0 found.0, found.1)
+
+module _ (room : ℕ) (body : Parser (List Stmt)) where
+  -- after a mark that begins a statement
+  unfoldable pub marked_stmt : Mark → Parser Stmt
+  marked_stmt m.Semicolon ws = Some (Empty, ws)
+  marked_stmt m.If ws = conditional room body ws
+  marked_stmt m.For ws = over_at room body ws
+  marked_stmt m.Do ws = counted_at room body ws
+  marked_stmt m.Break ws = jump room j.Break ws
+  marked_stmt m.Next ws = jump room j.Next ws
+  marked_stmt m.Exit ws = jump room j.Exit ws
+  marked_stmt m.Impute ws = impute room ws
+  marked_stmt m.PutDeck ws = putdeck room ws
+  marked_stmt m.ErrMsg ws = errmsg room ws
+  marked_stmt _ ws = None
+
+  unfoldable pub statement : Parser Stmt
+  statement (Name name ∷ ws) = named_stmt room name ws
+  statement (Sign mark ∷ ws) = marked_stmt mark ws
+  statement _ = None
+
+  abbrev pub statements_from : ℕ → List Stmt → Parser (List Stmt)
+  statements_from = loop starts_stmt statement snoc
+
+  unfoldable pub statements : Parser (List Stmt)
+  statements ws = statements_from (length ws) [] ws
+
+-- the statements in one that is open, with room for this many
+unfoldable pub body_at : ℕ → Parser (List Stmt)
+body_at zero ws = None
+body_at (suc room) ws = statements room (body_at room) ws
+
+abbrev pub statements_at : ℕ → Parser (List Stmt)
+statements_at room = statements room (body_at room)

@@ -1,0 +1,357 @@
+//! From tokens to expressions, one method a rule of the grammar. `room` is how many more parentheses and
+//! statements may be open, so no text makes the methods call themselves without end.
+
+ghost use Rattle.std.specs.Prelude.{◌≡◌, IfOk, [], ◌∷◌, length, map};
+ghost use Rattle.cse_syntax.specs.Word.{words};
+ghost use Rattle.cse_syntax.specs.Tree as tree;
+ghost use Rattle.cse_syntax.specs.Tree.{written, expr, exprs, operation_tree, Compare};
+ghost use Rattle.std.specs.Option.{option_map};
+ghost use Rattle.cse_syntax.specs.Reading as spec;
+ghost use Rattle.cse_syntax.specs.Reading.{Reads};
+
+use crate::error::ReadError;
+use crate::number::is_within;
+use crate::parser::{Level, Parser, refused};
+use crate::token::{Kind, Mark, Token};
+use crate::tree::{Expression, Function, Lexeme, Operation, Query, Relation, Special};
+use std::alloc::{AllocError, Global};
+
+/// The greatest number of a source.
+pub const MOST: u64 = 9_223_372_036_854_775_807;
+
+impl<'t, 'a> Parser<'t, 'a> {
+    /// An expression behind one more parenthesis or statement.
+    #[cycle(expression)]
+    #[tactic(auto, unfolding(crate::specs::Reading::nested, crate::specs::Reading::disjunction))]
+    pub fn nested(&mut self, room: usize) -> Result<Expression<'a>, ReadError>
+        ensures { Reads expr (spec.nested room) result self.old.rest.now self.new.rest.now }
+    {
+        if room == 0 {
+            return Err(self.too_deep());
+        }
+        self.chain(Level::Or, room - 1)
+    }
+
+    /// Further expressions, each after a comma.
+    #[cycle(expression)]
+    pub fn others(
+        &mut self,
+        room: usize,
+        before: Vec<Expression<'a>>,
+    ) -> Result<Vec<Expression<'a>>, ReadError>
+        ensures { Reads (λ v. map expr v.items) (λ ws. spec.others_from (spec.nested room) (length ws) (map expr before.entry.items) ws) result self.old.rest.now self.new.rest.now }
+    {
+        let mut found = before;
+        'others: while self.eat(Mark::Comma) {
+            let next = self.nested(room)?;
+            found.push(next)?;
+        }
+        Ok(found)
+    }
+
+    /// Expressions with commas between them, one at least.
+    #[cycle(expression)]
+    #[tactic(auto, unfolding(crate::specs::Reading::listed))]
+    fn listed(&mut self, room: usize) -> Result<Vec<Expression<'a>>, ReadError>
+        ensures { Reads (λ v. map expr v.items) (spec.listed (spec.nested room)) result self.old.rest.now self.new.rest.now }
+    {
+        let mut found = Vec::new(self.alloc);
+        let first = self.nested(room)?;
+        found.push(first)?;
+        self.others(room, found)
+    }
+
+    /// Expressions in parentheses.
+    #[tactic(auto, unfolding(crate::specs::Reading::bracketed))]
+    fn bracketed(&mut self, room: usize) -> Result<Vec<Expression<'a>>, ReadError>
+        ensures { Reads (λ v. map expr v.items) (spec.bracketed room (spec.nested room)) result self.old.rest.now self.new.rest.now }
+    {
+        self.enter(room)?;
+        let found = self.listed(room)?;
+        self.expect(Mark::Close)?;
+        Ok(found)
+    }
+
+    /// What stands in parentheses after a name; nothing where no parentheses are.
+    #[tactic(auto, unfolding(crate::specs::Reading::subscripts))]
+    pub fn subscripts(&mut self, room: usize) -> Result<Vec<Expression<'a>>, ReadError>
+        ensures { Reads (λ v. map expr v.items) (spec.subscripts room (spec.nested room)) result self.old.rest.now self.new.rest.now }
+    {
+        if !self.sees(Mark::Open) {
+            return Ok(Vec::new(self.alloc));
+        }
+        self.bracketed(room)
+    }
+
+    /// What stands in parentheses, if anything.
+    #[cycle(expression)]
+    #[tactic(auto, unfolding(crate::specs::Reading::arguments))]
+    pub fn arguments(&mut self, room: usize) -> Result<Vec<Expression<'a>>, ReadError>
+        ensures { Reads (λ v. map expr v.items) (spec.arguments room (spec.nested room)) result self.old.rest.now self.new.rest.now }
+    {
+        self.enter(room)?;
+        if self.eat(Mark::Close) {
+            return Ok(Vec::new(self.alloc));
+        }
+        let found = self.listed(room)?;
+        self.expect(Mark::Close)?;
+        Ok(found)
+    }
+
+    /// A name, with or without parentheses after it.
+    #[cycle(expression)]
+    #[tactic(auto, unfolding(crate::specs::Reading::named))]
+    fn named(&mut self, room: usize, name: Lexeme<'a>) -> Result<Expression<'a>, ReadError>
+        ensures { Reads expr (spec.named room (spec.nested room) (written name.entry)) result self.old.rest.now self.new.rest.now }
+    {
+        if !self.sees(Mark::Open) {
+            return Ok(Expression::Name(name));
+        }
+        let arguments = self.arguments(room)?;
+        Ok(indexed(name, arguments))
+    }
+
+    #[cycle(expression)]
+    #[tactic(auto, unfolding(crate::specs::Reading::group))]
+    fn group(&mut self, room: usize, token: usize) -> Result<Expression<'a>, ReadError>
+        ensures { Reads expr (spec.group room (spec.nested room)) result self.old.rest.now self.new.rest.now }
+    {
+        let inner = self.nested(room)?;
+        self.expect(Mark::Close)?;
+        Ok(Expression::Group(token, Box::new(self.alloc, inner)?))
+    }
+
+    #[cycle(expression)]
+    #[tactic(auto, unfolding(crate::specs::Reading::apply))]
+    fn apply(
+        &mut self,
+        room: usize,
+        token: usize,
+        function: Function,
+    ) -> Result<Expression<'a>, ReadError>
+        ensures { Reads expr (spec.apply room (spec.nested room) function) result self.old.rest.now self.new.rest.now }
+    {
+        self.enter(room)?;
+        let argument = self.nested(room)?;
+        self.expect(Mark::Close)?;
+        Ok(Expression::Apply(token, function, Box::new(self.alloc, argument)?))
+    }
+
+    #[tactic(auto, unfolding(crate::specs::Reading::query))]
+    fn query(
+        &mut self,
+        room: usize,
+        token: usize,
+        query: Query,
+    ) -> Result<Expression<'a>, ReadError>
+        ensures { Reads expr (spec.query room (spec.nested room) query) result self.old.rest.now self.new.rest.now }
+    {
+        self.enter(room)?;
+        let name = self.name()?;
+        self.expect(Mark::Close)?;
+        Ok(Expression::Query(token, query, name))
+    }
+
+    /// The set after an item, if one stands there.
+    #[tactic(auto, unfolding(crate::specs::Reading::set_after))]
+    fn set_after(&mut self) -> Result<Option<Lexeme<'a>>, ReadError>
+        ensures { Reads (option_map written) spec.set_after result self.old.rest.now self.new.rest.now }
+    {
+        if !self.eat(Mark::Comma) {
+            return Ok(None);
+        }
+        let set = self.name()?;
+        Ok(Some(set))
+    }
+
+    #[tactic(auto, unfolding(crate::specs::Reading::member))]
+    fn member(&mut self, room: usize, token: usize) -> Result<Expression<'a>, ReadError>
+        ensures { Reads expr (spec.member room (spec.nested room)) result self.old.rest.now self.new.rest.now }
+    {
+        self.enter(room)?;
+        let item = self.name()?;
+        let set = self.set_after()?;
+        self.expect(Mark::Close)?;
+        Ok(Expression::InValueSet(token, item, set))
+    }
+
+    /// What begins with a reserved word or a symbol, which is the last token.
+    #[cycle(expression)]
+    #[tactic(auto, unfolding(crate::specs::Reading::marked))]
+    fn marked(
+        &mut self,
+        room: usize,
+        token: usize,
+        mark: Mark,
+        first: Token<'a>,
+    ) -> Result<Expression<'a>, ReadError>
+        ensures { Reads expr (spec.marked room (spec.nested room) mark) result self.old.rest.now self.new.rest.now }
+    {
+        match mark {
+            Mark::Open => self.group(room, token),
+            Mark::NotAppl => Ok(Expression::Special(token, Special::NotAppl)),
+            Mark::Missing => Ok(Expression::Special(token, Special::Missing)),
+            Mark::Default => Ok(Expression::Special(token, Special::Default)),
+            Mark::Int => self.apply(room, token, Function::Int),
+            Mark::Special => self.apply(room, token, Function::Special),
+            Mark::GetDeck => self.query(room, token, Query::GetDeck),
+            Mark::TotOcc => self.query(room, token, Query::TotOcc),
+            Mark::MaxOcc => self.query(room, token, Query::MaxOcc),
+            Mark::CurOcc => self.query(room, token, Query::CurOcc),
+            Mark::InValueSet => self.member(room, token),
+            _ => Err(refused(&first)),
+        }
+    }
+
+    /// What needs no parentheses.
+    #[cycle(expression)]
+    #[tactic(auto, unfolding(crate::specs::Reading::prim))]
+    fn prim(&mut self, room: usize) -> Result<Expression<'a>, ReadError>
+        ensures { Reads expr (spec.prim room (spec.nested room)) result self.old.rest.now self.new.rest.now }
+    {
+        let token = self.index();
+        let Some(first) = self.take() else {
+            return Err(self.ended());
+        };
+        let lexeme = Lexeme {
+            token,
+            text: first.text,
+        };
+        match first.kind {
+            Kind::Number if is_within(0, MOST, first.text) => Ok(Expression::Number(lexeme)),
+            Kind::Number => Err(self.out_of_range()),
+            Kind::Text => Ok(Expression::Text(lexeme)),
+            Kind::Name => self.named(room, lexeme),
+            Kind::Mark(mark) => self.marked(room, token, mark, first),
+            _ => Err(refused(&first)),
+        }
+    }
+
+    #[cycle(expression)]
+    #[tactic(auto, unfolding(crate::specs::Reading::unary))]
+    fn unary(&mut self, room: usize) -> Result<Expression<'a>, ReadError>
+        ensures { Reads expr (spec.unary room (spec.nested room)) result self.old.rest.now self.new.rest.now }
+    {
+        let token = self.index();
+        if !self.eat(Mark::Minus) {
+            return self.prim(room);
+        }
+        let operand = self.prim(room)?;
+        Ok(Expression::Minus(token, Box::new(self.alloc, operand)?))
+    }
+
+    /// Operands of a level, with its operators between them.
+    #[cycle(expression)]
+    fn chain(&mut self, level: Level, room: usize) -> Result<Expression<'a>, ReadError>
+        ensures { Reads expr (spec.chain (spec.operator_of level) (spec.operand_of room (spec.nested room) level)) result self.old.rest.now self.new.rest.now }
+    {
+        let first = self.operand(level, room)?;
+        let rest = self.operations(level, room)?;
+        Ok(chained(self.alloc, first, rest)?)
+    }
+
+    #[cycle(expression)]
+    fn operations(&mut self, level: Level, room: usize) -> Result<Vec<Operation<'a>>, ReadError>
+        ensures { Reads (λ v. map operation_tree v.items) (λ ws. spec.operations_from (spec.operator_of level) (spec.operand_of room (spec.nested room) level) (length ws) [] ws) result self.old.rest.now self.new.rest.now }
+    {
+        let mut found = Vec::new(self.alloc);
+        'operands: while let Some(operator) = self.take_operator(level) {
+            let token = self.index().saturating_sub(1);
+            let operand = self.operand(level, room)?;
+            found.push(Operation {
+                token,
+                operator,
+                operand,
+            })?;
+        }
+        Ok(found)
+    }
+
+    #[cycle(expression)]
+    #[tactic(auto, unfolding(crate::specs::Reading::conjunction, crate::specs::Reading::product))]
+    fn operand(&mut self, level: Level, room: usize) -> Result<Expression<'a>, ReadError>
+        ensures { Reads expr (spec.operand_of room (spec.nested room) level) result self.old.rest.now self.new.rest.now }
+    {
+        match level {
+            Level::Or => self.chain(Level::And, room),
+            Level::And => self.negation(room),
+            Level::Sum => self.chain(Level::Product, room),
+            Level::Product => self.unary(room),
+        }
+    }
+
+    #[cycle(expression)]
+    #[tactic(auto, unfolding(crate::specs::Reading::negation))]
+    fn negation(&mut self, room: usize) -> Result<Expression<'a>, ReadError>
+        ensures { Reads expr (spec.negation room (spec.nested room)) result self.old.rest.now self.new.rest.now }
+    {
+        let token = self.index();
+        if !self.eat(Mark::Not) {
+            return self.relation(room);
+        }
+        let operand = self.relation(room)?;
+        Ok(Expression::Not(token, Box::new(self.alloc, operand)?))
+    }
+
+    #[cycle(expression)]
+    #[tactic(auto, unfolding(crate::specs::Reading::relation, crate::specs::Reading::related, crate::specs::Reading::sum))]
+    fn relation(&mut self, room: usize) -> Result<Expression<'a>, ReadError>
+        ensures { Reads expr (spec.relation room (spec.nested room)) result self.old.rest.now self.new.rest.now }
+    {
+        let left = self.chain(Level::Sum, room)?;
+        let token = self.index();
+        let Some(relation) = self.take_relation() else {
+            return Ok(left);
+        };
+        let right = self.chain(Level::Sum, room)?;
+        Ok(compare(self.alloc, left, token, relation, right)?)
+    }
+
+    #[tactic(auto, unfolding(crate::specs::Reading::disjunction))]
+    pub fn expression(&mut self, room: usize) -> Result<Expression<'a>, ReadError>
+        ensures { Reads expr (spec.expr_at room) result self.old.rest.now self.new.rest.now }
+    {
+        self.chain(Level::Or, room)
+    }
+}
+
+fn compare<'a>(
+    alloc: Global,
+    left: Expression<'a>,
+    token: usize,
+    relation: Relation,
+    right: Expression<'a>,
+) -> Result<Expression<'a>, AllocError>
+    ensures { IfOk result (λ e. expr e ≡ Compare relation (expr left.entry) (expr right.entry)) }
+{
+    let left = Box::new(alloc, left)?;
+    let right = Box::new(alloc, right)?;
+    Ok(Expression::Compare(left, token, relation, right))
+}
+
+// A node that holds a `Vec` is made in a function of its own, whose clause is its view.
+
+fn indexed<'a>(name: Lexeme<'a>, arguments: Vec<Expression<'a>>) -> Expression<'a>
+    ensures { expr result ≡ tree.Indexed (written name.entry) (exprs (map expr arguments.entry.items)) }
+{
+    Expression::Indexed(name, arguments)
+}
+
+fn chain_of<'a>(first: Box<Expression<'a>>, rest: Vec<Operation<'a>>) -> Expression<'a>
+    ensures { expr result ≡ tree.Chain (expr first.entry.value) (tree.operations (map operation_tree rest.entry.items)) }
+{
+    Expression::Chain(first, rest)
+}
+
+fn chained<'a>(
+    alloc: Global,
+    first: Expression<'a>,
+    rest: Vec<Operation<'a>>,
+) -> Result<Expression<'a>, AllocError>
+    ensures { IfOk result (λ e. expr e ≡ spec.chained (expr first.entry) (map operation_tree rest.entry.items)) }
+{
+    if rest.is_empty() {
+        return Ok(first);
+    }
+    Ok(chain_of(Box::new(alloc, first)?, rest))
+}

@@ -1,0 +1,484 @@
+//! From tokens to statements, one method a rule of the grammar.
+
+ghost use Rattle.std.specs.Prelude.{◌≡◌, ◌<◌, IfOk, [], ◌∷◌, length, map};
+ghost use Rattle.std.specs.Option.{option_map};
+ghost use Rattle.std.specs.Str.{str_eq_ignore_ascii_case};
+ghost use Rattle.cse_syntax.specs.Word.{words};
+ghost use Rattle.cse_syntax.specs.Tree as tree;
+ghost use Rattle.cse_syntax.specs.Tree.{written, expr, exprs, stmt, stmts, block, arms, arm_tree, otherwise_tree};
+ghost use Rattle.cse_syntax.specs.Reading as spec;
+ghost use Rattle.cse_syntax.specs.Reading.{Reads};
+ghost use Rattle.cse_syntax.specs.ReadingStmt as rule;
+
+use crate::error::ReadError;
+use crate::expression::MOST;
+use crate::number::is_within;
+use crate::parser::{Parser, refused};
+use crate::token::{Kind, Mark, Token};
+use crate::tree::{
+    Arm, Count, Counting, Expression, Jump, Lexeme, Limit, Literal, Message, Place, Statement,
+};
+
+/// The greatest limit of a `do`, and its greatest step.
+const LIMIT_MOST: u64 = 999_999_999;
+
+const STEP_MOST: u64 = 999;
+
+fn starts_mark(mark: Mark) -> bool
+    ensures { result ≡ rule.starts_mark mark }
+{
+    matches!(
+        mark,
+        Mark::Semicolon
+            | Mark::If
+            | Mark::For
+            | Mark::Do
+            | Mark::Break
+            | Mark::Next
+            | Mark::Exit
+            | Mark::Impute
+            | Mark::PutDeck
+            | Mark::ErrMsg
+    )
+}
+
+fn is_same_name(a: &str, b: &str) -> bool
+    ensures { result ≡ str_eq_ignore_ascii_case a.now b.now }
+{
+    a.eq_ignore_ascii_case(b)
+}
+
+impl<'t, 'a> Parser<'t, 'a> {
+    fn starts_statement(&self) -> bool
+        ensures { result ≡ rule.starts_stmt (words self.now.rest.now) }
+    {
+        match self.rest.first() {
+            None => false,
+            Some(token) => match token.kind {
+                Kind::Name => true,
+                Kind::Mark(mark) => starts_mark(mark),
+                _ => false,
+            },
+        }
+    }
+
+    /// A number with or without a minus, up to this.
+    #[tactic(auto, unfolding(crate::specs::ReadingStmt::literal))]
+    pub fn literal(&mut self, most: u64) -> Result<Literal<'a>, ReadError>
+        ensures { Reads tree.literal (rule.literal most) result self.old.rest.now self.new.rest.now }
+    {
+        let token = self.index();
+        let is_negative = self.eat(Mark::Minus);
+        let number = self.number(0, most)?;
+        Ok(Literal {
+            token,
+            is_negative,
+            digits: number.text,
+        })
+    }
+
+    #[tactic(auto, unfolding(crate::specs::ReadingStmt::counted))]
+    fn counted(&mut self, room: usize, count: Count) -> Result<Limit<'a>, ReadError>
+        ensures { Reads tree.limit (rule.counted room count) result self.old.rest.now self.new.rest.now }
+    {
+        let token = self.index().saturating_sub(1);
+        self.enter(room)?;
+        let record = self.name()?;
+        self.expect(Mark::Close)?;
+        Ok(Limit::Count(token, count, record))
+    }
+
+    #[tactic(auto, unfolding(crate::specs::ReadingStmt::fixed))]
+    fn fixed(&mut self) -> Result<Limit<'a>, ReadError>
+        ensures { Reads tree.limit rule.fixed result self.old.rest.now self.new.rest.now }
+    {
+        let literal = self.literal(LIMIT_MOST)?;
+        Ok(Limit::Literal(literal))
+    }
+
+    #[tactic(auto, unfolding(crate::specs::ReadingStmt::limit))]
+    fn limit(&mut self, room: usize) -> Result<Limit<'a>, ReadError>
+        ensures { Reads tree.limit (rule.limit room) result self.old.rest.now self.new.rest.now }
+    {
+        if self.eat(Mark::TotOcc) {
+            return self.counted(room, Count::TotOcc);
+        }
+        if self.eat(Mark::MaxOcc) {
+            return self.counted(room, Count::MaxOcc);
+        }
+        self.fixed()
+    }
+
+    #[tactic(auto, unfolding(crate::specs::ReadingStmt::step))]
+    fn step(&mut self) -> Result<Option<Lexeme<'a>>, ReadError>
+        ensures { Reads (option_map written) rule.step result self.old.rest.now self.new.rest.now }
+    {
+        if !self.eat(Mark::By) {
+            return Ok(None);
+        }
+        let step = self.number(1, STEP_MOST)?;
+        Ok(Some(step))
+    }
+
+    /// The second name of the variable, which is the first but for letter case.
+    #[tactic(auto, unfolding(crate::specs::ReadingStmt::again))]
+    fn again(&mut self, variable: &'a str) -> Result<Lexeme<'a>, ReadError>
+        ensures { Reads written (rule.again variable.now) result self.old.rest.now self.new.rest.now }
+    {
+        let place = self.unexpected();
+        let name = self.name()?;
+        if is_same_name(variable, name.text) {
+            Ok(name)
+        } else {
+            Err(place)
+        }
+    }
+
+    /// What stands between a `do` and its body.
+    #[tactic(auto, unfolding(crate::specs::ReadingStmt::counting))]
+    fn counting(&mut self, room: usize) -> Result<Counting<'a>, ReadError>
+        ensures { Reads tree.counting (rule.counting room) result self.old.rest.now self.new.rest.now }
+    {
+        self.expect(Mark::Varying)?;
+        let variable = self.name()?;
+        self.expect(Mark::Equals)?;
+        let from = self.limit(room)?;
+        self.expect(Mark::Until)?;
+        let again = self.again(variable.text)?;
+        self.expect(Mark::More)?;
+        let to = self.limit(room)?;
+        let by = self.step()?;
+        Ok(Counting {
+            variable,
+            from,
+            again,
+            to,
+            by,
+        })
+    }
+
+    #[tactic(auto, unfolding(crate::specs::ReadingStmt::message))]
+    fn message(&mut self) -> Result<Message<'a>, ReadError>
+        ensures { Reads tree.message rule.message result self.old.rest.now self.new.rest.now }
+    {
+        let token = self.index();
+        let Some(first) = self.take() else {
+            return Err(self.ended());
+        };
+        let lexeme = Lexeme {
+            token,
+            text: first.text,
+        };
+        match first.kind {
+            Kind::Text => Ok(Message::Text(lexeme)),
+            Kind::Number if is_within(0, MOST, first.text) => Ok(Message::Number(lexeme)),
+            Kind::Number => Err(self.out_of_range()),
+            _ => Err(refused(&first)),
+        }
+    }
+
+    /// The value of an assignment, up to its end.
+    #[tactic(auto, unfolding(crate::specs::ReadingStmt::assigned))]
+    fn assigned(
+        &mut self,
+        room: usize,
+        name: Lexeme<'a>,
+        subscripts: Vec<Expression<'a>>,
+    ) -> Result<Statement<'a>, ReadError>
+        ensures { Reads stmt (rule.assigned room (written name.entry) (map expr subscripts.entry.items)) result self.old.rest.now self.new.rest.now }
+    {
+        let value = self.expression(room)?;
+        self.expect(Mark::Semicolon)?;
+        Ok(Statement::Assign(Place { name, subscripts }, value))
+    }
+
+    /// What stands after a name and its parentheses: a value, if there was something in them, or nothing.
+    #[tactic(auto, unfolding(crate::specs::ReadingStmt::called))]
+    fn called(
+        &mut self,
+        room: usize,
+        name: Lexeme<'a>,
+        arguments: Vec<Expression<'a>>,
+    ) -> Result<Statement<'a>, ReadError>
+        ensures { Reads stmt (rule.called room (written name.entry) (map expr arguments.entry.items)) result self.old.rest.now self.new.rest.now }
+    {
+        if !arguments.is_empty() && self.eat(Mark::Equals) {
+            return self.assigned(room, name, arguments);
+        }
+        self.expect(Mark::Semicolon)?;
+        Ok(Statement::Call(name, arguments))
+    }
+
+    /// What stands after a name that begins a statement.
+    #[tactic(auto, unfolding(crate::specs::ReadingStmt::named_stmt))]
+    fn named_statement(&mut self, room: usize, name: Lexeme<'a>) -> Result<Statement<'a>, ReadError>
+        ensures { Reads stmt (rule.named_stmt room (written name.entry)) result self.old.rest.now self.new.rest.now }
+    {
+        if self.sees(Mark::Open) {
+            let arguments = self.arguments(room)?;
+            return self.called(room, name, arguments);
+        }
+        self.expect(Mark::Equals)?;
+        self.assigned(room, name, Vec::new(self.alloc))
+    }
+
+    #[tactic(auto, unfolding(crate::specs::ReadingStmt::putdeck))]
+    fn putdeck(&mut self, room: usize, token: usize) -> Result<Statement<'a>, ReadError>
+        ensures { Reads stmt (rule.putdeck room) result self.old.rest.now self.new.rest.now }
+    {
+        self.enter(room)?;
+        let deck = self.name()?;
+        self.expect(Mark::Comma)?;
+        let value = self.nested(room)?;
+        self.expect(Mark::Close)?;
+        self.expect(Mark::Semicolon)?;
+        Ok(Statement::PutDeck(token, deck, value))
+    }
+
+    #[tactic(auto, unfolding(crate::specs::ReadingStmt::errmsg))]
+    fn errmsg(&mut self, room: usize, token: usize) -> Result<Statement<'a>, ReadError>
+        ensures { Reads stmt (rule.errmsg room) result self.old.rest.now self.new.rest.now }
+    {
+        self.enter(room)?;
+        let message = self.message()?;
+        let values = self.others(room, Vec::new(self.alloc))?;
+        self.expect(Mark::Close)?;
+        let is_summary = self.eat(Mark::Summary);
+        self.expect(Mark::Semicolon)?;
+        Ok(Statement::ErrMsg(token, message, values, is_summary))
+    }
+
+    #[tactic(auto, unfolding(crate::specs::ReadingStmt::jump))]
+    fn jump(&mut self, room: usize, token: usize, jump: Jump) -> Result<Statement<'a>, ReadError>
+        ensures { Reads stmt (rule.jump room jump) result self.old.rest.now self.new.rest.now }
+    {
+        self.expect(Mark::Semicolon)?;
+        Ok(Statement::Jump(token, jump))
+    }
+
+    #[tactic(auto, unfolding(crate::specs::ReadingStmt::impute))]
+    fn impute(&mut self, room: usize, token: usize) -> Result<Statement<'a>, ReadError>
+        ensures { Reads stmt (rule.impute room) result self.old.rest.now self.new.rest.now }
+    {
+        self.expect(Mark::Open)?;
+        if room == 0 {
+            return Err(self.too_deep());
+        }
+        self.imputed(room - 1, token)
+    }
+
+    /// What stands in the parentheses of an `impute`, and its end.
+    #[tactic(auto, unfolding(crate::specs::ReadingStmt::imputed))]
+    fn imputed(&mut self, room: usize, token: usize) -> Result<Statement<'a>, ReadError>
+        ensures { Reads stmt (rule.imputed room) result self.old.rest.now self.new.rest.now }
+    {
+        let name = self.name()?;
+        let subscripts = self.subscripts(room)?;
+        self.expect(Mark::Comma)?;
+        let value = self.expression(room)?;
+        self.expect(Mark::Close)?;
+        self.expect(Mark::Semicolon)?;
+        Ok(Statement::Impute(token, Place { name, subscripts }, value))
+    }
+
+    /// Statements, up to what begins none.
+    #[cycle(statement)]
+    #[tactic(auto, unfolding(crate::specs::ReadingStmt::statements))]
+    pub fn statements(&mut self, room: usize) -> Result<Vec<Statement<'a>>, ReadError>
+        ensures { Reads (λ v. map stmt v.items) (rule.statements_at room) result self.old.rest.now self.new.rest.now }
+    {
+        let mut found = Vec::new(self.alloc);
+        'all: while self.starts_statement() {
+            let next = self.statement(room)?;
+            found.push(next)?;
+        }
+        Ok(found)
+    }
+
+    /// The statements in one that is open.
+    #[cycle(statement)]
+    #[tactic(auto, unfolding(crate::specs::ReadingStmt::body_at))]
+    fn body(&mut self, room: usize) -> Result<Vec<Statement<'a>>, ReadError>
+        ensures { Reads (λ v. map stmt v.items) (rule.body_at room) result self.old.rest.now self.new.rest.now }
+    {
+        if room == 0 {
+            return Err(self.too_deep());
+        }
+        self.statements(room - 1)
+    }
+
+    #[cycle(statement)]
+    #[tactic(auto, unfolding(crate::specs::ReadingStmt::statement))]
+    fn statement(&mut self, room: usize) -> Result<Statement<'a>, ReadError>
+        ensures reads { Reads stmt (rule.statement room (rule.body_at room)) result self.old.rest.now self.new.rest.now }
+        ensures taken { IfOk result (λ _. length self.new.rest.now < length self.old.rest.now) }
+    {
+        let token = self.index();
+        let Some(first) = self.take() else {
+            return Err(self.ended());
+        };
+        match first.kind {
+            Kind::Name => self.named_statement(
+                room,
+                Lexeme {
+                    token,
+                    text: first.text,
+                },
+            ),
+            Kind::Mark(mark) => self.marked_statement(room, token, mark, first),
+            _ => Err(refused(&first)),
+        }
+    }
+
+    /// What begins with a reserved word or a symbol, which is the last token.
+    #[cycle(statement)]
+    #[tactic(auto, unfolding(crate::specs::ReadingStmt::marked_stmt))]
+    fn marked_statement(
+        &mut self,
+        room: usize,
+        token: usize,
+        mark: Mark,
+        first: Token<'a>,
+    ) -> Result<Statement<'a>, ReadError>
+        ensures { Reads stmt (rule.marked_stmt room (rule.body_at room) mark) result self.old.rest.now self.new.rest.now }
+    {
+        match mark {
+            Mark::Semicolon => Ok(Statement::Empty(token)),
+            Mark::If => self.conditional(room, token),
+            Mark::For => self.over(room, token),
+            Mark::Do => self.repeated(room, token),
+            Mark::Break => self.jump(room, token, Jump::Break),
+            Mark::Next => self.jump(room, token, Jump::Next),
+            Mark::Exit => self.jump(room, token, Jump::Exit),
+            Mark::Impute => self.impute(room, token),
+            Mark::PutDeck => self.putdeck(room, token),
+            Mark::ErrMsg => self.errmsg(room, token),
+            _ => Err(refused(&first)),
+        }
+    }
+
+    #[cycle(statement)]
+    #[tactic(auto, unfolding(crate::specs::ReadingStmt::conditional))]
+    fn conditional(&mut self, room: usize, token: usize) -> Result<Statement<'a>, ReadError>
+        ensures { Reads stmt (rule.conditional room (rule.body_at room)) result self.old.rest.now self.new.rest.now }
+    {
+        let first = self.guarded(room, token)?;
+        let others = self.elseifs(room)?;
+        let otherwise = self.otherwise(room)?;
+        self.expect(Mark::EndIf)?;
+        self.expect(Mark::Semicolon)?;
+        Ok(if_node(first, others, otherwise))
+    }
+
+    /// A condition and the statements that it guards.
+    #[cycle(statement)]
+    #[tactic(auto, unfolding(crate::specs::ReadingStmt::guarded))]
+    fn guarded(&mut self, room: usize, token: usize) -> Result<Arm<'a>, ReadError>
+        ensures { Reads arm_tree (rule.guarded room (rule.body_at room)) result self.old.rest.now self.new.rest.now }
+    {
+        let condition = self.nested(room)?;
+        self.expect(Mark::Then)?;
+        let body = self.body(room)?;
+        Ok(Arm {
+            token,
+            condition,
+            body,
+        })
+    }
+
+    #[cycle(statement)]
+    #[tactic(auto, unfolding(crate::specs::ReadingStmt::elseifs))]
+    fn elseifs(&mut self, room: usize) -> Result<Vec<Arm<'a>>, ReadError>
+        ensures { Reads (λ v. map arm_tree v.items) (rule.elseifs room (rule.body_at room)) result self.old.rest.now self.new.rest.now }
+    {
+        let mut found = Vec::new(self.alloc);
+        'all: while self.eat(Mark::ElseIf) {
+            let token = self.index().saturating_sub(1);
+            let next = self.guarded(room, token)?;
+            found.push(next)?;
+        }
+        Ok(found)
+    }
+
+    #[cycle(statement)]
+    #[tactic(auto, unfolding(crate::specs::ReadingStmt::otherwise))]
+    fn otherwise(&mut self, room: usize) -> Result<Option<Vec<Statement<'a>>>, ReadError>
+        ensures { Reads otherwise_tree (rule.otherwise room (rule.body_at room)) result self.old.rest.now self.new.rest.now }
+    {
+        if !self.eat(Mark::Else) {
+            return Ok(None);
+        }
+        let body = self.body(room)?;
+        Ok(Some(body))
+    }
+
+    /// The statements of a `for` or a `do`, up to its end.
+    #[cycle(statement)]
+    #[tactic(auto, unfolding(crate::specs::ReadingStmt::body_to_end))]
+    fn body_to_end(&mut self, room: usize) -> Result<Vec<Statement<'a>>, ReadError>
+        ensures { Reads (λ v. block v.items) (rule.body_to_end room (rule.body_at room)) result self.old.rest.now self.new.rest.now }
+    {
+        let body = self.body(room)?;
+        self.expect(Mark::EndDo)?;
+        self.expect(Mark::Semicolon)?;
+        Ok(body)
+    }
+
+    #[cycle(statement)]
+    #[tactic(auto, unfolding(crate::specs::ReadingStmt::over, crate::specs::ReadingStmt::over_at))]
+    fn over(&mut self, room: usize, token: usize) -> Result<Statement<'a>, ReadError>
+        ensures { Reads stmt (rule.over_at room (rule.body_at room)) result self.old.rest.now self.new.rest.now }
+    {
+        if room == 0 {
+            return Err(self.too_deep());
+        }
+        let variable = self.name()?;
+        self.expect(Mark::In)?;
+        let record_name = self.name()?;
+        self.expect(Mark::Do)?;
+        let body = self.body_to_end(room)?;
+        Ok(for_node(token, variable, record_name, body))
+    }
+
+    #[cycle(statement)]
+    #[tactic(auto, unfolding(crate::specs::ReadingStmt::counted_at))]
+    fn repeated(&mut self, room: usize, token: usize) -> Result<Statement<'a>, ReadError>
+        ensures { Reads stmt (rule.counted_at room (rule.body_at room)) result self.old.rest.now self.new.rest.now }
+    {
+        if room == 0 {
+            return Err(self.too_deep());
+        }
+        let counting = self.counting(room - 1)?;
+        let body = self.body_to_end(room)?;
+        Ok(do_node(token, counting, body))
+    }
+}
+
+// A node that holds a `Vec` of statements is made in a function of its own, whose clause is its view.
+
+fn if_node<'a>(
+    first: Arm<'a>,
+    others: Vec<Arm<'a>>,
+    otherwise: Option<Vec<Statement<'a>>>,
+) -> Statement<'a>
+    ensures { stmt result ≡ tree.If (expr first.entry.condition) (block first.entry.body.items) (arms (map arm_tree others.entry.items)) (otherwise_tree otherwise.entry) }
+{
+    Statement::If(first, others, otherwise)
+}
+
+fn for_node<'a>(
+    token: usize,
+    variable: Lexeme<'a>,
+    record_name: Lexeme<'a>,
+    body: Vec<Statement<'a>>,
+) -> Statement<'a>
+    ensures { stmt result ≡ tree.For (written variable.entry) (written record_name.entry) (block body.entry.items) }
+{
+    Statement::For(token, variable, record_name, body)
+}
+
+fn do_node<'a>(token: usize, counting: Counting<'a>, body: Vec<Statement<'a>>) -> Statement<'a>
+    ensures { stmt result ≡ tree.Do (tree.counting counting.entry) (block body.entry.items) }
+{
+    Statement::Do(token, counting, body)
+}

@@ -1,0 +1,218 @@
+//! The words of a text: reserved, left out, or names.
+
+ghost use Rattle.std.specs.Prelude.{◌≡◌, length};
+ghost use Rattle.std.specs.Str.{str_eq_ignore_ascii_case};
+ghost use Rattle.cse_syntax.specs.Text as spec;
+
+use crate::token::{Kind, Mark};
+
+/// How many characters a name may have.
+const NAME_LEN: usize = 32;
+
+fn is_word(text: &[u8], word: &[u8]) -> bool
+    ensures { result ≡ str_eq_ignore_ascii_case text.now word.now }
+{
+    text.eq_ignore_ascii_case(word)
+}
+
+// What opens and names the parts of a source.
+fn heads(text: &[u8]) -> Option<Mark>
+    ensures { result ≡ spec.looked_up spec.heads text.now }
+{
+    if is_word(text, b"proc") {
+        Some(Mark::Proc)
+    } else if is_word(text, b"global") {
+        Some(Mark::Global)
+    } else if is_word(text, b"preproc") {
+        Some(Mark::Preproc)
+    } else if is_word(text, b"postproc") {
+        Some(Mark::Postproc)
+    } else if is_word(text, b"numeric") {
+        Some(Mark::Numeric)
+    } else if is_word(text, b"alpha") {
+        Some(Mark::Alpha)
+    } else if is_word(text, b"array") {
+        Some(Mark::Array)
+    } else if is_word(text, b"save") {
+        Some(Mark::Save)
+    } else if is_word(text, b"function") {
+        Some(Mark::Function)
+    } else if is_word(text, b"end") {
+        Some(Mark::End)
+    } else {
+        None
+    }
+}
+
+// Statements that hold others.
+fn blocks(text: &[u8]) -> Option<Mark>
+    ensures { result ≡ spec.looked_up spec.blocks text.now }
+{
+    if is_word(text, b"if") {
+        Some(Mark::If)
+    } else if is_word(text, b"then") {
+        Some(Mark::Then)
+    } else if is_word(text, b"elseif") {
+        Some(Mark::ElseIf)
+    } else if is_word(text, b"else") {
+        Some(Mark::Else)
+    } else if is_word(text, b"endif") {
+        Some(Mark::EndIf)
+    } else if is_word(text, b"for") {
+        Some(Mark::For)
+    } else if is_word(text, b"in") {
+        Some(Mark::In)
+    } else if is_word(text, b"do") {
+        Some(Mark::Do)
+    } else if is_word(text, b"enddo") {
+        Some(Mark::EndDo)
+    } else if is_word(text, b"varying") {
+        Some(Mark::Varying)
+    } else if is_word(text, b"until") {
+        Some(Mark::Until)
+    } else if is_word(text, b"by") {
+        Some(Mark::By)
+    } else {
+        None
+    }
+}
+
+// Other statements.
+fn commands(text: &[u8]) -> Option<Mark>
+    ensures { result ≡ spec.looked_up spec.commands text.now }
+{
+    if is_word(text, b"break") {
+        Some(Mark::Break)
+    } else if is_word(text, b"next") {
+        Some(Mark::Next)
+    } else if is_word(text, b"exit") {
+        Some(Mark::Exit)
+    } else if is_word(text, b"impute") {
+        Some(Mark::Impute)
+    } else if is_word(text, b"putdeck") {
+        Some(Mark::PutDeck)
+    } else if is_word(text, b"errmsg") {
+        Some(Mark::ErrMsg)
+    } else if is_word(text, b"summary") {
+        Some(Mark::Summary)
+    } else {
+        None
+    }
+}
+
+// Expressions.
+fn values(text: &[u8]) -> Option<Mark>
+    ensures { result ≡ spec.looked_up spec.values text.now }
+{
+    if is_word(text, b"and") {
+        Some(Mark::And)
+    } else if is_word(text, b"or") {
+        Some(Mark::Or)
+    } else if is_word(text, b"not") {
+        Some(Mark::Not)
+    } else if is_word(text, b"notappl") {
+        Some(Mark::NotAppl)
+    } else if is_word(text, b"missing") {
+        Some(Mark::Missing)
+    } else if is_word(text, b"default") {
+        Some(Mark::Default)
+    } else if is_word(text, b"getdeck") {
+        Some(Mark::GetDeck)
+    } else if is_word(text, b"totocc") {
+        Some(Mark::TotOcc)
+    } else if is_word(text, b"maxocc") {
+        Some(Mark::MaxOcc)
+    } else if is_word(text, b"curocc") {
+        Some(Mark::CurOcc)
+    } else if is_word(text, b"int") {
+        Some(Mark::Int)
+    } else if is_word(text, b"special") {
+        Some(Mark::Special)
+    } else if is_word(text, b"invalueset") {
+        Some(Mark::InValueSet)
+    } else {
+        None
+    }
+}
+
+fn reserved(text: &[u8]) -> Option<Mark>
+    ensures { result ≡ spec.reserved text.now }
+{
+    if let Some(mark) = heads(text) {
+        return Some(mark);
+    }
+    if let Some(mark) = blocks(text) {
+        return Some(mark);
+    }
+    if let Some(mark) = commands(text) {
+        return Some(mark);
+    }
+    values(text)
+}
+
+// Words of CSPro's logic that are no part of this language.
+fn left_out(text: &[u8]) -> Option<Kind>
+    ensures { result ≡ spec.looked_up spec.left_out text.now }
+{
+    if is_word(text, b"while") {
+        Some(Kind::LeftOut)
+    } else if is_word(text, b"recode") {
+        Some(Kind::LeftOut)
+    } else if is_word(text, b"box") {
+        Some(Kind::LeftOut)
+    } else if is_word(text, b"endbox") {
+        Some(Kind::LeftOut)
+    } else if is_word(text, b"skip") {
+        Some(Kind::LeftOut)
+    } else if is_word(text, b"stop") {
+        Some(Kind::LeftOut)
+    } else if is_word(text, b"write") {
+        Some(Kind::LeftOut)
+    } else if is_word(text, b"noinput") {
+        Some(Kind::LeftOut)
+    } else if is_word(text, b"advance") {
+        Some(Kind::LeftOut)
+    } else if is_word(text, b"reenter") {
+        Some(Kind::LeftOut)
+    } else if is_word(text, b"denom") {
+        Some(Kind::LeftOut)
+    } else if is_word(text, b"stat") {
+        Some(Kind::LeftOut)
+    } else if is_word(text, b"insert") {
+        Some(Kind::LeftOut)
+    } else if is_word(text, b"delete") {
+        Some(Kind::LeftOut)
+    } else if is_word(text, b"sort") {
+        Some(Kind::LeftOut)
+    } else if is_word(text, b"file") {
+        Some(Kind::LeftOut)
+    } else if is_word(text, b"list") {
+        Some(Kind::LeftOut)
+    } else if is_word(text, b"onfocus") {
+        Some(Kind::LeftOut)
+    } else if is_word(text, b"killfocus") {
+        Some(Kind::LeftOut)
+    } else if is_word(text, b"onoccchange") {
+        Some(Kind::LeftOut)
+    } else if is_word(text, b"export") {
+        Some(Kind::LeftOut)
+    } else {
+        None
+    }
+}
+
+pub fn word_kind(text: &[u8]) -> Kind
+    ensures { result ≡ spec.word_kind text.now }
+{
+    if let Some(mark) = reserved(text) {
+        return Kind::Mark(mark);
+    }
+    if let Some(kind) = left_out(text) {
+        return kind;
+    }
+    if text.len() <= NAME_LEN {
+        Kind::Name
+    } else {
+        Kind::LongWord
+    }
+}
