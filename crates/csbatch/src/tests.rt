@@ -340,15 +340,21 @@ const ENDS: [(&[Line], &str); 22] = [
     ),
 ];
 
+/// The instructions, and a return.
+fn returning(alloc: Global, front: &[Line]) -> Result<Vec<Instr>, Fail> {
+    let mut code = Vec::new(alloc);
+    for (op, a, b, c) in front {
+        code.push(instr(*op, *a, *b, *c))?;
+    }
+    code.push(instr(Op::Return, 0, 0, 0))?;
+    Ok(code)
+}
+
 #[test]
 fn runs_code(rt: HostRuntime) -> Result<(), Fail> {
     let alloc = rt.alloc();
     for (front, want) in ENDS {
-        let mut code = Vec::new(alloc);
-        for (op, a, b, c) in front {
-            code.push(instr(*op, *a, *b, *c))?;
-        }
-        code.push(instr(Op::Return, 0, 0, 0))?;
+        let code = returning(alloc, front)?;
         let text = printed(alloc, parts_of(alloc, &code)?)?;
         assert_eq!(rt; text.as_str(), want);
     }
