@@ -206,6 +206,25 @@ fn ranges(rt: HostRuntime) {
     );
 }
 
+/// Applications, with what they declare.
+const APPLICATIONS: [&str; 8] = [
+    "PROC AGE AGE = AGE;",
+    "PROC AGE AGE = -5;",
+    "PROC AGE AGE = missing;",
+    "PROC GLOBAL array A (10) = 11,12,13,14,15,16,17,18,19,20; PROC AGE errmsg(\"%d %d %d %d\", A(0), A(1), A(10), A(11));",
+    "PROC AGE if AGE < 15 then errmsg(\"child\"); elseif AGE < 65 then errmsg(\"adult %d\", AGE); elseif AGE < 200 then errmsg(\"old %03d\", AGE); else errmsg(\"odd %d\", AGE); endif;",
+    "PROC GLOBAL numeric i; PROC AGE do varying i = 5 until i > 4 enddo; do varying i = 1 until i > 10 by 4 enddo;",
+    "PROC GLOBAL array AGE_HD (SEX_VS, REL_VS(+)) save; PROC AGE if AGE = notappl then impute(AGE, getdeck(AGE_HD)); else putdeck(AGE_HD, AGE); endif;",
+    "PROC GLOBAL numeric i, n; PROC QUEST n = 0; for i in PERSON do if AGE(i) >= 15 then n = n + 1; endif; enddo; errmsg(\"adults %d of %d\", n, totocc(PERSON));",
+];
+
+#[test]
+fn applications(rt: HostRuntime) {
+    for text in APPLICATIONS {
+        assert_eq!(rt; fault(rt.alloc(), text), (0, 0, 0));
+    }
+}
+
 #[test]
 fn accepted(rt: HostRuntime) {
     assert_eq!(rt; fault(rt.alloc(), ""), (0, 0, 0));

@@ -1,0 +1,8 @@
+pub mod CellLaws
+pub mod CutLaws
+pub mod GatherLaws
+pub mod InsideLaws
+pub mod LoadLaws
+pub mod PlaceLaws
+pub mod SaveLaws
+pub mod StoreLaws

@@ -1,0 +1,6 @@
+pub mod CellLine
+pub mod Deck
+pub mod Gathering
+pub mod Inside
+pub mod Loading
+pub mod Store

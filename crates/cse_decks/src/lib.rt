@@ -1,0 +1,25 @@
+//! What a program keeps over the whole run, and the text in which saved arrays live between runs.
+#![tactic(auto)]
+
+mod cells;
+mod due;
+mod error;
+mod gather;
+mod global;
+mod laws;
+mod lines;
+mod loading;
+mod progress;
+mod saving;
+mod starting;
+mod store;
+
+pub use error::DeckError;
+pub use global::GlobalValue;
+pub use laws::cell_lines;
+pub use loading::load;
+pub use saving::save;
+pub use store::Store;
+
+#[cfg(test)]
+mod tests;

@@ -1,0 +1,14 @@
+pub mod Around
+pub mod Checks
+pub mod CodeLaws
+pub mod Merges
+pub mod Sound
+pub mod PileLaws
+pub mod BelowLaws
+pub mod MergeLaws
+pub mod RuleLaws
+pub mod TurnLaws
+pub mod OpenerLaws
+pub mod PassLaws
+pub mod OrderLaws
+pub mod TypedLaws

@@ -1,0 +1,38 @@
+-- A search through a list, one element after the other.
+use Rattle.std.proofs.Common.{◌≡◌, ℕ, zero, suc, ◌+◌, ◌-◌, ◌<◌, ◌≤◌, Bool, true, false, List, [], ◌∷◌, length, take, drop, reverse, get_or, Some, refl, sym, ap, ◌∙◌, arith, add-one}
+use Rattle.std.specs.Prelude.{slice_get, ◌||◌}
+use Rattle.std.specs.List.{list_any}
+use Rattle.std.proofs.lemmas.Option.{slice_get-get_or}
+use Rattle.std.proofs.lemmas.List.{get_or-reverse, length-reverse, length-take-le, get_or-take}
+
+drop_suc : {X : Type 0} (xs : List X) (q : ℕ) (x : X) → slice_get xs q ≡ Some x → drop q xs ≡ x ∷ drop (suc q) xs
+drop_suc [] q x h = cc
+drop_suc (y ∷ xs) zero x h = cc
+drop_suc (y ∷ xs) (suc q) x h = drop_suc xs q x h
+
+pub any_here : (f : ℕ → Bool) (xs : List ℕ) (i x : ℕ) (found : Bool) → slice_get xs i ≡ Some x → found ≡ f x → found ≡ true → true ≡ list_any f (drop i xs)
+any_here f xs i x found at is holds =
+    sym (ap (list_any f) (drop_suc xs i x at) ∙ ap (λ b. b || list_any f (drop (suc i) xs)) (sym is ∙ holds))
+
+pub any_more : (f : ℕ → Bool) (xs : List ℕ) (i x : ℕ) (found : Bool) → slice_get xs i ≡ Some x → found ≡ f x → found ≡ false → list_any f (drop i xs) ≡ list_any f (drop (i + 1) xs)
+any_more f xs i x found at is fails =
+    ap (list_any f) (drop_suc xs i x at) ∙ ap (λ b. b || list_any f (drop (suc i) xs)) (sym is ∙ fails) ∙ ap (λ n. list_any f (drop n xs)) (sym (add-one i))
+
+any_none : (f : ℕ → Bool) (xs : List ℕ) (i : ℕ) → length xs ≤ i → false ≡ list_any f (drop i xs)
+any_none f [] zero h = refl
+any_none f [] (suc i) h = refl
+any_none f (x ∷ xs) zero h = absurd (omega arith)
+any_none f (x ∷ xs) (suc i) h = any_none f xs i (omega arith)
+
+pub any_end : (f : ℕ → Bool) (xs : List ℕ) (i : ℕ) → length xs ≤ i → false ≡ list_any f (drop i xs)
+any_end = any_none
+
+-- the element so far from the top of a stack
+pub shown_at : (places shown : List ℕ) (len i x : ℕ) → reverse (take len places) ≡ shown → len ≤ length places → i < length shown → x ≡ get_or places (len - 1 - i) x → slice_get shown i ≡ Some x
+shown_at places shown len i x is le lt read =
+    let size : length (take len places) ≡ len = length-take-le len places le in
+    let count : length shown ≡ len = ap length (sym is) ∙ length-reverse (take len places) ∙ size in
+    let back : get_or (reverse (take len places)) i x ≡ get_or (take len places) (length (take len places) - 1 - i) x = get_or-reverse (take len places) i x (omega arith) in
+    ap (λ l. slice_get l i) (sym is)
+    ∙ slice_get-get_or (reverse (take len places)) i x (let r = length-reverse (take len places) in omega arith)
+    ∙ ap Some (back ∙ ap (λ n. get_or (take len places) (n - 1 - i) x) size ∙ get_or-take len places (len - 1 - i) x (omega arith) ∙ sym read)

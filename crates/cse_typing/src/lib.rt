@@ -1,0 +1,40 @@
+//! The typing of programs: which jumps, brackets and abstract stacks a program may have.
+//!
+//! It is the lower half of the verifier. `typed` says whether a whole program is typed for a dictionary
+//! of a shape, and gives the first reason where it isn't; `specs/Typed.antt` says what that means.
+#![tactic(auto)]
+
+mod below;
+mod brackets;
+mod control;
+mod exits;
+mod in_loop;
+mod jumps;
+mod kind;
+mod known;
+mod need;
+mod openers;
+mod order;
+mod piles;
+mod refusal;
+mod routine_code;
+mod shape;
+mod stand;
+mod turn;
+mod walk;
+mod whole;
+
+pub use control::{Control, control_of};
+pub use jumps::check_jumps_and_brackets;
+pub use kind::{Kind, is_same_kind, kind_of_argument, kind_of_global, kind_of_local};
+pub use order::{all_events_fit, fits_event, names_each_once};
+pub use refusal::{NONE, Refusal};
+pub use routine_code::RoutineCode;
+pub use shape::same_shape;
+pub use stand::may_stand;
+pub use turn::Surroundings;
+pub use walk::{Fault, fault_of};
+pub use whole::typed;
+
+#[cfg(test)]
+mod tests;

@@ -1,0 +1,393 @@
+//! What an instruction takes from the stack and leaves on it, told without memory.
+
+ghost use Rattle.std.specs.Prelude.{◌≡◌, option_map, option_and_then, slice_get, length, Some, [], ◌++◌};
+ghost use Rattle.std.specs.Option.{option_to_list};
+ghost use Rattle.cse_value.specs.Shape.{shape_lists};
+ghost use Rattle.cse_parts.specs.Image.{Lists, lists_of, routine_lists};
+ghost use Rattle.cse_typing.specs.Kinds.{gift_kinds};
+ghost use Rattle.cse_typing.specs.Signature.{id_number, id_text, number_item, text_item, is_record, is_numeric, rows_of, global_at, local_at, storable, stored_at, dropped, indexes_of, arguments_of, parameters_of, ◌⇒◌, signature_by};
+ghost use Rattle.cse_typing.specs.Needs.{signature_of};
+
+use crate::kind::{Kind, kind_of_global, kind_of_local};
+use cse_parts::entries::{Gift, Routine, Tables};
+use cse_parts::instruction::{Instr, Op};
+use cse_value::shape::{ID_OWNER, ItemKind, ItemShape, Shape};
+
+/// Kinds that a table lists, the topmost last.
+#[derive(Clone, Copy, Debug)]
+pub enum Listed {
+    Nothing,
+    /// An index for each dimension of an array.
+    Dimensions(u32),
+    /// The arguments of a message.
+    Arguments(u32),
+    /// The parameters of a routine.
+    Parameters(u32),
+}
+
+/// What is taken: two kinds that lie on top, and what is listed below them; and what is left.
+#[derive(Clone, Copy, Debug)]
+pub struct Need {
+    pub first: Option<Kind>,
+    pub second: Option<Kind>,
+    pub listed: Listed,
+    pub leaves: Option<Kind>,
+}
+
+/// Takes at most two kinds, the topmost first, and leaves at most one.
+fn plain(first: Option<Kind>, second: Option<Kind>, leaves: Option<Kind>) -> Option<Need>
+    ensures { result ≡ Some (record { first = first; second = second; listed = Listed.Nothing; leaves = leaves }) }
+{
+    Some(Need {
+        first,
+        second,
+        listed: Listed::Nothing,
+        leaves,
+    })
+}
+
+fn is_record(shape: &Shape, number: u8) -> bool
+    ensures { result ≡ is_record (shape_lists shape.now) number }
+{
+    (number as usize) < shape.records.len()
+}
+
+fn item_at(shape: &Shape, item: u32) -> Option<ItemShape>
+    ensures { result ≡ slice_get (shape_lists shape.now).items item }
+{
+    shape.items.get(item as usize).copied()
+}
+
+/// A numeric id item.
+fn id_number(shape: &Shape, item: u32) -> Option<ItemShape>
+    ensures { result ≡ id_number (shape_lists shape.now) item }
+{
+    match item_at(shape, item) {
+        None => None,
+        Some(found) => {
+            if found.owner == ID_OWNER && matches!(found.kind, ItemKind::Number) {
+                Some(found)
+            } else {
+                None
+            }
+        }
+    }
+}
+
+/// An id item that is a text.
+fn id_text(shape: &Shape, item: u32) -> Option<ItemShape>
+    ensures { result ≡ id_text (shape_lists shape.now) item }
+{
+    match item_at(shape, item) {
+        None => None,
+        Some(found) => {
+            if found.owner == ID_OWNER && matches!(found.kind, ItemKind::Text) {
+                Some(found)
+            } else {
+                None
+            }
+        }
+    }
+}
+
+/// A numeric item of a record.
+fn number_item(shape: &Shape, item: u32) -> Option<ItemShape>
+    ensures { result ≡ number_item (shape_lists shape.now) item }
+{
+    match item_at(shape, item) {
+        None => None,
+        Some(found) => {
+            if found.owner != ID_OWNER && matches!(found.kind, ItemKind::Number) {
+                Some(found)
+            } else {
+                None
+            }
+        }
+    }
+}
+
+/// An item of a record that is a text.
+fn text_item(shape: &Shape, item: u32) -> Option<ItemShape>
+    ensures { result ≡ text_item (shape_lists shape.now) item }
+{
+    match item_at(shape, item) {
+        None => None,
+        Some(found) => {
+            if found.owner != ID_OWNER && matches!(found.kind, ItemKind::Text) {
+                Some(found)
+            } else {
+                None
+            }
+        }
+    }
+}
+
+fn is_numeric(item: Option<ItemShape>) -> bool
+    ensures { result ≡ is_numeric item }
+{
+    match item {
+        None => false,
+        Some(found) => matches!(found.kind, ItemKind::Number),
+    }
+}
+
+/// How many rows a set has that is whole and belongs to a numeric item.
+fn rows_of(shape: &Shape, set: u16) -> Option<u16>
+    ensures { result ≡ rows_of (shape_lists shape.now) set }
+{
+    match shape.sets.get(set as usize).copied() {
+        None => None,
+        Some(found) => {
+            if !found.partial && is_numeric(item_at(shape, found.item as u32)) {
+                Some(found.rows)
+            } else {
+                None
+            }
+        }
+    }
+}
+
+fn global_at(tables: &Tables, global: u32) -> Option<Kind>
+    ensures { result ≡ global_at (lists_of tables.now) global }
+{
+    match tables.globals.get(global as usize).copied() {
+        None => None,
+        Some(found) => Some(kind_of_global(found.kind)),
+    }
+}
+
+fn local_at(routine: &Routine, local: u32) -> Option<Kind>
+    ensures { result ≡ local_at (routine_lists routine.now) local }
+{
+    match routine.locals.get(local as usize).copied() {
+        None => None,
+        Some(found) => Some(kind_of_local(found)),
+    }
+}
+
+/// The kind of a local into which a value may go: no occurrence.
+fn stored_at(routine: &Routine, local: u32) -> Option<Kind>
+    ensures { result ≡ stored_at (routine_lists routine.now) local }
+{
+    match local_at(routine, local) {
+        None => None,
+        Some(Kind::Occurrence(_)) => None,
+        Some(kind) => Some(kind),
+    }
+}
+
+fn gift_of(gives: Gift) -> Option<Kind>
+    ensures { option_to_list result ≡ gift_kinds gives }
+{
+    match gives {
+        Gift::Nothing => None,
+        Gift::Number => Some(Kind::Number),
+    }
+}
+
+/// What a drop takes: a number, a text, or the index or occurrence on top.
+fn dropped(a: u8, top: Option<Kind>) -> Option<Need>
+    ensures { (x : Lists) → option_map (signature_of x) result ≡ dropped a top }
+{
+    if a == 0 {
+        return plain(Some(Kind::Number), None, None);
+    }
+    if a == 1 {
+        return plain(Some(Kind::Text), None, None);
+    }
+    match top {
+        Some(Kind::Index(n)) => plain(Some(Kind::Index(n)), None, None),
+        Some(Kind::Occurrence(r)) => plain(Some(Kind::Occurrence(r)), None, None),
+        _ => None,
+    }
+}
+
+/// What is taken from an array's indexes, below what lies on top.
+fn of_array(tables: &Tables, array: u32, first: Option<Kind>, leaves: Option<Kind>) -> Option<Need>
+    ensures { option_map (signature_of (lists_of tables.now)) result
+        ≡ option_and_then (λ x. option_to_list first ++ indexes_of x ⇒ option_to_list leaves) (slice_get (lists_of tables.now).arrays array) }
+{
+    match tables.arrays.get(array as usize) {
+        None => None,
+        Some(_) => Some(Need {
+            first,
+            second: None,
+            listed: Listed::Dimensions(array),
+            leaves,
+        }),
+    }
+}
+
+fn of_message(tables: &Tables, message: u32) -> Option<Need>
+    ensures { option_map (signature_of (lists_of tables.now)) result
+        ≡ option_and_then (λ x. arguments_of x ⇒ []) (slice_get (lists_of tables.now).messages message) }
+{
+    match tables.messages.get(message as usize) {
+        None => None,
+        Some(_) => Some(Need {
+            first: None,
+            second: None,
+            listed: Listed::Arguments(message),
+            leaves: None,
+        }),
+    }
+}
+
+fn of_call(tables: &Tables, callee: u32) -> Option<Need>
+    ensures { option_map (signature_of (lists_of tables.now)) result
+        ≡ option_and_then (λ x. parameters_of x ⇒ gift_kinds x.gives) (slice_get (lists_of tables.now).routines callee) }
+{
+    match tables.routines.get(callee as usize) {
+        None => None,
+        Some(routine) => Some(Need {
+            first: None,
+            second: None,
+            listed: Listed::Parameters(callee),
+            leaves: gift_of(routine.gives),
+        }),
+    }
+}
+
+/// What an instruction takes and leaves, where it finds what it names in the tables.
+#[tactic(auto, unfolding(crate::specs::Signature::signature_by))]
+pub fn need_of(
+    shape: &Shape,
+    tables: &Tables,
+    routine: &Routine,
+    in_loop: bool,
+    top: Option<Kind>,
+    instr: Instr,
+) -> Option<Need>
+    ensures { option_map (signature_of (lists_of tables.now)) result
+        ≡ signature_by (record { shape = shape_lists shape.now; lists = lists_of tables.now; routine = routine_lists routine.now }) in_loop top instr.op instr.a instr.b instr.c }
+{
+    let number = Some(Kind::Number);
+    let text = Some(Kind::Text);
+    match instr.op {
+        Op::Number => {
+            if (instr.c as usize) < tables.constants.len() {
+                return plain(None, None, number);
+            }
+            None
+        }
+        Op::Special => plain(None, None, number),
+        Op::Text => {
+            if (instr.c as usize) < tables.texts.len() {
+                return plain(None, None, text);
+            }
+            None
+        }
+        Op::LoadLocal => {
+            let kind = local_at(routine, instr.c)?;
+            plain(None, None, Some(kind))
+        }
+        Op::StoreLocal => {
+            let kind = stored_at(routine, instr.c)?;
+            plain(Some(kind), None, None)
+        }
+        Op::LoadGlobal => {
+            let kind = global_at(tables, instr.c)?;
+            plain(None, None, Some(kind))
+        }
+        Op::StoreGlobal => {
+            let kind = global_at(tables, instr.c)?;
+            plain(Some(kind), None, None)
+        }
+        Op::Add => plain(number, number, number),
+        Op::Subtract => plain(number, number, number),
+        Op::Multiply => plain(number, number, number),
+        Op::Quotient => plain(number, number, number),
+        Op::Remainder => plain(number, number, number),
+        Op::Negate => plain(number, None, number),
+        Op::Compare => plain(number, number, number),
+        Op::CompareText => plain(text, text, number),
+        Op::And => plain(number, number, number),
+        Op::Or => plain(number, number, number),
+        Op::Not => plain(number, None, number),
+        Op::IsSpecial => plain(number, None, number),
+        Op::Jump => plain(None, None, None),
+        Op::JumpUnless => plain(number, None, None),
+        Op::Index => plain(number, None, Some(Kind::Index(instr.b as u32))),
+        Op::Occurrence => {
+            if !is_record(shape, instr.a) {
+                return None;
+            }
+            plain(number, None, Some(Kind::Occurrence(instr.a)))
+        }
+        Op::Row => {
+            let rows = rows_of(shape, instr.b)?;
+            if instr.a == 0 {
+                return plain(number, None, Some(Kind::Index(rows as u32)));
+            }
+            plain(number, None, Some(Kind::Index(rows as u32 + 1)))
+        }
+        Op::CurrentOccurrence => {
+            if !is_record(shape, instr.a) {
+                return None;
+            }
+            if !in_loop {
+                return None;
+            }
+            plain(None, None, Some(Kind::Occurrence(instr.a)))
+        }
+        Op::OccurrenceNumber => {
+            if !is_record(shape, instr.a) {
+                return None;
+            }
+            plain(Some(Kind::Occurrence(instr.a)), None, number)
+        }
+        Op::TotalOccurrences => {
+            if !is_record(shape, instr.a) {
+                return None;
+            }
+            plain(None, None, number)
+        }
+        Op::IdNumber => {
+            let _item = id_number(shape, instr.c)?;
+            plain(None, None, number)
+        }
+        Op::IdText => {
+            let _item = id_text(shape, instr.c)?;
+            plain(None, None, text)
+        }
+        Op::ItemNumber => {
+            let item = number_item(shape, instr.c)?;
+            plain(Some(Kind::Occurrence(item.owner)), None, number)
+        }
+        Op::ItemText => {
+            let item = text_item(shape, instr.c)?;
+            plain(Some(Kind::Occurrence(item.owner)), None, text)
+        }
+        Op::StoreNumber => {
+            let item = number_item(shape, instr.c)?;
+            plain(number, Some(Kind::Occurrence(item.owner)), None)
+        }
+        Op::StoreText => {
+            let item = text_item(shape, instr.c)?;
+            plain(text, Some(Kind::Occurrence(item.owner)), None)
+        }
+        Op::LoadCell => of_array(tables, instr.c, None, number),
+        Op::StoreCell => of_array(tables, instr.c, number, None),
+        Op::InSet => {
+            let _rows = rows_of(shape, instr.b)?;
+            plain(number, None, number)
+        }
+        Op::Message => of_message(tables, instr.c),
+        Op::Impute => {
+            let item = number_item(shape, instr.c)?;
+            plain(number, Some(Kind::Occurrence(item.owner)), None)
+        }
+        Op::Call => of_call(tables, instr.c),
+        Op::Return => plain(gift_of(routine.gives), None, None),
+        Op::LoopCount => plain(number, None, None),
+        Op::LoopOccurrences => {
+            if !is_record(shape, instr.a) {
+                return None;
+            }
+            plain(None, None, None)
+        }
+        Op::End => plain(None, None, None),
+        Op::Break => plain(None, None, None),
+        Op::Pop => dropped(instr.a, top),
+    }
+}

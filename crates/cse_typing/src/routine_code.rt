@@ -1,0 +1,67 @@
+//! The code of one routine, as a part of the code of the program.
+
+ghost use Rattle.std.specs.Prelude.{◌≡◌, ◌≤◌, ◌<◌, ◌+◌, length, slice_get, Some};
+ghost use Rattle.cse_typing.specs.Code.{part};
+ghost use Rattle.cse_typing.specs.Skeleton.{skeleton};
+
+use crate::control::{Control, control_of};
+use cse_image::Code;
+use cse_value::shape::RecordShape;
+use std::marker::Model;
+
+/// The skeleton of a routine, read in place.
+#[derive(Drop)]
+pub struct RoutineCode<'a, C: Code> {
+    code: &'a C,
+    records: &'a [RecordShape],
+    start: usize,
+    size: u32,
+}
+
+impl<'a, C: Code> Model for RoutineCode<'a, C> {
+    ghost use Rattle.std.specs.Prelude.{List, ◌≤◌, ◌+◌, length};
+    ghost use Rattle.cse_typing.specs.declared.control.Control.{Control};
+    ghost use Rattle.cse_typing.specs.Code.{part};
+    ghost use Rattle.cse_typing.specs.Skeleton.{skeleton};
+
+    ghost Value = { List Control };
+
+    ghost view = { λ r. skeleton r.records.now (part r.start r.size (C.list r.code.now)) };
+
+    ghost invariant = { λ r. r.start + r.size ≤ length (C.list r.code.now) };
+}
+
+impl<'a, C: Code> RoutineCode<'a, C> {
+    /// The routine whose instructions start there.
+    pub fn new(code: &'a C, records: &'a [RecordShape], start: usize, size: u32) -> Self
+        requires { start + size ≤ length (C.list code.now) }
+        ensures { result ≡ skeleton records.now (part start size (C.list code.now)) }
+    {
+        RoutineCode {
+            code,
+            records,
+            start,
+            size,
+        }
+    }
+
+    /// How many instructions there are.
+    pub fn len(&self) -> u32
+        ensures { result ≡ length self.now }
+    {
+        self.size
+    }
+
+    /// What stands at a place, if it is there.
+    pub fn at(&self, place: u32) -> Option<Control>
+        ensures { result ≡ slice_get self.now place }
+    {
+        if place < self.size {
+            let _fits = self.code.len();
+            let instr = self.code.at(self.start + place as usize);
+            Some(control_of(self.records, instr))
+        } else {
+            None
+        }
+    }
+}

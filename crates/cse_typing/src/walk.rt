@@ -1,0 +1,96 @@
+//! The pass over the places of a routine.
+
+ghost use Rattle.std.specs.Prelude.{◌≡◌, ◌≤◌, ◌+◌, length, IfOk, replicate};
+ghost use Rattle.cse_typing.specs.Code.{part};
+ghost use Rattle.cse_typing.specs.Skeleton.{skeleton};
+ghost use Rattle.cse_typing.specs.Bracket.{KeepsRules};
+ghost use Rattle.cse_typing.specs.Tables.{scene_in};
+ghost use Rattle.cse_typing.specs.Judged.{Judges};
+
+use crate::brackets::pass;
+use crate::control::control_of;
+use crate::in_loop::is_in_loop;
+use crate::openers::Openers;
+use crate::piles::{Expected, Piles};
+use crate::routine_code::RoutineCode;
+use crate::stand::may_stand;
+use crate::turn::{Standing, Surroundings, turn};
+use cse_image::Code;
+use std::alloc::{AllocError, Global};
+
+/// Why a routine isn't typed, with the place.
+#[derive(Clone, Copy, Debug)]
+pub enum Fault {
+    /// The instruction may not stand in the routine.
+    MayNotStand(u32),
+    /// No stack fits the place.
+    NoStack(u32),
+}
+
+/// That many places of which nothing is known.
+fn nothing(alloc: Global, places: u32) -> Result<Vec<Expected>, AllocError>
+    ensures { IfOk result (λ known. known.items ≡ replicate places Expected.Free) }
+{
+    let mut known = Vec::new(alloc);
+    'places: for _ in 0..places {
+        known.push(Expected::Free)?;
+    }
+    Ok(known)
+}
+
+/// The first fault of a routine whose brackets keep their rules.
+pub fn fault_of<C: Code>(
+    alloc: Global,
+    around: Surroundings<'_>,
+    code: &C,
+    start: usize,
+    number: u32,
+) -> Result<Option<Fault>, AllocError>
+    requires within { start + around.routine.now.instructions ≤ length (C.list code.now) }
+    requires brackets { KeepsRules (skeleton around.tables.now.records.items (part start around.routine.now.instructions (C.list code.now))) }
+    ensures { IfOk result (Judges (scene_in around.entry) number (part start around.entry.routine.now.instructions (C.list code.now))) }
+{
+    let mut known = nothing(alloc, around.routine.instructions)?;
+    let fault = walk(alloc, around, code, start, number, &mut known)?;
+    Ok(fault)
+}
+
+/// One pass over the places, in order.
+fn walk<C: Code>(
+    alloc: Global,
+    around: Surroundings<'_>,
+    code: &C,
+    start: usize,
+    number: u32,
+    known: &mut [Expected],
+) -> Result<Option<Fault>, AllocError>
+    requires within { start + around.routine.now.instructions ≤ length (C.list code.now) }
+    requires brackets { KeepsRules (skeleton around.tables.now.records.items (part start around.routine.now.instructions (C.list code.now))) }
+    requires known { known.old ≡ replicate around.routine.now.instructions Expected.Free }
+    ensures { IfOk result (Judges (scene_in around.entry) number (part start around.entry.routine.now.instructions (C.list code.now))) }
+{
+    let _fits = code.len();
+    let size = around.routine.instructions;
+    let skeleton = RoutineCode::new(code, &around.tables.records, start, size);
+    let mut openers = Openers::new();
+    let mut piles = Piles::new(alloc);
+    'places: for place in 0..size {
+        let instr = code.at(start + place as usize);
+        if !may_stand(around.tables, number, around.routine.ambient, instr) {
+            return Ok(Some(Fault::MayNotStand(place)));
+        }
+        let control = control_of(&around.tables.records, instr);
+        let in_loop = is_in_loop(code, start, size, &openers, instr.a);
+        let at = Standing {
+            place,
+            instr,
+            control,
+            in_loop,
+        };
+        if !turn(around, at, &mut piles, known)? {
+            return Ok(Some(Fault::NoStack(place)));
+        }
+        pass(&skeleton, place, control, &mut openers);
+    }
+    Ok(None)
+}
