@@ -1,0 +1,18 @@
+//! Times of what runs often: fields of 3, 8 and 15 columns, and an image of 1,000,000 instructions. They are
+//! taken where a word is given.
+#![tactic(auto)]
+
+mod fields;
+mod images;
+
+use std::{env, io};
+
+fn main(rt: HostRuntime) -> io::Result<()> {
+    if env::args(&rt)?.len() < 2 {
+        return Ok(());
+    }
+    fields::bench(&rt, 3)?;
+    fields::bench(&rt, 8)?;
+    fields::bench(&rt, 15)?;
+    images::bench(rt.alloc(), &rt)
+}
