@@ -1,0 +1,118 @@
+//! Lines that are gathered in a buffer and written when it is full.
+
+ghost use Rattle.std.specs.Prelude.{◌≡◌, ◌≤◌, ◌+◌, ◌++◌, [], length, false};
+ghost use Rattle.cse_output.specs.Gathering.{going, line, Puts, Finishes};
+
+use arrayvec::ArrayVec;
+use cse_value::{Failed, Output, write_all};
+
+/// How many bytes wait at most.
+const ROOM: usize = 4096;
+
+/// Bytes that wait to be written. Once the device has failed, nothing more is written.
+#[derive(Drop)]
+pub struct Gatherer {
+    pub waiting: ArrayVec<u8, 4096>,
+    pub gave_up: bool,
+}
+
+impl Gatherer {
+    /// No bytes wait.
+    pub fn new() -> Gatherer
+        ensures waiting { result.waiting.items ≡ [] }
+        ensures gave_up { result.gave_up ≡ false }
+    {
+        Gatherer {
+            waiting: ArrayVec::new(),
+            gave_up: false,
+        }
+    }
+
+    /// Puts a line.
+    pub fn put_line<W: Output>(&mut self, out: &mut W, text: &[u8])
+        ensures { Puts (going (W.contents out.old) (W.has_failed out.old) self.old.waiting.items self.old.gave_up) (going (W.contents out.new) (W.has_failed out.new) self.new.waiting.items self.new.gave_up) (line text.now) }
+    {
+        self.put(out, text);
+        self.put(out, b"\n");
+    }
+
+    /// Puts bytes.
+    pub fn put<W: Output>(&mut self, out: &mut W, bytes: &[u8])
+        ensures { Puts (going (W.contents out.old) (W.has_failed out.old) self.old.waiting.items self.old.gave_up) (going (W.contents out.new) (W.has_failed out.new) self.new.waiting.items self.new.gave_up) bytes.now }
+    {
+        if bytes.len() > ROOM - self.waiting.len() {
+            self.flush(out);
+            self.keep(out, bytes);
+            return;
+        }
+        self.keep(out, bytes);
+    }
+
+    /// Lets bytes wait, where there is room for them; else writes what waits and then the bytes.
+    fn keep<W: Output>(&mut self, out: &mut W, bytes: &[u8])
+        ensures { Puts (going (W.contents out.old) (W.has_failed out.old) self.old.waiting.items self.old.gave_up) (going (W.contents out.new) (W.has_failed out.new) self.new.waiting.items self.new.gave_up) bytes.now }
+    {
+        if self.gave_up {
+            return;
+        }
+        if bytes.len() <= ROOM - self.waiting.len() {
+            append(&mut self.waiting, bytes);
+            return;
+        }
+        self.flush(out);
+        self.write(out, bytes);
+    }
+
+    /// Writes bytes at once, where none wait.
+    fn write<W: Output>(&mut self, out: &mut W, bytes: &[u8])
+        requires { self.old.waiting.items ≡ [] }
+        ensures { Puts (going (W.contents out.old) (W.has_failed out.old) self.old.waiting.items self.old.gave_up) (going (W.contents out.new) (W.has_failed out.new) self.new.waiting.items self.new.gave_up) bytes.now }
+    {
+        if self.gave_up {
+            return;
+        }
+        match write_all(out, bytes) {
+            Ok(()) => {}
+            Err(_) => self.gave_up = true,
+        }
+    }
+
+    /// Writes the bytes that wait.
+    pub fn flush<W: Output>(&mut self, out: &mut W)
+        ensures puts { Puts (going (W.contents out.old) (W.has_failed out.old) self.old.waiting.items self.old.gave_up) (going (W.contents out.new) (W.has_failed out.new) self.new.waiting.items self.new.gave_up) [] }
+        ensures none { self.new.waiting.items ≡ [] }
+    {
+        if self.gave_up {
+            self.waiting.clear();
+            return;
+        }
+        match write_all(out, self.waiting.as_slice()) {
+            Ok(()) => self.waiting.clear(),
+            Err(_) => {
+                self.gave_up = true;
+                self.waiting.clear();
+            }
+        }
+    }
+
+    /// Writes the bytes that wait, and tells whether all that was put was written.
+    pub fn finish<W: Output>(mut self, out: &mut W) -> Result<(), Failed>
+        ensures { Finishes result (going (W.contents out.old) (W.has_failed out.old) self.waiting.items self.gave_up) (W.contents out.new) (W.has_failed out.new) }
+    {
+        self.flush(out);
+        if self.gave_up {
+            return Err(Failed);
+        }
+        Ok(())
+    }
+}
+
+/// Appends bytes for which there is room.
+fn append(waiting: &mut ArrayVec<u8, 4096>, bytes: &[u8])
+    requires { length waiting.old.items + length bytes.now ≤ 4096 }
+    ensures { waiting.new.items ≡ waiting.old.items ++ bytes.now }
+{
+    let Ok(()) = waiting.try_extend_from_slice(bytes) else {
+        unreachable!();
+    };
+}
