@@ -1,6 +1,5 @@
 pub mod CellLaws
 pub mod CutLaws
-pub mod GatherLaws
 pub mod InsideLaws
 pub mod LoadLaws
 pub mod PlaceLaws

@@ -5,11 +5,8 @@ use Rattle.std.specs.Fmt.{decimal}
 use Rattle.cse_value.specs.declared.number.Num.{Num}
 use Rattle.cse_value.specs.Field.{shown}
 use Rattle.cse_parts.specs.Image.{Image, ArrayLists}
+use Rattle.cse_output.specs.Gathering.{line}
 use Rattle.cse_decks.specs.Store.{Kept}
-
--- a line with its LF
-abbrev pub line : List ℕ → List ℕ
-line text = text ++ 10 ∷ []
 
 abbrev pub heading : List ℕ
 heading = codes "CSEB DECKS 1"

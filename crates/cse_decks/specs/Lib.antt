@@ -1,6 +1,5 @@
 pub mod CellLine
 pub mod Deck
-pub mod Gathering
 pub mod Inside
 pub mod Loading
 pub mod Store

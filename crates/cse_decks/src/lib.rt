@@ -4,7 +4,6 @@
 mod cells;
 mod due;
 mod error;
-mod gather;
 mod global;
 mod laws;
 mod lines;

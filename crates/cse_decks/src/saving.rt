@@ -5,13 +5,13 @@ ghost use Rattle.std.specs.List.{flat_map};
 ghost use Rattle.cse_value.specs.Writing.{WritesAll, FailsAtErr};
 ghost use Rattle.cse_parts.specs.Image.{array_lists};
 ghost use Rattle.cse_decks.specs.Store.{StoreFits};
-ghost use Rattle.cse_decks.specs.Deck.{line, size_word, cell_line, array_line, saved_block, blocks, deck_text};
-ghost use Rattle.cse_decks.specs.Gathering.{going, Puts};
+ghost use Rattle.cse_decks.specs.Deck.{size_word, cell_line, array_line, saved_block, blocks, deck_text};
+ghost use Rattle.cse_output.specs.Gathering.{going, line, Puts};
 
 use crate::cells::ArrayCells;
-use crate::gather::Gatherer;
 use crate::store::Store;
 use cse_image::{Array, Code, Program};
+use cse_output::Gatherer;
 use cse_value::{Failed, Num, Output, show_num};
 use itoa::Buffer;
 

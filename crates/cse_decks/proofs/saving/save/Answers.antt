@@ -3,8 +3,9 @@ use Rattle.std.specs.Prelude.{map}
 use Rattle.cse_value.specs.declared.number.Num.{Num}
 use Rattle.cse_value.specs.Writing.{WritesAll}
 use Rattle.cse_parts.specs.Image.{array_lists, ArrayLists}
-use Rattle.cse_decks.specs.Deck.{line, heading, ending, blocks, deck_text}
-use Rattle.cse_decks.proofs.GatherLaws.{Puts-then, Gathering-none}
+use Rattle.cse_output.specs.Gathering.{line}
+use Rattle.cse_decks.specs.Deck.{heading, ending, blocks, deck_text}
+use Rattle.cse_output.proofs.GatherLaws.{Puts-then, Gathering-none}
 use Rattle.cse_decks.proofs.saving.save.Goals as goal
 
 pub returns-clause-bytes : goal.returns-clause-bytes

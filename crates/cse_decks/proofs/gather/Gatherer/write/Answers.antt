@@ -1,9 +1,0 @@
-use Rattle.std.proofs.Common.{List, ℕ, ◌++◌, ap, sym}
-use Rattle.cse_decks.proofs.GatherLaws.{Puts-wrote}
-use Rattle.cse_decks.proofs.gather.Gatherer.write.Goals as goal
-
-pub returns-in-Ok : goal.returns-in-Ok
-returns-in-Ok g c =
-    Puts-wrote (g.W.Output.contents c.args.out.now) (g.W.Output.contents c.write_all.new.out) (g.W.Output.has_failed c.args.out.now) (g.W.Output.has_failed c.write_all.new.out)
-    c.args.self.now.waiting.items c.args.self.now.waiting.items c.args.self.now.gave_up c.args.self.now.gave_up c.args.bytes.now c.args.bytes.now
-    c.if-self.false c.if-self.false c.requires (ap (λ (l : List ℕ). l ++ c.args.bytes.now) (sym c.requires)) c.in-Ok.ensures.bytes c.in-Ok.ensures.failed
