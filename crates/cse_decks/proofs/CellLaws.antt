@@ -13,7 +13,7 @@ use Rattle.cse_value.specs.Number.{fits_i64}
 use Rattle.cse_value.specs.Texts.{blanks}
 use Rattle.cse_value.specs.declared.number.Num.{Num}
 use Rattle.cse_value.specs.declared.number.Num.TheVariants.{Whole, NotAppl, Missing, Undef}
-use Rattle.cse_value.specs.Field.{digits_value, field, put, put_whole, kept, stars, filled, has_room, value_of, shown}
+use Rattle.cse_value.specs.Field.{digits_value, field, fits_num, in_i64, numeral, put, put_whole, kept, stars, filled, has_room, trimmed, value_of, value_of_trimmed, shown}
 use Rattle.cse_value.proofs.FieldLaws.{field-put}
 use Rattle.cse_decks.specs.Loading.{cell_of, if_shown}
 use Rattle.cse_decks.specs.CellLine.{ReadsCells, ReadsNothingElse}
@@ -46,7 +46,7 @@ chain_last false false false true last h i j k = cc
 -- ---- a number
 
 -- digits as the library counts them
-numerals : IsNumeralModel (λ ds. list_all is_ascii_digit ds ≡ true) digits_value
+pub numerals : IsNumeralModel (λ ds. list_all is_ascii_digit ds ≡ true) digits_value
 numerals = numerals_by_fold (λ ds. list_all is_ascii_digit ds ≡ true) (search rules) (λ n ds. fold (λ n c. 10 * n + (c - 48)) n ds) (search rules)
 
 no_letter : (c : ℕ) → is_ascii_digit c ≡ true → c < 60
@@ -124,3 +124,40 @@ chain_back line false false false false w v h i j e = shown_back line w v (bytes
 pub reads_nothing_else : ReadsNothingElse
 unfolding chain_of
 reads_nothing_else line v e = chain_back line (bytes_eq line (codes "NOTAPPL")) (bytes_eq line (codes "MISSING")) (bytes_eq line (codes "DEFAULT")) (nat_lt 20 (length line)) (field line None) v refl refl refl (sym (cell_of-chain line) ∙ e)
+
+-- ---- within 64 bits
+
+value_fits : (b : Bool) (z : ℤ) → fits_i64 z ≡ b → fits_num (value_of (cond b (Some z) None) None) ≡ true
+value_fits true z e = e
+value_fits false z e = refl
+
+field_fits_by : (o : Option ℤ) → fits_num (value_of (in_i64 o) None) ≡ true
+field_fits_by None = refl
+field_fits_by (Some z) = value_fits (fits_i64 z) z refl
+
+trimmed_fits : (columns : List ℕ) → fits_num (value_of_trimmed columns None) ≡ true
+trimmed_fits [] = refl
+trimmed_fits (c ∷ cs) = field_fits_by (numeral (c ∷ cs))
+
+field_fits : (line : List ℕ) → fits_num (field line None) ≡ true
+unfolding field
+field_fits line = trimmed_fits (trimmed line)
+
+if_fits : (b : Bool) (w v : Num) → fits_num w ≡ true → cond b (Some w) None ≡ Some v → fits_num v ≡ true
+if_fits true w v h e = let same : w ≡ v = cc in ap fits_num (sym same) ∙ h
+if_fits false w v h e = cc
+
+chain_fits : (a b c d : Bool) (last : Option Num) (v : Num) → (last ≡ Some v → fits_num v ≡ true) → chain a b c d last ≡ Some v → fits_num v ≡ true
+unfolding chain
+chain_fits true b c d last v h e = let same : NotAppl ≡ v = cc in ap fits_num (sym same)
+chain_fits false true c d last v h e = let same : Missing ≡ v = cc in ap fits_num (sym same)
+chain_fits false false true d last v h e = let same : Undef ≡ v = cc in ap fits_num (sym same)
+chain_fits false false false true last v h e = cc
+chain_fits false false false false last v h e = h e
+
+-- what is read as a cell has 64 bits
+pub reads_fitting : (line : List ℕ) (v : Num) → cell_of line ≡ Some v → fits_num v ≡ true
+unfolding chain_of
+reads_fitting line v e =
+    chain_fits (bytes_eq line (codes "NOTAPPL")) (bytes_eq line (codes "MISSING")) (bytes_eq line (codes "DEFAULT")) (nat_lt 20 (length line)) (if_shown (field line None) line) v
+    (if_fits (bytes_eq (shown (field line None)) line) (field line None) v (field_fits line)) (sym (cell_of-chain line) ∙ e)

@@ -1,7 +1,15 @@
+pub mod AcceptLaws
+pub mod ArrayLineLaws
 pub mod CellLaws
 pub mod CutLaws
+pub mod DeckTextLaws
+pub mod FillLaws
 pub mod InsideLaws
+pub mod LineLaws
 pub mod LoadLaws
+pub mod OnceLaws
 pub mod PlaceLaws
 pub mod SaveLaws
+pub mod SavedLaws
 pub mod StoreLaws
+pub mod ToldLaws

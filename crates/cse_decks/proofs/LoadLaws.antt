@@ -13,10 +13,10 @@ use Rattle.cse_decks.specs.Store.{Kept, StoreFits, first_kept}
 use Rattle.cse_decks.specs.Loading.{Reading, opening, marked, by_entry, by_place, named, array_read, cell_of, cell_read, by_due, line_read, go_on, read_from, read_text, unread, with_arrays, loaded, cut, with_due, is_array_line, fault, lacking, is_done}
 use Rattle.cse_decks.proofs.StoreLaws.{cell_stays}
 
-abbrev counts : List (List Num) → List ℕ
+abbrev pub counts : List (List Num) → List ℕ
 counts arrays = map (λ (cells : List Num). length cells) arrays
 
-abbrev Keeps : Reading → Result Reading ℕ → Type 0
+abbrev pub Keeps : Reading → Result Reading ℕ → Type 0
 Keeps r answer = IfOk answer (λ (s : Reading). counts s.arrays ≡ counts r.arrays)
 
 keeps_if : (r : Reading) (b : Bool) (then_this else_that : Result Reading ℕ) → Keeps r then_this → Keeps r else_that → Keeps r (cond b then_this else_that)
@@ -51,7 +51,7 @@ keeps_due arrays r line Opening =
 keeps_due arrays r line (Cell i place) = keeps_cell r i place (cell_of line)
 keeps_due arrays r line Nothing = tt
 
-keeps_line : (arrays : List ArrayLists) (r : Reading) (line : List ℕ) → Keeps r (line_read arrays r line)
+pub keeps_line : (arrays : List ArrayLists) (r : Reading) (line : List ℕ) → Keeps r (line_read arrays r line)
 unfolding line_read
 keeps_line arrays r line = keeps_due arrays r line r.due
 

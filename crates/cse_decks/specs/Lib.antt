@@ -1,5 +1,6 @@
 pub mod CellLine
 pub mod Deck
+pub mod DeckText
 pub mod Inside
 pub mod Loading
 pub mod Store

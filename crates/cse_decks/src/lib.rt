@@ -15,7 +15,7 @@ mod store;
 
 pub use error::DeckError;
 pub use global::GlobalValue;
-pub use laws::cell_lines;
+pub use laws::{cell_lines, deck_texts, saved_is_loaded};
 pub use loading::load;
 pub use saving::save;
 pub use store::Store;
