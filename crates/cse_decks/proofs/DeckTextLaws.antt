@@ -1,7 +1,30 @@
 -- Reading says yes of deck texts alone.
-use Rattle.cse_decks.specs.DeckText.{LoadsDeckTexts}
+use Rattle.std.proofs.Common.{◌≡◌, ℕ, List, Result, Ok, Err, ⊎_elim}
+use Rattle.std.specs.Prelude.{IfOk}
+use Rattle.cse_parts.specs.Image.{Image}
+use Rattle.cse_image.specs.Spelling.{Fits}
+use Rattle.cse_decks.specs.declared.error.DeckError.{DeckError}
+use Rattle.cse_decks.specs.Store.{Kept}
+use Rattle.cse_decks.specs.Loading.{Answers, loaded, out_of_memory}
+use Rattle.cse_decks.specs.DeckText.{IsDeckText, IsStore, LoadsDeckTexts}
 use Rattle.cse_decks.proofs.AcceptLaws.{deck_text_is_read}
 use Rattle.cse_decks.proofs.ToldLaws.{read_is_deck_text}
 
 pub loads_deck_texts : LoadsDeckTexts
 loads_deck_texts x text s fits = (read_is_deck_text x text s fits, deck_text_is_read x text s fits)
+
+-- ---- answers
+
+not_other : (s : Kept) (a : Result Kept DeckError) (e : DeckError) → a ≡ Ok s → a ≡ Err e → e ≡ out_of_memory
+not_other s a e h k = cc
+
+-- an answer of reading, unless memory ran out, is the store that the text says
+pub is_store : (x : Image) (text : List ℕ) (s : Kept) (answer : Result Kept DeckError) → Fits x → Answers (λ (k : Kept). k) answer (loaded x text) → IsDeckText x text s → IsStore s answer
+is_store x text s (Ok t) fits h says =
+    let same : loaded x text ≡ Ok s = deck_text_is_read x text s fits says in
+    let stores : t ≡ s = cc in stores
+is_store x text s (Err e) fits h says = ⊎_elim (λ k. k) (λ k. not_other s (loaded x text) e (deck_text_is_read x text s fits says) k) h
+
+pub says_store : (x : Image) (text : List ℕ) (answer : Result Kept DeckError) → Fits x → Answers (λ (k : Kept). k) answer (loaded x text) → IfOk answer (λ (s : Kept). IsDeckText x text s)
+says_store x text (Ok s) fits h = read_is_deck_text x text s fits h
+says_store x text (Err e) fits h = tt

@@ -125,7 +125,7 @@ first_arrays_are : (x : Image) → (first_kept x).arrays ≡ starting x.lists.ar
 unfolding first_kept
 first_arrays_are x = refl
 
-saved_is_deck_text : (x : Image) (s : Kept) → StoreFits x s → AllByRecursion CellsFit s.arrays → IsDeckText x (deck_text x s) (saved_kept x s)
+pub saved_is_deck_text : (x : Image) (s : Kept) → StoreFits x s → AllByRecursion CellsFit s.arrays → IsDeckText x (deck_text x s) (saved_kept x s)
 unfolding deck_text
 saved_is_deck_text x s fits cells =
     let arrays = x.lists.arrays in

@@ -2,7 +2,10 @@
 
 ghost use Rattle.std.specs.Prelude.{◌≡◌, map, IfOk};
 ghost use Rattle.cse_parts.specs.Image.{array_lists};
-ghost use Rattle.cse_decks.specs.Store.{StoreFits};
+ghost use Rattle.std.specs.List.{AllByRecursion};
+ghost use Rattle.cse_decks.specs.Store.{Kept, StoreFits};
+ghost use Rattle.cse_decks.specs.Deck.{deck_text};
+ghost use Rattle.cse_decks.specs.DeckText.{IsDeckText, IsStore, CellsFit, saved_kept};
 ghost use Rattle.cse_decks.specs.Loading.{Answers, read_text, loaded};
 
 use crate::cells::ArrayCells;
@@ -14,11 +17,29 @@ use crate::store::Store;
 use cse_image::{Array, Code, Program};
 use std::alloc::Global;
 
-/// The store that a program starts with, with the cells that stand in the text. The text has the form
-/// that `save` writes; arrays may lack, and may come in another order. Else the first line that is wrong,
-/// with its number.
-#[tactic(auto, unfolding(crate::specs::Loading::loaded))]
+/// The store that a program starts with, with the cells that stand in the text. The text is a heading,
+/// blocks of saved arrays, each array at most once and in any order, and an end, as `save` writes it. Else
+/// the first line that is wrong, with its number.
 pub fn load<C: Code>(alloc: Global, program: &Program<C>, text: &[u8]) -> Result<Store, DeckError>
+    ensures exact { Answers (λ s. s) result (loaded program.now text.now) }
+    ensures fits { IfOk result (λ s. StoreFits program.now s) }
+    ensures deck_text { IfOk result (λ s. IsDeckText program.now text.now s) }
+    ensures every_deck_text { (s : Kept) → IsDeckText program.now text.now s → IsStore s result }
+    ensures saved { (s : Kept) → StoreFits program.now s → AllByRecursion CellsFit s.arrays → text.now ≡ deck_text program.now s → IsStore (saved_kept program.now s) result }
+{
+    let tables = program.tables();
+    load_with(alloc, program, &tables.arrays, text)
+}
+
+/// The same, with the program's arrays.
+#[tactic(auto, unfolding(crate::specs::Loading::loaded))]
+fn load_with<C: Code>(
+    alloc: Global,
+    program: &Program<C>,
+    declared: &[Array],
+    text: &[u8],
+) -> Result<Store, DeckError>
+    requires { map array_lists declared.now ≡ program.now.lists.arrays }
     ensures exact { Answers (λ s. s) result (loaded program.now text.now) }
     ensures fits { IfOk result (λ s. StoreFits program.now s) }
 {
@@ -32,12 +53,7 @@ pub fn load<C: Code>(alloc: Global, program: &Program<C>, text: &[u8]) -> Result
         Err(_) => return Err(error_at(Stop::Memory, 0)),
     };
     let due = Due::Heading;
-    match read_text(
-        alloc,
-        program.arrays(),
-        Progress { due, arrays, came },
-        text,
-    ) {
+    match read_text(alloc, declared, Progress { due, arrays, came }, text) {
         Ok(arrays) => Ok(Store::with(globals, arrays)),
         Err(error) => Err(error),
     }
