@@ -1,11 +1,11 @@
 -- Each deck text of a program is read, and gives what it says.
-use Rattle.std.proofs.Common.{◌≡◌, ℕ, zero, suc, ◌+◌, ◌<◌, ◌≤◌, Bool, true, false, cond, List, [], ◌∷◌, ◌++◌, length, get_or, set, replicate, Option, Some, None, Result, Ok, Err, refl, ap, sym, ◌∙◌, subst, append_assoc, arith}
-use Rattle.std.specs.Prelude.{map, slice_get, ◌&&◌, nat_eq}
-use Rattle.std.specs.List.{AllByRecursion, flat_map, slice_index_or, IsDistinct}
+use Rattle.std.proofs.Common.{◌≡◌, ℕ, zero, suc, ◌+◌, ◌<◌, Bool, true, false, cond, List, [], ◌∷◌, ◌++◌, length, set, replicate, Option, Some, None, Result, Ok, Err, refl, ap, sym, ◌∙◌, append_assoc, arith}
+use Rattle.std.specs.Prelude.{map, slice_get, ◌&&◌}
+use Rattle.std.specs.List.{AllByRecursion, flat_map, slice_index_or}
 use Rattle.std.specs.Option.{option_map_or}
 use Rattle.std.specs.Str.{bytes_eq}
 use Rattle.std.proofs.lemmas.Bool.{cond-true, cond-false, and_from}
-use Rattle.std.proofs.lemmas.List.{set-get_or, length-map}
+use Rattle.std.proofs.lemmas.List.{set-get_or}
 use Rattle.std.proofs.lemmas.Slice.Eq.{bytes_eq-Decides}
 use Rattle.cse_value.specs.declared.number.Num.{Num}
 use Rattle.cse_parts.specs.Image.{Image, ArrayLists}
@@ -13,15 +13,15 @@ use Rattle.cse_codec.specs.Reader.{AllAfter}
 use Rattle.cse_image.specs.Spelling.{ArrayFits, Fits}
 use Rattle.cse_output.specs.Gathering.{line}
 use Rattle.cse_decks.specs.declared.due.Due.{Due}
-use Rattle.cse_decks.specs.declared.due.Due.TheVariants.{Heading, Opening, Cell, Nothing}
+use Rattle.cse_decks.specs.declared.due.Due.TheVariants.{Opening, Nothing}
 use Rattle.cse_decks.specs.declared.error.DeckError.{DeckError}
 use Rattle.cse_decks.specs.declared.global.GlobalValue.{GlobalValue}
-use Rattle.cse_decks.specs.Store.{Kept, cell_count, first_kept, first_cells}
+use Rattle.cse_decks.specs.Store.{Kept, cell_count, first_kept}
 use Rattle.cse_decks.specs.Deck.{heading, ending, array_line, block, cell_line}
-use Rattle.cse_decks.specs.DeckText.{HotDeck, CellsFit, IsDeckOf, IsDeckOfEntry, DeckFits, lines_of, with_decks, IsDeckText}
-use Rattle.cse_decks.specs.Loading.{Reading, due_at, is_open, opening, opened, marked, by_entry, by_place, named, is_array_line, array_read, by_due, line_read, go_on, read_text, unread, with_arrays, loaded}
+use Rattle.cse_decks.specs.DeckText.{HotDeck, IsDeckOfEntry, DeckFits, lines_of, with_decks, IsDeckText}
+use Rattle.cse_decks.specs.Loading.{Reading, due_at, is_open, opening, marked, by_entry, by_place, is_array_line, array_read, line_read, go_on, read_text, unread, with_arrays, loaded}
 use Rattle.cse_decks.proofs.ArrayLineLaws.{array_line_is, array_line_one, named_is, fits_at, there}
-use Rattle.cse_decks.proofs.FillLaws.{filling, filled, cells_then}
+use Rattle.cse_decks.proofs.FillLaws.{cells_then}
 use Rattle.cse_decks.proofs.LineLaws.{read_line}
 use Rattle.cse_decks.proofs.LoadLaws.{counts}
 use Rattle.cse_decks.proofs.OnceLaws.{Once, Open, once_distinct, open_first}

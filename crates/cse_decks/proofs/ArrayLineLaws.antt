@@ -1,12 +1,12 @@
 -- The line before an array's cells: it has the form of one, and names the array.
-use Rattle.std.proofs.Common.{◌≡◌, ℕ, zero, suc, ◌+◌, ◌-◌, ◌^◌, ◌<◌, ◌≤◌, Bool, true, false, not, cond, eqb, List, [], ◌∷◌, ◌++◌, length, take, drop, get_or, Option, Some, None, refl, ap, sym, ◌∙◌, subst, append_assoc, append-nil, length-append, arith, rules}
-use Rattle.std.specs.Prelude.{ℤ, pos, negsuc, codes, nat_lt, nat_le, nat_eq, position, slice_get, slice_index, unwrap_or, ◌&&◌, ◌||◌}
+use Rattle.std.proofs.Common.{◌≡◌, ℕ, zero, suc, ◌+◌, ◌^◌, ◌<◌, ◌≤◌, Bool, true, false, not, cond, eqb, List, [], ◌∷◌, ◌++◌, length, take, drop, get_or, Option, Some, None, refl, ap, sym, ◌∙◌, subst, length-append, arith, rules}
+use Rattle.std.specs.Prelude.{pos, negsuc, codes, nat_lt, nat_le, nat_eq, position, slice_get, slice_index, unwrap_or, ◌&&◌, ◌||◌}
 use Rattle.std.specs.List.{AllByRecursion, flat_map, list_all, list_any, position_or_len, starts_with}
 use Rattle.std.specs.Option.{option_map_or}
 use Rattle.std.specs.Str.{bytes_eq}
 use Rattle.std.specs.Char.{is_ascii_digit}
-use Rattle.std.specs.Fmt.{decimal, signed_decimal}
-use Rattle.std.proofs.lemmas.Bool.{and_parts, and_from, or_parts, or_left, or_right, not_from_false, not-true, cond-true, cond-false, ltb-true, ltb-false, lt-ltb, ne_eqb}
+use Rattle.std.specs.Fmt.{decimal}
+use Rattle.std.proofs.lemmas.Bool.{and_parts, and_from, or_parts, or_left, or_right, not-true, cond-true, cond-false, ltb-true, ltb-false, lt-ltb, ne_eqb}
 use Rattle.std.proofs.lemmas.Bool.Decides.{nat_tests}
 use Rattle.std.proofs.lemmas.List.{take_at, drop_at}
 use Rattle.std.proofs.lemmas.List.Folds.{list_any-append}
@@ -15,13 +15,11 @@ use Rattle.std.proofs.lemmas.Fmt.{digits_decimal, decimal_nonempty, first_decima
 use Rattle.cse_value.specs.declared.number.Num.{Num}
 use Rattle.cse_value.specs.declared.number.Num.TheVariants.{Whole, NotAppl, Missing, Undef}
 use Rattle.cse_value.specs.Field.{shown, fits_num}
-use Rattle.cse_value.specs.Number.{fits_i64}
 use Rattle.cse_parts.specs.Image.{ArrayLists}
 use Rattle.cse_parts.specs.Texts.{is_name, is_name_char, is_upper, is_new}
 use Rattle.cse_parts.specs.Fields.{is_dimension_count}
 use Rattle.cse_codec.specs.Reader.{AllAfter}
 use Rattle.cse_image.specs.Spelling.{ArrayFits, DimensionFits}
-use Rattle.cse_output.specs.Gathering.{line}
 use Rattle.cse_decks.specs.Deck.{size_word, array_line}
 use Rattle.cse_decks.specs.Loading.{blank_place, word, after_word, is_plain, after_size, ends_or, sized, are_sizes, is_array_line, named}
 use Rattle.cse_decks.proofs.CellLaws.{numerals}

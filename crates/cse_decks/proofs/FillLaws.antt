@@ -1,19 +1,18 @@
 -- Reading the cells of an array: line by line they take the places of the cells that were there.
-use Rattle.std.proofs.Common.{◌≡◌, ℕ, zero, suc, ◌+◌, ◌-◌, ◌<◌, ◌≤◌, Bool, true, false, cond, eqb, List, [], ◌∷◌, ◌++◌, length, take, drop, get_or, set, Option, Some, None, Result, Ok, Err, refl, ap, sym, ◌∙◌, subst, append_assoc, append-nil, length-append, add-one, arith}
-use Rattle.std.specs.Prelude.{map, nat_lt}
-use Rattle.std.specs.List.{AllByRecursion, flat_map, slice_index_or}
+use Rattle.std.proofs.Common.{◌≡◌, ℕ, ◌+◌, ◌<◌, ◌≤◌, Bool, true, List, [], ◌∷◌, ◌++◌, length, set, Option, Result, Ok, refl, ap, sym, ◌∙◌, append_assoc, length-append, arith}
+use Rattle.std.specs.Prelude.{nat_lt}
+use Rattle.std.specs.List.{flat_map, slice_index_or}
 use Rattle.std.proofs.lemmas.Bool.{cond-true, cond-false, lt-ltb, le-ltb}
-use Rattle.std.proofs.lemmas.List.{set-set, get_or-set_same, length-set, nil_from_length}
+use Rattle.std.proofs.lemmas.List.{set-set, get_or-set_same, length-set}
 use Rattle.cse_value.specs.declared.number.Num.{Num}
 use Rattle.cse_value.specs.Field.{shown, fits_num}
 use Rattle.cse_parts.specs.Image.{ArrayLists}
-use Rattle.cse_output.specs.Gathering.{line}
 use Rattle.cse_decks.specs.declared.due.Due.{Due}
-use Rattle.cse_decks.specs.declared.due.Due.TheVariants.{Heading, Opening, Cell, Nothing}
+use Rattle.cse_decks.specs.declared.due.Due.TheVariants.{Opening, Cell}
 use Rattle.cse_decks.specs.declared.error.DeckError.{DeckError}
 use Rattle.cse_decks.specs.Deck.{cell_line}
 use Rattle.cse_decks.specs.DeckText.{CellsFit}
-use Rattle.cse_decks.specs.Loading.{Reading, due_at, by_due, line_read, cell_of, cell_read, go_on, read_text}
+use Rattle.cse_decks.specs.Loading.{Reading, due_at, by_due, line_read, cell_read, go_on, read_text}
 use Rattle.cse_decks.proofs.CellLaws.{reads_cells}
 use Rattle.cse_decks.proofs.ArrayLineLaws.{shown_one}
 use Rattle.cse_decks.proofs.LineLaws.{read_line}

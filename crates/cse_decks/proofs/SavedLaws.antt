@@ -1,15 +1,14 @@
 -- The text that is saved is a deck text, and says what was saved.
-use Rattle.std.proofs.Common.{◌≡◌, ℕ, zero, suc, ◌+◌, ◌<◌, ◌≤◌, Bool, true, false, cond, eqb, List, [], ◌∷◌, ◌++◌, length, set, Option, Some, None, Result, Ok, refl, ap, sym, ◌∙◌, subst, append_assoc, append-nil, zero-add, length-append, arith}
+use Rattle.std.proofs.Common.{◌≡◌, ℕ, zero, suc, ◌+◌, ◌<◌, Bool, true, false, cond, List, [], ◌∷◌, ◌++◌, length, set, Option, Some, refl, ap, sym, ◌∙◌, subst, append_assoc, zero-add, length-append, arith}
 use Rattle.std.specs.Prelude.{map, slice_get, nat_eq}
 use Rattle.std.specs.List.{AllByRecursion, flat_map, IsDistinct}
 use Rattle.std.specs.Option.{option_map_or}
 use Rattle.std.proofs.lemmas.Bool.{ne_eqb}
 use Rattle.cse_value.specs.declared.number.Num.{Num}
 use Rattle.cse_parts.specs.Image.{Image, ArrayLists}
-use Rattle.cse_image.specs.Spelling.{Fits}
 use Rattle.cse_output.specs.Gathering.{line}
 use Rattle.cse_decks.specs.Store.{Kept, StoreFits, cell_count, first_cells, first_kept}
-use Rattle.cse_decks.specs.Deck.{heading, ending, block, saved_block, blocks, deck_text}
+use Rattle.cse_decks.specs.Deck.{heading, ending, block, blocks, deck_text}
 use Rattle.cse_decks.specs.DeckText.{HotDeck, CellsFit, IsDeckOf, IsDeckOfEntry, DeckFits, lines_of, with_decks, IsDeckText, saved_cells, saved_kept, LoadsWhatWasSaved}
 use Rattle.cse_decks.proofs.AcceptLaws.{counts_of, deck_text_is_read}
 use Rattle.cse_decks.proofs.LoadLaws.{counts}

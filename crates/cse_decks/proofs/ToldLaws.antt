@@ -1,11 +1,11 @@
 -- Each text that is read is a deck text of the program, and says what was read.
-use Rattle.std.proofs.Common.{◌≡◌, ℕ, zero, suc, ◌+◌, ◌<◌, ◌≤◌, Bool, true, false, cond, eqb, List, [], ◌∷◌, ◌++◌, length, take, get_or, set, replicate, Option, Some, None, Result, Ok, Err, refl, ap, sym, ◌∙◌, subst, append_assoc, append-nil, arith}
-use Rattle.std.specs.Prelude.{map, slice_get, nat_lt, ◌&&◌, nat_eq, IfOk}
-use Rattle.std.specs.List.{AllByRecursion, flat_map, slice_index_or, IsDistinct}
+use Rattle.std.proofs.Common.{◌≡◌, ℕ, zero, suc, ◌+◌, ◌<◌, ◌≤◌, Bool, true, false, cond, eqb, List, [], ◌∷◌, ◌++◌, length, take, set, Option, Some, None, Result, Ok, Err, refl, ap, sym, ◌∙◌, subst, append_assoc, append-nil, arith}
+use Rattle.std.specs.Prelude.{slice_get, nat_lt, ◌&&◌, IfOk}
+use Rattle.std.specs.List.{AllByRecursion, flat_map, slice_index_or}
 use Rattle.std.specs.Option.{option_map_or}
 use Rattle.std.specs.Str.{bytes_eq}
-use Rattle.std.proofs.lemmas.Bool.{and_parts, cond-true, cond-false, ltb-true, ltb-false, eqb-true}
-use Rattle.std.proofs.lemmas.List.{set-set, set-get_or, get_or-set_same, set_past, take_more_set, length-set, nil_from_length, take_all}
+use Rattle.std.proofs.lemmas.Bool.{and_parts, ltb-true, ltb-false, eqb-true}
+use Rattle.std.proofs.lemmas.List.{set-set, set-get_or, get_or-set_same, take_more_set, length-set, nil_from_length, take_all}
 use Rattle.std.proofs.lemmas.Slice.Eq.{bytes_eq-Decides}
 use Rattle.cse_value.specs.declared.number.Num.{Num}
 use Rattle.cse_value.specs.Field.{shown, fits_num}
@@ -15,12 +15,12 @@ use Rattle.cse_output.specs.Gathering.{line}
 use Rattle.cse_decks.specs.declared.due.Due.{Due}
 use Rattle.cse_decks.specs.declared.due.Due.TheVariants.{Heading, Opening, Cell, Nothing}
 use Rattle.cse_decks.specs.declared.error.DeckError.{DeckError}
-use Rattle.cse_decks.specs.Store.{Kept, cell_count, first_kept}
+use Rattle.cse_decks.specs.Store.{Kept, first_kept}
 use Rattle.cse_decks.specs.Deck.{heading, ending, array_line, block, cell_line}
 use Rattle.cse_decks.specs.DeckText.{HotDeck, CellsFit, IsDeckOf, IsDeckOfEntry, DeckFits, lines_of, with_decks, IsDeckText}
 use Rattle.cse_decks.specs.Inside.{CellInside}
-use Rattle.cse_decks.specs.Loading.{Reading, due_at, is_open, with_due, opening, marked, opened, by_entry, by_place, named, is_array_line, array_read, cell_of, cell_read, heading_read, opening_read, by_due, line_read, go_on, fault, lacking, is_done, ended, cut, read_from, read_text, unread, with_arrays, loaded}
-use Rattle.cse_decks.proofs.AcceptLaws.{counts_of, count_at, counts-set, at_opening}
+use Rattle.cse_decks.specs.Loading.{Reading, due_at, is_open, opening, marked, by_entry, by_place, named, is_array_line, array_read, cell_of, cell_read, by_due, line_read, go_on, fault, ended, cut, read_from, read_text, unread, with_arrays, loaded}
+use Rattle.cse_decks.proofs.AcceptLaws.{counts_of, count_at, at_opening}
 use Rattle.cse_decks.proofs.CellLaws.{reads_nothing_else, reads_fitting}
 use Rattle.cse_decks.proofs.LineLaws.{uncut, uncut-cut}
 use Rattle.cse_decks.proofs.LoadLaws.{counts, keeps_line}
@@ -178,14 +178,14 @@ end_step : (arrays : List ArrayLists) (base : List (List Num)) (came : List Bool
 end_step arrays base came l s is same = record {
   inside = subst (λ (r : Reading). CellInside r.arrays r.due) same tt;
   says = λ more after says.
-    let end : (more ≡ []) × (after ≡ base) = subst (λ (r : Reading). Says arrays r more after) (sym same) says in
-    record {
-      decks = [];
-      fit = tt;
-      once = tt;
-      text_is = ap (λ (m : List ℕ). line m ++ more) is ∙ ap (λ (m : List ℕ). line ending ++ m) end.0;
-      after_is = end.1;
-    };
+      let end : (more ≡ []) × (after ≡ base) = subst (λ (r : Reading). Says arrays r more after) (sym same) says in
+      record {
+        decks = [];
+        fit = tt;
+        once = tt;
+        text_is = ap (λ (m : List ℕ). line m ++ more) is ∙ ap (λ (m : List ℕ). line ending ++ m) end.0;
+        after_is = end.1;
+      };
 }
 
 -- ---- the line of an array
@@ -226,8 +226,8 @@ begun_step arrays base came i a l s same e is saved open_yet new =
     record {
       inside = subst (λ (r : Reading). CellInside r.arrays r.due) new (inside_due base i 0 count (nat_lt 0 count) refl refl);
       says = λ more after says.
-        deck_more arrays base came i a l more after same e is saved open_yet
-        (filled_from arrays base (set came i true) i 0 more after (nat_lt 0 count) refl (omega arith) (subst (λ (r : Reading). Says arrays r more after) (sym new) says));
+          deck_more arrays base came i a l more after same e is saved open_yet
+          (filled_from arrays base (set came i true) i 0 more after (nat_lt 0 count) refl (omega arith) (subst (λ (r : Reading). Says arrays r more after) (sym new) says));
     }
 
 by_tests : (arrays : List ArrayLists) (base : List (List Num)) (came : List Bool) (i : ℕ) (a : ArrayLists) (l : List ℕ) (s : Reading) (b c : Bool)
@@ -326,7 +326,7 @@ is_deck_text x text s (Ok after) fits is h =
       fit = t.fit;
       once = (distinct_once (unread x).came t.decks t.once).0;
       text_is =
-      sym (uncut-cut text) ∙ (says.text_is ∙ (ap (λ (m : List ℕ). line heading ++ m) t.text_is ∙ sym (append_assoc (line heading) (flat_map (lines_of arrays) t.decks) (line ending))));
+          sym (uncut-cut text) ∙ (says.text_is ∙ (ap (λ (m : List ℕ). line heading ++ m) t.text_is ∙ sym (append_assoc (line heading) (flat_map (lines_of arrays) t.decks) (line ending))));
       globals = sym (ap (λ (k : Kept). k.globals) same);
       arrays = sym (ap (λ (k : Kept). k.arrays) same) ∙ t.after_is;
     }
