@@ -1,20 +1,23 @@
 -- Steps of the one call that runs, and where they lead.
-use Rattle.std.proofs.Common.{◌≡◌, ℕ, ◌+◌, ◌<◌, List, [], ◌∷◌, Option, Some, None, Bool, true, false, cond, refl, ap, sym, ◌∙◌, subst, arith, inl, inr, ◌⊎◌, add-one, eqb}
-use Rattle.std.specs.Prelude.{slice_get, option_map, option_and_then, not, ◌&&◌, ◌||◌, nat_lt}
-use Rattle.std.proofs.lemmas.Bool.Decides.{nat_tests}
+use Rattle.std.proofs.Common.{◌≡◌, ℕ, ◌+◌, ◌<◌, List, [], ◌∷◌, length, Option, Some, None, Bool, true, false, cond, refl, ap, sym, ◌∙◌, subst, arith, inl, inr, ◌⊎◌, add-one}
+use Rattle.std.specs.Prelude.{◌==◌, slice_get, option_map, option_and_then}
 use Rattle.cse_value.specs.Number.{is_condition}
 use Rattle.cse_parts.specs.declared.instruction.Op.{Op}
 use Rattle.cse_parts.specs.declared.instruction.Op.TheVariants as ops
 use Rattle.cse_parts.specs.declared.instruction.Instr.{Instr}
 use Rattle.cse_parts.specs.declared.entries.Local.{Local}
 use Rattle.cse_parts.specs.Image.{Image, RoutineLists}
-use Rattle.cse_verify.specs.Code.{code_of}
-use Rattle.cse_verify.specs.Jumps.{is_return, may_jump, is_bracket, leads_on, ends_well, keeps_rules}
+use Rattle.cse_value.specs.declared.shape.RecordShape.{RecordShape}
+use Rattle.cse_typing.specs.declared.control.Control.{Control}
+use Rattle.cse_typing.specs.declared.control.Control.TheVariants.{Step, Branch, Return}
+use Rattle.cse_typing.specs.Code.{code_of}
+use Rattle.cse_typing.specs.Skeleton.{control_by, control}
+use Rattle.cse_typing.specs.Bracket.{IsJump, IsFine, IsFineAt}
 use Rattle.csbatch.specs.declared.cell.Cell.{Cell}
 use Rattle.cse_value.specs.declared.number.Num.{Num}
 use Rattle.csbatch.specs.State.{Call, Store, Reports, State}
 use Rattle.csbatch.specs.Values.{index_of, top_number, calculated}
-use Rattle.csbatch.specs.Step.{Here, here, next, moved, branched, indexed, index_made, acted, stepped, call_step, returned, resumed, is_event_routine, step}
+use Rattle.csbatch.specs.Step.{Here, here, next, moved, branched, indexed, index_made, acted, stepped, call_step, is_return, returned, resumed, is_event_routine, step}
 use Rattle.csbatch.specs.Run.{run}
 
 -- the state of one call alone
@@ -58,6 +61,15 @@ step_returns x head c s r i there fits at is =
     ∙ ap (λ b. cond b (returned c.cells [] s r) (option_map (resumed c.routine []) (acted x head.locals i.op i (here c s r)))) is
 
 -- ---- where an instruction leads
+
+-- the instruction may lead to the place in its field c
+unfoldable pub may_jump : Op → ℕ → Bool
+may_jump ops.Jump a = true
+may_jump ops.JumpUnless a = true
+may_jump ops.Index a = true
+may_jump ops.Occurrence a = true
+may_jump ops.Row a = a == 0
+may_jump op a = false
 
 -- to the next place, or where it may jump to the place in its field
 abbrev pub Leads : Op → Instr → Here → Here → Type 0
@@ -111,39 +123,36 @@ acted_leads x d ops.Message i h after e = mapped _ (Leads ops.Message i h) _ aft
 acted_leads x d ops.Pop i h after e = mapped _ (Leads ops.Pop i h) _ after (λ a. inl refl) e
 acted_leads x d o i h after e = mapped (next h) (Leads o i h) (calculated o i.a h.cells) after (λ cells. inl refl) e
 
-both_true : (a b : Bool) → (a && b) ≡ true → (a ≡ true) × (b ≡ true)
-both_true true true e = (refl, refl)
-both_true true false e = cc
-both_true false b e = cc
+-- ---- what the rules of jumps give
 
-not_or : (a b : Bool) → (not a || b) ≡ true → b ≡ false → a ≡ false
-not_or true b e f = cc
-not_or false b e f = refl
+-- an instruction that may jump does so by the rule of jumps
+jumps_so : (code : List Control) (records : List RecordShape) (place : ℕ) (o : Op) (a b c : ℕ) → may_jump o a ≡ true → IsFine code place (control_by records o a b c) → IsJump code place c
+unfolding may_jump control_by
+jumps_so code records place ops.Jump a b c may fine = fine
+jumps_so code records place ops.JumpUnless a b c may fine = fine
+jumps_so code records place ops.Index a b c may fine = fine
+jumps_so code records place ops.Occurrence a b c may fine = fine
+jumps_so code records place ops.Row a b c may fine = subst (λ v. IsFine code place (cond v (Branch c) Step)) may fine
+jumps_so code records place o a b c may fine = cc
 
-implied : (a b : Bool) → (not a || b) ≡ true → a ≡ true → b ≡ true
-implied true b e f = e
-implied false b e f = cc
+no_return : (c : ℕ) (b : Bool) → cond b (Branch c) Step ≡ Return → ⊥
+no_return c true e = cc
+no_return c false e = cc
 
-not_equal : (a b : ℕ) → eqb a b ≡ false → a ≡ b → ⊥
-not_equal a b e f = grind (arith, nat_tests)
-
-below : (a b : ℕ) → nat_lt a b ≡ true → a < b
-below a b e = grind (arith, nat_tests)
+-- what returns in the skeleton is a Return
+returns_by : (records : List RecordShape) (o : Op) (a b c : ℕ) → control_by records o a b c ≡ Return → is_return o ≡ true
+unfolding control_by is_return
+returns_by records ops.Return a b c e = refl
+returns_by records ops.Row a b c e = absurd (no_return c (a == 0) e)
+returns_by records o a b c e = cc
 
 -- where the rules hold, a place of the routine follows
-stays : (size : ℕ) (i : Instr) (h after : Here) → leads_on size h.place i ≡ true → ends_well size h.place i ≡ true → is_return i.op ≡ false
-    → h.place < size → Leads i.op i h after → (h.place < after.place) × (after.place < size)
-stays size i h after leads ends other within (inl p) =
-    let last = not_equal (h.place + 1) size (not_or (eqb (h.place + 1) size) (is_return i.op) ends other) in
-    (omega arith, omega (arith, last))
-stays size i h after leads ends other within (inr p) =
-    let ahead = both_true (nat_lt h.place i.c) (nat_lt i.c size) (implied (may_jump i.op i.a) (nat_lt h.place i.c && nat_lt i.c size) leads p.0) in
-    (omega (arith, p.1, below h.place i.c ahead.0), omega (arith, p.1, below i.c size ahead.1))
-
-pub goes_on : (x : Image) (d : List Local) (size : ℕ) (i : Instr) (h after : Here) → keeps_rules size h.place i ≡ true → is_return i.op ≡ false
-    → h.place < size → acted x d i.op i h ≡ Some after → (h.place < after.place) × (after.place < size)
-unfolding keeps_rules
-goes_on x d size i h after rules other within acts =
-    let both = both_true (not (is_bracket i.op)) (leads_on size h.place i && ends_well size h.place i) rules in
-    let two = both_true (leads_on size h.place i) (ends_well size h.place i) both.1 in
-    stays size i h after two.0 two.1 other within (acted_leads x d i.op i h after acts)
+pub goes_on : (x : Image) (d : List Local) (code : List Control) (size : ℕ) (i : Instr) (h after : Here) → IsFineAt code h.place (control x.lists.records i)
+    → length code ≡ size → is_return i.op ≡ false → h.place < size → acted x d i.op i h ≡ Some after → (h.place < after.place) × (after.place < size)
+goes_on x d code size i h after fine long other within acts =
+    elim (acted_leads x d i.op i h after acts) [
+      | inl p ↦ let inside : h.place + 1 ≡ length code → ⊥ = λ e. let yes = returns_by x.lists.records i.op i.a i.b i.c (fine.1 e) in cc in
+          (omega arith, omega (arith, inside))
+      | inr p ↦ let ahead = jumps_so code x.lists.records h.place i.op i.a i.b i.c p.0 fine.0 in
+          (omega (arith, p.1, ahead.0), omega (arith, p.1, ahead.1, long))
+    ]

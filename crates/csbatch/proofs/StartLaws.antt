@@ -3,7 +3,7 @@ use Rattle.std.proofs.Common.{◌≡◌, ℕ, List, [], ◌∷◌, length, Some,
 use Rattle.std.specs.Prelude.{slice_get, option_and_then, replicate, map}
 use Rattle.cse_value.specs.declared.number.Num.{Num}
 use Rattle.cse_parts.specs.Image.{Image, RoutineLists}
-use Rattle.cse_verify.specs.Code.{code_of}
+use Rattle.cse_typing.specs.Code.{code_of}
 use Rattle.csbatch.specs.declared.cell.Cell.{Cell}
 use Rattle.csbatch.specs.declared.run.TryEnd.{TryEnd}
 use Rattle.csbatch.specs.declared.run.TryEnd.TheVariants.{Trap}

@@ -1,17 +1,20 @@
 -- How a run goes from one turn of the machine's loop to the next, and how it ends.
 use Rattle.std.proofs.Common.{◌≡◌, ℕ, ◌+◌, ◌<◌, ◌≤◌, List, [], ◌∷◌, length, Some, None, true, false, Bool, ◌-◌, refl, ap, sym, ◌∙◌, subst, arith}
 use Rattle.std.specs.Prelude.{slice_get}
+use Rattle.std.specs.Option.{option_map}
+use Rattle.std.proofs.lemmas.List.{length-map}
+use Rattle.std.proofs.lemmas.Option.{slice_get-map}
 use Rattle.cse_parts.specs.declared.instruction.Instr.{Instr}
 use Rattle.cse_parts.specs.Image.{Image, RoutineLists}
-use Rattle.cse_verify.specs.Code.{code_of}
-use Rattle.cse_verify.specs.Jumps.{is_return, keeps_rules}
-use Rattle.cse_verify.proofs.CodeLaws.{part_at, length-part, part_is, lies_within}
+use Rattle.cse_typing.specs.Code.{code_of}
+use Rattle.cse_typing.specs.Skeleton.{control, skeleton_of}
+use Rattle.cse_typing.proofs.CodeLaws.{part_at, length-part, part_is, lies_within}
 use Rattle.csbatch.specs.declared.cell.Cell.{Cell}
 use Rattle.csbatch.specs.State.{Call, Store, Reports, State}
 use Rattle.cse_parts.specs.declared.entries.Local.{Local}
 use Rattle.csbatch.specs.declared.run.TryEnd.{TryEnd}
 use Rattle.csbatch.specs.Values.{if_true}
-use Rattle.csbatch.specs.Step.{Here, here, acted, resumed}
+use Rattle.csbatch.specs.Step.{Here, here, is_return, acted, resumed}
 use Rattle.csbatch.specs.Run.{run, TrapsAt}
 use Rattle.csbatch.specs.Tried.{Goes, IsReady, end_at}
 use Rattle.csbatch.proofs.RunLaws.{one, run_more, step_acts, step_returns, goes_on}
@@ -32,6 +35,15 @@ instr_is x routine start place head i ready h e =
     ap (λ (l : List Instr). slice_get l place) (sym (part_is x routine start head ready.there ready.begins))
     ∙ (part_at start head.instructions x.code place h ∙ e)
 
+-- the skeleton of the routine has its size
+skeleton_size : (x : Image) (routine start : ℕ) (head : RoutineLists) → IsReady x routine head start → length (skeleton_of x routine) ≡ head.instructions
+skeleton_size x routine start head ready = length-map (code_of x routine) (control x.lists.records) ∙ size_is x routine start head ready
+
+-- what stands at a place of the skeleton
+control_at : (x : Image) (routine place : ℕ) (i : Instr) → slice_get (code_of x routine) place ≡ Some i → slice_get (skeleton_of x routine) place ≡ Some (control x.lists.records i)
+control_at x routine place i at =
+    slice_get-map (control x.lists.records) (code_of x routine) place ∙ ap (option_map (control x.lists.records)) at
+
 -- A call that keeps running: an instruction other than Return had a step.
 pub moves : (x : Image) (from : State) (n start : ℕ) (head : RoutineLists) (c : Call) (s : Store) (r : Reports) (i : Instr) (after : Here)
     → IsReady x c.routine head start → run x n from ≡ Some (one c s r) → slice_get (code_of x c.routine) c.place ≡ Some i → is_return i.op ≡ false
@@ -44,9 +56,10 @@ pub leads : (x : Image) (start : ℕ) (head : RoutineLists) (c : Call) (s : Stor
     → IsReady x c.routine head start → slice_get (code_of x c.routine) c.place ≡ Some i → is_return i.op ≡ false → c.place < head.instructions
     → acted x head.locals i.op i (here c s r) ≡ Some after → (c.place < after.place) × (after.place < head.instructions)
 leads x start head c s r i after ready at other h acts =
-    let rules = ready.jumps c.place i at in
-    let rules' : keeps_rules head.instructions c.place i ≡ true = ap (λ n. keeps_rules n c.place i) (sym (size_is x c.routine start head ready)) ∙ rules in
-    goes_on x head.locals head.instructions i (here c s r) after rules' other h acts
+    let long = skeleton_size x c.routine start head ready in
+    let within : c.place < length (skeleton_of x c.routine) = omega (arith, long) in
+    let rules = ready.rules c.place within (control x.lists.records i) (control_at x c.routine c.place i at) in
+    goes_on x head.locals (skeleton_of x c.routine) head.instructions i (here c s r) after rules long other h acts
 
 -- An instruction without a step.
 pub traps : (x : Image) (from : State) (n start : ℕ) (head : RoutineLists) (c : Call) (s : Store) (r : Reports) (i : Instr) (listed : List ℕ)

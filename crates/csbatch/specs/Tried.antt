@@ -7,10 +7,12 @@ use Rattle.cse_parts.specs.Fields.{instructions_in}
 use Rattle.cse_image.specs.Spelling.{Spells}
 use Rattle.cse_image.specs.Reading.{reading}
 use Rattle.cse_image.specs.Place.{placed}
-use Rattle.cse_verify.specs.declared.refusal.Refusal.{Refusal}
-use Rattle.cse_verify.specs.declared.refusal.TheConstants.{NONE}
-use Rattle.cse_verify.specs.Code.{start_of, code_of}
-use Rattle.cse_verify.specs.Jumps.{KeepsRules, KeepsJumps, BreaksJumps}
+use Rattle.cse_typing.specs.declared.refusal.Refusal.{Refusal}
+use Rattle.cse_typing.specs.declared.refusal.TheConstants.{NONE}
+use Rattle.cse_typing.specs.Code.{start_of}
+use Rattle.cse_typing.specs.Skeleton.{skeleton_of}
+use Rattle.cse_typing.specs.Bracket.{KeepsRules}
+use Rattle.cse_typing.specs.Rules.{AllKeepRules, BreaksRulesAt}
 use Rattle.csbatch.specs.declared.run.TryEnd.{TryEnd}
 use Rattle.csbatch.specs.declared.run.TryEnd.TheVariants.{Ended, Trap}
 use Rattle.csbatch.specs.declared.try_image.TryFault.{TryFault}
@@ -32,12 +34,12 @@ abbrev pub end_at : ℕ → ℕ → ℕ → ℕ → TryEnd
 end_at routine place steps zero = Ended (steps + 1)
 end_at routine place steps (suc cells) = Trap routine place
 
--- The routine is there, fits the event, and keeps the rules of jumps; its code begins at start.
+-- The routine is there, fits the event, and keeps the rules of jumps and brackets; its code begins at start.
 pub record IsReady (x : Image) (routine : ℕ) (head : RoutineLists) (start : ℕ) : Type 0 where
   pub there : slice_get x.lists.routines routine ≡ Some head
   pub fits : is_event_routine head ≡ true
   pub begins : start ≡ start_of x.lists.routines routine
-  pub jumps : KeepsRules (code_of x routine)
+  pub rules : KeepsRules (skeleton_of x routine)
   pub whole : length x.code ≡ instructions_in x.lists.routines
   pub some : 1 ≤ head.instructions
 
@@ -60,7 +62,7 @@ pub record Runs (bytes : List ℕ) (end : TryEnd) : Type 0 where
   pub program : Image
   pub spells : Spells program bytes
   pub shapeless : is_shapeless program ≡ true
-  pub jumps : KeepsJumps program
+  pub rules : AllKeepRules program
   pub listed : List ℕ
   pub goes : GoesPreproc program end listed
 
@@ -75,18 +77,18 @@ pub record RefusedByShape (bytes : List ℕ) (r : Refusal) : Type 0 where
   pub shape : is_shapeless program ≡ false
   pub is : r ≡ record { number = 68; routine = NONE; at = NONE }
 
--- The program has no shape, and breaks the rules of jumps at this place first.
-pub record RefusedByJumps (bytes : List ℕ) (r : Refusal) : Type 0 where
+-- The program has no shape, and breaks the rules of jumps and brackets at this place first.
+pub record RefusedByRules (bytes : List ℕ) (r : Refusal) : Type 0 where
   pub program : Image
   pub spells : Spells program bytes
   pub shapeless : is_shapeless program ≡ true
   pub number : r.number ≡ 65
-  pub breaks : BreaksJumps program r.routine r.at
+  pub breaks : BreaksRulesAt program r.routine r.at
 
 -- Why there is no run: nothing was printed.
 abbrev pub IsRefused : List ℕ → TryFault → Type 0
 IsRefused bytes (faults.Image e) = placed (length bytes) (reading bytes) ≡ Err e
-IsRefused bytes (faults.Refused r) = RefusedByShape bytes r ⊎ RefusedByJumps bytes r
+IsRefused bytes (faults.Refused r) = RefusedByShape bytes r ⊎ RefusedByRules bytes r
 IsRefused bytes faults.Write = ⊥
 IsRefused bytes faults.Memory = Unit {0}
 

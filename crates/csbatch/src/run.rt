@@ -2,9 +2,9 @@
 
 ghost use Rattle.std.specs.Prelude.{◌≡◌, [], ◌+◌, ◌<◌, ◌^◌, IfOk, map, option_map, slice_get};
 ghost use Rattle.cse_parts.specs.Image.{routine_lists};
-ghost use Rattle.cse_verify.specs.Jumps.{is_return, KeepsJumps};
+ghost use Rattle.cse_typing.specs.Rules.{AllKeepRules};
 ghost use Rattle.csbatch.specs.Machine.{state_of};
-ghost use Rattle.csbatch.specs.Step.{is_event_routine};
+ghost use Rattle.csbatch.specs.Step.{is_event_routine, is_return};
 ghost use Rattle.csbatch.specs.Run.{first};
 ghost use Rattle.csbatch.specs.Tried.{Goes, IsReady, end_at};
 
@@ -40,7 +40,7 @@ pub fn is_event_routine(routine: &Routine) -> bool
         && routine.parameters == 0
 }
 
-#[tactic(auto, unfolding(cse_verify::specs::Jumps::is_return))]
+#[tactic(auto, unfolding(crate::specs::Step::is_return))]
 fn is_return(op: Op) -> bool
     ensures { result ≡ is_return op }
 {
@@ -53,7 +53,7 @@ pub fn run_event<C: Code>(
     program: &Program<C>,
     routine: u32,
 ) -> Result<Outcome, AllocError>
-    requires { KeepsJumps program.now }
+    requires { AllKeepRules program.now }
     ensures { IfOk result (λ o. Goes program.now (first program.now routine) routine o.end o.listed.items) }
 {
     let tables = program.tables();

@@ -188,7 +188,7 @@ fn writes_hello(rt: HostRuntime) -> Result<(), Fail> {
 type Line = (Op, u8, u16, u32);
 
 /// Pieces of code, without the Return at their end, and what `try` prints of them.
-const ENDS: [(&[Line], &str); 22] = [
+const ENDS: [(&[Line], &str); 23] = [
     (&[], "1 steps\n"),
     // A text beside a number has no sum.
     (
@@ -329,12 +329,20 @@ const ENDS: [(&[Line], &str); 22] = [
     (&[(Op::Message, 0, 0, 3)], "2 steps\n"),
     (&[(Op::Message, 0, 0, 4)], "trap routine 0 place 0\n"),
     (&[(Op::Call, 0, 0, 0)], "trap routine 0 place 0\n"),
-    // A bracket breaks the rules of jumps.
+    // A bracket keeps the rules, and has no step yet; one without its end breaks them.
     (
         &[
             (Op::Number, 0, 0, 0),
             (Op::LoopCount, 0, 1, 2),
             (Op::End, 0, 0, 1),
+        ],
+        "trap routine 0 place 1\n",
+    ),
+    (
+        &[
+            (Op::Number, 0, 0, 0),
+            (Op::LoopCount, 0, 1, 2),
+            (Op::End, 0, 0, 0),
         ],
         "refused 65 routine 0 place 1\n",
     ),

@@ -4,7 +4,7 @@ ghost use Rattle.std.specs.Prelude.{◌≡◌, true, false, IfOk, IfErr};
 ghost use Rattle.std.specs.List.{find};
 ghost use Rattle.std.specs.Io.KnownBytes.{Appends};
 ghost use Rattle.cse_image.specs.Spelling.{Spells};
-ghost use Rattle.cse_verify.specs.Jumps.{KeepsJumps};
+ghost use Rattle.cse_typing.specs.Rules.{AllKeepRules};
 ghost use Rattle.csbatch.specs.Run.{preproc_of, is_preproc};
 ghost use Rattle.csbatch.specs.Tried.{GoesPreproc, IsRefused, Runs, text_of, PrintsBefore, FailsByWrite, is_write, is_shapeless};
 
@@ -38,7 +38,7 @@ pub enum TryFault {
 ///
 /// Faults, in this order: those of reading the image (60 to 64); 68, with no routine and no place,
 /// where the program has a record, an item or a value set; 65 where a routine breaks the rules of
-/// jumps; and want of memory or a failed write in place of an answer.
+/// jumps and brackets; and want of memory or a failed write in place of an answer.
 pub fn try_to<W: Output>(alloc: Global, image: &[u8], out: &mut W) -> Result<TryEnd, TryFault>
     // What is printed is a run of the machine.
     ensures runs { IfOk result (λ end. (r : Runs image.now end) × Appends (W.contents out.old) (W.contents out.new) (text_of r)) }
@@ -79,7 +79,7 @@ fn program_of(alloc: Global, image: &[u8]) -> Result<Program<CodeView>, TryFault
 fn ready_program(alloc: Global, image: &[u8]) -> Result<Program<CodeView>, TryFault>
     ensures found { IfOk result (λ p. Spells p image.now) }
     ensures shapeless { IfOk result (λ p. is_shapeless p ≡ true) }
-    ensures jumps { IfOk result (λ p. KeepsJumps p) }
+    ensures rules { IfOk result (λ p. AllKeepRules p) }
     ensures refused { IfErr result (λ f. IsRefused image.now f) }
 {
     let program = program_of(alloc, image)?;
@@ -135,7 +135,7 @@ fn is_preproc(event: &EventEntry) -> bool
 
 /// Runs the application's preproc.
 fn run_preproc<C: Code>(alloc: Global, program: &Program<C>) -> Result<Outcome, AllocError>
-    requires { KeepsJumps program.now }
+    requires { AllKeepRules program.now }
     ensures { IfOk result (λ o. GoesPreproc program.now o.end o.listed.items) }
 {
     match preproc_of(program) {

@@ -1,7 +1,7 @@
 //! Where the code of a routine lies.
 
 ghost use Rattle.std.specs.Prelude.{◌≡◌, ◌<◌, length};
-ghost use Rattle.cse_verify.specs.Code.{start_of};
+ghost use Rattle.cse_typing.specs.Code.{start_of};
 
 use cse_image::{Code, Program};
 

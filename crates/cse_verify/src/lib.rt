@@ -1,13 +1,21 @@
 //! The verifier: whether a program may run.
 //!
-//! Today it knows the rules of jumps alone, for code without brackets.
+//! It is the public face of the verifier. What jumps, brackets and typings are is defined in
+//! `cse_typing`, on which it stands.
+//!
+//! - `check_jumps`: the rules of jumps and brackets alone, without memory.
+//! - `same_shape`: whether a program was made for a dictionary, without memory.
+//! - `code_start`: where the code of a routine lies.
 #![tactic(auto)]
 
 mod code;
 mod jumps;
-mod refusal;
-mod rules;
+mod shape;
 
 pub use code::code_start;
+pub use cse_typing::{NONE, Refusal};
 pub use jumps::check_jumps;
-pub use refusal::{NONE, Refusal};
+pub use shape::same_shape;
+
+#[cfg(test)]
+mod tests;

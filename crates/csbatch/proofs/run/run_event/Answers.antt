@@ -46,7 +46,7 @@ walk-requires-clause-ready g c =
       there = there;
       fits = sym c.is_event_routine.ensures ∙ c.if-not-is_event_routine.false;
       begins = c.code_start-start.ensures;
-      jumps = c.requires c.args.routine (slice_get_within c.args.program.now.lists.routines c.args.routine (routine_lists c.in-Some.head.now) there);
+      rules = c.requires c.args.routine (slice_get_within c.args.program.now.lists.routines c.args.routine (routine_lists c.in-Some.head.now) there);
       whole = c.tables-tables.ensures.fits.count;
       some = routine_some [] c.args.program.now.lists.routines c.args.routine (routine_lists c.in-Some.head.now) c.tables-tables.ensures.fits.lists.routines.each there;
     }

@@ -12,7 +12,7 @@ returns-in-Ok-print-clause-runs g c = (
     program = c.in_ok-program.program;
     spells = c.in_ok-program.ensures.found;
     shapeless = c.in_ok-program.ensures.shapeless;
-    jumps = c.in_ok-program.ensures.jumps;
+    rules = c.in_ok-program.ensures.rules;
     listed = c.in-Ok.outcome.listed.items;
     goes = c.in-Ok.ensures;
   },
@@ -28,7 +28,7 @@ returns-clause-printed g c = (
       program = c.in_ok-program.program;
       spells = c.in_ok-program.ensures.found;
       shapeless = c.in_ok-program.ensures.shapeless;
-      jumps = c.in_ok-program.ensures.jumps;
+      rules = c.in_ok-program.ensures.rules;
       listed = c.in-Ok.outcome.listed.items;
       goes = c.in-Ok.ensures;
     },

@@ -1,2 +1,0 @@
-pub mod Code
-pub mod Jumps
