@@ -111,7 +111,7 @@ deck_of_entry arrays base came d (Some a) n more answer fits same e h open_yet t
     ∙ cells_then arrays base (set came i true) i [] before d.cells (n + 1) more answer here.0 (here.1 ∙ sym h.count) h.fit
     (λ m. then m (counts-set base i d.cells (h.count ∙ sym here.1) ∙ same)))))
 
-end_is_read : (arrays : List ArrayLists) (base : List (List Num)) (came : List Bool) (n : ℕ) → read_text arrays (at_opening base came) n (line ending) ≡ Ok base
+pub end_is_read : (arrays : List ArrayLists) (base : List (List Num)) (came : List Bool) (n : ℕ) → read_text arrays (at_opening base came) n (line ending) ≡ Ok base
 unfolding line_read
 end_is_read arrays base came n = refl
 

@@ -11,7 +11,7 @@ use Rattle.cse_decks.specs.declared.due.Due.{Due}
 use Rattle.cse_decks.specs.declared.due.Due.TheVariants.{Opening, Cell}
 use Rattle.cse_decks.specs.declared.error.DeckError.{DeckError}
 use Rattle.cse_decks.specs.Deck.{cell_line}
-use Rattle.cse_decks.specs.DeckText.{CellsFit}
+use Rattle.cse_decks.specs.Store.{CellsFit}
 use Rattle.cse_decks.specs.Loading.{Reading, due_at, by_due, line_read, cell_read, go_on, read_text}
 use Rattle.cse_decks.proofs.CellLaws.{reads_cells}
 use Rattle.cse_decks.proofs.ArrayLineLaws.{shown_one}

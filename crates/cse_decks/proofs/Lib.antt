@@ -3,6 +3,7 @@ pub mod ArrayLineLaws
 pub mod CellLaws
 pub mod CutLaws
 pub mod DeckTextLaws
+pub mod FaultLaws
 pub mod FillLaws
 pub mod InsideLaws
 pub mod LineLaws

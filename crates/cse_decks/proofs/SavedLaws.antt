@@ -7,9 +7,9 @@ use Rattle.std.proofs.lemmas.Bool.{ne_eqb}
 use Rattle.cse_value.specs.declared.number.Num.{Num}
 use Rattle.cse_parts.specs.Image.{Image, ArrayLists}
 use Rattle.cse_output.specs.Gathering.{line}
-use Rattle.cse_decks.specs.Store.{Kept, StoreFits, cell_count, first_cells, first_kept}
+use Rattle.cse_decks.specs.Store.{Kept, CellsFit, ArraysFit, StoreFits, cell_count, first_cells, first_kept}
 use Rattle.cse_decks.specs.Deck.{heading, ending, block, blocks, deck_text}
-use Rattle.cse_decks.specs.DeckText.{HotDeck, CellsFit, IsDeckOf, IsDeckOfEntry, DeckFits, lines_of, with_decks, IsDeckText, saved_cells, saved_kept, LoadsWhatWasSaved}
+use Rattle.cse_decks.specs.DeckText.{HotDeck, IsDeckOf, IsDeckOfEntry, DeckFits, lines_of, with_decks, IsDeckText, saved_cells, saved_kept, LoadsWhatWasSaved}
 use Rattle.cse_decks.proofs.AcceptLaws.{counts_of, deck_text_is_read}
 use Rattle.cse_decks.proofs.LoadLaws.{counts}
 
@@ -55,7 +55,7 @@ fit_if all n a cells ds true saved e count fit h =
     (subst (λ (o : Option ArrayLists). IsDeckOfEntry o cells) (sym e) own, h)
 fit_if all n a cells ds false saved e count fit h = h
 
-decks_fit : (all : List ArrayLists) (n : ℕ) (arrays : List ArrayLists) (cells : List (List Num)) → From all n arrays → counts cells ≡ counts_of arrays → AllByRecursion CellsFit cells
+decks_fit : (all : List ArrayLists) (n : ℕ) (arrays : List ArrayLists) (cells : List (List Num)) → From all n arrays → counts cells ≡ counts_of arrays → ArraysFit cells
     → AllByRecursion (DeckFits all) (decks_from n arrays cells)
 decks_fit all n [] cells h same fit = tt
 decks_fit all n (a ∷ others) [] h same fit = tt
@@ -124,7 +124,7 @@ first_arrays_are : (x : Image) → (first_kept x).arrays ≡ starting x.lists.ar
 unfolding first_kept
 first_arrays_are x = refl
 
-pub saved_is_deck_text : (x : Image) (s : Kept) → StoreFits x s → AllByRecursion CellsFit s.arrays → IsDeckText x (deck_text x s) (saved_kept x s)
+pub saved_is_deck_text : (x : Image) (s : Kept) → StoreFits x s → ArraysFit s.arrays → IsDeckText x (deck_text x s) (saved_kept x s)
 unfolding deck_text
 saved_is_deck_text x s fits cells =
     let arrays = x.lists.arrays in

@@ -1,8 +1,11 @@
 -- A store that fits a program: the first one does, and what is put into it keeps it so.
-use Rattle.std.proofs.Common.{◌≡◌, ℕ, zero, suc, ◌+◌, ◌-◌, ◌≤◌, min, ◌++◌, List, [], ◌∷◌, length, true, refl, ap, sym, ◌∙◌, subst, arith, eqb, length-append, pos}
-use Rattle.std.specs.Prelude.{ℤ, slice_get, slice_set, option_and_then, map, replicate, nat_le, ◌&&◌, IsSome}
+use Rattle.std.proofs.Common.{◌≡◌, ℕ, zero, suc, ◌+◌, ◌-◌, ◌^◌, ◌≤◌, min, ◌++◌, List, [], ◌∷◌, length, true, refl, ap, sym, ◌∙◌, subst, arith, eqb, length-append, pos}
+use Rattle.std.specs.Prelude.{ℤ, negsuc, FitsSigned, slice_get, slice_set, option_and_then, map, replicate, nat_le, ◌&&◌, IsSome}
 use Rattle.std.specs.List.{AllByRecursion, slice_index_or}
+use Rattle.std.specs.Int.{w64}
+use Rattle.std.proofs.lemmas.Bool.{lt-ltb}
 use Rattle.std.proofs.lemmas.Bool.Decides.{nat_tests}
+use Rattle.cse_value.specs.Number.{fits_i64}
 use Rattle.std.proofs.lemmas.List.{length-replicate, length-take, length-map, length-set}
 use Rattle.cse_codec.specs.Reader.{AllAfter}
 use Rattle.cse_value.specs.declared.number.Num.{Num}
@@ -18,7 +21,7 @@ use Rattle.cse_parts.specs.Image.{Image, ArrayLists, array_lists}
 use Rattle.cse_image.specs.Spelling.{ArrayFits, GlobalFits, Fits}
 use Rattle.cse_decks.specs.declared.global.GlobalValue.{GlobalValue}
 use Rattle.cse_decks.specs.declared.global.GlobalValue.TheVariants.{Number, Words}
-use Rattle.cse_decks.specs.Store.{Kept, StoreFits, variable_of, cell_count, first_by_kind, first_global, first_cells, first_kept, number_in, text_in, number_at, text_at, with_global, with_cell, rewritten}
+use Rattle.cse_decks.specs.Store.{Kept, CellsFit, ArraysFit, StoreFits, variable_of, cell_count, first_by_kind, first_global, first_cells, first_kept, number_in, text_in, number_at, text_at, with_global, with_cell, rewritten}
 
 -- ---- the dimensions are few
 
@@ -118,3 +121,37 @@ pub cell_fits : (x : Image) (s t : Kept) (a place : ℕ) (v : Num) → t ≡ wit
 cell_fits x s t a place v e h =
     let fits : StoreFits x (with_cell s a place v) = record { globals = h.globals; arrays = cell_stays s.arrays a place v ∙ h.arrays } in
     subst (λ (w : Kept). StoreFits x w) (sym e) fits
+
+-- ---- 64 bits hold each cell
+
+value_fits : (z : ℤ) → FitsSigned w64 z → fits_i64 z ≡ true
+value_fits (pos n) h = let low = h.sfits in lt-ltb n (2 ^ 63) (omega arith)
+value_fits (negsuc n) h = let low = h.sfits in lt-ltb n (2 ^ 63) (omega arith)
+
+declared_fit : (cells : List ℤ) → AllByRecursion (FitsSigned w64) cells → CellsFit (map Whole cells)
+declared_fit [] h = tt
+declared_fit (z ∷ zs) h = (value_fits z h.0, declared_fit zs h.1)
+
+zeros_fit : (n : ℕ) → CellsFit (replicate n (Whole (pos 0)))
+zeros_fit zero = tt
+zeros_fit (suc n) = (refl, zeros_fit n)
+
+cells_append : (xs ys : List Num) → CellsFit xs → CellsFit ys → CellsFit (xs ++ ys)
+cells_append [] ys h k = k
+cells_append (x ∷ xs) ys h k = (h.0, cells_append xs ys h.1 k)
+
+first_cells_fit : (before arrays : List ArrayLists) → AllAfter ArrayFits before arrays → ArraysFit (map first_cells arrays)
+first_cells_fit before [] h = tt
+first_cells_fit before (a ∷ arrays) h = (
+  cells_append (map Whole a.cells) (replicate (cell_count a - length a.cells) (Whole (pos 0))) (declared_fit a.cells h.0.cells) (zeros_fit (cell_count a - length a.cells)),
+  first_cells_fit (before ++ a ∷ []) arrays h.1,
+)
+
+pub first_arrays_hold : (x : Image) (arrays : List (List Num)) → arrays ≡ (first_kept x).arrays → Fits x → ArraysFit arrays
+unfolding first_kept
+first_arrays_hold x arrays e h = subst (λ (l : List (List Num)). ArraysFit l) (sym e) (first_cells_fit [] x.lists.arrays h.lists.arrays.each)
+
+pub arrays_set : (arrays : List (List Num)) (a : ℕ) (cells : List Num) → ArraysFit arrays → CellsFit cells → ArraysFit (slice_set arrays a cells)
+arrays_set [] a cells h k = tt
+arrays_set (c ∷ cs) zero cells h k = (k, h.1)
+arrays_set (c ∷ cs) (suc a) cells h k = (h.0, arrays_set cs a cells h.1 k)

@@ -15,9 +15,9 @@ use Rattle.cse_output.specs.Gathering.{line}
 use Rattle.cse_decks.specs.declared.due.Due.{Due}
 use Rattle.cse_decks.specs.declared.due.Due.TheVariants.{Heading, Opening, Cell, Nothing}
 use Rattle.cse_decks.specs.declared.error.DeckError.{DeckError}
-use Rattle.cse_decks.specs.Store.{Kept, first_kept}
+use Rattle.cse_decks.specs.Store.{Kept, CellsFit, first_kept}
 use Rattle.cse_decks.specs.Deck.{heading, ending, array_line, block, cell_line}
-use Rattle.cse_decks.specs.DeckText.{HotDeck, CellsFit, IsDeckOf, IsDeckOfEntry, DeckFits, lines_of, with_decks, IsDeckText}
+use Rattle.cse_decks.specs.DeckText.{HotDeck, IsDeckOf, IsDeckOfEntry, DeckFits, lines_of, with_decks, IsDeckText}
 use Rattle.cse_decks.specs.Inside.{CellInside}
 use Rattle.cse_decks.specs.Loading.{Reading, due_at, is_open, opening, marked, by_entry, by_place, named, is_array_line, array_read, cell_of, cell_read, by_due, line_read, go_on, fault, ended, cut, read_from, read_text, unread, with_arrays, loaded}
 use Rattle.cse_decks.proofs.AcceptLaws.{counts_of, count_at, at_opening}
@@ -61,9 +61,9 @@ abbrev Says : List ArrayLists → Reading → List ℕ → List (List Num) → T
 Says arrays r text after = SaysBy arrays r.arrays r.came text after r.due
 
 -- a reading of this program's arrays
-record Good (arrays : List ArrayLists) (r : Reading) : Type 0 where
-  same : counts r.arrays ≡ counts_of arrays
-  inside : CellInside r.arrays r.due
+pub record Good (arrays : List ArrayLists) (r : Reading) : Type 0 where
+  pub same : counts r.arrays ≡ counts_of arrays
+  pub inside : CellInside r.arrays r.due
 
 -- a line leaves a cell inside, if one is due, and if the rest says so from there, then it says so with the line
 record Step (arrays : List ArrayLists) (base : List (List Num)) (came : List Bool) (due : Due) (l : List ℕ) (s : Reading) : Type 0 where
@@ -279,6 +279,9 @@ line_step arrays r l s good h = due_step arrays r.arrays r.came r.due l s good.s
 still_same : (arrays : List ArrayLists) (r : Reading) (l : List ℕ) (s : Reading) → Good arrays r → line_read arrays r l ≡ Ok s → counts s.arrays ≡ counts_of arrays
 still_same arrays r l s good h = subst (λ (o : Result Reading ℕ). IfOk o (λ (t : Reading). counts t.arrays ≡ counts r.arrays)) h (keeps_line arrays r l) ∙ good.same
 
+pub stays_good : (arrays : List ArrayLists) (r : Reading) (l : List ℕ) (s : Reading) → Good arrays r → line_read arrays r l ≡ Ok s → Good arrays s
+stays_good arrays r l s good h = record { same = still_same arrays r l s good h; inside = (line_step arrays r l s good h).inside }
+
 -- ---- line after line
 
 record GoesOn {A B : Type 0} (answer : Result A ℕ) (f : A → Result B DeckError) (b : B) : Type 0 where
@@ -307,18 +310,20 @@ told arrays r n [] rest after good h = ended_says arrays r.arrays r.came r.due n
 told arrays r n (l ∷ lines) rest after good h =
     let go = goes_on n (line_read arrays r l) (λ (s : Reading). read_from arrays s (n + 1) lines rest) after h in
     let step = line_step arrays r l go.next good go.is in
-    let next = told arrays go.next (n + 1) lines rest after (record { same = still_same arrays r l go.next good go.is; inside = step.inside }) go.then in
+    let next = told arrays go.next (n + 1) lines rest after (stays_good arrays r l go.next good go.is) go.then in
     subst (λ (text : List ℕ). Says arrays r text after) (sym (append_assoc (line l) (flat_map line lines) rest)) (step.says (uncut lines rest) after next)
 
 -- ---- the whole text
+
+pub first_good : (x : Image) → Fits x → Good x.lists.arrays (unread x)
+first_good x fits = let first = first_fits x (first_kept x) refl fits in record { same = first.arrays; inside = tt }
 
 is_deck_text : (x : Image) (text : List ℕ) (s : Kept) (answer : Result (List (List Num)) DeckError) → Fits x → read_text x.lists.arrays (unread x) 1 text ≡ answer → with_arrays x answer ≡ Ok s → IsDeckText x text s
 is_deck_text x text s (Err e) fits is h = cc
 is_deck_text x text s (Ok after) fits is h =
     let arrays = x.lists.arrays in
-    let first = first_fits x (first_kept x) refl fits in
     let says : Headed arrays (first_kept x).arrays (unread x).came (uncut (cut text).lines (cut text).rest) after =
-    told arrays (unread x) 1 (cut text).lines (cut text).rest after (record { same = first.arrays; inside = tt }) is in
+    told arrays (unread x) 1 (cut text).lines (cut text).rest after (first_good x fits) is in
     let t = says.then in
     let same : record { globals = (first_kept x).globals; arrays = after } ≡ s = cc in
     record {

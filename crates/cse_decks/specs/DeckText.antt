@@ -5,12 +5,11 @@ use Rattle.std.specs.Prelude.{◌≡◌, ◌↔◌, ℕ, true, nat_eq, List, [],
 use Rattle.std.specs.List.{flat_map, AllByRecursion, IsDistinct}
 use Rattle.std.specs.Option.{option_map_or}
 use Rattle.cse_value.specs.declared.number.Num.{Num}
-use Rattle.cse_value.specs.Field.{fits_num}
 use Rattle.cse_parts.specs.Image.{Image, ArrayLists}
 use Rattle.cse_image.specs.Spelling.{Fits}
 use Rattle.cse_output.specs.Gathering.{line}
 use Rattle.cse_decks.specs.declared.error.DeckError.{DeckError}
-use Rattle.cse_decks.specs.Store.{Kept, StoreFits, cell_count, first_cells, first_kept}
+use Rattle.cse_decks.specs.Store.{Kept, CellsFit, ArraysFit, StoreFits, cell_count, first_cells, first_kept}
 use Rattle.cse_decks.specs.Deck.{heading, ending, block, deck_text}
 use Rattle.cse_decks.specs.Loading.{loaded, out_of_memory}
 
@@ -20,10 +19,6 @@ use Rattle.cse_decks.specs.Loading.{loaded, out_of_memory}
 pub record HotDeck : Type 0 where
   pub array : ℕ
   pub cells : List Num
-
--- 64 bits hold each value
-abbrev pub CellsFit : List Num → Type 0
-CellsFit cells = AllByRecursion (λ v. fits_num v ≡ true) cells
 
 -- these are the cells of a hot deck of the array: it is saved, and has so many cells
 pub record IsDeckOf (a : ArrayLists) (cells : List Num) : Type 0 where
@@ -80,6 +75,6 @@ saved_cells (a ∷ others) (cells ∷ more) = (if a.saved then cells else first_
 abbrev pub saved_kept : Image → Kept → Kept
 saved_kept x s = record { globals = (first_kept x).globals; arrays = saved_cells x.lists.arrays s.arrays }
 
--- what was saved is loaded
+-- what was saved is loaded, and nothing else changes: 64 bits hold each cell of a store
 abbrev pub LoadsWhatWasSaved : Type 0
-LoadsWhatWasSaved = (x : Image) (s : Kept) → Fits x → StoreFits x s → AllByRecursion CellsFit s.arrays → loaded x (deck_text x s) ≡ Ok (saved_kept x s)
+LoadsWhatWasSaved = (x : Image) (s : Kept) → Fits x → StoreFits x s → ArraysFit s.arrays → loaded x (deck_text x s) ≡ Ok (saved_kept x s)

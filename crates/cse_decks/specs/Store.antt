@@ -1,11 +1,11 @@
 -- What a program keeps over the whole run: the values of its globals, and the cells of its arrays, the
 -- last index fastest.
-use Rattle.std.specs.Prelude.{◌≡◌, ◌-◌, ℕ, pos, List, [], ◌++◌, length, map, min, replicate, Option, Some, None, slice_get, slice_set, option_and_then}
-use Rattle.std.specs.List.{slice_index_or}
+use Rattle.std.specs.Prelude.{◌≡◌, ◌-◌, ℕ, true, pos, List, [], ◌++◌, length, map, min, replicate, Option, Some, None, slice_get, slice_set, option_and_then}
+use Rattle.std.specs.List.{slice_index_or, AllByRecursion}
 use Rattle.cse_value.specs.declared.number.Num.{Num}
 use Rattle.cse_value.specs.declared.number.Num.TheVariants.{Whole}
 use Rattle.cse_value.specs.Texts.{blanks}
-use Rattle.cse_value.specs.Field.{put_text}
+use Rattle.cse_value.specs.Field.{fits_num, put_text}
 use Rattle.cse_parts.specs.declared.entries.GlobalKind.{GlobalKind}
 use Rattle.cse_parts.specs.declared.entries.GlobalKind.TheVariants as kinds
 use Rattle.cse_parts.specs.declared.entries.GlobalVariable.{GlobalVariable}
@@ -17,6 +17,15 @@ use Rattle.cse_decks.specs.declared.global.GlobalValue.TheVariants.{Number, Word
 pub record Kept : Type 0 where
   pub globals : List GlobalValue
   pub arrays : List (List Num)
+
+-- ---- cells
+
+-- 64 bits hold each value
+abbrev pub CellsFit : List Num → Type 0
+CellsFit cells = AllByRecursion (λ v. fits_num v ≡ true) cells
+
+abbrev pub ArraysFit : List (List Num) → Type 0
+ArraysFit arrays = AllByRecursion CellsFit arrays
 
 -- ---- a store that fits a program
 

@@ -1,11 +1,10 @@
 //! The cells of saved arrays, read from text.
 
-ghost use Rattle.std.specs.Prelude.{◌≡◌, map, IfOk};
+ghost use Rattle.std.specs.Prelude.{◌≡◌, map, Ok, IfOk};
 ghost use Rattle.cse_parts.specs.Image.{array_lists};
-ghost use Rattle.std.specs.List.{AllByRecursion};
-ghost use Rattle.cse_decks.specs.Store.{Kept, StoreFits};
-ghost use Rattle.cse_decks.specs.Deck.{deck_text};
-ghost use Rattle.cse_decks.specs.DeckText.{IsDeckText, IsStore, CellsFit, saved_kept};
+ghost use Rattle.cse_decks.specs.Store.{Kept, ArraysFit, StoreFits};
+ghost use Rattle.cse_decks.specs.DeckText.{IsDeckText, IsStore};
+ghost use Rattle.cse_decks.specs.FirstFault.{TellsFirstFault};
 ghost use Rattle.cse_decks.specs.Loading.{Answers, read_text, loaded};
 
 use crate::cells::ArrayCells;
@@ -25,7 +24,7 @@ pub fn load<C: Code>(alloc: Global, program: &Program<C>, text: &[u8]) -> Result
     ensures fits { IfOk result (λ s. StoreFits program.now s) }
     ensures deck_text { IfOk result (λ s. IsDeckText program.now text.now s) }
     ensures every_deck_text { (s : Kept) → IsDeckText program.now text.now s → IsStore s result }
-    ensures saved { (s : Kept) → StoreFits program.now s → AllByRecursion CellsFit s.arrays → text.now ≡ deck_text program.now s → IsStore (saved_kept program.now s) result }
+    ensures first_fault { TellsFirstFault program.now text.now result }
 {
     let tables = program.tables();
     load_with(alloc, program, &tables.arrays, text)
@@ -39,7 +38,8 @@ fn load_with<C: Code>(
     declared: &[Array],
     text: &[u8],
 ) -> Result<Store, DeckError>
-    requires { map array_lists declared.now ≡ program.now.lists.arrays }
+    requires same { map array_lists declared.now ≡ program.now.lists.arrays }
+    requires held { (s : Kept) → loaded program.now text.now ≡ Ok s → ArraysFit s.arrays }
     ensures exact { Answers (λ s. s) result (loaded program.now text.now) }
     ensures fits { IfOk result (λ s. StoreFits program.now s) }
 {

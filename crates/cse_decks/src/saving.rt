@@ -1,11 +1,13 @@
 //! The cells of saved arrays, written as text.
 
-ghost use Rattle.std.specs.Prelude.{◌≡◌, map, length};
+ghost use Rattle.std.specs.Prelude.{◌≡◌, Ok, map, length};
 ghost use Rattle.std.specs.List.{flat_map};
 ghost use Rattle.cse_value.specs.Writing.{WritesAll, FailsAtErr};
 ghost use Rattle.cse_parts.specs.Image.{array_lists};
 ghost use Rattle.cse_decks.specs.Store.{StoreFits};
 ghost use Rattle.cse_decks.specs.Deck.{size_word, cell_line, array_line, saved_block, blocks, deck_text};
+ghost use Rattle.cse_decks.specs.DeckText.{saved_kept};
+ghost use Rattle.cse_decks.specs.Loading.{loaded};
 ghost use Rattle.cse_output.specs.Gathering.{going, line, Puts};
 
 use crate::cells::ArrayCells;
@@ -16,19 +18,22 @@ use cse_value::{Failed, Num, Output, show_num};
 use itoa::Buffer;
 
 /// Writes the text that keeps the saved arrays of a store (own): a heading, for each saved array a line with
-/// its name and sizes and a line for each cell, the last index fastest, and an end. Takes no memory.
+/// its name and sizes and a line for each cell, the last index fastest, and an end. `load` reads it as the
+/// saved cells. Takes no memory.
 pub fn save<C: Code, W: Output>(
     program: &Program<C>,
     store: &Store,
     out: &mut W,
 ) -> Result<(), Failed>
     requires { StoreFits program.now store.now }
+    ensures loads { loaded program.now (deck_text program.now store.now) ≡ Ok (saved_kept program.now store.now) }
     ensures bytes { WritesAll result (W.contents out.old) (W.contents out.new) (deck_text program.now store.now) }
     ensures failed { FailsAtErr result (W.has_failed out.old) (W.has_failed out.new) }
 {
+    let tables = program.tables();
     let mut gatherer = Gatherer::new();
     gatherer.put_line(out, b"CSEB DECKS 1");
-    put_blocks(&mut gatherer, out, program.arrays(), store.cells());
+    put_blocks(&mut gatherer, out, &tables.arrays, store.cells());
     gatherer.put_line(out, b"END");
     gatherer.finish(out)
 }

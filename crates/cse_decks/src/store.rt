@@ -2,7 +2,7 @@
 
 ghost use Rattle.std.specs.Prelude.{◌≡◌, ◌<◌, Some, IsSome, IfOk, length};
 ghost use Rattle.cse_parts.specs.Image.{Image};
-ghost use Rattle.cse_decks.specs.Store.{StoreFits, first_kept, number_at, text_at, cells_of, with_global, with_cell, rewritten};
+ghost use Rattle.cse_decks.specs.Store.{ArraysFit, StoreFits, first_kept, number_at, text_at, cells_of, with_global, with_cell, rewritten};
 ghost use Rattle.std.specs.Prelude.{slice_get, slice_set, [], is_some};
 ghost use Rattle.std.specs.List.{slice_index_or};
 
@@ -28,6 +28,10 @@ impl Model for Store {
     ghost Value = { Kept };
 
     ghost view = { λ s. record { globals = s.globals.items; arrays = s.arrays.items } };
+
+    ghost use Rattle.cse_decks.specs.Store.{ArraysFit};
+
+    ghost invariant = { λ s. ArraysFit s.arrays.items };
 }
 
 impl Store {
@@ -121,6 +125,7 @@ impl Store {
 impl Store {
     /// The store of these values.
     pub(crate) fn with(globals: Vec<GlobalValue>, arrays: Vec<ArrayCells>) -> Store
+        requires { ArraysFit arrays.items }
         ensures { result ≡ record { globals = globals.items; arrays = arrays.items } }
     {
         Store { globals, arrays }
@@ -137,7 +142,8 @@ impl Store {
 
     /// The cells of all arrays.
     pub(crate) fn cells(&self) -> &[ArrayCells]
-        ensures { result.now ≡ self.now.arrays }
+        ensures cells { result.now ≡ self.now.arrays }
+        ensures fit { ArraysFit self.now.arrays }
     {
         &self.arrays
     }

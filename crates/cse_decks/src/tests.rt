@@ -243,6 +243,26 @@ fn refuses_a_text_that_is_cut(rt: HostRuntime) -> Result<(), Fail> {
     Ok(())
 }
 
+#[test]
+fn tells_want_of_memory(rt: HostRuntime) -> Result<(), Fail> {
+    let alloc = rt.alloc();
+    let program = sample(alloc)?;
+    match load(alloc, &program, AGES.as_bytes()) {
+        Ok(store) => {
+            assert!(rt; 0 < store.size(0));
+            assert_eq!(rt; store.cell(0, 0), Num::Whole(35));
+        }
+        Err(error) => {
+            let want = DeckError {
+                number: 90,
+                line: 0,
+            };
+            assert_eq!(rt; error, want);
+        }
+    }
+    Ok(())
+}
+
 /// A writer that takes at most so many bytes in a call, and fails at a call or takes none.
 #[derive(Drop)]
 struct Slow {

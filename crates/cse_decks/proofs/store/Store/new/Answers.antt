@@ -6,7 +6,7 @@ use Rattle.cse_parts.specs.declared.entries.Array.{Array}
 use Rattle.cse_parts.specs.Image.{Lists, ArrayLists, array_lists}
 use Rattle.cse_image.specs.Spelling.{ArrayFits}
 use Rattle.cse_decks.specs.Store.{first_kept}
-use Rattle.cse_decks.proofs.StoreLaws.{arrays_small, first_fits}
+use Rattle.cse_decks.proofs.StoreLaws.{arrays_small, first_arrays_hold, first_fits}
 use Rattle.cse_decks.proofs.store.Store.new.Goals as goal
 
 pub first_arrays-requires : goal.first_arrays-requires
@@ -18,3 +18,7 @@ first_arrays-requires g c =
 pub returns-clause-fits : goal.returns-clause-fits
 unfolding first_kept
 returns-clause-fits g c = first_fits c.args.program.now _ (search rules) c.tables-tables.ensures.fits
+
+pub invariant_of-result : goal.invariant_of-result
+unfolding first_kept
+invariant_of-result g c = first_arrays_hold c.args.program.now _ (search rules) c.tables-tables.ensures.fits
