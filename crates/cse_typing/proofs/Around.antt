@@ -273,7 +273,7 @@ module _ (code : List Control) where
 
 module _ (code : List Control) where
   -- a bracket around p has its opener in the list: the first one is no less
-  first_least : (k p s : ℕ) → is_around code s p ≡ true → s < k → (t : ℕ) × (first (around_below code p k) ≡ Some t) × (s ≤ t)
+  pub first_least : (k p s : ℕ) → is_around code s p ≡ true → s < k → (t : ℕ) × (first (around_below code p k) ≡ Some t) × (s ≤ t)
   unfolding around_below
   first_least zero p s h lt = absurd (omega arith)
   first_least (suc k) p s h lt =
@@ -331,7 +331,7 @@ module _ (code : List Control) where
       let l = r.2 in
       omega arith
 
-  innermost_around : (p s : ℕ) → innermost code p ≡ Some s → IsAround code s p
+  pub innermost_around : (p s : ℕ) → innermost code p ≡ Some s → IsAround code s p
   unfolding around
   innermost_around p s top = around_is code s p (below_first code p p s top).0
 

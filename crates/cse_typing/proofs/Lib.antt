@@ -1,9 +1,12 @@
 pub mod Around
 pub mod Checks
+pub mod Inside
 pub mod CodeLaws
 pub mod Merges
 pub mod Sound
 pub mod PileLaws
+pub mod Shares
+pub mod DepthLaws
 pub mod BelowLaws
 pub mod MergeLaws
 pub mod RuleLaws

@@ -76,7 +76,7 @@ module _ (rule : Rule) (code : List Instr) where
   by_expected Clash s a free = absurd a
 
   -- the stack of a typing is the one that is expected at the next place
-  here_is : (q n : ℕ) (known : Known) (t : Stacks) → IsKnown rule code q known → q < n → q < length code → IsTypingBelow rule code n t → expected_stack (entry known q) ≡ Some (t q)
+  pub here_is : (q n : ℕ) (known : Known) (t : Stacks) → IsKnown rule code q known → q < n → q < length code → IsTypingBelow rule code n t → expected_stack (entry known q) ≡ Some (t q)
   here_is q n known t so lt within typing =
       by_expected (entry known q) (t q) (so.allowed n t (omega arith) typing q lt)
       (λ free. typing.others q lt (λ led.

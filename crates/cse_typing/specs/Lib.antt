@@ -18,3 +18,7 @@ pub mod Calls
 pub mod Typed
 pub mod Judged
 pub mod Checked
+pub mod Depth
+pub mod EntryOrder
+pub mod Shared
+pub mod Innermost

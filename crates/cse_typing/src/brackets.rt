@@ -1,15 +1,18 @@
 //! The rules of jumps and brackets in the code of one routine.
 
-ghost use Rattle.std.specs.Prelude.{◌≡◌, ℕ, suc, ◌+◌, ◌<◌, ◌≤◌, ◌↔◌, length, false, Some, slice_get, IsTrue, IfSome, IfNone};
+ghost use Rattle.std.specs.Prelude.{◌≡◌, ℕ, suc, ◌+◌, ◌<◌, ◌≤◌, ◌↔◌, length, false, Some, slice_get, IsTrue, IfSome, IfNone, IfOk};
+ghost use Rattle.cse_typing.specs.Innermost.{innermost_below};
 ghost use Rattle.cse_typing.specs.Bracket.{IsBracket, IsAround, IsNestedBelow, first, around, innermost, IsJump, IsOpener, IsFine, IsFineAt, KeepsRulesAt, KeepsRules, BreaksFirst, named_end, named_opener};
 
 use crate::control::Control;
+use crate::innermost::{innermost_table, is_told_jump};
 use crate::openers::Openers;
 use crate::routine_code::RoutineCode;
 use cse_image::Code;
+use std::alloc::{AllocError, Global};
 
 /// The end that the instruction at a place names, where it is an opener.
-fn named_end_at<C: Code>(code: &RoutineCode<'_, C>, place: u32) -> Option<u32>
+pub fn named_end_at<C: Code>(code: &RoutineCode<'_, C>, place: u32) -> Option<u32>
     ensures { result ≡ named_end (slice_get code.now place) }
 {
     match code.at(place) {
@@ -29,7 +32,7 @@ fn named_opener_at<C: Code>(code: &RoutineCode<'_, C>, place: u32) -> Option<u32
 }
 
 /// Whether an opener and a later end name each other.
-fn is_bracket<C: Code>(code: &RoutineCode<'_, C>, opener: u32, end: u32) -> bool
+pub fn is_bracket<C: Code>(code: &RoutineCode<'_, C>, opener: u32, end: u32) -> bool
     ensures { IsTrue result ↔ IsBracket code.now opener end }
 {
     opener < end
@@ -38,7 +41,7 @@ fn is_bracket<C: Code>(code: &RoutineCode<'_, C>, opener: u32, end: u32) -> bool
 }
 
 /// Whether the bracket that begins at one place is around another.
-fn is_around<C: Code>(code: &RoutineCode<'_, C>, opener: u32, place: u32) -> bool
+pub fn is_around<C: Code>(code: &RoutineCode<'_, C>, opener: u32, place: u32) -> bool
     ensures { IsTrue result ↔ IsAround code.now opener place }
 {
     match named_end_at(code, opener) {
@@ -100,6 +103,24 @@ fn is_jump<C: Code>(code: &RoutineCode<'_, C>, from: u32, to: u32, openers: &Ope
     true
 }
 
+/// Whether a jump keeps the rule, by the innermost brackets where they are at hand.
+fn is_known_jump<C: Code>(
+    code: &RoutineCode<'_, C>,
+    from: u32,
+    to: u32,
+    openers: &Openers,
+    table: Option<&[Option<u32>]>,
+) -> bool
+    requires openers { openers.now ≡ around code.now from }
+    requires table { IfSome table (λ t. t.now ≡ innermost_below code.now (length code.now)) }
+    ensures { IsTrue result ↔ IsJump code.now from to }
+{
+    match table {
+        Some(found) => is_told_jump(code, found, from, to),
+        None => is_jump(code, from, to, openers),
+    }
+}
+
 /// Whether an opener has its end and lies within the brackets around it.
 fn is_opener<C: Code>(code: &RoutineCode<'_, C>, place: u32, end: u32, openers: &Openers) -> bool
     requires nested { IsNestedBelow code.now place }
@@ -129,15 +150,17 @@ fn is_fine<C: Code>(
     place: u32,
     control: Control,
     openers: &Openers,
+    table: Option<&[Option<u32>]>,
 ) -> bool
     requires nested { IsNestedBelow code.now place }
     requires openers { openers.now ≡ around code.now place }
+    requires table { IfSome table (λ t. t.now ≡ innermost_below code.now (length code.now)) }
     ensures { IsTrue result ↔ IsFine code.now place control }
 {
     match control {
         Control::Step => true,
-        Control::Jump(to) => is_jump(code, place, to, openers),
-        Control::Branch(to) => is_jump(code, place, to, openers),
+        Control::Jump(to) => is_known_jump(code, place, to, openers, table),
+        Control::Branch(to) => is_known_jump(code, place, to, openers, table),
         Control::Open(_, end) => is_opener(code, place, end, openers),
         Control::End(opener) => is_bracket(code, opener, place),
         Control::Break(end) => is_break(code, end, place, openers),
@@ -172,8 +195,10 @@ pub fn pass<C: Code>(code: &RoutineCode<'_, C>, place: u32, control: Control, op
     }
 }
 
-/// The least place of a routine's code that breaks a rule.
-pub fn check_code<C: Code>(code: &RoutineCode<'_, C>) -> Option<u32>
+/// The least place of a routine's code that breaks a rule. With the innermost brackets at hand this
+/// takes time that grows with the number of places; else a jump takes as many steps as it is long.
+pub fn check_code<C: Code>(code: &RoutineCode<'_, C>, table: Option<&[Option<u32>]>) -> Option<u32>
+    requires { IfSome table (λ t. t.now ≡ innermost_below code.now (length code.now)) }
     ensures all { IfNone result (KeepsRules code.now) }
     ensures first { IfSome result (λ p. BreaksFirst code.now p) }
 {
@@ -182,7 +207,7 @@ pub fn check_code<C: Code>(code: &RoutineCode<'_, C>) -> Option<u32>
         let Some(control) = code.at(place) else {
             unreachable!()
         };
-        if !is_fine(code, place, control, &openers) {
+        if !is_fine(code, place, control, &openers, table) {
             return Some(place);
         }
         if !ends_fine(code, place, control) {
@@ -191,4 +216,17 @@ pub fn check_code<C: Code>(code: &RoutineCode<'_, C>) -> Option<u32>
         pass(code, place, control, &mut openers);
     }
     None
+}
+
+/// The least place of a routine's code that breaks a rule, in time that grows with the number of
+/// places, whatever the code is; it takes 8 bytes for each place.
+pub fn first_break<C: Code>(
+    alloc: Global,
+    code: &RoutineCode<'_, C>,
+) -> Result<Option<u32>, AllocError>
+    ensures all { IfOk result (λ o. IfNone o (KeepsRules code.now)) }
+    ensures first { IfOk result (λ o. IfSome o (λ p. BreaksFirst code.now p)) }
+{
+    let table = innermost_table(alloc, code)?;
+    Ok(check_code(code, Some(&table)))
 }

@@ -27,7 +27,7 @@ pub fn check_jumps_and_brackets<C: Code>(program: &Program<C>) -> Result<(), Ref
     let mut routine = 0;
     for head in &program.tables().routines {
         let skeleton = RoutineCode::new(code, records, start, head.instructions);
-        if let Some(at) = check_code(&skeleton) {
+        if let Some(at) = check_code(&skeleton, None) {
             return Err(Refusal {
                 number: 65,
                 routine,

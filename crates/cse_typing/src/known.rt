@@ -7,7 +7,7 @@ ghost use Rattle.cse_typing.specs.Edges.{edge_of, edges_of, known_of};
 ghost use Rattle.cse_typing.specs.Within.{IsWithin, AreWithin, ExitsWithin, expected_in};
 
 use crate::exits::{Edge, Exits};
-use crate::piles::{Expected, Piles, are_same};
+use crate::piles::{Expected, Piles};
 
 /// What a place expects after one more edge to it.
 fn met_at(piles: &Piles, there: Expected, stack: usize) -> Expected
@@ -19,7 +19,7 @@ fn met_at(piles: &Piles, there: Expected, stack: usize) -> Expected
     match there {
         Expected::Free => Expected::Is(stack),
         Expected::Is(other) => {
-            if are_same(piles, other, stack) {
+            if piles.are_same(other, stack) {
                 Expected::Is(other)
             } else {
                 Expected::Clash
@@ -37,7 +37,7 @@ fn stands_at(piles: &Piles, there: Expected, stack: usize) -> bool
 {
     match there {
         Expected::Free => piles.is_empty(stack),
-        Expected::Is(other) => are_same(piles, other, stack),
+        Expected::Is(other) => piles.are_same(other, stack),
         Expected::Clash => false,
     }
 }

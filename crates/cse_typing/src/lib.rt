@@ -7,15 +7,19 @@
 mod below;
 mod brackets;
 mod control;
+mod depth;
 mod exits;
 mod in_loop;
+mod innermost;
 mod jumps;
 mod kind;
 mod known;
 mod need;
+mod numbers;
 mod openers;
 mod order;
 mod piles;
+mod place_depth;
 mod refusal;
 mod routine_code;
 mod shape;
@@ -25,6 +29,7 @@ mod walk;
 mod whole;
 
 pub use control::{Control, control_of};
+pub use depth::Depth;
 pub use jumps::check_jumps_and_brackets;
 pub use kind::{Kind, is_same_kind, kind_of_argument, kind_of_global, kind_of_local};
 pub use order::{all_events_fit, fits_event, names_each_once};
@@ -33,8 +38,14 @@ pub use routine_code::RoutineCode;
 pub use shape::same_shape;
 pub use stand::may_stand;
 pub use turn::Surroundings;
-pub use walk::{Fault, fault_of};
-pub use whole::typed;
+pub use walk::{Fault, fault_of, judge};
+pub use whole::{check_events, check_routine, typed};
 
+#[cfg(test)]
+mod events;
+#[cfg(test)]
+mod programs;
+#[cfg(test)]
+mod rows;
 #[cfg(test)]
 mod tests;

@@ -1,11 +1,11 @@
 //! What an instruction takes from the stack and leaves on it, told without memory.
 
-ghost use Rattle.std.specs.Prelude.{◌≡◌, option_map, option_and_then, slice_get, length, Some, [], ◌++◌};
+ghost use Rattle.std.specs.Prelude.{◌≡◌, option_map, option_and_then, slice_get, length, Some, [], ◌∷◌, ◌++◌, ◌+◌, ◌==◌, if◌then◌else◌};
 ghost use Rattle.std.specs.Option.{option_to_list};
 ghost use Rattle.cse_value.specs.Shape.{shape_lists};
 ghost use Rattle.cse_parts.specs.Image.{Lists, lists_of, routine_lists};
 ghost use Rattle.cse_typing.specs.Kinds.{gift_kinds};
-ghost use Rattle.cse_typing.specs.Signature.{id_number, id_text, number_item, text_item, is_record, is_numeric, rows_of, global_at, local_at, storable, stored_at, dropped, indexes_of, arguments_of, parameters_of, ◌⇒◌, signature_by};
+ghost use Rattle.cse_typing.specs.Signature.{id_number, id_text, number_item, text_item, is_record, is_numeric, rows_of, global_at, local_at, storable, stored_at, given, dropped, indexes_of, arguments_of, parameters_of, ◌⇒◌, signature_by};
 ghost use Rattle.cse_typing.specs.Needs.{signature_of};
 
 use crate::kind::{Kind, kind_of_global, kind_of_local};
@@ -248,6 +248,81 @@ fn of_call(tables: &Tables, callee: u32) -> Option<Need>
     }
 }
 
+/// A need, where a condition holds.
+fn when(holds: bool, need: Option<Need>) -> Option<Need>
+    ensures { result ≡ given holds need }
+{
+    if holds { need } else { None }
+}
+
+/// Leaves a value of a kind, if there is one.
+fn loads(kind: Option<Kind>) -> Option<Need>
+    ensures { (x : Lists) → option_map (signature_of x) result ≡ option_and_then (λ k. [] ⇒ k ∷ []) kind }
+{
+    let kind = kind?;
+    plain(None, None, Some(kind))
+}
+
+/// Takes a value of a kind, if there is one.
+fn stores(kind: Option<Kind>) -> Option<Need>
+    ensures { (x : Lists) → option_map (signature_of x) result ≡ option_and_then (λ k. k ∷ [] ⇒ []) kind }
+{
+    let kind = kind?;
+    plain(Some(kind), None, None)
+}
+
+/// Leaves what an id item has, if there is one.
+fn reads_id(item: Option<ItemShape>, leaves: Kind) -> Option<Need>
+    ensures { (x : Lists) → option_map (signature_of x) result ≡ option_and_then (λ i. [] ⇒ leaves ∷ []) item }
+{
+    let _item = item?;
+    plain(None, None, Some(leaves))
+}
+
+/// Takes an occurrence of an item's record, and leaves what the item has.
+fn reads_item(item: Option<ItemShape>, leaves: Kind) -> Option<Need>
+    ensures { (x : Lists) → option_map (signature_of x) result ≡ option_and_then (λ i. Kind.Occurrence i.owner ∷ [] ⇒ leaves ∷ []) item }
+{
+    let item = item?;
+    plain(Some(Kind::Occurrence(item.owner)), None, Some(leaves))
+}
+
+/// Takes a value on an occurrence of an item's record.
+fn writes_item(item: Option<ItemShape>, value: Kind) -> Option<Need>
+    ensures { (x : Lists) → option_map (signature_of x) result ≡ option_and_then (λ i. value ∷ Kind.Occurrence i.owner ∷ [] ⇒ []) item }
+{
+    let item = item?;
+    plain(Some(value), Some(Kind::Occurrence(item.owner)), None)
+}
+
+/// Takes a number, and leaves an index of one of so many rows, or of one more.
+fn finds_row(rows: Option<u16>, a: u8) -> Option<Need>
+    ensures { (x : Lists) → option_map (signature_of x) result
+        ≡ option_and_then (λ n. Kind.Number ∷ [] ⇒ Kind.Index (if a == 0 then n else n + 1) ∷ []) rows }
+{
+    let rows = rows?;
+    let number = Some(Kind::Number);
+    if a == 0 {
+        return plain(number, None, Some(Kind::Index(rows as u32)));
+    }
+    plain(number, None, Some(Kind::Index(rows as u32 + 1)))
+}
+
+/// Takes a number, and leaves whether it has a row.
+fn seeks_row(rows: Option<u16>) -> Option<Need>
+    ensures { (x : Lists) → option_map (signature_of x) result ≡ option_and_then (λ n. Kind.Number ∷ [] ⇒ Kind.Number ∷ []) rows }
+{
+    let _rows = rows?;
+    plain(Some(Kind::Number), None, Some(Kind::Number))
+}
+
+/// Takes two values of a kind, and leaves a number.
+fn joins(kind: Kind) -> Option<Need>
+    ensures { (x : Lists) → option_map (signature_of x) result ≡ (kind ∷ kind ∷ [] ⇒ Kind.Number ∷ []) }
+{
+    plain(Some(kind), Some(kind), Some(Kind::Number))
+}
+
 /// What an instruction takes and leaves, where it finds what it names in the tables.
 #[tactic(auto, unfolding(crate::specs::Signature::signature_by))]
 pub fn need_of(
@@ -262,130 +337,52 @@ pub fn need_of(
         ≡ signature_by (record { shape = shape_lists shape.now; lists = lists_of tables.now; routine = routine_lists routine.now }) in_loop top instr.op instr.a instr.b instr.c }
 {
     let number = Some(Kind::Number);
-    let text = Some(Kind::Text);
+    let c = instr.c;
+    let record = is_record(shape, instr.a);
+    let occurrence = Some(Kind::Occurrence(instr.a));
     match instr.op {
-        Op::Number => {
-            if (instr.c as usize) < tables.constants.len() {
-                return plain(None, None, number);
-            }
-            None
-        }
+        Op::Number => when((c as usize) < tables.constants.len(), loads(number)),
         Op::Special => plain(None, None, number),
-        Op::Text => {
-            if (instr.c as usize) < tables.texts.len() {
-                return plain(None, None, text);
-            }
-            None
-        }
-        Op::LoadLocal => {
-            let kind = local_at(routine, instr.c)?;
-            plain(None, None, Some(kind))
-        }
-        Op::StoreLocal => {
-            let kind = stored_at(routine, instr.c)?;
-            plain(Some(kind), None, None)
-        }
-        Op::LoadGlobal => {
-            let kind = global_at(tables, instr.c)?;
-            plain(None, None, Some(kind))
-        }
-        Op::StoreGlobal => {
-            let kind = global_at(tables, instr.c)?;
-            plain(Some(kind), None, None)
-        }
-        Op::Add => plain(number, number, number),
-        Op::Subtract => plain(number, number, number),
-        Op::Multiply => plain(number, number, number),
-        Op::Quotient => plain(number, number, number),
-        Op::Remainder => plain(number, number, number),
+        Op::Text => when((c as usize) < tables.texts.len(), loads(Some(Kind::Text))),
+        Op::LoadLocal => loads(local_at(routine, c)),
+        Op::StoreLocal => stores(stored_at(routine, c)),
+        Op::LoadGlobal => loads(global_at(tables, c)),
+        Op::StoreGlobal => stores(global_at(tables, c)),
+        Op::Add => joins(Kind::Number),
+        Op::Subtract => joins(Kind::Number),
+        Op::Multiply => joins(Kind::Number),
+        Op::Quotient => joins(Kind::Number),
+        Op::Remainder => joins(Kind::Number),
         Op::Negate => plain(number, None, number),
-        Op::Compare => plain(number, number, number),
-        Op::CompareText => plain(text, text, number),
-        Op::And => plain(number, number, number),
-        Op::Or => plain(number, number, number),
+        Op::Compare => joins(Kind::Number),
+        Op::CompareText => joins(Kind::Text),
+        Op::And => joins(Kind::Number),
+        Op::Or => joins(Kind::Number),
         Op::Not => plain(number, None, number),
         Op::IsSpecial => plain(number, None, number),
         Op::Jump => plain(None, None, None),
         Op::JumpUnless => plain(number, None, None),
         Op::Index => plain(number, None, Some(Kind::Index(instr.b as u32))),
-        Op::Occurrence => {
-            if !is_record(shape, instr.a) {
-                return None;
-            }
-            plain(number, None, Some(Kind::Occurrence(instr.a)))
-        }
-        Op::Row => {
-            let rows = rows_of(shape, instr.b)?;
-            if instr.a == 0 {
-                return plain(number, None, Some(Kind::Index(rows as u32)));
-            }
-            plain(number, None, Some(Kind::Index(rows as u32 + 1)))
-        }
-        Op::CurrentOccurrence => {
-            if !is_record(shape, instr.a) {
-                return None;
-            }
-            if !in_loop {
-                return None;
-            }
-            plain(None, None, Some(Kind::Occurrence(instr.a)))
-        }
-        Op::OccurrenceNumber => {
-            if !is_record(shape, instr.a) {
-                return None;
-            }
-            plain(Some(Kind::Occurrence(instr.a)), None, number)
-        }
-        Op::TotalOccurrences => {
-            if !is_record(shape, instr.a) {
-                return None;
-            }
-            plain(None, None, number)
-        }
-        Op::IdNumber => {
-            let _item = id_number(shape, instr.c)?;
-            plain(None, None, number)
-        }
-        Op::IdText => {
-            let _item = id_text(shape, instr.c)?;
-            plain(None, None, text)
-        }
-        Op::ItemNumber => {
-            let item = number_item(shape, instr.c)?;
-            plain(Some(Kind::Occurrence(item.owner)), None, number)
-        }
-        Op::ItemText => {
-            let item = text_item(shape, instr.c)?;
-            plain(Some(Kind::Occurrence(item.owner)), None, text)
-        }
-        Op::StoreNumber => {
-            let item = number_item(shape, instr.c)?;
-            plain(number, Some(Kind::Occurrence(item.owner)), None)
-        }
-        Op::StoreText => {
-            let item = text_item(shape, instr.c)?;
-            plain(text, Some(Kind::Occurrence(item.owner)), None)
-        }
-        Op::LoadCell => of_array(tables, instr.c, None, number),
-        Op::StoreCell => of_array(tables, instr.c, number, None),
-        Op::InSet => {
-            let _rows = rows_of(shape, instr.b)?;
-            plain(number, None, number)
-        }
-        Op::Message => of_message(tables, instr.c),
-        Op::Impute => {
-            let item = number_item(shape, instr.c)?;
-            plain(number, Some(Kind::Occurrence(item.owner)), None)
-        }
-        Op::Call => of_call(tables, instr.c),
+        Op::Occurrence => when(record, plain(number, None, occurrence)),
+        Op::Row => finds_row(rows_of(shape, instr.b), instr.a),
+        Op::CurrentOccurrence => when(record && in_loop, plain(None, None, occurrence)),
+        Op::OccurrenceNumber => when(record, plain(occurrence, None, number)),
+        Op::TotalOccurrences => when(record, plain(None, None, number)),
+        Op::IdNumber => reads_id(id_number(shape, c), Kind::Number),
+        Op::IdText => reads_id(id_text(shape, c), Kind::Text),
+        Op::ItemNumber => reads_item(number_item(shape, c), Kind::Number),
+        Op::ItemText => reads_item(text_item(shape, c), Kind::Text),
+        Op::StoreNumber => writes_item(number_item(shape, c), Kind::Number),
+        Op::StoreText => writes_item(text_item(shape, c), Kind::Text),
+        Op::LoadCell => of_array(tables, c, None, number),
+        Op::StoreCell => of_array(tables, c, number, None),
+        Op::InSet => seeks_row(rows_of(shape, instr.b)),
+        Op::Message => of_message(tables, c),
+        Op::Impute => writes_item(number_item(shape, c), Kind::Number),
+        Op::Call => of_call(tables, c),
         Op::Return => plain(gift_of(routine.gives), None, None),
         Op::LoopCount => plain(number, None, None),
-        Op::LoopOccurrences => {
-            if !is_record(shape, instr.a) {
-                return None;
-            }
-            plain(None, None, None)
-        }
+        Op::LoopOccurrences => when(record, plain(None, None, None)),
         Op::End => plain(None, None, None),
         Op::Break => plain(None, None, None),
         Op::Pop => dropped(instr.a, top),

@@ -1,16 +1,21 @@
-//! Abstract stacks by number, in a table in which each entry puts a kind on an earlier stack.
+//! Abstract stacks by number, in a table in which each entry puts a kind on an earlier stack. Equal
+//! stacks have equal numbers.
 
-ghost use Rattle.std.specs.Prelude.{◌≡◌, ◌≤◌, ◌<◌, ◌+◌, [], ◌∷◌, length, OnErr, IfOk, MatchOption};
-ghost use Rattle.cse_typing.specs.Piles.{stack_of};
+ghost use Rattle.std.specs.Prelude.{◌≡◌, ◌≤◌, ◌<◌, ◌+◌, [], ◌∷◌, ℕ, Some, length, OnErr, OnOk, IfOk, MatchOption};
+ghost use Rattle.cse_typing.specs.Piles.{stack_of, entry_of};
+ghost use Rattle.cse_typing.specs.Within.{KeepsStacks};
 ghost use Rattle.cse_typing.specs.Kinds.{top_of};
+ghost use Rattle.cse_typing.specs.Depth.{count_of};
 ghost use Rattle.cse_typing.specs.Pass.{same_kinds};
 
-use crate::kind::{Kind, is_same_kind};
+use crate::depth::Depth;
+use crate::kind::Kind;
+use crate::numbers::Numbers;
 use std::alloc::{AllocError, Global};
 use std::marker::Model;
 
 /// A kind on the stack of a number.
-#[derive(Clone, Copy, Debug)]
+#[derive(Clone, Copy, Debug, PartialEq, Eq, PartialOrd, Ord)]
 pub struct Entry {
     pub kind: Kind,
     pub below: usize,
@@ -29,6 +34,9 @@ pub enum Expected {
 #[derive(Drop)]
 pub struct Piles {
     entries: Vec<Entry>,
+    /// How many values each stack but the empty one has.
+    depths: Vec<Depth>,
+    numbers: Numbers,
 }
 
 impl Model for Piles {
@@ -37,11 +45,11 @@ impl Model for Piles {
 
     ghost Value = { List Entry };
 
-    ghost use Rattle.cse_typing.specs.Piles.{IsGrown};
+    ghost use Rattle.cse_typing.specs.Shared.{IsShared};
 
     ghost view = { λ p. reverse p.entries.items };
 
-    ghost invariant = { λ p. IsGrown (reverse p.entries.items) };
+    ghost invariant = { λ p. IsShared (reverse p.entries.items) (reverse p.depths.items) p.numbers };
 }
 
 impl Piles {
@@ -50,18 +58,61 @@ impl Piles {
     {
         Piles {
             entries: Vec::new(alloc),
+            depths: Vec::new(alloc),
+            numbers: Numbers::new(alloc),
         }
     }
 
-    /// Puts a kind on a stack, and gives the number of the stack that is made.
+    /// The number of a kind on a stack: that of the entry which is there already, or a new one. Takes
+    /// time that grows with the logarithm of the number of stacks.
     pub fn push(&mut self, kind: Kind, below: usize) -> Result<usize, AllocError>
         requires { below ≤ length self.old }
-        ensures number { IfOk result (λ n. n ≡ length self.old + 1) }
-        ensures entries { IfOk result (λ _. self.new ≡ record { kind = kind; below = below } ∷ self.old) }
+        ensures stack { IfOk result (λ n. stack_of self.new n ≡ kind ∷ stack_of self.old below) }
+        ensures within { IfOk result (λ n. n ≤ length self.new) }
+        ensures keeps { KeepsStacks self.old self.new }
+    {
+        let entry = Entry { kind, below };
+        if let Some(number) = self.numbers.find(entry) {
+            return Ok(number);
+        }
+        let Some(depth) = Depth::one_of(kind).plus(self.depth(below)) else {
+            return Err(AllocError);
+        };
+        self.add(entry, depth)?;
+        Ok(self.entries.len())
+    }
+
+    /// A new entry, with how many values its stack has; nothing changes where memory runs out.
+    fn add(&mut self, entry: Entry, depth: Depth) -> Result<(), AllocError>
+        requires new { (n : ℕ) → entry_of self.old n ≡ Some entry → ⊥ }
+        requires below { entry.below ≤ length self.old }
+        requires depth { depth ≡ count_of (entry.kind ∷ stack_of self.old entry.below) }
+        ensures added { OnOk result (self.new ≡ entry ∷ self.old) }
         ensures err { OnErr result (self.new ≡ self.old) }
     {
-        self.entries.push(Entry { kind, below })?;
-        Ok(self.entries.len())
+        self.depths.push(depth)?;
+        if self.entries.push(entry).is_err() {
+            self.depths.pop();
+            return Err(AllocError);
+        }
+        let number = self.entries.len();
+        if self.numbers.put(entry, number).is_err() {
+            self.entries.pop();
+            self.depths.pop();
+            return Err(AllocError);
+        }
+        Ok(())
+    }
+
+    /// How many numbers, texts and ordinals a stack has.
+    pub fn depth(&self, stack: usize) -> Depth
+        requires { stack ≤ length self.now }
+        ensures { result ≡ count_of (stack_of self.now stack) }
+    {
+        if stack == 0 {
+            return Depth::NONE;
+        }
+        self.depths[stack - 1]
     }
 
     /// The kind on top of a stack and the stack below it; none for the empty stack.
@@ -97,30 +148,14 @@ impl Piles {
             Some(_) => false,
         }
     }
-}
 
-/// Whether two stacks are the same.
-pub fn are_same(piles: &Piles, a: usize, b: usize) -> bool
-    requires a { a ≤ length piles.now }
-    requires b { b ≤ length piles.now }
-    ensures { result ≡ same_kinds (stack_of piles.now a) (stack_of piles.now b) }
-{
-    let mut a = a;
-    let mut b = b;
-    'down: while a != b {
-        match piles.take(a) {
-            None => return piles.is_empty(b),
-            Some((kind, rest)) => match piles.take(b) {
-                None => return false,
-                Some((other, others)) => {
-                    if !is_same_kind(kind, other) {
-                        return false;
-                    }
-                    a = rest;
-                    b = others;
-                }
-            },
-        }
+    /// Whether two stacks are the same.
+    pub fn are_same(&self, a: usize, b: usize) -> bool
+        requires a { a ≤ length self.now }
+        requires b { b ≤ length self.now }
+        ensures { result ≡ same_kinds (stack_of self.now a) (stack_of self.now b) }
+    {
+        let _count = self.entries.len();
+        a == b
     }
-    true
 }

@@ -5,13 +5,17 @@ ghost use Rattle.cse_typing.specs.Code.{part};
 ghost use Rattle.cse_typing.specs.Skeleton.{skeleton};
 ghost use Rattle.cse_typing.specs.Bracket.{KeepsRules};
 ghost use Rattle.cse_typing.specs.Tables.{scene_in};
-ghost use Rattle.cse_typing.specs.Judged.{Judges};
+ghost use Rattle.cse_typing.specs.Judged.{Judges, fault_in};
+ghost use Rattle.cse_typing.specs.Depth.{IsDepth, IsDepthBelow};
 
 use crate::brackets::pass;
 use crate::control::control_of;
+use crate::depth::Depth;
 use crate::in_loop::is_in_loop;
+use crate::known::expected_at;
 use crate::openers::Openers;
 use crate::piles::{Expected, Piles};
+use crate::place_depth::{locals_depth, place_depth};
 use crate::routine_code::RoutineCode;
 use crate::stand::may_stand;
 use crate::turn::{Standing, Surroundings, turn};
@@ -50,34 +54,68 @@ pub fn fault_of<C: Code>(
     requires brackets { KeepsRules (skeleton around.tables.now.records.items (part start around.routine.now.instructions (C.list code.now))) }
     ensures { IfOk result (Judges (scene_in around.entry) number (part start around.entry.routine.now.instructions (C.list code.now))) }
 {
-    let mut known = nothing(alloc, around.routine.instructions)?;
-    let fault = walk(alloc, around, code, start, number, &mut known)?;
-    Ok(fault)
+    match judge(alloc, around, code, start, number, &[])? {
+        Ok(_) => Ok(None),
+        Err(fault) => Ok(Some(fault)),
+    }
 }
 
-/// One pass over the places, in order.
+/// The depth of a routine whose brackets keep their rules, by the depths of smaller routines, or its
+/// first fault. A depth of 2^64 or more counts as a want of memory. One pass over the places: each
+/// takes time that grows with the logarithm of how many stacks there are, and with what it takes from
+/// the stack; at most 64 openers are looked at.
+pub fn judge<C: Code>(
+    alloc: Global,
+    around: Surroundings<'_>,
+    code: &C,
+    start: usize,
+    number: u32,
+    smaller: &[Depth],
+) -> Result<Result<Depth, Fault>, AllocError>
+    requires within { start + around.routine.now.instructions ≤ length (C.list code.now) }
+    requires brackets { KeepsRules (skeleton around.tables.now.records.items (part start around.routine.now.instructions (C.list code.now))) }
+    ensures judges { IfOk result (λ v. Judges (scene_in around.entry) number (part start around.entry.routine.now.instructions (C.list code.now)) (fault_in v)) }
+    ensures depth { IfOk result (λ v. IfOk v (IsDepth (scene_in around.entry) smaller.now (part start around.entry.routine.now.instructions (C.list code.now)))) }
+{
+    let mut known = nothing(alloc, around.routine.instructions)?;
+    let Some(locals) = locals_depth(&around.routine.locals) else {
+        return Err(AllocError);
+    };
+    match walk(alloc, around, code, start, number, smaller, &mut known)? {
+        Err(fault) => Ok(Err(fault)),
+        Ok(places) => match locals.plus(places) {
+            None => Err(AllocError),
+            Some(depth) => Ok(Ok(depth)),
+        },
+    }
+}
+
+/// One pass over the places, in order: the greatest depth of a place, or the first fault.
 fn walk<C: Code>(
     alloc: Global,
     around: Surroundings<'_>,
     code: &C,
     start: usize,
     number: u32,
+    smaller: &[Depth],
     known: &mut [Expected],
-) -> Result<Option<Fault>, AllocError>
+) -> Result<Result<Depth, Fault>, AllocError>
     requires within { start + around.routine.now.instructions ≤ length (C.list code.now) }
     requires brackets { KeepsRules (skeleton around.tables.now.records.items (part start around.routine.now.instructions (C.list code.now))) }
     requires known { known.old ≡ replicate around.routine.now.instructions Expected.Free }
-    ensures { IfOk result (Judges (scene_in around.entry) number (part start around.entry.routine.now.instructions (C.list code.now))) }
+    ensures judges { IfOk result (λ v. Judges (scene_in around.entry) number (part start around.entry.routine.now.instructions (C.list code.now)) (fault_in v)) }
+    ensures depth { IfOk result (λ v. IfOk v (IsDepthBelow (scene_in around.entry) smaller.now (part start around.entry.routine.now.instructions (C.list code.now)) around.entry.routine.now.instructions)) }
 {
     let _fits = code.len();
     let size = around.routine.instructions;
     let skeleton = RoutineCode::new(code, &around.tables.records, start, size);
     let mut openers = Openers::new();
     let mut piles = Piles::new(alloc);
+    let mut most = Depth::NONE;
     'places: for place in 0..size {
         let instr = code.at(start + place as usize);
         if !may_stand(around.tables, number, around.routine.ambient, instr) {
-            return Ok(Some(Fault::MayNotStand(place)));
+            return Ok(Err(Fault::MayNotStand(place)));
         }
         let control = control_of(&around.tables.records, instr);
         let in_loop = is_in_loop(code, start, size, &openers, instr.a);
@@ -87,10 +125,15 @@ fn walk<C: Code>(
             control,
             in_loop,
         };
+        let there = expected_at(known, place as usize);
+        let Some(kept) = place_depth(around.tables, smaller, &piles, there, instr) else {
+            return Err(AllocError);
+        };
         if !turn(around, at, &mut piles, known)? {
-            return Ok(Some(Fault::NoStack(place)));
+            return Ok(Err(Fault::NoStack(place)));
         }
+        most = most.greater(kept);
         pass(&skeleton, place, control, &mut openers);
     }
-    Ok(None)
+    Ok(Ok(most))
 }

@@ -1,54 +1,60 @@
 //! Whether a program as a whole is typed for a dictionary of a shape.
 
-ghost use Rattle.std.specs.Prelude.{◌≡◌, ◌≤◌, ◌+◌, length, OnOk, IfErr, ◌⊎◌};
+ghost use Rattle.std.specs.Prelude.{◌≡◌, ◌≤◌, ◌+◌, length, OnOk, IfOk, IfErr, ◌⊎◌};
 ghost use Rattle.cse_value.specs.Shape.{shape_lists};
 ghost use Rattle.cse_typing.specs.Code.{part};
 ghost use Rattle.cse_typing.specs.Shapes.{shape_of};
 ghost use Rattle.cse_typing.specs.Tables.{scene_in};
 ghost use Rattle.cse_typing.specs.Checked.{IsSound, Fails};
+ghost use Rattle.cse_typing.specs.Depth.{IsDepth};
 ghost use Rattle.cse_typing.specs.Typed.{AreTypedBelow, IsTyped, HasUnfitEvents, IsOutOfMemory, Refuses};
 
-use crate::brackets::check_code;
+use crate::brackets::first_break;
+use crate::depth::Depth;
 use crate::order::{all_events_fit, names_each_once};
 use crate::refusal::{Refusal, nowhere};
 use crate::routine_code::RoutineCode;
 use crate::shape::same_shape;
 use crate::turn::Surroundings;
-use crate::walk::{Fault, fault_of};
+use crate::walk::{Fault, judge};
 use cse_image::{Code, Program};
 use cse_value::shape::Shape;
 use std::alloc::Global;
 
-/// Whether the routine of this number, whose code starts there, keeps the rules of brackets, its
-/// instructions may stand in it, and it has a typing.
-fn check_routine<C: Code>(
+/// The depth of the routine of this number, whose code starts there, by the depths of smaller routines,
+/// where the routine keeps the rules of brackets, its instructions may stand in it, and it has a typing.
+/// Else its first fault: 65; then, at the least place, 69 or 66. 90 where memory runs out, or a depth is
+/// 2^64 or more.
+pub fn check_routine<C: Code>(
     alloc: Global,
     around: Surroundings<'_>,
     code: &C,
     start: usize,
     number: u32,
-) -> Result<(), Refusal>
+    smaller: &[Depth],
+) -> Result<Depth, Refusal>
     requires within { start + around.routine.now.instructions ≤ length (C.list code.now) }
     ensures sound { OnOk result (IsSound (scene_in around.entry) number (part start around.entry.routine.now.instructions (C.list code.now))) }
+    ensures depth { IfOk result (IsDepth (scene_in around.entry) smaller.now (part start around.entry.routine.now.instructions (C.list code.now))) }
     ensures fails { IfErr result (λ e. IsOutOfMemory e ⊎ Fails (scene_in around.entry) number (part start around.entry.routine.now.instructions (C.list code.now)) e) }
 {
     let size = around.routine.instructions;
     let skeleton = RoutineCode::new(code, &around.tables.records, start, size);
-    if let Some(at) = check_code(&skeleton) {
+    if let Some(at) = first_break(alloc, &skeleton)? {
         return Err(Refusal {
             number: 65,
             routine: number,
             at,
         });
     }
-    match fault_of(alloc, around, code, start, number)? {
-        None => Ok(()),
-        Some(Fault::MayNotStand(at)) => Err(Refusal {
+    match judge(alloc, around, code, start, number, smaller)? {
+        Ok(depth) => Ok(depth),
+        Err(Fault::MayNotStand(at)) => Err(Refusal {
             number: 69,
             routine: number,
             at,
         }),
-        Some(Fault::NoStack(at)) => Err(Refusal {
+        Err(Fault::NoStack(at)) => Err(Refusal {
             number: 66,
             routine: number,
             at,
@@ -77,7 +83,7 @@ fn check_routines<C: Code>(
             tables,
             routine,
         };
-        check_routine(alloc, around, code, start, number)?;
+        check_routine(alloc, around, code, start, number, &[])?;
         start += routine.instructions as usize;
         number += 1;
     }
@@ -85,7 +91,7 @@ fn check_routines<C: Code>(
 }
 
 /// Whether the order names each record once and each event fits.
-fn check_events<C: Code>(shape: &Shape, program: &Program<C>) -> Result<(), Refusal>
+pub fn check_events<C: Code>(shape: &Shape, program: &Program<C>) -> Result<(), Refusal>
     requires shape { shape_lists shape.now ≡ shape_of program.now }
     requires routines { AreTypedBelow (shape_lists shape.now) program.now (length program.now.lists.routines) }
     ensures typed { OnOk result (IsTyped (shape_lists shape.now) program.now) }
@@ -104,6 +110,12 @@ fn check_events<C: Code>(shape: &Shape, program: &Program<C>) -> Result<(), Refu
 /// fits each place; the order names each record exactly once; and each event fits. Else the first
 /// reason: 68; then by routine, from 0, 65, and at the least place 69 or 66; then 69 with no routine
 /// and no place. 90 where memory runs out.
+///
+/// The time grows with the number of instructions and, for each that leaves something, with the
+/// logarithm of how many stacks the routine makes: a jump compares two entries of a table, and where
+/// stacks meet two numbers are compared. At one place at most 64 openers are looked at, the kinds that
+/// the instruction takes, and at a message 17 times its text, which has 255 characters. A routine of
+/// 1,000,000 instructions takes some 150 MB at most, and less than a second where it has no messages.
 pub fn typed<C: Code>(alloc: Global, shape: &Shape, program: &Program<C>) -> Result<(), Refusal>
     ensures typed { OnOk result (IsTyped (shape_lists shape.now) program.now) }
     ensures refused { IfErr result (λ e. IsOutOfMemory e ⊎ Refuses (shape_lists shape.now) program.now e) }
