@@ -1,0 +1,5 @@
+pub mod WeightLaws
+pub mod SumLaws
+pub mod FrameLaws
+pub mod EventLaws
+pub mod CaseLaws

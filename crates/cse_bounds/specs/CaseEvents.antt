@@ -1,0 +1,65 @@
+-- The events of a case, one after the other, and the steps that they may take.
+use Rattle.std.specs.Prelude.{ℕ, zero, suc, ◌≤◌, Bool, ◌&&◌, ◌==◌, if◌then◌else◌, List, [], ◌∷◌, ◌++◌, count_by, find}
+use Rattle.std.specs.List.{sum_by}
+use Rattle.std.specs.Option.{option_map_or}
+use Rattle.cse_value.specs.declared.shape.ItemShape.{ItemShape}
+use Rattle.cse_parts.specs.declared.entries.Event.{Event}
+use Rattle.cse_parts.specs.declared.entries.EventCode.{EventCode}
+use Rattle.cse_parts.specs.declared.entries.EventCode.TheVariants.{LevelPreproc, LevelPostproc, RecordPreproc, RecordPostproc, ItemPreproc, ItemPostproc}
+use Rattle.cse_parts.specs.declared.entries.EventEntry.{EventEntry}
+use Rattle.cse_parts.specs.Codes.{event_code}
+use Rattle.cse_parts.specs.Image.{Image}
+use Rattle.cse_typing.specs.Skeleton.{most_occurrences}
+use Rattle.cse_bounds.specs.Bound.{bound}
+use Rattle.cse_bounds.specs.EventBound.{times_in_case}
+
+abbrev pub event : EventCode → ℕ → Event
+event code index = record { code = code; index = index }
+
+-- the preproc and postproc of each item of record r, in order, for one occurrence; the first item has the number k
+abbrev pub item_events : ℕ → ℕ → List ItemShape → List Event
+item_events r k [] = []
+item_events r k (item ∷ items) =
+    (if item.owner == r then event ItemPreproc k ∷ event ItemPostproc k ∷ [] else []) ++ item_events r (suc k) items
+
+-- the same for n occurrences
+abbrev pub occurrence_events : ℕ → List ItemShape → ℕ → List Event
+occurrence_events r items zero = []
+occurrence_events r items (suc n) = item_events r 0 items ++ occurrence_events r items n
+
+-- the events of record r with n occurrences
+abbrev pub record_events : List ItemShape → ℕ → ℕ → List Event
+record_events items r n = event RecordPreproc r ∷ occurrence_events r items n ++ event RecordPostproc r ∷ []
+
+-- those of the records in edit order, each with its number of occurrences
+abbrev pub records_events : List ItemShape → (ℕ → ℕ) → List ℕ → List Event
+records_events items occurrences [] = []
+records_events items occurrences (r ∷ rs) = record_events items r (occurrences r) ++ records_events items occurrences rs
+
+-- the events of a case
+abbrev pub case_events : Image → (ℕ → ℕ) → List Event
+case_events x occurrences =
+    event LevelPreproc 0 ∷ records_events x.lists.items occurrences x.lists.order ++ event LevelPostproc 0 ∷ []
+
+-- a case has at most as many occurrences of each record as the record may have
+abbrev pub KeepsMost : Image → (ℕ → ℕ) → Type 0
+KeepsMost x occurrences = (r : ℕ) → occurrences r ≤ most_occurrences x.lists.records r
+
+-- ---- what they may take
+
+-- the entry is that of the event
+abbrev pub is_of : Event → EventEntry → Bool
+is_of e entry = (event_code entry.code == event_code e.code) && (entry.index == e.index)
+
+-- the most steps of one event; none, where the program has no routine for it
+abbrev pub event_bound : Image → Event → ℕ
+event_bound x e = option_map_or (λ entry. bound x entry.routine) (find (is_of e) x.lists.events) 0
+
+-- the most steps of events, one after the other
+abbrev pub events_bound : Image → List Event → ℕ
+events_bound x events = sum_by (event_bound x) events
+
+-- no event comes more often than it may in a case
+abbrev pub KeepsTimes : Image → List Event → Type 0
+KeepsTimes x events =
+    (entry : EventEntry) → count_by (λ e. is_of e entry) events ≤ times_in_case x.lists entry.code entry.index
