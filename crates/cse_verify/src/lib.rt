@@ -1,21 +1,34 @@
 //! The verifier: whether a program may run.
 //!
 //! It is the public face of the verifier. What jumps, brackets and typings are is defined in
-//! `cse_typing`, on which it stands.
+//! `cse_typing`, and what bounds are in `cse_bounds`, on which it stands.
 //!
+//! - `verify`: whether a program may run with a dictionary; a `Verified` value tells how much it may take.
 //! - `check_jumps`: the rules of jumps and brackets alone, without memory.
 //! - `same_shape`: whether a program was made for a dictionary, without memory.
 //! - `code_start`: where the code of a routine lies.
 #![tactic(auto)]
 
 mod code;
+mod depth;
 mod jumps;
+mod routines;
 mod shape;
+mod verified;
+mod verifying;
 
 pub use code::code_start;
+pub use cse_bounds::STEP_LIMIT;
 pub use cse_typing::{NONE, Refusal};
+pub use depth::Depth;
 pub use jumps::check_jumps;
 pub use shape::same_shape;
+pub use verified::Verified;
+pub use verifying::verify;
 
 #[cfg(test)]
+mod bound_tests;
+#[cfg(test)]
 mod tests;
+#[cfg(test)]
+mod worked;

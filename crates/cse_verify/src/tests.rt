@@ -1,6 +1,6 @@
 //! Worked programs: their jumps and brackets, and the dictionaries that they were made for.
 
-use crate::{NONE, Refusal, check_jumps, same_shape};
+use crate::{check_jumps, same_shape};
 use cse_dict::Dictionary;
 use cse_image::{Ambient, EventCode, EventEntry, Gift, Instr, Op, Parts, Program, Routine};
 use cse_value::shape::{ItemKind, ItemShape, RecordShape};
@@ -52,46 +52,66 @@ fn parts_of(alloc: Global, lines: &[Line]) -> Result<Parts, AllocError> {
     })
 }
 
-/// A refusal by the rules of jumps and brackets.
-fn at(routine: u32, at: u32) -> Result<(), Refusal> {
-    Err(Refusal {
-        number: 65,
-        routine,
-        at,
-    })
+/// What the rules of jumps and brackets say of a routine with this code: zeros, or the number, the
+/// routine and the place.
+fn jumps_told(alloc: Global, lines: &[Line]) -> Result<(u8, u32, u32), Fail> {
+    let program = Program::from_parts(parts_of(alloc, lines)?).ok_or("no spelling")?;
+    match check_jumps(&program) {
+        Ok(()) => Ok((0, 0, 0)),
+        Err(refusal) => Ok((refusal.number, refusal.routine, refusal.at)),
+    }
 }
+
+/// Code, and the first place that breaks a rule of jumps or brackets.
+const JUMPS: [(&[Line], (u8, u32, u32)); 4] = [
+    // Kinds are no matter of jumps: a sum of a number and a text passes here.
+    (
+        &[
+            (Op::Number, 0, 0, 0),
+            (Op::Text, 0, 0, 0),
+            (Op::Add, 0, 0, 0),
+            (Op::Pop, 0, 0, 0),
+            (Op::Return, 0, 0, 0),
+        ],
+        (0, 0, 0),
+    ),
+    // A loop, one whose end names another opener, and a jump into one.
+    (
+        &[
+            (Op::Number, 0, 0, 0),
+            (Op::LoopCount, 0, 3, 3),
+            (Op::Jump, 0, 0, 3),
+            (Op::End, 0, 0, 1),
+            (Op::Return, 0, 0, 0),
+        ],
+        (0, 0, 0),
+    ),
+    (
+        &[
+            (Op::Number, 0, 0, 0),
+            (Op::LoopCount, 0, 3, 2),
+            (Op::End, 0, 0, 0),
+            (Op::Return, 0, 0, 0),
+        ],
+        (65, 0, 1),
+    ),
+    (
+        &[
+            (Op::Jump, 0, 0, 2),
+            (Op::LoopCount, 0, 3, 3),
+            (Op::Jump, 0, 0, 3),
+            (Op::End, 0, 0, 1),
+            (Op::Return, 0, 0, 0),
+        ],
+        (65, 0, 0),
+    ),
+];
 
 #[test]
 fn checks_jumps_and_brackets(rt: HostRuntime) -> Result<(), Fail> {
-    let alloc = rt.alloc();
-    // Kinds are no matter of jumps: a sum of a number and a text passes here.
-    let sum: &[Line] = &[
-        (Op::Number, 0, 0, 0),
-        (Op::Text, 0, 0, 0),
-        (Op::Add, 0, 0, 0),
-        (Op::Pop, 0, 0, 0),
-        (Op::Return, 0, 0, 0),
-    ];
-    let program = Program::from_parts(parts_of(alloc, sum)?).ok_or("no spelling")?;
-    assert_eq!(rt; check_jumps(&program), Ok(()));
-    // A loop, one whose end names another opener, and a jump into it.
-    let mut lines: [Line; 5] = [
-        (Op::Number, 0, 0, 0),
-        (Op::LoopCount, 0, 3, 3),
-        (Op::Jump, 0, 0, 3),
-        (Op::End, 0, 0, 1),
-        (Op::Return, 0, 0, 0),
-    ];
-    let program = Program::from_parts(parts_of(alloc, &lines)?).ok_or("no spelling")?;
-    assert_eq!(rt; check_jumps(&program), Ok(()));
-    lines[3] = (Op::End, 0, 0, 0);
-    let program = Program::from_parts(parts_of(alloc, &lines)?).ok_or("no spelling")?;
-    assert_eq!(rt; check_jumps(&program), at(0, 1));
-    lines[3] = (Op::End, 0, 0, 1);
-    lines[0] = (Op::Jump, 0, 0, 2);
-    let program = Program::from_parts(parts_of(alloc, &lines)?).ok_or("no spelling")?;
-    assert_eq!(rt; check_jumps(&program), at(0, 0));
-    assert_eq!(rt; NONE, u32::MAX);
+    for (lines, want) in JUMPS {
+        assert_eq!(rt; jumps_told(rt.alloc(), lines)?, want);
+    }
     Ok(())
 }
 

@@ -1,0 +1,4 @@
+pub mod CallLaws
+pub mod MeasureLaws
+pub mod VerifiedLaws
+pub mod DepthLaws

@@ -1,0 +1,4 @@
+pub mod FirstFault
+pub mod Depths
+pub mod Verified
+pub mod Measured

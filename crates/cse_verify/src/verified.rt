@@ -1,0 +1,122 @@
+//! A program that may run with a dictionary, and how much it may take.
+
+ghost use Rattle.std.specs.Prelude.{◌≡◌, ℕ, ◌<◌, ◌≤◌, length};
+ghost use Rattle.cse_bounds.specs.Bound.{bound};
+ghost use Rattle.cse_bounds.specs.EventBound.{case_bound, run_bound};
+ghost use Rattle.cse_bounds.specs.CaseEvents.{case_events, events_bound, KeepsMost};
+ghost use Rattle.cse_dict.specs.Dictionary.{shape_of};
+ghost use Rattle.cse_verify.specs.Depths.{IsDepthOf};
+ghost use Rattle.cse_verify.specs.Verified.{MayRun, IsKept};
+
+use crate::depth::Depth;
+use cse_bounds::{STEP_LIMIT, events_keep_to_bound};
+use cse_dict::Dictionary;
+use cse_image::{Code, Owned, Program};
+use std::marker::Model;
+
+/// A program that may run with its dictionary: `verify` alone makes one. It is seen as the dictionary
+/// and the program that were handed in. None of its calls takes memory.
+#[derive(Drop)]
+pub struct Verified<'a, C: Code = Owned> {
+    dictionary: &'a Dictionary,
+    program: Program<C>,
+    bounds: Vec<u64>,
+    case_steps: u64,
+    run_steps: u64,
+    depth: Depth,
+}
+
+impl<'a, C: Code> Model for Verified<'a, C> {
+    ghost use Rattle.cse_verify.specs.Verified.{VerifiedProgram, IsKept};
+
+    ghost Value = { VerifiedProgram };
+
+    ghost view = { λ v. record { dictionary = v.dictionary.now; image = v.program } };
+
+    ghost invariant = { λ v. IsKept (record { dictionary = v.dictionary.now; image = v.program }) v.bounds.items v.case_steps v.run_steps v.depth };
+}
+
+impl<'a, C: Code> Verified<'a, C> {
+    /// The verified program.
+    pub(crate) fn with(
+        dictionary: &'a Dictionary,
+        program: Program<C>,
+        bounds: Vec<u64>,
+        case_steps: u64,
+        run_steps: u64,
+        depth: Depth,
+    ) -> Self
+        requires { IsKept (record { dictionary = dictionary.now; image = program }) bounds.items case_steps run_steps depth }
+        ensures { result ≡ record { dictionary = dictionary.now; image = program } }
+    {
+        Verified {
+            dictionary,
+            program,
+            bounds,
+            case_steps,
+            run_steps,
+            depth,
+        }
+    }
+
+    /// The program that was handed in. It is typed for the dictionary, and bounded.
+    pub fn program(&self) -> &Program<C>
+        ensures program { result.now ≡ self.now.image }
+        ensures may_run { MayRun self.now }
+    {
+        &self.program
+    }
+
+    /// The dictionary that was handed in.
+    pub fn dictionary(&self) -> &'a Dictionary
+        ensures { result.now ≡ self.now.dictionary }
+    {
+        self.dictionary
+    }
+
+    /// The program again.
+    pub fn into_program(self) -> Program<C>
+        ensures { result ≡ self.entry.image }
+    {
+        self.program
+    }
+
+    /// The most steps that a call of a routine takes, those of the calls in it with them.
+    pub fn steps(&self, routine: u32) -> u64
+        requires { routine < length self.now.image.lists.routines }
+        ensures value { result ≡ bound self.now.image routine }
+        ensures small { result ≤ STEP_LIMIT }
+    {
+        self.bounds[routine as usize]
+    }
+
+    /// The most steps that the events of a case take together.
+    pub fn case_steps(&self) -> u64
+        ensures value { result ≡ case_bound self.now.image }
+        ensures small { result ≤ STEP_LIMIT }
+    {
+        self.case_steps
+    }
+
+    /// The most steps that the application's events take together.
+    pub fn run_steps(&self) -> u64
+        ensures { result ≡ run_bound self.now.image }
+    {
+        self.run_steps
+    }
+
+    /// How much the calls of a run keep at most.
+    pub fn depth(&self) -> Depth
+        ensures { IsDepthOf (shape_of self.now.dictionary) self.now.image result }
+    {
+        self.depth
+    }
+
+    /// A law: the events of a case by the program's order, with any numbers of occurrences that its
+    /// records may have, take together at most `case_steps`.
+    pub fn events_keep_to_case(&self)
+        ensures { (occurrences : ℕ → ℕ) → KeepsMost self.now.image occurrences → events_bound self.now.image (case_events self.now.image occurrences) ≤ case_bound self.now.image }
+    {
+        events_keep_to_bound(self.program());
+    }
+}
