@@ -1,0 +1,93 @@
+-- Laws of a line that is read as columns.
+use Rattle.std.proofs.Common.{◌≡◌, ℕ, ◌+◌, ◌-◌, ◌<◌, ◌≤◌, max, cond, ltb, Option, Some, None, Bool, true, false, List, [], ◌∷◌, ◌++◌, length, take, drop, replicate, refl, ap, sym, ◌∙◌, arith, append_assoc, length-append}
+use Rattle.std.specs.Str.{IsUtf8, is_utf8}
+use Rattle.std.proofs.lemmas.Str.{IsUtf8-from_is_utf8}
+use Rattle.std.proofs.lemmas.List.{length-replicate, replicate-append-replicate}
+use Rattle.std.proofs.lemmas.Bool.{lt-ltb, ltb-true}
+use Rattle.cse_dict.specs.Dictionary.{DictionaryText, number_of_type}
+use Rattle.cse_lines.specs.declared.line.Ending.{Ending}
+use Rattle.cse_lines.specs.Line.{FileLine, ending_of, text_of}
+use Rattle.cse_lines.specs.Field.{field_at, id_spans, last_column, least_width, padded, record_len, record_of, type_span, width_of}
+use Rattle.cse_lines.specs.Columns.{LineText, columns_of, line_text}
+use Rattle.cse_lines.specs.Runs.{line_fault}
+use Rattle.cse_lines.specs.declared.decode.Stop.{Stop}
+use Rattle.cse_lines.specs.declared.decode.Stop.TheVariants.{Memory, Fault}
+use Rattle.cse_lines.specs.Decoding.{IfFault}
+
+not_true : (b : Bool) → (b ≡ true → ⊥) → b ≡ false
+not_true true h = absurd (h refl)
+not_true false h = refl
+
+pub not_utf8 : (bytes : List ℕ) → (IsUtf8 bytes → ⊥) → is_utf8 bytes ≡ false
+not_utf8 bytes h = not_true _ (λ e. h (IsUtf8-from_is_utf8 bytes e))
+
+pub length-padded : (width : ℕ) (columns : List ℕ) → length (padded width columns) ≡ max (length columns) width
+length-padded width columns = omega (arith, length-append columns (replicate (width - length columns) 32), length-replicate {A = ℕ} (width - length columns) 32)
+
+pub padded-padded : (wide least : ℕ) (columns : List ℕ) → padded wide (padded least columns) ≡ padded (max (length columns) (max least wide)) columns
+padded-padded wide least columns =
+    let n = length columns in
+    let m : length (padded least columns) ≡ max n least = length-padded least columns in
+    let more : least - n + (wide - length (padded least columns)) ≡ max n (max least wide) - n = omega arith in
+    append_assoc columns (replicate (least - n) 32) (replicate (wide - length (padded least columns)) 32)
+    ∙ ap (λ l. columns ++ l) (replicate-append-replicate (least - n) (wide - length (padded least columns)) 32)
+    ∙ ap (λ k. columns ++ replicate k 32) more
+
+-- the columns of the record type of a line that is padded to the least width
+pub type_fits : (d : DictionaryText) (columns : List ℕ) → (type_span d).start - 1 + (type_span d).len ≤ length (padded (least_width d) columns)
+unfolding least_width
+type_fits d columns = omega (arith, length-padded (last_column (type_span d ∷ id_spans d)) columns)
+
+pub record_of_is : (d : DictionaryText) (columns : List ℕ) → number_of_type (field_at (type_span d) (padded (least_width d) columns)) d ≡ record_of d columns
+unfolding record_of
+record_of_is d columns = refl
+
+pub width_of_is : (d : DictionaryText) (columns : List ℕ)
+    → padded (record_len d (record_of d columns)) (padded (least_width d) columns) ≡ padded (width_of d columns) columns
+unfolding width_of
+width_of_is d columns = padded-padded (record_len d (record_of d columns)) (least_width d) columns
+
+pub line_fault-long : (line : FileLine) → 262144 < length (text_of line) → line_fault line ≡ Some 21
+unfolding line_fault
+line_fault-long line h = rw (lt-ltb 262144 (length (text_of line)) h) refl
+
+not_above : (m n : ℕ) → n ≤ m → ltb m n ≡ false
+not_above m n h = not_true _ (λ e. let above : m < n = ltb-true m n e in absurd (omega arith))
+
+pub line_fault-not_text : (line : FileLine) → length (text_of line) ≤ 262144 → is_utf8 (text_of line) ≡ false → line_fault line ≡ Some 20
+unfolding line_fault
+line_fault-not_text line h u = rw (not_above 262144 (length (text_of line)) h, u) refl
+
+pub line_fault-wide : (line : FileLine) → length (text_of line) ≤ 262144 → is_utf8 (text_of line) ≡ true → 65536 < length (columns_of line) → line_fault line ≡ Some 21
+unfolding line_fault
+line_fault-wide line h u w = rw (not_above 262144 (length (text_of line)) h, u, lt-ltb 65536 (length (columns_of line)) w) refl
+
+pub line_fault-none : (line : FileLine) → length (text_of line) ≤ 262144 → is_utf8 (text_of line) ≡ true → length (columns_of line) ≤ 65536 → line_fault line ≡ None
+unfolding line_fault
+line_fault-none line h u w = rw (not_above 262144 (length (text_of line)) h, u, not_above 65536 (length (columns_of line)) w) refl
+
+-- a line without a fault is not too long, and is text
+pub short_line : (line : FileLine) → line_fault line ≡ None → ltb 262144 (length (text_of line)) ≡ false
+unfolding line_fault
+short_line line h = not_true _ (λ e. let h' = rw e at h in cc)
+
+pub text_is_utf8 : (line : FileLine) → line_fault line ≡ None → is_utf8 (text_of line) ≡ true
+unfolding line_fault
+text_is_utf8 line h = by_cases (ltb 262144 (length (text_of line))) (is_utf8 (text_of line)) (cond {A = Option ℕ} (ltb 65536 (length (columns_of line))) (Some 21) None) h
+  where
+    by_cases : (long text : Bool) (later : Option ℕ) → cond {A = Option ℕ} long (Some 21) (cond {A = Option ℕ} text later (Some 20)) ≡ None → text ≡ true
+    by_cases true text later h = cc
+    by_cases false true later h = refl
+    by_cases false false later h = cc
+
+-- a line whose columns were read
+pub line_text-is : (d : DictionaryText) (line : FileLine) (columns : List ℕ) (len : ℕ) (ending : Ending) (number : Option ℕ) → ending ≡ ending_of (line.1)
+    → len ≡ length (columns_of line) → number ≡ record_of d (columns_of line) → columns ≡ padded (width_of d (columns_of line)) (columns_of line)
+    → (let l : LineText = record { columns = columns; len = len; ending = ending; record_number = number } in l) ≡ line_text d line
+unfolding line_text
+line_text-is d line columns len ending number e n r c = rw (e, n, r, c) refl
+
+-- what holds of the number of a fault
+pub IfFault-more : (P Q : ℕ → Type 0) (stop : Stop) → ((number : ℕ) → P number → Q number) → IfFault P stop → IfFault Q stop
+IfFault-more P Q Memory h f = tt
+IfFault-more P Q (Fault number) h f = h number f

@@ -1,0 +1,89 @@
+-- Laws of the columns that a dictionary names.
+use Rattle.std.proofs.Common.{◌≡◌, ℕ, ◌+◌, ◌-◌, ◌<◌, ◌≤◌, max, Bool, true, false, List, [], ◌∷◌, ◌++◌, length, get_or, take, drop, refl, ap, sym, ◌∙◌, arith, length-drop}
+use Rattle.std.specs.Prelude.{not}
+use Rattle.std.specs.Str.{bytes_eq}
+use Rattle.std.proofs.lemmas.Bool.{false≢true}
+use Rattle.std.proofs.lemmas.Slice.Eq.{bytes_eq-Decides}
+use Rattle.std.proofs.lemmas.List.{drop_more, take_at, drop_at, length-take-le}
+use Rattle.cse_dict.specs.Dictionary.{DictionaryText}
+use Rattle.cse_lines.specs.declared.layout.Span.{Span}
+use Rattle.cse_lines.specs.Field.{LayoutText, field_at, fields_at, id_spans, last_column, layout_of, least_width}
+
+same_tests : (b c : Bool) → (b ≡ true → c ≡ true) → (c ≡ true → b ≡ true) → b ≡ c
+same_tests true c h k = sym (h refl)
+same_tests false true h k = k refl
+same_tests false false h k = refl
+
+not_true : (b : Bool) → (b ≡ true → ⊥) → b ≡ false
+not_true true h = absurd (h refl)
+not_true false h = refl
+
+front_same : (x y r s : List ℕ) → length x ≡ length y → x ++ r ≡ y ++ s → x ≡ y
+front_same x y r s len e = sym (take_at x r (length x) refl) ∙ ap (take (length x)) e ∙ take_at y s (length x) (sym len)
+
+back_same : (x y r s : List ℕ) → length x ≡ length y → x ++ r ≡ y ++ s → r ≡ s
+back_same x y r s len e = sym (drop_at x r (length x) refl) ∙ ap (drop (length x)) e ∙ drop_at y s (length x) (sym len)
+
+pub length-field_at : (s : Span) (columns : List ℕ) → s.start - 1 + s.len ≤ length columns → length (field_at s columns) ≡ s.len
+length-field_at s columns h = length-take-le s.len (drop (s.start - 1) columns) (omega (arith, length-drop (s.start - 1) columns))
+
+same_len : (s : Span) (a b : List ℕ) → s.start - 1 + s.len ≤ length a → s.start - 1 + s.len ≤ length b → length (field_at s a) ≡ length (field_at s b)
+same_len s a b h k = length-field_at s a h ∙ sym (length-field_at s b k)
+
+-- a place where the same stands
+pub fields_eq-same : (s : Span) (ss : List Span) (a b : List ℕ) → s.start - 1 + s.len ≤ length a → s.start - 1 + s.len ≤ length b → field_at s a ≡ field_at s b
+    → bytes_eq (fields_at (s ∷ ss) a) (fields_at (s ∷ ss) b) ≡ bytes_eq (fields_at ss a) (fields_at ss b)
+fields_eq-same s ss a b h k e = same_tests _ _
+    (λ t. (bytes_eq-Decides (fields_at ss a) (fields_at ss b)).1 (back_same (field_at s a) (field_at s b) (fields_at ss a) (fields_at ss b) (same_len s a b h k)
+    ((bytes_eq-Decides (fields_at (s ∷ ss) a) (fields_at (s ∷ ss) b)).0 t)))
+    (λ t. (bytes_eq-Decides (fields_at (s ∷ ss) a) (fields_at (s ∷ ss) b)).1
+    (ap (λ x. x ++ fields_at ss a) e ∙ ap (λ r. field_at s b ++ r) ((bytes_eq-Decides (fields_at ss a) (fields_at ss b)).0 t)))
+
+-- and one where something else stands
+pub fields_eq-other : (s : Span) (ss : List Span) (a b : List ℕ) → s.start - 1 + s.len ≤ length a → s.start - 1 + s.len ≤ length b → (field_at s a ≡ field_at s b → ⊥)
+    → bytes_eq (fields_at (s ∷ ss) a) (fields_at (s ∷ ss) b) ≡ false
+fields_eq-other s ss a b h k other = not_true _ (λ t. other (front_same (field_at s a) (field_at s b) (fields_at ss a) (fields_at ss b) (same_len s a b h k)
+    ((bytes_eq-Decides (fields_at (s ∷ ss) a) (fields_at (s ∷ ss) b)).0 t)))
+
+pub layout_is : (d : DictionaryText) (ids : List Span) (start len least : ℕ) → ids ≡ id_spans d → start ≡ d.type_columns.start → len ≡ d.type_columns.len
+    → least ≡ max (start - 1 + len) (last_column ids)
+    → (let l : LayoutText = record { ids = ids; record_type = record { start = start; len = len }; least_width = least } in l) ≡ layout_of d
+unfolding least_width
+layout_is d ids start len least i s n w = rw (w, i, s, n) refl
+
+-- a place of no columns
+abbrev pub no_span : Span
+no_span = record { start = 0; len = 0 }
+
+pub record AtSpan (spans : List Span) (i : ℕ) (s : Span) (a b : List ℕ) : Type 0 where
+  pub is : drop i spans ≡ s ∷ drop (i + 1) spans
+  pub left : s.start - 1 + s.len ≤ length a
+  pub right : s.start - 1 + s.len ≤ length b
+  pub left_rest : last_column (drop (i + 1) spans) ≤ length a
+  pub right_rest : last_column (drop (i + 1) spans) ≤ length b
+
+-- the next place
+pub spans_at : (spans : List Span) (i : ℕ) (a b : List ℕ) → i < length spans → last_column (drop i spans) ≤ length a → last_column (drop i spans) ≤ length b
+    → AtSpan spans i (get_or spans i no_span) a b
+spans_at spans i a b l h k =
+    let e : drop i spans ≡ get_or spans i no_span ∷ drop (i + 1) spans = drop_more spans i no_span l in
+    let h' = rw e at h in
+    let k' = rw e at k in
+    record {
+      is = e;
+      left = omega arith;
+      right = omega arith;
+      left_rest = omega arith;
+      right_rest = omega arith;
+    }
+
+-- what `!=` says of two lists of columns
+pub ids_differ : (xs ys : List ℕ) (b : Bool) → b ≡ not (bytes_eq xs ys) → b ≡ true → (xs ≡ ys → ⊥)
+ids_differ xs ys b e t same = let h = (bytes_eq-Decides xs ys).1 same in false≢true (cc (ap not h))
+
+pub ids_equal : (xs ys : List ℕ) (b : Bool) → b ≡ not (bytes_eq xs ys) → b ≡ false → xs ≡ ys
+ids_equal xs ys b e f = (bytes_eq-Decides xs ys).0 (from_not (bytes_eq xs ys) (sym e ∙ f))
+  where
+    from_not : (t : Bool) → not t ≡ false → t ≡ true
+    from_not true h = refl
+    from_not false h = sym h

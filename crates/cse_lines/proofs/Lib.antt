@@ -1,0 +1,9 @@
+pub mod LaidLaws
+pub mod LineLaws
+pub mod RunLaws
+pub mod FieldLaws
+pub mod DecodeLaws
+pub mod WrittenLaws
+pub mod TakeLaws
+pub mod GatherLaws
+pub mod ReadLaws

@@ -1,0 +1,70 @@
+-- Laws of a line that comes to a run.
+use Rattle.std.proofs.Common.{◌≡◌, ℕ, ◌+◌, ◌-◌, ◌<◌, ◌≤◌, max, Bool, true, false, cond, ltb, List, [], ◌∷◌, ◌++◌, length, Option, Some, None, refl, ap, sym, ◌∙◌, arith}
+use Rattle.std.specs.Prelude.{not}
+use Rattle.std.specs.Str.{bytes_eq}
+use Rattle.std.proofs.lemmas.Bool.{false≢true}
+use Rattle.std.proofs.lemmas.Slice.Eq.{bytes_eq-Decides}
+use Rattle.cse_dict.specs.Dictionary.{DictionaryText}
+use Rattle.cse_lines.specs.declared.decode.Head.{Head}
+use Rattle.cse_lines.specs.Decoding.{line_with}
+use Rattle.cse_lines.specs.Line.{FileLine, is_marked}
+use Rattle.cse_lines.specs.Field.{LayoutText, fields_at, id_spans, ids_of, last_column, layout_of, least_width, record_len, record_of, type_span, width_of}
+use Rattle.cse_lines.specs.Columns.{columns_of, id_of, line_text}
+use Rattle.cse_lines.specs.Run.{RunText, line_at, run_text, with_line}
+use Rattle.cse_lines.specs.Runs.{fault_of, line_fault, place_after}
+use Rattle.cse_lines.specs.Taking.{run_id}
+use Rattle.cse_lines.proofs.DecodeLaws.{length-padded}
+use Rattle.cse_lines.proofs.RunLaws.{place-same}
+
+pub ids_of_is : (d : DictionaryText) (columns : List ℕ) → fields_at (id_spans d) columns ≡ ids_of d columns
+unfolding ids_of
+ids_of_is d columns = refl
+
+pub id_of_is : (d : DictionaryText) (line : FileLine) → ids_of d (line_text d line).columns ≡ id_of d line
+unfolding id_of
+id_of_is d line = refl
+
+pub ids_fit : (d : DictionaryText) → last_column (id_spans d) ≤ least_width d
+unfolding least_width
+ids_fit d = omega arith
+
+pub least_fits : (d : DictionaryText) (line : FileLine) → least_width d ≤ length (line_text d line).columns
+unfolding line_text width_of
+least_fits d line = omega (arith, length-padded (max (length (columns_of line)) (max (least_width d) (record_len d (record_of d (columns_of line))))) (columns_of line))
+
+-- what a test of the id columns says
+pub same_test : (d : DictionaryText) (run : RunText) (line : FileLine) (a b : List ℕ) (test : Bool) → test ≡ bytes_eq (fields_at (id_spans d) a) (fields_at (id_spans d) b)
+    → a ≡ (line_at run 0).columns → b ≡ (line_text d line).columns → test ≡ bytes_eq (run_id d run) (id_of d line)
+same_test d run line a b test t e f =
+    t ∙ ap (λ x. bytes_eq x (fields_at (id_spans d) b)) (ids_of_is d a ∙ ap (ids_of d) e)
+    ∙ ap (bytes_eq (run_id d run)) (ids_of_is d b ∙ ap (ids_of d) f ∙ id_of_is d line)
+
+pub same_ids : (xs ys : List ℕ) (test : Bool) → test ≡ bytes_eq xs ys → test ≡ true → xs ≡ ys
+same_ids xs ys test e t = (bytes_eq-Decides xs ys).0 (sym e ∙ t)
+
+pub other_ids : (xs ys : List ℕ) (test : Bool) → test ≡ bytes_eq xs ys → test ≡ false → (xs ≡ ys → ⊥)
+other_ids xs ys test e t same = false≢true (sym t ∙ e ∙ (bytes_eq-Decides xs ys).1 same)
+
+pub fault_of-own : (place number : ℕ) (line : FileLine) → line_fault line ≡ Some number → fault_of place line ≡ Some number
+fault_of-own place number line h = rw h refl
+
+pub fault_of-many : (d : DictionaryText) (id : List ℕ) (n : ℕ) (line : FileLine) → line_fault line ≡ None → n ≡ 10000 → id ≡ id_of d line
+    → fault_of (place_after d id n line) line ≡ Some 22
+fault_of-many d id n line h full same = rw (place-same d id n line (sym same), full, h) refl
+
+pub test_of : (d : DictionaryText) (run : RunText) (line : FileLine) (layout : LayoutText) (a b columns : List ℕ) (head : Head) (test : Bool)
+    → test ≡ bytes_eq (fields_at layout.ids a) (fields_at layout.ids b) → layout ≡ layout_of d → a ≡ (line_at run 0).columns → b ≡ columns
+    → line_with columns head ≡ line_text d line → test ≡ bytes_eq (run_id d run) (id_of d line)
+test_of d run line layout a b columns head test t l e f g =
+    same_test d run line a b test (t ∙ ap (λ x. bytes_eq (fields_at x.ids a) (fields_at x.ids b)) l) e (f ∙ ap (λ x. x.columns) g)
+
+-- the run with the line that was read
+pub with_line-read : (d : DictionaryText) (run new : RunText) (line : FileLine) (a columns : List ℕ) (head : Head) → new ≡ with_line run head.marked (line_with a head)
+    → a ≡ columns → line_with columns head ≡ line_text d line → head.marked ≡ is_marked line → new ≡ with_line run (is_marked line) (line_text d line)
+with_line-read d run new line a columns head e f g m =
+    e ∙ ap (λ x. with_line run head.marked (line_with x head)) f ∙ ap (λ l. with_line run head.marked l) g ∙ ap (λ b. with_line run b (line_text d line)) m
+
+-- a run of that line alone
+pub run_text-first : (d : DictionaryText) (run : RunText) (number : ℕ) (line : FileLine) → run.lines ≡ [] → run.marked ≡ false → run.first_line ≡ number
+    → with_line run (is_marked line) (line_text d line) ≡ run_text d number (line ∷ [])
+run_text-first d run number line l m n = rw (l, m, n) refl

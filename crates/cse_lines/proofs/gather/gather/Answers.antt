@@ -1,0 +1,61 @@
+use Rattle.std.proofs.Common.{◌≡◌, ◌∙◌, sym, subst, arith, length, drop, false, []}
+use Rattle.std.specs.Prelude.{◌==◌, ◌&&◌}
+use Rattle.std.proofs.lemmas.Result.{err_from_is_err_and}
+use Rattle.cse_lines.specs.Line.{lines_in}
+use Rattle.cse_lines.specs.Cutting.{IsFirstLine}
+use Rattle.cse_lines.specs.Gathering.{front_after}
+use Rattle.cse_lines.specs.Taking.{GoesOn, EndsRun, GivesFirst, Gathers, Refuses, RefusesAt, Takes}
+use Rattle.cse_lines.proofs.DecodeLaws.{IfFault-more}
+use Rattle.cse_lines.proofs.GatherLaws.{Gathers-more, Gathers-none, GivesFirst-found, RefusesAt-found, first_at, front_at, wide_line}
+use Rattle.cse_lines.proofs.gather.gather.Goals as goal
+
+pub lines-init : goal.lines-init
+lines-init c = Gathers-none _ _ _ _ _ c.requires.gathered
+
+pub take_line-requires-clause-width : goal.take_line-requires-clause-width
+take_line-requires-clause-width c = wide_line c.args.dictionary.now c.args.first c.args.ended c.lines.run.first_line c.lines.run c.lines.buffer c.lines.invariant.gathered
+
+pub returns-in_err-given-clause-err : goal.returns-in_err-given-clause-err
+returns-in_err-given-clause-err c =
+    let d = c.args.dictionary.now in
+    let b = c.is_front-front.result in
+    let known = c.lines.invariant in
+    let at = front_at d c.args.first c.args.ended c.lines.run.first_line c.lines.run c.lines.buffer known.gathered b c.is_front-front.ensures in
+    let first = first_at c.is_front.result b c.args.ended c.as_slice.result.now c.lines.buffer c.in-Some.line.now (c.is_front.ensures ∙ sym c.is_front-front.ensures) c.as_slice.ensures c.in-Some.ensures.some in
+    let p = err_from_is_err_and c.from_residual.result c.from_residual.ensures.1 in
+    rw (p.1, p.2) (IfFault-more (Refuses d (b, c.in-Some.line.now) c.lines.run c.take_line.new.run)
+    (RefusesAt d c.args.first c.args.ended c.args.run.now c.args.buffer.now c.take_line.new.run) c.in_err-given.field-0.0
+    (RefusesAt-found d c.args.first c.args.ended c.args.run.now c.args.buffer.now c.lines.run c.take_line.new.run c.lines.buffer c.in-Some.line.now known b at first)
+    c.in_err-given.ensures.err)
+
+pub returns-in-Some-given-clause-ok : goal.returns-in-Some-given-clause-ok
+returns-in-Some-given-clause-ok c =
+    let d = c.args.dictionary.now in
+    let b = c.is_front-front.result in
+    let known = c.lines.invariant in
+    let at = front_at d c.args.first c.args.ended c.lines.run.first_line c.lines.run c.lines.buffer known.gathered b c.is_front-front.ensures in
+    let first = first_at c.is_front.result b c.args.ended c.as_slice.result.now c.lines.buffer c.in-Some.line.now (c.is_front.ensures ∙ sym c.is_front-front.ensures) c.as_slice.ensures c.in-Some.ensures.some in
+    let ends : EndsRun d (b, c.in-Some.line.now) c.lines.run c.take_line.new.run c.in-Some-given.given =
+    subst (Takes d (b, c.in-Some.line.now) c.lines.run c.take_line.new.run) c.in-Some-given.is c.in_ok-given.ensures.ok in
+    subst (λ rest. GivesFirst d c.args.first c.args.ended c.args.run.now c.args.buffer.now c.take_line.new.run rest c.in-Some-given.given) (sym c.drop_front.ensures)
+    (GivesFirst-found d c.args.first c.args.ended c.args.run.now c.args.buffer.now c.lines.run c.take_line.new.run c.lines.buffer c.in-Some.line.now known b at first c.in-Some-given.given ends)
+
+pub lines-preserved : goal.lines-preserved
+lines-preserved c =
+    let d = c.args.dictionary.now in
+    let b = c.is_front-front.result in
+    let known = c.lines.invariant in
+    let at = front_at d c.args.first c.args.ended c.lines.run.first_line c.lines.run c.lines.buffer known.gathered b c.is_front-front.ensures in
+    let first = first_at c.is_front.result b c.args.ended c.as_slice.result.now c.lines.buffer c.in-Some.line.now (c.is_front.ensures ∙ sym c.is_front-front.ensures) c.as_slice.ensures c.in-Some.ensures.some in
+    let on : GoesOn d (b, c.in-Some.line.now) c.lines.run c.take_line.new.run =
+    subst (Takes d (b, c.in-Some.line.now) c.lines.run c.take_line.new.run) c.in_default-given.is c.in_ok-given.ensures.ok in
+    subst (Gathers d c.args.first c.args.ended c.args.run.now c.args.buffer.now c.take_line.new.run) (sym c.drop_front.ensures)
+    (Gathers-more d c.args.first c.args.ended c.args.run.now c.args.buffer.now c.lines.run c.take_line.new.run c.lines.buffer c.in-Some.line.now known b at first on)
+
+pub returns-clause-ok : goal.returns-clause-ok
+returns-clause-ok c =
+    let d = c.args.dictionary.now in
+    let known = c.lines.invariant in
+    let at = front_at d c.args.first c.args.ended c.lines.run.first_line c.lines.run c.lines.buffer known.gathered c.is_front.result c.is_front.ensures in
+    let none = rw c.as_slice.ensures at c.in_default.ensures.none in
+    record { gathers = known; none = subst (λ f. lines_in f c.args.ended c.lines.buffer ≡ []) at none.0; all = none.1; unended = rw c.as_slice.ensures at c.in_default.ensures.unended }

@@ -1,0 +1,29 @@
+use Rattle.std.proofs.Common.{◌≡◌, ◌+◌, drop, sym, ◌∙◌, ap, false}
+use Rattle.std.specs.Str.{bytes_eq}
+use Rattle.cse_lines.specs.Field.{fields_at}
+use Rattle.cse_lines.proofs.FieldLaws.{fields_eq-same, fields_eq-other, spans_at, ids_differ, ids_equal}
+use Rattle.cse_lines.proofs.layout.are_equal.Goals as goal
+
+pub returns-then-ne : goal.returns-then-ne
+returns-then-ne c =
+    let a = c.args.a.now in
+    let b = c.args.b.now in
+    let i = c.spans.span-index in
+    let at = spans_at c.args.spans.now i a b c.spans-test.true c.spans.invariant.left c.spans.invariant.right in
+    sym (c.spans.invariant.same ∙ ap (λ ss. bytes_eq (fields_at ss a) (fields_at ss b)) at.is
+    ∙ fields_eq-other _ (drop (i + 1) c.args.spans.now) a b at.left at.right
+    (λ e. ids_differ _ _ _ c.ne.ensures c.if-ne.true (c.field_at.ensures ∙ e ∙ sym c.field_at-in-spans.ensures)))
+
+pub spans-preserved : goal.spans-preserved
+spans-preserved c =
+    let a = c.args.a.now in
+    let b = c.args.b.now in
+    let i = c.spans.span-index in
+    let at = spans_at c.args.spans.now i a b c.spans-test.true c.spans.invariant.left c.spans.invariant.right in
+    record {
+      left = at.left_rest;
+      right = at.right_rest;
+      same = c.spans.invariant.same ∙ ap (λ ss. bytes_eq (fields_at ss a) (fields_at ss b)) at.is
+          ∙ fields_eq-same _ (drop (i + 1) c.args.spans.now) a b at.left at.right
+          (sym c.field_at.ensures ∙ ids_equal _ _ _ c.ne.ensures c.if-ne.false ∙ c.field_at-in-spans.ensures);
+    }

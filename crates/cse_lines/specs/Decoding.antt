@@ -1,0 +1,25 @@
+-- A line that was read as columns.
+use Rattle.std.specs.Prelude.{◌≡◌, ◌≤◌, ℕ, List, length, None}
+use Rattle.cse_dict.specs.Dictionary.{DictionaryText}
+use Rattle.cse_lines.specs.declared.decode.Stop.{Stop}
+use Rattle.cse_lines.specs.declared.decode.Stop.TheVariants.{Memory, Fault}
+use Rattle.cse_lines.specs.declared.decode.Head.{Head}
+use Rattle.cse_lines.specs.Line.{FileLine, is_marked}
+use Rattle.cse_lines.specs.Columns.{LineText, line_text}
+use Rattle.cse_lines.specs.Runs.{line_fault}
+
+-- what holds of the number of a fault
+abbrev pub IfFault : (ℕ → Type 0) → Stop → Type 0
+IfFault P Memory = Unit {0}
+IfFault P (Fault number) = P number
+
+-- a line with these columns
+abbrev pub line_with : List ℕ → Head → LineText
+line_with columns head = record { columns = columns; len = head.len; ending = head.ending; record_number = head.record_number }
+
+-- the line of the file has no fault by itself, and is this one
+pub record IsDecoded (d : DictionaryText) (line : FileLine) (columns : List ℕ) (head : Head) : Type 0 where
+  pub sound : line_fault line ≡ None
+  pub is : line_with columns head ≡ line_text d line
+  pub marked : head.marked ≡ is_marked line
+  pub fits : head.len ≤ length columns

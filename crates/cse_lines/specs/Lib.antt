@@ -1,0 +1,14 @@
+pub mod Line
+pub mod Field
+pub mod Columns
+pub mod Written
+pub mod Laid
+pub mod Run
+pub mod Runs
+pub mod Reader
+pub mod Resting
+pub mod Gathering
+pub mod Cutting
+pub mod Decoding
+pub mod Taking
+pub mod Reading

@@ -1,0 +1,105 @@
+//! The bytes that were read and aren't cut into lines yet.
+
+ghost use Rattle.std.specs.Prelude.{◌≡◌, ◌≤◌, [], drop, length, IfOk, OnOk, OnErr, true, IsErrOf};
+ghost use Rattle.std.specs.Io.KnownBytes.{Keeps};
+ghost use Rattle.cse_lines.specs.Reading.{ReadsMore};
+ghost use Rattle.cse_lines.specs.declared.buffer.ReadFault.TheVariants.{Device, Memory};
+
+use cse_value::{Failed, Input};
+use std::alloc::{AllocError, Global};
+use std::marker::Model;
+
+/// The most bytes that one read asks for.
+pub const CHUNK: usize = 65_536;
+
+/// Why no bytes could be read.
+#[derive(Clone, Copy, Debug, PartialEq, Eq)]
+pub enum ReadFault {
+    Device,
+    Memory,
+}
+
+impl From<Failed> for ReadFault {
+    ghost from_gives = { λ _ e. e ≡ Device };
+
+    fn from(_failed: Failed) -> ReadFault {
+        ReadFault::Device
+    }
+}
+
+impl From<AllocError> for ReadFault {
+    ghost from_gives = { λ _ e. e ≡ Memory };
+
+    fn from(_refused: AllocError) -> ReadFault {
+        ReadFault::Memory
+    }
+}
+
+/// A queue of bytes.
+#[derive(Drop)]
+pub struct Buffer {
+    bytes: Vec<u8>,
+    at: usize,
+}
+
+impl Model for Buffer {
+    ghost use Rattle.std.specs.Prelude.{ℕ, List, ◌≤◌, drop, vec_len};
+
+    ghost Value = { List ℕ };
+
+    ghost view = { λ b. drop b.at b.bytes.items };
+
+    ghost invariant = { λ b. b.at ≤ vec_len b.bytes };
+}
+
+impl Buffer {
+    /// No bytes.
+    pub fn new(alloc: Global) -> Buffer
+        ensures { result ≡ [] }
+    {
+        Buffer {
+            bytes: Vec::new(alloc),
+            at: 0,
+        }
+    }
+
+    /// How many bytes it holds.
+    pub fn len(&self) -> usize
+        ensures { result ≡ length self.now }
+    {
+        self.bytes.len() - self.at
+    }
+
+    /// The bytes that it holds.
+    pub fn as_slice(&self) -> &[u8]
+        ensures { result.now ≡ self.now }
+    {
+        &self.bytes[self.at..]
+    }
+
+    /// Gives up the first bytes.
+    pub fn drop_front(&mut self, n: usize)
+        requires { n ≤ length self.old }
+        ensures { self.new ≡ drop n self.old }
+    {
+        self.at += n;
+    }
+
+    /// Reads once, behind what is held.
+    pub fn read_from<R: Input>(&mut self, alloc: Global, input: &mut R) -> Result<usize, ReadFault>
+        ensures more { IfOk result (λ n. ReadsMore (R.remaining input.old) (R.remaining input.new) self.old self.new n) }
+        ensures same { OnErr result (self.new ≡ self.old) }
+        ensures kept { OnErr result (Keeps (R.remaining input.old) (R.remaining input.new)) }
+        ensures works { OnOk result (R.has_failed input.new ≡ R.has_failed input.old) }
+        ensures failed { IsErrOf result ReadFault.Device → R.has_failed input.new ≡ true }
+        ensures sound { IsErrOf result ReadFault.Memory → R.has_failed input.new ≡ R.has_failed input.old }
+    {
+        let mut bytes = Vec::from_slice(alloc, self.as_slice())?;
+        bytes.reserve(CHUNK)?;
+        let mut chunk = [0; CHUNK];
+        let n = input.read(&mut chunk)?;
+        bytes.extend_from_slice(&chunk[..n])?;
+        *self = Buffer { bytes, at: 0 };
+        Ok(n)
+    }
+}

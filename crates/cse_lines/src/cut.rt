@@ -1,0 +1,61 @@
+//! The first line of a slice of bytes, and its parts.
+
+ghost use Rattle.std.specs.Prelude.{◌≡◌, ◌&&◌, [], IfNone, IfSome, true};
+ghost use Rattle.cse_lines.specs.Cutting.{HasNoFeed, IsFirstLine};
+ghost use Rattle.cse_lines.specs.Line.{before_end, ending_of, has_mark, is_excessive, lines_in, without_mark};
+
+use crate::line::Ending;
+use memchr::memchr;
+
+/// The most bytes of a line, its end and the mark not counted.
+pub const MOST_BYTES: usize = 262_144;
+
+/// A line's bytes before its end, and its end.
+pub fn split_end(line: &[u8]) -> (&[u8], Ending)
+    ensures text { result.0.now ≡ before_end line.now }
+    ensures ending { result.1 ≡ ending_of line.now }
+{
+    match line {
+        [text @ .., b'\r', b'\n'] => (text, Ending::ReturnFeed),
+        [text @ .., b'\n'] => (text, Ending::Feed),
+        _ => (line, Ending::FileEnd),
+    }
+}
+
+/// Whether bytes at the front of the file begin with the mark, and the bytes behind it.
+pub fn split_mark(bytes: &[u8], front: bool) -> (bool, &[u8])
+    ensures text { result.1.now ≡ without_mark front bytes.now }
+    ensures mark { result.0 ≡ (front && has_mark bytes.now) }
+{
+    match bytes {
+        [0xef, 0xbb, 0xbf, text @ ..] if front => (true, text),
+        _ => (false, bytes),
+    }
+}
+
+/// Whether bytes without a line feed are too long for a line, whatever follows.
+fn is_excessive(bytes: &[u8], front: bool) -> bool
+    ensures { result ≡ is_excessive (front, bytes.now) }
+{
+    let len = split_mark(bytes, front).1.len();
+    match bytes {
+        [.., b'\r'] => len.saturating_sub(1) > MOST_BYTES,
+        _ => len > MOST_BYTES,
+    }
+}
+
+/// The first line of the bytes, with its end, if there is one.
+pub fn first_line(bytes: &[u8], front: bool, ended: bool) -> Option<&[u8]>
+    ensures none { IfNone result ((lines_in front ended bytes.now ≡ []) × (ended ≡ true → bytes.now ≡ [])) }
+    ensures unended { IfNone result (HasNoFeed bytes.now) }
+    ensures some { IfSome result (λ line. IsFirstLine front ended bytes.now line.now) }
+{
+    if bytes.is_empty() {
+        return None;
+    }
+    match memchr(b'\n', bytes) {
+        Some(i) => Some(&bytes[..i + 1]),
+        None if ended || is_excessive(bytes, front) => Some(bytes),
+        None => None,
+    }
+}

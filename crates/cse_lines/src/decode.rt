@@ -1,0 +1,156 @@
+//! A line of a file, as columns.
+
+ghost use Rattle.std.specs.Prelude.{◌≡◌, ◌<◌, ◌++◌, true, false, Some, IfOk, IfErr, OnOk};
+ghost use Rattle.std.specs.Str.{chars, is_utf8};
+ghost use Rattle.cse_lines.specs.declared.decode.Stop.TheVariants.{Memory};
+ghost use Rattle.cse_lines.specs.Field.{layout_of, padded, record_len, record_of, width_of};
+ghost use Rattle.cse_lines.specs.Runs.{line_fault};
+ghost use Rattle.cse_lines.specs.Decoding.{IfFault, IsDecoded};
+
+use crate::cut::{MOST_BYTES, split_end, split_mark};
+use crate::layout::{Layout, field_at};
+use crate::line::Ending;
+use cse_dict::Dictionary;
+use std::alloc::AllocError;
+
+/// The most columns of a line.
+pub const MOST_COLUMNS: usize = 65_536;
+
+/// Why a line isn't taken: want of memory, or a fault of this number.
+#[derive(Clone, Copy, Debug, PartialEq, Eq)]
+pub enum Stop {
+    Memory,
+    Fault(u8),
+}
+
+impl From<AllocError> for Stop {
+    ghost from_gives = { λ _ e. e ≡ Memory };
+
+    fn from(_refused: AllocError) -> Stop {
+        Stop::Memory
+    }
+}
+
+/// What a line is beside its columns.
+#[derive(Clone, Copy, Debug, PartialEq, Eq)]
+pub struct Head {
+    /// How many columns it has in the file.
+    pub len: usize,
+    pub ending: Ending,
+    /// The number of the record whose type stands in it.
+    pub record_number: Option<u16>,
+    /// Whether the byte order mark stands before it.
+    pub marked: bool,
+}
+
+/// Appends bytes as characters.
+fn extend_ascii(columns: &mut Vec<char>, text: &[u8]) -> Result<(), AllocError>
+    ensures { OnOk result (columns.new.items ≡ columns.old.items ++ text.now) }
+{
+    columns.reserve(text.len())?;
+    'bytes: for byte in text {
+        columns.push(*byte as char)?;
+    }
+    Ok(())
+}
+
+/// Appends the characters of a text.
+fn extend_chars(columns: &mut Vec<char>, text: &str) -> Result<(), AllocError>
+    ensures { OnOk result (columns.new.items ≡ columns.old.items ++ chars text.now) }
+{
+    'chars: for column in text.chars() {
+        columns.push(column)?;
+    }
+    Ok(())
+}
+
+/// The characters of a text, in place of what was there.
+fn read_columns(text: &[u8], columns: &mut Vec<char>) -> Result<(), Stop>
+    ensures columns { OnOk result (columns.new.items ≡ chars text.now) }
+    ensures utf8 { OnOk result (is_utf8 text.now ≡ true) }
+    ensures err { IfErr result (IfFault (λ number. (number ≡ 20) × (is_utf8 text.now ≡ false))) }
+{
+    columns.clear();
+    if text.is_ascii() {
+        extend_ascii(columns, text)?;
+        return Ok(());
+    }
+    match str::from_utf8(text) {
+        Ok(text) => {
+            extend_chars(columns, text)?;
+            Ok(())
+        }
+        Err(_) => Err(Stop::Fault(20)),
+    }
+}
+
+/// Pads columns with blanks to a width.
+fn pad(columns: &mut Vec<char>, width: usize) -> Result<(), AllocError>
+    ensures { OnOk result (columns.new.items ≡ padded width columns.old.items) }
+{
+    if columns.len() < width {
+        columns.resize(width, ' ')?;
+    }
+    Ok(())
+}
+
+/// The columns of a line of the record.
+fn record_len(dictionary: &Dictionary, record_number: Option<u16>) -> usize
+    ensures { result ≡ record_len dictionary.now record_number }
+{
+    match record_number {
+        Some(number) => match dictionary.shape().records.get(number as usize) {
+            Some(record) => record.record_len as usize,
+            None => 0,
+        },
+        None => 0,
+    }
+}
+
+/// Pads the columns of a line to its width, and tells the record that its type names.
+fn widen(
+    dictionary: &Dictionary,
+    layout: &Layout,
+    columns: &mut Vec<char>,
+) -> Result<Option<u16>, AllocError>
+    requires { layout.now ≡ layout_of dictionary.now }
+    ensures number { IfOk result (λ number. number ≡ record_of dictionary.now columns.old.items) }
+    ensures columns { OnOk result (columns.new.items ≡ padded (width_of dictionary.now columns.old.items) columns.old.items) }
+{
+    pad(columns, layout.least_width())?;
+    let record_number = dictionary.record_of(field_at(columns, layout.record_type()));
+    pad(columns, record_len(dictionary, record_number))?;
+    Ok(record_number)
+}
+
+/// A line with its end, at the front of the file or not, as columns in place of what was there.
+pub fn decode(
+    dictionary: &Dictionary,
+    layout: &Layout,
+    line: &[u8],
+    front: bool,
+    columns: &mut Vec<char>,
+) -> Result<Head, Stop>
+    requires { layout.now ≡ layout_of dictionary.now }
+    ensures ok { IfOk result (λ head. IsDecoded dictionary.now (front, line.now) columns.new.items head) }
+    ensures err { IfErr result (IfFault (λ number. line_fault (front, line.now) ≡ Some number)) }
+    ensures low { IfErr result (IfFault (λ number. number < 70)) }
+{
+    let (bytes, ending) = split_end(line);
+    let (marked, text) = split_mark(bytes, front);
+    if text.len() > MOST_BYTES {
+        return Err(Stop::Fault(21));
+    }
+    read_columns(text, columns)?;
+    let len = columns.len();
+    if len > MOST_COLUMNS {
+        return Err(Stop::Fault(21));
+    }
+    let record_number = widen(dictionary, layout, columns)?;
+    Ok(Head {
+        len,
+        ending,
+        record_number,
+        marked,
+    })
+}

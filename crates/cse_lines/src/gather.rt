@@ -1,0 +1,53 @@
+//! The lines that are there, cut and gathered into a run.
+
+ghost use Rattle.std.specs.Prelude.{◌≡◌, ◌==◌, ◌&&◌, ◌+◌, ◌<◌, ◌^◌, length, IfErr, IfOk};
+ghost use Rattle.cse_lines.specs.Decoding.{IfFault};
+ghost use Rattle.cse_lines.specs.Field.{layout_of};
+ghost use Rattle.cse_lines.specs.Gathering.{Gathered};
+ghost use Rattle.cse_lines.specs.Taking.{Cuts, RefusesAt};
+
+use crate::buffer::Buffer;
+use crate::cut::first_line;
+use crate::decode::Stop;
+use crate::layout::Layout;
+use crate::run::Run;
+use crate::take::take_line;
+use cse_dict::Dictionary;
+use std::alloc::Global;
+
+/// Whether the next line stands at the front of the file.
+fn is_front(first: bool, run: &Run) -> bool
+    ensures { result ≡ (first && (length run.now.lines == 0)) }
+{
+    first && run.len() == 0
+}
+
+/// Cuts the lines that are there, until the run is whole. Lines from the front of the file on are cut
+/// where `first` says so.
+pub fn gather(
+    alloc: Global,
+    dictionary: &Dictionary,
+    layout: &Layout,
+    run: &mut Run,
+    columns: &mut Vec<char>,
+    buffer: &mut Buffer,
+    first: bool,
+    ended: bool,
+) -> Result<Option<Run>, Stop>
+    requires layout { layout.now ≡ layout_of dictionary.now }
+    requires gathered { Gathered dictionary.now first ended run.old.first_line run.old buffer.old }
+    requires number { run.old.first_line + (length run.old.lines + length buffer.old) < 2 ^ 64 }
+    ensures ok { IfOk result (λ given. Cuts dictionary.now first ended run.old buffer.old run.new buffer.new given) }
+    ensures err { IfErr result (IfFault (λ number. RefusesAt dictionary.now first ended run.old buffer.old run.new number)) }
+{
+    'lines: while let Some(line) = first_line(buffer.as_slice(), is_front(first, run), ended) {
+        let front = is_front(first, run);
+        let len = line.len();
+        let given = take_line(alloc, dictionary, layout, run, columns, line, front)?;
+        buffer.drop_front(len);
+        if let Some(given) = given {
+            return Ok(Some(given));
+        }
+    }
+    Ok(None)
+}

@@ -1,0 +1,136 @@
+//! The columns that a dictionary names on each line.
+
+ghost use Rattle.std.specs.Prelude.{◌≡◌, ◌==◌, ◌+◌, ◌-◌, ◌≤◌, [], ◌∷◌, filter, length, map, IfOk};
+ghost use Rattle.std.specs.Str.{bytes_eq};
+ghost use Rattle.cse_lines.specs.Field.{field_at, fields_at, last_column, layout_of, span_of};
+
+use cse_dict::Dictionary;
+use cse_value::shape::{ID_OWNER, ItemShape};
+use std::alloc::{AllocError, Global};
+use std::marker::Model;
+
+/// Columns of a line: the first of them, counted from 1, and how many.
+#[derive(Clone, Copy, Debug, PartialEq, Eq)]
+pub struct Span {
+    pub start: u32,
+    pub len: u32,
+}
+
+/// The columns of the id items in the order of the dictionary, those of the record type, and the last
+/// column of all these.
+#[derive(Drop)]
+pub struct Layout {
+    ids: Vec<Span>,
+    record_type: Span,
+    least_width: usize,
+}
+
+impl Model for Layout {
+    ghost use Rattle.cse_lines.specs.Field.{LayoutText};
+
+    ghost Value = { LayoutText };
+
+    ghost view = { λ l. record { ids = l.ids.items; record_type = l.record_type; least_width = l.least_width } };
+}
+
+/// The columns of an item.
+fn span_of(item: &ItemShape) -> Span
+    ensures { result ≡ span_of item.now }
+{
+    Span {
+        start: item.start,
+        len: u32::from(item.len),
+    }
+}
+
+/// The columns of the id items.
+fn id_spans(alloc: Global, items: &[ItemShape]) -> Result<Vec<Span>, AllocError>
+    ensures { IfOk result (λ v. v.items ≡ map span_of (filter (λ item. item.owner == 255) items.now)) }
+{
+    items
+        .iter()
+        .filter(|item| item.owner == ID_OWNER)
+        .map(span_of)
+        .collect(alloc)
+}
+
+/// The last column of a place.
+fn last_of(span: Span) -> usize
+    ensures { result ≡ span.start - 1 + span.len }
+{
+    (span.start as usize).saturating_sub(1) + span.len as usize
+}
+
+/// The last column of these places.
+fn last_column(spans: &[Span]) -> usize
+    ensures { result ≡ last_column spans.now }
+{
+    let mut last = 0usize;
+    'spans: for span in spans {
+        last = last.max(last_of(*span));
+    }
+    last
+}
+
+/// What stands at a place.
+pub fn field_at(columns: &[char], span: Span) -> &[char]
+    requires { last_column (span ∷ []) ≤ length columns.now }
+    ensures { result.now ≡ field_at span columns.now }
+{
+    let first = (span.start as usize).saturating_sub(1);
+    &columns[first..first + span.len as usize]
+}
+
+/// Whether the same stands at these places.
+fn are_equal(spans: &[Span], a: &[char], b: &[char]) -> bool
+    requires left { last_column spans.now ≤ length a.now }
+    requires right { last_column spans.now ≤ length b.now }
+    ensures { result ≡ bytes_eq (fields_at spans.now a.now) (fields_at spans.now b.now) }
+{
+    'spans: for span in spans {
+        if field_at(a, *span) != field_at(b, *span) {
+            return false;
+        }
+    }
+    true
+}
+
+impl Layout {
+    /// The layout of a dictionary.
+    pub fn read(alloc: Global, dictionary: &Dictionary) -> Result<Layout, AllocError>
+        ensures { IfOk result (λ layout. layout ≡ layout_of dictionary.now) }
+    {
+        let ids = id_spans(alloc, &dictionary.shape().items)?;
+        let (start, len) = dictionary.type_columns();
+        let record_type = Span { start, len };
+        let least_width = last_of(record_type).max(last_column(&ids));
+        Ok(Layout {
+            ids,
+            record_type,
+            least_width,
+        })
+    }
+
+    /// The width that each line has at least.
+    pub fn least_width(&self) -> usize
+        ensures { result ≡ self.now.least_width }
+    {
+        self.least_width
+    }
+
+    /// The columns of the record type.
+    pub fn record_type(&self) -> Span
+        ensures { result ≡ self.now.record_type }
+    {
+        self.record_type
+    }
+
+    /// Whether two lines have the same id columns.
+    pub fn has_same_ids(&self, a: &[char], b: &[char]) -> bool
+        requires left { last_column self.now.ids ≤ length a.now }
+        requires right { last_column self.now.ids ≤ length b.now }
+        ensures { result ≡ bytes_eq (fields_at self.now.ids a.now) (fields_at self.now.ids b.now) }
+    {
+        are_equal(&self.ids, a, b)
+    }
+}

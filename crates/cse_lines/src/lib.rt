@@ -1,0 +1,27 @@
+//! The lines of a data file as columns, and its runs as a stream.
+//!
+//! - `line`: a line of a run, and how it ends.
+//! - `run`: consecutive lines with equal id columns (CSPro Users Guide, data files; the limits are own).
+//! - `error`: what a data file can be refused by.
+//! - `layout`: the columns that a dictionary names on each line.
+#![tactic(auto)]
+
+mod buffer;
+mod cut;
+mod decode;
+pub mod error;
+mod gather;
+pub mod layout;
+pub mod line;
+mod next;
+pub mod reader;
+pub mod run;
+mod take;
+
+pub use error::DataError;
+pub use line::{Ending, Line};
+pub use reader::{Kept, RunReader};
+pub use run::Run;
+
+#[cfg(test)]
+mod tests;

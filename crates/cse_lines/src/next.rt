@@ -1,0 +1,148 @@
+//! One call of the reader, over its parts.
+
+ghost use Rattle.std.specs.Prelude.{◌≡◌, ◌≤◌, ◌+◌, ◌<◌, ◌^◌, ◌⊎◌, true, length, IfErr, IfOk, OnOk};
+ghost use Rattle.std.specs.Io.KnownBytes.{IsAtEnd};
+ghost use Rattle.cse_lines.specs.Field.{layout_of};
+ghost use Rattle.cse_lines.specs.Reader.{Next, given_lines};
+ghost use Rattle.cse_lines.specs.Resting.{IsLayoutOf, IsResting, TakesRest, reader_of};
+
+use crate::buffer::{Buffer, ReadFault};
+use crate::decode::Stop;
+use crate::error::DataError;
+use crate::gather::gather;
+use crate::layout::Layout;
+use crate::run::Run;
+use cse_dict::Dictionary;
+use cse_value::Input;
+use std::alloc::{AllocError, Global};
+use std::mem;
+
+/// The most reads that give bytes.
+pub const MOST_READS: u64 = 1 << 40;
+
+/// The error of this number without a line.
+fn error(number: u8) -> DataError
+    ensures number { result.number ≡ number }
+    ensures line { result.line ≡ 0 }
+{
+    DataError { number, line: 0 }
+}
+
+/// What is left of a run at the end of the file, if it has a line.
+fn take_rest(alloc: Global, run: &mut Run) -> Option<Run>
+    requires { run.old.first_line + length run.old.lines < 2 ^ 64 }
+    ensures { TakesRest run.old run.new result }
+{
+    let len = run.len();
+    if len == 0 {
+        return None;
+    }
+    let next = Run::new(alloc, run.first_line() + len as u64);
+    Some(mem::replace(run, next))
+}
+
+/// The next run of what is held and read.
+fn next_run<R: Input>(
+    alloc: Global,
+    dictionary: &Dictionary,
+    layout: &Layout,
+    input: &mut R,
+    run: &mut Run,
+    columns: &mut Vec<char>,
+    buffer: &mut Buffer,
+    ended: &mut bool,
+    reads: &mut u64,
+    lines: u64,
+) -> Result<Option<Run>, DataError>
+    requires layout { layout.now ≡ layout_of dictionary.now }
+    requires rests { IsResting (reader_of dictionary.now run.old buffer.old ended.old reads.old lines) }
+    requires end { ended.old ≡ true → IsAtEnd (R.remaining input.old) }
+    ensures next { Next (R.remaining input.old) (R.remaining input.new) (reader_of dictionary.now run.old buffer.old ended.old reads.old lines)
+        (reader_of dictionary.now run.new buffer.new ended.new reads.new (lines + length (given_lines result))) result }
+    ensures rests { OnOk result (IsResting (reader_of dictionary.now run.new buffer.new ended.new reads.new (lines + length (given_lines result)))) }
+    ensures few_reads { reads.new ≤ 2 ^ 40 }
+    ensures end { ended.new ≡ true → IsAtEnd (R.remaining input.new) }
+    ensures failed { IfErr result (λ error. error.number ≡ 70 → (R.has_failed input.new ≡ true) ⊎ (reads.new ≡ 2 ^ 40)) }
+    ensures works { OnOk result (R.has_failed input.new ≡ R.has_failed input.old) }
+{
+    'reads: loop {
+        match gather(
+            alloc,
+            dictionary,
+            layout,
+            run,
+            columns,
+            buffer,
+            lines == 0,
+            *ended,
+        ) {
+            Ok(Some(given)) => return Ok(Some(given)),
+            Ok(None) if *ended => return Ok(take_rest(alloc, run)),
+            Ok(None) => {}
+            Err(Stop::Memory) => return Err(error(90)),
+            Err(Stop::Fault(number)) => return Err(DataError {
+                number,
+                line: lines + run.len() as u64 + 1,
+            }),
+        }
+        if *reads == MOST_READS {
+            return Err(error(70));
+        }
+        match buffer.read_from(alloc, input) {
+            Ok(0) => *ended = true,
+            Ok(_) => *reads += 1,
+            Err(ReadFault::Device) => return Err(error(70)),
+            Err(ReadFault::Memory) => return Err(error(90)),
+        }
+    }
+}
+
+/// The layout that is kept, or else that of the dictionary.
+fn layout_or_read(
+    alloc: Global,
+    dictionary: &Dictionary,
+    kept: Option<Layout>,
+) -> Result<Layout, AllocError>
+    requires { IsLayoutOf dictionary.now kept }
+    ensures { IfOk result (λ layout. layout ≡ layout_of dictionary.now) }
+{
+    match kept {
+        Some(layout) => Ok(layout),
+        None => Layout::read(alloc, dictionary),
+    }
+}
+
+/// The next run of what is held and read. The layout is read in the first call.
+pub fn next_by_layout<R: Input>(
+    alloc: Global,
+    dictionary: &Dictionary,
+    layout: &mut Option<Layout>,
+    input: &mut R,
+    run: &mut Run,
+    columns: &mut Vec<char>,
+    buffer: &mut Buffer,
+    ended: &mut bool,
+    reads: &mut u64,
+    lines: u64,
+) -> Result<Option<Run>, DataError>
+    requires layout { IsLayoutOf dictionary.now layout.old }
+    requires rests { IsResting (reader_of dictionary.now run.old buffer.old ended.old reads.old lines) }
+    requires end { ended.old ≡ true → IsAtEnd (R.remaining input.old) }
+    ensures layout { IsLayoutOf dictionary.now layout.new }
+    ensures next { Next (R.remaining input.old) (R.remaining input.new) (reader_of dictionary.now run.old buffer.old ended.old reads.old lines)
+        (reader_of dictionary.now run.new buffer.new ended.new reads.new (lines + length (given_lines result))) result }
+    ensures rests { OnOk result (IsResting (reader_of dictionary.now run.new buffer.new ended.new reads.new (lines + length (given_lines result)))) }
+    ensures few_reads { reads.new ≤ 2 ^ 40 }
+    ensures end { ended.new ≡ true → IsAtEnd (R.remaining input.new) }
+    ensures failed { IfErr result (λ error. error.number ≡ 70 → (R.has_failed input.new ≡ true) ⊎ (reads.new ≡ 2 ^ 40)) }
+    ensures works { OnOk result (R.has_failed input.new ≡ R.has_failed input.old) }
+{
+    let Ok(known) = layout_or_read(alloc, dictionary, layout.take()) else {
+        return Err(error(90));
+    };
+    let answer = next_run(
+        alloc, dictionary, &known, input, run, columns, buffer, ended, reads, lines,
+    );
+    *layout = Some(known);
+    answer
+}

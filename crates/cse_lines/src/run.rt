@@ -1,0 +1,182 @@
+//! Runs of lines.
+
+ghost use Rattle.std.specs.Prelude.{◌≡◌, ◌<◌, ◌≤◌, ◌+◌, ◌++◌, ◌∷◌, [], OnErr, OnOk, drop, false, length, take};
+ghost use Rattle.cse_lines.specs.Decoding.{line_with};
+ghost use Rattle.cse_lines.specs.Laid.{IsLaid, laid_lines, line_behind};
+ghost use Rattle.cse_lines.specs.Run.{line_at, with_columns, with_field, with_line};
+
+use crate::decode::Head;
+use crate::line::{Ending, Line};
+use std::alloc::{AllocError, Global};
+use std::marker::Model;
+
+/// Consecutive lines with equal id columns. The columns of all lines stand in one list, one line after
+/// the other, each padded with blanks to its width.
+#[derive(Drop)]
+pub struct Run {
+    columns: Vec<char>,
+    lines: Vec<Line>,
+    marked: bool,
+    first_line: u64,
+}
+
+impl Model for Run {
+    ghost use Rattle.cse_lines.specs.Run.{RunText};
+
+    ghost Value = { RunText };
+
+    ghost use Rattle.cse_lines.specs.Laid.{IsLaid, laid_lines};
+
+    ghost view = { λ r. record { lines = laid_lines r.columns.items r.lines.items; marked = r.marked; first_line = r.first_line } };
+
+    ghost invariant = { λ r. IsLaid 0 r.columns.items r.lines.items };
+}
+
+/// So many columns from a place on.
+fn part(columns: &[char], first: usize, width: usize) -> &[char]
+    requires { first + width ≤ length columns.now }
+    ensures { result.now ≡ take width (drop first columns.now) }
+{
+    &columns[first..first + width]
+}
+
+/// Writes columns over those from a place on.
+fn put(columns: &mut [char], first: usize, field: &[char])
+    requires { first + length field.now ≤ length columns.old }
+    ensures { columns.new ≡ with_columns first field.now columns.old }
+{
+    columns[first..first + field.len()].copy_from_slice(field);
+}
+
+/// Appends a line and its columns.
+fn push_line(
+    columns: &mut Vec<char>,
+    lines: &mut Vec<Line>,
+    text: &[char],
+    head: Head,
+) -> Result<(), AllocError>
+    ensures columns { OnOk result (columns.new.items ≡ columns.old.items ++ text.now) }
+    ensures lines { OnOk result (lines.new.items ≡ lines.old.items ++ line_behind columns.old.items text.now head ∷ []) }
+    ensures same_columns { OnErr result (columns.new.items ≡ columns.old.items) }
+    ensures same_lines { OnErr result (lines.new.items ≡ lines.old.items) }
+{
+    columns.reserve(text.len())?;
+    lines.push(Line {
+        first: columns.len(),
+        width: text.len(),
+        len: head.len,
+        ending: head.ending,
+        record_number: head.record_number,
+    })?;
+    columns.extend_from_slice(text)
+}
+
+impl Run {
+    /// A run without lines, which takes no memory.
+    pub(crate) fn new(alloc: Global, first_line: u64) -> Run
+        ensures lines { result.lines ≡ [] }
+        ensures marked { result.marked ≡ false }
+        ensures first_line { result.first_line ≡ first_line }
+    {
+        Run {
+            columns: Vec::new(alloc),
+            lines: Vec::new(alloc),
+            marked: false,
+            first_line,
+        }
+    }
+
+    /// Appends a line that was read.
+    pub(crate) fn push(&mut self, columns: &[char], head: Head) -> Result<(), AllocError>
+        requires { head.len ≤ length columns.now }
+        ensures { OnOk result (self.new ≡ with_line self.old head.marked (line_with columns.now head)) }
+    {
+        push_line(&mut self.columns, &mut self.lines, columns, head)?;
+        self.marked = self.marked || head.marked;
+        Ok(())
+    }
+
+    /// Its columns and its lines, whether it is marked, and the number of its first line. The lines lie
+    /// one after the other in the columns.
+    pub fn into_parts(self) -> (Vec<char>, Vec<Line>, bool, u64)
+        ensures lines { laid_lines result.0.items result.1.items ≡ self.lines }
+        ensures laid { IsLaid 0 result.0.items result.1.items }
+        ensures marked { result.2 ≡ self.marked }
+        ensures first_line { result.3 ≡ self.first_line }
+    {
+        let Run {
+            columns,
+            lines,
+            marked,
+            first_line,
+        } = self;
+        (columns, lines, marked, first_line)
+    }
+
+    /// How many lines it has.
+    pub fn len(&self) -> usize
+        ensures { result ≡ length self.now.lines }
+    {
+        self.lines.len()
+    }
+
+    /// The number of its first line in the file, counted from 1.
+    pub fn first_line(&self) -> u64
+        ensures { result ≡ self.now.first_line }
+    {
+        self.first_line
+    }
+
+    /// Whether the byte order mark at the front of the file stands before its first line.
+    pub fn is_marked(&self) -> bool
+        ensures { result ≡ self.now.marked }
+    {
+        self.marked
+    }
+
+    /// The columns of a line, by its place from 0, padded with blanks to its width.
+    pub fn columns(&self, i: usize) -> &[char]
+        requires { i < length self.now.lines }
+        ensures { result.now ≡ (line_at self.now i).columns }
+    {
+        let line = self.lines[i];
+        part(&self.columns, line.first, line.width)
+    }
+
+    /// How many columns a line had in the file.
+    pub fn line_len(&self, i: usize) -> usize
+        requires { i < length self.now.lines }
+        ensures { result ≡ (line_at self.now i).len }
+    {
+        let line = self.lines[i];
+        line.len
+    }
+
+    /// How a line ends.
+    pub fn ending(&self, i: usize) -> Ending
+        requires { i < length self.now.lines }
+        ensures { result ≡ (line_at self.now i).ending }
+    {
+        let line = self.lines[i];
+        line.ending
+    }
+
+    /// The number of the record whose type stands in a line.
+    pub fn record_number(&self, i: usize) -> Option<u16>
+        requires { i < length self.now.lines }
+        ensures { result ≡ (line_at self.now i).record_number }
+    {
+        let line = self.lines[i];
+        line.record_number
+    }
+
+    /// Writes columns of a line from a place on, counted from 0.
+    pub fn set(&mut self, i: usize, at: usize, field: &[char])
+        requires line { i < length self.old.lines }
+        requires columns { at + length field.now ≤ length (line_at self.old i).columns }
+        ensures { self.new ≡ with_field self.old i at field.now }
+    {
+        let line = self.lines[i];
+        put(&mut self.columns, line.first + at, field);
+    }
+}
