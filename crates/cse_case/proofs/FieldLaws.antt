@@ -1,0 +1,33 @@
+-- Laws of an item's columns among those of a line.
+use Rattle.std.proofs.Common.{◌≡◌, ℕ, ◌+◌, ◌-◌, ◌<◌, ◌≤◌, min, List, ◌++◌, length, take, drop, refl, ap, sym, ◌∙◌, arith, length-drop, append_assoc, drop-drop}
+use Rattle.std.proofs.lemmas.List.{take_rest, take_min, drop_min}
+use borrow.Rule.Slice.PartMut.{put_mid}
+use Rattle.cse_value.specs.declared.shape.ItemShape.{ItemShape}
+use Rattle.cse_case.specs.Field.{field_of, rewritten}
+
+-- the columns that are there
+pub field_here : (item : ItemShape) (columns : List ℕ) (s n : ℕ) → s ≡ min (item.start - 1) (length columns)
+    → n ≡ min item.len (length (take (length columns - s) (drop s columns))) → take n (take (length columns - s) (drop s columns)) ≡ field_of item columns
+unfolding field_of
+field_here item columns s n e f =
+    let rest : take (length columns - s) (drop s columns) ≡ drop (item.start - 1) columns =
+    take_rest columns s ∙ (ap (λ k. drop k columns) e ∙ drop_min (item.start - 1) columns) in
+    ap (λ k. take k (take (length columns - s) (drop s columns))) f ∙ (take_min item.len (take (length columns - s) (drop s columns)) ∙ ap (take item.len) rest)
+
+-- the columns after new ones were written into these
+pub written_here : (item : ItemShape) (put : ℕ → List ℕ) (columns new : List ℕ) (s n : ℕ) → s ≡ min (item.start - 1) (length columns)
+    → n ≡ min item.len (length columns - s) → new ≡ put (length (take (s + n - s) (drop s columns))) → put_mid s (s + n - s) columns new ≡ rewritten item put columns
+unfolding field_of rewritten
+written_here item put columns new s n e f is =
+    let start : take s columns ≡ take (item.start - 1) columns = ap (λ k. take k columns) e ∙ take_min (item.start - 1) columns in
+    let rest : drop s columns ≡ drop (item.start - 1) columns = ap (λ k. drop k columns) e ∙ drop_min (item.start - 1) columns in
+    let count : s + n - s ≡ min item.len (length (drop s columns)) = omega (arith, length-drop s columns) in
+    let field : take (s + n - s) (drop s columns) ≡ field_of item columns = ap (λ k. take k (drop s columns)) count ∙ (take_min item.len (drop s columns) ∙ ap (take item.len) rest) in
+    let wrote : new ≡ put (length (field_of item columns)) = is ∙ ap (λ l. put (length l)) field in
+    let stop : s + (s + n - s) ≡ min (item.start - 1 + item.len) (length columns) = omega arith in
+    let end : drop (s + (s + n - s)) columns ≡ drop (item.start - 1 + item.len) columns = ap (λ k. drop k columns) stop ∙ drop_min (item.start - 1 + item.len) columns in
+    let back : drop (s + n - s) (drop s columns) ≡ drop (item.start - 1 + item.len) columns = drop-drop (s + n - s) s columns ∙ end in
+    ap (λ l. l ++ (new ++ drop (s + n - s) (drop s columns))) start
+    ∙ (ap (λ l. take (item.start - 1) columns ++ (l ++ drop (s + n - s) (drop s columns))) wrote
+    ∙ (ap (λ l. take (item.start - 1) columns ++ (put (length (field_of item columns)) ++ l)) back
+    ∙ sym (append_assoc (take (item.start - 1) columns) (put (length (field_of item columns))) (drop (item.start - 1 + item.len) columns))))

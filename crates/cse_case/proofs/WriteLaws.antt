@@ -1,0 +1,63 @@
+-- Laws of written lines.
+use Rattle.std.proofs.Common.{◌≡◌, ℕ, ◌+◌, ◌-◌, ◌<◌, ◌≤◌, true, false, eqb, List, [], ◌∷◌, ◌++◌, length, get_or, take, drop, refl, ap, sym, ◌∙◌, arith, append-nil, take-add, get_or-drop, length-drop, take_all, take-append-drop, inl, inr}
+use Rattle.std.specs.Prelude.{encode_utf8, encode_utf8_all}
+use Rattle.std.proofs.lemmas.Bool.{cases_lt}
+use Rattle.std.proofs.lemmas.Str.{encodes-append}
+use Rattle.std.proofs.lemmas.List.{take_more}
+use Rattle.cse_lines.specs.Written.{onto_trimmed, without_blanks, kept_columns}
+
+without_blanks-blank : (xs : List ℕ) → without_blanks (xs ++ 32 ∷ []) ≡ without_blanks xs
+without_blanks-blank [] = refl
+without_blanks-blank (x ∷ xs) = ap (onto_trimmed x) (without_blanks-blank xs)
+
+without_blanks-other : (xs : List ℕ) (c : ℕ) → eqb c 32 ≡ false → without_blanks (xs ++ c ∷ []) ≡ xs ++ c ∷ []
+without_blanks-other [] c h = rw h refl
+without_blanks-other (x ∷ []) c h = rw h refl
+without_blanks-other (x ∷ y ∷ xs) c h = ap (onto_trimmed x) (without_blanks-other (y ∷ xs) c h)
+
+-- the columns up to n are kept, and past them there are blanks
+pub record Trimmed (columns : List ℕ) (own n : ℕ) : Type 0 where
+  pub low : own ≤ n
+  pub high : n ≤ length columns
+  pub same : without_blanks (drop own columns) ≡ without_blanks (take (n - own) (drop own columns))
+
+pub Trimmed-all : (columns : List ℕ) (own : ℕ) → own ≤ length columns → Trimmed columns own (length columns)
+Trimmed-all columns own h = record {
+  low = h;
+  high = omega arith;
+  same = ap without_blanks (sym (take_all (length columns - own) (drop own columns) (omega (arith, length-drop own columns))));
+}
+
+one_more : (columns : List ℕ) (own n : ℕ) → own < n → n ≤ length columns → take (n - own) (drop own columns) ≡ take (n - 1 - own) (drop own columns) ++ get_or columns (n - 1) 0 ∷ []
+one_more columns own n low high =
+    let e : n - own ≡ n - 1 - own + 1 = omega arith in
+    let at : own + (n - 1 - own) ≡ n - 1 = omega arith in
+    rw e (take_more (drop own columns) (n - 1 - own) 0 (omega (arith, length-drop own columns)) ∙ rw (get_or-drop, at) refl)
+
+pub Trimmed-less : (columns : List ℕ) (own n : ℕ) → own < n → get_or columns (n - 1) 0 ≡ 32 → Trimmed columns own n → Trimmed columns own (n - 1)
+Trimmed-less columns own n low blank t = record {
+  low = omega arith;
+  high = omega (arith, t.high);
+  same = t.same ∙ ap without_blanks (one_more columns own n low t.high) ∙ rw blank (without_blanks-blank (take (n - 1 - own) (drop own columns)));
+}
+
+pub kept_at : (columns : List ℕ) (own n : ℕ) → Trimmed columns own n → (own < n → eqb (get_or columns (n - 1) 0) 32 ≡ false) → take n columns ≡ kept_columns own columns
+kept_at columns own n t last =
+    let e : n ≡ own + (n - own) = omega (arith, t.low) in
+    let rest : take (n - own) (drop own columns) ≡ without_blanks (drop own columns) =
+    elim (cases_lt own n) [
+      | inl low ↦
+          let cut = one_more columns own n low t.high in
+          cut ∙ sym (without_blanks-other (take (n - 1 - own) (drop own columns)) (get_or columns (n - 1) 0) (last low)) ∙ ap without_blanks (sym cut) ∙ sym t.same
+      | inr high ↦
+          let none : n - own ≡ 0 = omega arith in
+          ap (λ k. take k (drop own columns)) none ∙ ap (λ k. without_blanks (take k (drop own columns))) (sym none) ∙ sym t.same
+    ] in
+    ap (λ k. take k columns) e ∙ take-add own (n - own) columns ∙ ap (λ l. take own columns ++ l) rest
+
+-- one column more is encoded
+pub encoded_more : (cs : List ℕ) (i c : ℕ) → i < length cs → c ≡ get_or cs i c → encode_utf8_all (take (i + 1) cs) ≡ encode_utf8_all (take i cs) ++ encode_utf8 c
+encoded_more cs i c h e = ap encode_utf8_all (take_more cs i c h) ∙ rw (← e) (encodes-append (take i cs) (c ∷ [])) ∙ ap (λ l. encode_utf8_all (take i cs) ++ l) (append-nil (encode_utf8 c))
+
+pub encoded_rest : (cs : List ℕ) (i : ℕ) → encode_utf8_all cs ≡ encode_utf8_all (take i cs) ++ encode_utf8_all (drop i cs)
+encoded_rest cs i = ap encode_utf8_all (sym (take-append-drop i cs)) ∙ encodes-append (take i cs) (drop i cs)

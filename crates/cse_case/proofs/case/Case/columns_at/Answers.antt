@@ -1,0 +1,11 @@
+use Rattle.std.proofs.Common.{◌≡◌, ◌<◌, length, ap, sym, ◌∙◌, arith}
+use Rattle.std.proofs.lemmas.List.{length-map}
+use Rattle.cse_lines.specs.Laid.{laid_line}
+use Rattle.cse_lines.proofs.LaidLaws.{laid_within}
+use Rattle.cse_case.proofs.case.Case.columns_at.Goals as goal
+
+pub line_columns-requires : goal.line_columns-requires
+line_columns-requires c =
+    let v = c.self.inside in
+    let len : length c.args.self.now.run.lines ≡ length v.lines.items = ap (λ x. length x.run.lines) (sym c.self.view_is) ∙ length-map v.lines.items (laid_line v.columns.items) in
+    rw c.deref.ensures.value (laid_within 0 v.columns.items v.lines.items c.args.place c.index-line.result.now c.self.invariant.laid (omega (arith, c.requires.place)) c.index-line.ensures)

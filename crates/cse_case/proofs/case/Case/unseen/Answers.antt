@@ -1,0 +1,11 @@
+use Rattle.std.proofs.Common.{◌≡◌, ap, sym, ◌∙◌}
+use Rattle.cse_dict.specs.Dictionary.{shape_of}
+use Rattle.cse_case.specs.Seen.{unseen_of}
+use Rattle.cse_case.specs.Case.{unseen_lines}
+use Rattle.cse_case.proofs.CaseLaws.{types_laid}
+use Rattle.cse_case.proofs.case.Case.unseen.Goals as goal
+
+pub returns : goal.returns
+returns c =
+    let v = c.self.inside in
+    c.deref.ensures.value ∙ (c.self.invariant.unseen_are ∙ (ap (unseen_of (shape_of v.dictionary.now).records v.first_line) (sym (types_laid v.columns.items v.lines.items)) ∙ ap unseen_lines c.self.view_is))

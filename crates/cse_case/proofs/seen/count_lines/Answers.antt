@@ -1,0 +1,47 @@
+use Rattle.std.proofs.Common.{◌≡◌, ◌<◌, ◌+◌, ◌++◌, ◌∷◌, [], length, take, drop, get_or, ap, sym, ◌∙◌, subst, append_assoc, refl, add-zero, replicate, rules, Some, None}
+use Rattle.cse_lines.specs.declared.line.Line.{Line}
+use Rattle.cse_lines.specs.declared.line.Ending.TheVariants.{FileEnd}
+use Rattle.std.specs.Vec.{with_items}
+use Rattle.std.proofs.lemmas.List.{with_items_is}
+use Rattle.cse_case.specs.Seen.{onto_unseen, unseen_from, unseen_of, unseen_after}
+use Rattle.cse_case.specs.Table.{AreCounts}
+use Rattle.cse_case.proofs.SeenLaws.{AreCounts-none, take-types, unseen_from-next, places_from-next, enough, types_in}
+use Rattle.cse_case.proofs.seen.count_lines.Goals as goal
+use Rattle.cse_case.proofs.seen.count_lines.Goals.{in-Some+in_ok-push-in-Some, in-None}
+
+zeros : (c : goal.After-new-unseen) → c.in_ok-counts.counts.items ≡ replicate (length c.args.records.now) 0
+zeros c = search rules
+
+pub lines-init : goal.lines-init
+unfolding unseen_of
+lines-init c = record {
+  counts = rw (zeros c) (AreCounts-none c.args.records.now (length c.args.records.now) refl);
+  unseen = rw (c.new-unseen.ensures.items, add-zero) refl;
+}
+
+pub lines-preserved : goal.lines-preserved
+lines-preserved c =
+    let no : Line = record { first = 0; width = 0; len = 0; ending = FileEnd; record_number = None } in
+    let types = types_in c.args.lines.now in
+    let i = c.lines.i in
+    let before = take i types in
+    let are = rw (← c.deref_mut.ensures.value) at c.lines.invariant.counts in
+    let new = c.count_line.ensures.counts before are in
+    let why = c.count_line.ensures.why before are in
+    let next = unseen_from-next c.args.records.now c.args.number c.args.lines.now i no c.lines-test.true in
+    let items : (with_items c.lines.counts c.count_line.new.counts).items ≡ c.count_line.new.counts = with_items_is c.lines.counts c.count_line.new.counts (c.count_line.auto.counts ∙ c.deref_mut.ensures.len) in
+    let rest = unseen_from c.args.records.now (c.args.number + (i + 1)) (take (i + 1) types) (drop (i + 1) types) in
+    record {
+      counts = rw (items, take-types c.args.lines.now i no c.lines-test.true) new;
+      unseen = elim c.match-count_line.branch [
+        | in-Some+in_ok-push-in-Some w ↦
+            let own = sym why ∙ w.in-Some.is in
+            ap (λ v. v.items ++ rest) w.unseen-is ∙ (ap (λ l. l ++ rest) w.in_ok-push-in-Some.ensures.items
+            ∙ (append_assoc c.lines.unseen.items ((c.args.number + i, w.in-Some.why) ∷ []) rest
+            ∙ (ap (λ o. c.lines.unseen.items ++ onto_unseen (c.args.number + i) o rest) (sym own) ∙ (ap (λ l. c.lines.unseen.items ++ l) (sym next) ∙ c.lines.invariant.unseen))))
+        | in-None w ↦
+            let own = sym why ∙ w.in-None.is in
+            ap (λ v. v.items ++ rest) w.unseen-is
+            ∙ (ap (λ o. c.lines.unseen.items ++ onto_unseen (c.args.number + i) o rest) (sym own) ∙ (ap (λ l. c.lines.unseen.items ++ l) (sym next) ∙ c.lines.invariant.unseen))
+      ];
+    }

@@ -1,0 +1,8 @@
+use Rattle.cse_case.proofs.WriteLaws.{Trimmed}
+use Rattle.cse_case.proofs.write.kept.Given as goal
+
+abbrev pub invariant-blanks : goal.invariant-blanks
+invariant-blanks l = Trimmed l.columns l.len l.n
+
+abbrev pub decreases-blanks : goal.decreases-blanks
+decreases-blanks l = l.n

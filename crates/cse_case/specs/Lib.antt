@@ -1,0 +1,10 @@
+pub mod Seen
+pub mod Table
+pub mod Field
+pub mod Entry
+pub mod Kept
+pub mod Case
+pub mod Fit
+pub mod AtEnd
+pub mod Reading
+pub mod Streaming

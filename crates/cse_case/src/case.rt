@@ -1,0 +1,295 @@
+//! A case: the lines of one run, read by a dictionary.
+
+ghost use Rattle.std.specs.Prelude.{◌≡◌, ◌<◌, ◌≤◌, ◌+◌, ◌^◌, List, length, map, take, IfOk};
+ghost use Rattle.std.specs.Bool.{OnTrue};
+ghost use Rattle.cse_value.specs.declared.shape.ItemKind.TheVariants.{Number as ANumber, Text as AText};
+ghost use Rattle.cse_value.specs.Writing.{WritesAll, FailsAtErr};
+ghost use Rattle.cse_output.specs.Gathering.{going, Puts};
+ghost use Rattle.cse_lines.specs.Run.{written_run};
+ghost use Rattle.cse_case.specs.Seen.{is_case};
+ghost use Rattle.cse_case.specs.Field.{IsItem, item_at};
+ghost use Rattle.cse_case.specs.Entry.{entry_columns};
+
+use crate::field::{Entry, field_of, line_columns, write_in_line};
+use crate::seen::{Table, table_of};
+use crate::write::{mark, put_lines};
+use cse_dict::{Dictionary, Unseen};
+use cse_lines::{Line, Run};
+use cse_output::Gatherer;
+use cse_value::shape::{ID_OWNER, ItemKind, ItemShape};
+use cse_value::{Failed, Num, Output, TEXT_LEN, Text, read_num, read_text};
+use std::alloc::{AllocError, Global};
+use std::marker::Model;
+
+/// A case: consecutive lines with equal id columns (CSPro Users Guide, data files), with the occurrences of
+/// its records.
+///
+/// Occurrences count from 1, and records and items have the numbers of the dictionary. No call takes
+/// memory.
+#[derive(Drop)]
+pub struct Case<'a> {
+    dictionary: &'a Dictionary,
+    ids: Vec<char>,
+    columns: Vec<char>,
+    lines: Vec<Line>,
+    marked: bool,
+    first_line: u64,
+    table: Table,
+}
+
+impl<'a> Model for Case<'a> {
+    ghost use Rattle.std.specs.Prelude.{List, ℕ};
+    ghost use Rattle.cse_lines.specs.Laid.{laid_lines};
+    ghost use Rattle.cse_case.specs.Case.{CaseText};
+    ghost use Rattle.cse_case.specs.Kept.{IsKept};
+
+    ghost Value = { CaseText };
+
+    ghost view = { λ c. record {
+      dictionary = c.dictionary.now;
+      ids = c.ids.items;
+      run = record { lines = laid_lines c.columns.items c.lines.items; marked = c.marked; first_line = c.first_line };
+    } };
+
+    ghost invariant = { λ c. IsKept c.dictionary.now c.columns.items c.lines.items c.first_line c.table.places.items c.table.spans.items c.table.unseen.items };
+}
+
+impl<'a> Case<'a> {
+    ghost use Rattle.cse_case.specs.Case.{IsOccurrence, columns_at, items_of, number_at, place_of, places_of, records_of, types_of, unseen_lines, with_item, with_number, with_text};
+    ghost use Rattle.cse_case.specs.Fit.{IsFit};
+
+    /// The case of a run, with these id columns.
+    pub(crate) fn new(
+        alloc: Global,
+        dictionary: &'a Dictionary,
+        ids: Vec<char>,
+        run: Run,
+    ) -> Result<Case<'a>, AllocError>
+        requires { run.first_line + length run.lines < 2 ^ 64 }
+        ensures { IfOk result (λ c. c ≡ record { dictionary = dictionary.now; ids = ids.items; run = run }) }
+    {
+        let (columns, lines, marked, first_line) = run.into_parts();
+        let table = table_of(alloc, &dictionary.shape().records, &lines, first_line)?;
+        Ok(Case {
+            dictionary,
+            ids,
+            columns,
+            lines,
+            marked,
+            first_line,
+            table,
+        })
+    }
+
+    /// Whether the run has a line that is an occurrence of a record.
+    pub fn is_case(&self) -> bool
+        ensures { result ≡ is_case (records_of self.now) (types_of self.now.run.lines) }
+    {
+        self.table.unseen.len() < self.lines.len()
+    }
+
+    /// How many lines the run has.
+    pub fn lines(&self) -> u64
+        ensures { result ≡ length self.now.run.lines }
+    {
+        self.lines.len() as u64
+    }
+
+    /// The lines that are no occurrence, each with its number in the file.
+    pub fn unseen(&self) -> &[(u64, Unseen)]
+        ensures { result.now ≡ unseen_lines self.now }
+    {
+        &self.table.unseen
+    }
+
+    /// The columns of the id items, in the order of the dictionary, as the first line had them.
+    pub fn ids(&self) -> &[char]
+        ensures { result.now ≡ self.now.ids }
+    {
+        &self.ids
+    }
+
+    /// How many occurrences a record has.
+    pub fn occurrences(&self, number: u16) -> u16
+        requires { number < length (records_of self.now) }
+        ensures { result ≡ length (places_of self.now number) }
+    {
+        let span = self.table.spans[number as usize];
+        span.count
+    }
+
+    /// Whether a record has such an occurrence.
+    pub fn has_occurrence(&self, number: u16, occurrence: u16) -> bool
+        ensures there { OnTrue result (number < length (records_of self.now)) }
+        ensures occurrence { OnTrue result (IsOccurrence self.now number occurrence) }
+    {
+        let records = &self.dictionary.shape().records;
+        (number as usize) < records.len()
+            && 0 < occurrence
+            && occurrence <= self.occurrences(number)
+    }
+
+    /// Whether an item belongs to this record (to none: 255) and has this kind.
+    pub fn has_item(&self, owner: u16, kind: ItemKind, item: u16) -> bool
+        ensures { OnTrue result (IsItem (items_of self.now) owner kind item) }
+    {
+        let items = &self.dictionary.shape().items;
+        if item as usize >= items.len() {
+            return false;
+        }
+        let found = self.item(item);
+        u16::from(found.owner) == owner && found.kind == kind
+    }
+
+    /// The place of an occurrence's line, from 0.
+    fn place(&self, number: u16, occurrence: u16) -> usize
+        requires there { number < length (records_of self.now) }
+        requires occurrence { IsOccurrence self.now number occurrence }
+        ensures value { result ≡ place_of self.now number occurrence }
+        ensures within { result < length self.now.run.lines }
+    {
+        let span = self.table.spans[number as usize];
+        self.table.places[span.start + (occurrence - 1) as usize]
+    }
+
+    /// An item of the dictionary.
+    fn item(&self, item: u16) -> &ItemShape
+        requires { item < length (items_of self.now) }
+        ensures { result.now ≡ item_at (items_of self.now) item }
+    {
+        let shape = self.dictionary.shape();
+        &shape.items[item as usize]
+    }
+
+    /// The columns of an item in the line at a place.
+    fn columns_at(&self, place: usize, item: u16) -> &[char]
+        requires place { place < length self.now.run.lines }
+        requires item { item < length (items_of self.now) }
+        ensures { result.now ≡ columns_at self.now place item }
+    {
+        let line = self.lines[place];
+        field_of(self.item(item), line_columns(&self.columns, line))
+    }
+
+    /// The number in an item's columns, in the line at a place.
+    fn number_at(&self, place: usize, item: u16) -> Num
+        requires place { place < length self.now.run.lines }
+        requires item { item < length (items_of self.now) }
+        ensures { result ≡ number_at self.now place item }
+    {
+        read_num(self.columns_at(place, item), self.dictionary.code(item))
+    }
+
+    /// The text in an item's columns, in the line at a place; of an item with more than 255 columns the
+    /// first 255.
+    fn text_at(&self, place: usize, item: u16) -> Text
+        requires place { place < length self.now.run.lines }
+        requires item { item < length (items_of self.now) }
+        ensures { result.items ≡ take 255 (columns_at self.now place item) }
+    {
+        let columns = self.columns_at(place, item);
+        read_text(&columns[..TEXT_LEN.min(columns.len())])
+    }
+
+    /// The number of an item in an occurrence of its record.
+    pub fn get_num(&self, number: u16, occurrence: u16, item: u16) -> Num
+        requires there { number < length (records_of self.now) }
+        requires occurrence { IsOccurrence self.now number occurrence }
+        requires item { IsItem (items_of self.now) number ANumber item }
+        ensures { result ≡ number_at self.now (place_of self.now number occurrence) item }
+    {
+        self.number_at(self.place(number, occurrence), item)
+    }
+
+    /// The text of an item in an occurrence of its record; of an item with more than 255 columns the first
+    /// 255.
+    pub fn get_text(&self, number: u16, occurrence: u16, item: u16) -> Text
+        requires there { number < length (records_of self.now) }
+        requires occurrence { IsOccurrence self.now number occurrence }
+        requires item { IsItem (items_of self.now) number AText item }
+        ensures { result.items ≡ take 255 (columns_at self.now (place_of self.now number occurrence) item) }
+    {
+        self.text_at(self.place(number, occurrence), item)
+    }
+
+    /// The number of an id item, which is read from the first line.
+    pub fn id_num(&self, item: u16) -> Num
+        requires some { 0 < length self.now.run.lines }
+        requires item { IsItem (items_of self.now) ID_OWNER ANumber item }
+        ensures { result ≡ number_at self.now 0 item }
+    {
+        self.number_at(0, item)
+    }
+
+    /// The text of an id item, which is read from the first line; of an item with more than 255 columns
+    /// the first 255.
+    pub fn id_text(&self, item: u16) -> Text
+        requires some { 0 < length self.now.run.lines }
+        requires item { IsItem (items_of self.now) ID_OWNER AText item }
+        ensures { result.items ≡ take 255 (columns_at self.now 0 item) }
+    {
+        self.text_at(0, item)
+    }
+
+    /// Writes into an item of the line at a place.
+    fn set(&mut self, place: usize, item: u16, entry: Entry<'_>)
+        requires place { place < length self.old.run.lines }
+        requires item { item < length (items_of self.old) }
+        ensures changed { self.new ≡ with_item self.old place item (entry_columns entry.entry) }
+        ensures fits { IsFit self.old → IsFit self.new }
+    {
+        let shape = *self.item(item);
+        let line = self.lines[place];
+        write_in_line(&mut self.columns, line, &shape, entry);
+    }
+
+    /// Writes a number into an item of an occurrence of its record, and changes nothing else.
+    pub fn set_num(&mut self, number: u16, occurrence: u16, item: u16, value: Num)
+        requires there { number < length (records_of self.old) }
+        requires occurrence { IsOccurrence self.old number occurrence }
+        requires item { IsItem (items_of self.old) number ANumber item }
+        ensures changed { self.new ≡ with_number self.old number occurrence item value }
+        ensures fits { IsFit self.old → IsFit self.new }
+    {
+        let place = self.place(number, occurrence);
+        let entry = Entry::Number {
+            value,
+            zero_fill: self.dictionary.zero_fill(item),
+            code: self.dictionary.code(item),
+        };
+        self.set(place, item, entry);
+    }
+
+    /// Writes a text into an item of an occurrence of its record, cut to its columns or padded with
+    /// blanks, and changes nothing else.
+    pub fn set_text(&mut self, number: u16, occurrence: u16, item: u16, text: &Text)
+        requires there { number < length (records_of self.old) }
+        requires occurrence { IsOccurrence self.old number occurrence }
+        requires item { IsItem (items_of self.old) number AText item }
+        ensures changed { self.new ≡ with_text self.old number occurrence item text.now.items }
+        ensures fits { IsFit self.old → IsFit self.new }
+    {
+        let place = self.place(number, occurrence);
+        self.set(place, item, Entry::Words(text));
+    }
+
+    /// Puts the lines of the run into a buffer before a device.
+    pub fn put_to<W: Output>(&self, gatherer: &mut Gatherer, out: &mut W)
+        ensures { Puts (going (W.contents out.old) (W.has_failed out.old) gatherer.old.waiting.items gatherer.old.gave_up) (going (W.contents out.new) (W.has_failed out.new) gatherer.new.waiting.items gatherer.new.gave_up) (written_run self.now.run) }
+    {
+        gatherer.put(out, mark(self.marked));
+        put_lines(gatherer, out, &self.columns, &self.lines);
+    }
+
+    /// Writes the lines of the run: each as its columns without trailing blanks past its length in the
+    /// file, and its own end. A line that was not written into is written as it came. At the front of the
+    /// file the mark stands before it, where it was there. An error is 71 of a run.
+    pub fn write_to<W: Output>(&self, out: &mut W) -> Result<(), Failed>
+        ensures bytes { WritesAll result (W.contents out.old) (W.contents out.new) (written_run self.now.run) }
+        ensures failed { FailsAtErr result (W.has_failed out.old) (W.has_failed out.new) }
+    {
+        let mut gatherer = Gatherer::new();
+        self.put_to(&mut gatherer, out);
+        gatherer.finish(out)
+    }
+}

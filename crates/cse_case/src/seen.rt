@@ -1,0 +1,140 @@
+//! Which lines of a run are seen, and as which occurrence of their record.
+
+ghost use Rattle.std.specs.Prelude.{◌≡◌, ◌≤◌, ◌<◌, ◌+◌, ◌++◌, ◌∷◌, [], ◌^◌, ℕ, List, Option, IfOk, OnOk, map, take, length, slice_index};
+ghost use Rattle.cse_case.specs.Seen.{is_of, places_from, unseen_after, unseen_of};
+ghost use Rattle.cse_case.specs.Table.{AreCounts, AreSpans, IsTable};
+
+use cse_dict::Unseen;
+use cse_lines::Line;
+use cse_value::shape::RecordShape;
+use std::alloc::{AllocError, Global};
+
+/// The occurrences of a record: where their places begin in the table, and how many there are.
+#[derive(Clone, Copy, Debug, PartialEq, Eq)]
+pub struct Span {
+    pub start: usize,
+    pub count: u16,
+}
+
+/// Counts a line among those of its record, or tells why it is unseen.
+fn count_line(records: &[RecordShape], counts: &mut [u16], line: Option<u16>) -> Option<Unseen>
+    requires { length counts.old ≡ length records.now }
+    ensures why { (before : List (Option ℕ)) → AreCounts records.now before counts.old → result ≡ unseen_after records.now before line }
+    ensures counts { (before : List (Option ℕ)) → AreCounts records.now before counts.old → AreCounts records.now (before ++ line ∷ []) counts.new }
+{
+    let Some(record) = line else {
+        return Some(Unseen::Unknown);
+    };
+    let record = record as usize;
+    if record < records.len() && counts[record] < records[record].max_records {
+        counts[record] += 1;
+        return None;
+    }
+    Some(Unseen::Extra)
+}
+
+/// How many occurrences each record has, and the unseen lines, of which the first has this number.
+fn count_lines(
+    alloc: Global,
+    records: &[RecordShape],
+    lines: &[Line],
+    number: u64,
+) -> Result<(Vec<u16>, Vec<(u64, Unseen)>), AllocError>
+    requires { number + length lines.now < 2 ^ 64 }
+    ensures counts { IfOk result (λ p. AreCounts records.now (map (λ l. l.record_number) lines.now) p.0.items) }
+    ensures unseen { IfOk result (λ p. p.1.items ≡ unseen_of records.now number (map (λ l. l.record_number) lines.now)) }
+{
+    let mut counts = vec![in alloc; 0u16; records.len()]?;
+    let mut unseen = Vec::new(alloc);
+    'lines: for (i, line) in lines.iter().enumerate() {
+        match count_line(records, &mut counts, line.record_number) {
+            Some(why) => unseen.push((number + i as u64, why))?,
+            None => {}
+        }
+    }
+    Ok((counts, unseen))
+}
+
+/// Whether the line is one of the record's.
+fn is_of(number: usize, line: Option<u16>) -> bool
+    ensures { result ≡ is_of number line }
+{
+    match line {
+        Some(own) => own as usize == number,
+        None => false,
+    }
+}
+
+/// Adds the places of the first lines of a record.
+fn place_record(
+    places: &mut Vec<usize>,
+    lines: &[Line],
+    number: usize,
+    count: u16,
+) -> Result<(), AllocError>
+    ensures { OnOk result (places.new.items ≡ places.old.items ++ take count (places_from 0 number (map (λ l. l.record_number) lines.now))) }
+{
+    let mut left = count;
+    'lines: for (i, line) in lines.iter().enumerate() {
+        if left == 0 {
+            return Ok(());
+        }
+        if is_of(number, line.record_number) {
+            places.push(i)?;
+            left -= 1;
+        }
+    }
+    Ok(())
+}
+
+/// The places of the occurrences of each record.
+fn place_lines(
+    alloc: Global,
+    lines: &[Line],
+    counts: &[u16],
+) -> Result<(Vec<Span>, Vec<usize>), AllocError>
+    requires { (r : ℕ) → r < length counts.now → slice_index counts.now r ≤ length (places_from 0 r (map (λ l. l.record_number) lines.now)) }
+    ensures size { IfOk result (λ p. length p.0.items ≡ length counts.now) }
+    ensures spans { IfOk result (λ p. AreSpans (map (λ l. l.record_number) lines.now) counts.now p.1.items p.0.items) }
+{
+    let mut spans = Vec::new(alloc);
+    let mut places = Vec::new(alloc);
+    'records: for (number, count) in counts.iter().enumerate() {
+        let start = places.len();
+        place_record(&mut places, lines, number, *count)?;
+        spans.push(Span {
+            start,
+            count: *count,
+        })?;
+    }
+    Ok((spans, places))
+}
+
+/// The seen and unseen lines of a run: the spans of its records, the places of their occurrences, and
+/// the unseen lines with their numbers in the file.
+#[derive(Drop)]
+pub struct Table {
+    pub spans: Vec<Span>,
+    pub places: Vec<usize>,
+    pub unseen: Vec<(u64, Unseen)>,
+}
+
+/// The table of a run's lines, of which the first has this number.
+pub fn table_of(
+    alloc: Global,
+    records: &[RecordShape],
+    lines: &[Line],
+    number: u64,
+) -> Result<Table, AllocError>
+    requires { number + length lines.now < 2 ^ 64 }
+    ensures table { IfOk result (λ t. IsTable records.now (map (λ l. l.record_number) lines.now) t.places.items t.spans.items) }
+    ensures unseen { IfOk result (λ t. t.unseen.items ≡ unseen_of records.now number (map (λ l. l.record_number) lines.now)) }
+{
+    let (counts, unseen) = count_lines(alloc, records, lines, number)?;
+    let (spans, places) = place_lines(alloc, lines, &counts)?;
+    Ok(Table {
+        spans,
+        places,
+        unseen,
+    })
+}

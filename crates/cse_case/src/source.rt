@@ -1,0 +1,91 @@
+//! A dictionary with its id items, which are listed when they are first needed.
+
+ghost use Rattle.std.specs.Prelude.{◌≡◌, ◌==◌, ◌<◌, ◌+◌, ◌^◌, filter, length, map, IfOk};
+ghost use Rattle.cse_lines.specs.Field.{fields_at, ids_of, span_of};
+ghost use Rattle.cse_lines.specs.Run.{line_at};
+
+use crate::case::Case;
+use crate::field::field_of;
+use cse_dict::Dictionary;
+use cse_lines::Run;
+use cse_value::shape::{ID_OWNER, ItemShape};
+use std::alloc::{AllocError, Global};
+use std::marker::Model;
+
+/// A dictionary, and its id items once they are known.
+#[derive(Drop)]
+pub struct Source<'a> {
+    dictionary: &'a Dictionary,
+    id_items: Vec<ItemShape>,
+    is_known: bool,
+}
+
+impl<'a> Model for Source<'a> {
+    ghost use Rattle.std.specs.Prelude.{◌≡◌, true};
+    ghost use Rattle.cse_dict.specs.Dictionary.{DictionaryText};
+    ghost use Rattle.cse_case.specs.Streaming.{id_items_of};
+
+    ghost Value = { DictionaryText };
+
+    ghost view = { λ s. s.dictionary.now };
+
+    ghost invariant = { λ s. s.is_known ≡ true → s.id_items.items ≡ id_items_of s.dictionary.now };
+}
+
+/// The id items among items.
+fn id_items(alloc: Global, items: &[ItemShape]) -> Result<Vec<ItemShape>, AllocError>
+    ensures { IfOk result (λ v. v.items ≡ filter (λ item. item.owner == 255) items.now) }
+{
+    items
+        .iter()
+        .filter(|item| item.owner == ID_OWNER)
+        .copied()
+        .collect(alloc)
+}
+
+/// What stands at these items, one after the other.
+fn fields_of(alloc: Global, items: &[ItemShape], columns: &[char]) -> Result<Vec<char>, AllocError>
+    ensures { IfOk result (λ v. v.items ≡ fields_at (map span_of items.now) columns.now) }
+{
+    let mut fields = Vec::new(alloc);
+    'items: for item in items {
+        fields.extend_from_slice(field_of(item, columns))?;
+    }
+    Ok(fields)
+}
+
+impl<'a> Source<'a> {
+    /// The dictionary; its id items aren't listed yet.
+    pub fn new(alloc: Global, dictionary: &'a Dictionary) -> Source<'a>
+        ensures { result ≡ dictionary.now }
+    {
+        Source {
+            dictionary,
+            id_items: Vec::new(alloc),
+            is_known: false,
+        }
+    }
+
+    /// The id columns of a line.
+    pub fn ids_of(&mut self, alloc: Global, columns: &[char]) -> Result<Vec<char>, AllocError>
+        ensures same { self.new ≡ self.old }
+        ensures ids { IfOk result (λ v. v.items ≡ ids_of self.old columns.now) }
+    {
+        if !self.is_known {
+            self.id_items = id_items(alloc, &self.dictionary.shape().items)?;
+            self.is_known = true;
+        }
+        fields_of(alloc, &self.id_items, columns)
+    }
+
+    /// The case of a run.
+    pub fn case_of(&mut self, alloc: Global, run: Run) -> Result<Case<'a>, AllocError>
+        requires some { 0 < length run.lines }
+        requires few { run.first_line + length run.lines < 2 ^ 64 }
+        ensures same { self.new ≡ self.old }
+        ensures made { IfOk result (λ c. c ≡ record { dictionary = self.old; ids = ids_of self.old (line_at run 0).columns; run = run }) }
+    {
+        let ids = self.ids_of(alloc, run.columns(0))?;
+        Case::new(alloc, self.dictionary, ids, run)
+    }
+}

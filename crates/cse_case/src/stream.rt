@@ -1,0 +1,106 @@
+//! A stream of cases over an input that each call is handed.
+
+ghost use Rattle.std.specs.Prelude.{◌≡◌, ◌+◌, ◌*◌, ◌^◌, ◌≤◌, ◌⊎◌, [], None, Some, Err, true, false, IfErr, IfOk, IfSome, OnOk, length};
+ghost use Rattle.std.specs.Io.KnownBytes.{IsAtEnd};
+ghost use Rattle.cse_lines.specs.Reader.{held_of, HoldsLittle};
+ghost use Rattle.cse_case.specs.Reading.{NextCase};
+
+use crate::case::Case;
+use crate::source::Source;
+use cse_dict::Dictionary;
+use cse_lines::{DataError, Kept, RunReader};
+use cse_value::Input;
+use std::alloc::Global;
+use std::marker::Model;
+
+/// Reads a data file case by case. It answers after an error the same error.
+#[derive(Drop)]
+pub struct CaseStream<'a> {
+    alloc: Global,
+    source: Source<'a>,
+    runs: RunReader<'a>,
+    error: Option<DataError>,
+}
+
+impl<'a> Model for CaseStream<'a> {
+    ghost use Rattle.cse_lines.specs.Reader.{ReaderText};
+    ghost use Rattle.cse_case.specs.Streaming.{IsSound};
+
+    ghost Value = { ReaderText };
+
+    ghost view = { λ s. record s.runs { error = s.error } };
+
+    ghost invariant = { λ s. IsSound s.runs s.source s.error };
+}
+
+/// Want of memory.
+const WANT_OF_MEMORY: DataError = DataError {
+    number: 90,
+    line: 0,
+};
+
+impl<'a> CaseStream<'a> {
+    /// A stream under this dictionary, which has read nothing. It takes no memory.
+    pub fn new(alloc: Global, dictionary: &'a Dictionary) -> CaseStream<'a>
+        ensures dictionary { result.dictionary ≡ dictionary.now }
+        ensures held { held_of result ≡ [] }
+        ensures ended { result.ended ≡ false }
+        ensures reads { result.reads ≡ 0 }
+        ensures lines { result.lines ≡ 0 }
+        ensures error { result.error ≡ None }
+    {
+        CaseStream {
+            alloc,
+            source: Source::new(alloc, dictionary),
+            runs: RunReader::new(alloc, dictionary),
+            error: None,
+        }
+    }
+
+    /// How many reads gave bytes.
+    pub fn reads(&self) -> u64
+        ensures { result ≡ self.now.reads }
+    {
+        self.runs.reads()
+    }
+
+    /// How much is held: at most one line that is cut, and 65,536 bytes that aren't.
+    pub fn kept(&self) -> Kept
+        ensures lines { result.lines ≡ length self.now.run.lines }
+        ensures bytes { result.bytes ≡ length self.now.uncut }
+        ensures little { HoldsLittle self.now }
+    {
+        self.runs.kept()
+    }
+
+    /// The next case of the input, or that there is none.
+    pub fn next<R: Input>(&mut self, input: &mut R) -> Result<Option<Case<'a>>, DataError>
+        requires { self.old.ended ≡ true → IsAtEnd (R.remaining input.old) }
+        ensures next { self.old.error ≡ None → NextCase (R.remaining input.old) (R.remaining input.new) self.old self.new result }
+        ensures ok { OnOk result (self.new.error ≡ None) }
+        ensures err { IfErr result (λ error. self.new.error ≡ Some error) }
+        ensures again { IfSome self.old.error (λ error. (result ≡ Err error) × (self.new ≡ self.old) × (input.new ≡ input.old)) }
+        ensures end { self.new.ended ≡ true → IsAtEnd (R.remaining input.new) }
+        ensures failed { self.old.error ≡ None → IfErr result (λ error. error.number ≡ 70 → (R.has_failed input.new ≡ true) ⊎ (self.new.reads ≡ 2 ^ 40)) }
+        ensures few { self.old.error ≡ None → self.new.lines ≤ 2 ^ 40 * 65536 }
+        ensures works { OnOk result (R.has_failed input.new ≡ R.has_failed input.old) }
+    {
+        if let Some(error) = self.error {
+            return Err(error);
+        }
+        match self.runs.next(input) {
+            Ok(None) => Ok(None),
+            Ok(Some(run)) => match self.source.case_of(self.alloc, run) {
+                Ok(case) => Ok(Some(case)),
+                Err(_) => {
+                    self.error = Some(WANT_OF_MEMORY);
+                    Err(WANT_OF_MEMORY)
+                }
+            },
+            Err(error) => {
+                self.error = Some(error);
+                Err(error)
+            }
+        }
+    }
+}
