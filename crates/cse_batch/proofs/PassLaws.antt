@@ -1,0 +1,273 @@
+-- What a pass knows, case by case.
+use Rattle.std.proofs.Common.{◌≡◌, ℕ, ◌+◌, ◌*◌, ◌^◌, ◌<◌, ◌≤◌, ◌⊎◌, Bool, true, false, List, [], ◌∷◌, ◌++◌, length, map, Option, None, Some, Ok, Err, Result, cond, refl, ap, sym, ◌∙◌, subst, arith, append_assoc, append-nil, length-append, add_assoc, zero-add, add-zero, inl, inr}
+use Rattle.std.specs.Prelude.{sum_by, count_by, ◌==◌}
+use Rattle.std.specs.Io.KnownBytes.{Consumes, IsAtEnd}
+use Rattle.std.proofs.KnownBytes.{Consumes-trans, Consumes-nil}
+use Rattle.std.proofs.lemmas.List.{length-map}
+use Rattle.std.proofs.lemmas.List.Sums.{sum_by-append}
+use Rattle.std.proofs.lemmas.Bool.{ne_eqb, eq-eqb, cases_Bool}
+use Rattle.cse_dict.specs.Dictionary.{DictionaryText, shape_of}
+use Rattle.cse_lines.specs.declared.error.DataError.{DataError}
+use Rattle.cse_lines.specs.Line.{FileLine, lines_in}
+use Rattle.cse_lines.specs.Columns.{line_text}
+use Rattle.cse_lines.specs.Run.{RunText, run_text, written_run}
+use Rattle.cse_lines.specs.Runs.{given, given_of, fault_in, later_by, MayFollow}
+use Rattle.cse_lines.specs.Reader.{ReaderText, GivesRun, IsEnd, IsError, IsFaulty, held_of, is_front}
+use mir.Val.{bool_byte}
+use Rattle.std.proofs.lemmas.Bool.{MatchBool-at_true}
+use Rattle.cse_value.specs.declared.device.Failed.{Failed}
+use Rattle.cse_value.specs.Writing.{AppendsFront, WritesAll}
+use Rattle.cse_output.specs.Gathering.{Gathered, Gathering, GaveUp, Going}
+use Rattle.cse_case.specs.Case.{CaseText, records_of, types_of, unseen_lines}
+use Rattle.cse_case.specs.Seen.{is_case, unseen_of}
+use Rattle.cse_case.specs.Reading.{NextCase, GivesCase}
+use Rattle.cse_case.proofs.CaseLaws.{length-unseen_of, unseen_below}
+use Rattle.cse_batch.specs.declared.totals.Totals.{Totals}
+use Rattle.cse_batch.specs.declared.totals.RunFault.{RunFault}
+use Rattle.cse_batch.specs.Totals.{is_case_run, unseen_in, totals_of}
+use Rattle.cse_batch.specs.Pass.{Copied, IsDataFault, Stopped, Stops}
+
+-- the cases so far: their bytes, and that the rest is given of what is held and may follow
+pub record SoFar (before now : Option (List ℕ)) (d : DictionaryText) (r : ReaderText) (text : List ℕ) (totals : Totals) : Type 0 where
+  pub runs : List (List FileLine)
+  pub dictionary : r.dictionary ≡ d
+  pub reads : Consumes before now (text ++ held_of r)
+  pub counted : r.reads ≤ length (text ++ held_of r)
+  pub totals_are : totals ≡ totals_of d runs
+  pub lines_are : totals.lines ≡ r.lines
+  pub few_cases : totals.cases ≤ totals.lines
+  pub few_unseen : totals.unseen ≤ totals.lines
+  pub few : r.lines ≤ 2 ^ 40 * 65536
+  pub goes_on : (later : Bool) (more : List ℕ) → MayFollow r.ended later more → given d true later ((text ++ held_of r) ++ more) ≡ runs ++ given d (is_front r) later (held_of r ++ more)
+  pub fault : (later : Bool) (more : List ℕ) → MayFollow r.ended later more → fault_in d true later ((text ++ held_of r) ++ more) ≡ later_by r.lines (fault_in d (is_front r) later (held_of r ++ more))
+
+-- the cases so far, gathered before the output
+pub record Copying (before now start : Option (List ℕ)) (sound : Bool) (d : DictionaryText) (r : ReaderText) (g : Going) (totals : Totals) : Type 0 where
+  pub text : List ℕ
+  pub so_far : SoFar before now d r text totals
+  pub gathers : Gathering start sound g text
+
+later_by-none : (f : Option (ℕ × ℕ)) → later_by 0 f ≡ f
+later_by-none None = refl
+later_by-none (Some f) = ap (λ n. Some (n, f.1)) (zero-add (f.0))
+
+later_by-later_by : (a b : ℕ) (f : Option (ℕ × ℕ)) → later_by a (later_by b f) ≡ later_by (a + b) f
+later_by-later_by a b None = refl
+later_by-later_by a b (Some f) = ap (λ n. Some (n, f.1)) (sym (add_assoc a b (f.0)))
+
+nothing_given : (d : DictionaryText) (front : Bool) → given d front true [] ≡ []
+unfolding given_of lines_in
+nothing_given d front = refl
+
+nothing_faulty : (d : DictionaryText) (front : Bool) → fault_in d front true [] ≡ None
+unfolding fault_in lines_in
+nothing_faulty d front = refl
+
+-- nothing was read
+pub SoFar-none : (now : Option (List ℕ)) (d : DictionaryText) (r : ReaderText) → r.dictionary ≡ d → held_of r ≡ [] → r.ended ≡ false → r.reads ≡ 0 → r.lines ≡ 0
+    → SoFar now now d r [] (record { cases = 0; lines = 0; unseen = 0 })
+SoFar-none now d r same none unended unread front =
+    let first : is_front r ≡ true = eq-eqb r.lines 0 front in
+    record {
+      runs = [];
+      dictionary = same;
+      reads = rw none (Consumes-nil now);
+      counted = omega arith;
+      totals_are = refl;
+      lines_are = sym front;
+      few_cases = omega arith;
+      few_unseen = omega arith;
+      few = omega arith;
+      goes_on = λ later more h. ap (λ f. given d f later (held_of r ++ more)) (sym first);
+      fault = λ later more h. ap (λ f. fault_in d f later (held_of r ++ more)) (sym first) ∙ (sym (later_by-none (fault_in d (is_front r) later (held_of r ++ more))) ∙ ap (λ n. later_by n (fault_in d (is_front r) later (held_of r ++ more))) (sym front));
+    }
+
+-- a run more is counted
+totals_more : (d : DictionaryText) (runs : List (List FileLine)) (run : List FileLine) (case : Bool) (lines unseen : ℕ) → case ≡ is_case_run d run → lines ≡ length run → unseen ≡ unseen_in d run
+    → totals_of d (runs ++ run ∷ []) ≡ record { cases = (totals_of d runs).cases + cond case 1 0; lines = (totals_of d runs).lines + lines; unseen = (totals_of d runs).unseen + unseen }
+totals_more d runs run case lines unseen e f g =
+    let one : count_by (is_case_run d) (runs ++ run ∷ []) ≡ count_by (is_case_run d) runs + cond case 1 0 =
+    sum_by-append (λ x. cond (is_case_run d x) 1 0) runs (run ∷ []) ∙ (ap (λ n. count_by (is_case_run d) runs + n) (zero-add (cond (is_case_run d run) 1 0)) ∙ ap (λ t. count_by (is_case_run d) runs + cond t 1 0) (sym e)) in
+    let two : sum_by length (runs ++ run ∷ []) ≡ sum_by length runs + lines = sum_by-append length runs (run ∷ []) ∙ (ap (λ n. sum_by length runs + n) (zero-add (length run)) ∙ ap (λ n. sum_by length runs + n) (sym f)) in
+    let three : sum_by (unseen_in d) (runs ++ run ∷ []) ≡ sum_by (unseen_in d) runs + unseen = sum_by-append (unseen_in d) runs (run ∷ []) ∙ (ap (λ n. sum_by (unseen_in d) runs + n) (zero-add (unseen_in d run)) ∙ ap (λ n. sum_by (unseen_in d) runs + n) (sym g)) in
+    ap (λ n. record { cases = n; lines = sum_by length (runs ++ run ∷ []); unseen = sum_by (unseen_in d) (runs ++ run ∷ []) }) one
+    ∙ (ap (λ n. record { cases = count_by (is_case_run d) runs + cond case 1 0; lines = n; unseen = sum_by (unseen_in d) (runs ++ run ∷ []) }) two
+    ∙ ap (λ n. record { cases = count_by (is_case_run d) runs + cond case 1 0; lines = sum_by length runs + lines; unseen = n }) three)
+
+-- a truth value as a number
+pub byte_is : (t : Bool) → bool_byte t ≡ cond t 1 0
+byte_is true = refl
+byte_is false = refl
+
+pub at_most_one : (t : Bool) → cond t 1 0 ≤ 1
+at_most_one true = omega arith
+at_most_one false = omega arith
+
+-- what may follow what was read may follow what was held
+may_follow : (ended ended' later : Bool) (taken more : List ℕ) → (ended ≡ true → (taken ≡ []) × (ended' ≡ true)) → MayFollow ended' later more → MayFollow ended later (taken ++ more)
+may_follow ended ended' later taken more stays h = λ e.
+    let s = stays e in
+    let f = h (s.1) in
+    (f.0, ap (λ l. l ++ more) (s.0) ∙ f.1)
+
+module _ (before now after : Option (List ℕ)) (d : DictionaryText) (r r' : ReaderText) (text : List ℕ) (totals : Totals) (s : SoFar before now d r text totals) where
+  module _ (c : CaseText) (n : NextCase now after r r' (Ok (Some c))) where
+    gives : GivesCase d (held_of r ++ n.taken) (held_of r') (is_front r) r'.ended (r.lines + 1) c
+    gives = subst (λ (x : DictionaryText). GivesCase x (held_of r ++ n.taken) (held_of r') (is_front r) r'.ended (r.lines + 1) c) s.dictionary n.answers
+
+    shift : (text ++ held_of r) ++ n.taken ≡ (text ++ written_run c.run) ++ held_of r'
+    shift = append_assoc text (held_of r) n.taken ∙ (ap (λ l. text ++ l) gives.run.whole ∙ sym (append_assoc text (written_run c.run) (held_of r')))
+
+    run_lines : length c.run.lines ≡ length gives.run.lines
+    run_lines = ap (λ (x : RunText). length x.lines) gives.run.is ∙ length-map gives.run.lines (line_text d)
+
+    pub case_lines : 0 < length c.run.lines
+    case_lines = omega (arith, run_lines, gives.run.some)
+
+    pub case_unseen : length (unseen_lines c) ≤ length c.run.lines
+    case_unseen = omega (arith, unseen_below (records_of c) c.run.first_line (types_of c.run.lines), length-map c.run.lines (λ l. l.record_number))
+
+    unseen_is : length (unseen_lines c) ≡ unseen_in d gives.run.lines
+    unseen_is =
+        length-unseen_of (records_of c) c.run.first_line 1 (types_of c.run.lines)
+        ∙ (ap (λ (x : DictionaryText). length (unseen_of (shape_of x).records 1 (types_of c.run.lines))) gives.dictionary
+        ∙ ap (λ (x : RunText). length (unseen_of (shape_of d).records 1 (types_of x.lines))) gives.run.is)
+
+    is_case_is : is_case (records_of c) (types_of c.run.lines) ≡ is_case_run d gives.run.lines
+    is_case_is =
+        ap (λ (x : DictionaryText). is_case (shape_of x).records (types_of c.run.lines)) gives.dictionary
+        ∙ ap (λ (x : RunText). is_case (shape_of d).records (types_of x.lines)) gives.run.is
+
+    lines_now : r'.lines ≡ r.lines + length gives.run.lines
+    lines_now = n.lines ∙ ap (λ k. r.lines + k) run_lines
+
+    behind : is_front r' ≡ false
+    behind = ne_eqb r'.lines 0 (λ e. absurd (omega (arith, lines_now, gives.run.some)))
+
+    -- a case more was read
+    pub SoFar-case : (case : Bool) → case ≡ is_case (records_of c) (types_of c.run.lines) → r'.lines ≤ 2 ^ 40 * 65536
+        → SoFar before after d r' (text ++ written_run c.run) (record { cases = totals.cases + cond case 1 0; lines = totals.lines + length c.run.lines; unseen = totals.unseen + length (unseen_lines c) })
+    SoFar-case case is few =
+        let more = totals_more d s.runs gives.run.lines case (length c.run.lines) (length (unseen_lines c)) (is ∙ is_case_is) run_lines unseen_is in
+        let one : cond case 1 0 ≤ 1 = at_most_one case in
+        record {
+          runs = s.runs ++ gives.run.lines ∷ [];
+          dictionary = n.dictionary ∙ s.dictionary;
+          reads = subst (Consumes before after) shift (Consumes-trans before now after (text ++ held_of r) n.taken s.reads n.consumes);
+          counted = omega (arith, s.counted, n.counted, ap length shift, length-append (text ++ held_of r) n.taken);
+          totals_are = ap (λ (t : Totals). record { cases = t.cases + cond case 1 0; lines = t.lines + length c.run.lines; unseen = t.unseen + length (unseen_lines c) }) s.totals_are ∙ sym more;
+          lines_are = omega (arith, s.lines_are, lines_now, run_lines);
+          few_cases = omega (arith, s.few_cases, case_lines, one);
+          few_unseen = omega (arith, s.few_unseen, case_unseen);
+          few = few;
+          goes_on = λ later rest h.
+              let before' = s.goes_on later (n.taken ++ rest) (may_follow r.ended r'.ended later n.taken rest n.stays h) in
+              let first = gives.run.first later rest h in
+              ap (λ l. given d true later (l ++ rest)) (sym shift)
+              ∙ (ap (given d true later) (append_assoc (text ++ held_of r) n.taken rest)
+              ∙ (before' ∙ (ap (λ l. s.runs ++ given d (is_front r) later l) (sym (append_assoc (held_of r) n.taken rest))
+              ∙ (ap (λ l. s.runs ++ l) first ∙ (ap (λ f. s.runs ++ (gives.run.lines ∷ given d f later (held_of r' ++ rest))) (sym behind)
+              ∙ sym (append_assoc s.runs (gives.run.lines ∷ []) (given d (is_front r') later (held_of r' ++ rest))))))));
+          fault = λ later rest h.
+              let before' = s.fault later (n.taken ++ rest) (may_follow r.ended r'.ended later n.taken rest n.stays h) in
+              let first = gives.run.fault later rest h in
+              ap (λ l. fault_in d true later (l ++ rest)) (sym shift)
+              ∙ (ap (fault_in d true later) (append_assoc (text ++ held_of r) n.taken rest)
+              ∙ (before' ∙ (ap (λ l. later_by r.lines (fault_in d (is_front r) later l)) (sym (append_assoc (held_of r) n.taken rest))
+              ∙ (ap (later_by r.lines) first ∙ (later_by-later_by r.lines (length gives.run.lines) (fault_in d false later (held_of r' ++ rest))
+              ∙ (ap (λ k. later_by k (fault_in d false later (held_of r' ++ rest))) (sym lines_now) ∙ ap (λ f. later_by r'.lines (fault_in d f later (held_of r' ++ rest))) (sym behind)))))));
+        }
+
+  module _ (n : NextCase now after r r' (Ok None)) where
+    all : (text ++ held_of r) ++ n.taken ≡ text
+    all = append_assoc text (held_of r) n.taken ∙ (ap (λ l. text ++ l) n.answers.none ∙ append-nil text)
+
+    -- the end was read
+    pub SoFar-end : (start : Option (List ℕ)) (sound : Bool) (g : Going) → Gathering start sound g text → Copied d before after start sound g totals
+    SoFar-end start sound g gathers =
+        let follow : MayFollow r.ended true n.taken = λ e. (refl, (n.stays e).0) in
+        record {
+          bytes = text;
+          reads = subst (Consumes before after) all (Consumes-trans before now after (text ++ held_of r) n.taken s.reads n.consumes);
+          end = n.answers.end;
+          gathers = gathers;
+          none = ap (fault_in d true true) (sym all) ∙ (s.fault true n.taken follow ∙ (ap (λ l. later_by r.lines (fault_in d (is_front r) true l)) n.answers.none ∙ ap (later_by r.lines) (nothing_faulty d (is_front r))));
+          totals_are = s.totals_are ∙ ap (totals_of d) (sym (ap (given d true true) (sym all) ∙ (s.goes_on true n.taken follow ∙ (ap (λ l. s.runs ++ given d (is_front r) true l) n.answers.none
+              ∙ (ap (λ l. s.runs ++ l) (nothing_given d (is_front r)) ∙ append-nil s.runs)))));
+        }
+
+  module _ (error : DataError) (n : NextCase now after r r' (Err error)) where
+    is_error : IsError d (held_of r ++ n.taken) (is_front r) r'.ended r.lines error
+    is_error = subst (λ (x : DictionaryText). IsError x (held_of r ++ n.taken) (is_front r) r'.ended r.lines error) s.dictionary n.answers
+
+    whole : (text ++ held_of r) ++ n.taken ≡ text ++ (held_of r ++ n.taken)
+    whole = append_assoc text (held_of r) n.taken
+
+    data_fault : IsFaulty d (held_of r ++ n.taken) (is_front r) r'.ended r.lines error → IsDataFault d r'.ended (text ++ (held_of r ++ n.taken)) (record { number = error.number; line = error.line })
+    data_fault f = record {
+      place = r.lines + f.place;
+      first = ap (fault_in d true r'.ended) (sym whole) ∙ (s.fault r'.ended n.taken (λ e. ((n.stays e).1, (n.stays e).0)) ∙ ap (later_by r.lines) f.fault);
+      line = f.line;
+    }
+
+    -- an error was answered
+    pub SoFar-error : (start : Option (List ℕ)) (sound failed : Bool) (g : Going) → Gathering start sound g text → (error.number ≡ 70 → (failed ≡ true) ⊎ (r'.reads ≡ 2 ^ 40))
+        → Stopped d before after start sound g failed (record { number = error.number; line = error.line })
+    SoFar-error start sound failed g gathers reading = record {
+      text = text;
+      rest = held_of r ++ n.taken;
+      ended = r'.ended;
+      reads = subst (Consumes before after) whole (Consumes-trans before now after (text ++ held_of r) n.taken s.reads n.consumes);
+      gathers = gathers;
+      faulty = λ low. data_fault (is_error.faulty low);
+      reading = λ e. elim (reading e) [
+        | inl f ↦ inl f
+        | inr f ↦ inr (omega (arith, s.counted, n.counted, ap length whole, length-append (text ++ held_of r) n.taken))
+      ];
+      writing = λ e. elim (is_error.number (omega arith)) [ inl f ↦ absurd (omega arith) | inr f ↦ absurd (omega arith) ];
+      other = λ high. elim (is_error.number high) [ inl f ↦ inl f | inr f ↦ inr (inr f) ];
+      no_line = is_error.line;
+    }
+
+-- all of the text was written, or a front of it
+pub front_of : (r : Result (Unit {0}) Failed) (a b : Option (List ℕ)) (text : List ℕ) → WritesAll r a b text → AppendsFront a b text
+front_of (Ok x) a b text w = record { written = text; rest = []; is = sym (append-nil text); appends = w }
+front_of (Err e) a b text w = w
+
+-- what was gathered was written, or a front of it
+pub Stops-front : (d : DictionaryText) (before after start has : Option (List ℕ)) (sound input_failed output_failed : Bool) (g : Going) (fault : RunFault) → (s : Stopped d before after start sound g input_failed fault)
+    → AppendsFront start has s.text → (fault.number ≡ 71 → output_failed ≡ true) → Stops d before after start has input_failed output_failed fault
+Stops-front d before after start has sound input_failed output_failed g fault s front writing =
+    let is : s.text ++ s.rest ≡ front.written ++ (front.rest ++ s.rest) = ap (λ l. l ++ s.rest) front.is ∙ append_assoc front.written front.rest s.rest in
+    record {
+      written = front.written;
+      rest = front.rest ++ s.rest;
+      ended = s.ended;
+      reads = subst (Consumes before after) is s.reads;
+      writes = front.appends;
+      faulty = λ low. subst (λ (l : List ℕ). IsDataFault d s.ended l fault) is (s.faulty low);
+      reading = λ e. elim (s.reading e) [ inl f ↦ inl f | inr f ↦ inr (omega (arith, ap length is)) ];
+      writing = writing;
+      other = s.other;
+      no_line = s.no_line;
+    }
+
+-- once it was given up, a front was written and the device has failed
+pub gave_up : (start : Option (List ℕ)) (sound : Bool) (g : Going) (text : List ℕ) → g.gave_up ≡ true → Gathering start sound g text → GaveUp start g text
+gave_up start sound g text e h = MatchBool-at_true (GaveUp start g text) (Gathered start sound g text) e h
+
+-- a write that failed after all was gathered
+pub Stops-end : (d : DictionaryText) (before after start has : Option (List ℕ)) (sound input_failed output_failed : Bool) (g : Going) (totals : Totals) → (s : Copied d before after start sound g totals)
+    → AppendsFront start has s.bytes → output_failed ≡ true → Stops d before after start has input_failed output_failed (record { number = 71; line = 0 })
+Stops-end d before after start has sound input_failed output_failed g totals s front failed = record {
+  written = front.written;
+  rest = front.rest;
+  ended = true;
+  reads = subst (Consumes before after) front.is s.reads;
+  writes = front.appends;
+  faulty = λ low. absurd (omega arith);
+  reading = λ e. absurd (omega arith);
+  writing = λ e. failed;
+  other = λ high. inr (inl refl);
+  no_line = λ high. refl;
+}

@@ -1,0 +1,60 @@
+-- What a pass does: it copies a data file case by case.
+use Rattle.std.specs.Prelude.{◌≡◌, ◌≤◌, ◌<◌, ◌+◌, ◌^◌, ◌⊎◌, ℕ, Bool, true, List, ◌++◌, length, Option, None, Some}
+use Rattle.std.specs.Io.KnownBytes.{Consumes, Appends, IsAtEnd}
+use Rattle.cse_dict.specs.Dictionary.{DictionaryText}
+use Rattle.cse_lines.specs.Runs.{given, fault_in}
+use Rattle.cse_output.specs.Gathering.{Going, Gathering}
+use Rattle.cse_batch.specs.declared.totals.Totals.{Totals}
+use Rattle.cse_batch.specs.declared.totals.RunFault.{RunFault}
+use Rattle.cse_batch.specs.Totals.{totals_of}
+
+-- All that was there was read, no line of it is faulty, it was written and nothing else, and the totals are those of its runs.
+pub record Passes (d : DictionaryText) (before after had has : Option (List ℕ)) (totals : Totals) : Type 0 where
+  pub bytes : List ℕ
+  pub reads : Consumes before after bytes
+  pub end : IsAtEnd after
+  pub writes : Appends had has bytes
+  pub sound : fault_in d true true bytes ≡ None
+  pub totals_are : totals ≡ totals_of d (given d true true bytes)
+
+-- the fault is that of the first faulty line of the bytes, after which the file has ended or breaks off
+pub record IsDataFault (d : DictionaryText) (ended : Bool) (bytes : List ℕ) (fault : RunFault) : Type 0 where
+  pub place : ℕ
+  pub first : fault_in d true ended bytes ≡ Some (place, fault.number)
+  pub line : fault.line ≡ place + 1
+
+-- A front of what was read was written. A fault below 70 is that of the first faulty line; 70 comes only where the input has failed or 2^40 bytes were
+-- read, 71 only where the output has failed; and the only other fault is 90. From 70 on there is no line.
+pub record Stops (d : DictionaryText) (before after had has : Option (List ℕ)) (input_failed output_failed : Bool) (fault : RunFault) : Type 0 where
+  pub written : List ℕ
+  pub rest : List ℕ
+  pub ended : Bool
+  pub reads : Consumes before after (written ++ rest)
+  pub writes : Appends had has written
+  pub faulty : fault.number < 70 → IsDataFault d ended (written ++ rest) fault
+  pub reading : fault.number ≡ 70 → (input_failed ≡ true) ⊎ (2 ^ 40 ≤ length (written ++ rest))
+  pub writing : fault.number ≡ 71 → output_failed ≡ true
+  pub other : 70 ≤ fault.number → (fault.number ≡ 70) ⊎ ((fault.number ≡ 71) ⊎ (fault.number ≡ 90))
+  pub no_line : 70 ≤ fault.number → fault.line ≡ 0
+
+-- what was read is gathered before the output
+pub record Copied (d : DictionaryText) (before after start : Option (List ℕ)) (sound : Bool) (g : Going) (totals : Totals) : Type 0 where
+  pub bytes : List ℕ
+  pub reads : Consumes before after bytes
+  pub end : IsAtEnd after
+  pub gathers : Gathering start sound g bytes
+  pub none : fault_in d true true bytes ≡ None
+  pub totals_are : totals ≡ totals_of d (given d true true bytes)
+
+-- a front of what was read is gathered before the output
+pub record Stopped (d : DictionaryText) (before after start : Option (List ℕ)) (sound : Bool) (g : Going) (input_failed : Bool) (fault : RunFault) : Type 0 where
+  pub text : List ℕ
+  pub rest : List ℕ
+  pub ended : Bool
+  pub reads : Consumes before after (text ++ rest)
+  pub gathers : Gathering start sound g text
+  pub faulty : fault.number < 70 → IsDataFault d ended (text ++ rest) fault
+  pub reading : fault.number ≡ 70 → (input_failed ≡ true) ⊎ (2 ^ 40 ≤ length (text ++ rest))
+  pub writing : fault.number ≡ 71 → g.gave_up ≡ true
+  pub other : 70 ≤ fault.number → (fault.number ≡ 70) ⊎ ((fault.number ≡ 71) ⊎ (fault.number ≡ 90))
+  pub no_line : 70 ≤ fault.number → fault.line ≡ 0

@@ -1,0 +1,17 @@
+//! From bytes to bytes: images that may run, and whole runs over data files.
+//!
+//! - `image`: the program of an image, checked with a dictionary.
+//! - `totals`: what a run counts, and what stops it.
+//! - `copy`: a copy, case by case.
+#![tactic(auto)]
+
+mod copy;
+mod image;
+mod totals;
+
+pub use copy::pass;
+pub use image::{CheckFault, check_image};
+pub use totals::{RunFault, Totals};
+
+#[cfg(test)]
+mod tests;
