@@ -4,3 +4,5 @@ pub mod RunLaws
 pub mod StartLaws
 pub mod TextLaws
 pub mod TurnLaws
+pub mod VerdictLaws
+pub mod VettedLaws

@@ -7,3 +7,5 @@ pub mod Step
 pub mod Tried
 pub mod Values
 pub mod Variables
+pub mod Verdict
+pub mod Vetted

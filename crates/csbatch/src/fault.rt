@@ -6,6 +6,9 @@ ghost use Rattle.csbatch.specs.Ending.{status_of};
 
 use crate::printing::write_parts;
 use crate::try_image::TryFault;
+use crate::verify_image::VerifyFault;
+use cse_batch::CheckFault;
+use cse_image::ImageError;
 use cse_value::{Failed, Output};
 use cse_verify::{NONE, Refusal};
 use itoa::Buffer;
@@ -57,13 +60,32 @@ impl Fault {
         }
     }
 
+    /// Bytes that are no image.
+    fn of_image(error: ImageError) -> Fault {
+        Fault {
+            byte: Some(error.at as u64),
+            ..Fault::of_number(error.number)
+        }
+    }
+
+    /// The fault of `verify`; a line 0 is not told.
+    pub fn of_verify(fault: &VerifyFault) -> Fault {
+        match fault {
+            VerifyFault::Dict(error) => Fault {
+                line: told_line(error.line),
+                ..Fault::of_number(error.number)
+            },
+            VerifyFault::Check(CheckFault::Image(error)) => Fault::of_image(*error),
+            VerifyFault::Check(CheckFault::Refused(refusal)) => Fault::of_refusal(*refusal),
+            VerifyFault::Check(CheckFault::Memory) => Fault::of_number(NO_MEMORY),
+            VerifyFault::Write => Fault::of_number(WRITE_FAILED),
+        }
+    }
+
     /// The fault of `try`.
     pub fn of_try(fault: &TryFault) -> Fault {
         match fault {
-            TryFault::Image(error) => Fault {
-                byte: Some(error.at as u64),
-                ..Fault::of_number(error.number)
-            },
+            TryFault::Image(error) => Fault::of_image(*error),
             TryFault::Refused(refusal) => Fault::of_refusal(*refusal),
             TryFault::Write => Fault::of_number(WRITE_FAILED),
             TryFault::Memory => Fault::of_number(NO_MEMORY),
@@ -73,6 +95,10 @@ impl Fault {
 
 fn told(number: u32) -> Option<u32> {
     if number == NONE { None } else { Some(number) }
+}
+
+fn told_line(line: u64) -> Option<u64> {
+    if line == 0 { None } else { Some(line) }
 }
 
 /// The exit status of a fault's number: 3 for a device, a file or memory (70, 71, 72, 90), else 1.

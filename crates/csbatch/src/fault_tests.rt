@@ -68,7 +68,7 @@ fn tells_faults(rt: HostRuntime) -> Result<(), Fail> {
 
 #[test]
 fn plans_words(rt: HostRuntime) {
-    let wrong: [&[&str]; 10] = [
+    let wrong: [&[&str]; 13] = [
         &[],
         &["try"],
         &["try", "a", "b"],
@@ -78,7 +78,10 @@ fn plans_words(rt: HostRuntime) {
         &["try", "--help"],
         &["--version"],
         &["run"],
-        &["verify", "a", "b"],
+        &["verify"],
+        &["verify", "a", "b", "c"],
+        &["verify", "--decks", "d", "a", "b"],
+        &["verify", "a"],
     ];
     for words in wrong {
         assert_eq!(rt; plan(rt.alloc(), words), Err(PlanFault::Usage));
@@ -86,6 +89,20 @@ fn plans_words(rt: HostRuntime) {
     assert_eq!(rt;
         plan(rt.alloc(), &["try", "a"]),
         Ok(Command::Try { image: "a" })
+    );
+    assert_eq!(rt;
+        plan(rt.alloc(), &["verify", "d", "i"]),
+        Ok(Command::Verify {
+            dict: "d",
+            image: "i"
+        })
+    );
+    assert_eq!(rt;
+        plan(rt.alloc(), &["verify", "-", ""]),
+        Ok(Command::Verify {
+            dict: "-",
+            image: ""
+        })
     );
     assert_eq!(rt;
         plan(rt.alloc(), &["try", "-"]),

@@ -2,6 +2,8 @@
 //!
 //! - `plan`: what the words ask for.
 //! - `try_image`: `try`, from the bytes of an image to the messages of its preproc.
+//! - `verify_image`: `verify`, from a dictionary and an image to what is known of the program. `verdict`:
+//!   its lines.
 //! - `run`, `machine`: the run of an event, and one instruction of it. `operands`, `variables`,
 //!   `arrays`, `starting`, `words`, `cell`, `stack`: the values that it works on.
 //! - `printing`, `fault`: lines for a device.
@@ -19,6 +21,8 @@ mod stack;
 mod starting;
 mod try_image;
 mod variables;
+mod verdict;
+mod verify_image;
 mod words;
 
 use cse_value::Writes;
@@ -30,15 +34,20 @@ use std::process::ExitCode;
 use std::rt::{Env, Files};
 use std::{env, fs};
 use try_image::try_to;
+use verify_image::verify_to;
 
 #[cfg(test)]
 mod fault_tests;
 #[cfg(test)]
 mod tests;
+#[cfg(test)]
+mod verify_tests;
 
 const USAGE: &str = "usage: csbatch try IMAGE
+       csbatch verify DICT IMAGE
 
-  try IMAGE   run the application's preproc of an image, and print its messages and its steps";
+  try IMAGE           run the application's preproc of an image, and print its messages and its steps
+  verify DICT IMAGE   tell whether an image may run with a dictionary, and how many steps it may take";
 
 /// Why the program ends without having done its work.
 enum Stop {
@@ -89,6 +98,7 @@ fn carry_out<R: Env + Files + Print + AllocGlobal>(rt: &R) -> Result<u8, Stop> {
     let words: Vec<&str> = words;
     match plan(rt.alloc(), &words) {
         Ok(Command::Try { image }) => try_file(rt, image),
+        Ok(Command::Verify { dict, image }) => verify_files(rt, dict, image),
         Err(PlanFault::Usage) => Err(Stop::Usage),
         Err(PlanFault::Memory) => Err(Stop::of_number(NO_MEMORY)),
     }
@@ -117,6 +127,28 @@ fn try_file<R: Files + Print + AllocGlobal>(rt: &R, path: &str) -> Result<u8, St
     };
     match out.into_inner().flush() {
         Ok(()) => Ok(status_of(end)),
+        Err(_) => Err(Stop::of_number(WRITE_FAILED)),
+    }
+}
+
+/// `verify`: the status, 0. The dictionary is read before the image.
+fn verify_files<R: Files + Print + AllocGlobal>(
+    rt: &R,
+    dict: &str,
+    image: &str,
+) -> Result<u8, Stop> {
+    let dict = file_bytes(rt, dict)?;
+    let image = file_bytes(rt, image)?;
+    let buffer = match BufWriter::new(rt.alloc(), io::writer(rt)) {
+        Ok(buffer) => buffer,
+        Err(error) => return Err(Stop::of_error(&error, WRITE_FAILED)),
+    };
+    let mut out = Writes::new(buffer);
+    if let Err(fault) = verify_to(rt.alloc(), &dict, &image, &mut out) {
+        return Err(Stop::Refused(Fault::of_verify(&fault)));
+    }
+    match out.into_inner().flush() {
+        Ok(()) => Ok(0),
         Err(_) => Err(Stop::of_number(WRITE_FAILED)),
     }
 }

@@ -9,6 +9,8 @@ use std::alloc::{AllocError, Global};
 pub enum Command<'a> {
     /// `csbatch try IMAGE`: run an image's preproc.
     Try { image: &'a str },
+    /// `csbatch verify DICT IMAGE`: tell whether an image may run with a dictionary.
+    Verify { dict: &'a str, image: &'a str },
 }
 
 /// Why there is no command.
@@ -40,25 +42,43 @@ impl From<Error> for PlanFault {
 pub fn plan<'a>(alloc: Global, words: &'a [&'a str]) -> Result<Command<'a>, PlanFault> {
     let program = Clap::new(alloc, "csbatch")
         .no_binary_name(true)
-        .subcommand(try_words(alloc)?)?;
+        .subcommand(try_words(alloc)?)?
+        .subcommand(verify_words(alloc)?)?;
     let matches = program.try_get_matches_from(words)?;
     match matches.subcommand() {
         Some(("try", matches)) => try_of(matches),
+        Some(("verify", matches)) => verify_of(matches),
         _ => Err(PlanFault::Usage),
     }
 }
 
+/// A path that has to be given.
+fn path<'a>(alloc: Global, name: &'a str) -> Arg<'a> {
+    Arg::new(alloc, name).required(true).action(ArgAction::Set)
+}
+
 /// `try IMAGE`.
 fn try_words<'a>(alloc: Global) -> Result<Clap<'a>, AllocError> {
-    let image = Arg::new(alloc, "IMAGE")
-        .required(true)
-        .action(ArgAction::Set);
-    Clap::new(alloc, "try").arg(image)
+    Clap::new(alloc, "try").arg(path(alloc, "IMAGE"))
+}
+
+/// `verify DICT IMAGE`.
+fn verify_words<'a>(alloc: Global) -> Result<Clap<'a>, AllocError> {
+    Clap::new(alloc, "verify")
+        .arg(path(alloc, "DICT"))?
+        .arg(path(alloc, "IMAGE"))
 }
 
 fn try_of<'a>(matches: &ArgMatches<'a>) -> Result<Command<'a>, PlanFault> {
     match matches.get_str("IMAGE") {
         Some(image) => Ok(Command::Try { image }),
         None => Err(PlanFault::Usage),
+    }
+}
+
+fn verify_of<'a>(matches: &ArgMatches<'a>) -> Result<Command<'a>, PlanFault> {
+    match (matches.get_str("DICT"), matches.get_str("IMAGE")) {
+        (Some(dict), Some(image)) => Ok(Command::Verify { dict, image }),
+        _ => Err(PlanFault::Usage),
     }
 }
