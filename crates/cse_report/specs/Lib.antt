@@ -1,0 +1,10 @@
+pub mod MessageText
+pub mod Filling
+pub mod Counts
+pub mod Listing
+pub mod Heading
+pub mod Held
+pub mod Spans
+pub mod Frequency
+pub mod Values
+pub mod Reports
