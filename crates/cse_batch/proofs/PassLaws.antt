@@ -1,18 +1,18 @@
 -- What a pass knows, case by case.
-use Rattle.std.proofs.Common.{◌≡◌, ℕ, ◌+◌, ◌*◌, ◌^◌, ◌<◌, ◌≤◌, ◌⊎◌, Bool, true, false, List, [], ◌∷◌, ◌++◌, length, map, Option, None, Some, Ok, Err, Result, cond, refl, ap, sym, ◌∙◌, subst, arith, append_assoc, append-nil, length-append, add_assoc, zero-add, add-zero, inl, inr}
-use Rattle.std.specs.Prelude.{sum_by, count_by, ◌==◌}
-use Rattle.std.specs.Io.KnownBytes.{Consumes, IsAtEnd}
+use Rattle.std.proofs.Common.{◌≡◌, ℕ, ◌+◌, ◌*◌, ◌^◌, ◌<◌, ◌≤◌, ◌⊎◌, Bool, true, false, List, [], ◌∷◌, ◌++◌, length, Option, None, Some, Ok, Err, Result, cond, refl, ap, sym, ◌∙◌, subst, arith, append_assoc, append-nil, length-append, add_assoc, zero-add, inl, inr}
+use Rattle.std.specs.Prelude.{sum_by, count_by}
+use Rattle.std.specs.Io.KnownBytes.{Consumes}
 use Rattle.std.proofs.KnownBytes.{Consumes-trans, Consumes-nil}
 use Rattle.std.proofs.lemmas.List.{length-map}
 use Rattle.std.proofs.lemmas.List.Sums.{sum_by-append}
-use Rattle.std.proofs.lemmas.Bool.{ne_eqb, eq-eqb, cases_Bool}
+use Rattle.std.proofs.lemmas.Bool.{ne_eqb, eq-eqb}
 use Rattle.cse_dict.specs.Dictionary.{DictionaryText, shape_of}
 use Rattle.cse_lines.specs.declared.error.DataError.{DataError}
 use Rattle.cse_lines.specs.Line.{FileLine, lines_in}
 use Rattle.cse_lines.specs.Columns.{line_text}
-use Rattle.cse_lines.specs.Run.{RunText, run_text, written_run}
+use Rattle.cse_lines.specs.Run.{RunText, written_run}
 use Rattle.cse_lines.specs.Runs.{given, given_of, fault_in, later_by, MayFollow}
-use Rattle.cse_lines.specs.Reader.{ReaderText, GivesRun, IsEnd, IsError, IsFaulty, held_of, is_front}
+use Rattle.cse_lines.specs.Reader.{ReaderText, IsError, IsFaulty, held_of, is_front}
 use mir.Val.{bool_byte}
 use Rattle.std.proofs.lemmas.Bool.{MatchBool-at_true}
 use Rattle.cse_value.specs.declared.device.Failed.{Failed}

@@ -1,5 +1,5 @@
 -- Laws of an item's columns among those of a line.
-use Rattle.std.proofs.Common.{◌≡◌, ℕ, ◌+◌, ◌-◌, ◌<◌, ◌≤◌, min, List, ◌++◌, length, take, drop, refl, ap, sym, ◌∙◌, arith, length-drop, append_assoc, drop-drop}
+use Rattle.std.proofs.Common.{◌≡◌, ℕ, ◌+◌, ◌-◌, min, List, ◌++◌, length, take, drop, ap, sym, ◌∙◌, arith, length-drop, append_assoc, drop-drop}
 use Rattle.std.proofs.lemmas.List.{take_rest, take_min, drop_min}
 use borrow.Rule.Slice.PartMut.{put_mid}
 use Rattle.cse_value.specs.declared.shape.ItemShape.{ItemShape}

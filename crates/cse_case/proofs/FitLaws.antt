@@ -1,19 +1,18 @@
 -- Laws of cases that fit their dictionary.
-use Rattle.std.proofs.Common.{◌≡◌, ℕ, ◌+◌, ◌-◌, ◌<◌, ◌≤◌, max, Bool, true, false, List, [], ◌∷◌, ◌++◌, length, get_or, set, take, map, replicate, Option, refl, ap, sym, ◌∙◌, subst, inl, inr, arith}
+use Rattle.std.proofs.Common.{◌≡◌, ℕ, ◌-◌, ◌<◌, ◌≤◌, false, List, [], length, get_or, replicate, Option, sym, ◌∙◌, subst, inl, inr, arith}
 use Rattle.std.specs.Prelude.{slice_set}
 use Rattle.std.proofs.lemmas.List.{get_or-map, length-map, length-take, length-append, length-replicate, get_or-set_same, get_or-set_other}
 use Rattle.std.proofs.Math.ListN.{length-set}
-use Rattle.std.proofs.Math.Seq.{map-set_same}
 use Rattle.std.proofs.lemmas.Bool.{cases_eq}
 use Rattle.cse_value.specs.declared.shape.RecordShape.{RecordShape}
 use Rattle.cse_dict.specs.Dictionary.{DictionaryText}
 use Rattle.cse_lines.specs.Line.{FileLine}
 use Rattle.cse_lines.specs.Columns.{LineText, columns_of, line_text, no_line}
-use Rattle.cse_lines.specs.Field.{least_width, padded, record_len, record_of, width_of}
-use Rattle.cse_lines.specs.Run.{RunText, line_at, run_text}
+use Rattle.cse_lines.specs.Field.{padded, width_of}
+use Rattle.cse_lines.specs.Run.{line_at, run_text}
 use Rattle.cse_case.specs.Seen.{most_of, occurrence_places, places_from}
 use Rattle.cse_case.specs.Field.{item_at, rewritten}
-use Rattle.cse_case.specs.Case.{CaseText, items_of, places_of, records_of, types_of, with_item}
+use Rattle.cse_case.specs.Case.{CaseText, items_of, records_of, types_of, with_item}
 use Rattle.cse_case.specs.Fit.{IsFit, line_width}
 
 at_most : (records : List RecordShape) (r : ℕ) (lines : List (Option ℕ)) → length (occurrence_places records r lines) ≤ most_of records r

@@ -7,7 +7,7 @@ use Rattle.cse_lines.specs.Run.{RunText, line_at, run_text}
 use Rattle.cse_lines.specs.Reader.{ReaderText, GivesRun, Next, held_of, is_front}
 use Rattle.cse_case.specs.Case.{CaseText}
 use Rattle.cse_case.specs.Fit.{IsFit}
-use Rattle.cse_case.specs.Reading.{GivesCase, NextCase}
+use Rattle.cse_case.specs.Reading.{NextCase}
 use Rattle.cse_case.proofs.FitLaws.{fits_read}
 
 -- the case of a run that is given fits

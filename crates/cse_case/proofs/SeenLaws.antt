@@ -1,21 +1,20 @@
 -- Laws of seen and unseen lines, and of the table of occurrences.
-use Rattle.std.proofs.Common.{◌≡◌, ◌≢◌, ℕ, zero, suc, ◌+◌, ◌-◌, ◌<◌, ◌≤◌, min, Bool, true, false, eqb, ltb, cond, List, [], ◌∷◌, ◌++◌, length, take, drop, get_or, replicate, Option, None, Some, refl, ap, sym, ◌∙◌, inl, inr, arith, append_assoc, append-nil, length-append, zero-add, add_assoc, add-one, add-zero, take-append-drop, subst, map}
-use Rattle.std.specs.Prelude.{slice_get, slice_set, slice_index, count_by, if◌then◌else◌}
+use Rattle.std.proofs.Common.{◌≡◌, ℕ, zero, suc, ◌+◌, ◌<◌, ◌≤◌, min, Bool, true, false, cond, List, [], ◌∷◌, ◌++◌, length, take, drop, get_or, replicate, Option, None, Some, refl, ap, sym, ◌∙◌, inl, inr, arith, zero-add, add_assoc, add-one, add-zero, take-append-drop, map}
+use Rattle.std.specs.Prelude.{slice_set, slice_index, count_by, if◌then◌else◌}
 use Rattle.std.proofs.lemmas.List.{get_or-map, length-map, get_or-drop, get_or-take, length-drop, take_min}
 use Rattle.std.proofs.Math.Seq.{drop-cons}
 use Rattle.cse_lines.specs.declared.line.Line.{Line}
-use Rattle.std.proofs.lemmas.List.{take_more, get_or-set_same, get_or-set_other, take-append-le, take_all, length-take-le, length-take, drop-append-le, drop_at, get_or-replicate, length-replicate}
+use Rattle.std.proofs.lemmas.List.{take_more, get_or-set_same, get_or-set_other, take-append-le, length-take-le, length-take, get_or-replicate, length-replicate}
 use Rattle.std.proofs.Math.ListN.{length-set}
 use Rattle.std.proofs.lemmas.List.Sums.{sum_by-append, sum_by-cons}
 use Rattle.std.proofs.lemmas.Option.{slice_get-get_or, slice_get_past}
-use Rattle.std.proofs.lemmas.Bool.{cases_eq, cases_lt, eqb-true, ne_eqb, eq-eqb, lt-ltb, le-ltb}
+use Rattle.std.proofs.lemmas.Bool.{cases_eq, cases_lt, ne_eqb, eq-eqb, lt-ltb, le-ltb}
 use Rattle.std.specs.Option.{option_map_or}
 use Rattle.cse_value.specs.declared.shape.RecordShape.{RecordShape}
-use Rattle.cse_dict.specs.declared.lookup.Unseen.{Unseen}
-use Rattle.cse_dict.specs.declared.lookup.Unseen.TheVariants.{Unknown, Extra}
+use Rattle.cse_dict.specs.declared.lookup.Unseen.TheVariants.{Extra}
 use Rattle.cse_case.specs.declared.seen.Span.{Span}
-use Rattle.cse_case.specs.Seen.{is_of, most_of, places_from, occurrence_places, unseen_after, unseen_from, unseen_of, onto_unseen}
-use Rattle.cse_case.specs.Table.{AreCounts, IsSpan, AreSpans, IsTable}
+use Rattle.cse_case.specs.Seen.{is_of, most_of, places_from, occurrence_places, unseen_after, unseen_from, onto_unseen}
+use Rattle.cse_case.specs.Table.{AreCounts, AreSpans, IsTable}
 
 -- one line more is counted
 pub count_by-more : (p : Option ℕ → Bool) (xs : List (Option ℕ)) (y : Option ℕ) → count_by p (xs ++ y ∷ []) ≡ count_by p xs + cond (p y) 1 0

@@ -1,5 +1,5 @@
 -- A case: the lines of one run of a data file, read by a dictionary.
-use Rattle.std.specs.Prelude.{◌≡◌, ◌<◌, ◌≤◌, ℕ, ◌-◌, List, length, map, slice_index, slice_index_or, slice_set, All, Option}
+use Rattle.std.specs.Prelude.{◌<◌, ◌≤◌, ℕ, ◌-◌, List, length, map, slice_index, slice_set, Option}
 use Rattle.cse_value.specs.declared.shape.RecordShape.{RecordShape}
 use Rattle.cse_value.specs.declared.shape.ItemShape.{ItemShape}
 use Rattle.cse_value.specs.declared.number.Num.{Num}
@@ -8,7 +8,7 @@ use Rattle.cse_dict.specs.Dictionary.{DictionaryText, code_at, zero_fill_at, sha
 use Rattle.cse_dict.specs.declared.lookup.Unseen.{Unseen}
 use Rattle.cse_lines.specs.Columns.{LineText}
 use Rattle.cse_lines.specs.Run.{RunText, line_at}
-use Rattle.cse_case.specs.Seen.{occurrence_places, occurrences, unseen_of}
+use Rattle.cse_case.specs.Seen.{occurrence_places, unseen_of}
 use Rattle.cse_case.specs.Field.{item_at, field_of, rewritten}
 
 -- a case: its dictionary, its id columns as they were read, and its lines

@@ -1,7 +1,7 @@
 -- Which lines of a run are seen, and as which occurrence of their record. A line whose type is no record's
 -- is unseen (unknown), and so is one past MaxRecords of its record (extra); the others are the occurrences
 -- of their records, numbered from 1. A run is told by the records of its lines, in order.
-use Rattle.std.specs.Prelude.{ℕ, ◌+◌, Bool, false, ◌==◌, nat_lt, List, [], ◌∷◌, ◌++◌, length, take, slice_get, slice_index, count_by, Option, None, Some, if◌then◌else◌}
+use Rattle.std.specs.Prelude.{ℕ, ◌+◌, Bool, false, ◌==◌, nat_lt, List, [], ◌∷◌, ◌++◌, length, take, slice_get, count_by, Option, None, Some, if◌then◌else◌}
 use Rattle.std.specs.Option.{option_map_or}
 use Rattle.cse_value.specs.declared.shape.RecordShape.{RecordShape}
 use Rattle.cse_dict.specs.declared.lookup.Unseen.{Unseen}

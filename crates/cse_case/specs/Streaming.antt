@@ -1,5 +1,5 @@
 -- What holds of a reader of cases between calls.
-use Rattle.std.specs.Prelude.{◌≡◌, ◌==◌, ℕ, Bool, true, List, filter, Option, None}
+use Rattle.std.specs.Prelude.{◌≡◌, ◌==◌, List, filter, Option, None}
 use Rattle.cse_value.specs.declared.shape.ItemShape.{ItemShape}
 use Rattle.cse_dict.specs.Dictionary.{DictionaryText, shape_of}
 use Rattle.cse_lines.specs.declared.error.DataError.{DataError}

@@ -164,7 +164,7 @@ fn long_jumps(rt: HostRuntime) -> Result<(), Fail> {
 fn deep_stack(rt: HostRuntime) -> Result<(), Fail> {
     let alloc = rt.alloc();
     let mut parts = parts_of(alloc, Ambient::Case, &[])?;
-    let count = 450_000;
+    let count = 20_000;
     let last = parts.code.pop().ok_or("no code")?;
     if let Some(routine) = parts.routines.last_mut() {
         routine.instructions = 2 * count + 1;

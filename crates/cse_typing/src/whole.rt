@@ -115,7 +115,7 @@ pub fn check_events<C: Code>(shape: &Shape, program: &Program<C>) -> Result<(), 
 /// logarithm of how many stacks the routine makes: a jump compares two entries of a table, and where
 /// stacks meet two numbers are compared. At one place at most 64 openers are looked at, the kinds that
 /// the instruction takes, and at a message 17 times its text, which has 255 characters. A routine of
-/// 1,000,000 instructions takes some 150 MB at most, and less than a second where it has no messages.
+/// 1,000,000 instructions takes some 200 MB at most.
 pub fn typed<C: Code>(alloc: Global, shape: &Shape, program: &Program<C>) -> Result<(), Refusal>
     ensures typed { OnOk result (IsTyped (shape_lists shape.now) program.now) }
     ensures refused { IfErr result (λ e. IsOutOfMemory e ⊎ Refuses (shape_lists shape.now) program.now e) }

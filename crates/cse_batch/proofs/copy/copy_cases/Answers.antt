@@ -1,9 +1,8 @@
-use Rattle.std.proofs.Common.{◌≡◌, ◌+◌, ◌-◌, ◌*◌, ◌^◌, ◌<◌, ◌≤◌, ◌++◌, [], length, refl, ap, sym, ◌∙◌, arith, inl, inr}
+use Rattle.std.proofs.Common.{◌-◌, ◌*◌, ◌^◌, ◌<◌, ◌≤◌, ◌++◌, [], length, refl, ap, ◌∙◌, arith, inl, inr}
 use Rattle.cse_lines.specs.Reader.{held_of}
 use Rattle.cse_lines.specs.Run.{written_run}
 use Rattle.cse_output.proofs.GatherLaws.{Gathering-none}
-use Rattle.cse_case.specs.Case.{unseen_lines}
-use Rattle.cse_batch.proofs.PassLaws.{Copying, SoFar-none, SoFar-case, SoFar-end, SoFar-error, at_most_one, byte_is, case_lines, case_unseen, front_of, Stops-front, gave_up, Stops-end}
+use Rattle.cse_batch.proofs.PassLaws.{SoFar-none, SoFar-case, SoFar-end, SoFar-error, at_most_one, byte_is, case_lines, case_unseen}
 use Rattle.cse_batch.proofs.copy.copy_cases.Goals as goal
 
 pub cases-init : goal.cases-init

@@ -1,5 +1,4 @@
-use Rattle.std.proofs.Common.{◌≡◌, ap, sym, ◌∙◌}
-use Rattle.cse_batch.proofs.PassLaws.{front_of, Stops-front, gave_up, Stops-end}
+use Rattle.cse_batch.proofs.PassLaws.{front_of, Stops-front, gave_up}
 use Rattle.cse_batch.proofs.copy.pass_cases.Goals as goal
 
 pub returns-in-Err-clause-err : goal.returns-in-Err-clause-err

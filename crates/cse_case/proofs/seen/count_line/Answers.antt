@@ -1,8 +1,7 @@
-use Rattle.std.proofs.Common.{◌≡◌, ◌<◌, ◌≤◌, length, get_or, sym, ◌∙◌, ap, arith, Some}
+use Rattle.std.proofs.Common.{◌<◌, ◌≤◌, length, get_or, sym, arith}
 use Rattle.cse_value.specs.declared.shape.RecordShape.{RecordShape}
-use Rattle.cse_case.specs.Seen.{most_of, unseen_after}
-use Rattle.cse_case.specs.Table.{AreCounts}
-use Rattle.cse_case.proofs.SeenLaws.{AreCounts-seen, AreCounts-extra, extra_if_full, seen_if_room, most_at, length-places_from, places_from-append, AreCounts-none}
+use Rattle.cse_case.specs.Seen.{most_of}
+use Rattle.cse_case.proofs.SeenLaws.{AreCounts-seen, AreCounts-extra, extra_if_full, most_at}
 use Rattle.cse_case.proofs.seen.count_line.Goals as goal
 use Rattle.cse_case.proofs.seen.count_line.Goals.{else-record-records-via-then-record-records+else-counts-record, else-record-records-via-else-record-records}
 

@@ -1,11 +1,10 @@
-use Rattle.std.proofs.Common.{◌≡◌, ◌<◌, ◌+◌, ◌++◌, ◌∷◌, [], length, take, drop, get_or, ap, sym, ◌∙◌, subst, append_assoc, refl, add-zero, replicate, rules, Some, None}
+use Rattle.std.proofs.Common.{◌≡◌, ◌+◌, ◌++◌, ◌∷◌, [], length, take, drop, ap, sym, ◌∙◌, append_assoc, refl, add-zero, replicate, rules, None}
 use Rattle.cse_lines.specs.declared.line.Line.{Line}
 use Rattle.cse_lines.specs.declared.line.Ending.TheVariants.{FileEnd}
 use Rattle.std.specs.Vec.{with_items}
 use Rattle.std.proofs.lemmas.List.{with_items_is}
-use Rattle.cse_case.specs.Seen.{onto_unseen, unseen_from, unseen_of, unseen_after}
-use Rattle.cse_case.specs.Table.{AreCounts}
-use Rattle.cse_case.proofs.SeenLaws.{AreCounts-none, take-types, unseen_from-next, places_from-next, enough, types_in}
+use Rattle.cse_case.specs.Seen.{onto_unseen, unseen_from, unseen_of}
+use Rattle.cse_case.proofs.SeenLaws.{AreCounts-none, take-types, unseen_from-next, types_in}
 use Rattle.cse_case.proofs.seen.count_lines.Goals as goal
 use Rattle.cse_case.proofs.seen.count_lines.Goals.{in-Some+in_ok-push-in-Some, in-None}
 

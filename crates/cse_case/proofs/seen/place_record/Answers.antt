@@ -1,5 +1,4 @@
-use Rattle.std.proofs.Common.{◌≡◌, ◌≤◌, ◌<◌, ◌+◌, ◌++◌, ◌∷◌, [], length, take, get_or, ap, sym, ◌∙◌, arith, append_assoc, append-nil, length-append, None, true, false, refl}
-use Rattle.std.specs.Prelude.{if◌then◌else◌}
+use Rattle.std.proofs.Common.{◌≡◌, ◌≤◌, ◌+◌, ◌++◌, ◌∷◌, [], length, take, get_or, ap, sym, ◌∙◌, arith, append_assoc, append-nil, length-append, None, true, false, refl}
 use Rattle.std.proofs.lemmas.List.{take_all, length-take}
 use Rattle.cse_lines.specs.declared.line.Line.{Line}
 use Rattle.cse_lines.specs.declared.line.Ending.TheVariants.{FileEnd}

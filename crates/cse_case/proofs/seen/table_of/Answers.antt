@@ -1,5 +1,4 @@
-use Rattle.std.proofs.Common.{map}
-use Rattle.cse_case.proofs.SeenLaws.{counts_there, IsTable-spans, count_is, place_is, place_below, types_in}
+use Rattle.cse_case.proofs.SeenLaws.{counts_there, IsTable-spans, types_in}
 use Rattle.cse_case.proofs.seen.table_of.Goals as goal
 
 pub place_lines-requires : goal.place_lines-requires

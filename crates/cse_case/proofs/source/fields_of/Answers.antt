@@ -1,4 +1,4 @@
-use Rattle.std.proofs.Common.{◌≡◌, ◌++◌, ap, ◌∙◌, map, take}
+use Rattle.std.proofs.Common.{◌++◌, ap, ◌∙◌, map, take}
 use Rattle.cse_lines.specs.Field.{fields_at, span_of}
 use Rattle.cse_value.specs.declared.shape.ItemShape.{ItemShape}
 use Rattle.cse_value.specs.declared.shape.ItemKind.TheVariants.{Opaque}

@@ -1,5 +1,5 @@
-use Rattle.std.proofs.Common.{◌≡◌, ◌≤◌, ◌+◌, ◌++◌, length, take, ap, sym, ◌∙◌, arith, lit<, length-append}
-use Rattle.std.specs.Prelude.{encode_utf8, encode_utf8_all}
+use Rattle.std.proofs.Common.{◌≤◌, ◌+◌, ◌++◌, length, ap, sym, ◌∙◌, arith, lit<, length-append}
+use Rattle.std.specs.Prelude.{encode_utf8}
 use Rattle.std.proofs.lemmas.Str.{length-encode, len_utf8_bounds}
 use Rattle.cse_case.proofs.WriteLaws.{encoded_more}
 use Rattle.cse_case.proofs.write.encoded.Goals as goal

@@ -1,6 +1,5 @@
-use Rattle.std.proofs.Common.{◌≡◌, ◌++◌, ap, sym, ◌∙◌}
+use Rattle.std.proofs.Common.{◌≡◌, ◌++◌, ap, ◌∙◌}
 use Rattle.std.specs.Prelude.{encode_utf8_all}
-use Rattle.cse_lines.specs.Line.{end_bytes}
 use Rattle.cse_lines.specs.Laid.{laid_line}
 use Rattle.cse_lines.specs.Written.{kept_columns, written_line}
 use Rattle.cse_output.proofs.GatherLaws.{Puts-then, Puts-as}

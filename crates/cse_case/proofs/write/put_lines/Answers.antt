@@ -1,4 +1,4 @@
-use Rattle.std.proofs.Common.{◌≡◌, ◌++◌, take, ap, sym, ◌∙◌, get_or, None}
+use Rattle.std.proofs.Common.{take, sym, get_or, None}
 use Rattle.std.proofs.lemmas.List.{get_or_default}
 use Rattle.cse_lines.specs.declared.line.Line.{Line}
 use Rattle.cse_lines.specs.declared.line.Ending.TheVariants.{FileEnd}

@@ -1,4 +1,4 @@
-use Rattle.std.proofs.Common.{◌≡◌, ap, sym, ◌∙◌, length, nat_lt, map}
+use Rattle.std.proofs.Common.{ap, ◌∙◌, length, nat_lt, map}
 use Rattle.cse_dict.specs.Dictionary.{shape_of}
 use Rattle.cse_case.specs.Seen.{is_case, unseen_of}
 use Rattle.cse_case.specs.Case.{CaseText, records_of, types_of}

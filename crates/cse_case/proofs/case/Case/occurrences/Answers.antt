@@ -1,7 +1,7 @@
 use Rattle.std.proofs.Common.{◌≡◌, ◌<◌, ap, sym, ◌∙◌, length, arith, map}
 use Rattle.cse_dict.specs.Dictionary.{shape_of}
 use Rattle.cse_case.specs.Seen.{occurrence_places}
-use Rattle.cse_case.specs.Case.{CaseText, records_of, types_of, places_of}
+use Rattle.cse_case.specs.Case.{CaseText, records_of, places_of}
 use Rattle.cse_case.proofs.SeenLaws.{count_is}
 use Rattle.cse_case.proofs.CaseLaws.{types_laid}
 use Rattle.cse_case.proofs.case.Case.occurrences.Goals as goal

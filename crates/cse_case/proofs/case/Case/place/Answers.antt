@@ -1,10 +1,10 @@
-use Rattle.std.proofs.Common.{◌≡◌, ◌≤◌, ◌<◌, ◌+◌, ◌-◌, ap, sym, ◌∙◌, length, arith, map, get_or}
+use Rattle.std.proofs.Common.{◌≡◌, ◌<◌, ◌+◌, ◌-◌, ap, sym, ◌∙◌, length, arith, map}
 use Rattle.std.specs.Prelude.{slice_index}
 use Rattle.std.proofs.lemmas.List.{get_or_read, length-map}
 use Rattle.cse_lines.specs.Laid.{laid_line}
 use Rattle.cse_dict.specs.Dictionary.{shape_of}
 use Rattle.cse_case.specs.Seen.{occurrence_places}
-use Rattle.cse_case.specs.Case.{CaseText, records_of, types_of, places_of}
+use Rattle.cse_case.specs.Case.{CaseText, records_of, places_of}
 use Rattle.cse_case.proofs.SeenLaws.{count_is, place_is, place_below}
 use Rattle.cse_case.proofs.CaseLaws.{types_laid}
 use Rattle.cse_case.proofs.case.Case.place.Goals as goal

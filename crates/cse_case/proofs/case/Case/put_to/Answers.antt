@@ -1,8 +1,8 @@
-use Rattle.std.proofs.Common.{◌≡◌, ◌++◌, ap, sym, ◌∙◌}
+use Rattle.std.proofs.Common.{◌++◌, ap, ◌∙◌}
 use Rattle.std.specs.List.{flat_map}
 use Rattle.cse_lines.specs.Laid.{laid_lines}
 use Rattle.cse_lines.specs.Run.{written_run}
-use Rattle.cse_lines.specs.Written.{mark_bytes, written_line}
+use Rattle.cse_lines.specs.Written.{written_line}
 use Rattle.cse_output.proofs.GatherLaws.{Puts-then, Puts-as}
 use Rattle.cse_case.proofs.case.Case.put_to.Goals as goal
 

@@ -1,4 +1,4 @@
-use Rattle.std.proofs.Common.{◌≡◌, ◌<◌, ◌≤◌, ◌+◌, length, take, drop, set, ap, sym, ◌∙◌, arith, add-zero, subst}
+use Rattle.std.proofs.Common.{◌≡◌, ◌<◌, length, take, drop, set, ap, sym, ◌∙◌, arith, add-zero, subst}
 use Rattle.std.specs.Vec.{with_items}
 use Rattle.std.proofs.lemmas.List.{length-map, with_items_is}
 use Rattle.cse_lines.specs.Columns.{LineText}
@@ -10,7 +10,7 @@ use Rattle.cse_case.specs.Entry.{entry_columns}
 use Rattle.cse_case.specs.Case.{CaseText, items_of, with_item}
 use Rattle.cse_case.specs.Fit.{IsFit}
 use Rattle.cse_case.proofs.CaseLaws.{with_columns-all, width_of_line}
-use Rattle.cse_case.proofs.FitLaws.{fits_written, fits_read}
+use Rattle.cse_case.proofs.FitLaws.{fits_written}
 use Rattle.cse_case.proofs.case.Case.set.Goals as goal
 
 pub write_in_line-requires : goal.write_in_line-requires

@@ -1,4 +1,4 @@
-use Rattle.std.proofs.Common.{◌≡◌, ap, sym, ◌∙◌, take, drop}
+use Rattle.std.proofs.Common.{ap, ◌∙◌, take}
 use Rattle.std.proofs.lemmas.List.{take_min}
 use Rattle.cse_case.proofs.case.Case.text_at.Goals as goal
 

@@ -1,4 +1,4 @@
-use Rattle.std.proofs.Common.{◌≡◌, ap, sym, ◌∙◌}
+use Rattle.std.proofs.Common.{ap, sym, ◌∙◌}
 use Rattle.cse_dict.specs.Dictionary.{shape_of}
 use Rattle.cse_case.specs.Seen.{unseen_of}
 use Rattle.cse_case.specs.Case.{unseen_lines}

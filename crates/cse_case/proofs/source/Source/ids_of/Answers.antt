@@ -1,8 +1,7 @@
-use Rattle.std.proofs.Common.{◌≡◌, ap, sym, ◌∙◌, map}
+use Rattle.std.proofs.Common.{◌≡◌, ap, ◌∙◌}
 use Rattle.std.specs.Prelude.{filter, ◌==◌}
-use Rattle.cse_dict.specs.Dictionary.{DictionaryText}
 use Rattle.cse_value.specs.Shape.{ShapeLists}
-use Rattle.cse_lines.specs.Field.{fields_at, ids_of, span_of}
+use Rattle.cse_lines.specs.Field.{ids_of}
 use Rattle.cse_case.specs.Streaming.{id_items_of}
 use Rattle.cse_case.proofs.source.Source.ids_of.Goals as goal
 use Rattle.cse_case.proofs.source.Source.ids_of.Goals.{then-not-self+in_ok-self-inside, else-not-self}

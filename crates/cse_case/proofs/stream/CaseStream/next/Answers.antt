@@ -1,4 +1,4 @@
-use Rattle.std.proofs.Common.{◌≡◌, ap, sym, ◌∙◌, subst, Ok, Some}
+use Rattle.std.proofs.Common.{ap, ◌∙◌, subst, Ok, Some}
 use Rattle.cse_lines.specs.Reader.{ReaderText}
 use Rattle.cse_case.specs.Reading.{NextCase}
 use Rattle.cse_case.proofs.ReadLaws.{next_case}
