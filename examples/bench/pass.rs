@@ -1,18 +1,17 @@
-//! A plain Rust program that does the work of a copy case by case, to compare times with.
+//! A plain Rust program that does the work of a copy case by case, to compare times with those that
+//! `cse_bench` prints: 3,000,000 short lines in memory, three to a household.
 //!
-//!     rustc -O pass.rs
-//!     ./pass make 3000000 > lines.txt      # short lines, three to a household
-//!     time ./pass < lines.txt > copy.txt   # then: cmp lines.txt copy.txt
+//!     rustc -O pass.rs && ./pass
 //!
 //! Each line is decoded to characters and padded to its record's length; lines with equal id columns
-//! (2 to 4) are gathered; each line of a gathered run is encoded again without trailing blanks past
+//! (2 to 7) are gathered; each line of a gathered run is encoded again without trailing blanks past
 //! its own length, then its own end.
 
-use std::env;
 use std::io::{self, BufRead, BufReader, BufWriter, Write};
+use std::time::Instant;
 
-const RECORD_LENGTH: usize = 12;
-const IDS: std::ops::Range<usize> = 1..4;
+const RECORD_LENGTH: usize = 11;
+const IDS: std::ops::Range<usize> = 1..7;
 
 struct Line {
     first: usize,
@@ -65,18 +64,17 @@ impl Run {
     }
 
     /// Writes the lines of the run, and tells how many are persons.
-    fn write(&self, out: &mut impl Write) -> io::Result<usize> {
+    fn write(&self, text: &mut String, out: &mut impl Write) -> io::Result<usize> {
         let mut persons = 0;
-        let mut bytes = [0; 4];
         for line in &self.lines {
             let columns = &self.columns[line.first..line.first + line.width];
             let mut kept = columns.len();
             while kept > line.length && columns[kept - 1] == ' ' {
                 kept -= 1;
             }
-            for column in &columns[..kept] {
-                out.write_all(column.encode_utf8(&mut bytes).as_bytes())?;
-            }
+            text.clear();
+            text.extend(&columns[..kept]);
+            out.write_all(text.as_bytes())?;
             out.write_all(line.end)?;
             persons += usize::from(line.is_person);
         }
@@ -94,46 +92,41 @@ fn cut_end(line: &[u8]) -> (&[u8], &'static [u8]) {
     }
 }
 
-fn copy() -> io::Result<()> {
-    let mut input = BufReader::with_capacity(65_536, io::stdin().lock());
-    let mut out = BufWriter::with_capacity(65_536, io::stdout().lock());
+fn copy(input: &[u8], output: &mut Vec<u8>) -> io::Result<(usize, usize)> {
+    let mut input = BufReader::with_capacity(65_536, input);
+    let mut out = BufWriter::with_capacity(65_536, output);
     let (mut cases, mut lines) = (0, 0);
     let mut bytes = Vec::new();
+    let mut text = String::new();
     let mut run = Run::default();
-    loop {
-        bytes.clear();
-        if input.read_until(b'\n', &mut bytes)? == 0 {
-            break;
-        }
-        let (text, end) = cut_end(&bytes);
-        let text = std::str::from_utf8(text).map_err(io::Error::other)?;
-        run.push(text, end);
+    while input.read_until(b'\n', &mut bytes)? > 0 {
+        let (line, end) = cut_end(&bytes);
+        let line = std::str::from_utf8(line).map_err(io::Error::other)?;
+        run.push(line, end);
         lines += 1;
         if run.is_over() {
             let next = run.split_last();
-            cases += usize::from(run.write(&mut out)? > 0);
+            cases += usize::from(run.write(&mut text, &mut out)? > 0);
             run = next;
         }
+        bytes.clear();
     }
-    cases += usize::from(run.write(&mut out)? > 0);
+    cases += usize::from(run.write(&mut text, &mut out)? > 0);
     out.flush()?;
-    eprintln!("cases {cases} lines {lines}");
-    Ok(())
-}
-
-fn make(count: usize) -> io::Result<()> {
-    let mut out = BufWriter::new(io::stdout().lock());
-    for place in 0..count {
-        let household = place / 3 % 1000;
-        writeln!(out, "P{household:03}{}{}{:3}", 1 + place % 2, 1 + place % 3, place % 99)?;
-    }
-    out.flush()
+    Ok((cases, lines))
 }
 
 fn main() -> io::Result<()> {
-    let words: Vec<String> = env::args().collect();
-    match words.get(1).map(String::as_str) {
-        Some("make") => make(words.get(2).and_then(|n| n.parse().ok()).unwrap_or(3_000_000)),
-        _ => copy(),
+    let mut input = Vec::new();
+    for place in 0..3_000_000 {
+        writeln!(input, "P{:06}1 35", place / 3)?;
     }
+    for _ in 0..3 {
+        let mut output = Vec::new();
+        let start = Instant::now();
+        let (cases, lines) = copy(&input, &mut output)?;
+        let time = start.elapsed().as_millis();
+        println!("{cases} cases, {lines} lines: {time} ms, same: {}", input == output);
+    }
+    Ok(())
 }

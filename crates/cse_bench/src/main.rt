@@ -1,7 +1,9 @@
-//! Times of what runs often: fields of 3, 8 and 15 columns, and an image of 1,000,000 instructions. They are
-//! taken where a word is given.
+//! Times of what runs often: fields of 3, 8 and 15 columns, an image of 1,000,000 instructions, hot decks of
+//! 1,000,000 cells, and a file of 3,000,000 lines. They are taken where a word is given.
 #![tactic(auto)]
 
+mod cases;
+mod decks;
 mod fields;
 mod images;
 
@@ -14,5 +16,7 @@ fn main(rt: HostRuntime) -> io::Result<()> {
     fields::bench(&rt, 3)?;
     fields::bench(&rt, 8)?;
     fields::bench(&rt, 15)?;
-    images::bench(rt.alloc(), &rt)
+    images::bench(rt.alloc(), &rt)?;
+    decks::bench(rt.alloc(), &rt)?;
+    cases::bench(rt.alloc(), &rt)
 }
