@@ -1,6 +1,6 @@
 //! A line of a file, as columns.
 
-ghost use Rattle.std.specs.Prelude.{◌≡◌, ◌<◌, ◌++◌, true, false, Some, IfOk, IfErr, OnOk};
+ghost use Rattle.std.specs.Prelude.{◌≡◌, ◌<◌, ◌++◌, length, true, false, Some, IfOk, IfErr, OnOk};
 ghost use Rattle.std.specs.Str.{chars, is_utf8};
 ghost use Rattle.cse_lines.specs.declared.decode.Stop.TheVariants.{Memory};
 ghost use Rattle.cse_lines.specs.Field.{layout_of, padded, record_len, record_of, width_of};
@@ -43,14 +43,22 @@ pub struct Head {
     pub marked: bool,
 }
 
-/// Appends bytes as characters.
-fn extend_ascii(columns: &mut Vec<char>, text: &[u8]) -> Result<(), AllocError>
-    ensures { OnOk result (columns.new.items ≡ columns.old.items ++ text.now) }
+/// Writes bytes as characters over columns.
+fn put_ascii(columns: &mut [char], text: &[u8])
+    requires { length columns.old ≡ length text.now }
+    ensures { columns.new ≡ text.now }
 {
-    columns.reserve(text.len())?;
-    'bytes: for byte in text {
-        columns.push(*byte as char)?;
+    'bytes: for (i, byte) in text.iter().enumerate() {
+        columns[i] = *byte as char;
     }
+}
+
+/// Bytes as characters, in place of what was there.
+fn read_ascii(columns: &mut Vec<char>, text: &[u8]) -> Result<(), AllocError>
+    ensures { OnOk result (columns.new.items ≡ text.now) }
+{
+    columns.resize(text.len(), ' ')?;
+    put_ascii(columns, text);
     Ok(())
 }
 
@@ -70,11 +78,11 @@ fn read_columns(text: &[u8], columns: &mut Vec<char>) -> Result<(), Stop>
     ensures utf8 { OnOk result (is_utf8 text.now ≡ true) }
     ensures err { IfErr result (IfFault (λ number. (number ≡ 20) × (is_utf8 text.now ≡ false))) }
 {
-    columns.clear();
     if text.is_ascii() {
-        extend_ascii(columns, text)?;
+        read_ascii(columns, text)?;
         return Ok(());
     }
+    columns.clear();
     match str::from_utf8(text) {
         Ok(text) => {
             extend_chars(columns, text)?;

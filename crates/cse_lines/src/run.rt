@@ -1,6 +1,6 @@
 //! Runs of lines.
 
-ghost use Rattle.std.specs.Prelude.{◌≡◌, ◌<◌, ◌≤◌, ◌+◌, ◌++◌, ◌∷◌, [], OnErr, OnOk, drop, false, length, take};
+ghost use Rattle.std.specs.Prelude.{◌≡◌, ◌<◌, ◌≤◌, ◌+◌, ◌++◌, ◌∷◌, [], IfOk, OnErr, OnOk, drop, false, length, take};
 ghost use Rattle.cse_lines.specs.Decoding.{line_with};
 ghost use Rattle.cse_lines.specs.Laid.{IsLaid, laid_lines, line_behind};
 ghost use Rattle.cse_lines.specs.Run.{line_at, with_columns, with_field, with_line};
@@ -84,6 +84,24 @@ impl Run {
             marked: false,
             first_line,
         }
+    }
+
+    /// A run without lines, with room for as much as another one has.
+    pub(crate) fn with_room_of(
+        alloc: Global,
+        other: &Run,
+        first_line: u64,
+    ) -> Result<Run, AllocError>
+        ensures lines { IfOk result (λ run. run.lines ≡ []) }
+        ensures marked { IfOk result (λ run. run.marked ≡ false) }
+        ensures first_line { IfOk result (λ run. run.first_line ≡ first_line) }
+    {
+        Ok(Run {
+            columns: Vec::with_capacity(alloc, other.columns.len())?,
+            lines: Vec::with_capacity(alloc, other.lines.len())?,
+            marked: false,
+            first_line,
+        })
     }
 
     /// Appends a line that was read.

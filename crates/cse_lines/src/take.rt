@@ -36,7 +36,8 @@ pub fn take_line(
     let head = decode(dictionary, layout, line, front, columns)?;
     let len = run.len();
     if len > 0 && !layout.has_same_ids(run.columns(0), columns) {
-        let mut next = Run::new(alloc, run.first_line() + len as u64);
+        let number = run.first_line() + len as u64;
+        let mut next = Run::with_room_of(alloc, run, number)?;
         next.push(columns, head)?;
         return Ok(Some(mem::replace(run, next)));
     }

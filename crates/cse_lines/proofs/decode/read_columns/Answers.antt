@@ -6,7 +6,7 @@ use Rattle.cse_lines.proofs.decode.read_columns.Goals as goal
 
 pub returns-then-is_ascii-clause-columns : goal.returns-then-is_ascii-clause-columns
 returns-then-is_ascii-clause-columns c =
-    c.in_ok-extend_ascii.ensures ∙ ap (λ l. l ++ c.args.text.now) c.clear.ensures.items ∙ sym (chars-IsAscii c.args.text.now c.if-is_ascii.ensures.cases)
+    c.in_ok-read_ascii.ensures ∙ sym (chars-IsAscii c.args.text.now c.if-is_ascii.ensures.cases)
 
 pub returns-then-is_ascii-clause-utf8 : goal.returns-then-is_ascii-clause-utf8
 returns-then-is_ascii-clause-utf8 c = is_utf8-from_IsUtf8 c.args.text.now (IsUtf8-from_ascii c.args.text.now c.if-is_ascii.ensures.cases)

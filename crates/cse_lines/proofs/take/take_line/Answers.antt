@@ -30,16 +30,16 @@ returns-then-not-has_same_ids-clause-ok c =
     let ok = c.in_ok-head.ensures.ok in
     let test = test_of d run line c.args.layout.now c.columns.result.now c.deref.result.now c.decode.new.columns.items c.in_ok-head.head c.has_same_ids.result
     c.has_same_ids.ensures c.requires.layout c.columns.ensures c.deref.ensures.value ok.is in
-    let first : c.new-next.result.first_line ≡ run.first_line + length run.lines = c.new-next.ensures.first_line ∙ omega (arith, c.first_line.ensures, c.len-len.ensures) in
+    let first : c.in_ok-next.next.first_line ≡ run.first_line + length run.lines = c.in_ok-next.ensures.first_line ∙ omega (arith, c.first_line.ensures, c.len-len.ensures) in
     record {
       sound = ok.sound;
       some = omega (arith, c.len-len.ensures, c.if-len-gt0.true);
       other = other_ids (run_id d run) (id_of d line) c.has_same_ids.result test c.if-not-has_same_ids.true;
       is = c.replace.ensures.value;
       next = c.replace.ensures.after
-          ∙ with_line-read d c.new-next.result c.push.new.self line c.deref-then-not-has_same_ids.result.now c.decode.new.columns.items c.in_ok-head.head
+          ∙ with_line-read d c.in_ok-next.next c.push.new.self line c.deref-then-not-has_same_ids.result.now c.decode.new.columns.items c.in_ok-head.head
           c.in_ok-push.ensures c.deref-then-not-has_same_ids.ensures.value ok.is ok.marked
-          ∙ run_text-first d c.new-next.result (run.first_line + length run.lines) line c.new-next.ensures.lines c.new-next.ensures.marked first;
+          ∙ run_text-first d c.in_ok-next.next (run.first_line + length run.lines) line c.in_ok-next.ensures.lines c.in_ok-next.ensures.marked first;
     }
 
 pub returns-then-len-eq-MOST_LINES-clause-err : goal.returns-then-len-eq-MOST_LINES-clause-err
