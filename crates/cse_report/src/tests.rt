@@ -159,6 +159,21 @@ fn lists_unseen_lines(rt: HostRuntime) -> Result<(), Fail> {
 }
 
 #[test]
+fn lists_a_message_of_two_numbers(rt: HostRuntime) -> Result<(), Fail> {
+    let alloc = rt.alloc();
+    let mut reports = reports_of(alloc, &[(0, false, "adults %d of %d")])?;
+    let ids = columns(alloc, "001")?;
+    reports.begin_case(&ids)?;
+    give(&rt, &mut reports, 0, &[whole(2), whole(3)])?;
+    let text = listing_text(alloc, &reports, 1, 3, 0)?;
+    assert_eq!(rt;
+        text.as_slice(),
+        "CSEB LISTING 1\nCASE [001]\nM 0 adults 2 of 3\nSUMMARY\ncases 1\nlines 3\nunseen 0\nmessage 0 1 adults %d of %d\nEND\n".as_bytes()
+    );
+    Ok(())
+}
+
+#[test]
 fn lists_messages_of_the_application(rt: HostRuntime) -> Result<(), Fail> {
     let alloc = rt.alloc();
     let mut reports = reports_of(alloc, &[(0, false, "%d %d %d %d"), (0, true, "once %d")])?;
