@@ -1,9 +1,10 @@
 -- Laws of written lines.
-use Rattle.std.proofs.Common.{◌≡◌, ℕ, ◌+◌, ◌-◌, ◌<◌, ◌≤◌, false, eqb, List, [], ◌∷◌, ◌++◌, length, get_or, take, drop, refl, ap, sym, ◌∙◌, arith, append-nil, take-add, get_or-drop, length-drop, take_all, take-append-drop, inl, inr}
-use Rattle.std.specs.Prelude.{encode_utf8, encode_utf8_all}
+use Rattle.std.proofs.Common.{◌≡◌, ℕ, ◌+◌, ◌-◌, ◌<◌, ◌≤◌, false, eqb, List, [], ◌∷◌, ◌++◌, length, get_or, take, drop, refl, ap, sym, ◌∙◌, arith, take-add, get_or-drop, length-drop, take_all, inl, inr}
+use Rattle.std.specs.Prelude.{encode_utf8_all}
 use Rattle.std.proofs.lemmas.Bool.{cases_lt}
-use Rattle.std.proofs.lemmas.Str.{encodes-append}
-use Rattle.std.proofs.lemmas.List.{take_more}
+use Rattle.std.specs.Str.{IsAscii}
+use Rattle.std.proofs.lemmas.Str.{encodes-IsAscii}
+use Rattle.std.proofs.lemmas.List.{take_more, ext_get_or, get_or-take, length-take-le}
 use Rattle.cse_lines.specs.Written.{onto_trimmed, without_blanks, kept_columns}
 
 without_blanks-blank : (xs : List ℕ) → without_blanks (xs ++ 32 ∷ []) ≡ without_blanks xs
@@ -55,9 +56,13 @@ kept_at columns own n t last =
     ] in
     ap (λ k. take k columns) e ∙ take-add own (n - own) columns ∙ ap (λ l. take own columns ++ l) rest
 
--- one column more is encoded
-pub encoded_more : (cs : List ℕ) (i c : ℕ) → i < length cs → c ≡ get_or cs i c → encode_utf8_all (take (i + 1) cs) ≡ encode_utf8_all (take i cs) ++ encode_utf8 c
-encoded_more cs i c h e = ap encode_utf8_all (take_more cs i c h) ∙ rw (← e) (encodes-append (take i cs) (c ∷ [])) ∙ ap (λ l. encode_utf8_all (take i cs) ++ l) (append-nil (encode_utf8 c))
-
-pub encoded_rest : (cs : List ℕ) (i : ℕ) → encode_utf8_all cs ≡ encode_utf8_all (take i cs) ++ encode_utf8_all (drop i cs)
-encoded_rest cs i = ap encode_utf8_all (sym (take-append-drop i cs)) ∙ encodes-append (take i cs) (drop i cs)
+-- ASCII columns are their bytes
+pub front_ascii : (columns bytes : List ℕ) (n : ℕ) → n ≤ length columns → n ≤ length bytes → ((k : ℕ) → k < n → get_or bytes k 0 ≡ get_or columns k 0) → IsAscii (take n columns)
+    → take n bytes ≡ encode_utf8_all (take n columns)
+front_ascii columns bytes n a b same ascii =
+    let la : length (take n columns) ≡ n = length-take-le n columns a in
+    let lb : length (take n bytes) ≡ n = length-take-le n bytes b in
+    ext_get_or 0 (take n bytes) (take n columns) (lb ∙ sym la) (λ k h.
+    let low : k < n = omega arith in
+    get_or-take n bytes k 0 low ∙ same k low ∙ sym (get_or-take n columns k 0 low))
+    ∙ sym (encodes-IsAscii (take n columns) ascii)

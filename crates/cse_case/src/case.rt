@@ -58,10 +58,11 @@ impl<'a> Case<'a> {
     ghost use Rattle.cse_case.specs.Case.{IsOccurrence, columns_at, items_of, number_at, place_of, places_of, records_of, types_of, unseen_lines, with_item, with_number, with_text};
     ghost use Rattle.cse_case.specs.Fit.{IsFit};
 
-    /// The case of a run, with these id columns.
+    /// The case of a run, with these id columns. Its occurrences are counted in `counts`.
     pub(crate) fn new(
         alloc: Global,
         dictionary: &'a Dictionary,
+        counts: &mut Vec<u16>,
         ids: Vec<char>,
         run: Run,
     ) -> Result<Case<'a>, AllocError>
@@ -69,7 +70,13 @@ impl<'a> Case<'a> {
         ensures { IfOk result (λ c. c ≡ record { dictionary = dictionary.now; ids = ids.items; run = run }) }
     {
         let (columns, lines, marked, first_line) = run.into_parts();
-        let table = table_of(alloc, &dictionary.shape().records, &lines, first_line)?;
+        let table = table_of(
+            alloc,
+            counts,
+            &dictionary.shape().records,
+            &lines,
+            first_line,
+        )?;
         Ok(Case {
             dictionary,
             ids,

@@ -33,26 +33,29 @@ fn count_line(records: &[RecordShape], counts: &mut [u16], line: Option<u16>) ->
     Some(Unseen::Extra)
 }
 
-/// How many occurrences each record has, and the unseen lines, of which the first has this number.
+/// Counts how many occurrences each record has, in place of what was counted before, and tells the unseen
+/// lines, of which the first has this number.
 fn count_lines(
     alloc: Global,
+    counts: &mut Vec<u16>,
     records: &[RecordShape],
     lines: &[Line],
     number: u64,
-) -> Result<(Vec<u16>, Vec<(u64, Unseen)>), AllocError>
+) -> Result<Vec<(u64, Unseen)>, AllocError>
     requires { number + length lines.now < 2 ^ 64 }
-    ensures counts { IfOk result (λ p. AreCounts records.now (map (λ l. l.record_number) lines.now) p.0.items) }
-    ensures unseen { IfOk result (λ p. p.1.items ≡ unseen_of records.now number (map (λ l. l.record_number) lines.now)) }
+    ensures counts { OnOk result (AreCounts records.now (map (λ l. l.record_number) lines.now) counts.new.items) }
+    ensures unseen { IfOk result (λ v. v.items ≡ unseen_of records.now number (map (λ l. l.record_number) lines.now)) }
 {
-    let mut counts = vec![in alloc; 0u16; records.len()]?;
+    counts.clear();
+    counts.resize(records.len(), 0)?;
     let mut unseen = Vec::new(alloc);
     'lines: for (i, line) in lines.iter().enumerate() {
-        match count_line(records, &mut counts, line.record_number) {
+        match count_line(records, counts, line.record_number) {
             Some(why) => unseen.push((number + i as u64, why))?,
             None => {}
         }
     }
-    Ok((counts, unseen))
+    Ok(unseen)
 }
 
 /// Whether the line is one of the record's.
@@ -97,8 +100,8 @@ fn place_lines(
     ensures size { IfOk result (λ p. length p.0.items ≡ length counts.now) }
     ensures spans { IfOk result (λ p. AreSpans (map (λ l. l.record_number) lines.now) counts.now p.1.items p.0.items) }
 {
-    let mut spans = Vec::new(alloc);
-    let mut places = Vec::new(alloc);
+    let mut spans = Vec::with_capacity(alloc, counts.len())?;
+    let mut places = Vec::with_capacity(alloc, lines.len())?;
     'records: for (number, count) in counts.iter().enumerate() {
         let start = places.len();
         place_record(&mut places, lines, number, *count)?;
@@ -119,9 +122,11 @@ pub struct Table {
     pub unseen: Vec<(u64, Unseen)>,
 }
 
-/// The table of a run's lines, of which the first has this number.
+/// The table of a run's lines, of which the first has this number. The counts are made anew, in the
+/// memory that they have.
 pub fn table_of(
     alloc: Global,
+    counts: &mut Vec<u16>,
     records: &[RecordShape],
     lines: &[Line],
     number: u64,
@@ -130,8 +135,8 @@ pub fn table_of(
     ensures table { IfOk result (λ t. IsTable records.now (map (λ l. l.record_number) lines.now) t.places.items t.spans.items) }
     ensures unseen { IfOk result (λ t. t.unseen.items ≡ unseen_of records.now number (map (λ l. l.record_number) lines.now)) }
 {
-    let (counts, unseen) = count_lines(alloc, records, lines, number)?;
-    let (spans, places) = place_lines(alloc, lines, &counts)?;
+    let unseen = count_lines(alloc, counts, records, lines, number)?;
+    let (spans, places) = place_lines(alloc, lines, counts)?;
     Ok(Table {
         spans,
         places,

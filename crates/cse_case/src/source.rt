@@ -12,12 +12,13 @@ use cse_value::shape::{ID_OWNER, ItemShape};
 use std::alloc::{AllocError, Global};
 use std::marker::Model;
 
-/// A dictionary, and its id items once they are known.
+/// A dictionary, its id items once they are known, and room for the counts of a case's occurrences.
 #[derive(Drop)]
 pub struct Source<'a> {
     dictionary: &'a Dictionary,
     id_items: Vec<ItemShape>,
     is_known: bool,
+    counts: Vec<u16>,
 }
 
 impl<'a> Model for Source<'a> {
@@ -63,6 +64,7 @@ impl<'a> Source<'a> {
             dictionary,
             id_items: Vec::new(alloc),
             is_known: false,
+            counts: Vec::new(alloc),
         }
     }
 
@@ -86,6 +88,6 @@ impl<'a> Source<'a> {
         ensures made { IfOk result (λ c. c ≡ record { dictionary = self.old; ids = ids_of self.old (line_at run 0).columns; run = run }) }
     {
         let ids = self.ids_of(alloc, run.columns(0))?;
-        Case::new(alloc, self.dictionary, ids, run)
+        Case::new(alloc, self.dictionary, &mut self.counts, ids, run)
     }
 }

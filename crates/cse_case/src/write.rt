@@ -1,19 +1,18 @@
 //! How the lines of a run are written: each as its columns without trailing blanks past its length in the
 //! file, and its own end.
 
-ghost use Rattle.std.specs.Prelude.{◌≡◌, ◌≤◌, ◌+◌, length, encode_utf8_all};
+ghost use Rattle.std.specs.Prelude.{◌≡◌, ◌<◌, ◌≤◌, ◌+◌, length, take, encode_utf8_all};
 ghost use Rattle.std.specs.List.{flat_map};
 ghost use Rattle.cse_output.specs.Gathering.{going, Puts};
 ghost use Rattle.cse_lines.specs.Laid.{IsLaid, laid_line, laid_lines};
 ghost use Rattle.cse_lines.specs.Written.{kept_columns, mark_bytes, written_line};
 
 use crate::field::line_columns;
-use arrayvec::ArrayString;
 use cse_lines::Line;
 use cse_output::Gatherer;
 use cse_value::Output;
 
-/// How many columns are encoded at a time.
+/// How many columns are encoded at a time, at most.
 const PART: usize = 64;
 
 /// The columns without the blanks at their end past the first `len`.
@@ -28,16 +27,39 @@ fn kept(columns: &[char], len: usize) -> &[char]
     &columns[..n]
 }
 
-/// A few columns in UTF-8.
-fn encoded(columns: &[char]) -> ArrayString<256>
-    requires { length columns.now ≤ 64 }
-    ensures { result.bytes ≡ encode_utf8_all columns.now }
+/// Writes the ASCII columns at the front as bytes, and tells how many they are.
+fn write_ascii(columns: &[char], bytes: &mut [u8]) -> usize
+    requires { length columns.now ≤ length bytes.old }
+    ensures low { result ≤ length columns.now }
+    ensures size { length bytes.new ≡ length bytes.old }
+    ensures bytes { take result bytes.new ≡ encode_utf8_all (take result columns.now) }
 {
-    let mut text = ArrayString::new();
-    'columns: for column in columns {
-        text.push(*column);
+    'columns: for (i, column) in columns.iter().enumerate() {
+        if !column.is_ascii() {
+            return i;
+        }
+        bytes[i] = *column as u8;
     }
-    text
+    columns.len()
+}
+
+/// Puts the ASCII columns at the front in UTF-8, a few of them, or the first column where it isn't
+/// ASCII. Tells how many columns were put.
+fn put_part<W: Output>(gatherer: &mut Gatherer, out: &mut W, columns: &[char]) -> usize
+    requires { 0 < length columns.now }
+    ensures some { 0 < result }
+    ensures low { result ≤ length columns.now }
+    ensures put { Puts (going (W.contents out.old) (W.has_failed out.old) gatherer.old.waiting.items gatherer.old.gave_up) (going (W.contents out.new) (W.has_failed out.new) gatherer.new.waiting.items gatherer.new.gave_up) (encode_utf8_all (take result columns.now)) }
+{
+    let mut bytes = [0; PART];
+    let n = write_ascii(&columns[..columns.len().min(PART)], &mut bytes);
+    if n > 0 {
+        gatherer.put(out, &bytes[..n]);
+        return n;
+    }
+    let mut bytes = [0; 4];
+    gatherer.put(out, columns[0].encode_utf8(&mut bytes).as_bytes());
+    1
 }
 
 /// Puts columns in UTF-8.
@@ -46,9 +68,7 @@ fn put_columns<W: Output>(gatherer: &mut Gatherer, out: &mut W, columns: &[char]
 {
     let mut at = 0;
     'parts: while at < columns.len() {
-        let end = columns.len().min(at + PART);
-        gatherer.put(out, encoded(&columns[at..end]).as_str().as_bytes());
-        at = end;
+        at += put_part(gatherer, out, &columns[at..]);
     }
 }
 

@@ -8,7 +8,7 @@ use Rattle.cse_case.proofs.SeenLaws.{AreCounts-none, take-types, unseen_from-nex
 use Rattle.cse_case.proofs.seen.count_lines.Goals as goal
 use Rattle.cse_case.proofs.seen.count_lines.Goals.{in-Some+in_ok-push-in-Some, in-None}
 
-zeros : (c : goal.After-new-unseen) → c.in_ok-counts.counts.items ≡ replicate (length c.args.records.now) 0
+zeros : (c : goal.After-new-unseen) → c.resize.new.self.items ≡ replicate (length c.args.records.now) 0
 zeros c = search rules
 
 pub lines-init : goal.lines-init
