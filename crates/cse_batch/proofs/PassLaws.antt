@@ -1,7 +1,7 @@
 -- What a pass knows, case by case.
 use Rattle.std.proofs.Common.{◌≡◌, ℕ, ◌+◌, ◌*◌, ◌^◌, ◌<◌, ◌≤◌, ◌⊎◌, Bool, true, false, List, [], ◌∷◌, ◌++◌, length, Option, None, Some, Ok, Err, Result, cond, refl, ap, sym, ◌∙◌, subst, arith, append_assoc, append-nil, length-append, add_assoc, zero-add, inl, inr}
 use Rattle.std.specs.Prelude.{sum_by, count_by}
-use Rattle.std.specs.Io.KnownBytes.{Consumes}
+use Rattle.std.specs.Io.KnownBytes.{Consumes, IsAtEnd}
 use Rattle.std.proofs.KnownBytes.{Consumes-trans, Consumes-nil}
 use Rattle.std.proofs.lemmas.List.{length-map}
 use Rattle.std.proofs.lemmas.List.Sums.{sum_by-append}
@@ -12,7 +12,7 @@ use Rattle.cse_lines.specs.Line.{FileLine, lines_in}
 use Rattle.cse_lines.specs.Columns.{line_text}
 use Rattle.cse_lines.specs.Run.{RunText, written_run}
 use Rattle.cse_lines.specs.Runs.{given, given_of, fault_in, later_by, MayFollow}
-use Rattle.cse_lines.specs.Reader.{ReaderText, IsError, IsFaulty, held_of, is_front}
+use Rattle.cse_lines.specs.Reader.{ReaderText, IsError, IsFaulty, NeedsMore, held_of, is_front}
 use mir.Val.{bool_byte}
 use Rattle.std.proofs.lemmas.Bool.{MatchBool-at_true}
 use Rattle.cse_value.specs.declared.device.Failed.{Failed}
@@ -25,7 +25,7 @@ use Rattle.cse_case.proofs.CaseLaws.{length-unseen_of, unseen_below}
 use Rattle.cse_batch.specs.declared.totals.Totals.{Totals}
 use Rattle.cse_batch.specs.declared.totals.RunFault.{RunFault}
 use Rattle.cse_batch.specs.Totals.{is_case_run, unseen_in, totals_of}
-use Rattle.cse_batch.specs.Pass.{Copied, IsDataFault, Stopped, Stops}
+use Rattle.cse_batch.specs.Pass.{BreaksOff, Copied, IsDataFault, Stopped, Stops}
 
 -- the cases so far: their bytes, and that the rest is given of what is held and may follow
 pub record SoFar (before now : Option (List ℕ)) (d : DictionaryText) (r : ReaderText) (text : List ℕ) (totals : Totals) : Type 0 where
@@ -210,16 +210,25 @@ module _ (before now after : Option (List ℕ)) (d : DictionaryText) (r r' : Rea
       line = f.line;
     }
 
+    breaks_off : NeedsMore d (held_of r ++ n.taken) (is_front r) r'.ended → BreaksOff d r'.ended (text ++ (held_of r ++ n.taken))
+    breaks_off needs = record {
+      unended = needs.unended;
+      sound = ap (fault_in d true r'.ended) (sym whole) ∙ (s.fault r'.ended n.taken (λ e. ((n.stays e).1, (n.stays e).0)) ∙ ap (later_by r.lines) needs.sound);
+    }
+
     -- an error was answered
-    pub SoFar-error : (start : Option (List ℕ)) (sound failed : Bool) (g : Going) → Gathering start sound g text → (error.number ≡ 70 → (failed ≡ true) ⊎ (r'.reads ≡ 2 ^ 40))
+    pub SoFar-error : (start : Option (List ℕ)) (sound failed : Bool) (g : Going) → (r'.ended ≡ true → IsAtEnd after) → Gathering start sound g text
+        → (error.number ≡ 70 → (failed ≡ true) ⊎ (r'.reads ≡ 2 ^ 40))
         → Stopped d before after start sound g failed (record { number = error.number; line = error.line })
-    SoFar-error start sound failed g gathers reading = record {
+    SoFar-error start sound failed g end gathers reading = record {
       text = text;
       rest = held_of r ++ n.taken;
       ended = r'.ended;
       reads = subst (Consumes before after) whole (Consumes-trans before now after (text ++ held_of r) n.taken s.reads n.consumes);
+      end = end;
       gathers = gathers;
       faulty = λ low. data_fault (is_error.faulty low);
+      needed = λ e. breaks_off (is_error.needed e);
       reading = λ e. elim (reading e) [
         | inl f ↦ inl f
         | inr f ↦ inr (omega (arith, s.counted, n.counted, ap length whole, length-append (text ++ held_of r) n.taken))
@@ -244,8 +253,10 @@ Stops-front d before after start has sound input_failed output_failed g fault s 
       rest = front.rest ++ s.rest;
       ended = s.ended;
       reads = subst (Consumes before after) is s.reads;
+      end = s.end;
       writes = front.appends;
       faulty = λ low. subst (λ (l : List ℕ). IsDataFault d s.ended l fault) is (s.faulty low);
+      needed = λ e. subst (BreaksOff d s.ended) is (s.needed e);
       reading = λ e. elim (s.reading e) [ inl f ↦ inl f | inr f ↦ inr (omega (arith, ap length is)) ];
       writing = writing;
       other = s.other;
@@ -264,8 +275,10 @@ Stops-end d before after start has sound input_failed output_failed g totals s f
   rest = front.rest;
   ended = true;
   reads = subst (Consumes before after) front.is s.reads;
+  end = λ e. s.end;
   writes = front.appends;
   faulty = λ low. absurd (omega arith);
+  needed = λ e. absurd (omega arith);
   reading = λ e. absurd (omega arith);
   writing = λ e. failed;
   other = λ high. inr (inl refl);

@@ -1,5 +1,5 @@
 -- What a pass does: it copies a data file case by case.
-use Rattle.std.specs.Prelude.{◌≡◌, ◌≤◌, ◌<◌, ◌+◌, ◌^◌, ◌⊎◌, ℕ, Bool, true, List, ◌++◌, length, Option, None, Some}
+use Rattle.std.specs.Prelude.{◌≡◌, ◌≤◌, ◌<◌, ◌+◌, ◌^◌, ◌⊎◌, ℕ, Bool, true, false, List, ◌++◌, length, Option, None, Some}
 use Rattle.std.specs.Io.KnownBytes.{Consumes, Appends, IsAtEnd}
 use Rattle.cse_dict.specs.Dictionary.{DictionaryText}
 use Rattle.cse_lines.specs.Runs.{given, fault_in}
@@ -23,15 +23,23 @@ pub record IsDataFault (d : DictionaryText) (ended : Bool) (bytes : List ℕ) (f
   pub first : fault_in d true ended bytes ≡ Some (place, fault.number)
   pub line : fault.line ≡ place + 1
 
--- A front of what was read was written. A fault below 70 is that of the first faulty line; 70 comes only where the input has failed or 2^40 bytes were
--- read, 71 only where the output has failed; and the only other fault is 90. From 70 on there is no line.
+-- the bytes break off before their end, and have no faulty line as far as they go
+pub record BreaksOff (d : DictionaryText) (ended : Bool) (bytes : List ℕ) : Type 0 where
+  pub unended : ended ≡ false
+  pub sound : fault_in d true ended bytes ≡ None
+
+-- A front of what was read was written. The mark says whether the end of the input was read, and then nothing is left of it. A fault below 70 is that of
+-- the first faulty line. 70 comes only where what was read breaks off without a faulty line, and the input has failed or 2^40 bytes were read; 71 only
+-- where the output has failed; and the only other fault is 90. From 70 on there is no line.
 pub record Stops (d : DictionaryText) (before after had has : Option (List ℕ)) (input_failed output_failed : Bool) (fault : RunFault) : Type 0 where
   pub written : List ℕ
   pub rest : List ℕ
   pub ended : Bool
   pub reads : Consumes before after (written ++ rest)
+  pub end : ended ≡ true → IsAtEnd after
   pub writes : Appends had has written
   pub faulty : fault.number < 70 → IsDataFault d ended (written ++ rest) fault
+  pub needed : fault.number ≡ 70 → BreaksOff d ended (written ++ rest)
   pub reading : fault.number ≡ 70 → (input_failed ≡ true) ⊎ (2 ^ 40 ≤ length (written ++ rest))
   pub writing : fault.number ≡ 71 → output_failed ≡ true
   pub other : 70 ≤ fault.number → (fault.number ≡ 70) ⊎ ((fault.number ≡ 71) ⊎ (fault.number ≡ 90))
@@ -52,8 +60,10 @@ pub record Stopped (d : DictionaryText) (before after start : Option (List ℕ))
   pub rest : List ℕ
   pub ended : Bool
   pub reads : Consumes before after (text ++ rest)
+  pub end : ended ≡ true → IsAtEnd after
   pub gathers : Gathering start sound g text
   pub faulty : fault.number < 70 → IsDataFault d ended (text ++ rest) fault
+  pub needed : fault.number ≡ 70 → BreaksOff d ended (text ++ rest)
   pub reading : fault.number ≡ 70 → (input_failed ≡ true) ⊎ (2 ^ 40 ≤ length (text ++ rest))
   pub writing : fault.number ≡ 71 → g.gave_up ≡ true
   pub other : 70 ≤ fault.number → (fault.number ≡ 70) ⊎ ((fault.number ≡ 71) ⊎ (fault.number ≡ 90))

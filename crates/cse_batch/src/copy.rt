@@ -97,7 +97,8 @@ fn pass_cases<R: Input, W: Output>(
 ///
 /// `Ok` comes only where the end of the input was read and no line is faulty; then what was written is what
 /// was read. After a fault what was written is a front of what was read. The faults are those of
-/// `DataError`, and 71 where the output failed.
+/// `DataError`, and 71 where the output failed. At 70 what was read breaks off before the end of the input
+/// and has no faulty line, and the input has failed or 2^40 bytes were read.
 pub fn pass<R: Input, W: Output>(
     alloc: Global,
     dictionary: &Dictionary,

@@ -73,7 +73,11 @@ impl<'a> CaseStream<'a> {
         self.runs.kept()
     }
 
-    /// The next case of the input, or that there is none.
+    /// The next case of the input, or that there is none. After an error the same error is answered.
+    ///
+    /// 70 comes first only where what was held and read gives no answer, so that more had to be read: the
+    /// end wasn't read, no run can be given and no line is faulty. Then the read failed, or none was made
+    /// since 2^40 reads had given bytes.
     pub fn next<R: Input>(&mut self, input: &mut R) -> Result<Option<Case<'a>>, DataError>
         requires { self.old.ended ≡ true → IsAtEnd (R.remaining input.old) }
         ensures next { self.old.error ≡ None → NextCase (R.remaining input.old) (R.remaining input.new) self.old self.new result }

@@ -1,9 +1,8 @@
 -- What a call of the reader knows while it reads.
 use Rattle.std.proofs.Common.{◌≡◌, ℕ, ◌+◌, ◌*◌, ◌^◌, ◌<◌, ◌≤◌, Bool, true, false, eqb, List, [], ◌∷◌, ◌++◌, length, take, refl, ap, sym, ◌∙◌, subst, arith, Some, None, Ok, Err, Option, Result, add-zero, append_assoc, append-nil, length-append, inl, inr}
-use Rattle.std.specs.Prelude.{◌⊎◌}
 use Rattle.std.proofs.KnownBytes.{Consumes-kept, Consumes-nil, Consumes-trans, Keeps-refl}
 use Rattle.std.proofs.lemmas.Bool.{eqb-true, false≢true}
-use Rattle.std.proofs.lemmas.List.{length-map, nil_from_length, take_all, take_at}
+use Rattle.std.proofs.lemmas.List.{length-map, nil_from_length, take_at}
 use Rattle.std.specs.Io.KnownBytes.{Consumes, IsAtEnd, Keeps}
 use Rattle.cse_dict.specs.Dictionary.{DictionaryText}
 use Rattle.cse_lines.specs.declared.error.DataError.{DataError}
@@ -13,12 +12,12 @@ use Rattle.cse_lines.specs.Cutting.{HasNoFeed}
 use Rattle.cse_lines.specs.Reading.{ReadsMore}
 use Rattle.cse_lines.specs.Run.{RunText, run_text, written_run}
 use Rattle.cse_lines.specs.Runs.{MayFollow, fault_in, first_fault, given, given_of, later_by}
-use Rattle.cse_lines.specs.Reader.{GivesRun, IsEnd, IsError, Next, ReaderText, given_lines, held_of, is_front}
+use Rattle.cse_lines.specs.Reader.{GivesRun, IsError, NeedsMore, Next, ReaderText, given_lines, held_of, is_front}
 use Rattle.cse_lines.specs.Gathering.{Gathered, IsRunOf, bytes_of, first_id, front_after}
 use Rattle.cse_lines.specs.Resting.{GivesRest, HasNoRest, IsResting, TakesRest, reader_of}
-use Rattle.cse_lines.specs.Taking.{Gathers, GathersAll, GivesFirst, RefusesAt}
+use Rattle.cse_lines.specs.Taking.{GathersAll, GivesFirst, RefusesAt}
 use Rattle.cse_lines.proofs.GatherLaws.{held_bytes, length-done}
-use Rattle.cse_lines.proofs.RunLaws.{first_fault-run, given_of-last, given_of-nil}
+use Rattle.cse_lines.proofs.RunLaws.{first_fault-none, first_fault-run, given_of-last, given_of-nil, given_of-open}
 use Rattle.cse_lines.proofs.LineLaws.{lines_in-nil}
 
 pub record HasRead (before now : Option (List ℕ)) (old : ReaderText) (run : RunText) (uncut : List ℕ) (ended : Bool) (reads : ℕ) (had has : Bool) : Type 0 where
@@ -170,6 +169,7 @@ module _ (before now : Option (List ℕ)) (old : ReaderText) (run : RunText) (un
       line = line;
       none = ap (given old.dictionary (is_front old) ended) (sym h.held) ∙ f.none;
     };
+    needed = λ e. absurd (omega (arith, f.low));
     number = λ high. absurd (omega (arith, f.low));
     line = λ high. absurd (omega (arith, f.low));
   }
@@ -296,22 +296,24 @@ module _ (before now : Option (List ℕ)) (old : ReaderText) (run : RunText) (un
       subst (λ n. IsResting (reader_of old.dictionary left rest ended reads n)) (sym (add-zero old.lines))
       (subst (λ x. IsResting (reader_of old.dictionary x rest ended reads old.lines)) (sym r.is) here)
 
--- a call that ends in want of memory, or in a device's failure
-pub IsError-other : (d : DictionaryText) (bytes : List ℕ) (front ended : Bool) (before : ℕ) (error : DataError) → (error.number ≡ 70) ⊎ (error.number ≡ 90) → error.line ≡ 0
+-- a call that ends in want of memory
+IsError-memory : (d : DictionaryText) (bytes : List ℕ) (front ended : Bool) (before : ℕ) (error : DataError) → error.number ≡ 90 → error.line ≡ 0
     → IsError d bytes front ended before error
-IsError-other d bytes front ended before error which line =
-    record { faulty = λ low. absurd (not_low which low); number = λ high. which; line = λ high. line }
-  where
-    not_low : (error.number ≡ 70) ⊎ (error.number ≡ 90) → error.number < 70 → ⊥
-    not_low (inl e) low = omega arith
-    not_low (inr e) low = omega arith
+IsError-memory d bytes front ended before error n l =
+    record { faulty = λ low. absurd (omega arith); needed = λ e. absurd (omega arith); number = λ high. inr n; line = λ high. l }
 
--- the device failed, and gave nothing
-pub HasRead-kept : (before now after : Option (List ℕ)) (old : ReaderText) (run : RunText) (uncut : List ℕ) (ended : Bool) (reads : ℕ) (had has : Bool)
+-- and one that ends where no more is read
+IsError-needed : (d : DictionaryText) (bytes : List ℕ) (front ended : Bool) (before : ℕ) (error : DataError) → NeedsMore d bytes front ended → error.number ≡ 70 → error.line ≡ 0
+    → IsError d bytes front ended before error
+IsError-needed d bytes front ended before error needs n l =
+    record { faulty = λ low. absurd (omega arith); needed = λ e. needs; number = λ high. inl n; line = λ high. l }
+
+-- the device gave nothing more
+HasRead-kept : (before now after : Option (List ℕ)) (old : ReaderText) (run : RunText) (uncut : List ℕ) (ended : Bool) (reads : ℕ) (had has : Bool)
     → (h : HasRead before now old run uncut ended reads had has) → Keeps now after → (new : RunText) (rest : List ℕ) (error : DataError)
-    → (error.number ≡ 70) ⊎ (error.number ≡ 90) → error.line ≡ 0
+    → IsError old.dictionary (held_of old ++ h.taken) (is_front old) ended old.lines error
     → Next before after old (reader_of old.dictionary new rest ended reads (old.lines + 0)) (Err error)
-HasRead-kept before now after old run uncut ended reads had has h k new rest error which line = record {
+HasRead-kept before now after old run uncut ended reads had has h k new rest error is = record {
   taken = h.taken;
   consumes = Consumes-kept before now after h.taken h.consumes k;
   rises = h.rises;
@@ -319,8 +321,43 @@ HasRead-kept before now after old run uncut ended reads had has h k new rest err
   stays = h.stays;
   dictionary = refl;
   lines = refl;
-  answers = IsError-other old.dictionary (held_of old ++ h.taken) (is_front old) ended old.lines error which line;
+  answers = is;
 }
+
+-- memory lacked
+pub HasRead-memory : (before now after : Option (List ℕ)) (old : ReaderText) (run : RunText) (uncut : List ℕ) (ended : Bool) (reads : ℕ) (had has : Bool)
+    → HasRead before now old run uncut ended reads had has → Keeps now after → (new : RunText) (rest : List ℕ) (error : DataError) → error.number ≡ 90 → error.line ≡ 0
+    → Next before after old (reader_of old.dictionary new rest ended reads (old.lines + 0)) (Err error)
+HasRead-memory before now after old run uncut ended reads had has h k new rest error n l =
+    HasRead-kept before now after old run uncut ended reads had has h k new rest error (IsError-memory old.dictionary (held_of old ++ h.taken) (is_front old) ended old.lines error n l)
+
+module _ (before now : Option (List ℕ)) (old : ReaderText) (run : RunText) (uncut : List ℕ) (ended : Bool) (reads : ℕ) (had has : Bool)
+    (h : HasRead before now old run uncut ended reads had has) (open' : ended ≡ false) (new : RunText) (rest : List ℕ)
+    (a : GathersAll old.dictionary (is_front old) ended run uncut new rest) where
+  -- all lines that are there go on one run, which may go on
+  needs_more : NeedsMore old.dictionary (held_of old ++ h.taken) (is_front old) ended
+  unfolding fault_in
+  needs_more =
+      let d = old.dictionary in
+      let front = is_front old in
+      let g = a.gathers.gathered in
+      let bytes : held_of old ++ h.taken ≡ bytes_of g.done ++ (rest ++ []) =
+      sym (a.gathers.held ∙ h.held) ∙ ap (λ x. x ++ rest) (held_bytes d front ended new.first_line new rest g) ∙ ap (λ x. bytes_of g.done ++ x) (sym (append-nil rest)) in
+      let lines : lines_in front ended (held_of old ++ h.taken) ≡ g.done =
+      ap (lines_in front ended) bytes ∙ g.lines ended [] (λ e. (e, refl)) ∙ ap (λ x. g.done ++ lines_in (front_after front g.done) ended x) (append-nil rest)
+      ∙ ap (λ x. g.done ++ x) a.none ∙ append-nil g.done in
+      record {
+        unended = open';
+        none = ap (given_of d ended) lines ∙ ap (λ b. given_of d b g.done) open' ∙ given_of-open d (first_id d g.done) g.done g.same;
+        sound = ap (first_fault d [] 0) lines ∙ first_fault-none d (first_id d g.done) g.done g.same;
+      }
+
+  -- no more could be read where a read was needed
+  pub HasRead-needed : (after : Option (List ℕ)) → Keeps now after → (new' : RunText) (rest' : List ℕ) (error : DataError) → error.number ≡ 70 → error.line ≡ 0
+      → Next before after old (reader_of old.dictionary new' rest' ended reads (old.lines + 0)) (Err error)
+  HasRead-needed after k new' rest' error n l =
+      HasRead-kept before now after old run uncut ended reads had has h k new' rest' error
+      (IsError-needed old.dictionary (held_of old ++ h.taken) (is_front old) ended old.lines error needs_more n l)
 
 -- what the end of the file gives
 module _ (before now : Option (List ℕ)) (old : ReaderText) (run : RunText) (uncut : List ℕ) (ended : Bool) (reads : ℕ) (had has : Bool)
@@ -340,7 +377,7 @@ module _ (before now : Option (List ℕ)) (old : ReaderText) (run : RunText) (un
 pub Next-memory : (before : Option (List ℕ)) (old : ReaderText) (error : DataError) → IsResting old → (old.ended ≡ true → IsAtEnd before) → error.number ≡ 90 → error.line ≡ 0
     → Next before before old (reader_of old.dictionary old.run old.uncut old.ended old.reads (old.lines + 0)) (Err error)
 Next-memory before old error r end n l =
-    HasRead-kept before before before old old.run old.uncut old.ended old.reads false false (HasRead-none before old false r end) (Keeps-refl before) old.run old.uncut error (inr n) l
+    HasRead-memory before before before old old.run old.uncut old.ended old.reads false false (HasRead-none before old false r end) (Keeps-refl before) old.run old.uncut error n l
 
 -- the error that a reader keeps is no part of a call
 pub Next-errors : (before after : Option (List ℕ)) (old new : ReaderText) (e f : Option DataError) (result : Result (Option RunText) DataError)

@@ -60,9 +60,16 @@ pub record IsFaulty (d : DictionaryText) (bytes : List ℕ) (front ended : Bool)
   pub line : error.line ≡ before + place + 1
   pub none : given d front ended bytes ≡ []
 
--- an error: the fault of a line, or 70 or 90 without a line
+-- the bytes have no answer yet, so that a read is needed: the end wasn't read, no run is given of them, and none of their lines is faulty
+pub record NeedsMore (d : DictionaryText) (bytes : List ℕ) (front ended : Bool) : Type 0 where
+  pub unended : ended ≡ false
+  pub none : given d front ended bytes ≡ []
+  pub sound : fault_in d front ended bytes ≡ None
+
+-- an error: the fault of a line, or 70 or 90 without a line. 70 comes only where a read is needed, however the device stood before the call.
 pub record IsError (d : DictionaryText) (bytes : List ℕ) (front ended : Bool) (before : ℕ) (error : DataError) : Type 0 where
   pub faulty : error.number < 70 → IsFaulty d bytes front ended before error
+  pub needed : error.number ≡ 70 → NeedsMore d bytes front ended
   pub number : 70 ≤ error.number → (error.number ≡ 70) ⊎ (error.number ≡ 90)
   pub line : 70 ≤ error.number → error.line ≡ 0
 

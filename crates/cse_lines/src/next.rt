@@ -41,7 +41,8 @@ fn take_rest(alloc: Global, run: &mut Run) -> Option<Run>
     Some(mem::replace(run, next))
 }
 
-/// The next run of what is held and read.
+/// The next run of what is held and read. It reads where these have no answer, and only there it ends in
+/// 70.
 fn next_run<R: Input>(
     alloc: Global,
     dictionary: &Dictionary,

@@ -100,6 +100,10 @@ impl<'a> RunReader<'a> {
     }
 
     /// The next run of the input, or that there is none. After an error the same error is answered.
+    ///
+    /// 70 comes first only where what was held and read gives no answer, so that more had to be read: the
+    /// end wasn't read, no run can be given and no line is faulty. Then the read failed, or none was made
+    /// since 2^40 reads had given bytes.
     pub fn next<R: Input>(&mut self, input: &mut R) -> Result<Option<Run>, DataError>
         requires { self.old.ended ≡ true → IsAtEnd (R.remaining input.old) }
         ensures next { self.old.error ≡ None → Next (R.remaining input.old) (R.remaining input.new) self.old self.new result }

@@ -25,7 +25,7 @@ returns-in-Ok-None-clause-ok g c =
 pub overflow_add-cases : goal.overflow_add-cases
 overflow_add-cases g c =
     let s = c.cases.invariant.copying.so_far in
-    let one : c.from-cases.result ≤ 1 = rw (c.from-cases.ensures ∙ byte_is c.is_case.result) (at_most_one c.is_case.result) in
+    let one : c.from-cases.result ≤ 1 = rw (c.from-cases.ensures ∙ byte_is _) (at_most_one _) in
     omega (arith, s.few_cases, s.lines_are, s.few)
 
 pub overflow_add-lines : goal.overflow_add-lines
@@ -53,8 +53,10 @@ returns-then-gatherer-clause-err g c =
       rest = held_of c.next.new.self.stream;
       ended = c.next.new.self.stream.ended;
       reads = more.reads;
+      end = c.next.new.self.end;
       gathers = c.put_to.ensures _ _ inv.copying.text inv.copying.gathers;
       faulty = λ low. absurd (omega arith);
+      needed = λ e. absurd (omega arith);
       reading = λ e. absurd (omega arith);
       writing = λ e. c.if-gatherer.true;
       other = λ high. inr (inl refl);
@@ -80,7 +82,7 @@ cases-preserved g c =
     record {
       copying = record {
         text = inv.copying.text ++ written_run c.in-Ok-Some.case.run;
-        so_far = rw (c.from-cases.ensures ∙ byte_is c.is_case.result, c.lines-lines.ensures, c.unseen.ensures) more;
+        so_far = rw (c.from-cases.ensures ∙ byte_is _, c.lines-lines.ensures, c.unseen.ensures) more;
         gathers = c.put_to.ensures _ _ inv.copying.text inv.copying.gathers;
       };
       sound = c.in-Ok-Some.ensures.ok;
@@ -91,4 +93,4 @@ pub returns-in-Err-clause-err : goal.returns-in-Err-clause-err
 returns-in-Err-clause-err g c =
     let inv = c.cases.invariant in
     let next = c.in-Err.ensures.next inv.sound in
-    SoFar-error _ _ _ _ _ _ _ _ inv.copying.so_far _ next _ _ _ _ inv.copying.gathers (c.in-Err.ensures.failed inv.sound)
+    SoFar-error _ _ _ _ _ _ _ _ inv.copying.so_far _ next _ _ _ _ c.next.new.self.end inv.copying.gathers (c.in-Err.ensures.failed inv.sound)

@@ -1,8 +1,9 @@
-use Rattle.std.proofs.Common.{◌≡◌, ◌+◌, ◌∙◌, arith, sym, subst, true, false}
+use Rattle.std.proofs.Common.{◌+◌, ◌∙◌, arith, sym, subst, true}
 use Rattle.std.specs.Prelude.{◌==◌}
 use Rattle.std.proofs.lemmas.Bool.{false≢true}
+use Rattle.std.proofs.KnownBytes.{Keeps-refl}
 use Rattle.cse_lines.specs.Taking.{Cuts, GathersAll}
-use Rattle.cse_lines.proofs.ReadLaws.{HasRead-more, HasRead-none, IsResting-end, Next-end}
+use Rattle.cse_lines.proofs.ReadLaws.{HasRead-more, HasRead-needed, HasRead-none, IsResting-end, Next-end}
 use Rattle.cse_lines.proofs.next.next_run.Goals as goal
 
 pub returns-in-Ok-None-clause-next : goal.returns-in-Ok-None-clause-next
@@ -18,6 +19,20 @@ returns-in-Ok-None-clause-rests g c =
     let all : GathersAll d (c.args.lines == 0) c.reads.ended c.reads.run c.reads.buffer c.gather.new.run c.gather.new.buffer =
     subst (Cuts d (c.args.lines == 0) c.reads.ended c.reads.run c.reads.buffer c.gather.new.run c.gather.new.buffer) c.in-Ok-None.field-0-is c.in-Ok-None.ensures.ok in
     IsResting-end _ _ _ _ _ _ _ _ _ c.reads.invariant c.if-ended.true _ _ all c.take_rest.new.run c.take_rest.result c.take_rest.ensures
+
+pub returns-then-reads-eq-MOST_READS-clause-next : goal.returns-then-reads-eq-MOST_READS-clause-next
+returns-then-reads-eq-MOST_READS-clause-next g c =
+    let d = c.args.dictionary.now in
+    let all : GathersAll d (c.args.lines == 0) c.reads.ended c.reads.run c.reads.buffer c.gather.new.run c.gather.new.buffer =
+    subst (Cuts d (c.args.lines == 0) c.reads.ended c.reads.run c.reads.buffer c.gather.new.run c.gather.new.buffer) c.in-Ok-None.field-0-is c.in-Ok-None.ensures.ok in
+    HasRead-needed _ _ _ _ _ _ _ _ _ c.reads.invariant c.if-ended.false _ _ all _ (Keeps-refl _) _ _ _ c.error-then-reads-eq-MOST_READS.ensures.number c.error-then-reads-eq-MOST_READS.ensures.line
+
+pub returns-in-Err-Device-clause-next : goal.returns-in-Err-Device-clause-next
+returns-in-Err-Device-clause-next g c =
+    let d = c.args.dictionary.now in
+    let all : GathersAll d (c.args.lines == 0) c.reads.ended c.reads.run c.reads.buffer c.gather.new.run c.gather.new.buffer =
+    subst (Cuts d (c.args.lines == 0) c.reads.ended c.reads.run c.reads.buffer c.gather.new.run c.gather.new.buffer) c.in-Ok-None.field-0-is c.in-Ok-None.ensures.ok in
+    HasRead-needed _ _ _ _ _ _ _ _ _ c.reads.invariant c.if-ended.false _ _ all _ c.in-Err-Device.ensures.kept _ _ _ c.error-in-Err-Device.ensures.number c.error-in-Err-Device.ensures.line
 
 pub reads-preserved-in-Ok-eq0 : goal.reads-preserved-in-Ok-eq0
 reads-preserved-in-Ok-eq0 g c =
