@@ -2,13 +2,14 @@
 
 use super::*;
 use crate::tests::{
-    AGE, AGE_MESSAGES, AGES, SAMPLE, SEX, back, front, give, give_ages, impute, listing_text,
-    program_of, reports_of, whole, words,
+    AGE_MESSAGES, AGES, back, front, give, give_ages, impute, listing_text, program_of, reports_of,
+    whole, words,
 };
 use cse_dict::{Dictionary, Unseen};
-use cse_value::{Num, OutOfMemory, Writes};
+use cse_value::{Num, OutOfMemory, Writes, write_all};
 use std::alloc::Global;
 use std::io;
+use std::ops::Range;
 use std::process::Abort;
 use std::test::Fail;
 
@@ -112,14 +113,14 @@ fn holds_its_lines_where_a_writer_fails(rt: HostRuntime) -> Result<(), Fail> {
 /// What reports hold, without memory.
 #[derive(Drop)]
 struct Seen {
-    bytes: [u8; 600],
+    bytes: [u8; 800],
     len: usize,
 }
 
 impl io::Write for Seen {
     fn write(&mut self, buf: &[u8]) -> io::Result<usize> {
         for byte in buf {
-            if self.len >= 600 {
+            if self.len >= 800 {
                 break;
             }
             self.bytes[self.len] = *byte;
@@ -133,65 +134,109 @@ impl io::Write for Seen {
     }
 }
 
+impl Seen {
+    fn is(&self, other: &Seen) -> bool {
+        self.len == other.len && self.bytes == other.bytes
+    }
+}
+
+/// What the listing with its texts, the summary and the frequencies are.
 fn look_at(reports: &Reports, dictionary: &Dictionary) -> Seen {
     let mut out = Writes::new(Seen {
-        bytes: [0; 600],
+        bytes: [0; 800],
         len: 0,
     });
     let _ = reports.listing.write_to(1, 2, 3, &mut out);
     let _ = reports.frequencies.write_to(dictionary, &mut out);
+    for i in 0..9 {
+        if let Some(text) = reports.listing.text(i) {
+            let _ = write_all(&mut out, text.as_bytes());
+        }
+    }
     out.into_inner()
 }
 
-/// One of ten reports.
-fn report(rt: &impl Abort, reports: &mut Reports, step: usize) -> Result<(), OutOfMemory> {
+/// The reports of a program of one item, and its dictionary, if there is memory for them.
+fn begin(alloc: Global) -> Option<(Dictionary, Reports)> {
+    let text = "[Dictionary]\nName=D\n[Level]\nName=L\n[IdItems]\n[Item]\nName=AGE\nStart=1\nLen=1";
+    let dictionary = Dictionary::read(alloc, text.as_bytes()).ok()?;
+    let messages = [(0, false, "%d %s"), (0, true, "x")];
+    let program = program_of(alloc, dictionary.shape(), &messages).ok()??;
+    let reports = Reports::new(alloc, &program).ok()?;
+    Some((dictionary, reports))
+}
+
+/// How many reports are given in turn.
+const STEPS: u8 = 18;
+
+/// What they are after all steps.
+const ALL: &str =
+    "CSEB LISTING 1\nCASE [002]\nU 3 extra\nM 0 35 a text of some length\nM 0 35 a text of some length\nCASE [ääääääääääääääääääääääääääääääääääääääää]\nM 0 -1 \nSUMMARY\ncases 1\nlines 2\nunseen 3\nmessage 0 3 %d %s\nmessage 0 1 x\nEND\nCSEB FREQUENCIES 1\nITEM AGE 10\n8 1\n9 1\n10 1\n11 1\n12 1\n13 1\n14 1\n15 1\n16 1\n17 1\nEND\n35 a text of some length35 a text of some length-1 ";
+
+/// The call of a step.
+fn call_of(step: u8) -> &'static str {
     match step {
-        0 => reports.begin_case(&['0', '0', '1']),
-        1 => reports.unseen(3, Unseen::Extra),
-        2 | 3 => give(
-            rt,
-            reports,
-            0,
-            &[whole(35), words("a text of some length  ")],
-        ),
-        4 => give(rt, reports, 1, &[]),
-        5 => reports.begin_case(&['ä', 'b', 'c', 'd', 'e', 'f', 'g', 'h', 'i', 'j', 'k', 'l']),
-        6 => give(rt, reports, 0, &[whole(-1), words("")]),
-        7 => impute(rt, reports, AGE, Num::Whole(35)),
-        8 => impute(rt, reports, SEX, Num::NotAppl),
-        _ => impute(rt, reports, AGE, Num::Whole(35)),
+        0 | 1 | 6 => "begin_case",
+        2 => "unseen",
+        3..=5 | 7 => "message",
+        _ => "imputed",
     }
 }
 
-/// Each growth that is refused changes nothing: run with `--fail-alloc N` for each N.
+/// One of the reports. Each call comes where there is no room yet, or where what there is is too little.
+fn report(rt: &impl Abort, reports: &mut Reports, step: u8) -> Result<(), OutOfMemory> {
+    let long = [whole(35), words("a text of some length  ")];
+    match step {
+        0 => reports.begin_case(&['0', '0', '1']),
+        1 => reports.begin_case(&['0', '0', '2']),
+        2 => reports.unseen(3, Unseen::Extra),
+        3 | 4 => give(rt, reports, 0, &long),
+        5 => give(rt, reports, 1, &[]),
+        6 => reports.begin_case(&['ä'; 40]),
+        7 => give(rt, reports, 0, &[whole(-1), words("")]),
+        _ => impute(rt, reports, 0, Num::Whole(i64::from(step))),
+    }
+}
+
+/// The reports of these steps in turn.
+fn report_all(rt: &impl Abort, reports: &mut Reports, steps: Range<u8>) -> Result<(), OutOfMemory> {
+    for step in steps {
+        report(rt, reports, step)?;
+    }
+    Ok(())
+}
+
+/// Reports of which a step was refused go on as others do. A line that is unseen shows the heading that waits.
+fn go_on(rt: &impl Abort, alloc: Global, reports: &mut Reports, step: u8) -> Result<(), Fail> {
+    let (dictionary, mut others) = begin(alloc).ok_or("no memory")?;
+    report_all(rt, &mut others, 0..step)?;
+    reports.unseen(9, Unseen::Unknown)?;
+    others.unseen(9, Unseen::Unknown)?;
+    assert!(rt; look_at(reports, &dictionary).is(&look_at(&others, &dictionary)));
+    report_all(rt, reports, step..STEPS)?;
+    report_all(rt, &mut others, step..STEPS)?;
+    assert!(rt; look_at(reports, &dictionary).is(&look_at(&others, &dictionary)));
+    Ok(())
+}
+
+/// Each growth that is refused changes nothing. To refuse them one by one, run
+/// `rt try cse_report --test --fail-alloc N` for N = 1, 2 and so on, until no line stands below this test: such a
+/// line names the call whose growth was refused. The test is `ok` for each N.
 #[test]
 fn changes_nothing_for_want_of_memory(rt: HostRuntime) -> Result<(), Fail> {
-    let alloc = rt.alloc();
-    let Ok(dictionary) = Dictionary::read(alloc, SAMPLE.as_bytes()) else {
+    let Some((dictionary, mut reports)) = begin(rt.alloc()) else {
+        println!(rt; "refused before the first call")?;
         return Ok(());
     };
-    let messages = [(0, false, "%d %s"), (0, true, "x")];
-    let Ok(Some(program)) = program_of(alloc, dictionary.shape(), &messages) else {
-        return Ok(());
-    };
-    let Ok(mut reports) = Reports::new(alloc, &program) else {
-        return Ok(());
-    };
-    for step in 0..10 {
+    for step in 0..STEPS {
         let before = look_at(&reports, &dictionary);
-        if report(&rt, &mut reports, step).is_ok() {
-            continue;
+        if report(&rt, &mut reports, step).is_err() {
+            println!(rt; "refused in step {step}, {}", call_of(step))?;
+            assert!(rt; look_at(&reports, &dictionary).is(&before));
+            return go_on(&rt, rt.alloc(), &mut reports, step);
         }
-        let after = look_at(&reports, &dictionary);
-        assert!(rt;
-            before.len == after.len && before.bytes == after.bytes,
-            "{step}"
-        );
-        assert!(rt; report(&rt, &mut reports, step).is_ok(), "{step}");
     }
     let all = look_at(&reports, &dictionary);
-    let text =
-        "CSEB LISTING 1\nCASE [001]\nU 3 extra\nM 0 35 a text of some length\nM 0 35 a text of some length\nCASE [äbcdefghijkl]\nM 0 -1 \nSUMMARY\ncases 1\nlines 2\nunseen 3\nmessage 0 3 %d %s\nmessage 0 1 x\nEND\nCSEB FREQUENCIES 1\nITEM SEX 1\nNOTAPPL 1\nITEM AGE 2\n35 2\nEND\n";
-    assert_eq!(rt; front(&all.bytes, all.len), text.as_bytes());
+    assert_eq!(rt; front(&all.bytes, all.len), ALL.as_bytes());
     Ok(())
 }
