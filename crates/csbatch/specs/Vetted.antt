@@ -22,6 +22,11 @@ dictionary_in text = dictionary_of (sections_of text)
 abbrev pub shape_in : List ℕ → ShapeLists
 shape_in text = shape_of (dictionary_in text)
 
+-- The text is a dictionary's, and this one's.
+pub record IsReadAs (text : List ℕ) (d : DictionaryText) : Type 0 where
+  pub sound : text_faults text ≡ []
+  pub is : d ≡ dictionary_in text
+
 -- The text is a dictionary's, and the bytes are the spelling of a program that may run with it.
 pub record Passes (text bytes : List ℕ) : Type 0 where
   pub sound : text_faults text ≡ []

@@ -66,54 +66,51 @@ fn tells_faults(rt: HostRuntime) -> Result<(), Fail> {
     Ok(())
 }
 
+/// Words that ask for nothing that is there.
+const WRONG: &[&[&str]] = &[
+    &[],
+    &["try"],
+    &["try", "a", "b"],
+    &["try", "--what", "a"],
+    &["--help"],
+    &["help"],
+    &["try", "--help"],
+    &["--version"],
+    &["run"],
+    &["verify"],
+    &["verify", "a", "b", "c"],
+    &["verify", "--decks", "d", "a", "b"],
+    &["verify", "a"],
+];
+
+/// Words and what they ask for.
+const RIGHT: &[(&[&str], Command<'static>)] = &[
+    (&["try", "a"], Command::Try { image: "a" }),
+    (
+        &["verify", "d", "i"],
+        Command::Verify {
+            dict: "d",
+            image: "i",
+        },
+    ),
+    (
+        &["verify", "-", ""],
+        Command::Verify {
+            dict: "-",
+            image: "",
+        },
+    ),
+    (&["try", "-"], Command::Try { image: "-" }),
+    (&["try", ""], Command::Try { image: "" }),
+    (&["try", "--", "-x"], Command::Try { image: "-x" }),
+];
+
 #[test]
 fn plans_words(rt: HostRuntime) {
-    let wrong: [&[&str]; 13] = [
-        &[],
-        &["try"],
-        &["try", "a", "b"],
-        &["try", "--what", "a"],
-        &["--help"],
-        &["help"],
-        &["try", "--help"],
-        &["--version"],
-        &["run"],
-        &["verify"],
-        &["verify", "a", "b", "c"],
-        &["verify", "--decks", "d", "a", "b"],
-        &["verify", "a"],
-    ];
-    for words in wrong {
+    for words in WRONG {
         assert_eq!(rt; plan(rt.alloc(), words), Err(PlanFault::Usage));
     }
-    assert_eq!(rt;
-        plan(rt.alloc(), &["try", "a"]),
-        Ok(Command::Try { image: "a" })
-    );
-    assert_eq!(rt;
-        plan(rt.alloc(), &["verify", "d", "i"]),
-        Ok(Command::Verify {
-            dict: "d",
-            image: "i"
-        })
-    );
-    assert_eq!(rt;
-        plan(rt.alloc(), &["verify", "-", ""]),
-        Ok(Command::Verify {
-            dict: "-",
-            image: ""
-        })
-    );
-    assert_eq!(rt;
-        plan(rt.alloc(), &["try", "-"]),
-        Ok(Command::Try { image: "-" })
-    );
-    assert_eq!(rt;
-        plan(rt.alloc(), &["try", ""]),
-        Ok(Command::Try { image: "" })
-    );
-    assert_eq!(rt;
-        plan(rt.alloc(), &["try", "--", "-x"]),
-        Ok(Command::Try { image: "-x" })
-    );
+    for (words, want) in RIGHT {
+        assert_eq!(rt; plan(rt.alloc(), words), Ok(*want));
+    }
 }

@@ -37,6 +37,8 @@ use try_image::try_to;
 use verify_image::verify_to;
 
 #[cfg(test)]
+mod code_tests;
+#[cfg(test)]
 mod fault_tests;
 #[cfg(test)]
 mod tests;
@@ -96,7 +98,16 @@ fn carry_out<R: Env + Files + Print + AllocGlobal>(rt: &R) -> Result<u8, Stop> {
         return Err(Stop::of_number(NO_MEMORY));
     };
     let words: Vec<&str> = words;
-    match plan(rt.alloc(), &words) {
+    let planned = plan(rt.alloc(), &words);
+    do_planned(rt, planned)
+}
+
+/// Does what was planned: the exit status.
+fn do_planned<R: Files + Print + AllocGlobal>(
+    rt: &R,
+    planned: Result<Command<'_>, PlanFault>,
+) -> Result<u8, Stop> {
+    match planned {
         Ok(Command::Try { image }) => try_file(rt, image),
         Ok(Command::Verify { dict, image }) => verify_files(rt, dict, image),
         Err(PlanFault::Usage) => Err(Stop::Usage),

@@ -40,16 +40,32 @@ impl From<Error> for PlanFault {
 /// The command that the words after the program's name ask for. Every other answer of the library,
 /// help too, is usage.
 pub fn plan<'a>(alloc: Global, words: &'a [&'a str]) -> Result<Command<'a>, PlanFault> {
-    let program = Clap::new(alloc, "csbatch")
-        .no_binary_name(true)
-        .subcommand(try_words(alloc)?)?
-        .subcommand(verify_words(alloc)?)?;
-    let matches = program.try_get_matches_from(words)?;
+    let matches = matches_of(alloc, words)?;
+    command_of(&matches)
+}
+
+/// The command that was found.
+fn command_of<'a>(matches: &ArgMatches<'a>) -> Result<Command<'a>, PlanFault> {
     match matches.subcommand() {
         Some(("try", matches)) => try_of(matches),
         Some(("verify", matches)) => verify_of(matches),
         _ => Err(PlanFault::Usage),
     }
+}
+
+/// What the library finds in the words.
+fn matches_of<'a>(alloc: Global, words: &'a [&'a str]) -> Result<ArgMatches<'a>, PlanFault> {
+    let program = program_words(alloc)?;
+    Ok(program.try_get_matches_from(words)?)
+}
+
+/// The words of both commands.
+fn program_words<'a>(alloc: Global) -> Result<Clap<'a>, AllocError> {
+    let words = try_words(alloc)?;
+    let program = Clap::new(alloc, "csbatch")
+        .no_binary_name(true)
+        .subcommand(words)?;
+    program.subcommand(verify_words(alloc)?)
 }
 
 /// A path that has to be given.

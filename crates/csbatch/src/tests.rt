@@ -28,7 +28,42 @@ const HELLO: [u8; 94] = [
 /// Parts of a program whose preproc is this code, with the constants 0, 1, 10, the texts `A` and
 /// `A `, a number and a text of three characters as globals and as locals, an array of four cells that
 /// begins with 7, and the messages `yes`, `no` and `100%%`.
-fn parts_of(alloc: Global, code: &[Instr]) -> Result<Parts, AllocError> {
+pub fn parts_of(alloc: Global, code: &[Instr]) -> Result<Parts, AllocError> {
+    parts_with(alloc, Ambient::Run, Gift::Nothing, 0, code)
+}
+
+/// The same, where the code's routine is another one, or the event names another routine.
+fn parts_with(
+    alloc: Global,
+    ambient: Ambient,
+    gives: Gift,
+    routine: u32,
+    code: &[Instr],
+) -> Result<Parts, AllocError> {
+    Ok(Parts {
+        records: Vec::new(alloc),
+        items: Vec::new(alloc),
+        sets: Vec::new(alloc),
+        order: Vec::new(alloc),
+        constants: Vec::from_slice(alloc, &[0, 1, 10])?,
+        texts: texts_of(alloc)?,
+        globals: globals_of(alloc)?,
+        arrays: arrays_of(alloc)?,
+        messages: messages_of(alloc)?,
+        routines: routines_of(alloc, ambient, gives, code.len())?,
+        events: events_of(alloc, routine)?,
+        code: Vec::from_slice(alloc, code)?,
+    })
+}
+
+fn texts_of(alloc: Global) -> Result<Vec<String>, AllocError> {
+    let mut texts = Vec::new(alloc);
+    texts.push(String::from_str(alloc, "A")?)?;
+    texts.push(String::from_str(alloc, "A ")?)?;
+    Ok(texts)
+}
+
+fn globals_of(alloc: Global) -> Result<Vec<GlobalVariable>, AllocError> {
     let globals = [
         GlobalVariable {
             kind: GlobalKind::Number,
@@ -39,9 +74,10 @@ fn parts_of(alloc: Global, code: &[Instr]) -> Result<Parts, AllocError> {
             length: 3,
         },
     ];
-    let mut texts = Vec::new(alloc);
-    texts.push(String::from_str(alloc, "A")?)?;
-    texts.push(String::from_str(alloc, "A ")?)?;
+    Vec::from_slice(alloc, &globals)
+}
+
+fn arrays_of(alloc: Global) -> Result<Vec<Array>, AllocError> {
     let mut arrays = Vec::new(alloc);
     arrays.push(Array {
         saved: false,
@@ -49,27 +85,17 @@ fn parts_of(alloc: Global, code: &[Instr]) -> Result<Parts, AllocError> {
         name: String::from_str(alloc, "CELLS")?,
         cells: Vec::from_slice(alloc, &[7])?,
     })?;
-    let mut routines = Vec::new(alloc);
-    routines.push(routine_of(alloc, code.len())?)?;
+    Ok(arrays)
+}
+
+/// The application's preproc, which is a routine.
+fn events_of(alloc: Global, routine: u32) -> Result<Vec<EventEntry>, AllocError> {
     let first = EventEntry {
         code: EventCode::ApplicationPreproc,
         index: 0,
-        routine: 0,
+        routine,
     };
-    Ok(Parts {
-        records: Vec::new(alloc),
-        items: Vec::new(alloc),
-        sets: Vec::new(alloc),
-        order: Vec::new(alloc),
-        constants: Vec::from_slice(alloc, &[0, 1, 10])?,
-        texts,
-        globals: Vec::from_slice(alloc, &globals)?,
-        arrays,
-        messages: messages_of(alloc)?,
-        routines,
-        events: Vec::from_slice(alloc, &[first])?,
-        code: Vec::from_slice(alloc, code)?,
-    })
+    Vec::from_slice(alloc, &[first])
 }
 
 fn messages_of(alloc: Global) -> Result<Vec<Message>, AllocError> {
@@ -97,7 +123,12 @@ fn messages_of(alloc: Global) -> Result<Vec<Message>, AllocError> {
     Ok(messages)
 }
 
-fn routine_of(alloc: Global, instructions: usize) -> Result<Routine, AllocError> {
+fn routines_of(
+    alloc: Global,
+    ambient: Ambient,
+    gives: Gift,
+    instructions: usize,
+) -> Result<Vec<Routine>, AllocError> {
     let locals = [
         Local {
             kind: LocalKind::Number,
@@ -110,23 +141,36 @@ fn routine_of(alloc: Global, instructions: usize) -> Result<Routine, AllocError>
             length: 3,
         },
     ];
-    Ok(Routine {
-        ambient: Ambient::Run,
-        gives: Gift::Nothing,
+    let mut routines = Vec::new(alloc);
+    routines.push(Routine {
+        ambient,
+        gives,
         parameters: 0,
         locals: Vec::from_slice(alloc, &locals)?,
         instructions: u32::try_from(instructions).unwrap_or(0),
-    })
+    })?;
+    Ok(routines)
 }
 
-fn instr(op: Op, a: u8, b: u16, c: u32) -> Instr {
+pub fn instr(op: Op, a: u8, b: u16, c: u32) -> Instr {
     Instr { op, a, b, c }
 }
 
-/// What `try` prints of these parts, and a word for a fault.
-fn printed(alloc: Global, parts: Parts) -> Result<String, Fail> {
+fn image_of(alloc: Global, parts: Parts) -> Result<Vec<u8>, Fail> {
     let program = Program::from_parts(parts).ok_or("no spelling")?;
-    let image = write_image(alloc, &program)?;
+    Ok(write_image(alloc, &program)?)
+}
+
+/// What `try` prints of these parts, and a word for a fault.
+pub fn printed(alloc: Global, parts: Parts) -> Result<String, Fail> {
+    let image = image_of(alloc, parts)?;
+    printed_of(alloc, &image)
+}
+
+/// The same of two pieces of an image.
+fn printed_both(alloc: Global, front: &[u8], rest: &[u8]) -> Result<String, Fail> {
+    let mut image = Vec::from_slice(alloc, front)?;
+    image.extend_from_slice(rest)?;
     printed_of(alloc, &image)
 }
 
@@ -145,278 +189,109 @@ fn printed_of(alloc: Global, image: &[u8]) -> Result<String, Fail> {
 #[test]
 fn says_hello(rt: HostRuntime) -> Result<(), Fail> {
     let alloc = rt.alloc();
-    assert_eq!(rt; printed_of(alloc, &HELLO)?.as_str(), "Hi\n2 steps\n");
-    assert_eq!(rt;
-        printed_of(alloc, &HELLO[..93])?.as_str(),
-        "refused 61 byte 93\n"
-    );
-    let mut more = Vec::from_slice(alloc, &HELLO)?;
-    more.push(0)?;
-    assert_eq!(rt; printed_of(alloc, &more)?.as_str(), "refused 62 byte 94\n");
-    let mut empty = Vec::from_slice(alloc, &HELLO[..8])?;
-    empty.extend_from_slice(&[0; 44])?;
-    assert_eq!(rt; printed_of(alloc, &empty)?.as_str(), "0 steps\n");
+    let pieces: [(&[u8], &[u8], &str); 4] = [
+        (&HELLO, &[], "Hi\n2 steps\n"),
+        (&HELLO[..93], &[], "refused 61 byte 93\n"),
+        (&HELLO, &[0], "refused 62 byte 94\n"),
+        (&HELLO[..8], &[0; 44], "0 steps\n"),
+    ];
+    for (front, rest, want) in &pieces {
+        let text = printed_both(alloc, front, rest)?;
+        assert_eq!(rt; text.as_str(), *want);
+    }
     Ok(())
+}
+
+/// The parts of `HELLO`.
+fn hello_parts(alloc: Global) -> Result<Parts, AllocError> {
+    let code = [instr(Op::Message, 0, 0, 0), instr(Op::Return, 0, 0, 0)];
+    Ok(Parts {
+        records: Vec::new(alloc),
+        items: Vec::new(alloc),
+        sets: Vec::new(alloc),
+        order: Vec::new(alloc),
+        constants: Vec::new(alloc),
+        texts: Vec::new(alloc),
+        globals: Vec::new(alloc),
+        arrays: Vec::new(alloc),
+        messages: hello_messages(alloc)?,
+        routines: hello_routines(alloc)?,
+        events: events_of(alloc, 0)?,
+        code: Vec::from_slice(alloc, &code)?,
+    })
+}
+
+fn hello_messages(alloc: Global) -> Result<Vec<Message>, AllocError> {
+    let mut messages = Vec::new(alloc);
+    messages.push(Message {
+        number: 0,
+        summary: false,
+        text: String::from_str(alloc, "Hi")?,
+    })?;
+    Ok(messages)
+}
+
+fn hello_routines(alloc: Global) -> Result<Vec<Routine>, AllocError> {
+    let mut routines = Vec::new(alloc);
+    routines.push(Routine {
+        ambient: Ambient::Run,
+        gives: Gift::Nothing,
+        parameters: 0,
+        locals: Vec::new(alloc),
+        instructions: 2,
+    })?;
+    Ok(routines)
 }
 
 #[test]
 fn writes_hello(rt: HostRuntime) -> Result<(), Fail> {
-    let alloc = rt.alloc();
-    let code = [instr(Op::Message, 0, 0, 0), instr(Op::Return, 0, 0, 0)];
-    let mut parts = parts_of(alloc, &code)?;
-    parts.constants = Vec::new(alloc);
-    parts.texts = Vec::new(alloc);
-    parts.globals = Vec::new(alloc);
-    parts.arrays = Vec::new(alloc);
-    parts.messages = Vec::new(alloc);
-    let text = String::from_str(alloc, "Hi")?;
-    parts.messages.push(Message {
-        number: 0,
-        summary: false,
-        text,
-    })?;
-    let mut routine = routine_of(alloc, 2)?;
-    routine.locals = Vec::new(alloc);
-    parts.routines = Vec::new(alloc);
-    parts.routines.push(routine)?;
-    let program = Program::from_parts(parts).ok_or("no spelling")?;
-    assert_eq!(rt; write_image(alloc, &program)?.as_slice(), HELLO.as_slice());
+    let image = image_of(rt.alloc(), hello_parts(rt.alloc())?)?;
+    assert_eq!(rt; image.as_slice(), HELLO.as_slice());
     Ok(())
 }
 
-/// An instruction: its opcode and its fields a, b and c.
-type Line = (Op, u8, u16, u32);
-
-/// Pieces of code, without the Return at their end, and what `try` prints of them.
-const ENDS: [(&[Line], &str); 23] = [
-    (&[], "1 steps\n"),
-    // A text beside a number has no sum.
-    (
-        &[
-            (Op::Message, 0, 0, 1),
-            (Op::Number, 0, 0, 0),
-            (Op::Text, 0, 0, 0),
-            (Op::Add, 0, 0, 0),
-            (Op::Pop, 0, 0, 0),
-        ],
-        "no\ntrap routine 0 place 3\n",
-    ),
-    // Return with a cell on the stack, and Pop without one or of another kind.
-    (&[(Op::Number, 0, 0, 0)], "trap routine 0 place 1\n"),
-    (&[(Op::Pop, 0, 0, 0)], "trap routine 0 place 0\n"),
-    (
-        &[(Op::Number, 0, 0, 0), (Op::Pop, 1, 0, 0)],
-        "trap routine 0 place 1\n",
-    ),
-    (&[(Op::Text, 0, 0, 0), (Op::Pop, 1, 0, 0)], "3 steps\n"),
-    // A condition that holds goes on, and one that fails jumps.
-    (
-        &[
-            (Op::Number, 0, 0, 1),
-            (Op::JumpUnless, 0, 0, 3),
-            (Op::Message, 0, 0, 0),
-        ],
-        "yes\n4 steps\n",
-    ),
-    (
-        &[
-            (Op::Special, 1, 0, 0),
-            (Op::JumpUnless, 0, 0, 3),
-            (Op::Message, 0, 0, 0),
-        ],
-        "3 steps\n",
-    ),
-    (&[(Op::Jump, 0, 0, 2), (Op::Message, 0, 0, 0)], "2 steps\n"),
-    // An index in its range goes on, and one out of it jumps.
-    (
-        &[
-            (Op::Number, 0, 0, 1),
-            (Op::Index, 0, 10, 4),
-            (Op::Message, 0, 0, 0),
-            (Op::Pop, 2, 0, 0),
-        ],
-        "yes\n5 steps\n",
-    ),
-    (
-        &[
-            (Op::Number, 0, 0, 2),
-            (Op::Index, 0, 9, 4),
-            (Op::Message, 0, 0, 0),
-            (Op::Pop, 2, 0, 0),
-        ],
-        "3 steps\n",
-    ),
-    // The array's first cell is 7: 7 - 10 is below 0.
-    (
-        &[
-            (Op::Number, 0, 0, 1),
-            (Op::Index, 0, 2, 10),
-            (Op::Number, 0, 0, 1),
-            (Op::Index, 0, 2, 10),
-            (Op::LoadCell, 0, 0, 0),
-            (Op::Number, 0, 0, 2),
-            (Op::Subtract, 0, 0, 0),
-            (Op::Number, 0, 0, 0),
-            (Op::Compare, 2, 0, 0),
-            (Op::JumpUnless, 0, 0, 11),
-            (Op::Message, 0, 0, 0),
-        ],
-        "yes\n12 steps\n",
-    ),
-    // An index of another size finds no cell.
-    (
-        &[
-            (Op::Number, 0, 0, 1),
-            (Op::Index, 0, 2, 5),
-            (Op::Number, 0, 0, 1),
-            (Op::Index, 0, 3, 5),
-            (Op::LoadCell, 0, 0, 0),
-        ],
-        "trap routine 0 place 4\n",
-    ),
-    // A cell keeps the number that is put there.
-    (
-        &[
-            (Op::Number, 0, 0, 1),
-            (Op::Index, 0, 2, 13),
-            (Op::Number, 0, 0, 1),
-            (Op::Index, 0, 2, 13),
-            (Op::Number, 0, 0, 2),
-            (Op::StoreCell, 0, 0, 0),
-            (Op::Number, 0, 0, 1),
-            (Op::Index, 0, 2, 13),
-            (Op::Number, 0, 0, 1),
-            (Op::Index, 0, 2, 13),
-            (Op::LoadCell, 0, 0, 0),
-            (Op::JumpUnless, 0, 0, 13),
-            (Op::Message, 0, 0, 0),
-        ],
-        "yes\n14 steps\n",
-    ),
-    // `A` and `A ` are the same text; a text is padded where it is stored.
-    (
-        &[
-            (Op::Text, 0, 0, 0),
-            (Op::StoreGlobal, 0, 0, 1),
-            (Op::LoadGlobal, 0, 0, 1),
-            (Op::Text, 0, 0, 1),
-            (Op::CompareText, 0, 0, 0),
-            (Op::JumpUnless, 0, 0, 7),
-            (Op::Message, 0, 0, 0),
-        ],
-        "yes\n8 steps\n",
-    ),
-    // A number is no text of a global, and a text none of a local.
-    (
-        &[(Op::Number, 0, 0, 0), (Op::StoreGlobal, 0, 0, 1)],
-        "trap routine 0 place 1\n",
-    ),
-    (
-        &[(Op::Text, 0, 0, 0), (Op::StoreLocal, 0, 0, 0)],
-        "trap routine 0 place 1\n",
-    ),
-    (
-        &[
-            (Op::Number, 0, 0, 2),
-            (Op::StoreLocal, 0, 0, 0),
-            (Op::LoadLocal, 0, 0, 0),
-            (Op::JumpUnless, 0, 0, 5),
-            (Op::Message, 0, 0, 2),
-        ],
-        "100%\n6 steps\n",
-    ),
-    // A summary message isn't listed; a message with an argument and a call have no step yet.
-    (&[(Op::Message, 0, 0, 3)], "2 steps\n"),
-    (&[(Op::Message, 0, 0, 4)], "trap routine 0 place 0\n"),
-    (&[(Op::Call, 0, 0, 0)], "trap routine 0 place 0\n"),
-    // A bracket keeps the rules, and has no step yet; one without its end breaks them.
-    (
-        &[
-            (Op::Number, 0, 0, 0),
-            (Op::LoopCount, 0, 1, 2),
-            (Op::End, 0, 0, 1),
-        ],
-        "trap routine 0 place 1\n",
-    ),
-    (
-        &[
-            (Op::Number, 0, 0, 0),
-            (Op::LoopCount, 0, 1, 2),
-            (Op::End, 0, 0, 0),
-        ],
-        "refused 65 routine 0 place 1\n",
-    ),
-];
-
-/// The instructions, and a return.
-fn returning(alloc: Global, front: &[Line]) -> Result<Vec<Instr>, Fail> {
-    let mut code = Vec::new(alloc);
-    for (op, a, b, c) in front {
-        code.push(instr(*op, *a, *b, *c))?;
-    }
-    code.push(instr(Op::Return, 0, 0, 0))?;
-    Ok(code)
+/// The message `yes`, and a return.
+fn says_yes() -> [Instr; 2] {
+    [instr(Op::Message, 0, 0, 0), instr(Op::Return, 0, 0, 0)]
 }
 
-#[test]
-fn runs_code(rt: HostRuntime) -> Result<(), Fail> {
-    let alloc = rt.alloc();
-    for (front, want) in ENDS {
-        let code = returning(alloc, front)?;
-        let text = printed(alloc, parts_of(alloc, &code)?)?;
-        assert_eq!(rt; text.as_str(), want);
-    }
-    Ok(())
-}
-
-#[test]
-fn refuses_programs(rt: HostRuntime) -> Result<(), Fail> {
-    let alloc = rt.alloc();
-    let code = [instr(Op::Message, 0, 0, 0), instr(Op::Return, 0, 0, 0)];
-    let mut parts = parts_of(alloc, &code)?;
+/// Parts with an item.
+fn with_item(alloc: Global) -> Result<Parts, AllocError> {
+    let mut parts = parts_of(alloc, &says_yes())?;
     parts.items.push(ItemShape {
         owner: 255,
         kind: ItemKind::Number,
         len: 1,
         start: 1,
     })?;
-    assert_eq!(rt; printed(alloc, parts)?.as_str(), "refused 68\n");
-    let parts = parts_of(alloc, &code[..1])?;
-    assert_eq!(rt;
-        printed(alloc, parts)?.as_str(),
-        "refused 65 routine 0 place 0\n"
-    );
-    let back = [
-        instr(Op::Message, 0, 0, 0),
-        instr(Op::Jump, 0, 0, 1),
-        instr(Op::Return, 0, 0, 0),
-    ];
-    let parts = parts_of(alloc, &back)?;
-    assert_eq!(rt;
-        printed(alloc, parts)?.as_str(),
-        "refused 65 routine 0 place 1\n"
-    );
-    // An event whose routine isn't there, wants a case, or gives something.
-    let mut parts = parts_of(alloc, &code)?;
-    parts.events = Vec::new(alloc);
-    parts.events.push(EventEntry {
-        code: EventCode::ApplicationPreproc,
-        index: 0,
-        routine: 7,
-    })?;
-    assert_eq!(rt; printed(alloc, parts)?.as_str(), "trap routine 7 place 0\n");
-    let mut parts = parts_of(alloc, &code)?;
-    let mut routine = routine_of(alloc, 2)?;
-    routine.ambient = Ambient::Case;
-    parts.routines = Vec::new(alloc);
-    parts.routines.push(routine)?;
-    assert_eq!(rt; printed(alloc, parts)?.as_str(), "trap routine 0 place 0\n");
-    let mut parts = parts_of(alloc, &code)?;
-    let mut routine = routine_of(alloc, 2)?;
-    routine.gives = Gift::Number;
-    parts.routines = Vec::new(alloc);
-    parts.routines.push(routine)?;
-    assert_eq!(rt; printed(alloc, parts)?.as_str(), "trap routine 0 place 0\n");
+    Ok(parts)
+}
+
+#[test]
+fn refuses_programs(rt: HostRuntime) -> Result<(), Fail> {
+    let text = printed(rt.alloc(), with_item(rt.alloc())?)?;
+    assert_eq!(rt; text.as_str(), "refused 68\n");
+    // The code ends without a return.
+    let text = printed(rt.alloc(), parts_of(rt.alloc(), &says_yes()[..1])?)?;
+    assert_eq!(rt; text.as_str(), "refused 65 routine 0 place 0\n");
+    Ok(())
+}
+
+/// Events whose routine isn't there, wants a case, or gives something.
+const EVENTS: &[(Ambient, Gift, u32, &str)] = &[
+    (Ambient::Run, Gift::Nothing, 7, "trap routine 7 place 0\n"),
+    (Ambient::Case, Gift::Nothing, 0, "trap routine 0 place 0\n"),
+    (Ambient::Run, Gift::Number, 0, "trap routine 0 place 0\n"),
+];
+
+#[test]
+fn traps_at_events(rt: HostRuntime) -> Result<(), Fail> {
+    let alloc = rt.alloc();
+    for (ambient, gives, routine, want) in EVENTS {
+        let parts = parts_with(alloc, *ambient, *gives, *routine, &says_yes())?;
+        let text = printed(alloc, parts)?;
+        assert_eq!(rt; text.as_str(), *want);
+    }
     Ok(())
 }
 

@@ -1,8 +1,8 @@
 //! `verify`: whether an image may run with a dictionary, from the bytes of both to what is known of it.
 
-ghost use Rattle.std.specs.Prelude.{◌≡◌, false, OnOk, IfErr};
+ghost use Rattle.std.specs.Prelude.{◌≡◌, ℕ, List, false, OnOk, IfErr};
 ghost use Rattle.std.specs.Io.KnownBytes.{Appends};
-ghost use Rattle.csbatch.specs.Vetted.{Passes, told, FailsBy, TellsBefore, FailsOnlyByWrite, is_failed_write};
+ghost use Rattle.csbatch.specs.Vetted.{Passes, IsReadAs, told, FailsBy, TellsBefore, FailsOnlyByWrite, is_failed_write};
 
 use crate::verdict::write_verdict;
 use cse_batch::{CheckFault, check_image};
@@ -45,11 +45,25 @@ pub fn verify_to<W: Output>(
     ensures before { IfErr result (λ f. TellsBefore dict.now image.now f (W.contents out.old) (W.contents out.new)) }
     ensures failed { FailsOnlyByWrite result (W.has_failed out.old) (W.has_failed out.new) }
 {
-    let dictionary = match Dictionary::read(alloc, dict) {
-        Ok(dictionary) => dictionary,
-        Err(error) => return Err(VerifyFault::Dict(error)),
-    };
-    let verified = match check_image(alloc, &dictionary, image) {
+    match Dictionary::read(alloc, dict) {
+        Ok(dictionary) => verify_with(alloc, &dictionary, image, out),
+        Err(error) => Err(VerifyFault::Dict(error)),
+    }
+}
+
+/// The same with the dictionary of a text.
+fn verify_with<W: Output>(
+    alloc: Global,
+    dictionary: &Dictionary,
+    image: &[u8],
+    out: &mut W,
+) -> Result<(), VerifyFault>
+    ensures passes { (text : List ℕ) → IsReadAs text dictionary.now → OnOk result ((p : Passes text image.now) × Appends (W.contents out.old) (W.contents out.new) (told p)) }
+    ensures fails { (text : List ℕ) → IsReadAs text dictionary.now → IfErr result (λ f. is_failed_write f ≡ false → FailsBy text image.now f) }
+    ensures before { (text : List ℕ) → IsReadAs text dictionary.now → IfErr result (λ f. TellsBefore text image.now f (W.contents out.old) (W.contents out.new)) }
+    ensures failed { FailsOnlyByWrite result (W.has_failed out.old) (W.has_failed out.new) }
+{
+    let verified = match check_image(alloc, dictionary, image) {
         Ok(verified) => verified,
         Err(fault) => return Err(VerifyFault::Check(fault)),
     };

@@ -223,13 +223,17 @@ const LEVEL: &[When] = &[(EventCode::LevelPreproc, 0, 0)];
 
 const AGE: &[When] = &[(EventCode::ItemPostproc, 3, 0)];
 
-const PROGRAMS: [Made; 12] = [
-    (
-        SAMPLE,
-        &[(Ambient::Case, Gift::Nothing, false, LOOPS)],
-        LEVEL,
-        "routine 0 1892 steps\ncase 1892 steps\nrun 0 steps\ndepth 2 0 0 2\naccepted\n",
-    ),
+/// A program with a loop in a loop.
+const FIRST: Made = (
+    SAMPLE,
+    &[(Ambient::Case, Gift::Nothing, false, LOOPS)],
+    LEVEL,
+    "routine 0 1892 steps\ncase 1892 steps\nrun 0 steps\ndepth 2 0 0 2\naccepted\n",
+);
+
+/// What `verify` prints of each.
+const PROGRAMS: &[Made] = &[
+    FIRST,
     (
         EMPTY,
         &[
@@ -384,8 +388,8 @@ fn arrays_of(alloc: Global) -> Result<Vec<Array>, AllocError> {
 }
 
 /// The parts of a program that was made for a dictionary.
-fn parts_of(alloc: Global, dict: &Dictionary, made: Made) -> Result<Parts, AllocError> {
-    let (_, routines, events, _) = made;
+fn parts_of(alloc: Global, dict: &Dictionary, made: &Made) -> Result<Parts, AllocError> {
+    let (_, routines, events, _) = *made;
     let shape = dict.shape();
     let mut order = Vec::new(alloc);
     if !shape.records.is_empty() {
@@ -409,11 +413,16 @@ fn parts_of(alloc: Global, dict: &Dictionary, made: Made) -> Result<Parts, Alloc
     })
 }
 
-fn image_of(alloc: Global, made: Made) -> Result<Vec<u8>, Fail> {
-    let Ok(dict) = Dictionary::read(alloc, made.0) else {
-        return Err("no dictionary".into());
-    };
-    let program = Program::from_parts(parts_of(alloc, &dict, made)?).ok_or("no spelling")?;
+fn image_of(alloc: Global, made: &Made) -> Result<Vec<u8>, Fail> {
+    match Dictionary::read(alloc, made.0) {
+        Ok(dict) => image_with(alloc, &dict, made),
+        Err(_) => Err("no dictionary".into()),
+    }
+}
+
+fn image_with(alloc: Global, dict: &Dictionary, made: &Made) -> Result<Vec<u8>, Fail> {
+    let parts = parts_of(alloc, dict, made)?;
+    let program = Program::from_parts(parts).ok_or("no spelling")?;
     Ok(write_image(alloc, &program)?)
 }
 
@@ -430,33 +439,50 @@ fn told(alloc: Global, dict: &[u8], image: &[u8]) -> Result<String, Fail> {
     Ok(String::from_utf8(bytes).map_err(|_| "no text")?)
 }
 
+/// What `verify` prints of a dictionary and the image of a program.
+fn told_of(alloc: Global, dict: &[u8], made: &Made) -> Result<String, Fail> {
+    let image = image_of(alloc, made)?;
+    told(alloc, dict, &image)
+}
+
 #[test]
 fn tells_programs(rt: HostRuntime) -> Result<(), Fail> {
-    let alloc = rt.alloc();
     for made in PROGRAMS {
-        let image = image_of(alloc, made)?;
-        let text = told(alloc, made.0, &image)?;
-        assert_eq!(rt; text.as_str(), made.3);
+        let (dict, _, _, want) = *made;
+        let text = told_of(rt.alloc(), dict, made)?;
+        assert_eq!(rt; text.as_str(), want);
     }
     Ok(())
 }
 
+/// Another dictionary for the first program: other shapes, and a text that is none.
+const OTHERS: &[(&[u8], &str)] = &[
+    (SHORTER, "refused 68\n"),
+    (EMPTY, "refused 68\n"),
+    (b"\xff", "refused 10\n"),
+];
+
+#[test]
+fn tells_other_dictionaries(rt: HostRuntime) -> Result<(), Fail> {
+    for (dict, want) in OTHERS {
+        let text = told_of(rt.alloc(), dict, &FIRST)?;
+        assert_eq!(rt; text.as_str(), *want);
+    }
+    Ok(())
+}
+
+/// A faulty dictionary before a faulty image, and an image that ends too early.
+const CUT: &[(&[u8], &[u8], &str)] = &[
+    (TWO_LEVELS, b"CSEB", "refused 13 line 5\n"),
+    (SAMPLE, b"CSEB\x01", "refused 61 byte 5\n"),
+];
+
 #[test]
 fn tells_faults_in_order(rt: HostRuntime) -> Result<(), Fail> {
-    let alloc = rt.alloc();
-    let image = image_of(alloc, PROGRAMS[0])?;
-    // Another shape; a faulty dictionary before a faulty image; an image that ends too early.
-    assert_eq!(rt; told(alloc, SHORTER, &image)?.as_str(), "refused 68\n");
-    assert_eq!(rt; told(alloc, EMPTY, &image)?.as_str(), "refused 68\n");
-    assert_eq!(rt;
-        told(alloc, TWO_LEVELS, b"CSEB")?.as_str(),
-        "refused 13 line 5\n"
-    );
-    assert_eq!(rt; told(alloc, b"\xff", &image)?.as_str(), "refused 10\n");
-    assert_eq!(rt;
-        told(alloc, SAMPLE, b"CSEB\x01")?.as_str(),
-        "refused 61 byte 5\n"
-    );
+    for (dict, image, want) in CUT {
+        let text = told(rt.alloc(), dict, image)?;
+        assert_eq!(rt; text.as_str(), *want);
+    }
     assert_eq!(rt; Fault::of_verify(&VerifyFault::Write), Fault::of_number(71));
     Ok(())
 }

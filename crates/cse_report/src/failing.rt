@@ -135,24 +135,32 @@ impl io::Write for Seen {
 }
 
 impl Seen {
+    fn new() -> Seen {
+        Seen {
+            bytes: [0; 800],
+            len: 0,
+        }
+    }
+
     fn is(&self, other: &Seen) -> bool {
         self.len == other.len && self.bytes == other.bytes
     }
 }
 
+/// Writes the texts of the messages held.
+fn write_texts(listing: &Listing, out: &mut Writes<Seen>) {
+    for i in 0..9 {
+        let text = listing.text(i).unwrap_or("");
+        let _ = write_all(out, text.as_bytes());
+    }
+}
+
 /// What the listing with its texts, the summary and the frequencies are.
 fn look_at(reports: &Reports, dictionary: &Dictionary) -> Seen {
-    let mut out = Writes::new(Seen {
-        bytes: [0; 800],
-        len: 0,
-    });
+    let mut out = Writes::new(Seen::new());
     let _ = reports.listing.write_to(1, 2, 3, &mut out);
     let _ = reports.frequencies.write_to(dictionary, &mut out);
-    for i in 0..9 {
-        if let Some(text) = reports.listing.text(i) {
-            let _ = write_all(&mut out, text.as_bytes());
-        }
-    }
+    write_texts(&reports.listing, &mut out);
     out.into_inner()
 }
 

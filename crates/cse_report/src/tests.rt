@@ -17,15 +17,27 @@ pub const SEX: usize = 1;
 
 pub const AGE: usize = 3;
 
+/// A message of a number, whether it is only counted, and its text.
+fn message_of(
+    alloc: Global,
+    number: u32,
+    summary: bool,
+    text: &str,
+) -> Result<Message, AllocError> {
+    let text = String::from_str(alloc, text)?;
+    Ok(Message {
+        number,
+        summary,
+        text,
+    })
+}
+
 /// Messages of these numbers, which of them are only counted, and texts.
 fn messages_of(alloc: Global, messages: &[(u32, bool, &str)]) -> Result<Vec<Message>, AllocError> {
     let mut made = Vec::new(alloc);
     for (number, summary, text) in messages {
-        made.push(Message {
-            number: *number,
-            summary: *summary,
-            text: String::from_str(alloc, text)?,
-        })?;
+        let message = message_of(alloc, *number, *summary, text)?;
+        made.push(message)?;
     }
     Ok(made)
 }
@@ -56,7 +68,16 @@ pub fn program_of(
 /// The reports of a program with these messages.
 pub fn reports_of(alloc: Global, messages: &[(u32, bool, &str)]) -> Result<Reports, Fail> {
     let dictionary = Dictionary::read(alloc, SAMPLE.as_bytes())?;
-    let program = program_of(alloc, dictionary.shape(), messages)?.ok_or("no program")?;
+    reports_for(alloc, dictionary.shape(), messages)
+}
+
+/// The reports of a program of this shape.
+fn reports_for(
+    alloc: Global,
+    shape: &Shape,
+    messages: &[(u32, bool, &str)],
+) -> Result<Reports, Fail> {
+    let program = program_of(alloc, shape, messages)?.ok_or("no program")?;
     Ok(Reports::new(alloc, &program)?)
 }
 
@@ -122,10 +143,33 @@ pub fn listing_text(
     Ok(out.into_inner())
 }
 
+/// The frequencies of the sample's items.
+fn frequencies_text(
+    alloc: Global,
+    dictionary: &Dictionary,
+    frequencies: &Frequencies,
+) -> Result<Vec<u8>, Fail> {
+    let mut out = Writes::new(Vec::new(alloc));
+    frequencies.write_to(dictionary, &mut out)?;
+    Ok(out.into_inner())
+}
+
+/// What the frequencies of the sample's items are.
+fn assert_frequencies(
+    rt: &impl Abort,
+    alloc: Global,
+    frequencies: &Frequencies,
+    wanted: &str,
+) -> Result<(), Fail> {
+    let dictionary = Dictionary::read(alloc, SAMPLE.as_bytes())?;
+    let text = frequencies_text(alloc, &dictionary, frequencies)?;
+    assert_eq!(rt; text.as_slice(), wanted.as_bytes());
+    Ok(())
+}
+
 #[test]
 fn lists_nothing(rt: HostRuntime) -> Result<(), Fail> {
     let alloc = rt.alloc();
-    let dictionary = Dictionary::read(alloc, SAMPLE.as_bytes())?;
     let mut reports = reports_of(alloc, &[])?;
     reports.begin_run();
     let text = listing_text(alloc, &reports, 0, 0, 0)?;
@@ -133,13 +177,12 @@ fn lists_nothing(rt: HostRuntime) -> Result<(), Fail> {
         text.as_slice(),
         "CSEB LISTING 1\nSUMMARY\ncases 0\nlines 0\nunseen 0\nEND\n".as_bytes()
     );
-    let mut out = Writes::new(Vec::new(alloc));
-    reports.frequencies.write_to(&dictionary, &mut out)?;
-    assert_eq!(rt;
-        out.into_inner().as_slice(),
-        "CSEB FREQUENCIES 1\nEND\n".as_bytes()
-    );
-    Ok(())
+    assert_frequencies(
+        &rt,
+        alloc,
+        &reports.frequencies,
+        "CSEB FREQUENCIES 1\nEND\n",
+    )
 }
 
 #[test]
@@ -333,19 +376,9 @@ fn ids_stand_as_they_are(rt: HostRuntime) -> Result<(), Fail> {
     Ok(())
 }
 
-#[test]
-fn counts_imputed_values(rt: HostRuntime) -> Result<(), Fail> {
-    let alloc = rt.alloc();
-    let dictionary = Dictionary::read(alloc, SAMPLE.as_bytes())?;
-    let mut reports = reports_of(alloc, &[])?;
-    impute(&rt, &mut reports, AGE, Num::Whole(35))?;
-    let mut out = Writes::new(Vec::new(alloc));
-    reports.frequencies.write_to(&dictionary, &mut out)?;
-    assert_eq!(rt;
-        out.into_inner().as_slice(),
-        "CSEB FREQUENCIES 1\nITEM AGE 1\n35 1\nEND\n".as_bytes()
-    );
-    for value in [
+/// Imputes seven values of the age, and two of the sex.
+fn impute_values(rt: &impl Abort, reports: &mut Reports) -> Result<(), OutOfMemory> {
+    for value in &[
         Num::NotAppl,
         Num::Missing,
         Num::Whole(35),
@@ -354,15 +387,28 @@ fn counts_imputed_values(rt: HostRuntime) -> Result<(), Fail> {
         Num::NotAppl,
         Num::Whole(35),
     ] {
-        impute(&rt, &mut reports, AGE, value)?;
+        impute(rt, reports, AGE, *value)?;
     }
-    impute(&rt, &mut reports, SEX, Num::Whole(2))?;
-    impute(&rt, &mut reports, SEX, Num::Whole(1))?;
-    let mut out = Writes::new(Vec::new(alloc));
-    reports.frequencies.write_to(&dictionary, &mut out)?;
-    assert_eq!(rt;
-        out.into_inner().as_slice(),
-        "CSEB FREQUENCIES 1\nITEM SEX 2\n2 1\n1 1\nITEM AGE 8\n35 3\nNOTAPPL 2\nMISSING 1\nDEFAULT 1\n-1 1\nEND\n".as_bytes()
-    );
-    Ok(())
+    impute(rt, reports, SEX, Num::Whole(2))?;
+    impute(rt, reports, SEX, Num::Whole(1))
+}
+
+#[test]
+fn counts_imputed_values(rt: HostRuntime) -> Result<(), Fail> {
+    let alloc = rt.alloc();
+    let mut reports = reports_of(alloc, &[])?;
+    impute(&rt, &mut reports, AGE, Num::Whole(35))?;
+    assert_frequencies(
+        &rt,
+        alloc,
+        &reports.frequencies,
+        "CSEB FREQUENCIES 1\nITEM AGE 1\n35 1\nEND\n",
+    )?;
+    impute_values(&rt, &mut reports)?;
+    assert_frequencies(
+        &rt,
+        alloc,
+        &reports.frequencies,
+        "CSEB FREQUENCIES 1\nITEM SEX 2\n2 1\n1 1\nITEM AGE 8\n35 3\nNOTAPPL 2\nMISSING 1\nDEFAULT 1\n-1 1\nEND\n",
+    )
 }
