@@ -15,9 +15,22 @@ const FRONT: &str =
 const BACK: &str =
     "\n[Item]\nName=SEX\nStart=5\nLen=1\n[Item]\nName=REL\nStart=6\nLen=1\n[Item]\nName=AGE\nStart=7\nLen=3\n[Item]\nName=WEIGHT\nStart=10\nLen=3\nDecimal=1\n";
 
-/// Rows `most persons|cases lines unseen|data`, or `most persons|fault line|data`.
-const ROWS: &str =
-    "30|2 3 0|P00111 35\r\nP00122\nP002#2|1 4 2|P00111 35\nP00121 30\nX001\nP00131  5\n#30|3 3 0|P00111\nP00211\nP00111\n#30|0 0 0|#30|0 1 1|\u{feff}#30|1 1 0|\u{feff}P00111\n#30|1 2 0|P00111\r35\nP00112 30\n#30|1 1 0|P0011\u{e9} 3\u{20ac}\n#30|0 2 2|\n\r\n#30|1 1 0|P00111 35   \r\n#30|1 2 1|P00111 35\nX001#30|1 1 0|P00111 35            \u{1f600} \n";
+/// Files that are copied whole: the most persons of a household, the cases, lines and unseen lines that are
+/// counted, and the bytes.
+const ROWS: [(&str, [u64; 3], &str); 12] = [
+    ("30", [2, 3, 0], "P00111 35\r\nP00122\nP002"),
+    ("2", [1, 4, 2], "P00111 35\nP00121 30\nX001\nP00131  5\n"),
+    ("30", [3, 3, 0], "P00111\nP00211\nP00111\n"),
+    ("30", [0, 0, 0], ""),
+    ("30", [0, 1, 1], "\u{feff}"),
+    ("30", [1, 1, 0], "\u{feff}P00111\n"),
+    ("30", [1, 2, 0], "P00111\r35\nP00112 30\n"),
+    ("30", [1, 1, 0], "P0011\u{e9} 3\u{20ac}\n"),
+    ("30", [0, 2, 2], "\n\r\n"),
+    ("30", [1, 1, 0], "P00111 35   \r\n"),
+    ("30", [1, 2, 1], "P00111 35\nX001"),
+    ("30", [1, 1, 0], "P00111 35            \u{1f600} \n"),
+];
 
 /// Gives bytes in small pieces, and fails before byte `breaks`.
 #[derive(Drop)]
@@ -87,6 +100,17 @@ fn dictionary(alloc: Global, most: &str) -> Result<Dictionary, Fail> {
     }
 }
 
+/// The bytes that were taken.
+fn bytes_of(store: Store) -> Vec<u8> {
+    let Store {
+        bytes,
+        size: _,
+        room: _,
+        failed: _,
+    } = store;
+    bytes
+}
+
 /// What a pass over pieces of these sizes answers, and what it has written.
 fn passed(
     alloc: Global,
@@ -95,7 +119,7 @@ fn passed(
     sizes: (usize, usize),
     breaks: usize,
     room: usize,
-) -> Result<(String, Vec<u8>), Fail> {
+) -> (Result<Totals, RunFault>, Vec<u8>) {
     let mut input = Pieces {
         bytes: data,
         size: sizes.0,
@@ -108,36 +132,31 @@ fn passed(
         room,
         failed: false,
     };
-    let told = match pass(alloc, d, &mut input, &mut output) {
-        Ok(
-            Totals {
-                cases,
-                lines,
-                unseen,
-            },
-        ) => format!(in alloc; "{cases} {lines} {unseen}")?,
-        Err(RunFault { number, line }) => format!(in alloc; "{number} {line}")?,
-    };
-    let Store {
-        bytes,
-        size: _,
-        room: _,
-        failed: _,
-    } = output;
-    Ok((told, bytes))
+    let answer = pass(alloc, d, &mut input, &mut output);
+    (answer, bytes_of(output))
+}
+
+/// A fault of this number at a line.
+fn fault(number: u8, line: u64) -> Result<Totals, RunFault> {
+    Err(RunFault { number, line })
 }
 
 /// A row at reads and writes of one size.
-fn try_row(rt: &impl Abort, alloc: Global, row: &str, size: usize) -> Result<(), Fail> {
-    let Some((most, rest)) = row.split_once('|') else {
-        return Err("a row".into());
-    };
-    let Some((told, data)) = rest.split_once('|') else {
-        return Err("a row".into());
-    };
+fn try_row(
+    rt: &impl Abort,
+    alloc: Global,
+    row: &(&str, [u64; 3], &str),
+    size: usize,
+) -> Result<(), Fail> {
+    let (most, [cases, lines, unseen], data) = *row;
     let d = dictionary(alloc, most)?;
-    let (answer, bytes) = passed(alloc, &d, data.as_bytes(), (size, size), 9999, 9999)?;
-    assert_eq!(rt; answer.as_str(), told);
+    let (answer, bytes) = passed(alloc, &d, data.as_bytes(), (size, size), 9999, 9999);
+    let totals = Totals {
+        cases,
+        lines,
+        unseen,
+    };
+    assert_eq!(rt; answer, Ok(totals));
     assert_eq!(rt; bytes.as_slice(), data.as_bytes());
     Ok(())
 }
@@ -145,7 +164,7 @@ fn try_row(rt: &impl Abort, alloc: Global, row: &str, size: usize) -> Result<(),
 #[test]
 fn rows_are_copied_however_they_are_cut(rt: HostRuntime) -> Result<(), Fail> {
     for size in [1, 2, 3, 7, 100_000] {
-        for row in ROWS.split('#') {
+        for row in &ROWS {
             try_row(&rt, rt.alloc(), row, size)?;
         }
     }
@@ -156,15 +175,9 @@ fn rows_are_copied_however_they_are_cut(rt: HostRuntime) -> Result<(), Fail> {
 fn bytes_that_are_no_text_are_refused(rt: HostRuntime) -> Result<(), Fail> {
     let d = dictionary(rt.alloc(), "30")?;
     for size in [1, 2, 3, 7, 100_000] {
-        let (answer, bytes) = passed(
-            rt.alloc(),
-            &d,
-            b"P00111 35\n\xff\n",
-            (size, size),
-            9999,
-            9999,
-        )?;
-        assert_eq!(rt; answer.as_str(), "20 2");
+        let data = b"P00111 35\n\xff\n";
+        let (answer, bytes) = passed(rt.alloc(), &d, data, (size, size), 9999, 9999);
+        assert_eq!(rt; answer, fault(20, 2));
         assert!(rt; bytes.is_empty());
     }
     Ok(())
@@ -179,19 +192,45 @@ fn household(alloc: Global, lines: u32) -> Result<Vec<u8>, Fail> {
     Ok(data)
 }
 
+/// What a pass over so many lines of one household answers, and how many bytes were written of them.
+fn pass_household(
+    rt: &impl Abort,
+    alloc: Global,
+    d: &Dictionary,
+    lines: u32,
+) -> Result<(Result<Totals, RunFault>, usize), Fail> {
+    let data = household(alloc, lines)?;
+    let (answer, bytes) = passed(alloc, d, &data, (1000, 1000), 999_999, 999_999);
+    assert!(rt; data.starts_with(&bytes));
+    Ok((answer, bytes.len()))
+}
+
 #[test]
 fn a_run_has_ten_thousand_lines_at_most(rt: HostRuntime) -> Result<(), Fail> {
-    let d = dictionary(rt.alloc(), "30")?;
-    let data = household(rt.alloc(), 10_000)?;
-    let (answer, bytes) = passed(rt.alloc(), &d, &data, (1000, 1000), 999_999, 999_999)?;
-    assert_eq!(rt; answer.as_str(), "1 10000 9970");
-    assert_eq!(rt; bytes.as_slice(), data.as_slice());
-    let data = household(rt.alloc(), 10_001)?;
-    let (answer, bytes) = passed(rt.alloc(), &d, &data, (1000, 1000), 999_999, 999_999)?;
-    assert_eq!(rt; answer.as_str(), "22 10001");
-    assert!(rt; bytes.is_empty());
+    let alloc = rt.alloc();
+    let d = dictionary(alloc, "30")?;
+    let totals = Totals {
+        cases: 1,
+        lines: 10_000,
+        unseen: 9970,
+    };
+    assert_eq!(rt;
+        pass_household(&rt, alloc, &d, 10_000)?,
+        (Ok(totals), 100_000)
+    );
+    assert_eq!(rt;
+        pass_household(&rt, alloc, &d, 10_001)?,
+        (fault(22, 10_001), 0)
+    );
     Ok(())
 }
+
+/// What is counted of `DATA`.
+const TOTALS: Totals = Totals {
+    cases: 3,
+    lines: 5,
+    unseen: 1,
+};
 
 const DATA: &[u8] = b"P00111 35\r\nP00122\nX002\nP00331  5\nP004";
 
@@ -199,16 +238,16 @@ const DATA: &[u8] = b"P00111 35\r\nP00122\nX002\nP00331  5\nP004";
 fn a_device_fails_at_each_byte(rt: HostRuntime) -> Result<(), Fail> {
     let d = dictionary(rt.alloc(), "30")?;
     for k in 0..DATA.len() {
-        let (answer, bytes) = passed(rt.alloc(), &d, DATA, (1, 1), k, 9999)?;
-        assert_eq!(rt; answer.as_str(), "70 0");
+        let (answer, bytes) = passed(rt.alloc(), &d, DATA, (1, 1), k, 9999);
+        assert_eq!(rt; answer, fault(70, 0));
         assert!(rt; DATA.starts_with(&bytes));
-        let (answer, bytes) = passed(rt.alloc(), &d, DATA, (3, 1), 9999, k)?;
-        assert_eq!(rt; answer.as_str(), "71 0");
+        let (answer, bytes) = passed(rt.alloc(), &d, DATA, (3, 1), 9999, k);
+        assert_eq!(rt; answer, fault(71, 0));
         assert_eq!(rt; bytes.len(), k);
         assert!(rt; DATA.starts_with(&bytes));
     }
-    let (answer, bytes) = passed(rt.alloc(), &d, DATA, (3, 1), 9999, DATA.len())?;
-    assert_eq!(rt; answer.as_str(), "3 5 1");
+    let (answer, bytes) = passed(rt.alloc(), &d, DATA, (3, 1), 9999, DATA.len());
+    assert_eq!(rt; answer, Ok(TOTALS));
     assert_eq!(rt; bytes.as_slice(), DATA);
     Ok(())
 }
@@ -218,13 +257,8 @@ fn memory_is_read_and_written(rt: HostRuntime) -> Result<(), Fail> {
     let d = dictionary(rt.alloc(), "30")?;
     let mut input = Reads::new(DATA);
     let mut output = Writes::new(Vec::new(rt.alloc()));
-    let totals = Totals {
-        cases: 3,
-        lines: 5,
-        unseen: 1,
-    };
     let answer = pass(rt.alloc(), &d, &mut input, &mut output);
-    assert_eq!(rt; answer, Ok(totals));
+    assert_eq!(rt; answer, Ok(TOTALS));
     assert_eq!(rt; output.into_inner().as_slice(), DATA);
     Ok(())
 }
