@@ -1,7 +1,7 @@
 //! A case: the lines of one run, read by a dictionary.
 
 ghost use Rattle.std.specs.Prelude.{◌≡◌, ◌<◌, ◌≤◌, ◌+◌, ◌^◌, List, length, map, take, IfOk};
-ghost use Rattle.std.specs.Bool.{OnTrue};
+ghost use Rattle.std.specs.Bool.{OnTrue, OnFalse};
 ghost use Rattle.cse_value.specs.declared.shape.ItemKind.TheVariants.{Number as ANumber, Text as AText};
 ghost use Rattle.cse_value.specs.Writing.{WritesAll, FailsAtErr};
 ghost use Rattle.cse_output.specs.Gathering.{going, Puts};
@@ -129,6 +129,7 @@ impl<'a> Case<'a> {
     pub fn has_occurrence(&self, number: u16, occurrence: u16) -> bool
         ensures there { OnTrue result (number < length (records_of self.now)) }
         ensures occurrence { OnTrue result (IsOccurrence self.now number occurrence) }
+        ensures none { OnFalse result (number < length (records_of self.now) → IsOccurrence self.now number occurrence → ⊥) }
     {
         let records = &self.dictionary.shape().records;
         (number as usize) < records.len()
@@ -138,7 +139,8 @@ impl<'a> Case<'a> {
 
     /// Whether an item belongs to this record (to none: 255) and has this kind.
     pub fn has_item(&self, owner: u16, kind: ItemKind, item: u16) -> bool
-        ensures { OnTrue result (IsItem (items_of self.now) owner kind item) }
+        ensures item { OnTrue result (IsItem (items_of self.now) owner kind item) }
+        ensures none { OnFalse result (IsItem (items_of self.now) owner kind item → ⊥) }
     {
         let items = &self.dictionary.shape().items;
         if item as usize >= items.len() {
