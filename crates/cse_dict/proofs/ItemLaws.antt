@@ -65,14 +65,14 @@ module _ (covered : List Columns) (in_record : Bool) (f : Field) where
   unfolding item_kind
   shares_none is named =
       apart_by (is_opaque covered in_record f) (list_any (share_column f.columns) covered) f.data_type
-        (λ o. ap (λ b. b && list_any (share_column f.columns) covered) (sym is) ∙ (parts o).1) named
+      (λ o. ap (λ b. b && list_any (share_column f.columns) covered) (sym is) ∙ (parts o).1) named
 
 -- columns that share none are apart
 pub apart_from_share : (a b : Columns) → share_column a b ≡ false → AreApart a b
 unfolding share_column
 apart_from_share a b h =
     ⊎_elim (λ no. inr (ltb-false a.start (b.start + b.len) no)) (λ no. inl (ltb-false b.start (a.start + a.len) no))
-      (and_cases (nat_lt a.start (b.start + b.len)) (nat_lt b.start (a.start + a.len)) h)
+    (and_cases (nat_lt a.start (b.start + b.len)) (nat_lt b.start (a.start + a.len)) h)
 
 pub apart_from_none : (a : Columns) → AreApart a no_columns
 apart_from_none a = inr (omega arith)

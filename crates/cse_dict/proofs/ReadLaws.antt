@@ -104,8 +104,8 @@ field_there s h =
     let decimal = optional_there 0 255 s (codes "Decimal") 0 (omega arith) (omega arith) forms.1 in
     let f : Field = record { columns = record { start = start.n; len = len.n }; occurrences = occurrences.n; decimal = decimal.n; data_type = data_type_of s } in
     field_from_parts s f
-      (λ i. field_from (columns_from (start.is i) (len.is i)) (occurrences.is i) (decimal.is i) (data_type_of s))
-      (λ i. columns_from (start.is i) (len.is i)) start.least len.least
+    (λ i. field_from (columns_from (start.is i) (len.is i)) (occurrences.is i) (decimal.is i) (data_type_of s))
+    (λ i. columns_from (start.is i) (len.is i)) start.least len.least
 
 -- the columns of the record type have the length that its key tells
 pub record HasTypeLen (first : SectionText) : Type 0 where

@@ -73,7 +73,7 @@ module _ (covered : List Columns) (owner : Owner) (s : SectionText) (p : ItemPar
   unfolding code_faults has_bad_code
   fitting e is =
       let here : code_faults_for covered owner (Some e) (Some (field_or_none s)) ≡ [] =
-          sym (λ i. code_faults_for covered owner (is i) (p.field.field_is i)) ∙ p.codes_fit in
+      sym (λ i. code_faults_for covered owner (is i) (p.field.field_is i)) ∙ p.codes_fit in
       no_fault _ _ _ here
 
 module _ (covered : List Columns) (whole before more : List RecordText) (few : length whole ≤ 200) (is : whole ≡ before ++ more) where
@@ -84,7 +84,7 @@ module _ (covered : List Columns) (whole before more : List RecordText) (few : l
       let g = field_or_none s in
       let near : is_too_far c.owner (Some g.columns) ≡ false = subst (λ o. is_too_far c.owner o ≡ false) p.field.columns_are p.near in
       let own : IsSoundOwner c.owner c.records whole g.columns =
-          owner_sound before more whole g.columns p.field.start few is c.owner c.records count last p.home near in record {
+      owner_sound before more whole g.columns p.field.start few is c.owner c.records count last p.home near in record {
         owner = own.there;
         start = p.field.start;
         len = p.field.len;
@@ -123,7 +123,7 @@ module _ (covered : List Columns) (len : Option ℕ) (seen : Seen) (s : SectionT
   knows_step before Record e h k =
       let below = record_below covered len seen s h in
       let owner : owner_by_kind (kind_of s.heading) seen.context.owner s ≡ OfRecord (number_in 1 65535 (entry_of (codes "RecordLen") s)) =
-          ap (λ y. owner_by_kind y seen.context.owner s) e in record {
+      ap (λ y. owner_by_kind y seen.context.owner s) e in record {
         count = omega (arith, below, k.count, length-append before (record_at len s ∷ []));
         last = subst (λ o. LastOf o (before ++ record_at len s ∷ [])) (sym owner) (before, record_at len s, refl, room_is (record_read h));
       }
@@ -149,7 +149,7 @@ module _ (covered : List Columns) (len : Option ℕ) (seen : Seen) (s : SectionT
   unfolding id_columns_at
   id_there rest e f ids =
       let here : id_columns_by_kind (kind_of s.heading) seen.context.owner s ≡ (field_or_none s).columns ∷ [] =
-          ap (λ k. id_columns_by_kind k seen.context.owner s) e ∙ (λ i. if ids i then option_to_list (f.columns_are i) else []) in
+      ap (λ k. id_columns_by_kind k seen.context.owner s) e ∙ (λ i. if ids i then option_to_list (f.columns_are i) else []) in
       Contains-append_left _ _ _ (subst (λ cs. Contains cs (field_or_none s).columns) (sym here) (0, omega arith, refl))
 
   module _ (whole before more : List RecordText) (few : length whole ≤ 200) (is : whole ≡ before ++ more) (rest : List SectionText)
@@ -159,7 +159,7 @@ module _ (covered : List Columns) (len : Option ℕ) (seen : Seen) (s : SectionT
     items_step Item e h k =
         let p = item_parts covered seen s h in
         All-cons (IsSoundIn whole covered) _ [] (item_sound covered whole before more few is seen.context s p k.count k.last (λ yes. ids _ (id_there rest e p.field yes)))
-          (All-nil (IsSoundIn whole covered))
+        (All-nil (IsSoundIn whole covered))
     items_step Record e h k = All-nil (IsSoundIn whole covered)
     items_step IdItems e h k = All-nil (IsSoundIn whole covered)
     items_step Dictionary e h k = All-nil (IsSoundIn whole covered)
@@ -199,10 +199,10 @@ module _ (covered : List Columns) (len : Option ℕ) (whole : List RecordText) (
       let here = items_here covered len seen s whole before (records_of len (s ∷ ss)) few is ss ids parts.0 k in
       let parted : whole ≡ (before ++ record_in len s) ++ records_of len ss = is ∙ sym (append_assoc before (record_in len s) (records_of len ss)) in
       let behind = items_sound ss (seen_after len seen s) (before ++ record_in len s) parts.1 parted (knows_after covered len seen s before parts.0 k)
-          (λ c at. ids c (Contains-append_right (id_columns_at seen.context.owner s) _ c
-            (subst (λ o. Contains (id_columns_from o ss) c) (owner_along covered len seen s) at))) in
+      (λ c at. ids c (Contains-append_right (id_columns_at seen.context.owner s) _ c
+      (subst (λ o. Contains (id_columns_from o ss) c) (owner_along covered len seen s) at))) in
       All-append (IsSoundIn whole covered) (item_in covered seen.context s) (items_from covered (context_after seen.context s) ss) here
-        (subst (λ c. All (IsSoundIn whole covered) (items_from covered c ss)) (context_along covered len seen s) behind)
+      (subst (λ c. All (IsSoundIn whole covered) (items_from covered c ss)) (context_along covered len seen s) behind)
 
 -- records
 module _ (covered : List Columns) (n : ℕ) (seen : Seen) (s : SectionText) where
@@ -294,10 +294,10 @@ module _ (covered : List Columns) (len : Option ℕ) (total : ℕ) where
       let here = sets_here covered len seen s total (omega (arith, le)) parts.0 in
       let more = counted covered len seen s in
       let rest : (seen_after len seen s).context.items + length (items_from covered (seen_after len seen s).context ss) ≤ total =
-          rw (context_along covered len seen s) (let m = rw (context_along covered len seen s) at more in omega (arith, le, long, m)) in
+      rw (context_along covered len seen s) (let m = rw (context_along covered len seen s) at more in omega (arith, le, long, m)) in
       let behind = sets_sound ss (seen_after len seen s) parts.1 rest in
       All-append (λ (t : SetText). t.shape.item < total) (set_in seen.context s) (sets_from (context_after seen.context s) ss) here
-        (subst (λ c. All (λ (t : SetText). t.shape.item < total) (sets_from c ss)) (context_along covered len seen s) behind)
+      (subst (λ c. All (λ (t : SetText). t.shape.item < total) (sets_from c ss)) (context_along covered len seen s) behind)
 
 -- the columns of the record type are among those that are covered
 type_apart : (a : Columns) (o : Option Columns) → list_any (share_column a) (option_to_list o) ≡ false → AreApart a (unwrap_or o no_columns)
@@ -347,11 +347,11 @@ module _ (first : SectionText) (rest : List SectionText) where
       let type_len : HasTypeLen first = type_len_there first (behind_none first rest h) in
       let d = dictionary_of (first ∷ rest) in
       let items : All (IsSoundIn d.records covered) d.items =
-          items_sound covered (type_len_of first) d.records small.records read (seen_first first) [] none refl (record { count = refl; last = tt })
-            (λ c at. Contains-append_right (option_to_list (type_columns_of first)) _ c at) in
+      items_sound covered (type_len_of first) d.records small.records read (seen_first first) [] none refl (record { count = refl; last = tt })
+      (λ c at. Contains-append_right (option_to_list (type_columns_of first)) _ c at) in
       let records : All (IsSoundAt type_len.n) d.records =
-          subst (λ o. All (IsSoundAt type_len.n) (records_of o read)) (sym type_len.is)
-            (records_sound covered type_len.n read (seen_first first) (subst (λ o. faults_from covered o (seen_first first) read ≡ []) type_len.is none)) in record {
+      subst (λ o. All (IsSoundAt type_len.n) (records_of o read)) (sym type_len.is)
+      (records_sound covered type_len.n read (seen_first first) (subst (λ o. faults_from covered o (seen_first first) read ≡ []) type_len.is none)) in record {
         items = All-weaker (IsSoundIn d.records covered) (IsSoundItem d) (item_whole d first read refl items) d.items items;
         records = All-weaker (IsSoundAt type_len.n) (IsSoundRecord d)
             (λ r p. record { most = p.most; few = p.few; len = p.len; type_len = p.type_is ∙ sym type_len.columns_len }) d.records records;
