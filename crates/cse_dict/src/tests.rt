@@ -1,4 +1,5 @@
 //! Worked rows of dictionaries. A row of a table is what is told and, behind `|`, what is asked; rows are parted by `#`.
+//! A table stands in a function of its own: a text that stands in a function is carried through its whole proof.
 
 use crate::{DictError, Dictionary};
 use cse_value::number::Num;
@@ -6,54 +7,85 @@ use std::alloc::Global;
 use std::test::Fail;
 
 /// A dictionary, as an office writes it by hand.
-const SAMPLE: &str =
-    "[Dictionary]\nVersion=CSPro 7.7\nLabel=Sample\nName=SAMPLE_DICT\nRecordTypeStart=1\nRecordTypeLen=1\nPositions=Absolute\nZeroFill=No\n\n[Level]\nLabel=Questionnaire\nName=QUEST\n\n[IdItems]\n\n[Item]\nLabel=Household\nName=HH\nStart=2\nLen=3\nZeroFill=Yes\n\n[Record]\nLabel=Person\nName=PERSON\nRecordTypeValue='P'\nRecordLen=12\nMaxRecords=30\n\n[Item]\nLabel=Sex\nName=SEX\nStart=5\nLen=1\n\n[ValueSet]\nLabel=Sex\nName=SEX_VS\nValue=1;Male\nValue=2;Female\n\n[Item]\nLabel=Relation\nName=REL\nStart=6\nLen=1\n\n[ValueSet]\nLabel=Relation\nName=REL_VS\nValue=1;Head\nValue=2;Spouse\nValue=3:8;Other\n\n[Item]\nLabel=Age\nName=AGE\nStart=7\nLen=3\n\n[Item]\nLabel=Weight\nName=WEIGHT\nStart=10\nLen=3\nDecimal=1\n";
+fn sample() -> &'static str {
+    "[Dictionary]\nVersion=CSPro 7.7\nLabel=Sample\nName=SAMPLE_DICT\nRecordTypeStart=1\nRecordTypeLen=1\nPositions=Absolute\nZeroFill=No\n\n[Level]\nLabel=Questionnaire\nName=QUEST\n\n[IdItems]\n\n[Item]\nLabel=Household\nName=HH\nStart=2\nLen=3\nZeroFill=Yes\n\n[Record]\nLabel=Person\nName=PERSON\nRecordTypeValue='P'\nRecordLen=12\nMaxRecords=30\n\n[Item]\nLabel=Sex\nName=SEX\nStart=5\nLen=1\n\n[ValueSet]\nLabel=Sex\nName=SEX_VS\nValue=1;Male\nValue=2;Female\n\n[Item]\nLabel=Relation\nName=REL\nStart=6\nLen=1\n\n[ValueSet]\nLabel=Relation\nName=REL_VS\nValue=1;Head\nValue=2;Spouse\nValue=3:8;Other\n\n[Item]\nLabel=Age\nName=AGE\nStart=7\nLen=3\n\n[Item]\nLabel=Weight\nName=WEIGHT\nStart=10\nLen=3\nDecimal=1\n"
+}
 
 /// The same, as CSPro writes it: a byte order mark, CRLF, a relation, and keys that are skipped.
-const WRITTEN: &str =
-    "\u{feff}[Dictionary]\r\nVersion=CSPro 7.7\r\nName=Sample_Dict\r\nRecordTypeStart=1\r\nRecordTypeLen=1\r\nNote=a=b [x]\r\n\r\n[Level]\r\nName=QUEST\r\n[IdItems]\r\n[Item]\r\nName=HH\r\nStart=2\r\nLen=3\r\nZeroFill=YES\r\n[Record]\r\nName=PERSON\r\nRecordTypeValue='P'\r\nRecordLen=12\r\nMaxRecords=30\r\n[Item]\r\nName=SEX\r\nStart=5\r\nLen=1\r\nStart=99999\r\n[ValueSet]\r\nName=SEX_VS\r\nLink=3\r\nValue=1;Male\r\nImage=a.png\r\nValue=2;Female\r\nSpecial=NOTAPPL\r\n[item]\r\nname = rel \r\nSTART= 6\r\nlen=1\r\n[VALUESET]\r\nName=REL_VS\r\nValue=1;Head\r\nValue=2;Spouse\r\nValue=3:8;Other\r\n[Item]\r\nName=AGE\r\nStart=7\r\nLen=3\r\nDataType=numeric\r\nZeroFill=Maybe\r\nEditMissing=999\r\n[Item]\r\nName=WEIGHT\r\nStart=10\r\nLen=3\r\nDecimal=1\r\nEditMissing=99999\r\n[Relation]\r\nName=1\r\nPrimary=PERSON\r\n[Dictionary]\r\nName=-";
+fn written() -> &'static str {
+    "\u{feff}[Dictionary]\r\nVersion=CSPro 7.7\r\nName=Sample_Dict\r\nRecordTypeStart=1\r\nRecordTypeLen=1\r\nNote=a=b [x]\r\n\r\n[Level]\r\nName=QUEST\r\n[IdItems]\r\n[Item]\r\nName=HH\r\nStart=2\r\nLen=3\r\nZeroFill=YES\r\n[Record]\r\nName=PERSON\r\nRecordTypeValue='P'\r\nRecordLen=12\r\nMaxRecords=30\r\n[Item]\r\nName=SEX\r\nStart=5\r\nLen=1\r\nStart=99999\r\n[ValueSet]\r\nName=SEX_VS\r\nLink=3\r\nValue=1;Male\r\nImage=a.png\r\nValue=2;Female\r\nSpecial=NOTAPPL\r\n[item]\r\nname = rel \r\nSTART= 6\r\nlen=1\r\n[VALUESET]\r\nName=REL_VS\r\nValue=1;Head\r\nValue=2;Spouse\r\nValue=3:8;Other\r\n[Item]\r\nName=AGE\r\nStart=7\r\nLen=3\r\nDataType=numeric\r\nZeroFill=Maybe\r\nEditMissing=999\r\n[Item]\r\nName=WEIGHT\r\nStart=10\r\nLen=3\r\nDecimal=1\r\nEditMissing=99999\r\n[Relation]\r\nName=1\r\nPrimary=PERSON\r\n[Dictionary]\r\nName=-"
+}
 
 /// The line and the number of the fault of a text, 0 and 0 where it has none.
-const FRONTS: &str =
-    "0 11|#0 11|Name=A\n#0 11|[Level]\n[Dictionary]\n#0 11|[ Dictionary ]\nName=D\n[Level]\nName=L#0 11|[Dictionary]\r#1 12|[Dictionary]\nName=D#1 12|[Dictionary]\nName=D\n[ Level ]\nName=A#1 12|[Dictionary]\n[Level]\nName=A\n[Level]#5 12|[Dictionary]\nName=D\n[Level]\nName=A\n[Item]#5 13|[Dictionary]\nName=D\n[Level]\nName=A\n[Level]\nName=B#5 13|[Dictionary]\nName=D\n[Level]\nName=A\n[Level]\nName=-\n[Item]#3 12|[Dictionary]\nName=D\n[Level]\nLabel=A#1 12|[Dictionary]\nName=D\nRecordTypeLen=1\n[Level]\nName=L#3 14|[Dictionary]\nName=D\nRecordTypeLen=x\n[Level]\nName=L\n[Record]\nName=R\nRecordLen=1#3 14|[Dictionary]\nName=D\nRecordTypeLen=17\n[Level]\nName=L#0 0|[Dictionary]\nName=D\nRecordTypeLen=16\nRecordTypeStart=65535\n[Level]\nName=L#4 14|[Dictionary]\nName=D\nRecordTypeLen=16\nRecordTypeStart=65536\n[Level]\nName=L#3 14|[Dictionary]\nName=D\nRecordTypeLen=17\nRecordTypeStart=0\n[Level]\nName=L#3 14|[Dictionary]\nName=D\nRecordTypeStart=0\nRecordTypeLen=x\n[Level]\nName=L#0 0|[Dictionary]\nName=D\nRecordTypeStart=0\n[Level]\nName=L#7 12|[Dictionary]\nName=D\nRecordTypeStart=1\nRecordTypeLen=1\n[Level]\nName=L\n[Record]\nName=R\nRecordLen=9#10 14|[Dictionary]\nName=D\nRecordTypeStart=1\nRecordTypeLen=1\n[Level]\nName=L\n[Record]\nName=R\nRecordLen=9\nRecordTypeValue='AB'#0 0|[Dictionary]\nName=D\nRecordTypeStart=1\nRecordTypeLen=2\n[Level]\nName=L\n[Record]\nName=R\nRecordLen=9\nRecordTypeValue='\u{e9}\u{e9}'#11 18|[Dictionary]\nName=D\nRecordTypeStart=1\nRecordTypeLen=2\n[Level]\nName=L\n[Record]\nName=R\nRecordLen=9\nRecordTypeValue='A'\n[Record]\nName=S\nRecordLen=9\nRecordTypeValue=A#0 0|[Dictionary]\nName=D\nRecordTypeStart=1\nRecordTypeLen=2\n[Level]\nName=L\n[Record]\nName=R\nRecordLen=9\nRecordTypeValue='A'\n[Record]\nName=S\nRecordLen=9\nRecordTypeValue=A'#10 14|[Dictionary]\nName=D\nRecordTypeStart=1\nRecordTypeLen=2\n[Level]\nName=L\n[Record]\nName=R\nRecordLen=9\nRecordTypeValue='A  '";
+fn fronts() -> &'static str {
+    "0 11|#0 11|Name=A\n#0 11|[Level]\n[Dictionary]\n#0 11|[ Dictionary ]\nName=D\n[Level]\nName=L#0 11|[Dictionary]\r#1 12|[Dictionary]\nName=D#1 12|[Dictionary]\nName=D\n[ Level ]\nName=A#1 12|[Dictionary]\n[Level]\nName=A\n[Level]#5 12|[Dictionary]\nName=D\n[Level]\nName=A\n[Item]#5 13|[Dictionary]\nName=D\n[Level]\nName=A\n[Level]\nName=B#5 13|[Dictionary]\nName=D\n[Level]\nName=A\n[Level]\nName=-\n[Item]#3 12|[Dictionary]\nName=D\n[Level]\nLabel=A#1 12|[Dictionary]\nName=D\nRecordTypeLen=1\n[Level]\nName=L#3 14|[Dictionary]\nName=D\nRecordTypeLen=x\n[Level]\nName=L\n[Record]\nName=R\nRecordLen=1#3 14|[Dictionary]\nName=D\nRecordTypeLen=17\n[Level]\nName=L#0 0|[Dictionary]\nName=D\nRecordTypeLen=16\nRecordTypeStart=65535\n[Level]\nName=L#4 14|[Dictionary]\nName=D\nRecordTypeLen=16\nRecordTypeStart=65536\n[Level]\nName=L#3 14|[Dictionary]\nName=D\nRecordTypeLen=17\nRecordTypeStart=0\n[Level]\nName=L#3 14|[Dictionary]\nName=D\nRecordTypeStart=0\nRecordTypeLen=x\n[Level]\nName=L#0 0|[Dictionary]\nName=D\nRecordTypeStart=0\n[Level]\nName=L#7 12|[Dictionary]\nName=D\nRecordTypeStart=1\nRecordTypeLen=1\n[Level]\nName=L\n[Record]\nName=R\nRecordLen=9#10 14|[Dictionary]\nName=D\nRecordTypeStart=1\nRecordTypeLen=1\n[Level]\nName=L\n[Record]\nName=R\nRecordLen=9\nRecordTypeValue='AB'#0 0|[Dictionary]\nName=D\nRecordTypeStart=1\nRecordTypeLen=2\n[Level]\nName=L\n[Record]\nName=R\nRecordLen=9\nRecordTypeValue='\u{e9}\u{e9}'#11 18|[Dictionary]\nName=D\nRecordTypeStart=1\nRecordTypeLen=2\n[Level]\nName=L\n[Record]\nName=R\nRecordLen=9\nRecordTypeValue='A'\n[Record]\nName=S\nRecordLen=9\nRecordTypeValue=A#0 0|[Dictionary]\nName=D\nRecordTypeStart=1\nRecordTypeLen=2\n[Level]\nName=L\n[Record]\nName=R\nRecordLen=9\nRecordTypeValue='A'\n[Record]\nName=S\nRecordLen=9\nRecordTypeValue=A'#10 14|[Dictionary]\nName=D\nRecordTypeStart=1\nRecordTypeLen=2\n[Level]\nName=L\n[Record]\nName=R\nRecordLen=9\nRecordTypeValue='A  '"
+}
 
 /// The same, of what stands behind a dictionary D and a level L.
-const RESTS: &str =
-    "5 12|[Record]\nName=R#5 12|[Record]\nRecordLen=1#7 14|[Record]\nName=R\nRecordLen=0#7 14|[Record]\nName=R\nRecordLen=#0 0|[Record]\nName=R\nRecordLen=65535#7 14|[Record]\nName=R\nRecordLen=65536#7 14|[Record]\nName=R\nRecordLen=+1#8 14|[Record]\nName=R\nRecordLen=1\nMaxRecords=0#0 0|[Record]\nName=R\nRecordLen=1\nMaxRecords=9999#8 14|[Record]\nName=R\nRecordLen=1\nMaxRecords=10000#8 14|[Record]\nName=R\nRecordLen=1\nRecordTypeValue='A'#9 18|[Record]\nName=R\nRecordLen=1\nRecordTypeValue=''\n[Record]\nName=S\nRecordLen=1#6 12|[IdItems]\n[Item]\nStart=1\nLen=1#6 12|[IdItems]\n[Item]\nName=I\nLen=1#6 12|[IdItems]\n[Item]\nName=I\nStart=1#5 12|[Item]\nName=I\nStart=1\nLen=1#8 14|[IdItems]\n[Item]\nName=I\nStart=0\nLen=1#9 14|[IdItems]\n[Item]\nName=I\nStart=1\nLen=65536#0 0|[IdItems]\n[Item]\nName=I\nStart=65535\nLen=65535#10 14|[IdItems]\n[Item]\nName=I\nStart=1\nLen=1\nOccurrences=0#0 0|[IdItems]\n[Item]\nName=I\nStart=1\nLen=1\nOccurrences=65535\nDecimal=255#10 14|[IdItems]\n[Item]\nName=I\nStart=1\nLen=1\nOccurrences=65536#10 14|[IdItems]\n[Item]\nName=I\nStart=1\nLen=1\nDecimal=256#0 0|[IdItems]\n[Item]\nName=I\nStart=1\nLen=3\nEditMissing=999#0 0|[IdItems]\n[Item]\nName=I\nStart=1\nLen=3\nEditMissing=0000999#10 14|[IdItems]\n[Item]\nName=I\nStart=1\nLen=3\nEditMissing=1000#0 0|[IdItems]\n[Item]\nName=I\nStart=1\nLen=3\nEditMissing=-99#10 14|[IdItems]\n[Item]\nName=I\nStart=1\nLen=3\nEditMissing=-100#10 14|[IdItems]\n[Item]\nName=I\nStart=1\nLen=3\nEditMissing=x#0 0|[IdItems]\n[Item]\nName=I\nStart=1\nLen=3\nEditMissing=x\nDataType=ALPHA#0 0|[IdItems]\n[Item]\nName=I\nStart=1\nLen=3\nEditMissing=x\nDecimal=1#0 0|[IdItems]\n[Item]\nName=I\nStart=1\nLen=16\nEditMissing=x#10 14|[IdItems]\n[Item]\nName=I\nStart=1\nEditMissing=x\nLen=0#0 0|[Record]\nName=R\nRecordLen=9\n[Item]\nName=I\nStart=1\nLen=9#8 15|[Record]\nName=R\nRecordLen=9\n[Item]\nName=I\nStart=2\nLen=9#10 14|[Record]\nName=R\nRecordLen=9\n[Item]\nName=I\nStart=x\nLen=99#7 14|[Record]\nName=R\nRecordLen=x\n[Item]\nName=I\nStart=1\nLen=99#0 0|[Record]\nName=R\nRecordLen=9\n[Item]\nName=I\nStart=1\nLen=1\nEditMissing=x\n[IdItems]\n[Item]\nName=J\nStart=1\nLen=1#5 16|[Record]\nName=d\nRecordLen=1#5 16|[Record]\nName=l\nRecordLen=1#10 16|[IdItems]\n[Item]\nName=I\nStart=1\nLen=1\n[ValueSet]\nName=i#10 12|[IdItems]\n[Item]\nName=I\nStart=1\nLen=1\n[ValueSet]\nLabel=x#5 12|[ValueSet]\nName=V#6 17|[Record]\nName=\nRecordLen=1#6 17|[Record]\nName=1R\nRecordLen=1#6 17|[Record]\nName=R-\nRecordLen=1#0 0|[Record]\nName=R_23456789_123456789_123456789_1\nRecordLen=1#6 17|[Record]\nName=R_23456789_123456789_123456789_12\nRecordLen=1#6 17|[Record]\nName=R\u{e9}\nRecordLen=1";
+fn rests() -> &'static str {
+    "5 12|[Record]\nName=R#5 12|[Record]\nRecordLen=1#7 14|[Record]\nName=R\nRecordLen=0#7 14|[Record]\nName=R\nRecordLen=#0 0|[Record]\nName=R\nRecordLen=65535#7 14|[Record]\nName=R\nRecordLen=65536#7 14|[Record]\nName=R\nRecordLen=+1#8 14|[Record]\nName=R\nRecordLen=1\nMaxRecords=0#0 0|[Record]\nName=R\nRecordLen=1\nMaxRecords=9999#8 14|[Record]\nName=R\nRecordLen=1\nMaxRecords=10000#8 14|[Record]\nName=R\nRecordLen=1\nRecordTypeValue='A'#9 18|[Record]\nName=R\nRecordLen=1\nRecordTypeValue=''\n[Record]\nName=S\nRecordLen=1#6 12|[IdItems]\n[Item]\nStart=1\nLen=1#6 12|[IdItems]\n[Item]\nName=I\nLen=1#6 12|[IdItems]\n[Item]\nName=I\nStart=1#5 12|[Item]\nName=I\nStart=1\nLen=1#8 14|[IdItems]\n[Item]\nName=I\nStart=0\nLen=1#9 14|[IdItems]\n[Item]\nName=I\nStart=1\nLen=65536#0 0|[IdItems]\n[Item]\nName=I\nStart=65535\nLen=65535#10 14|[IdItems]\n[Item]\nName=I\nStart=1\nLen=1\nOccurrences=0#0 0|[IdItems]\n[Item]\nName=I\nStart=1\nLen=1\nOccurrences=65535\nDecimal=255#10 14|[IdItems]\n[Item]\nName=I\nStart=1\nLen=1\nOccurrences=65536#10 14|[IdItems]\n[Item]\nName=I\nStart=1\nLen=1\nDecimal=256#0 0|[IdItems]\n[Item]\nName=I\nStart=1\nLen=3\nEditMissing=999#0 0|[IdItems]\n[Item]\nName=I\nStart=1\nLen=3\nEditMissing=0000999#10 14|[IdItems]\n[Item]\nName=I\nStart=1\nLen=3\nEditMissing=1000#0 0|[IdItems]\n[Item]\nName=I\nStart=1\nLen=3\nEditMissing=-99#10 14|[IdItems]\n[Item]\nName=I\nStart=1\nLen=3\nEditMissing=-100#10 14|[IdItems]\n[Item]\nName=I\nStart=1\nLen=3\nEditMissing=x#0 0|[IdItems]\n[Item]\nName=I\nStart=1\nLen=3\nEditMissing=x\nDataType=ALPHA#0 0|[IdItems]\n[Item]\nName=I\nStart=1\nLen=3\nEditMissing=x\nDecimal=1#0 0|[IdItems]\n[Item]\nName=I\nStart=1\nLen=16\nEditMissing=x#10 14|[IdItems]\n[Item]\nName=I\nStart=1\nEditMissing=x\nLen=0#0 0|[Record]\nName=R\nRecordLen=9\n[Item]\nName=I\nStart=1\nLen=9#8 15|[Record]\nName=R\nRecordLen=9\n[Item]\nName=I\nStart=2\nLen=9#10 14|[Record]\nName=R\nRecordLen=9\n[Item]\nName=I\nStart=x\nLen=99#7 14|[Record]\nName=R\nRecordLen=x\n[Item]\nName=I\nStart=1\nLen=99#0 0|[Record]\nName=R\nRecordLen=9\n[Item]\nName=I\nStart=1\nLen=1\nEditMissing=x\n[IdItems]\n[Item]\nName=J\nStart=1\nLen=1#5 16|[Record]\nName=d\nRecordLen=1#5 16|[Record]\nName=l\nRecordLen=1#10 16|[IdItems]\n[Item]\nName=I\nStart=1\nLen=1\n[ValueSet]\nName=i#10 12|[IdItems]\n[Item]\nName=I\nStart=1\nLen=1\n[ValueSet]\nLabel=x#5 12|[ValueSet]\nName=V#6 17|[Record]\nName=\nRecordLen=1#6 17|[Record]\nName=1R\nRecordLen=1#6 17|[Record]\nName=R-\nRecordLen=1#0 0|[Record]\nName=R_23456789_123456789_123456789_1\nRecordLen=1#6 17|[Record]\nName=R_23456789_123456789_123456789_12\nRecordLen=1#6 17|[Record]\nName=R\u{e9}\nRecordLen=1"
+}
 
 /// The same, of `count|front|before|between`: so many sections or lines with their numbers, behind a front.
-const LIMITS: &str =
-    "0 0|200||[Record]\nRecordLen=1\nRecordTypeValue=|\nName=R#807 17|201||[Record]\nRecordLen=1\nRecordTypeValue=|\nName=R#0 0|50|[IdItems]\n|[Item]\nStart=1\nLen=1\nName=I|\nNote=#258 17|51|[IdItems]\n|[Item]\nStart=1\nLen=1\nName=I|\nNote=#0 0|10000|[Record]\nName=R\nRecordLen=1\nRecordTypeValue='P'\n|[Item]\nStart=1\nLen=1\nName=I|\nNote=#50011 17|10001|[Record]\nName=R\nRecordLen=1\nRecordTypeValue='P'\n|[Item]\nStart=1\nLen=1\nName=I|\nNote=#0 0|10000|[Record]\nName=R\nRecordLen=1\nRecordTypeValue='P'\n[Item]\nName=I\nStart=1\nLen=1\n|[ValueSet]\nName=V|\nNote=#30015 17|10001|[Record]\nName=R\nRecordLen=1\nRecordTypeValue='P'\n[Item]\nName=I\nStart=1\nLen=1\n|[ValueSet]\nName=V|\nNote=#0 0|65534|[Record]\nName=R\nRecordLen=1\nRecordTypeValue='P'\n[Item]\nName=I\nStart=1\nLen=1\n[ValueSet]\nName=V\n|Value=1;|#65551 17|65535|[Record]\nName=R\nRecordLen=1\nRecordTypeValue='P'\n[Item]\nName=I\nStart=1\nLen=1\n[ValueSet]\nName=V\n|Value=1;|#0 0|2000|[Record]\nName=R\nRecordLen=1\nRecordTypeValue='P'\n[Item]\nName=I\nStart=1\nLen=1\n[ValueSet]\nName=V\n|Value=1 1 1 1 1 1 1 1 1 1 1 1 1 1 1 1 1 1 1 1 1 1 1 1 1 1 1 1 1 1 1 1 1 1 1 1 1 1 1 1 1 1 1 1 1 1 1 1 1 1 x;|#2017 17|2001|[Record]\nName=R\nRecordLen=1\nRecordTypeValue='P'\n[Item]\nName=I\nStart=1\nLen=1\n[ValueSet]\nName=V\n|Value=1 1 1 1 1 1 1 1 1 1 1 1 1 1 1 1 1 1 1 1 1 1 1 1 1 1 1 1 1 1 1 1 1 1 1 1 1 1 1 1 1 1 1 1 1 1 1 1 1 1 x;|";
+fn limits() -> &'static str {
+    "0 0|200||[Record]\nRecordLen=1\nRecordTypeValue=|\nName=R#807 17|201||[Record]\nRecordLen=1\nRecordTypeValue=|\nName=R#0 0|50|[IdItems]\n|[Item]\nStart=1\nLen=1\nName=I|\nNote=#258 17|51|[IdItems]\n|[Item]\nStart=1\nLen=1\nName=I|\nNote=#0 0|10000|[Record]\nName=R\nRecordLen=1\nRecordTypeValue='P'\n|[Item]\nStart=1\nLen=1\nName=I|\nNote=#50011 17|10001|[Record]\nName=R\nRecordLen=1\nRecordTypeValue='P'\n|[Item]\nStart=1\nLen=1\nName=I|\nNote=#0 0|10000|[Record]\nName=R\nRecordLen=1\nRecordTypeValue='P'\n[Item]\nName=I\nStart=1\nLen=1\n|[ValueSet]\nName=V|\nNote=#30015 17|10001|[Record]\nName=R\nRecordLen=1\nRecordTypeValue='P'\n[Item]\nName=I\nStart=1\nLen=1\n|[ValueSet]\nName=V|\nNote=#0 0|65534|[Record]\nName=R\nRecordLen=1\nRecordTypeValue='P'\n[Item]\nName=I\nStart=1\nLen=1\n[ValueSet]\nName=V\n|Value=1;|#65551 17|65535|[Record]\nName=R\nRecordLen=1\nRecordTypeValue='P'\n[Item]\nName=I\nStart=1\nLen=1\n[ValueSet]\nName=V\n|Value=1;|#0 0|2000|[Record]\nName=R\nRecordLen=1\nRecordTypeValue='P'\n[Item]\nName=I\nStart=1\nLen=1\n[ValueSet]\nName=V\n|Value=1 1 1 1 1 1 1 1 1 1 1 1 1 1 1 1 1 1 1 1 1 1 1 1 1 1 1 1 1 1 1 1 1 1 1 1 1 1 1 1 1 1 1 1 1 1 1 1 1 1 x;|#2017 17|2001|[Record]\nName=R\nRecordLen=1\nRecordTypeValue='P'\n[Item]\nName=I\nStart=1\nLen=1\n[ValueSet]\nName=V\n|Value=1 1 1 1 1 1 1 1 1 1 1 1 1 1 1 1 1 1 1 1 1 1 1 1 1 1 1 1 1 1 1 1 1 1 1 1 1 1 1 1 1 1 1 1 1 1 1 1 1 1 x;|"
+}
 
-/// The rows of a set, whether it is partial, and the row of a number, of `number type`, its set.
-const PAIRS: &str =
-    "1 false Some(0)|6 Numeric\n[ValueSet]\nName=V\nValue=1 5:7 -3;a;b 'c'#1 false Some(0)|-3 Numeric\n[ValueSet]\nName=V\nValue=1 5:7 -3;a;b 'c'#2 false Some(0)|6 Numeric\n[ValueSet]\nName=V\nValue=1 5:7\nValue=2:9#2 false Some(1)|8 Numeric\n[ValueSet]\nName=V\nValue=1 5:7\nValue=2:9#3 false Some(1)|4 Numeric\n[ValueSet]\nName=V\nValue=\nvalue=4;x\nVALUE=#1 true None|6 Numeric\n[ValueSet]\nName=V\nValue=7:5#1 false Some(0)|5 Numeric\n[ValueSet]\nName=V\nValue=5:5#1 true Some(0)|2 Numeric\n[ValueSet]\nName=V\nValue=1 : 2#1 false Some(0)|3 Numeric\n[ValueSet]\nName=V\nValue='  ' 3;blank#1 false None|3 Numeric\n[ValueSet]\nName=V\nValue='';none#1 true None|3 Numeric\n[ValueSet]\nName=V\nValue='a';alpha#1 true Some(0)|3 Numeric\n[ValueSet]\nName=V\nValue=' 'x 3#1 true None|4 Numeric\n[ValueSet]\nName=V\nValue=3 '4;5#2 true Some(1)|3 Numeric\n[ValueSet]\nName=V\nValue=a;x\nValue=3#1 false Some(0)|3 Alpha\n[ValueSet]\nName=V\nValue='a;b' 'c d' 3;label#1 true Some(0)|3 Alpha\n[ValueSet]\nName=V\nValue='a'b 3;label#1 true None|3 Alpha\n[ValueSet]\nName=V\nValue=a;label#1 true Some(0)|3 Other\n[ValueSet]\nName=V\nValue=' ' 3;label#1 true None|9223372036854775807 Numeric\n[ValueSet]\nName=V\nValue=9223372036854775808;x#1 false Some(0)|-9223372036854775808 Numeric\n[ValueSet]\nName=V\nValue=-9223372036854775808:-5;x#3 false Some(2)|4 Numeric\n[ValueSet]\nName=V\nValue=9 1:3\nValue=5\nValue=2:8#3 false Some(0)|2 Numeric\n[ValueSet]\nName=V\nValue=9 1:3\nValue=5\nValue=2:8";
+/// The rows of a set, whether it is partial, and the row of a number: `number|type of the item and its set`.
+fn pairs() -> &'static str {
+    "1 false Some(0)|6|Numeric\n[ValueSet]\nName=V\nValue=1 5:7 -3;a;b 'c'#1 false Some(0)|-3|Numeric\n[ValueSet]\nName=V\nValue=1 5:7 -3;a;b 'c'#2 false Some(0)|6|Numeric\n[ValueSet]\nName=V\nValue=1 5:7\nValue=2:9#2 false Some(1)|8|Numeric\n[ValueSet]\nName=V\nValue=1 5:7\nValue=2:9#3 false Some(1)|4|Numeric\n[ValueSet]\nName=V\nValue=\nvalue=4;x\nVALUE=#1 true None|6|Numeric\n[ValueSet]\nName=V\nValue=7:5#1 false Some(0)|5|Numeric\n[ValueSet]\nName=V\nValue=5:5#1 true Some(0)|2|Numeric\n[ValueSet]\nName=V\nValue=1 : 2#1 false Some(0)|3|Numeric\n[ValueSet]\nName=V\nValue='  ' 3;blank#1 false None|3|Numeric\n[ValueSet]\nName=V\nValue='';none#1 true None|3|Numeric\n[ValueSet]\nName=V\nValue='a';alpha#1 true Some(0)|3|Numeric\n[ValueSet]\nName=V\nValue=' 'x 3#1 true None|4|Numeric\n[ValueSet]\nName=V\nValue=3 '4;5#2 true Some(1)|3|Numeric\n[ValueSet]\nName=V\nValue=a;x\nValue=3#1 false Some(0)|3|Alpha\n[ValueSet]\nName=V\nValue='a;b' 'c d' 3;label#1 true Some(0)|3|Alpha\n[ValueSet]\nName=V\nValue='a'b 3;label#1 true None|3|Alpha\n[ValueSet]\nName=V\nValue=a;label#1 true Some(0)|3|Other\n[ValueSet]\nName=V\nValue=' ' 3;label#1 true None|9223372036854775807|Numeric\n[ValueSet]\nName=V\nValue=9223372036854775808;x#1 false Some(0)|-9223372036854775808|Numeric\n[ValueSet]\nName=V\nValue=-9223372036854775808:-5;x#3 false Some(2)|4|Numeric\n[ValueSet]\nName=V\nValue=9 1:3\nValue=5\nValue=2:8#3 false Some(0)|2|Numeric\n[ValueSet]\nName=V\nValue=9 1:3\nValue=5\nValue=2:8"
+}
 
 /// The kind of an item, by its keys.
-const KINDS: &str =
-    "Some(Number)|Start=3\nLen=15#Some(Opaque)|Start=3\nLen=16#Some(Text)|Start=3\nLen=255\nDataType=Alpha#Some(Opaque)|Start=3\nLen=256\nDataType=Alpha#Some(Opaque)|Start=3\nLen=1\nDataType=Date#Some(Opaque)|Start=3\nLen=1\nDecimal=1#Some(Number)|Start=3\nLen=1\nDecimal=0#Some(Opaque)|Start=3\nLen=1\nOccurrences=2#Some(Number)|Start=3\nLen=1\nOccurrences=1#Some(Opaque)|Start=1\nLen=1#Some(Opaque)|Start=2\nLen=1#Some(Opaque)|Start=2\nLen=3#Some(Opaque)|Start=500\nLen=2#Some(Number)|Start=499\nLen=1";
+fn kinds() -> &'static str {
+    "Some(Number)|Start=3\nLen=15#Some(Opaque)|Start=3\nLen=16#Some(Text)|Start=3\nLen=255\nDataType=Alpha#Some(Opaque)|Start=3\nLen=256\nDataType=Alpha#Some(Opaque)|Start=3\nLen=1\nDataType=Date#Some(Opaque)|Start=3\nLen=1\nDecimal=1#Some(Number)|Start=3\nLen=1\nDecimal=0#Some(Opaque)|Start=3\nLen=1\nOccurrences=2#Some(Number)|Start=3\nLen=1\nOccurrences=1#Some(Opaque)|Start=1\nLen=1#Some(Opaque)|Start=2\nLen=1#Some(Opaque)|Start=2\nLen=3#Some(Opaque)|Start=500\nLen=2#Some(Number)|Start=499\nLen=1"
+}
 
 /// An item's number, name, code and whether it is written with zeros, by a name.
-const ITEMS: &str =
-    "0 HH None true|hh#4 WEIGHT None false|Weight#3 AGE Some(999) false|AGE#none|PERSON#none|QUEST#none|rel_vs#none|A_NAME_THAT_IS_LONGER_THAN_32_LETTERS";
+fn items() -> &'static str {
+    "0 HH None true|hh#4 WEIGHT None false|Weight#3 AGE Some(999) false|AGE"
+}
 
 /// A record's number and name, by a name.
-const RECORDS: &str = "none|HH#0 PERSON|Person#none|rel_VS#none|quest";
+fn records() -> &'static str {
+    "0 PERSON|Person"
+}
 
 /// A value set's number and name, by a name.
-const SETS: &str = "none|HH#none|Person#1 REL_VS|rel_VS#0 SEX_VS|sex_vs#none|quest";
+fn sets() -> &'static str {
+    "1 REL_VS|rel_VS#0 SEX_VS|sex_vs"
+}
+
+/// The numbers of the item, record and set with a name.
+fn names() -> &'static str {
+    "(Some(0), None, None)|HH#(None, Some(0), None)|PERSON#(None, None, Some(1))|rel_vs#(None, None, None)|QUEST#(None, None, None)|A_NAME_THAT_IS_LONGER_THAN_32_LETTERS"
+}
 
 /// The number of the record with a type.
-const TYPES: &str = "Some(0)|P#None|p";
+fn types() -> &'static str {
+    "Some(0)|P#None|p"
+}
 
 /// The row of a number in the set of relations; what is no number stands for a special value.
-const RELATIONS: &str = "None|notappl#Some(0)|1#Some(1)|2#Some(2)|3#Some(2)|8#None|9#None|0";
+fn relations() -> &'static str {
+    "None|notappl#Some(0)|1#Some(1)|2#Some(2)|3#Some(2)|8#None|9#None|0"
+}
 
 /// The shape of the sample.
-const SHAPE: &str =
-    "SAMPLE_DICT QUEST 1 1 Shape { records: [RecordShape { max_records: 30, record_len: 12 }], items: [ItemShape { owner: 255, kind: Number, len: 3, start: 2 }, ItemShape { owner: 0, kind: Number, len: 1, start: 5 }, ItemShape { owner: 0, kind: Number, len: 1, start: 6 }, ItemShape { owner: 0, kind: Number, len: 3, start: 7 }, ItemShape { owner: 0, kind: Opaque, len: 3, start: 10 }], sets: [SetShape { item: 1, rows: 2, partial: false }, SetShape { item: 2, rows: 3, partial: false }] }";
+fn shape() -> &'static str {
+    "SAMPLE_DICT QUEST 1 1 Shape { records: [RecordShape { max_records: 30, record_len: 12 }], items: [ItemShape { owner: 255, kind: Number, len: 3, start: 2 }, ItemShape { owner: 0, kind: Number, len: 1, start: 5 }, ItemShape { owner: 0, kind: Number, len: 1, start: 6 }, ItemShape { owner: 0, kind: Number, len: 3, start: 7 }, ItemShape { owner: 0, kind: Opaque, len: 3, start: 10 }], sets: [SetShape { item: 1, rows: 2, partial: false }, SetShape { item: 2, rows: 3, partial: false }] }"
+}
 
-/// What a row of a table asks of what stands behind its `|`.
+/// A dictionary of nothing but its names.
+fn empty() -> &'static str {
+    "[Dictionary]\nName=t\n[Level]\nName=L"
+}
+
+fn empty_shape() -> &'static str {
+    "T L 0 0 Shape { records: [], items: [], sets: [] }"
+}
+
+/// What a row of a table asks of the text behind its `|`.
 #[derive(Clone, Copy)]
 enum Asked {
     Fault,
@@ -61,9 +93,15 @@ enum Asked {
     Limit,
     Pairs,
     Kind,
+}
+
+/// What a row asks of the sample.
+#[derive(Clone, Copy)]
+enum LookUp {
     Item,
     Record,
     Set,
+    Name,
     Type,
     Relation,
 }
@@ -84,6 +122,21 @@ fn fault_of(alloc: Global, text: &[u8]) -> DictError {
     }
 }
 
+/// What stands before `|`, and what behind it.
+fn halves(row: &str) -> Result<(&str, &str), Fail> {
+    match row.split_once('|') {
+        Some(halves) => Ok(halves),
+        None => Err("no row".into()),
+    }
+}
+
+fn whole(text: &str) -> Result<i64, Fail> {
+    match text.parse::<i64>() {
+        Ok(whole) => Ok(whole),
+        Err(_) => Err("no number".into()),
+    }
+}
+
 fn fault_told(alloc: Global, text: &str) -> Result<String, Fail> {
     let fault = fault_of(alloc, text.as_bytes());
     Ok(format!(in alloc; "{} {}", fault.line, fault.number)?)
@@ -94,43 +147,32 @@ fn fault_behind_level(alloc: Global, rest: &str) -> Result<String, Fail> {
     fault_told(alloc, text.as_str())
 }
 
-/// A text with so many sections or lines with their numbers.
-fn many(
-    alloc: Global,
-    count: u32,
-    front: &str,
-    before: &str,
-    between: &str,
-) -> Result<String, Fail> {
-    let mut text = format!(in alloc;
-        "[Dictionary]\nName=D\nRecordTypeStart=1\nRecordTypeLen=5\n[Level]\nName=L\n{front}"
-    )?;
+/// So many sections or lines with their numbers, behind others.
+fn push_many(alloc: Global, text: &mut String, count: i64, row: &str) -> Result<(), Fail> {
+    let (before, between) = halves(row)?;
     for number in 0..count {
         text.push_str(format!(in alloc; "{before}{number}{between}{number}\n")?.as_str())?;
     }
+    Ok(())
+}
+
+/// A dictionary with so many sections or lines.
+fn many(alloc: Global, count: i64, row: &str) -> Result<String, Fail> {
+    let (front, row) = halves(row)?;
+    let mut text = format!(in alloc;
+        "[Dictionary]\nName=D\nRecordTypeStart=1\nRecordTypeLen=5\n[Level]\nName=L\n{front}"
+    )?;
+    push_many(alloc, &mut text, count, row)?;
     Ok(text)
 }
 
-/// The four parts of a row of limits.
-fn parts_of(row: &str) -> Option<(u32, &str, &str, &str)> {
-    let (count, rest) = row.split_once('|')?;
-    let (front, rest) = rest.split_once('|')?;
-    let (before, between) = rest.split_once('|')?;
-    let Ok(count) = count.parse::<u32>() else {
-        return None;
-    };
-    Some((count, front, before, between))
-}
-
 fn limit_told(alloc: Global, row: &str) -> Result<String, Fail> {
-    let Some((count, front, before, between)) = parts_of(row) else {
-        return Err("no row".into());
-    };
-    let text = many(alloc, count, front, before, between)?;
+    let (count, row) = halves(row)?;
+    let text = many(alloc, whole(count)?, row)?;
     fault_told(alloc, text.as_str())
 }
 
-/// What the set V tells, and the row of a number in it.
+/// What the first set tells, and the row of a number in it.
 fn set_told(alloc: Global, d: &Dictionary, number: i64) -> Result<String, Fail> {
     let (Some(set), Some(shape)) = (d.find_set("V"), d.shape().sets.first()) else {
         return Err("no set".into());
@@ -139,33 +181,35 @@ fn set_told(alloc: Global, d: &Dictionary, number: i64) -> Result<String, Fail> 
     Ok(format!(in alloc; "{} {} {row:?}", shape.rows, shape.partial)?)
 }
 
-fn pairs_told(alloc: Global, rest: &str) -> Result<String, Fail> {
-    let Some((number, rest)) = rest.split_once(' ') else {
-        return Err("no row".into());
-    };
-    let Ok(number) = number.parse::<i64>() else {
-        return Err("no number".into());
-    };
+/// The set of an item of a type.
+fn set_of_type(alloc: Global, number: i64, rest: &str) -> Result<String, Fail> {
     let text = format!(in alloc;
         "[Dictionary]\nName=D\n[Level]\nName=L\n[IdItems]\n[Item]\nName=I\nStart=1\nLen=1\nDataType={rest}"
     )?;
-    let dictionary = read(alloc, text.as_str())?;
-    set_told(alloc, &dictionary, number)
+    set_told(alloc, &read(alloc, text.as_str())?, number)
+}
+
+fn pairs_told(alloc: Global, row: &str) -> Result<String, Fail> {
+    let (number, rest) = halves(row)?;
+    set_of_type(alloc, whole(number)?, rest)
+}
+
+/// The kind of the second item.
+fn kind_of_second(alloc: Global, d: &Dictionary) -> Result<String, Fail> {
+    let kind = d.shape().items.get(1).map(|item| item.kind);
+    Ok(format!(in alloc; "{kind:?}")?)
 }
 
 fn kind_told(alloc: Global, rest: &str) -> Result<String, Fail> {
     let text = format!(in alloc;
         "[Dictionary]\nName=D\nRecordTypeStart=1\nRecordTypeLen=1\n[Level]\nName=L\n[IdItems]\n[Item]\nName=A\nStart=2\nLen=1\n[Record]\nName=R\nRecordLen=600\nRecordTypeValue=1\n[Item]\nName=I\n{rest}\n[IdItems]\n[Item]\nName=B\nStart=500\nLen=1\nOccurrences=9\n"
     )?;
-    let dictionary = read(alloc, text.as_str())?;
-    let kind = dictionary.shape().items.get(1).map(|item| item.kind);
-    Ok(format!(in alloc; "{kind:?}")?)
+    kind_of_second(alloc, &read(alloc, text.as_str())?)
 }
 
-fn item_told(alloc: Global, name: &str) -> Result<String, Fail> {
-    let d = read(alloc, WRITTEN)?;
+fn item_told(alloc: Global, d: &Dictionary, name: &str) -> Result<String, Fail> {
     let Some(item) = d.find_item(name) else {
-        return Ok(format!(in alloc; "none")?);
+        return Err("no item".into());
     };
     Ok(format!(in alloc;
         "{item} {} {:?} {}",
@@ -175,131 +219,47 @@ fn item_told(alloc: Global, name: &str) -> Result<String, Fail> {
     )?)
 }
 
-fn record_told(alloc: Global, name: &str) -> Result<String, Fail> {
-    let d = read(alloc, SAMPLE)?;
+fn record_told(alloc: Global, d: &Dictionary, name: &str) -> Result<String, Fail> {
     let Some(record) = d.find_record(name) else {
-        return Ok(format!(in alloc; "none")?);
+        return Err("no record".into());
     };
     Ok(format!(in alloc; "{record} {}", d.record_name(record))?)
 }
 
-fn set_name_told(alloc: Global, name: &str) -> Result<String, Fail> {
-    let d = read(alloc, SAMPLE)?;
+fn set_name_told(alloc: Global, d: &Dictionary, name: &str) -> Result<String, Fail> {
     let Some(set) = d.find_set(name) else {
-        return Ok(format!(in alloc; "none")?);
+        return Err("no set".into());
     };
     Ok(format!(in alloc; "{set} {}", d.set_name(set))?)
 }
 
-fn type_told(alloc: Global, text: &str) -> Result<String, Fail> {
+fn names_told(alloc: Global, d: &Dictionary, name: &str) -> Result<String, Fail> {
+    let numbers = (d.find_item(name), d.find_record(name), d.find_set(name));
+    Ok(format!(in alloc; "{numbers:?}")?)
+}
+
+fn type_told(alloc: Global, d: &Dictionary, text: &str) -> Result<String, Fail> {
     let Some(character) = text.chars().next() else {
         return Err("no type".into());
     };
-    let record = read(alloc, SAMPLE)?.record_of([character].as_slice());
+    let record = d.record_of([character].as_slice());
     Ok(format!(in alloc; "{record:?}")?)
 }
 
-fn relation_told(alloc: Global, text: &str) -> Result<String, Fail> {
+fn relation_told(alloc: Global, d: &Dictionary, text: &str) -> Result<String, Fail> {
+    let Some(set) = d.find_set("REL_VS") else {
+        return Err("no set".into());
+    };
     let number = match text.parse::<i64>() {
         Ok(whole) => Num::Whole(whole),
         Err(_) => Num::NotAppl,
     };
-    let d = read(alloc, SAMPLE)?;
-    let Some(set) = d.find_set("REL_VS") else {
-        return Err("no set".into());
-    };
-    Ok(format!(in alloc; "{:?}", d.row_of(set, number))?)
-}
-
-fn told(alloc: Global, asked: Asked, rest: &str) -> Result<String, Fail> {
-    match asked {
-        Asked::Fault => fault_told(alloc, rest),
-        Asked::FaultBehindLevel => fault_behind_level(alloc, rest),
-        Asked::Limit => limit_told(alloc, rest),
-        Asked::Pairs => pairs_told(alloc, rest),
-        Asked::Kind => kind_told(alloc, rest),
-        Asked::Item => item_told(alloc, rest),
-        Asked::Record => record_told(alloc, rest),
-        Asked::Set => set_name_told(alloc, rest),
-        Asked::Type => type_told(alloc, rest),
-        Asked::Relation => relation_told(alloc, rest),
-    }
-}
-
-/// Whether what is told is what the row says.
-fn holds(alloc: Global, asked: Asked, row: &str) -> Result<bool, Fail> {
-    let Some((want, rest)) = row.split_once('|') else {
-        return Ok(false);
-    };
-    Ok(told(alloc, asked, rest)?.as_str() == want)
-}
-
-/// The first row of a table that doesn't hold.
-fn odd_row<'t>(alloc: Global, asked: Asked, table: &'t str) -> Result<Option<&'t str>, Fail> {
-    for row in table.split('#') {
-        if !holds(alloc, asked, row)? {
-            return Ok(Some(row));
-        }
-    }
-    Ok(None)
-}
-
-#[test]
-fn faults_at_the_front(rt: HostRuntime) -> Result<(), Fail> {
-    assert_eq!(rt; odd_row(rt.alloc(), Asked::Fault, FRONTS)?, None);
-    Ok(())
-}
-
-#[test]
-fn faults_behind_a_level(rt: HostRuntime) -> Result<(), Fail> {
-    assert_eq!(rt; odd_row(rt.alloc(), Asked::FaultBehindLevel, RESTS)?, None);
-    Ok(())
-}
-
-#[test]
-fn bytes_that_are_no_text(rt: HostRuntime) {
-    let fault = fault_of(rt.alloc(), b"[Dictionary]\nName=\xff");
-    assert_eq!(rt;
-        fault,
-        DictError {
-            number: 10,
-            line: 0
-        }
-    );
-}
-
-#[test]
-fn limits(rt: HostRuntime) -> Result<(), Fail> {
-    assert_eq!(rt; odd_row(rt.alloc(), Asked::Limit, LIMITS)?, None);
-    Ok(())
-}
-
-#[test]
-fn pairs_of_values(rt: HostRuntime) -> Result<(), Fail> {
-    assert_eq!(rt; odd_row(rt.alloc(), Asked::Pairs, PAIRS)?, None);
-    Ok(())
-}
-
-#[test]
-fn kinds_of_items(rt: HostRuntime) -> Result<(), Fail> {
-    assert_eq!(rt; odd_row(rt.alloc(), Asked::Kind, KINDS)?, None);
-    Ok(())
-}
-
-#[test]
-fn looks_up(rt: HostRuntime) -> Result<(), Fail> {
-    let alloc = rt.alloc();
-    assert_eq!(rt; odd_row(alloc, Asked::Item, ITEMS)?, None);
-    assert_eq!(rt; odd_row(alloc, Asked::Record, RECORDS)?, None);
-    assert_eq!(rt; odd_row(alloc, Asked::Set, SETS)?, None);
-    assert_eq!(rt; odd_row(alloc, Asked::Type, TYPES)?, None);
-    assert_eq!(rt; odd_row(alloc, Asked::Relation, RELATIONS)?, None);
-    Ok(())
+    let row = d.row_of(set, number);
+    Ok(format!(in alloc; "{row:?}")?)
 }
 
 /// The names, the columns of the record type and the shape.
-fn shape_told(alloc: Global, text: &str) -> Result<String, Fail> {
-    let d = read(alloc, text)?;
+fn shape_told(alloc: Global, d: &Dictionary) -> Result<String, Fail> {
     let (start, len) = d.type_columns();
     Ok(format!(in alloc;
         "{} {} {start} {len} {:?}",
@@ -309,33 +269,117 @@ fn shape_told(alloc: Global, text: &str) -> Result<String, Fail> {
     )?)
 }
 
-fn is_sample(alloc: Global, text: &str) -> Result<bool, Fail> {
-    Ok(shape_told(alloc, text)?.as_str() == SHAPE)
+fn told(alloc: Global, asked: Asked, rest: &str) -> Result<String, Fail> {
+    match asked {
+        Asked::Fault => fault_told(alloc, rest),
+        Asked::FaultBehindLevel => fault_behind_level(alloc, rest),
+        Asked::Limit => limit_told(alloc, rest),
+        Asked::Pairs => pairs_told(alloc, rest),
+        Asked::Kind => kind_told(alloc, rest),
+    }
 }
 
-fn marked_is_sample(alloc: Global) -> Result<bool, Fail> {
-    is_sample(alloc, format!(in alloc; "\u{feff}{SAMPLE}")?.as_str())
+/// The first row of a table that doesn't hold.
+fn odd_row<'t>(alloc: Global, asked: Asked, table: &'t str) -> Result<Option<&'t str>, Fail> {
+    for row in table.split('#') {
+        let (want, rest) = halves(row)?;
+        if told(alloc, asked, rest)?.as_str() != want {
+            return Ok(Some(row));
+        }
+    }
+    Ok(None)
 }
 
-fn returns_are_sample(alloc: Global) -> Result<bool, Fail> {
-    is_sample(alloc, SAMPLE.replace(alloc, "\n", "\r\n")?.as_str())
+fn looked_up(alloc: Global, d: &Dictionary, by: LookUp, rest: &str) -> Result<String, Fail> {
+    match by {
+        LookUp::Item => item_told(alloc, d, rest),
+        LookUp::Record => record_told(alloc, d, rest),
+        LookUp::Set => set_name_told(alloc, d, rest),
+        LookUp::Name => names_told(alloc, d, rest),
+        LookUp::Type => type_told(alloc, d, rest),
+        LookUp::Relation => relation_told(alloc, d, rest),
+    }
+}
+
+/// The first row of a table of look-ups that doesn't hold.
+fn odd_look_up<'t>(
+    alloc: Global,
+    d: &Dictionary,
+    by: LookUp,
+    table: &'t str,
+) -> Result<Option<&'t str>, Fail> {
+    for row in table.split('#') {
+        let (want, rest) = halves(row)?;
+        if looked_up(alloc, d, by, rest)?.as_str() != want {
+            return Ok(Some(row));
+        }
+    }
+    Ok(None)
+}
+
+/// The same, of the sample.
+fn odd_of_sample<'t>(alloc: Global, by: LookUp, table: &'t str) -> Result<Option<&'t str>, Fail> {
+    odd_look_up(alloc, &read(alloc, written())?, by, table)
+}
+
+#[test]
+fn faults(rt: HostRuntime) -> Result<(), Fail> {
+    let alloc = rt.alloc();
+    assert_eq!(rt; odd_row(alloc, Asked::Fault, fronts())?, None);
+    assert_eq!(rt; odd_row(alloc, Asked::FaultBehindLevel, rests())?, None);
+    assert_eq!(rt; odd_row(alloc, Asked::Limit, limits())?, None);
+    assert_eq!(rt;
+        fault_of(alloc, b"[Dictionary]\nName=\xff"),
+        DictError {
+            number: 10,
+            line: 0
+        }
+    );
+    Ok(())
+}
+
+#[test]
+fn items_and_sets(rt: HostRuntime) -> Result<(), Fail> {
+    let alloc = rt.alloc();
+    assert_eq!(rt; odd_row(alloc, Asked::Pairs, pairs())?, None);
+    assert_eq!(rt; odd_row(alloc, Asked::Kind, kinds())?, None);
+    Ok(())
+}
+
+#[test]
+fn looks_up(rt: HostRuntime) -> Result<(), Fail> {
+    let alloc = rt.alloc();
+    assert_eq!(rt; odd_of_sample(alloc, LookUp::Item, items())?, None);
+    assert_eq!(rt; odd_of_sample(alloc, LookUp::Record, records())?, None);
+    assert_eq!(rt; odd_of_sample(alloc, LookUp::Set, sets())?, None);
+    assert_eq!(rt; odd_of_sample(alloc, LookUp::Name, names())?, None);
+    assert_eq!(rt; odd_of_sample(alloc, LookUp::Type, types())?, None);
+    assert_eq!(rt; odd_of_sample(alloc, LookUp::Relation, relations())?, None);
+    Ok(())
+}
+
+fn has_shape(alloc: Global, text: &str, want: &str) -> Result<bool, Fail> {
+    let d = read(alloc, text)?;
+    Ok(shape_told(alloc, &d)?.as_str() == want)
+}
+
+/// The sample with a byte order mark.
+fn marked(alloc: Global) -> Result<String, Fail> {
+    Ok(format!(in alloc; "\u{feff}{}", sample())?)
+}
+
+/// The sample with CRLF.
+fn with_returns(alloc: Global) -> Result<String, Fail> {
+    Ok(sample().replace(alloc, "\n", "\r\n")?)
 }
 
 #[test]
 fn reads_the_sample(rt: HostRuntime) -> Result<(), Fail> {
     let alloc = rt.alloc();
-    assert!(rt; is_sample(alloc, SAMPLE)?);
-    assert!(rt; is_sample(alloc, WRITTEN)?);
-    assert!(rt; marked_is_sample(alloc)?);
-    assert!(rt; returns_are_sample(alloc)?);
-    Ok(())
-}
-
-#[test]
-fn reads_an_empty_level(rt: HostRuntime) -> Result<(), Fail> {
-    assert_eq!(rt;
-        shape_told(rt.alloc(), "[Dictionary]\nName=t\n[Level]\nName=L")?.as_str(),
-        "T L 0 0 Shape { records: [], items: [], sets: [] }"
-    );
+    assert!(rt; has_shape(alloc, sample(), shape())?);
+    assert!(rt; has_shape(alloc, written(), shape())?);
+    assert!(rt; has_shape(alloc, marked(alloc)?.as_str(), shape())?);
+    assert!(rt; has_shape(alloc, with_returns(alloc)?.as_str(), shape())?);
+    assert!(rt; has_shape(alloc, empty(), empty_shape())?);
     Ok(())
 }
