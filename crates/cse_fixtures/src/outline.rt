@@ -4,7 +4,7 @@ use cse_parts::entries::{
     Ambient, Array, EventEntry, Gift, GlobalVariable, Local, Message, Parts, Routine,
 };
 use cse_parts::instruction::{Instr, Op};
-use cse_value::shape::{ItemShape, RecordShape, SetShape, Shape};
+use cse_value::shape::Shape;
 use std::alloc::{AllocError, Global};
 
 /// An instruction: its opcode and its fields a, b and c.
@@ -12,53 +12,45 @@ pub type Line = (Op, u8, u16, u32);
 
 /// An array and its starting cells.
 #[derive(Clone, Copy)]
-pub struct ArrayOutline<'a> {
+pub struct ArrayOutline {
     pub saved: bool,
-    pub name: &'a str,
-    pub dimensions: &'a [u16],
-    pub cells: &'a [i64],
+    pub name: &'static str,
+    pub dimensions: &'static [u16],
+    pub cells: &'static [i64],
 }
 
 /// A message, its number, and whether it is only counted.
 #[derive(Clone, Copy)]
-pub struct MessageOutline<'a> {
+pub struct MessageOutline {
     pub number: u32,
     pub summary: bool,
-    pub text: &'a str,
+    pub text: &'static str,
 }
 
 /// A routine and its code.
 #[derive(Clone, Copy)]
-pub struct RoutineOutline<'a> {
+pub struct RoutineOutline {
     pub ambient: Ambient,
     pub gives: Gift,
     pub parameters: u8,
-    pub locals: &'a [Local],
-    pub code: &'a [Line],
+    pub locals: &'static [Local],
+    pub code: &'static [Line],
 }
 
-/// The sections of a program.
+/// The sections of a program, without its shape.
 #[derive(Clone, Copy)]
 pub struct Outline<'a> {
-    pub records: &'a [RecordShape],
-    pub items: &'a [ItemShape],
-    pub sets: &'a [SetShape],
-    pub order: &'a [u32],
     pub constants: &'a [i64],
-    pub texts: &'a [&'a str],
+    pub texts: &'a [&'static str],
     pub globals: &'a [GlobalVariable],
-    pub arrays: &'a [ArrayOutline<'a>],
-    pub messages: &'a [MessageOutline<'a>],
-    pub routines: &'a [RoutineOutline<'a>],
+    pub arrays: &'a [ArrayOutline],
+    pub messages: &'a [MessageOutline],
+    pub routines: &'a [RoutineOutline],
     pub events: &'a [EventEntry],
 }
 
-/// The program of nothing.
-pub const EMPTY: Outline<'static> = Outline {
-    records: &[],
-    items: &[],
-    sets: &[],
-    order: &[],
+/// Nothing.
+pub const NOTHING: Outline<'static> = Outline {
     constants: &[],
     texts: &[],
     globals: &[],
@@ -67,20 +59,6 @@ pub const EMPTY: Outline<'static> = Outline {
     routines: &[],
     events: &[],
 };
-
-/// The numbers of the first eight records.
-static ORDER: [u32; 8] = [0, 1, 2, 3, 4, 5, 6, 7];
-
-/// The same program for a dictionary of this shape, of at most eight records, in their order.
-pub fn with_shape<'a>(outline: &Outline<'a>, shape: &'a Shape) -> Outline<'a> {
-    Outline {
-        records: &shape.records,
-        items: &shape.items,
-        sets: &shape.sets,
-        order: &ORDER[..shape.records.len().min(8)],
-        ..*outline
-    }
-}
 
 /// No parts.
 fn no_parts(alloc: Global) -> Parts {
@@ -100,27 +78,24 @@ fn no_parts(alloc: Global) -> Parts {
     }
 }
 
-fn add_shape(parts: &mut Parts, outline: &Outline<'_>) -> Result<(), AllocError> {
-    parts.records.extend_from_slice(outline.records)?;
-    parts.items.extend_from_slice(outline.items)?;
-    parts.sets.extend_from_slice(outline.sets)?;
-    parts.order.extend_from_slice(outline.order)
-}
-
 fn add_values(parts: &mut Parts, outline: &Outline<'_>) -> Result<(), AllocError> {
     parts.constants.extend_from_slice(outline.constants)?;
     parts.globals.extend_from_slice(outline.globals)?;
     parts.events.extend_from_slice(outline.events)
 }
 
-fn add_texts(alloc: Global, texts: &mut Vec<String>, from: &[&str]) -> Result<(), AllocError> {
+fn add_texts(
+    alloc: Global,
+    texts: &mut Vec<String>,
+    from: &[&'static str],
+) -> Result<(), AllocError> {
     for text in from {
         texts.push(String::from_str(alloc, text)?)?;
     }
     Ok(())
 }
 
-fn array_of(alloc: Global, from: &ArrayOutline<'_>) -> Result<Array, AllocError> {
+fn array_of(alloc: Global, from: &ArrayOutline) -> Result<Array, AllocError> {
     let dimensions = Vec::from_slice(alloc, from.dimensions)?;
     let name = String::from_str(alloc, from.name)?;
     let cells = Vec::from_slice(alloc, from.cells)?;
@@ -135,7 +110,7 @@ fn array_of(alloc: Global, from: &ArrayOutline<'_>) -> Result<Array, AllocError>
 fn add_arrays(
     alloc: Global,
     arrays: &mut Vec<Array>,
-    from: &[ArrayOutline<'_>],
+    from: &[ArrayOutline],
 ) -> Result<(), AllocError> {
     for array in from {
         arrays.push(array_of(alloc, array)?)?;
@@ -146,7 +121,7 @@ fn add_arrays(
 fn add_messages(
     alloc: Global,
     messages: &mut Vec<Message>,
-    from: &[MessageOutline<'_>],
+    from: &[MessageOutline],
 ) -> Result<(), AllocError> {
     for message in from {
         messages.push(Message {
@@ -161,7 +136,7 @@ fn add_messages(
 fn add_heads(
     alloc: Global,
     routines: &mut Vec<Routine>,
-    from: &[RoutineOutline<'_>],
+    from: &[RoutineOutline],
 ) -> Result<(), AllocError> {
     for routine in from {
         routines.push(Routine {
@@ -187,17 +162,16 @@ fn add_code(code: &mut Vec<Instr>, lines: &[Line]) -> Result<(), AllocError> {
     Ok(())
 }
 
-fn add_codes(code: &mut Vec<Instr>, from: &[RoutineOutline<'_>]) -> Result<(), AllocError> {
+fn add_codes(code: &mut Vec<Instr>, from: &[RoutineOutline]) -> Result<(), AllocError> {
     for routine in from {
         add_code(code, routine.code)?;
     }
     Ok(())
 }
 
-/// The parts that an outline describes.
+/// The parts that an outline describes, without a shape.
 pub fn parts_of(alloc: Global, outline: &Outline<'_>) -> Result<Parts, AllocError> {
     let mut parts = no_parts(alloc);
-    add_shape(&mut parts, outline)?;
     add_values(&mut parts, outline)?;
     add_texts(alloc, &mut parts.texts, outline.texts)?;
     add_arrays(alloc, &mut parts.arrays, outline.arrays)?;
@@ -205,4 +179,19 @@ pub fn parts_of(alloc: Global, outline: &Outline<'_>) -> Result<Parts, AllocErro
     add_heads(alloc, &mut parts.routines, outline.routines)?;
     add_codes(&mut parts.code, outline.routines)?;
     Ok(parts)
+}
+
+fn add_order(order: &mut Vec<u32>, count: usize) -> Result<(), AllocError> {
+    for record in 0..count {
+        order.push(u32::try_from(record).unwrap_or(0))?;
+    }
+    Ok(())
+}
+
+/// Makes parts those of a dictionary of this shape, with its records in their order.
+pub fn add_shape(parts: &mut Parts, shape: &Shape) -> Result<(), AllocError> {
+    parts.records.extend_from_slice(&shape.records)?;
+    parts.items.extend_from_slice(&shape.items)?;
+    parts.sets.extend_from_slice(&shape.sets)?;
+    add_order(&mut parts.order, shape.records.len())
 }
