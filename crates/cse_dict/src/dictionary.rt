@@ -1,5 +1,5 @@
 //! A dictionary, and how it is read.
-ghost use Rattle.std.specs.Prelude.{◌≡◌, ℕ, ◌≤◌, [], ◌∷◌, None, map, find, length, unwrap_or, OnOk, IfOk, IfErr};
+ghost use Rattle.std.specs.Prelude.{◌≡◌, ℕ, [], ◌∷◌, None, map, find, unwrap_or, OnOk, IfOk, IfErr};
 ghost use Rattle.cse_value.specs.Shape.{shape_lists};
 ghost use Rattle.cse_sections.specs.Sections.{sections_of};
 ghost use Rattle.std.specs.Option.{option_copied};
@@ -8,6 +8,7 @@ ghost use Rattle.cse_dict.specs.Faults.{faults_of, is_level, note_all};
 ghost use Rattle.cse_dict.specs.Fields.{type_columns_of};
 ghost use Rattle.cse_dict.specs.Reading.{IsAnswer, IsNoted, text_faults};
 ghost use Rattle.cse_dict.specs.Kept.{IsKept};
+ghost use Rattle.cse_dict.specs.Sound.{IsSound};
 ghost use Rattle.cse_dict.specs.Dictionary.{DictionaryText, IsSmall, dictionary_of, level_name_of, no_columns};
 
 use crate::context::covered_by;
@@ -51,7 +52,14 @@ impl Model for Dictionary {
       sets = d.sets.items;
     } };
 
-    ghost invariant = { λ d. IsKept d.records.items d.items.items d.sets.items d.record_places d.item_places d.set_places (shape_lists d.shape) };
+    ghost invariant = { λ d. IsKept (record {
+      name = string_bytes d.name;
+      level_name = string_bytes d.level_name;
+      type_columns = d.type_columns;
+      records = d.records.items;
+      items = d.items.items;
+      sets = d.sets.items;
+    }) d.record_places d.item_places d.set_places (shape_lists d.shape) };
 }
 
 /// The shapes of records.
@@ -124,9 +132,14 @@ fn dictionary_with(
     items: Vec<Item>,
     sets: Vec<Set>,
 ) -> Result<Dictionary, AllocError>
-    requires records { length records.items ≤ 200 }
-    requires items { length items.items ≤ 10000 }
-    requires sets { length sets.items ≤ 10000 }
+    requires { IsSound (record {
+      name = string_bytes names.0;
+      level_name = string_bytes names.1;
+      type_columns = type_columns;
+      records = records.items;
+      items = items.items;
+      sets = sets.items;
+    }) }
     ensures { IfOk result (λ d. d ≡ record {
       name = string_bytes names.0;
       level_name = string_bytes names.1;
@@ -166,7 +179,7 @@ fn dictionary_behind(
     first: &Section<'_>,
     rest: &[Section<'_>],
 ) -> Result<Dictionary, AllocError>
-    requires { IsSmall (dictionary_of (first.now ∷ rest.now)) }
+    requires { IsSound (dictionary_of (first.now ∷ rest.now)) }
     ensures { IfOk result (λ d. d ≡ dictionary_of (first.now ∷ rest.now)) }
 {
     let read = &rest[..read_len(rest)];
