@@ -1,5 +1,5 @@
 -- What the format says of a program's routines.
-use Rattle.std.proofs.Common.{◌≡◌, ℕ, ◌≤◌, length, Some, subst, arith}
+use Rattle.std.proofs.Common.{◌≡◌, ℕ, ◌+◌, ◌≤◌, leb, length, Some, subst, arith}
 use Rattle.std.specs.Prelude.{slice_get, take}
 use Rattle.std.proofs.lemmas.Bool.{and_parts, leb-true}
 use Rattle.std.proofs.lemmas.Option.{slice_get_within, get_or_from_slice_get}
@@ -20,5 +20,6 @@ routine_small x r y fits there =
     (at_place_plain (λ before. RoutineFits (instructions_in before)) x.lists.routines fits.lists.routines.each r y (slice_get_within x.lists.routines r y there))
     in
     let few = f.locals.count in
-    let room = leb-true _ _ (and_parts _ _ f.room).1 in
+    let before = instructions_in (take r x.lists.routines) in
+    let room : before + y.instructions ≤ 1000000 = leb-true (before + y.instructions) 1000000 (and_parts (leb 1 y.instructions) (leb (before + y.instructions) 1000000) f.room).1 in
     record { locals = omega arith; size = omega arith }

@@ -1,6 +1,6 @@
 -- The entry of an event, where entries ascend.
 use Rattle.std.proofs.Common.{◌≡◌, ℕ, zero, suc, ◌+◌, ◌*◌, ◌-◌, ◌<◌, ◌≤◌, ◌^◌, Bool, true, false, cond, eqb, ltb, List, [], ◌∷◌, length, take, get_or, Option, Some, None, refl, sym, ap, ◌∙◌, subst, ⊎_elim, arith, add-one}
-use Rattle.std.specs.Prelude.{slice_get, find, option_map, IsTrue}
+use Rattle.std.specs.Prelude.{slice_get, find, option_map, IsTrue, ◌&&◌}
 use Rattle.std.specs.List.{list_all}
 use Rattle.std.proofs.lemmas.Bool.{cases_lt, cases_order, cases_Bool, false≢true, eqb-true, ltb-true, eq-eqb, and_parts, and_from, or_cases}
 use Rattle.std.proofs.lemmas.List.{length-take}
@@ -32,13 +32,13 @@ pub record Ascends (events : List EventEntry) : Type 0 where
 after_order : (a b : EventEntry) → a.index < 2 ^ 16 → IsTrue (is_after (Some a) b.code b.index) → order_at a < order_at b
 after_order a b small after =
     ⊎_elim
-    (λ (less : ltb (event_code a.code) (event_code b.code) ≡ true). let lt = ltb-true _ _ less in omega arith)
-    (λ (same : (cond (eqb (event_code a.code) (event_code b.code)) (ltb a.index b.index) false) ≡ true).
-    let p = and_parts _ _ same in
-    let e = eqb-true _ _ p.0 in
-    let lt = ltb-true _ _ p.1 in
+    (λ (less : ltb (event_code a.code) (event_code b.code) ≡ true). let lt : event_code a.code < event_code b.code = ltb-true (event_code a.code) (event_code b.code) less in omega arith)
+    (λ (same : (eqb (event_code a.code) (event_code b.code) && ltb a.index b.index) ≡ true).
+    let p = and_parts (eqb (event_code a.code) (event_code b.code)) (ltb a.index b.index) same in
+    let e : event_code a.code ≡ event_code b.code = eqb-true (event_code a.code) (event_code b.code) p.0 in
+    let lt : a.index < b.index = ltb-true a.index b.index p.1 in
     omega arith)
-    (or_cases _ _ after)
+    (or_cases (ltb (event_code a.code) (event_code b.code)) (eqb (event_code a.code) (event_code b.code) && ltb a.index b.index) after)
 
 at_take : {X : Type 0} (n : ℕ) (xs : List X) (p : ℕ) → p < n → slice_get (take n xs) p ≡ slice_get xs p
 at_take zero xs p h = absurd (omega arith)
@@ -133,42 +133,42 @@ lower_half events order from to middle m up h at le later =
 -- ---- the entry that is found
 
 find_none : (test : EventEntry → Bool) (events : List EventEntry) → ((k : ℕ) (a : EventEntry) → slice_get events k ≡ Some a → test a ≡ false) → find test events ≡ None
-find_none test [] no = refl
-find_none test (x ∷ xs) no =
-    ap (λ b. cond b (Some x) (find test xs)) (no 0 x refl) ∙ find_none test xs (λ k a at. no (suc k) a at)
+find_none test [] fails = refl
+find_none test (x ∷ xs) fails =
+    ap (λ b. cond b (Some x) (find test xs)) (fails 0 x refl) ∙ find_none test xs (λ k a at. fails (suc k) a at)
 
 find_first : (test : EventEntry → Bool) (events : List EventEntry) (n : ℕ) (entry : EventEntry) → slice_get events n ≡ Some entry → test entry ≡ true → ((k : ℕ) (a : EventEntry) → slice_get events k ≡ Some a → k < n → test a ≡ false) → find test events ≡ Some entry
-find_first test [] n entry at yes no = cc
-find_first test (x ∷ xs) zero entry at yes no =
+find_first test [] n entry at holds fails = cc
+find_first test (x ∷ xs) zero entry at holds fails =
     let same : x ≡ entry = cc in
-    ap (λ b. cond b (Some x) (find test xs)) (ap test same ∙ yes) ∙ ap Some same
-find_first test (x ∷ xs) (suc n) entry at yes no =
-    ap (λ b. cond b (Some x) (find test xs)) (no 0 x refl (omega arith)) ∙ find_first test xs n entry at yes (λ k a there lt. no (suc k) a there (omega arith))
+    ap (λ b. cond b (Some x) (find test xs)) (ap test same ∙ holds) ∙ ap Some same
+find_first test (x ∷ xs) (suc n) entry at holds fails =
+    ap (λ b. cond b (Some x) (find test xs)) (fails 0 x refl (omega arith)) ∙ find_first test xs n entry at holds (λ k a there lt. fails (suc k) a there (omega arith))
 
 -- entries of another order are of other events
 other_order : (e : Event) (a : EventEntry) → (order_at a ≡ event_order e.code e.index → ⊥) → is_of e a ≡ false
 other_order e a ne =
     ⊎_elim
-    (λ (yes : is_of e a ≡ true).
-    let p = and_parts _ _ yes in
-    let c = eqb-true _ _ p.0 in
-    let i = eqb-true _ _ p.1 in
+    (λ (holds : is_of e a ≡ true).
+    let p = and_parts (eqb (event_code a.code) (event_code e.code)) (eqb a.index e.index) holds in
+    let c : event_code a.code ≡ event_code e.code = eqb-true (event_code a.code) (event_code e.code) p.0 in
+    let i : a.index ≡ e.index = eqb-true a.index e.index p.1 in
     absurd (ne (omega arith)))
-    (λ no. no)
+    (λ fails. fails)
     (cases_Bool (is_of e a))
 
 pub found_at : (events : List EventEntry) (e : Event) (n to : ℕ) (entry : EventEntry) (r : ℕ) → Halved events (event_order e.code e.index) n to → slice_get events n ≡ Some entry → is_of e entry ≡ true → r ≡ entry.routine → Some r ≡ routine_of events e
-found_at events e n to entry r h at yes is =
-    ap Some is ∙ sym (ap (option_map (λ (x : EventEntry). x.routine)) (find_first (is_of e) events n entry at yes (λ k a there lt. let b = h.below k a there lt in other_order e a (λ same. omega arith))))
+found_at events e n to entry r h at holds is =
+    ap Some is ∙ sym (ap (option_map (λ (x : EventEntry). x.routine)) (find_first (is_of e) events n entry at holds (λ k a there lt. let b = h.below k a there lt in other_order e a (λ same. omega arith))))
 
 pub not_there : (events : List EventEntry) (e : Event) (n to : ℕ) → Ascends events → Halved events (event_order e.code e.index) n to → to ≤ n → ((entry : EventEntry) → slice_get events n ≡ Some entry → is_of e entry ≡ false) → None ≡ routine_of events e
-not_there events e n to up h end no =
+not_there events e n to up h end fails =
     sym (ap (option_map (λ (x : EventEntry). x.routine)) (find_none (is_of e) events each))
   where
     each : (k : ℕ) (a : EventEntry) → slice_get events k ≡ Some a → is_of e a ≡ false
     each k a at =
         ⊎_elim
-        (λ (same : k ≡ n). no a (ap (slice_get events) (sym same) ∙ at))
+        (λ (same : k ≡ n). fails a (ap (slice_get events) (sym same) ∙ at))
         (λ differ. ⊎_elim
         (λ (lt : k < n). let b = h.below k a at lt in other_order e a (λ same. omega arith))
         (λ (gt : n < k).
@@ -187,11 +187,11 @@ found_is test fit [] r all h = cc
 found_is test fit (x ∷ xs) r all h =
     let p = and_parts (fit x) (list_all fit xs) all in
     ⊎_elim
-    (λ (yes : test x ≡ true).
-    let told : Some x.routine ≡ Some r = sym (ap (λ b. option_map (λ (y : EventEntry). y.routine) (cond b (Some x) (find test xs))) yes) ∙ h in
-    (x, yes, p.0, same_Some x.routine r told))
-    (λ (no : test x ≡ false).
-    found_is test fit xs r p.1 (sym (ap (λ b. option_map (λ (y : EventEntry). y.routine) (cond b (Some x) (find test xs))) no) ∙ h))
+    (λ (holds : test x ≡ true).
+    let told : Some x.routine ≡ Some r = sym (ap (λ b. option_map (λ (y : EventEntry). y.routine) (cond b (Some x) (find test xs))) holds) ∙ h in
+    (x, holds, p.0, same_Some x.routine r told))
+    (λ (fails : test x ≡ false).
+    found_is test fit xs r p.1 (sym (ap (λ b. option_map (λ (y : EventEntry). y.routine) (cond b (Some x) (find test xs))) fails) ∙ h))
     (cases_Bool (test x))
 
 one_code : (a b : EventCode) → event_code a ≡ event_code b → a ≡ b

@@ -6,5 +6,5 @@ use Rattle.cse_typing.proofs.handlers.routine_of.Given as goal
 abbrev pub invariant-halves : goal.invariant-halves
 invariant-halves g l = Halved l.program.lists.events (event_order l.event.code l.event.index) l.from l.to
 
-abbrev pub measure-halves : goal.measure-halves
-measure-halves g l = l.to - l.from
+abbrev pub decreases-halves : goal.decreases-halves
+decreases-halves g l = l.to - l.from
