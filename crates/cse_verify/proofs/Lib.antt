@@ -2,3 +2,6 @@ pub mod CallLaws
 pub mod MeasureLaws
 pub mod VerifiedLaws
 pub mod DepthLaws
+pub mod ChainLaws
+pub mod FirstLaws
+pub mod StartLaws

@@ -11,7 +11,7 @@ use Rattle.cse_parts.specs.Image.{Image, Lists, RoutineLists}
 use Rattle.cse_typing.specs.declared.control.Control.{Control}
 use Rattle.cse_typing.specs.declared.refusal.Refusal.{Refusal}
 use Rattle.cse_typing.specs.declared.depth.Depth.{Depth as Cells}
-use Rattle.cse_typing.specs.Depth.{IsDepth, AreDepths}
+use Rattle.cse_typing.specs.Depth.{IsDepth, AreDepths, KeepFew}
 use Rattle.cse_typing.specs.Code.{code_of}
 use Rattle.cse_typing.specs.Skeleton.{skeleton, skeleton_of}
 use Rattle.cse_typing.specs.Bracket.{KeepsRules}
@@ -19,6 +19,7 @@ use Rattle.cse_typing.specs.Signature.{Scene}
 use Rattle.cse_typing.specs.Shapes.{shape_of}
 use Rattle.cse_typing.specs.Checked.{IsSound, FailsRules, FailsCalls, FailsTyping, Fails}
 use Rattle.cse_typing.specs.Typed.{scene_of, AreTypedBelow, IsTypedRoutine, IsOutOfMemory, BreaksRules, MayNotStand, HasNoStack}
+use Rattle.cse_typing.proofs.Few.{none_kept}
 use Rattle.cse_typing.proofs.TypedLaws.{routine_typed, typed_more}
 use Rattle.cse_bounds.specs.declared.limits.TheConstants.{STEP_LIMIT}
 use Rattle.cse_bounds.specs.Bound.{partial, bounds_below, bound, AreBoundedBelow, PassesLimit, IsTooLong, CallsBelow}
@@ -42,6 +43,7 @@ measured_start s x bounds frames cells a b c = record {
   frames_are = b;
   cells_are = λ r y d there at. let none = ap (λ (l : List Cells). slice_get l r) c in cc;
   cells_of = ap (λ (l : List Cells). length l) c;
+  cells_few = subst KeepFew (sym c) none_kept;
   few = λ r lt. let none = ap (λ (l : List ℕ). length l) b in absurd (omega arith);
 }
 
@@ -70,10 +72,10 @@ pub measured_more : (s : ShapeLists) (x : Image) (n : ℕ) (y : RoutineLists) (b
     → IsTypedRoutine s x n y → code ≡ skeleton_of x n
     → bounds2 ≡ bounds ++ partial bounds code (length code) ∷ [] → partial bounds code (length code) ≤ STEP_LIMIT
     → frames2 ≡ frames ++ most_frames frames code (length code) ∷ [] → most_frames frames code (length code) ≤ 64 * (length frames + 1)
-    → AreDepths s x cells2 → length cells2 ≡ n + 1
+    → AreDepths s x cells2 → length cells2 ≡ n + 1 → KeepFew cells2
     → AreMeasured s x (n + 1) bounds2 frames2 cells2
 unfolding bounds_below frames_below
-measured_more s x n y bounds frames bounds2 frames2 cells cells2 code there m here is added small pushed few depths many =
+measured_more s x n y bounds frames bounds2 frames2 cells cells2 code there m here is added small pushed few depths many kept =
     let one : suc n ≡ n + 1 = omega arith in
     let sum : partial bounds code (length code) ≡ bound x n =
     ap (λ (l : List ℕ). partial l code (length code)) m.bounds_are ∙ ap (λ (l : List Control). partial (bounds_below x n) l (length l)) is
@@ -90,6 +92,7 @@ measured_more s x n y bounds frames bounds2 frames2 cells cells2 code there m he
       frames_are = table2 ∙ ap (frames_below x) one;
       cells_are = depths;
       cells_of = many;
+      cells_few = kept;
       few = few_more frames (most_frames frames code (length code)) frames2 m.few few pushed;
     }
 

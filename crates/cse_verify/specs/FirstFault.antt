@@ -39,3 +39,7 @@ abbrev pub IsFirstFault : ShapeLists → Image → Refusal → Type 0
 IsFirstFault s x e =
     IsOfOtherShape s x e
     ⊎ (IsUntypedRoutine s x e ⊎ (IsTooLongRoutine s x e ⊎ (AreUnfitEvents s x e ⊎ IsTooLongCase s x e)))
+
+-- a program has one first reason at most
+abbrev pub FirstReasonIsOne : Type 0
+FirstReasonIsOne = (s : ShapeLists) (x : Image) (e f : Refusal) → IsFirstFault s x e → IsFirstFault s x f → e ≡ f

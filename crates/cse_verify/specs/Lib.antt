@@ -2,3 +2,5 @@ pub mod FirstFault
 pub mod Depths
 pub mod Verified
 pub mod Measured
+pub mod Chain
+pub mod Starts

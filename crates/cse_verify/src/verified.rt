@@ -1,11 +1,13 @@
 //! A program that may run with a dictionary, and how much it may take.
 
-ghost use Rattle.std.specs.Prelude.{◌≡◌, ℕ, ◌<◌, ◌≤◌, length};
+ghost use Rattle.std.specs.Prelude.{◌≡◌, ℕ, ◌<◌, ◌≤◌, List, length};
 ghost use Rattle.cse_bounds.specs.Bound.{bound};
 ghost use Rattle.cse_bounds.specs.EventBound.{case_bound, run_bound};
 ghost use Rattle.cse_bounds.specs.CaseEvents.{case_events, events_bound, KeepsMost};
 ghost use Rattle.cse_dict.specs.Dictionary.{shape_of};
+ghost use Rattle.cse_verify.specs.Chain.{Calling, IsChain, KeepsToDepth};
 ghost use Rattle.cse_verify.specs.Depths.{IsDepthOf};
+ghost use Rattle.cse_verify.specs.declared.depth.Depth.{Depth};
 ghost use Rattle.cse_verify.specs.Verified.{MayRun, IsKept};
 
 use crate::depth::Depth;
@@ -118,5 +120,14 @@ impl<'a, C: Code> Verified<'a, C> {
         ensures { (occurrences : ℕ → ℕ) → KeepsMost self.now.image occurrences → events_bound self.now.image (case_events self.now.image occurrences) ≤ case_bound self.now.image }
     {
         events_keep_to_bound(self.program());
+    }
+
+    /// A law: all calls at one time, of which each but the innermost waits at a call of the one before
+    /// it, keep together no more numbers, texts, ordinals and open brackets than `depth` says. A call
+    /// keeps its locals and its stack; one that waits, the stack without the arguments.
+    pub fn calls_keep_to_depth(&self)
+        ensures { (calls : List Calling) (d : Depth) → IsChain (shape_of self.now.dictionary) self.now.image calls → IsDepthOf (shape_of self.now.dictionary) self.now.image d → KeepsToDepth self.now.image calls d }
+    {
+        let _may_run = self.program();
     }
 }
