@@ -1,15 +1,14 @@
 -- What an item of a section without a fault keeps to: its kind, its code, its record.
-use Rattle.std.proofs.Common.{◌≡◌, ◌⊎◌, ◌≤◌, ◌<◌, ◌+◌, ◌-◌, ◌∙◌, sym, ap, subst, inl, inr, ⊎_elim, ℕ, zero, suc, Bool, true, false, List, [], ◌∷◌, ◌++◌, length, slice_get, get_or, refl, arith, Option, None, Some, ℤ, pos, negsuc, neg_ℤ, Contains, All, append_assoc, length-append, true≢false}
+use Rattle.std.proofs.Common.{◌≡◌, ◌⊎◌, ◌≤◌, ◌<◌, ◌+◌, ◌-◌, ◌∙◌, sym, ap, subst, inl, inr, ⊎_elim, ℕ, zero, suc, Bool, true, false, List, [], ◌∷◌, ◌++◌, length, slice_get, refl, arith, Option, None, Some, ℤ, pos, neg_ℤ, Contains, append_assoc, length-append, true≢false}
 use Rattle.std.specs.Prelude.{◌||◌, ◌&&◌, ◌==◌, ◌^◌, nat_lt, nat_le, not, if◌then◌else◌}
-use Rattle.std.specs.Option.{option_and_then}
 use Rattle.std.specs.List.{list_any}
-use Rattle.std.proofs.lemmas.Bool.{and_cases, and_parts, false_from_ne_true, leb-true, lt-ltb, ltb-false, ltb-true, or_parts}
+use Rattle.std.proofs.lemmas.Bool.{and_cases, and_parts, false_from_ne_true, leb-true, lt-ltb, ltb-false, or_parts}
 use Rattle.std.proofs.lemmas.List.Folds.{list_any_at}
 use Rattle.std.proofs.lemmas.Option.{cond_some, same_Some, slice_get_past}
 use Rattle.cse_value.specs.Number.{fits_i64}
 use Rattle.cse_value.specs.declared.shape.ItemKind.{ItemKind}
 use Rattle.cse_value.specs.declared.shape.ItemKind.TheVariants.{Opaque, Number, Text}
-use Rattle.cse_sections.specs.Sections.{EntryText, SectionText}
+use Rattle.cse_sections.specs.Sections.{EntryText}
 use Rattle.cse_sections.specs.Number.{are_digits, decimal_of, fits_columns, negated_of, unsigned_of, whole_of}
 use Rattle.cse_dict.specs.Fields.{is_bad_code, is_number, is_opaque, is_unfit, item_kind, kind_by_type, share_column}
 use Rattle.cse_dict.specs.Context.{is_ids, is_in_record}

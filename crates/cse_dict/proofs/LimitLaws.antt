@@ -1,9 +1,8 @@
 -- Where there is no fault, records, items and sets keep to their limits.
-use Rattle.std.proofs.Common.{◌≡◌, ◌≤◌, ◌<◌, ◌+◌, ◌-◌, sym, ap, ◌∙◌, subst, get_or, take, drop, ℕ, Bool, true, false, List, [], ◌∷◌, ◌++◌, length, refl, arith, Option, length-append}
+use Rattle.std.proofs.Common.{◌≡◌, ◌≤◌, ◌<◌, ◌+◌, ◌-◌, ◌∙◌, ℕ, Bool, true, false, List, [], ◌∷◌, ◌++◌, length, refl, arith, Option, length-append}
 use Rattle.std.specs.Prelude.{nat_le, if◌then◌else◌}
 use Rattle.std.specs.Str.{is_utf8}
 use Rattle.std.proofs.lemmas.Bool.{leb-false}
-use Rattle.std.proofs.lemmas.List.{take_rest}
 use Rattle.cse_sections.specs.Sections.{SectionText, sections_of}
 use Rattle.cse_dict.specs.Keys.{kind_of}
 use Rattle.cse_dict.specs.Types.{type_len_of}
@@ -14,7 +13,6 @@ use Rattle.cse_dict.specs.Dictionary.{IsSmall, dictionary_of, item_by_kind, item
 use Rattle.cse_dict.specs.declared.keys.Kind.{Kind}
 use Rattle.cse_dict.specs.declared.keys.Kind.TheVariants.{Dictionary, Level, IdItems, Record, Item, ValueSet, Other}
 use Rattle.cse_dict.specs.declared.field.Columns.{Columns}
-use Rattle.cse_dict.specs.declared.fault.DictError.{DictError}
 use Rattle.cse_dict.specs.declared.seen.Seen.{Seen}
 use Rattle.cse_dict.proofs.ReadLaws.{append_none, no_fault}
 

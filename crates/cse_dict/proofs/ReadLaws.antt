@@ -1,10 +1,10 @@
 -- What stands at the keys of a section without a fault: each number is there and within its range.
 use Rattle.std.proofs.Common.{◌≡◌, ◌≤◌, ◌<◌, ◌+◌, ◌-◌, ◌∙◌, sym, ap, subst, ℕ, zero, suc, Bool, true, false, List, [], ◌∷◌, ◌++◌, length, replicate, refl, arith, Option, None, Some, codes, ℤ, pos, negsuc, unwrap_or, length-append}
-use Rattle.std.specs.Prelude.{if◌then◌else◌, nat_le, nat_lt, nat_eq, ◌==◌, ◌&&◌, is_none}
+use Rattle.std.specs.Prelude.{if◌then◌else◌, nat_le, nat_lt, ◌==◌, ◌&&◌, is_none}
 use Rattle.std.specs.Option.{option_and_then, option_map}
 use Rattle.std.proofs.lemmas.Bool.{and_parts, leb-true, ltb-false, le-leb}
 use Rattle.std.proofs.lemmas.List.{length-replicate}
-use Rattle.std.proofs.lemmas.Option.{cond_some, none-some}
+use Rattle.std.proofs.lemmas.Option.{cond_some}
 use Rattle.cse_sections.specs.Sections.{EntryText, SectionText}
 use Rattle.cse_sections.specs.Number.{number_between, whole_of, within}
 use Rattle.cse_dict.specs.Keys.{data_type_of, entry_of, number_in, number_or}

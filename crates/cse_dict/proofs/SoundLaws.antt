@@ -1,22 +1,21 @@
 -- Where there is no fault, the dictionary is sound.
-use Rattle.std.proofs.Common.{◌≡◌, ◌⊎◌, ◌≤◌, ◌<◌, ◌+◌, ◌-◌, ◌∙◌, sym, ap, subst, inl, inr, ℕ, zero, suc, Bool, true, false, List, [], ◌∷◌, ◌++◌, length, refl, arith, Option, None, Some, codes, ℤ, All, Contains, unwrap_or, option_to_list, append_assoc, append-nil, length-append, slice_get, get_or, take, drop}
-use Rattle.std.specs.Prelude.{nat_le, nat_lt, ◌==◌, ◌&&◌, if◌then◌else◌}
+use Rattle.std.proofs.Common.{◌≡◌, ◌⊎◌, ◌≤◌, ◌<◌, ◌+◌, ◌-◌, ◌∙◌, sym, ap, subst, ℕ, zero, suc, true, false, List, [], ◌∷◌, ◌++◌, length, refl, arith, Option, None, Some, codes, ℤ, All, Contains, unwrap_or, option_to_list, append_assoc, append-nil, length-append, slice_get, get_or, take, drop}
+use Rattle.std.specs.Prelude.{◌==◌, ◌&&◌, if◌then◌else◌}
 use Rattle.std.specs.List.{list_any}
 use Rattle.std.proofs.lemmas.Bool.{or_parts}
 use Rattle.std.proofs.lemmas.List.{take_rest}
-use Rattle.std.proofs.lemmas.List.Elements.{All-append, All-cons, All-nil, All-contains, All-weaker, Contains-append_left, Contains-append_right}
+use Rattle.std.proofs.lemmas.List.Elements.{All-append, All-cons, All-nil, All-weaker, Contains-append_left, Contains-append_right}
 use Rattle.std.proofs.lemmas.List.Folds.{list_any-append}
 use Rattle.cse_value.specs.declared.shape.ItemKind.TheVariants.{Opaque, Number, Text}
 use Rattle.cse_sections.specs.Sections.{EntryText, SectionText, sections_of}
 use Rattle.cse_sections.specs.Number.{whole_of}
 use Rattle.cse_dict.specs.Keys.{entry_of, kind_of, number_in}
-use Rattle.cse_dict.specs.Types.{type_len_of, type_of}
-use Rattle.cse_dict.specs.Fields.{columns_of, field_of, is_bad_code, is_number, item_kind, share_column, type_columns_of}
-use Rattle.cse_dict.specs.Context.{context_after, context_by_kind, covered_by, id_columns_at, id_columns_by_kind, id_columns_from, is_ids, is_in_record, no_context, owner_after, owner_by_kind}
+use Rattle.cse_dict.specs.Types.{type_len_of}
+use Rattle.cse_dict.specs.Fields.{columns_of, is_bad_code, is_number, item_kind, share_column, type_columns_of}
+use Rattle.cse_dict.specs.Context.{context_after, context_by_kind, covered_by, id_columns_at, id_columns_by_kind, id_columns_from, is_ids, is_in_record, owner_after, owner_by_kind}
 use Rattle.cse_dict.specs.Faults.{code_faults, code_faults_for, faults_at, faults_behind, faults_by_first, faults_by_kind, faults_from, faults_of, fault_if, first_faults, has_bad_code, is_homeless, is_too_far, item_faults, item_head_faults, item_place_faults, read_part, record_faults, record_head_faults, record_number_faults, rest_faults, seen_after, seen_first, set_faults, set_head_faults}
-use Rattle.cse_dict.specs.Reading.{text_faults}
-use Rattle.cse_dict.specs.Dictionary.{DictionaryText, IsSmall, ItemText, RecordText, SetText, dictionary_of, field_or_none, item_at, item_by_kind, item_in, item_shape_at, items_from, no_columns, owner_number, record_at, record_by_kind, record_in, record_shape_at, records_of, set_at, set_by_kind, set_in, sets_from}
-use Rattle.cse_dict.specs.Sound.{AreApart, IsIdItem, IsSound, IsSoundCode, IsSoundItem, IsSoundRecord, IsSoundSet, KeepsOffIds, SoundWithoutFault, columns_of_item}
+use Rattle.cse_dict.specs.Dictionary.{DictionaryText, IsSmall, ItemText, RecordText, SetText, dictionary_of, field_or_none, item_at, item_by_kind, item_in, item_shape_at, items_from, no_columns, record_at, record_by_kind, record_in, record_shape_at, records_of, set_at, set_by_kind, set_in, sets_from}
+use Rattle.cse_dict.specs.Sound.{AreApart, IsIdItem, IsSound, IsSoundCode, IsSoundItem, IsSoundRecord, KeepsOffIds, SoundWithoutFault, columns_of_item}
 use Rattle.cse_dict.specs.declared.keys.Kind.{Kind}
 use Rattle.cse_dict.specs.declared.keys.Kind.TheVariants.{Dictionary, Level, IdItems, Record, Item, ValueSet, Other}
 use Rattle.cse_dict.specs.declared.field.Columns.{Columns}

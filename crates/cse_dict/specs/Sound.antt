@@ -1,8 +1,6 @@
 -- What a caller may rely on in every dictionary: its numbers keep to the rules, and what belongs together fits together.
-use Rattle.std.specs.Prelude.{◌≡◌, ◌⊎◌, ℕ, ◌+◌, ◌-◌, ◌≤◌, ◌<◌, ℤ, List, [], length, Option, Some, All, slice_get, true}
+use Rattle.std.specs.Prelude.{◌≡◌, ◌⊎◌, ℕ, ◌+◌, ◌-◌, ◌≤◌, ◌<◌, ℤ, List, [], length, Some, All, slice_get, true}
 use Rattle.cse_value.specs.Number.{fits_i64}
-use Rattle.cse_value.specs.declared.shape.ItemShape.{ItemShape}
-use Rattle.cse_value.specs.declared.shape.ItemKind.{ItemKind}
 use Rattle.cse_value.specs.declared.shape.ItemKind.TheVariants.{Opaque, Number, Text}
 use Rattle.cse_sections.specs.Sections.{sections_of}
 use Rattle.cse_sections.specs.Number.{fits_columns}

@@ -18,7 +18,7 @@ fn written() -> &'static str {
 
 /// The line and the number of the fault of a text, 0 and 0 where it has none.
 fn fronts() -> &'static str {
-    "0 11|#0 11|Name=A\n#0 11|[Level]\n[Dictionary]\n#0 11|[ Dictionary ]\nName=D\n[Level]\nName=L#0 11|[Dictionary]\r#1 12|[Dictionary]\nName=D#1 12|[Dictionary]\nName=D\n[ Level ]\nName=A#1 12|[Dictionary]\n[Level]\nName=A\n[Level]#5 12|[Dictionary]\nName=D\n[Level]\nName=A\n[Item]#5 13|[Dictionary]\nName=D\n[Level]\nName=A\n[Level]\nName=B#5 13|[Dictionary]\nName=D\n[Level]\nName=A\n[Level]\nName=-\n[Item]#3 12|[Dictionary]\nName=D\n[Level]\nLabel=A#1 12|[Dictionary]\nName=D\nRecordTypeLen=1\n[Level]\nName=L#3 14|[Dictionary]\nName=D\nRecordTypeLen=x\n[Level]\nName=L\n[Record]\nName=R\nRecordLen=1#3 14|[Dictionary]\nName=D\nRecordTypeLen=17\n[Level]\nName=L#0 0|[Dictionary]\nName=D\nRecordTypeLen=16\nRecordTypeStart=65535\n[Level]\nName=L#4 14|[Dictionary]\nName=D\nRecordTypeLen=16\nRecordTypeStart=65536\n[Level]\nName=L#3 14|[Dictionary]\nName=D\nRecordTypeLen=17\nRecordTypeStart=0\n[Level]\nName=L#3 14|[Dictionary]\nName=D\nRecordTypeStart=0\nRecordTypeLen=x\n[Level]\nName=L#0 0|[Dictionary]\nName=D\nRecordTypeStart=0\n[Level]\nName=L#7 12|[Dictionary]\nName=D\nRecordTypeStart=1\nRecordTypeLen=1\n[Level]\nName=L\n[Record]\nName=R\nRecordLen=9#10 14|[Dictionary]\nName=D\nRecordTypeStart=1\nRecordTypeLen=1\n[Level]\nName=L\n[Record]\nName=R\nRecordLen=9\nRecordTypeValue='AB'#0 0|[Dictionary]\nName=D\nRecordTypeStart=1\nRecordTypeLen=2\n[Level]\nName=L\n[Record]\nName=R\nRecordLen=9\nRecordTypeValue='\u{e9}\u{e9}'#11 18|[Dictionary]\nName=D\nRecordTypeStart=1\nRecordTypeLen=2\n[Level]\nName=L\n[Record]\nName=R\nRecordLen=9\nRecordTypeValue='A'\n[Record]\nName=S\nRecordLen=9\nRecordTypeValue=A#0 0|[Dictionary]\nName=D\nRecordTypeStart=1\nRecordTypeLen=2\n[Level]\nName=L\n[Record]\nName=R\nRecordLen=9\nRecordTypeValue='A'\n[Record]\nName=S\nRecordLen=9\nRecordTypeValue=A'#10 14|[Dictionary]\nName=D\nRecordTypeStart=1\nRecordTypeLen=2\n[Level]\nName=L\n[Record]\nName=R\nRecordLen=9\nRecordTypeValue='A  '"
+    "0 11|#0 11|Name=A\n#0 11|[Level]\n[Dictionary]\n#0 11|[ Dictionary ]\nName=D\n[Level]\nName=L#0 11|[Dictionary]\r#0 0|\u{feff}[Dictionary]\nName=D\n[Level]\nName=L#0 0|[Dictionary]\r\nName=D\r\n[Level]\r\nName=L#10 12|[Dictionary]\r\nName=D\r\n[Level]\r\nName=L\r\n\r\n\r\n\r\n\r\n\r\n[Item]\r\nStart=1\r\nLen=1#1 12|[Dictionary]\nName=D#1 12|[Dictionary]\nName=D\n[ Level ]\nName=A#1 12|[Dictionary]\n[Level]\nName=A\n[Level]#5 12|[Dictionary]\nName=D\n[Level]\nName=A\n[Item]#5 13|[Dictionary]\nName=D\n[Level]\nName=A\n[Level]\nName=B#5 13|[Dictionary]\nName=D\n[Level]\nName=A\n[Level]\nName=-\n[Item]#3 12|[Dictionary]\nName=D\n[Level]\nLabel=A#1 12|[Dictionary]\nName=D\nRecordTypeLen=1\n[Level]\nName=L#3 14|[Dictionary]\nName=D\nRecordTypeLen=x\n[Level]\nName=L\n[Record]\nName=R\nRecordLen=1#3 14|[Dictionary]\nName=D\nRecordTypeLen=17\n[Level]\nName=L#0 0|[Dictionary]\nName=D\nRecordTypeLen=16\nRecordTypeStart=65535\n[Level]\nName=L#4 14|[Dictionary]\nName=D\nRecordTypeLen=16\nRecordTypeStart=65536\n[Level]\nName=L#3 14|[Dictionary]\nName=D\nRecordTypeLen=17\nRecordTypeStart=0\n[Level]\nName=L#3 14|[Dictionary]\nName=D\nRecordTypeStart=0\nRecordTypeLen=x\n[Level]\nName=L#0 0|[Dictionary]\nName=D\nRecordTypeStart=0\n[Level]\nName=L#7 12|[Dictionary]\nName=D\nRecordTypeStart=1\nRecordTypeLen=1\n[Level]\nName=L\n[Record]\nName=R\nRecordLen=9#10 14|[Dictionary]\nName=D\nRecordTypeStart=1\nRecordTypeLen=1\n[Level]\nName=L\n[Record]\nName=R\nRecordLen=9\nRecordTypeValue='AB'#0 0|[Dictionary]\nName=D\nRecordTypeStart=1\nRecordTypeLen=2\n[Level]\nName=L\n[Record]\nName=R\nRecordLen=9\nRecordTypeValue='\u{e9}\u{e9}'#11 18|[Dictionary]\nName=D\nRecordTypeStart=1\nRecordTypeLen=2\n[Level]\nName=L\n[Record]\nName=R\nRecordLen=9\nRecordTypeValue='A'\n[Record]\nName=S\nRecordLen=9\nRecordTypeValue=A#0 0|[Dictionary]\nName=D\nRecordTypeStart=1\nRecordTypeLen=2\n[Level]\nName=L\n[Record]\nName=R\nRecordLen=9\nRecordTypeValue='A'\n[Record]\nName=S\nRecordLen=9\nRecordTypeValue=A'#10 14|[Dictionary]\nName=D\nRecordTypeStart=1\nRecordTypeLen=2\n[Level]\nName=L\n[Record]\nName=R\nRecordLen=9\nRecordTypeValue='A  '"
 }
 
 /// The same, of what stands behind a dictionary D and a level L.
@@ -33,7 +33,7 @@ fn limits() -> &'static str {
 
 /// The rows of a set, whether it is partial, and the row of a number: `number|type of the item and its set`.
 fn pairs() -> &'static str {
-    "1 false Some(0)|6|Numeric\n[ValueSet]\nName=V\nValue=1 5:7 -3;a;b 'c'#1 false Some(0)|-3|Numeric\n[ValueSet]\nName=V\nValue=1 5:7 -3;a;b 'c'#2 false Some(0)|6|Numeric\n[ValueSet]\nName=V\nValue=1 5:7\nValue=2:9#2 false Some(1)|8|Numeric\n[ValueSet]\nName=V\nValue=1 5:7\nValue=2:9#3 false Some(1)|4|Numeric\n[ValueSet]\nName=V\nValue=\nvalue=4;x\nVALUE=#1 true None|6|Numeric\n[ValueSet]\nName=V\nValue=7:5#1 false Some(0)|5|Numeric\n[ValueSet]\nName=V\nValue=5:5#1 true Some(0)|2|Numeric\n[ValueSet]\nName=V\nValue=1 : 2#1 false Some(0)|3|Numeric\n[ValueSet]\nName=V\nValue='  ' 3;blank#1 false None|3|Numeric\n[ValueSet]\nName=V\nValue='';none#1 true None|3|Numeric\n[ValueSet]\nName=V\nValue='a';alpha#1 true Some(0)|3|Numeric\n[ValueSet]\nName=V\nValue=' 'x 3#1 true None|4|Numeric\n[ValueSet]\nName=V\nValue=3 '4;5#2 true Some(1)|3|Numeric\n[ValueSet]\nName=V\nValue=a;x\nValue=3#1 false Some(0)|3|Alpha\n[ValueSet]\nName=V\nValue='a;b' 'c d' 3;label#1 true Some(0)|3|Alpha\n[ValueSet]\nName=V\nValue='a'b 3;label#1 true None|3|Alpha\n[ValueSet]\nName=V\nValue=a;label#1 true Some(0)|3|Other\n[ValueSet]\nName=V\nValue=' ' 3;label#1 true None|9223372036854775807|Numeric\n[ValueSet]\nName=V\nValue=9223372036854775808;x#1 false Some(0)|-9223372036854775808|Numeric\n[ValueSet]\nName=V\nValue=-9223372036854775808:-5;x#3 false Some(2)|4|Numeric\n[ValueSet]\nName=V\nValue=9 1:3\nValue=5\nValue=2:8#3 false Some(0)|2|Numeric\n[ValueSet]\nName=V\nValue=9 1:3\nValue=5\nValue=2:8"
+    "1 false Some(0)|6|Numeric\n[ValueSet]\nName=V\nValue=1 5:7 -3;a;b 'c'#1 false Some(0)|-3|Numeric\n[ValueSet]\nName=V\nValue=1 5:7 -3;a;b 'c'#2 false Some(0)|6|Numeric\n[ValueSet]\nName=V\nValue=1 5:7\nValue=2:9#2 false Some(1)|8|Numeric\n[ValueSet]\nName=V\nValue=1 5:7\nValue=2:9#3 false Some(1)|4|Numeric\n[ValueSet]\nName=V\nValue=\nvalue=4;x\nVALUE=#1 true None|6|Numeric\n[ValueSet]\nName=V\nValue=7:5#1 false Some(0)|5|Numeric\n[ValueSet]\nName=V\nValue=5:5#1 true Some(0)|2|Numeric\n[ValueSet]\nName=V\nValue=1 : 2#1 false Some(0)|3|Numeric\n[ValueSet]\nName=V\nValue='  ' 3;blank#1 false None|3|Numeric\n[ValueSet]\nName=V\nValue='';none#1 true None|3|Numeric\n[ValueSet]\nName=V\nValue='a';alpha#1 true Some(0)|3|Numeric\n[ValueSet]\nName=V\nValue=' 'x 3#1 true None|4|Numeric\n[ValueSet]\nName=V\nValue=3 '4;5#2 true Some(1)|3|Numeric\n[ValueSet]\nName=V\nValue=a;x\nValue=3#1 false Some(0)|3|Alpha\n[ValueSet]\nName=V\nValue='a;b' 'c d' 3;label#1 true Some(0)|3|Alpha\n[ValueSet]\nName=V\nValue='a'b 3;label#1 true None|3|Alpha\n[ValueSet]\nName=V\nValue=a;label#1 true Some(0)|3|Other\n[ValueSet]\nName=V\nValue=' ' 3;label#1 true None|9223372036854775807|Numeric\n[ValueSet]\nName=V\nValue=9223372036854775808;x#1 false Some(0)|-9223372036854775808|Numeric\n[ValueSet]\nName=V\nValue=-9223372036854775808:-5;x#3 false Some(2)|4|Numeric\n[ValueSet]\nName=V\nValue=9 1:3\nValue=5\nValue=2:8#3 false Some(0)|2|Numeric\n[ValueSet]\nName=V\nValue=9 1:3\nValue=5\nValue=2:8#3 false Some(0)|1|Numeric\n[ValueSet]\nName=V\nValue=1;Head\nValue=2;Spouse\nValue=3:8;Other#3 false Some(1)|2|Numeric\n[ValueSet]\nName=V\nValue=1;Head\nValue=2;Spouse\nValue=3:8;Other#3 false Some(2)|3|Numeric\n[ValueSet]\nName=V\nValue=1;Head\nValue=2;Spouse\nValue=3:8;Other#3 false Some(2)|8|Numeric\n[ValueSet]\nName=V\nValue=1;Head\nValue=2;Spouse\nValue=3:8;Other#3 false None|9|Numeric\n[ValueSet]\nName=V\nValue=1;Head\nValue=2;Spouse\nValue=3:8;Other#3 false None|0|Numeric\n[ValueSet]\nName=V\nValue=1;Head\nValue=2;Spouse\nValue=3:8;Other"
 }
 
 /// The kind of an item, by its keys.
@@ -46,16 +46,6 @@ fn items() -> &'static str {
     "0 HH None true|hh#4 WEIGHT None false|Weight#3 AGE Some(999) false|AGE"
 }
 
-/// A record's number and name, by a name.
-fn records() -> &'static str {
-    "0 PERSON|Person"
-}
-
-/// A value set's number and name, by a name.
-fn sets() -> &'static str {
-    "1 REL_VS|rel_VS#0 SEX_VS|sex_vs"
-}
-
 /// The numbers of the item, record and set with a name.
 fn names() -> &'static str {
     "(Some(0), None, None)|HH#(None, Some(0), None)|PERSON#(None, None, Some(1))|rel_vs#(None, None, None)|QUEST#(None, None, None)|A_NAME_THAT_IS_LONGER_THAN_32_LETTERS"
@@ -64,11 +54,6 @@ fn names() -> &'static str {
 /// The number of the record with a type.
 fn types() -> &'static str {
     "Some(0)|P#None|p"
-}
-
-/// The row of a number in the set of relations; what is no number stands for a special value.
-fn relations() -> &'static str {
-    "None|notappl#Some(0)|1#Some(1)|2#Some(2)|3#Some(2)|8#None|9#None|0"
 }
 
 /// The shape of the sample.
@@ -85,7 +70,7 @@ fn empty_shape() -> &'static str {
     "T L 0 0 Shape { records: [], items: [], sets: [] }"
 }
 
-/// What a row of a table asks of the text behind its `|`.
+/// What a row of a table asks: of the text behind its `|`, or of the sample.
 #[derive(Clone, Copy)]
 enum Asked {
     Fault,
@@ -93,17 +78,9 @@ enum Asked {
     Limit,
     Pairs,
     Kind,
-}
-
-/// What a row asks of the sample.
-#[derive(Clone, Copy)]
-enum LookUp {
     Item,
-    Record,
-    Set,
-    Name,
+    Names,
     Type,
-    Relation,
 }
 
 /// The dictionary of a text that has no fault.
@@ -219,20 +196,6 @@ fn item_told(alloc: Global, d: &Dictionary, name: &str) -> Result<String, Fail> 
     )?)
 }
 
-fn record_told(alloc: Global, d: &Dictionary, name: &str) -> Result<String, Fail> {
-    let Some(record) = d.find_record(name) else {
-        return Err("no record".into());
-    };
-    Ok(format!(in alloc; "{record} {}", d.record_name(record))?)
-}
-
-fn set_name_told(alloc: Global, d: &Dictionary, name: &str) -> Result<String, Fail> {
-    let Some(set) = d.find_set(name) else {
-        return Err("no set".into());
-    };
-    Ok(format!(in alloc; "{set} {}", d.set_name(set))?)
-}
-
 fn names_told(alloc: Global, d: &Dictionary, name: &str) -> Result<String, Fail> {
     let numbers = (d.find_item(name), d.find_record(name), d.find_set(name));
     Ok(format!(in alloc; "{numbers:?}")?)
@@ -246,18 +209,6 @@ fn type_told(alloc: Global, d: &Dictionary, text: &str) -> Result<String, Fail> 
     Ok(format!(in alloc; "{record:?}")?)
 }
 
-fn relation_told(alloc: Global, d: &Dictionary, text: &str) -> Result<String, Fail> {
-    let Some(set) = d.find_set("REL_VS") else {
-        return Err("no set".into());
-    };
-    let number = match text.parse::<i64>() {
-        Ok(whole) => Num::Whole(whole),
-        Err(_) => Num::NotAppl,
-    };
-    let row = d.row_of(set, number);
-    Ok(format!(in alloc; "{row:?}")?)
-}
-
 /// The names, the columns of the record type and the shape.
 fn shape_told(alloc: Global, d: &Dictionary) -> Result<String, Fail> {
     let (start, len) = d.type_columns();
@@ -269,6 +220,15 @@ fn shape_told(alloc: Global, d: &Dictionary) -> Result<String, Fail> {
     )?)
 }
 
+fn sample_told(alloc: Global, asked: Asked, rest: &str) -> Result<String, Fail> {
+    let d = read(alloc, written())?;
+    match asked {
+        Asked::Item => item_told(alloc, &d, rest),
+        Asked::Names => names_told(alloc, &d, rest),
+        _ => type_told(alloc, &d, rest),
+    }
+}
+
 fn told(alloc: Global, asked: Asked, rest: &str) -> Result<String, Fail> {
     match asked {
         Asked::Fault => fault_told(alloc, rest),
@@ -276,6 +236,7 @@ fn told(alloc: Global, asked: Asked, rest: &str) -> Result<String, Fail> {
         Asked::Limit => limit_told(alloc, rest),
         Asked::Pairs => pairs_told(alloc, rest),
         Asked::Kind => kind_told(alloc, rest),
+        Asked::Item | Asked::Names | Asked::Type => sample_told(alloc, asked, rest),
     }
 }
 
@@ -288,38 +249,6 @@ fn odd_row<'t>(alloc: Global, asked: Asked, table: &'t str) -> Result<Option<&'t
         }
     }
     Ok(None)
-}
-
-fn looked_up(alloc: Global, d: &Dictionary, by: LookUp, rest: &str) -> Result<String, Fail> {
-    match by {
-        LookUp::Item => item_told(alloc, d, rest),
-        LookUp::Record => record_told(alloc, d, rest),
-        LookUp::Set => set_name_told(alloc, d, rest),
-        LookUp::Name => names_told(alloc, d, rest),
-        LookUp::Type => type_told(alloc, d, rest),
-        LookUp::Relation => relation_told(alloc, d, rest),
-    }
-}
-
-/// The first row of a table of look-ups that doesn't hold.
-fn odd_look_up<'t>(
-    alloc: Global,
-    d: &Dictionary,
-    by: LookUp,
-    table: &'t str,
-) -> Result<Option<&'t str>, Fail> {
-    for row in table.split('#') {
-        let (want, rest) = halves(row)?;
-        if looked_up(alloc, d, by, rest)?.as_str() != want {
-            return Ok(Some(row));
-        }
-    }
-    Ok(None)
-}
-
-/// The same, of the sample.
-fn odd_of_sample<'t>(alloc: Global, by: LookUp, table: &'t str) -> Result<Option<&'t str>, Fail> {
-    odd_look_up(alloc, &read(alloc, written())?, by, table)
 }
 
 #[test]
@@ -349,12 +278,9 @@ fn items_and_sets(rt: HostRuntime) -> Result<(), Fail> {
 #[test]
 fn looks_up(rt: HostRuntime) -> Result<(), Fail> {
     let alloc = rt.alloc();
-    assert_eq!(rt; odd_of_sample(alloc, LookUp::Item, items())?, None);
-    assert_eq!(rt; odd_of_sample(alloc, LookUp::Record, records())?, None);
-    assert_eq!(rt; odd_of_sample(alloc, LookUp::Set, sets())?, None);
-    assert_eq!(rt; odd_of_sample(alloc, LookUp::Name, names())?, None);
-    assert_eq!(rt; odd_of_sample(alloc, LookUp::Type, types())?, None);
-    assert_eq!(rt; odd_of_sample(alloc, LookUp::Relation, relations())?, None);
+    assert_eq!(rt; odd_row(alloc, Asked::Item, items())?, None);
+    assert_eq!(rt; odd_row(alloc, Asked::Names, names())?, None);
+    assert_eq!(rt; odd_row(alloc, Asked::Type, types())?, None);
     Ok(())
 }
 
@@ -363,23 +289,11 @@ fn has_shape(alloc: Global, text: &str, want: &str) -> Result<bool, Fail> {
     Ok(shape_told(alloc, &d)?.as_str() == want)
 }
 
-/// The sample with a byte order mark.
-fn marked(alloc: Global) -> Result<String, Fail> {
-    Ok(format!(in alloc; "\u{feff}{}", sample())?)
-}
-
-/// The sample with CRLF.
-fn with_returns(alloc: Global) -> Result<String, Fail> {
-    Ok(sample().replace(alloc, "\n", "\r\n")?)
-}
-
 #[test]
 fn reads_the_sample(rt: HostRuntime) -> Result<(), Fail> {
     let alloc = rt.alloc();
     assert!(rt; has_shape(alloc, sample(), shape())?);
     assert!(rt; has_shape(alloc, written(), shape())?);
-    assert!(rt; has_shape(alloc, marked(alloc)?.as_str(), shape())?);
-    assert!(rt; has_shape(alloc, with_returns(alloc)?.as_str(), shape())?);
     assert!(rt; has_shape(alloc, empty(), empty_shape())?);
     Ok(())
 }
