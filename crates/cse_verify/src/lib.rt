@@ -32,3 +32,5 @@ mod bound_tests;
 mod tests;
 #[cfg(test)]
 mod worked;
+#[cfg(test)]
+mod worked_code;
