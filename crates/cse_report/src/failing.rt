@@ -1,7 +1,7 @@
 //! Writers that fail, and growths that are refused.
 
 use super::*;
-use crate::tests::{RUNS, back, front, listing_text, program_of, report_all, reports_of, words};
+use crate::tests::{RUNS, back, front, listing_text, program_of, report_each, reports_of, words};
 use cse_dict::{Dictionary, Unseen};
 use cse_fixtures::device::Slow;
 use cse_fixtures::outline::MessageOutline;
@@ -35,7 +35,7 @@ static WRITERS: [(usize, u64, u64, usize, usize); 9] = [
 /// The reports of four ages.
 fn ages(alloc: Global) -> Result<Reports, Fail> {
     let mut reports = reports_of(alloc, RUNS[AGES].messages)?;
-    report_all(alloc, &mut reports, RUNS[AGES].given)?;
+    report_each(alloc, &mut reports, RUNS[AGES].given)?;
     Ok(reports)
 }
 
@@ -174,7 +174,7 @@ fn whole(number: i64) -> Arg {
 fn begin(alloc: Global) -> Option<(Dictionary, Reports)> {
     let text = "[Dictionary]\nName=D\n[Level]\nName=L\n[IdItems]\n[Item]\nName=AGE\nStart=1\nLen=1";
     let dictionary = Dictionary::read(alloc, text.as_bytes()).ok()?;
-    let program = program_of(alloc, dictionary.shape(), &MESSAGES).ok()?;
+    let program = program_of(alloc, dictionary.shape(), &MESSAGES).ok()??;
     let reports = Reports::new(alloc, &program).ok()?;
     Some((dictionary, reports))
 }

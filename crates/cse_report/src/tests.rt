@@ -18,20 +18,20 @@ pub fn program_of(
     alloc: Global,
     shape: &Shape,
     messages: &[MessageOutline],
-) -> Result<Program, Fail> {
+) -> Result<Option<Program>, AllocError> {
     let outline = Outline {
         messages,
         ..NOTHING
     };
     let mut parts = parts_of(alloc, &outline)?;
     add_shape(&mut parts, shape)?;
-    Ok(Program::from_parts(parts).ok_or("no program")?)
+    Ok(Program::from_parts(parts))
 }
 
 /// The reports of a program for the sample with these messages.
 pub fn reports_of(alloc: Global, messages: &[MessageOutline]) -> Result<Reports, Fail> {
     let dictionary = Dictionary::read(alloc, SAMPLE.as_bytes())?;
-    let program = program_of(alloc, dictionary.shape(), messages)?;
+    let program = program_of(alloc, dictionary.shape(), messages)?.ok_or("no program")?;
     Ok(Reports::new(alloc, &program)?)
 }
 
@@ -89,7 +89,7 @@ fn report(alloc: Global, reports: &mut Reports, given: &Given) -> Result<(), Fai
 }
 
 /// All of it in turn.
-pub fn report_all(alloc: Global, reports: &mut Reports, given: &[Given]) -> Result<(), Fail> {
+pub fn report_each(alloc: Global, reports: &mut Reports, given: &[Given]) -> Result<(), Fail> {
     for it in given {
         report(alloc, reports, it)?;
     }
@@ -122,7 +122,7 @@ pub struct Run {
 /// What is listed of a run.
 fn listed(alloc: Global, run: &Run) -> Result<Vec<u8>, Fail> {
     let mut reports = reports_of(alloc, run.messages)?;
-    report_all(alloc, &mut reports, run.given)?;
+    report_each(alloc, &mut reports, run.given)?;
     listing_text(alloc, &reports, run.cases, run.lines, run.unseen)
 }
 

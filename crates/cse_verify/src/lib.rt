@@ -37,3 +37,5 @@ mod chain_tests;
 mod tests;
 #[cfg(test)]
 mod worked;
+#[cfg(test)]
+mod worked_code;
