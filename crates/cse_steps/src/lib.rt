@@ -1,0 +1,2 @@
+//! Steps.
+#![tactic(auto)]
