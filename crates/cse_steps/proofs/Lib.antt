@@ -6,3 +6,9 @@ pub mod Numbers
 pub mod Variables
 pub mod CaseFacts
 pub mod Cases
+pub mod Stay
+pub mod Calls
+pub mod Inner
+pub mod Safety
+pub mod First
+pub mod Runs

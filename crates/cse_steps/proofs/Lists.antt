@@ -21,7 +21,7 @@ map_set f [] k new old h e = refl
 map_set f (x ∷ xs) zero new old h e = ap (λ y. y ∷ map f xs) (e ∙ ap f (sym (same_Some _ _ h)))
 map_set f (x ∷ xs) (suc k) new old h e = ap (λ l. f x ∷ l) (map_set f xs k new old h e)
 
-map_append : {X Y : Type 0} (f : X → Y) (xs ys : List X) → map f (xs ++ ys) ≡ map f xs ++ map f ys
+pub map_append : {X Y : Type 0} (f : X → Y) (xs ys : List X) → map f (xs ++ ys) ≡ map f xs ++ map f ys
 map_append f [] ys = refl
 map_append f (x ∷ xs) ys = ap (λ l. f x ∷ l) (map_append f xs ys)
 

@@ -5,3 +5,5 @@ pub mod Operands
 pub mod Step
 pub mod Run
 pub mod Fits
+pub mod Laws
+pub mod Worked
