@@ -1,0 +1,14 @@
+pub mod Cells
+pub mod Lists
+pub mod Places
+pub mod Effects
+pub mod Numbers
+pub mod Variables
+pub mod CaseFacts
+pub mod Cases
+pub mod Stay
+pub mod Calls
+pub mod Inner
+pub mod Safety
+pub mod First
+pub mod Runs

@@ -1,0 +1,5 @@
+use Rattle.cse_steps.proofs.Runs.{composed}
+use Rattle.cse_steps.proofs.laws.runs_compose.Goals as goal
+
+pub returns : goal.returns
+returns c = composed

@@ -1,0 +1,9 @@
+pub mod Cell
+pub mod State
+pub mod Tables
+pub mod Operands
+pub mod Step
+pub mod Run
+pub mod Fits
+pub mod Laws
+pub mod Worked

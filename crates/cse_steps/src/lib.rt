@@ -1,0 +1,12 @@
+//! The steps of programs: what each instruction does, and that a verified program never gets stuck (own).
+//!
+//! Definitions and laws, and no code that runs. `specs/State.antt` says what a state is, `specs/Step.antt`
+//! what each instruction does, one line an instruction, `specs/Run.antt` what a run is and how an event
+//! begins, and `specs/Fits.antt` what fits. A law is a function that does nothing: its contract is the law.
+#![tactic(auto)]
+
+mod laws;
+mod worked;
+
+pub use laws::{events_go_well, first_states_fit, runs_compose, steps_are_safe};
+pub use worked::worked_rows;

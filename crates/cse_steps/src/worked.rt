@@ -1,0 +1,10 @@
+//! Worked rows of the definitions.
+
+ghost use Rattle.cse_steps.specs.Worked.{AreWorked};
+
+/// Law: a loop over 3 persons with a break in it takes 26 steps, and one over 2 persons, which runs to the
+/// ends of its inner loop, 108; 10 is an index of size 10, and 11 is none; a return ends its brackets; the
+/// occurrence of a loop holds in a loop within it; a text is cut or padded to the length of its parameter.
+pub fn worked_rows()
+    ensures { AreWorked }
+{}
