@@ -7,7 +7,8 @@ use cse_parts::instruction::{Instr, Op};
 use cse_value::shape::Shape;
 use std::alloc::{AllocError, Global};
 
-/// An instruction: its opcode and its fields a, b and c.
+/// An instruction: its opcode and its fields a, b and c. The b of a counting loop is its limit, which becomes
+/// an entry of the table of limits.
 pub type Line = (Op, u8, u16, u32);
 
 /// An array and its starting cells.
@@ -68,6 +69,7 @@ fn no_parts(alloc: Global) -> Parts {
         sets: Vec::new(alloc),
         order: Vec::new(alloc),
         constants: Vec::new(alloc),
+        limits: Vec::new(alloc),
         texts: Vec::new(alloc),
         globals: Vec::new(alloc),
         arrays: Vec::new(alloc),
@@ -150,21 +152,39 @@ fn add_heads(
     Ok(())
 }
 
-fn add_code(code: &mut Vec<Instr>, lines: &[Line]) -> Result<(), AllocError> {
+/// What b stands for: a limit joins the table, and b becomes its place.
+fn place_of_limit(limits: &mut Vec<u32>, op: Op, b: u16) -> Result<u16, AllocError> {
+    if op != Op::LoopCount {
+        return Ok(b);
+    }
+    let place = u16::try_from(limits.len()).unwrap_or(0);
+    limits.push(u32::from(b))?;
+    Ok(place)
+}
+
+fn add_code(
+    code: &mut Vec<Instr>,
+    limits: &mut Vec<u32>,
+    lines: &[Line],
+) -> Result<(), AllocError> {
     for (op, a, b, c) in lines {
         code.push(Instr {
             op: *op,
             a: *a,
-            b: *b,
+            b: place_of_limit(limits, *op, *b)?,
             c: *c,
         })?;
     }
     Ok(())
 }
 
-fn add_codes(code: &mut Vec<Instr>, from: &[RoutineOutline]) -> Result<(), AllocError> {
+fn add_codes(
+    code: &mut Vec<Instr>,
+    limits: &mut Vec<u32>,
+    from: &[RoutineOutline],
+) -> Result<(), AllocError> {
     for routine in from {
-        add_code(code, routine.code)?;
+        add_code(code, limits, routine.code)?;
     }
     Ok(())
 }
@@ -177,7 +197,7 @@ pub fn parts_of(alloc: Global, outline: &Outline<'_>) -> Result<Parts, AllocErro
     add_arrays(alloc, &mut parts.arrays, outline.arrays)?;
     add_messages(alloc, &mut parts.messages, outline.messages)?;
     add_heads(alloc, &mut parts.routines, outline.routines)?;
-    add_codes(&mut parts.code, outline.routines)?;
+    add_codes(&mut parts.code, &mut parts.limits, outline.routines)?;
     Ok(parts)
 }
 

@@ -3,13 +3,11 @@
 //! - `messages`: a message file.
 //! - `gaps`: blanks and digits at the front of a line.
 //! - `order`: an order file.
-//! - `lines`: the lines of a text.
 //! - `error`: why a text is refused.
 #![tactic(auto)]
 
 mod error;
 mod gaps;
-mod lines;
 mod messages;
 mod order;
 

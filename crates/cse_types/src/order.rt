@@ -7,8 +7,8 @@ ghost use Rattle.cse_types.specs.MessageFile.{file_lines};
 ghost use Rattle.cse_types.specs.OrderFile.{ReadsOrder, TakesRecord, record_in};
 
 use crate::error::{Stop, TypeError, error_at};
-use crate::lines::{after_mark, first_line};
 use cse_dict::Dictionary;
+use cse_sections::sections::{after_mark, first_line};
 use std::alloc::Global;
 use std::marker::Model;
 
