@@ -59,11 +59,11 @@ static MESSAGES: [MessageOutline; 1] = [MessageOutline {
 }];
 
 /// A program for the dictionary, with two constants, a text, two arrays and a message.
-pub fn program_of(
+pub fn program_of<'a>(
     alloc: Global,
     dictionary: &Dictionary,
-    routines: &[RoutineOutline],
-    events: &[EventEntry],
+    routines: &'a [RoutineOutline],
+    events: &'a [EventEntry],
 ) -> Result<Program, Fail> {
     let outline = Outline {
         constants: &[10, 2],
