@@ -32,5 +32,3 @@ mod bound_tests;
 mod tests;
 #[cfg(test)]
 mod worked;
-#[cfg(test)]
-mod worked_code;
