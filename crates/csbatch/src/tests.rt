@@ -3,17 +3,14 @@
 use crate::fault::{Fault, fault_line};
 use crate::run::TryEnd;
 use crate::try_image::{TryFault, try_to};
-use cse_fixtures::device::Slow;
-use cse_fixtures::outline::{
-    ArrayOutline, Line, MessageOutline, NOTHING, Outline, RoutineOutline, parts_of,
-};
 use cse_image::{
-    Ambient, EventCode, EventEntry, Gift, GlobalKind, GlobalVariable, Local, LocalKind, Op, Parts,
-    Program, write_image,
+    Ambient, Array, EventCode, EventEntry, Gift, GlobalKind, GlobalVariable, Instr, Local,
+    LocalKind, Message, Op, Parts, Program, Routine, write_image,
 };
 use cse_value::Writes;
 use cse_value::shape::{ItemKind, ItemShape};
 use std::alloc::{AllocError, Global};
+use std::io;
 use std::test::Fail;
 
 /// Lists "Hi" in the application's preproc: one message, one routine of two instructions, one event.
@@ -28,108 +25,135 @@ const HELLO: [u8; 94] = [
     40, 0, 0, 0, 0, 0, 0, 0, // Return
 ];
 
-/// The first message, and a return.
-const SAYS_YES: &[Line] = &[(Op::Message, 0, 0, 0), (Op::Return, 0, 0, 0)];
-
-/// Code that ends without a return.
-const ENDLESS: &[Line] = &[(Op::Message, 0, 0, 0)];
-
-static GLOBALS: [GlobalVariable; 2] = [
-    GlobalVariable {
-        kind: GlobalKind::Number,
-        length: 0,
-    },
-    GlobalVariable {
-        kind: GlobalKind::Text,
-        length: 3,
-    },
-];
-
-const LOCALS: &[Local] = &[
-    Local {
-        kind: LocalKind::Number,
-        owner: 0,
-        length: 0,
-    },
-    Local {
-        kind: LocalKind::Text,
-        owner: 0,
-        length: 3,
-    },
-];
-
-/// Four cells, of which the first begins with 7.
-static ARRAYS: [ArrayOutline; 1] = [ArrayOutline {
-    saved: false,
-    name: "CELLS",
-    dimensions: &[2, 2],
-    cells: &[7],
-}];
-
-static MESSAGES: [MessageOutline; 5] = [
-    MessageOutline {
-        number: 0,
-        summary: false,
-        text: "yes",
-    },
-    MessageOutline {
-        number: 0,
-        summary: false,
-        text: "no",
-    },
-    MessageOutline {
-        number: 0,
-        summary: false,
-        text: "100%%",
-    },
-    MessageOutline {
-        number: 9,
-        summary: true,
-        text: "counted",
-    },
-    MessageOutline {
-        number: 0,
-        summary: false,
-        text: "%d",
-    },
-];
-
 /// Parts of a program whose preproc is this code, with the constants 0, 1, 10, the texts `A` and
-/// `A `, a number and a text of three characters as globals and as locals, an array and messages.
-pub fn preproc_of(alloc: Global, code: &'static [Line]) -> Result<Parts, AllocError> {
-    preproc_with(alloc, Ambient::Run, Gift::Nothing, 0, code)
+/// `A `, a number and a text of three characters as globals and as locals, an array of four cells that
+/// begins with 7, and the messages `yes`, `no` and `100%%`.
+pub fn parts_of(alloc: Global, code: &[Instr]) -> Result<Parts, AllocError> {
+    parts_with(alloc, Ambient::Run, Gift::Nothing, 0, code)
 }
 
 /// The same, where the code's routine is another one, or the event names another routine.
-fn preproc_with(
+fn parts_with(
     alloc: Global,
     ambient: Ambient,
     gives: Gift,
     routine: u32,
-    code: &'static [Line],
+    code: &[Instr],
 ) -> Result<Parts, AllocError> {
-    let routines = [RoutineOutline {
-        ambient,
-        gives,
-        parameters: 0,
-        locals: LOCALS,
-        code,
-    }];
-    let events = [EventEntry {
+    Ok(Parts {
+        records: Vec::new(alloc),
+        items: Vec::new(alloc),
+        sets: Vec::new(alloc),
+        order: Vec::new(alloc),
+        constants: Vec::from_slice(alloc, &[0, 1, 10])?,
+        texts: texts_of(alloc)?,
+        globals: globals_of(alloc)?,
+        arrays: arrays_of(alloc)?,
+        messages: messages_of(alloc)?,
+        routines: routines_of(alloc, ambient, gives, code.len())?,
+        events: events_of(alloc, routine)?,
+        code: Vec::from_slice(alloc, code)?,
+    })
+}
+
+fn texts_of(alloc: Global) -> Result<Vec<String>, AllocError> {
+    let mut texts = Vec::new(alloc);
+    texts.push(String::from_str(alloc, "A")?)?;
+    texts.push(String::from_str(alloc, "A ")?)?;
+    Ok(texts)
+}
+
+fn globals_of(alloc: Global) -> Result<Vec<GlobalVariable>, AllocError> {
+    let globals = [
+        GlobalVariable {
+            kind: GlobalKind::Number,
+            length: 0,
+        },
+        GlobalVariable {
+            kind: GlobalKind::Text,
+            length: 3,
+        },
+    ];
+    Vec::from_slice(alloc, &globals)
+}
+
+fn arrays_of(alloc: Global) -> Result<Vec<Array>, AllocError> {
+    let mut arrays = Vec::new(alloc);
+    arrays.push(Array {
+        saved: false,
+        dimensions: Vec::from_slice(alloc, &[2, 2])?,
+        name: String::from_str(alloc, "CELLS")?,
+        cells: Vec::from_slice(alloc, &[7])?,
+    })?;
+    Ok(arrays)
+}
+
+/// The application's preproc, which is a routine.
+fn events_of(alloc: Global, routine: u32) -> Result<Vec<EventEntry>, AllocError> {
+    let first = EventEntry {
         code: EventCode::ApplicationPreproc,
         index: 0,
         routine,
-    }];
-    let outline = Outline {
-        constants: &[0, 1, 10],
-        texts: &["A", "A "],
-        globals: &GLOBALS,
-        arrays: &ARRAYS,
-        messages: &MESSAGES,
-        routines: &routines,
-        events: &events,
     };
-    parts_of(alloc, &outline)
+    Vec::from_slice(alloc, &[first])
+}
+
+fn messages_of(alloc: Global) -> Result<Vec<Message>, AllocError> {
+    let mut messages = Vec::new(alloc);
+    for text in ["yes", "no", "100%%"] {
+        let text = String::from_str(alloc, text)?;
+        messages.push(Message {
+            number: 0,
+            summary: false,
+            text,
+        })?;
+    }
+    let text = String::from_str(alloc, "counted")?;
+    messages.push(Message {
+        number: 9,
+        summary: true,
+        text,
+    })?;
+    let text = String::from_str(alloc, "%d")?;
+    messages.push(Message {
+        number: 0,
+        summary: false,
+        text,
+    })?;
+    Ok(messages)
+}
+
+fn routines_of(
+    alloc: Global,
+    ambient: Ambient,
+    gives: Gift,
+    instructions: usize,
+) -> Result<Vec<Routine>, AllocError> {
+    let locals = [
+        Local {
+            kind: LocalKind::Number,
+            owner: 0,
+            length: 0,
+        },
+        Local {
+            kind: LocalKind::Text,
+            owner: 0,
+            length: 3,
+        },
+    ];
+    let mut routines = Vec::new(alloc);
+    routines.push(Routine {
+        ambient,
+        gives,
+        parameters: 0,
+        locals: Vec::from_slice(alloc, &locals)?,
+        instructions: u32::try_from(instructions).unwrap_or(0),
+    })?;
+    Ok(routines)
+}
+
+pub fn instr(op: Op, a: u8, b: u16, c: u32) -> Instr {
+    Instr { op, a, b, c }
 }
 
 fn image_of(alloc: Global, parts: Parts) -> Result<Vec<u8>, Fail> {
@@ -180,30 +204,43 @@ fn says_hello(rt: HostRuntime) -> Result<(), Fail> {
 
 /// The parts of `HELLO`.
 fn hello_parts(alloc: Global) -> Result<Parts, AllocError> {
-    let messages = [MessageOutline {
+    let code = [instr(Op::Message, 0, 0, 0), instr(Op::Return, 0, 0, 0)];
+    Ok(Parts {
+        records: Vec::new(alloc),
+        items: Vec::new(alloc),
+        sets: Vec::new(alloc),
+        order: Vec::new(alloc),
+        constants: Vec::new(alloc),
+        texts: Vec::new(alloc),
+        globals: Vec::new(alloc),
+        arrays: Vec::new(alloc),
+        messages: hello_messages(alloc)?,
+        routines: hello_routines(alloc)?,
+        events: events_of(alloc, 0)?,
+        code: Vec::from_slice(alloc, &code)?,
+    })
+}
+
+fn hello_messages(alloc: Global) -> Result<Vec<Message>, AllocError> {
+    let mut messages = Vec::new(alloc);
+    messages.push(Message {
         number: 0,
         summary: false,
-        text: "Hi",
-    }];
-    let routines = [RoutineOutline {
+        text: String::from_str(alloc, "Hi")?,
+    })?;
+    Ok(messages)
+}
+
+fn hello_routines(alloc: Global) -> Result<Vec<Routine>, AllocError> {
+    let mut routines = Vec::new(alloc);
+    routines.push(Routine {
         ambient: Ambient::Run,
         gives: Gift::Nothing,
         parameters: 0,
-        locals: &[],
-        code: SAYS_YES,
-    }];
-    let events = [EventEntry {
-        code: EventCode::ApplicationPreproc,
-        index: 0,
-        routine: 0,
-    }];
-    let outline = Outline {
-        messages: &messages,
-        routines: &routines,
-        events: &events,
-        ..NOTHING
-    };
-    parts_of(alloc, &outline)
+        locals: Vec::new(alloc),
+        instructions: 2,
+    })?;
+    Ok(routines)
 }
 
 #[test]
@@ -213,9 +250,14 @@ fn writes_hello(rt: HostRuntime) -> Result<(), Fail> {
     Ok(())
 }
 
+/// The message `yes`, and a return.
+fn says_yes() -> [Instr; 2] {
+    [instr(Op::Message, 0, 0, 0), instr(Op::Return, 0, 0, 0)]
+}
+
 /// Parts with an item.
 fn with_item(alloc: Global) -> Result<Parts, AllocError> {
-    let mut parts = preproc_of(alloc, SAYS_YES)?;
+    let mut parts = parts_of(alloc, &says_yes())?;
     parts.items.push(ItemShape {
         owner: 255,
         kind: ItemKind::Number,
@@ -230,7 +272,7 @@ fn refuses_programs(rt: HostRuntime) -> Result<(), Fail> {
     let text = printed(rt.alloc(), with_item(rt.alloc())?)?;
     assert_eq!(rt; text.as_str(), "refused 68\n");
     // The code ends without a return.
-    let text = printed(rt.alloc(), preproc_of(rt.alloc(), ENDLESS)?)?;
+    let text = printed(rt.alloc(), parts_of(rt.alloc(), &says_yes()[..1])?)?;
     assert_eq!(rt; text.as_str(), "refused 65 routine 0 place 0\n");
     Ok(())
 }
@@ -246,36 +288,65 @@ const EVENTS: &[(Ambient, Gift, u32, &str)] = &[
 fn traps_at_events(rt: HostRuntime) -> Result<(), Fail> {
     let alloc = rt.alloc();
     for (ambient, gives, routine, want) in EVENTS {
-        let parts = preproc_with(alloc, *ambient, *gives, *routine, SAYS_YES)?;
+        let parts = parts_with(alloc, *ambient, *gives, *routine, &says_yes())?;
         let text = printed(alloc, parts)?;
         assert_eq!(rt; text.as_str(), *want);
     }
     Ok(())
 }
 
-/// The text of `HELLO`.
-const HELLO_TEXT: &[u8] = b"Hi\n2 steps\n";
+/// A writer that fails at a call, counted down, and takes at most so many bytes in a call.
+struct Failing {
+    calls: usize,
+    most: usize,
+    taken: Vec<u8>,
+}
 
-/// Whether a run of `HELLO` ends as it should where a writer takes so many bytes in a call and fails at a call: with a
-/// failed write after a front of its text, or with all of it.
-fn ends_well(alloc: Global, at_most: usize, fails_at: u64) -> bool {
-    let mut out = Writes::new(Slow::new(alloc, at_most, fails_at, 0));
-    let result = try_to(alloc, &HELLO, &mut out);
-    let writer = out.into_inner();
-    match result {
-        Ok(end) => end == TryEnd::Ended(2) && writer.taken() == HELLO_TEXT,
-        Err(TryFault::Write) => {
-            (at_most == 0 || fails_at > 0) && HELLO_TEXT.starts_with(writer.taken())
+impl io::Write for Failing {
+    fn write(&mut self, bytes: &[u8]) -> io::Result<usize> {
+        if self.calls == 0 {
+            return Err(io::Error::from(io::ErrorKind::Other));
         }
-        Err(_) => false,
+        self.calls -= 1;
+        let count = bytes.len().min(self.most);
+        self.taken.extend_from_slice(&bytes[..count])?;
+        Ok(count)
+    }
+
+    fn flush(&mut self) -> io::Result<()> {
+        Ok(())
     }
 }
 
 #[test]
-fn tells_failed_writes(rt: HostRuntime) {
-    for at_most in 0..3 {
-        for fails_at in 0..20 {
-            assert!(rt; ends_well(rt.alloc(), at_most, fails_at));
+fn tells_failed_writes(rt: HostRuntime) -> Result<(), Fail> {
+    let alloc = rt.alloc();
+    for most in 0..3 {
+        for calls in 0..20 {
+            let mut out = Writes::new(Failing {
+                calls,
+                most,
+                taken: Vec::new(alloc),
+            });
+            let result = try_to(alloc, &HELLO, &mut out);
+            let Failing {
+                calls: left,
+                most: _,
+                taken,
+            } = out.into_inner();
+            let text = b"Hi\n2 steps\n".as_slice();
+            match result {
+                Ok(end) => {
+                    assert_eq!(rt; end, TryEnd::Ended(2));
+                    assert_eq!(rt; taken.as_slice(), text);
+                }
+                Err(TryFault::Write) => {
+                    assert!(rt; most == 0 || left == 0);
+                    assert!(rt; text.starts_with(&taken));
+                }
+                Err(_) => assert!(rt; false),
+            }
         }
     }
+    Ok(())
 }

@@ -1,12 +1,14 @@
-//! What `verify` prints: of programs that may run and of those that may not, and of faults of both files.
+//! Worked images and what `verify` prints of them.
 
 use crate::fault::{Fault, fault_line};
 use crate::verify_image::{VerifyFault, verify_to};
 use cse_dict::Dictionary;
-use cse_fixtures::outline::{Line, NOTHING, Outline, RoutineOutline, add_shape, parts_of};
-use cse_image::{Ambient, EventCode, EventEntry, Gift, Local, LocalKind, Op, Program, write_image};
+use cse_image::{
+    Ambient, Array, EventCode, EventEntry, Gift, Instr, Local, LocalKind, Op, Parts, Program,
+    Routine, write_image,
+};
 use cse_value::Writes;
-use std::alloc::Global;
+use std::alloc::{AllocError, Global};
 use std::test::Fail;
 
 /// The dictionary with neither records nor items.
@@ -33,13 +35,23 @@ const SHORTER: &[u8] = b"[Dictionary]\nName=SAMPLE_DICT\nRecordTypeStart=1\nReco
 /// A second level, in line 5.
 const TWO_LEVELS: &[u8] = b"[Dictionary]\nName=D\n[Level]\nName=A\n[Level]\nName=B\n";
 
-/// A program with the constants 10, 2, 3, 1 and 0: its dictionary, its routines, its events, and what `verify` prints.
-struct Made {
-    dictionary: &'static [u8],
-    routines: &'static [RoutineOutline],
-    events: &'static [EventEntry],
-    printed: &'static str,
-}
+/// An instruction: its opcode and its fields a, b and c.
+type Line = (Op, u8, u16, u32);
+
+/// A routine: its ambient, its gift, whether it takes an occurrence of record 0, its code.
+type Part = (Ambient, Gift, bool, &'static [Line]);
+
+/// An event: its code, its index, its routine.
+type When = (EventCode, u16, u32);
+
+/// A program with the constants 10, 2, 3, 1 and 0, a text and two arrays: its dictionary, its routines,
+/// its events, and what `verify` prints.
+type Made = (
+    &'static [u8],
+    &'static [Part],
+    &'static [When],
+    &'static str,
+);
 
 /// A loop over persons in which a counted loop is left early where there are more than two.
 const LOOPS: &[Line] = &[
@@ -56,7 +68,33 @@ const LOOPS: &[Line] = &[
     (Op::Return, 0, 0, 0),
 ];
 
-/// A function of a number; a loop that calls it three times; and one that calls its own routine.
+/// 65534 times 65535 turns of nothing: 4294967295 steps.
+const LONG: &[Line] = &[
+    (Op::Number, 0, 0, 3),
+    (Op::LoopCount, 0, 65534, 5),
+    (Op::Number, 0, 0, 3),
+    (Op::LoopCount, 0, 65535, 4),
+    (Op::End, 0, 0, 3),
+    (Op::End, 0, 0, 1),
+    (Op::Return, 0, 0, 0),
+];
+
+/// Calls it 2^32 times.
+const LONGER: &[Line] = &[
+    (Op::Number, 0, 0, 3),
+    (Op::LoopCount, 0, 32768, 9),
+    (Op::Number, 0, 0, 3),
+    (Op::LoopCount, 0, 32768, 8),
+    (Op::Number, 0, 0, 3),
+    (Op::LoopCount, 0, 4, 7),
+    (Op::Call, 0, 0, 0),
+    (Op::End, 0, 0, 5),
+    (Op::End, 0, 0, 3),
+    (Op::End, 0, 0, 1),
+    (Op::Return, 0, 0, 0),
+];
+
+/// A function of a number, and a loop that calls a routine three times.
 const THREE: &[Line] = &[(Op::Number, 0, 0, 2), (Op::Return, 0, 0, 0)];
 
 const CALLS: &[Line] = &[
@@ -77,7 +115,38 @@ const CALLS_ITSELF: &[Line] = &[
     (Op::Return, 0, 0, 0),
 ];
 
-/// 10^12 steps in all.
+/// An age that is blank is taken from the deck by sex and relation; another one is put there.
+const DECK: &[Line] = &[
+    (Op::LoadLocal, 0, 0, 0),
+    (Op::ItemNumber, 0, 0, 3),
+    (Op::Special, 0, 0, 0),
+    (Op::Compare, 0, 0, 0),
+    (Op::JumpUnless, 0, 0, 17),
+    (Op::LoadLocal, 0, 0, 0),
+    (Op::LoadLocal, 0, 0, 0),
+    (Op::ItemNumber, 0, 0, 1),
+    (Op::Row, 0, 0, 14),
+    (Op::LoadLocal, 0, 0, 0),
+    (Op::ItemNumber, 0, 0, 2),
+    (Op::Row, 1, 1, 0),
+    (Op::LoadCell, 0, 0, 0),
+    (Op::Jump, 0, 0, 15),
+    (Op::Special, 2, 0, 0),
+    (Op::Impute, 0, 0, 3),
+    (Op::Jump, 0, 0, 26),
+    (Op::LoadLocal, 0, 0, 0),
+    (Op::ItemNumber, 0, 0, 1),
+    (Op::Row, 0, 0, 26),
+    (Op::LoadLocal, 0, 0, 0),
+    (Op::ItemNumber, 0, 0, 2),
+    (Op::Row, 1, 1, 0),
+    (Op::LoadLocal, 0, 0, 0),
+    (Op::ItemNumber, 0, 0, 3),
+    (Op::StoreCell, 0, 0, 0),
+    (Op::Return, 0, 0, 0),
+];
+
+/// 10^12 steps in all, and 10^12 and some more.
 const MOST: &[Line] = &[
     (Op::Number, 0, 0, 4),
     (Op::LoopCount, 0, 10000, 8),
@@ -100,116 +169,261 @@ const MOST: &[Line] = &[
     (Op::Return, 0, 0, 0),
 ];
 
-/// An occurrence of record 0.
-const PERSON: &[Local] = &[Local {
-    kind: LocalKind::Occurrence,
-    owner: 0,
-    length: 0,
-}];
-
-/// A program with a loop in a loop.
-const FIRST: Made = Made {
-    dictionary: SAMPLE,
-    routines: &[RoutineOutline {
-        ambient: Ambient::Case,
-        gives: Gift::Nothing,
-        parameters: 0,
-        locals: &[],
-        code: LOOPS,
-    }],
-    events: &[EventEntry {
-        code: EventCode::LevelPreproc,
-        index: 0,
-        routine: 0,
-    }],
-    printed: "routine 0 1892 steps\ncase 1892 steps\nrun 0 steps\ndepth 2 0 0 2\naccepted\n",
-};
-
-/// Two routines that may run; a refusal with its routine and place, and one of the whole case.
-const PROGRAMS: &[Made] = &[
-    FIRST,
-    Made {
-        dictionary: EMPTY,
-        routines: &[
-            RoutineOutline {
-                ambient: Ambient::Run,
-                gives: Gift::Number,
-                parameters: 0,
-                locals: &[],
-                code: THREE,
-            },
-            RoutineOutline {
-                ambient: Ambient::Run,
-                gives: Gift::Nothing,
-                parameters: 0,
-                locals: &[],
-                code: CALLS,
-            },
-        ],
-        events: &[EventEntry {
-            code: EventCode::ApplicationPreproc,
-            index: 0,
-            routine: 1,
-        }],
-        printed: "routine 0 2 steps\nroutine 1 18 steps\ncase 0 steps\nrun 18 steps\ndepth 1 0 0 1\naccepted\n",
-    },
-    Made {
-        dictionary: EMPTY,
-        routines: &[
-            RoutineOutline {
-                ambient: Ambient::Run,
-                gives: Gift::Number,
-                parameters: 0,
-                locals: &[],
-                code: THREE,
-            },
-            RoutineOutline {
-                ambient: Ambient::Run,
-                gives: Gift::Nothing,
-                parameters: 0,
-                locals: &[],
-                code: CALLS_ITSELF,
-            },
-        ],
-        events: &[],
-        printed: "refused 69 routine 1 place 2\n",
-    },
-    Made {
-        dictionary: SAMPLE,
-        routines: &[RoutineOutline {
-            ambient: Ambient::Case,
-            gives: Gift::Nothing,
-            parameters: 1,
-            locals: PERSON,
-            code: MOST,
-        }],
-        events: &[EventEntry {
-            code: EventCode::ItemPostproc,
-            index: 3,
-            routine: 0,
-        }],
-        printed: "refused 67\n",
-    },
+const TOO_MANY: &[Line] = &[
+    (Op::Number, 0, 0, 4),
+    (Op::LoopCount, 0, 10000, 8),
+    (Op::Number, 0, 0, 4),
+    (Op::LoopCount, 0, 9999, 7),
+    (Op::Number, 0, 0, 4),
+    (Op::LoopCount, 0, 9997, 6),
+    (Op::End, 0, 0, 5),
+    (Op::End, 0, 0, 3),
+    (Op::End, 0, 0, 1),
+    (Op::Number, 0, 0, 4),
+    (Op::LoopCount, 0, 9996, 14),
+    (Op::Number, 0, 0, 4),
+    (Op::LoopCount, 0, 9997, 13),
+    (Op::End, 0, 0, 12),
+    (Op::End, 0, 0, 10),
+    (Op::Number, 0, 0, 4),
+    (Op::LoopCount, 0, 9994, 17),
+    (Op::End, 0, 0, 16),
+    (Op::Return, 0, 0, 0),
 ];
 
-fn image_with(alloc: Global, dictionary: &Dictionary, made: &Made) -> Result<Vec<u8>, Fail> {
-    let outline = Outline {
-        constants: &[10, 2, 3, 1, 0],
-        routines: made.routines,
-        events: made.events,
-        ..NOTHING
-    };
-    let mut parts = parts_of(alloc, &outline)?;
-    add_shape(&mut parts, dictionary.shape())?;
-    let program = Program::from_parts(parts).ok_or("no spelling")?;
-    Ok(write_image(alloc, &program)?)
+/// A sum of a number and a text; two stacks at one place; an index of size 5 for an array of 4 cells.
+const SUM: &[Line] = &[
+    (Op::Number, 0, 0, 0),
+    (Op::Text, 0, 0, 0),
+    (Op::Add, 0, 0, 0),
+    (Op::Pop, 0, 0, 0),
+    (Op::Return, 0, 0, 0),
+];
+
+const CLASH: &[Line] = &[
+    (Op::Number, 0, 0, 0),
+    (Op::JumpUnless, 0, 0, 3),
+    (Op::Text, 0, 0, 0),
+    (Op::Return, 0, 0, 0),
+];
+
+const WIDE: &[Line] = &[
+    (Op::Number, 0, 0, 0),
+    (Op::Index, 0, 5, 4),
+    (Op::LoadCell, 0, 0, 1),
+    (Op::Pop, 0, 0, 0),
+    (Op::Return, 0, 0, 0),
+];
+
+const RUN: &[When] = &[(EventCode::ApplicationPreproc, 0, 0)];
+
+const RUN_SECOND: &[When] = &[(EventCode::ApplicationPreproc, 0, 1)];
+
+const LEVEL: &[When] = &[(EventCode::LevelPreproc, 0, 0)];
+
+const AGE: &[When] = &[(EventCode::ItemPostproc, 3, 0)];
+
+/// A program with a loop in a loop.
+const FIRST: Made = (
+    SAMPLE,
+    &[(Ambient::Case, Gift::Nothing, false, LOOPS)],
+    LEVEL,
+    "routine 0 1892 steps\ncase 1892 steps\nrun 0 steps\ndepth 2 0 0 2\naccepted\n",
+);
+
+/// What `verify` prints of each.
+const PROGRAMS: &[Made] = &[
+    FIRST,
+    (
+        EMPTY,
+        &[
+            (Ambient::Run, Gift::Nothing, false, LONG),
+            (Ambient::Run, Gift::Nothing, false, LONGER),
+        ],
+        &[],
+        "refused 67 routine 1 place 6\n",
+    ),
+    (
+        EMPTY,
+        &[
+            (Ambient::Run, Gift::Number, false, THREE),
+            (Ambient::Run, Gift::Nothing, false, CALLS),
+        ],
+        RUN_SECOND,
+        "routine 0 2 steps\nroutine 1 18 steps\ncase 0 steps\nrun 18 steps\ndepth 1 0 0 1\naccepted\n",
+    ),
+    (
+        EMPTY,
+        &[
+            (Ambient::Run, Gift::Number, false, THREE),
+            (Ambient::Run, Gift::Nothing, false, CALLS_ITSELF),
+        ],
+        RUN_SECOND,
+        "refused 69 routine 1 place 2\n",
+    ),
+    (
+        SAMPLE,
+        &[(Ambient::Case, Gift::Nothing, true, DECK)],
+        AGE,
+        "routine 0 27 steps\ncase 810 steps\nrun 0 steps\ndepth 2 0 4 0\naccepted\n",
+    ),
+    (
+        EMPTY,
+        &[(Ambient::Run, Gift::Nothing, false, MOST)],
+        RUN,
+        "routine 0 1000000000000 steps\ncase 0 steps\nrun 1000000000000 steps\ndepth 1 0 0 3\naccepted\n",
+    ),
+    (
+        EMPTY,
+        &[(Ambient::Run, Gift::Nothing, false, TOO_MANY)],
+        RUN,
+        "refused 67 routine 0 place 18\n",
+    ),
+    (
+        SAMPLE,
+        &[(Ambient::Case, Gift::Nothing, true, MOST)],
+        AGE,
+        "refused 67\n",
+    ),
+    (
+        EMPTY,
+        &[(Ambient::Run, Gift::Nothing, false, SUM)],
+        RUN,
+        "refused 66 routine 0 place 2\n",
+    ),
+    (
+        EMPTY,
+        &[(Ambient::Run, Gift::Nothing, false, CLASH)],
+        RUN,
+        "refused 66 routine 0 place 3\n",
+    ),
+    (
+        EMPTY,
+        &[(Ambient::Run, Gift::Nothing, false, WIDE)],
+        RUN,
+        "refused 66 routine 0 place 2\n",
+    ),
+    (
+        EMPTY,
+        &[(Ambient::Case, Gift::Nothing, false, LOOPS)],
+        LEVEL,
+        "refused 66 routine 0 place 0\n",
+    ),
+];
+
+fn code_of(alloc: Global, routines: &[Part]) -> Result<Vec<Instr>, AllocError> {
+    let mut code = Vec::new(alloc);
+    for (_, _, _, lines) in routines {
+        add_code(&mut code, lines)?;
+    }
+    Ok(code)
+}
+
+fn add_code(code: &mut Vec<Instr>, lines: &[Line]) -> Result<(), AllocError> {
+    for (op, a, b, c) in lines {
+        code.push(Instr {
+            op: *op,
+            a: *a,
+            b: *b,
+            c: *c,
+        })?;
+    }
+    Ok(())
+}
+
+fn routine_of(alloc: Global, part: &Part) -> Result<Routine, AllocError> {
+    let (ambient, gives, takes, lines) = *part;
+    let mut locals = Vec::new(alloc);
+    if takes {
+        locals.push(Local {
+            kind: LocalKind::Occurrence,
+            owner: 0,
+            length: 0,
+        })?;
+    }
+    Ok(Routine {
+        ambient,
+        gives,
+        parameters: u8::from(takes),
+        locals,
+        instructions: u32::try_from(lines.len()).unwrap_or(0),
+    })
+}
+
+fn routines_of(alloc: Global, parts: &[Part]) -> Result<Vec<Routine>, AllocError> {
+    let mut routines = Vec::new(alloc);
+    for part in parts {
+        routines.push(routine_of(alloc, part)?)?;
+    }
+    Ok(routines)
+}
+
+fn events_of(alloc: Global, events: &[When]) -> Result<Vec<EventEntry>, AllocError> {
+    let mut entries = Vec::new(alloc);
+    for (code, index, routine) in events {
+        entries.push(EventEntry {
+            code: *code,
+            index: *index,
+            routine: *routine,
+        })?;
+    }
+    Ok(entries)
+}
+
+fn array_of(alloc: Global, name: &str, dimensions: &[u16]) -> Result<Array, AllocError> {
+    Ok(Array {
+        saved: true,
+        dimensions: Vec::from_slice(alloc, dimensions)?,
+        name: String::from_str(alloc, name)?,
+        cells: Vec::new(alloc),
+    })
+}
+
+/// A deck by sex and relation, and an array of four cells.
+fn arrays_of(alloc: Global) -> Result<Vec<Array>, AllocError> {
+    let mut arrays = Vec::new(alloc);
+    arrays.push(array_of(alloc, "AGE_HD", &[2, 4])?)?;
+    arrays.push(array_of(alloc, "FOUR", &[4])?)?;
+    Ok(arrays)
+}
+
+/// The parts of a program that was made for a dictionary.
+fn parts_of(alloc: Global, dict: &Dictionary, made: &Made) -> Result<Parts, AllocError> {
+    let (_, routines, events, _) = *made;
+    let shape = dict.shape();
+    let mut order = Vec::new(alloc);
+    if !shape.records.is_empty() {
+        order.push(0)?;
+    }
+    let mut texts = Vec::new(alloc);
+    texts.push(String::from_str(alloc, "A")?)?;
+    Ok(Parts {
+        records: Vec::from_slice(alloc, &shape.records)?,
+        items: Vec::from_slice(alloc, &shape.items)?,
+        sets: Vec::from_slice(alloc, &shape.sets)?,
+        order,
+        constants: Vec::from_slice(alloc, &[10, 2, 3, 1, 0])?,
+        texts,
+        globals: Vec::new(alloc),
+        arrays: arrays_of(alloc)?,
+        messages: Vec::new(alloc),
+        routines: routines_of(alloc, routines)?,
+        events: events_of(alloc, events)?,
+        code: code_of(alloc, routines)?,
+    })
 }
 
 fn image_of(alloc: Global, made: &Made) -> Result<Vec<u8>, Fail> {
-    match Dictionary::read(alloc, made.dictionary) {
-        Ok(dictionary) => image_with(alloc, &dictionary, made),
+    match Dictionary::read(alloc, made.0) {
+        Ok(dict) => image_with(alloc, &dict, made),
         Err(_) => Err("no dictionary".into()),
     }
+}
+
+fn image_with(alloc: Global, dict: &Dictionary, made: &Made) -> Result<Vec<u8>, Fail> {
+    let parts = parts_of(alloc, dict, made)?;
+    let program = Program::from_parts(parts).ok_or("no spelling")?;
+    Ok(write_image(alloc, &program)?)
 }
 
 /// What `verify` prints, and the line of its fault.
@@ -234,8 +448,9 @@ fn told_of(alloc: Global, dict: &[u8], made: &Made) -> Result<String, Fail> {
 #[test]
 fn tells_programs(rt: HostRuntime) -> Result<(), Fail> {
     for made in PROGRAMS {
-        let text = told_of(rt.alloc(), made.dictionary, made)?;
-        assert_eq!(rt; text.as_str(), made.printed);
+        let (dict, _, _, want) = *made;
+        let text = told_of(rt.alloc(), dict, made)?;
+        assert_eq!(rt; text.as_str(), want);
     }
     Ok(())
 }

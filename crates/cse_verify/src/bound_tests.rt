@@ -1,447 +1,274 @@
 //! Worked programs: how much they may take, and which are refused.
 
 use crate::verify;
-use crate::worked::{EMPTY, Made, PERSON, PERSONS, accepted, program_of, read, refused};
-use crate::worked_code::{
-    CALLS, CALLS_ITSELF, CLASH, GIVES, HOT_DECK, JUMPS_NOWHERE, LISTS, LONG, LOOPS, MANY, SUM,
-    TOO_LONG, TOO_MANY, WIDE,
-};
+use crate::worked::{EMPTY, Line, PERSONS, parts_of, read, told_of, told_of_two};
 use cse_dict::Dictionary;
-use cse_fixtures::outline::RoutineOutline;
-use cse_image::{Ambient, EventCode, EventEntry, Gift, Program};
+use cse_image::{Ambient, EventCode, Gift, Op, Program};
 use std::alloc::Global;
 use std::test::Fail;
 
-/// Programs that may run, and what is told of each: the steps of the first two routines (0 for one that isn't there), of
-/// a case and of the run, and how many numbers, texts, ordinals and brackets are kept at once. An event of the level and
-/// one of a record come once in a case.
-const ACCEPTED: &[(Made, [u64; 8])] = &[
-    (
-        Made {
-            dictionary: PERSONS,
-            routines: &[RoutineOutline {
-                ambient: Ambient::Case,
-                gives: Gift::Nothing,
-                parameters: 0,
-                locals: &[],
-                code: LOOPS,
-            }],
-            events: &[EventEntry {
-                code: EventCode::LevelPreproc,
-                index: 0,
-                routine: 0,
-            }],
-        },
-        [1892, 0, 1892, 0, 2, 0, 0, 2],
-    ),
-    (
-        Made {
-            dictionary: PERSONS,
-            routines: &[RoutineOutline {
-                ambient: Ambient::Case,
-                gives: Gift::Nothing,
-                parameters: 0,
-                locals: &[],
-                code: LOOPS,
-            }],
-            events: &[EventEntry {
-                code: EventCode::RecordPostproc,
-                index: 0,
-                routine: 0,
-            }],
-        },
-        [1892, 0, 1892, 0, 2, 0, 0, 2],
-    ),
-    (
-        Made {
-            dictionary: EMPTY,
-            routines: &[
-                RoutineOutline {
-                    ambient: Ambient::Run,
-                    gives: Gift::Number,
-                    parameters: 0,
-                    locals: &[],
-                    code: GIVES,
-                },
-                RoutineOutline {
-                    ambient: Ambient::Run,
-                    gives: Gift::Nothing,
-                    parameters: 0,
-                    locals: &[],
-                    code: CALLS,
-                },
-            ],
-            events: &[EventEntry {
-                code: EventCode::ApplicationPreproc,
-                index: 0,
-                routine: 1,
-            }],
-        },
-        [2, 18, 0, 18, 1, 0, 0, 1],
-    ),
-    (
-        Made {
-            dictionary: EMPTY,
-            routines: &[RoutineOutline {
-                ambient: Ambient::Run,
-                gives: Gift::Nothing,
-                parameters: 0,
-                locals: &[],
-                code: LISTS,
-            }],
-            events: &[EventEntry {
-                code: EventCode::ApplicationPreproc,
-                index: 0,
-                routine: 0,
-            }],
-        },
-        [2, 0, 0, 2, 0, 0, 0, 0],
-    ),
-    (
-        Made {
-            dictionary: EMPTY,
-            routines: &[RoutineOutline {
-                ambient: Ambient::Run,
-                gives: Gift::Nothing,
-                parameters: 0,
-                locals: &[],
-                code: MANY,
-            }],
-            events: &[EventEntry {
-                code: EventCode::ApplicationPostproc,
-                index: 0,
-                routine: 0,
-            }],
-        },
-        [4294967295, 0, 0, 4294967295, 1, 0, 0, 2],
-    ),
-    (
-        Made {
-            dictionary: EMPTY,
-            routines: &[RoutineOutline {
-                ambient: Ambient::Run,
-                gives: Gift::Nothing,
-                parameters: 0,
-                locals: &[],
-                code: LONG,
-            }],
-            events: &[EventEntry {
-                code: EventCode::ApplicationPreproc,
-                index: 0,
-                routine: 0,
-            }],
-        },
-        [1000000000000, 0, 0, 1000000000000, 1, 0, 0, 3],
-    ),
-    (
-        Made {
-            dictionary: PERSONS,
-            routines: &[RoutineOutline {
-                ambient: Ambient::Case,
-                gives: Gift::Nothing,
-                parameters: 1,
-                locals: PERSON,
-                code: HOT_DECK,
-            }],
-            events: &[EventEntry {
-                code: EventCode::ItemPostproc,
-                index: 3,
-                routine: 0,
-            }],
-        },
-        [27, 0, 810, 0, 2, 0, 4, 0],
-    ),
+/// A loop over persons, and one in it with a break.
+static LOOPS: [Line; 11] = [
+    (Op::LoopOccurrences, 0, 0, 9),
+    (Op::Number, 0, 0, 0),
+    (Op::LoopCount, 0, 10, 8),
+    (Op::TotalOccurrences, 0, 0, 0),
+    (Op::Number, 0, 0, 1),
+    (Op::Compare, 4, 0, 0),
+    (Op::JumpUnless, 0, 0, 8),
+    (Op::Break, 0, 0, 8),
+    (Op::End, 0, 0, 2),
+    (Op::End, 0, 0, 0),
+    (Op::Return, 0, 0, 0),
 ];
 
+/// The same routine at two events, each of which comes once in a case.
 #[test]
-fn tells_how_much_programs_take(rt: HostRuntime) -> Result<(), Fail> {
-    for (made, want) in ACCEPTED {
-        assert_eq!(rt; accepted(rt.alloc(), made)?, *want);
-    }
+fn counts_the_steps_of_loops(rt: HostRuntime) -> Result<(), Fail> {
+    let alloc = rt.alloc();
+    let plan = (Ambient::Case, Gift::Nothing, false, LOOPS.as_slice());
+    let line = told_of(alloc, PERSONS, plan, EventCode::LevelPreproc, 0)?;
+    assert_eq!(rt; line.as_str(), "1892 case 1892 run 0 depth 2 0 0 2");
+    let line = told_of(alloc, PERSONS, plan, EventCode::RecordPostproc, 0)?;
+    assert_eq!(rt; line.as_str(), "1892 case 1892 run 0 depth 2 0 0 2");
     Ok(())
 }
 
-/// Programs that may not run, and the first reason: its number, routine and place.
-const REFUSED: &[(Made, (u8, u32, u32))] = &[
-    (
-        Made {
-            dictionary: EMPTY,
-            routines: &[
-                RoutineOutline {
-                    ambient: Ambient::Run,
-                    gives: Gift::Number,
-                    parameters: 0,
-                    locals: &[],
-                    code: GIVES,
-                },
-                RoutineOutline {
-                    ambient: Ambient::Run,
-                    gives: Gift::Nothing,
-                    parameters: 0,
-                    locals: &[],
-                    code: CALLS_ITSELF,
-                },
-            ],
-            events: &[EventEntry {
-                code: EventCode::ApplicationPreproc,
-                index: 0,
-                routine: 1,
-            }],
-        },
-        (69, 1, 2),
-    ),
-    (
-        Made {
-            dictionary: EMPTY,
-            routines: &[
-                RoutineOutline {
-                    ambient: Ambient::Run,
-                    gives: Gift::Nothing,
-                    parameters: 0,
-                    locals: &[],
-                    code: MANY,
-                },
-                RoutineOutline {
-                    ambient: Ambient::Run,
-                    gives: Gift::Nothing,
-                    parameters: 0,
-                    locals: &[],
-                    code: TOO_MANY,
-                },
-            ],
-            events: &[EventEntry {
-                code: EventCode::ApplicationPreproc,
-                index: 0,
-                routine: 1,
-            }],
-        },
-        (67, 1, 6),
-    ),
-    (
-        Made {
-            dictionary: EMPTY,
-            routines: &[RoutineOutline {
-                ambient: Ambient::Run,
-                gives: Gift::Nothing,
-                parameters: 0,
-                locals: &[],
-                code: TOO_LONG,
-            }],
-            events: &[EventEntry {
-                code: EventCode::ApplicationPreproc,
-                index: 0,
-                routine: 0,
-            }],
-        },
-        (67, 0, 18),
-    ),
-    // The sum of a case, in which the event comes once for each of 30 occurrences.
-    (
-        Made {
-            dictionary: PERSONS,
-            routines: &[RoutineOutline {
-                ambient: Ambient::Case,
-                gives: Gift::Nothing,
-                parameters: 1,
-                locals: PERSON,
-                code: LONG,
-            }],
-            events: &[EventEntry {
-                code: EventCode::ItemPostproc,
-                index: 3,
-                routine: 0,
-            }],
-        },
-        (67, 4294967295, 4294967295),
-    ),
-    // A sum of the first routine comes before a jump of the second.
-    (
-        Made {
-            dictionary: EMPTY,
-            routines: &[
-                RoutineOutline {
-                    ambient: Ambient::Run,
-                    gives: Gift::Nothing,
-                    parameters: 0,
-                    locals: &[],
-                    code: TOO_LONG,
-                },
-                RoutineOutline {
-                    ambient: Ambient::Run,
-                    gives: Gift::Nothing,
-                    parameters: 0,
-                    locals: &[],
-                    code: JUMPS_NOWHERE,
-                },
-            ],
-            events: &[EventEntry {
-                code: EventCode::ApplicationPreproc,
-                index: 0,
-                routine: 1,
-            }],
-        },
-        (67, 0, 18),
-    ),
-    (
-        Made {
-            dictionary: EMPTY,
-            routines: &[
-                RoutineOutline {
-                    ambient: Ambient::Run,
-                    gives: Gift::Nothing,
-                    parameters: 0,
-                    locals: &[],
-                    code: LONG,
-                },
-                RoutineOutline {
-                    ambient: Ambient::Run,
-                    gives: Gift::Nothing,
-                    parameters: 0,
-                    locals: &[],
-                    code: JUMPS_NOWHERE,
-                },
-            ],
-            events: &[EventEntry {
-                code: EventCode::ApplicationPreproc,
-                index: 0,
-                routine: 1,
-            }],
-        },
-        (65, 1, 0),
-    ),
-    // An event lacks its routine.
-    (
-        Made {
-            dictionary: PERSONS,
-            routines: &[RoutineOutline {
-                ambient: Ambient::Case,
-                gives: Gift::Nothing,
-                parameters: 1,
-                locals: PERSON,
-                code: LISTS,
-            }],
-            events: &[EventEntry {
-                code: EventCode::LevelPreproc,
-                index: 0,
-                routine: 0,
-            }],
-        },
-        (69, 4294967295, 4294967295),
-    ),
-    (
-        Made {
-            dictionary: EMPTY,
-            routines: &[RoutineOutline {
-                ambient: Ambient::Run,
-                gives: Gift::Nothing,
-                parameters: 0,
-                locals: &[],
-                code: SUM,
-            }],
-            events: &[EventEntry {
-                code: EventCode::ApplicationPreproc,
-                index: 0,
-                routine: 0,
-            }],
-        },
-        (66, 0, 2),
-    ),
-    (
-        Made {
-            dictionary: EMPTY,
-            routines: &[RoutineOutline {
-                ambient: Ambient::Run,
-                gives: Gift::Nothing,
-                parameters: 0,
-                locals: &[],
-                code: CLASH,
-            }],
-            events: &[EventEntry {
-                code: EventCode::ApplicationPreproc,
-                index: 0,
-                routine: 0,
-            }],
-        },
-        (66, 0, 3),
-    ),
-    (
-        Made {
-            dictionary: EMPTY,
-            routines: &[RoutineOutline {
-                ambient: Ambient::Run,
-                gives: Gift::Nothing,
-                parameters: 0,
-                locals: &[],
-                code: WIDE,
-            }],
-            events: &[EventEntry {
-                code: EventCode::ApplicationPreproc,
-                index: 0,
-                routine: 0,
-            }],
-        },
-        (66, 0, 2),
-    ),
-    // A loop over a record that the dictionary lacks.
-    (
-        Made {
-            dictionary: EMPTY,
-            routines: &[RoutineOutline {
-                ambient: Ambient::Case,
-                gives: Gift::Nothing,
-                parameters: 0,
-                locals: &[],
-                code: LOOPS,
-            }],
-            events: &[EventEntry {
-                code: EventCode::LevelPreproc,
-                index: 0,
-                routine: 0,
-            }],
-        },
-        (66, 0, 0),
-    ),
+static GIVES: [Line; 2] = [(Op::Number, 0, 0, 0), (Op::Return, 0, 0, 0)];
+
+/// A call in a loop: of a smaller routine, and of its own.
+static CALLS: [Line; 6] = [
+    (Op::Number, 0, 0, 0),
+    (Op::LoopCount, 0, 3, 4),
+    (Op::Call, 0, 0, 0),
+    (Op::Pop, 0, 0, 0),
+    (Op::End, 0, 0, 1),
+    (Op::Return, 0, 0, 0),
+];
+
+static CALLS_ITSELF: [Line; 6] = [
+    (Op::Number, 0, 0, 0),
+    (Op::LoopCount, 0, 3, 4),
+    (Op::Call, 0, 0, 1),
+    (Op::Pop, 0, 0, 0),
+    (Op::End, 0, 0, 1),
+    (Op::Return, 0, 0, 0),
 ];
 
 #[test]
+fn counts_the_steps_of_callees(rt: HostRuntime) -> Result<(), Fail> {
+    let alloc = rt.alloc();
+    let line = told_of_two(alloc, Gift::Number, &GIVES, &CALLS)?;
+    assert_eq!(rt; line.as_str(), "2 18 case 0 run 18 depth 1 0 0 1");
+    let line = told_of_two(alloc, Gift::Number, &GIVES, &CALLS_ITSELF)?;
+    assert_eq!(rt; line.as_str(), "refused 69 1 2");
+    Ok(())
+}
+
+/// A message and its end.
+static LISTS: [Line; 2] = [(Op::Message, 0, 0, 0), (Op::Return, 0, 0, 0)];
+
+#[test]
+fn counts_the_steps_of_the_application(rt: HostRuntime) -> Result<(), Fail> {
+    let alloc = rt.alloc();
+    let plan = (Ambient::Run, Gift::Nothing, false, LISTS.as_slice());
+    let line = told_of(alloc, EMPTY, plan, EventCode::ApplicationPreproc, 0)?;
+    assert_eq!(rt; line.as_str(), "2 case 0 run 2 depth 0 0 0 0");
+    Ok(())
+}
+
+/// 2^32 - 1 steps.
+static MANY: [Line; 7] = [
+    (Op::Number, 0, 0, 0),
+    (Op::LoopCount, 0, 65534, 5),
+    (Op::Number, 0, 0, 0),
+    (Op::LoopCount, 0, 65535, 4),
+    (Op::End, 0, 0, 3),
+    (Op::End, 0, 0, 1),
+    (Op::Return, 0, 0, 0),
+];
+
+/// Calls of it: 2^64 steps, by their weight and its bound.
+static TOO_MANY: [Line; 11] = [
+    (Op::Number, 0, 0, 0),
+    (Op::LoopCount, 0, 32768, 9),
+    (Op::Number, 0, 0, 0),
+    (Op::LoopCount, 0, 32768, 8),
+    (Op::Number, 0, 0, 0),
+    (Op::LoopCount, 0, 4, 7),
+    (Op::Call, 0, 0, 0),
+    (Op::End, 0, 0, 5),
+    (Op::End, 0, 0, 3),
+    (Op::End, 0, 0, 1),
+    (Op::Return, 0, 0, 0),
+];
+
+#[test]
+fn counts_without_limit(rt: HostRuntime) -> Result<(), Fail> {
+    let alloc = rt.alloc();
+    let plan = (Ambient::Run, Gift::Nothing, false, MANY.as_slice());
+    let line = told_of(alloc, EMPTY, plan, EventCode::ApplicationPostproc, 0)?;
+    assert_eq!(rt;
+        line.as_str(),
+        "4294967295 case 0 run 4294967295 depth 1 0 0 2"
+    );
+    let line = told_of_two(alloc, Gift::Nothing, &MANY, &TOO_MANY)?;
+    assert_eq!(rt; line.as_str(), "refused 67 1 6");
+    Ok(())
+}
+
+/// 10^12 steps, and 10^12 + 1.
+static LONG: [Line; 19] = [
+    (Op::Number, 0, 0, 0),
+    (Op::LoopCount, 0, 10000, 8),
+    (Op::Number, 0, 0, 0),
+    (Op::LoopCount, 0, 9999, 7),
+    (Op::Number, 0, 0, 0),
+    (Op::LoopCount, 0, 9997, 6),
+    (Op::End, 0, 0, 5),
+    (Op::End, 0, 0, 3),
+    (Op::End, 0, 0, 1),
+    (Op::Number, 0, 0, 0),
+    (Op::LoopCount, 0, 9996, 14),
+    (Op::Number, 0, 0, 0),
+    (Op::LoopCount, 0, 9997, 13),
+    (Op::End, 0, 0, 12),
+    (Op::End, 0, 0, 10),
+    (Op::Number, 0, 0, 0),
+    (Op::LoopCount, 0, 9993, 17),
+    (Op::End, 0, 0, 16),
+    (Op::Return, 0, 0, 0),
+];
+
+static TOO_LONG: [Line; 19] = [
+    (Op::Number, 0, 0, 0),
+    (Op::LoopCount, 0, 10000, 8),
+    (Op::Number, 0, 0, 0),
+    (Op::LoopCount, 0, 9999, 7),
+    (Op::Number, 0, 0, 0),
+    (Op::LoopCount, 0, 9997, 6),
+    (Op::End, 0, 0, 5),
+    (Op::End, 0, 0, 3),
+    (Op::End, 0, 0, 1),
+    (Op::Number, 0, 0, 0),
+    (Op::LoopCount, 0, 9996, 14),
+    (Op::Number, 0, 0, 0),
+    (Op::LoopCount, 0, 9997, 13),
+    (Op::End, 0, 0, 12),
+    (Op::End, 0, 0, 10),
+    (Op::Number, 0, 0, 0),
+    (Op::LoopCount, 0, 9994, 17),
+    (Op::End, 0, 0, 16),
+    (Op::Return, 0, 0, 0),
+];
+
+#[test]
+fn keeps_to_the_limit(rt: HostRuntime) -> Result<(), Fail> {
+    let alloc = rt.alloc();
+    let plan = (Ambient::Run, Gift::Nothing, false, LONG.as_slice());
+    let line = told_of(alloc, EMPTY, plan, EventCode::ApplicationPreproc, 0)?;
+    assert_eq!(rt;
+        line.as_str(),
+        "1000000000000 case 0 run 1000000000000 depth 1 0 0 3"
+    );
+    let plan = (Ambient::Run, Gift::Nothing, false, TOO_LONG.as_slice());
+    let line = told_of(alloc, EMPTY, plan, EventCode::ApplicationPreproc, 0)?;
+    assert_eq!(rt; line.as_str(), "refused 67 0 18");
+    Ok(())
+}
+
+/// The sum of a case, in which the event comes once for each of 30 occurrences.
+#[test]
+fn keeps_a_case_to_the_limit(rt: HostRuntime) -> Result<(), Fail> {
+    let alloc = rt.alloc();
+    let plan = (Ambient::Case, Gift::Nothing, true, LONG.as_slice());
+    let line = told_of(alloc, PERSONS, plan, EventCode::ItemPostproc, 3)?;
+    assert_eq!(rt; line.as_str(), "refused 67 4294967295 4294967295");
+    Ok(())
+}
+
+static JUMPS_NOWHERE: [Line; 1] = [(Op::Jump, 0, 0, 0)];
+
+/// A sum of the first routine comes before a jump of the second; an event lacks its routine.
+#[test]
 fn tells_the_first_reason(rt: HostRuntime) -> Result<(), Fail> {
-    for (made, want) in REFUSED {
-        assert_eq!(rt; refused(rt.alloc(), made)?, *want);
-    }
+    let alloc = rt.alloc();
+    let line = told_of_two(alloc, Gift::Nothing, &TOO_LONG, &JUMPS_NOWHERE)?;
+    assert_eq!(rt; line.as_str(), "refused 67 0 18");
+    let line = told_of_two(alloc, Gift::Nothing, &LONG, &JUMPS_NOWHERE)?;
+    assert_eq!(rt; line.as_str(), "refused 65 1 0");
+    let plan = (Ambient::Case, Gift::Nothing, true, LISTS.as_slice());
+    let line = told_of(alloc, PERSONS, plan, EventCode::LevelPreproc, 0)?;
+    assert_eq!(rt; line.as_str(), "refused 69 4294967295 4294967295");
+    Ok(())
+}
+
+/// A missing age is taken from a deck, and a known one is put there.
+static HOT_DECK: [Line; 27] = [
+    (Op::LoadLocal, 0, 0, 0),
+    (Op::ItemNumber, 0, 0, 3),
+    (Op::Special, 0, 0, 0),
+    (Op::Compare, 0, 0, 0),
+    (Op::JumpUnless, 0, 0, 17),
+    (Op::LoadLocal, 0, 0, 0),
+    (Op::LoadLocal, 0, 0, 0),
+    (Op::ItemNumber, 0, 0, 1),
+    (Op::Row, 0, 0, 14),
+    (Op::LoadLocal, 0, 0, 0),
+    (Op::ItemNumber, 0, 0, 2),
+    (Op::Row, 1, 1, 0),
+    (Op::LoadCell, 0, 0, 0),
+    (Op::Jump, 0, 0, 15),
+    (Op::Special, 2, 0, 0),
+    (Op::Impute, 0, 0, 3),
+    (Op::Jump, 0, 0, 26),
+    (Op::LoadLocal, 0, 0, 0),
+    (Op::ItemNumber, 0, 0, 1),
+    (Op::Row, 0, 0, 26),
+    (Op::LoadLocal, 0, 0, 0),
+    (Op::ItemNumber, 0, 0, 2),
+    (Op::Row, 1, 1, 0),
+    (Op::LoadLocal, 0, 0, 0),
+    (Op::ItemNumber, 0, 0, 3),
+    (Op::StoreCell, 0, 0, 0),
+    (Op::Return, 0, 0, 0),
+];
+
+#[test]
+fn counts_each_occurrence(rt: HostRuntime) -> Result<(), Fail> {
+    let alloc = rt.alloc();
+    let plan = (Ambient::Case, Gift::Nothing, true, HOT_DECK.as_slice());
+    let line = told_of(alloc, PERSONS, plan, EventCode::ItemPostproc, 3)?;
+    assert_eq!(rt; line.as_str(), "27 case 810 run 0 depth 2 0 4 0");
     Ok(())
 }
 
 /// The program of no routine for the persons.
 fn bare(alloc: Global, persons: &Dictionary) -> Result<Program, Fail> {
-    program_of(alloc, persons, &[], &[])
-}
-
-/// The number of the refusal with another dictionary.
-fn number_elsewhere(alloc: Global) -> Result<u8, Fail> {
-    let program = bare(alloc, &read(alloc, PERSONS)?)?;
-    match verify(alloc, &read(alloc, EMPTY)?, program) {
-        Ok(_) => Err("accepted".into()),
-        Err(refusal) => Ok(refusal.number),
-    }
+    Ok(Program::from_parts(parts_of(alloc, persons, &[], &[])?).ok_or("no spelling")?)
 }
 
 #[test]
 fn asks_for_its_dictionary(rt: HostRuntime) -> Result<(), Fail> {
-    assert_eq!(rt; number_elsewhere(rt.alloc())?, 68);
+    let alloc = rt.alloc();
+    let persons = read(alloc, PERSONS)?;
+    let empty = read(alloc, EMPTY)?;
+    let Err(refusal) = verify(alloc, &empty, bare(alloc, &persons)?) else {
+        return Err("accepted".into());
+    };
+    assert_eq!(rt; refusal.number, 68);
     Ok(())
 }
 
-/// How many items the program has that is handed out again.
-fn items_handed_out(alloc: Global) -> Result<usize, Fail> {
-    let persons = read(alloc, PERSONS)?;
-    match verify(alloc, &persons, bare(alloc, &persons)?) {
-        Ok(verified) => Ok(verified.into_program().items().len()),
-        Err(_) => Err("refused".into()),
-    }
-}
-
 #[test]
-fn hands_out_its_program(rt: HostRuntime) -> Result<(), Fail> {
-    assert_eq!(rt; items_handed_out(rt.alloc())?, 5);
+fn holds_what_was_handed_in(rt: HostRuntime) -> Result<(), Fail> {
+    let alloc = rt.alloc();
+    let persons = read(alloc, PERSONS)?;
+    let Ok(verified) = verify(alloc, &persons, bare(alloc, &persons)?) else {
+        return Err("refused".into());
+    };
+    verified.events_keep_to_case();
+    assert_eq!(rt; verified.dictionary().name(), "SAMPLE_DICT");
+    assert_eq!(rt; verified.into_program().items().len(), 5);
     Ok(())
 }

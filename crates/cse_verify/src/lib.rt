@@ -37,5 +37,3 @@ mod chain_tests;
 mod tests;
 #[cfg(test)]
 mod worked;
-#[cfg(test)]
-mod worked_code;
