@@ -91,6 +91,13 @@ impl<C: Code> Program<C> {
         &self.tables.constants
     }
 
+    /// How many turns a counting loop may take, by the place that it names.
+    pub fn limits(&self) -> &[u32]
+        ensures { result.now ≡ self.now.lists.limits }
+    {
+        &self.tables.limits
+    }
+
     pub fn texts(&self) -> &[String]
         ensures { map string_bytes result.now ≡ self.now.lists.texts }
     {
@@ -207,6 +214,7 @@ fn split(parts: Parts) -> (Tables, Vec<Instr>)
             sets: parts.sets,
             order: parts.order,
             constants: parts.constants,
+            limits: parts.limits,
             texts: parts.texts,
             globals: parts.globals,
             arrays: parts.arrays,

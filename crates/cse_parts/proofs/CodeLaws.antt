@@ -86,13 +86,15 @@ ambient_back n x e = named_back ambient_code (ambients.Run ∷ ambients.Case ∷
 pub gift_there : (x : Gift) → gift_of (gift_code x) ≡ Some x
 gift_there gifts.Nothing = refl
 gift_there gifts.Number = refl
+gift_there gifts.Text = refl
 
 pub gift_small : (x : Gift) → gift_code x < 256
 gift_small gifts.Nothing = omega arith
 gift_small gifts.Number = omega arith
+gift_small gifts.Text = omega arith
 
 pub gift_back : (n : ℕ) (x : Gift) → gift_of n ≡ Some x → gift_code x ≡ n
-gift_back n x e = named_back gift_code (gifts.Nothing ∷ gifts.Number ∷ []) n x e
+gift_back n x e = named_back gift_code (gifts.Nothing ∷ gifts.Number ∷ gifts.Text ∷ []) n x e
 
 pub event_code_there : (x : EventCode) → event_code_of (event_code x) ≡ Some x
 event_code_there events.ApplicationPreproc = refl

@@ -94,6 +94,7 @@ pub fn gift_named(code: u8) -> Option<Gift>
     match code {
         0 => Some(Gift::Nothing),
         1 => Some(Gift::Number),
+        2 => Some(Gift::Text),
         _ => None,
     }
 }
