@@ -20,7 +20,7 @@ use Rattle.cse_typing.specs.Order.{handles, is_handled_by, fits_event}
 use Rattle.cse_typing.specs.Typed.{IsTyped}
 use Rattle.cse_typing.specs.Handlers.{is_of, routine_of, event_order, IsHandler}
 
-abbrev order_at : EventEntry → ℕ
+abbrev pub order_at : EventEntry → ℕ
 order_at x = event_order x.code x.index
 
 -- each entry stands after those before it

@@ -5,3 +5,4 @@ pub mod DepthLaws
 pub mod ChainLaws
 pub mod FirstLaws
 pub mod StartLaws
+pub mod MeaningLaws

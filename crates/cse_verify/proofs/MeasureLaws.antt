@@ -5,7 +5,6 @@ use Rattle.std.proofs.lemmas.Bool.{cases_lt}
 use Rattle.std.proofs.lemmas.List.{length_push, get_or_append_left, get_or_push, take-append-le, take_all}
 use Rattle.std.proofs.lemmas.Option.{slice_get_within, same_Some}
 use Rattle.cse_value.specs.Shape.{ShapeLists}
-use Rattle.cse_value.specs.declared.shape.RecordShape.{RecordShape}
 use Rattle.cse_parts.specs.declared.instruction.Instr.{Instr}
 use Rattle.cse_parts.specs.Image.{Image, Lists, RoutineLists}
 use Rattle.cse_typing.specs.declared.control.Control.{Control}
@@ -224,15 +223,15 @@ keeps_here s x n y code is here = subst KeepsRules (sym is) here.brackets
 
 pub calls_here : (s : ShapeLists) (x : Image) (n k : ℕ) (y : RoutineLists) (code : List Control) → code ≡ skeleton_of x n → k ≡ n → IsTypedRoutine s x n y → CallsBelow k code
 calls_here s x n k y code is count here p c at =
-    let lt : c < n = calls_below x.lists.records x.lists.routines n y.ambient (code_of x n) here.calls p c (ap (λ (l : List Control). slice_get l p) (sym is) ∙ at) in
+    let lt : c < n = calls_below x.lists x.lists.routines n y.ambient (code_of x n) here.calls p c (ap (λ (l : List Control). slice_get l p) (sym is) ∙ at) in
     omega arith
 
 pub bounds_small : (s : ShapeLists) (x : Image) (n : ℕ) (bounds frames : List ℕ) (cells : List Cells) → AreMeasured s x n bounds frames cells → (r : ℕ) → r < length bounds → get_or bounds r 0 ≤ STEP_LIMIT
 bounds_small s x n bounds frames cells m = table_small x n bounds m.bounds_are m.bounded
 
-pub skeleton_here : (x : Image) (n : ℕ) (code : List Instr) (records : List RecordShape) (seen : List Control) → seen ≡ skeleton records code → code ≡ code_of x n → records ≡ x.lists.records → seen ≡ skeleton_of x n
-skeleton_here x n code records seen is same shapes =
-    is ∙ ap (λ (l : List Instr). skeleton records l) same ∙ ap (λ (l : List RecordShape). skeleton l (code_of x n)) shapes
+pub skeleton_here : (x : Image) (n : ℕ) (code : List Instr) (lists : Lists) (seen : List Control) → seen ≡ skeleton lists code → code ≡ code_of x n → lists ≡ x.lists → seen ≡ skeleton_of x n
+skeleton_here x n code lists seen is same tables =
+    is ∙ ap (λ (l : List Instr). skeleton lists l) same ∙ ap (λ (l : Lists). skeleton l (code_of x n)) tables
 
 pub all_measured : (s : ShapeLists) (x : Image) (n : ℕ) (bounds frames : List ℕ) (cells : List Cells) → AreMeasured s x n bounds frames cells → n ≡ length x.lists.routines → AreMeasured s x (length x.lists.routines) bounds frames cells
 all_measured s x n bounds frames cells m e = subst (λ k. AreMeasured s x k bounds frames cells) e m

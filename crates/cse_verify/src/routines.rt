@@ -111,7 +111,7 @@ pub fn check_routines<C: Code>(
             routine,
         };
         let kept = check_routine(alloc, around, code, start, number, &cells)?;
-        let skeleton = RoutineCode::new(code, &tables.records, start, routine.instructions);
+        let skeleton = RoutineCode::new(code, tables, start, routine.instructions);
         add_bound(&mut bounds, &skeleton, number)?;
         add_frames(&mut frames, &skeleton)?;
         append(&mut cells, kept)?;
