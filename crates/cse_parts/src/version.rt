@@ -2,7 +2,10 @@
 //! entry of the table of limits, and a routine may give a text. In version 1 there is no such table: the
 //! loop's b is its limit, from 1, and a routine gives a number or nothing.
 
-ghost use Rattle.std.specs.Prelude.{◌≡◌};
+ghost use Rattle.std.specs.Prelude.{◌≡◌, ◌≤◌, ◌<◌, ℕ, List, Some, true, slice_get};
+ghost use Rattle.cse_parts.specs.declared.instruction.Instr.{Instr as AnInstr};
+ghost use Rattle.cse_parts.specs.Turns.{limit_of};
+ghost use Rattle.cse_parts.specs.Upgrade.{greatest_limit, one_to, zero_below, upgrade_instr};
 ghost use Rattle.cse_parts.specs.Versions.{version_code, version_of, may_give as spec_may_give, is_counting, holds_limit as spec_holds_limit};
 
 use crate::entries::Gift;
@@ -65,3 +68,9 @@ pub fn holds_limit(version: Version, op: Op) -> bool
         Version::Two => false,
     }
 }
+
+/// Law: a counting loop of an upgraded program may take as many turns as it might before.
+#[tactic(auto, using(crate::proofs::UpgradeLaws::turns_kept))]
+pub fn upgrade_keeps_turns()
+    ensures { (code : List AnInstr) (i : ℕ) (x : AnInstr) → slice_get code i ≡ Some x → is_counting x.op ≡ true → 1 ≤ x.b → x.b < 65536 → limit_of (one_to (greatest_limit code)) (upgrade_instr x).b ≡ limit_of (zero_below 65536) x.b }
+{}
