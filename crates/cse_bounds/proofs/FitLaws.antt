@@ -44,7 +44,7 @@ has_code x fits r y there =
     let size : length (part (start_of x.lists.routines r) y.instructions x.code) ≡ y.instructions =
     length-part (start_of x.lists.routines r) y.instructions x.code (lies_within x r (start_of x.lists.routines r) y fits.count there refl)
     in
-    let mapped : length (skeleton_of x r) ≡ length (code_of x r) = length-map (code_of x r) (control x.lists.records) in
+    let mapped : length (skeleton_of x r) ≡ length (code_of x r) = length-map (code_of x r) (control x.lists) in
     let is = ap (λ (l : List Instr). length l) (code_of_is x r y there) in
     omega arith
 
