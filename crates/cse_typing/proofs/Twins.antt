@@ -179,8 +179,15 @@ module _ (f : Instr → Instr) (x : Lists) (l m : List ℕ) where
           record { edges = g.edges; ruled = sym (same_rule q j (t q) at) ∙ g.ruled; agrees = g.agrees };
       others = λ k lt none. typing.others k lt (λ led.
           let j = unmap f code led.from led.instr led.there in
-          none (record { from = led.from; instr = j.0; edges = led.edges; there = j.1; smaller = led.smaller;
-                ruled = sym (same_rule led.from j.0 (t led.from) j.1) ∙ ap (λ k. rule (scene_with s x y l) (map f code) led.from k (t led.from)) j.2 ∙ led.ruled; leads = led.leads }));
+          none (record {
+            from = led.from;
+            instr = j.0;
+            edges = led.edges;
+            there = j.1;
+            smaller = led.smaller;
+            ruled = sym (same_rule led.from j.0 (t led.from) j.1) ∙ ap (λ k. rule (scene_with s x y l) (map f code) led.from k (t led.from)) j.2 ∙ led.ruled;
+            leads = led.leads;
+          }));
     }
 
   -- ---- depths and calls ask for opcodes and the field c alone

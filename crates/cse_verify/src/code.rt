@@ -28,10 +28,7 @@ pub fn code_start<C: Code>(program: &Program<C>, routine: usize) -> usize
 }
 
 /// The index of each routine's first instruction in the program's code.
-pub fn code_starts<C: Code>(
-    alloc: Global,
-    program: &Program<C>,
-) -> Result<Vec<usize>, OutOfMemory>
+pub fn code_starts<C: Code>(alloc: Global, program: &Program<C>) -> Result<Vec<usize>, OutOfMemory>
     ensures { IfOk result (λ starts. AreStarts program.now.lists.routines starts.items) }
 {
     let code = program.code();

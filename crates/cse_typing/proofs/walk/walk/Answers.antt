@@ -124,7 +124,7 @@ places-preserved g c =
           c.expected_at-there.ensures c.place_depth-kept.ensures.value c.greater-most.ensures c.places.invariant.deep;
       stacks = (let before = c.places.invariant.stacks in let one = c.turn.ensures.one in omega arith);
       few = (let before = c.places.invariant.stacks in let lt = c.places-test.true in
-      greater_few _ _ _ _ c.greater-most.ensures c.places.invariant.few (more_few _ _ _ (omega arith) c.place_depth-kept.ensures.few));
+          greater_few _ _ _ _ c.greater-most.ensures c.places.invariant.few (more_few _ _ _ (omega arith) c.place_depth-kept.ensures.few));
     }
 
 pub returns-clause-judges : goal.returns-clause-judges
