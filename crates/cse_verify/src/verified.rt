@@ -4,6 +4,7 @@ ghost use Rattle.std.specs.Prelude.{◌≡◌, ℕ, ◌<◌, ◌≤◌, List, le
 ghost use Rattle.cse_bounds.specs.Bound.{bound};
 ghost use Rattle.cse_bounds.specs.Limit.{step_limit};
 ghost use Rattle.cse_bounds.specs.EventBound.{case_bound, run_bound};
+ghost use Rattle.cse_bounds.specs.Calls.{StepsKeepToBound, RestFalls, WalksGoOn, WalksStayInside, RestIsBound, OpensKeepToFrames};
 ghost use Rattle.cse_bounds.specs.CaseEvents.{Moment, case_events, events_bound, KeepsMost, KeepsTimes};
 ghost use Rattle.cse_dict.specs.Dictionary.{shape_of};
 ghost use Rattle.cse_verify.specs.Chain.{Calling, IsChain, KeepsToDepth};
@@ -12,7 +13,7 @@ ghost use Rattle.cse_verify.specs.declared.depth.Depth.{Depth};
 ghost use Rattle.cse_verify.specs.Verified.{MayRun, IsKept};
 
 use crate::depth::Depth;
-use cse_bounds::events_keep_to_bound;
+use cse_bounds::{events_keep_to_bound, walks_keep_to_bound};
 use cse_dict::Dictionary;
 use cse_image::{Code, Owned, Program};
 use std::marker::Model;
@@ -132,5 +133,18 @@ impl<'a, C: Code> Verified<'a, C> {
         ensures { (calls : List Calling) (d : Depth) → IsChain (shape_of self.now.dictionary) self.now.image calls → IsDepthOf (shape_of self.now.dictionary) self.now.image d → KeepsToDepth self.now.image calls d }
     {
         let _may_run = self.program();
+    }
+
+    /// A law: the steps that a call of a routine takes are at most `steps` tells, whatever its operands
+    /// decide. What each clause says stands at `walks_keep_to_bound` of `cse_bounds`.
+    pub fn walks_keep_to_steps(&self)
+        ensures steps { StepsKeepToBound self.now.image }
+        ensures falls { RestFalls self.now.image }
+        ensures begins { RestIsBound self.now.image }
+        ensures goes_on { WalksGoOn self.now.image }
+        ensures inside { WalksStayInside self.now.image }
+        ensures frames { OpensKeepToFrames self.now.image }
+    {
+        walks_keep_to_bound(self.program());
     }
 }
