@@ -9,7 +9,7 @@ use Rattle.cse_bounds.specs.Walk.{Turning, Standing}
 
 -- The most steps from the place p on to the end of the innermost bracket around it, or of the routine, by
 -- those of the places behind it: at an opener all turns and what comes behind the end, at a call those of
--- the callee.
+-- the callee. It is no least number: what stands behind a jump, a break or a return counts too.
 abbrev pub steps_from : List ℕ → (ℕ → ℕ) → ℕ → Control → ℕ
 steps_from bounds behind p (Open limit e) = 1 + limit * behind (suc p) + behind (suc e)
 steps_from bounds behind p (End s) = 1
