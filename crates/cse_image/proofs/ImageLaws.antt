@@ -48,8 +48,10 @@ body_laws version =
     field (λ e. e.image.lists) (λ e. FitsIn e.version e.image × (e.version ≡ version)) (lists_laws version) (λ e h. subst (λ (v : Version). ListsFit v e.image.lists) h.1 h.0.lists) (λ tables tables_fit.
     last (λ code. edition version (record { lists = tables; code = code })) (λ e. e.image.code) _ (each_laws (instructions_in tables.routines) (instr_laws version))
     (λ code code_fits. (let fits : FitsIn version (record { lists = tables; code = code }) = record { lists = assumption; code = assumption; count = assumption } in assumption (fits, refl)))
-    (λ e h. ((subst (λ (v : Version). AllByRecursion (InstrFits v) e.image.code) h.0.1 h.0.0.code, (let n : length e.image.code ≡ instructions_in e.image.lists.routines = h.0.0.count in let same : e.image.lists ≡ tables = h.1 in cc)),
-    (let whole : ◌≡◌ {A = Edition} (edition e.version (record { lists = e.image.lists; code = e.image.code })) e = refl in let v : e.version ≡ version = h.0.1 in let same : e.image.lists ≡ tables = h.1 in cc))))
+    (λ e h. (
+      (subst (λ (v : Version). AllByRecursion (InstrFits v) e.image.code) h.0.1 h.0.0.code, (let n : length e.image.code ≡ instructions_in e.image.lists.routines = h.0.0.count in let same : e.image.lists ≡ tables = h.1 in cc)),
+      (let whole : ◌≡◌ {A = Edition} (edition e.version (record { lists = e.image.lists; code = e.image.code })) e = refl in let v : e.version ≡ version = h.0.1 in let same : e.image.lists ≡ tables = h.1 in cc),
+    )))
 
 pub edition_laws : Laws edition_at (λ e. spelling_in e.version e.image) (λ e. FitsIn e.version e.image)
 unfolding edition_at

@@ -18,8 +18,8 @@ use cse_parts::opcodes::{is_right_a, is_right_b, is_right_c};
 use cse_parts::placeholders::are_few_placeholders;
 use cse_parts::rules::{
     comes_after, has_parameters, has_room_for_cells, has_room_for_code, is_count_of_dimensions,
-    is_right_cell_count, is_right_dimension, is_right_global_length, is_right_kind,
-    is_right_limit, is_right_local_length, is_right_owner,
+    is_right_cell_count, is_right_dimension, is_right_global_length, is_right_kind, is_right_limit,
+    is_right_local_length, is_right_owner,
 };
 use cse_parts::texts::{is_array_name, is_new_name, is_plain_text, is_short_text};
 use cse_parts::version::{Version, may_give};

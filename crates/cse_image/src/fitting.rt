@@ -13,15 +13,15 @@ ghost use Rattle.cse_parts.specs.Fields.{instructions_in, last_event};
 ghost use Rattle.cse_image.specs.Spelling.{RecordFits, ItemFits, SetFits, OrderFits, LimitFits, TextFits, GlobalFits, ArrayFits, MessageFits, RoutineFits, EventFits, InstrFits, ListsFit};
 
 use crate::checking::{
-    array_fits, event_fits, global_fits, instr_fits, limit_fits, message_fits, read_items, read_numbers,
-    read_records, read_sets, routine_fits, text_fits,
+    array_fits, event_fits, global_fits, instr_fits, limit_fits, message_fits, read_items,
+    read_numbers, read_records, read_sets, routine_fits, text_fits,
 };
 use crate::reading::total_of;
 use cse_parts::entries::{Array, EventEntry, GlobalVariable, Message, Routine, Tables};
 use cse_parts::instruction::Instr;
 use cse_parts::limits::{
-    MOST_ARRAYS, MOST_CONSTANTS, MOST_EVENTS, MOST_GLOBALS, MOST_INSTRUCTIONS, MOST_ITEMS, MOST_LIMITS,
-    MOST_MESSAGES, MOST_ORDER, MOST_RECORDS, MOST_ROUTINES, MOST_SETS, MOST_TEXTS,
+    MOST_ARRAYS, MOST_CONSTANTS, MOST_EVENTS, MOST_GLOBALS, MOST_INSTRUCTIONS, MOST_ITEMS,
+    MOST_LIMITS, MOST_MESSAGES, MOST_ORDER, MOST_RECORDS, MOST_ROUTINES, MOST_SETS, MOST_TEXTS,
 };
 use cse_parts::rules::{cells_for, last_of};
 use cse_value::shape::{ItemShape, RecordShape, SetShape};
@@ -183,22 +183,57 @@ fn events_fit(events: &[EventEntry]) -> bool
     events.len() <= MOST_EVENTS && each_event_fits(events)
 }
 
-/// Do the sections but the code fit?
-pub fn tables_fit(tables: &Tables) -> bool
-    ensures { Decides result (ListsFit versions.Two (lists_of tables.now)) }
+/// Do the sections from the records to the order fit?
+fn shape_fits(tables: &Tables) -> bool
+    ensures { Decides result (SectionFits MOST_RECORDS (λ _. RecordFits) tables.now.records.items × SectionFits MOST_ITEMS (λ _. ItemFits) tables.now.items.items × SectionFits MOST_SETS (λ _. SetFits) tables.now.sets.items × SectionFits MOST_ORDER (λ _. OrderFits) tables.now.order.items) }
 {
     records_fit(&tables.records)
         && items_fit(&tables.items)
         && sets_fit(&tables.sets)
         && order_fit(&tables.order)
-        && constants_fit(&tables.constants)
+}
+
+/// Do the sections from the constants to the globals fit?
+fn values_fit(tables: &Tables) -> bool
+    ensures { Decides result (SectionFits MOST_CONSTANTS (λ _. FitsSigned w64) tables.now.constants.items × SectionFits MOST_LIMITS (λ _. LimitFits) tables.now.limits.items × SectionFits MOST_TEXTS (λ _. TextFits) (map string_bytes tables.now.texts.items) × SectionFits MOST_GLOBALS (λ _. GlobalFits) tables.now.globals.items) }
+{
+    constants_fit(&tables.constants)
         && limits_fit(&tables.limits)
         && texts_fit(&tables.texts)
         && globals_fit(&tables.globals)
-        && arrays_fit(&tables.arrays)
-        && messages_fit(&tables.messages)
-        && routines_fit(&tables.routines)
-        && events_fit(&tables.events)
+}
+
+/// Do the arrays and the messages fit?
+fn contents_fit(tables: &Tables) -> bool
+    ensures { Decides result (SectionFits MOST_ARRAYS ArrayFits (map array_lists tables.now.arrays.items) × SectionFits MOST_MESSAGES (λ _. MessageFits) (map message_lists tables.now.messages.items)) }
+{
+    arrays_fit(&tables.arrays) && messages_fit(&tables.messages)
+}
+
+/// Do the routines and the events fit?
+fn routes_fit(tables: &Tables) -> bool
+    ensures { Decides result (SectionFits MOST_ROUTINES (λ before. RoutineFits versions.Two (instructions_in before)) (map routine_lists tables.now.routines.items) × SectionFits MOST_EVENTS (λ before. EventFits (last_event before)) tables.now.events.items) }
+{
+    if !routines_fit(&tables.routines) {
+        return false;
+    }
+    events_fit(&tables.events)
+}
+
+/// Do the sections but the code fit?
+pub fn tables_fit(tables: &Tables) -> bool
+    ensures { Decides result (ListsFit versions.Two (lists_of tables.now)) }
+{
+    if !shape_fits(tables) {
+        return false;
+    }
+    if !values_fit(tables) {
+        return false;
+    }
+    if !contents_fit(tables) {
+        return false;
+    }
+    routes_fit(tables)
 }
 
 /// There is an instruction for each that the routines tell of.

@@ -25,10 +25,10 @@ pub use cse_parts::entries::{
     LocalKind, Message, Parts, Routine, Tables,
 };
 pub use cse_parts::instruction::{Instr, Op};
-pub use cse_parts::version::Version;
 pub use cse_parts::placeholders::{
     ArgumentKind, Kinds, Piece, Pieces, count_placeholders, kind_at,
 };
+pub use cse_parts::version::Version;
 pub use error::ImageError;
 pub use laws::{none_begins_another, one_spelling, upgrade_has_a_spelling};
 pub use program::{Program, read_image, write_image};

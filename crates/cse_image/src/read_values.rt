@@ -69,11 +69,7 @@ fn limits_in(alloc: Global, count: u32, bytes: &[u8]) -> Result<(Vec<u32>, &[u8]
 
 /// The table of limits, which version 1 has not.
 #[tactic(auto, unfolding(cse_codec::specs::Reader::then_at, cse_codec::specs::Reader::done, cse_codec::specs::Reader::counted, crate::specs::Reading::limits_at))]
-pub fn limits_of(
-    alloc: Global,
-    version: Version,
-    bytes: &[u8],
-) -> Result<(Vec<u32>, &[u8]), Stop>
+pub fn limits_of(alloc: Global, version: Version, bytes: &[u8]) -> Result<(Vec<u32>, &[u8]), Stop>
     ensures { Gives (λ x. (x.0.items, x.1.now)) result (limits_at version bytes.now) }
 {
     match version {

@@ -17,11 +17,7 @@ use cse_parts::version::Version;
 use std::alloc::Global;
 
 #[tactic(auto, unfolding(cse_codec::specs::Reader::then_at, cse_codec::specs::Reader::done, crate::specs::Reading::lists_at))]
-pub fn tables_of(
-    alloc: Global,
-    version: Version,
-    bytes: &[u8],
-) -> Result<(Tables, &[u8]), Stop>
+pub fn tables_of(alloc: Global, version: Version, bytes: &[u8]) -> Result<(Tables, &[u8]), Stop>
     ensures exact { Gives (λ x. (lists_of x.0, x.1.now)) result (lists_at version bytes.now) }
     ensures room { IfOk result (λ x. instructions_in (map routine_lists x.0.routines.items) ≤ MOST_INSTRUCTIONS) }
 {

@@ -17,8 +17,8 @@ use crate::writing::{
 use cse_codec::{put_i64s, put_u32, put_u32s};
 use cse_parts::entries::{Array, EventEntry, GlobalVariable, Message, Routine, Tables};
 use cse_parts::limits::{
-    MOST_ARRAYS, MOST_CONSTANTS, MOST_EVENTS, MOST_GLOBALS, MOST_ITEMS, MOST_LIMITS, MOST_MESSAGES, MOST_ORDER,
-    MOST_RECORDS, MOST_ROUTINES, MOST_SETS, MOST_TEXTS,
+    MOST_ARRAYS, MOST_CONSTANTS, MOST_EVENTS, MOST_GLOBALS, MOST_ITEMS, MOST_LIMITS, MOST_MESSAGES,
+    MOST_ORDER, MOST_RECORDS, MOST_ROUTINES, MOST_SETS, MOST_TEXTS,
 };
 use cse_value::shape::{ItemShape, RecordShape, SetShape};
 use std::alloc::AllocError;

@@ -268,8 +268,10 @@ fn rewritten_view(alloc: Global, bytes: &[u8]) -> Result<Vec<u8>, Fail> {
 }
 
 fn is_rewritten(alloc: Global, bytes: &[u8], expected: &[u8]) -> Result<bool, Fail> {
-    Ok(rewritten(alloc, bytes)?.as_slice() == expected
-        && rewritten_view(alloc, bytes)?.as_slice() == expected)
+    Ok(
+        rewritten(alloc, bytes)?.as_slice() == expected
+            && rewritten_view(alloc, bytes)?.as_slice() == expected,
+    )
 }
 
 #[test]

@@ -141,6 +141,7 @@ fn greater_of(a: u16, b: u16) -> u16
 }
 
 /// The greatest limit that code of version 1 holds, and 0 where it holds none.
+#[tactic(auto, unfolding(cse_parts::specs::Upgrade::greatest_limit))]
 fn greatest_in(bytes: &[u8]) -> u16
     requires { IsCodeOf versions.One (code_in versions.One bytes.now) bytes.now }
     ensures { result ≡ greatest_limit (code_in versions.One bytes.now) }
@@ -153,6 +154,7 @@ fn greatest_in(bytes: &[u8]) -> u16
 }
 
 /// The limits 1, 2, .. up to n.
+#[tactic(auto, unfolding(cse_parts::specs::Upgrade::one_to))]
 fn limits_to(alloc: Global, n: u16) -> Result<Vec<u32>, AllocError>
     ensures { IfOk result (λ v. v.items ≡ one_to n) }
 {
