@@ -77,6 +77,7 @@ fn empty(alloc: Global, shape: &Shape) -> Result<Parts, AllocError> {
         sets: Vec::from_slice(alloc, &shape.sets)?,
         order: Vec::from_slice(alloc, &[0])?,
         constants: Vec::new(alloc),
+        limits: Vec::new(alloc),
         texts: Vec::new(alloc),
         globals: Vec::new(alloc),
         arrays: Vec::new(alloc),
