@@ -44,7 +44,7 @@ table_small x n bounds is bounded r lt =
 bound_past : (x : Image) (r : ℕ) → length x.lists.routines ≤ r → bound x r ≡ 0
 unfolding code_of partial
 bound_past x r past =
-    ap (λ (o : Option RoutineLists). let code = skeleton x.lists.records (part (start_of x.lists.routines r) (option_map_or (λ y. y.instructions) o 0) x.code) in partial (bounds_below x r) code (length code))
+    ap (λ (o : Option RoutineLists). let code = skeleton x.lists (part (start_of x.lists.routines r) (option_map_or (λ y. y.instructions) o 0) x.code) in partial (bounds_below x r) code (length code))
     (slice_get_past x.lists.routines r past)
 
 -- the table tells the bound of each routine

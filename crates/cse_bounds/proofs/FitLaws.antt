@@ -14,6 +14,7 @@ use Rattle.cse_parts.specs.declared.entries.EventCode.{EventCode}
 use Rattle.cse_parts.specs.declared.entries.EventCode.TheVariants as codes
 use Rattle.cse_parts.specs.declared.entries.EventEntry.{EventEntry}
 use Rattle.cse_parts.specs.Codes.{event_code}
+use Rattle.cse_parts.specs.declared.version.Version.TheVariants as versions
 use Rattle.cse_parts.specs.Fields.{instructions_in, last_event, is_after}
 use Rattle.cse_parts.specs.Image.{Image, RoutineLists}
 use Rattle.cse_codec.specs.Reader.{AllAfter}
@@ -39,12 +40,12 @@ after_at P before (y ∷ ys) (suc k) x all at = after_at P (before ++ y ∷ []) 
 
 has_code : (x : Image) → Fits x → (r : ℕ) (y : RoutineLists) → slice_get x.lists.routines r ≡ Some y → 0 < length (skeleton_of x r)
 has_code x fits r y there =
-    let room = after_at (λ before. RoutineFits (instructions_in before)) [] x.lists.routines r y fits.lists.routines.each there in
+    let room = after_at (λ before. RoutineFits versions.Two (instructions_in before)) [] x.lists.routines r y fits.lists.routines.each there in
     let some : 1 ≤ y.instructions = leb-true 1 y.instructions (and_parts (leb 1 y.instructions) _ room.1.room).0 in
     let size : length (part (start_of x.lists.routines r) y.instructions x.code) ≡ y.instructions =
     length-part (start_of x.lists.routines r) y.instructions x.code (lies_within x r (start_of x.lists.routines r) y fits.count there refl)
     in
-    let mapped : length (skeleton_of x r) ≡ length (code_of x r) = length-map (code_of x r) (control x.lists.records) in
+    let mapped : length (skeleton_of x r) ≡ length (code_of x r) = length-map (code_of x r) (control x.lists) in
     let is = ap (λ (l : List Instr). length l) (code_of_is x r y there) in
     omega arith
 

@@ -59,12 +59,12 @@ module _ (code : List Control) (keeps : KeepsRules code) where
   inside q Return at [] after edges h = subst (LeadInside (length code)) (same_Some [] edges h) tt
   inside q Return at (k ∷ rest) after edges h = cc
 
-pub edges_inside : (s : Scene) (code : List Instr) → KeepsRules (skeleton s.lists.records code) → (q : ℕ) (i : Instr) (stack : List Kind) (edges : List Edge) → slice_get code q ≡ Some i
+pub edges_inside : (s : Scene) (code : List Instr) → KeepsRules (skeleton s.lists code) → (q : ℕ) (i : Instr) (stack : List Kind) (edges : List Edge) → slice_get code q ≡ Some i
     → rule s code q i stack ≡ Some edges → LeadInside (length code) edges
 edges_inside s code keeps q i stack edges there ruled =
-    let skel = skeleton s.lists.records code in
-    let c = control s.lists.records i in
-    let at : slice_get skel q ≡ Some c = slice_get-map (control s.lists.records) code q ∙ ap (option_map (control s.lists.records)) there in
-    let a = some_then (λ (x : Signature). option_and_then (λ (rest : List Kind). exits q c rest (x.leaves ++ rest)) (below x.takes stack)) (signature_by s (is_in_loop s.lists.records code q i.a) (top_of stack) i.op i.a i.b i.c) edges ruled in
+    let skel = skeleton s.lists code in
+    let c = control s.lists i in
+    let at : slice_get skel q ≡ Some c = slice_get-map (control s.lists) code q ∙ ap (option_map (control s.lists)) there in
+    let a = some_then (λ (x : Signature). option_and_then (λ (rest : List Kind). exits q c rest (x.leaves ++ rest)) (below x.takes stack)) (signature_by s (is_in_loop s.lists code q i.a) (top_of stack) i.op i.a i.b i.c) edges ruled in
     let b = some_then (λ (rest : List Kind). exits q c rest (a.0.leaves ++ rest)) (below a.0.takes stack) edges a.2 in
-    subst (λ n. LeadInside n edges) (length-map code (control s.lists.records)) (inside skel keeps q c at b.0 (a.0.leaves ++ b.0) edges b.2)
+    subst (λ n. LeadInside n edges) (length-map code (control s.lists)) (inside skel keeps q c at b.0 (a.0.leaves ++ b.0) edges b.2)

@@ -21,3 +21,5 @@ pub mod EdgeLaws
 pub mod HandlerLaws
 pub mod GrowthLaws
 pub mod Fitting
+pub mod Twins
+pub mod Upgrades

@@ -22,6 +22,6 @@ LeadInside n (e ∷ es) = (e.0 < n) × LeadInside n es
 -- where the brackets keep their rules, no instruction leads to a place that isn't there
 abbrev pub EdgesLeadInside : Type 0
 EdgesLeadInside =
-    (s : Scene) (code : List Instr) → KeepsRules (skeleton s.lists.records code)
+    (s : Scene) (code : List Instr) → KeepsRules (skeleton s.lists code)
     → (q : ℕ) (i : Instr) (stack : List Kind) (edges : List Edge) → slice_get code q ≡ Some i
     → rule s code q i stack ≡ Some edges → LeadInside (length code) edges

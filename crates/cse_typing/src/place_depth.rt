@@ -72,13 +72,7 @@ fn without(piles: &Piles, stack: usize, count: u8) -> usize
 }
 
 /// What is kept within a call: the stack without the arguments, and the depth of the routine.
-fn call_depth(
-    tables: &Tables,
-    depths: &[Depth],
-    piles: &Piles,
-    callee: u32,
-    stack: usize,
-) -> Depth
+fn call_depth(tables: &Tables, depths: &[Depth], piles: &Piles, callee: u32, stack: usize) -> Depth
     requires stack { stack ≤ length piles.now }
     requires stacks { length piles.now < 2 ^ 32 }
     requires routines { length depths.now < 2 ^ 32 }

@@ -1,6 +1,7 @@
 //! The pass over the places of a routine.
 
 ghost use Rattle.std.specs.Prelude.{◌≡◌, ◌<◌, ◌≤◌, ◌+◌, ◌*◌, ◌^◌, length, IfOk, replicate};
+ghost use Rattle.cse_parts.specs.Image.{lists_of};
 ghost use Rattle.cse_typing.specs.Code.{part};
 ghost use Rattle.cse_typing.specs.Skeleton.{skeleton};
 ghost use Rattle.cse_typing.specs.Bracket.{KeepsRules};
@@ -54,7 +55,7 @@ pub fn judge<C: Code>(
     smaller: &[Depth],
 ) -> Result<Result<Depth, Fault>, AllocError>
     requires within { start + around.routine.now.instructions ≤ length (C.list code.now) }
-    requires brackets { KeepsRules (skeleton around.tables.now.records.items (part start around.routine.now.instructions (C.list code.now))) }
+    requires brackets { KeepsRules (skeleton (lists_of around.tables.now) (part start around.routine.now.instructions (C.list code.now))) }
     requires routines { length smaller.now < 2 ^ 32 }
     requires few { KeepFew smaller.now }
     requires locals { length around.routine.now.locals.items ≤ 255 }
@@ -82,7 +83,7 @@ fn walk<C: Code>(
     known: &mut [Expected],
 ) -> Result<Result<Depth, Fault>, AllocError>
     requires within { start + around.routine.now.instructions ≤ length (C.list code.now) }
-    requires brackets { KeepsRules (skeleton around.tables.now.records.items (part start around.routine.now.instructions (C.list code.now))) }
+    requires brackets { KeepsRules (skeleton (lists_of around.tables.now) (part start around.routine.now.instructions (C.list code.now))) }
     requires routines { length smaller.now < 2 ^ 32 }
     requires few { KeepFew smaller.now }
     requires known { known.old ≡ replicate around.routine.now.instructions Expected.Free }
@@ -92,7 +93,7 @@ fn walk<C: Code>(
 {
     let _fits = code.len();
     let size = around.routine.instructions;
-    let skeleton = RoutineCode::new(code, &around.tables.records, start, size);
+    let skeleton = RoutineCode::new(code, around.tables, start, size);
     let mut openers = Openers::new();
     let mut piles = Piles::new(alloc);
     let mut most = Depth::NONE;
@@ -101,7 +102,7 @@ fn walk<C: Code>(
         if !may_stand(around.tables, number, around.routine.ambient, instr) {
             return Ok(Err(Fault::MayNotStand(place)));
         }
-        let control = control_of(&around.tables.records, instr);
+        let control = control_of(around.tables, instr);
         let in_loop = is_in_loop(code, start, size, &openers, instr.a);
         let at = Standing {
             place,

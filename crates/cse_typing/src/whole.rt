@@ -43,7 +43,7 @@ pub fn check_routine<C: Code>(
     ensures fails { IfErr result (λ e. IsOutOfMemory e ⊎ Fails (scene_in around.entry) number (part start around.entry.routine.now.instructions (C.list code.now)) e) }
 {
     let size = around.routine.instructions;
-    let skeleton = RoutineCode::new(code, &around.tables.records, start, size);
+    let skeleton = RoutineCode::new(code, around.tables, start, size);
     if let Some(at) = first_break(alloc, &skeleton)? {
         return Err(Refusal {
             number: 65,

@@ -9,8 +9,7 @@ use Rattle.cse_value.specs.Shape.{ShapeLists}
 use Rattle.cse_parts.specs.declared.instruction.Op.{Op}
 use Rattle.cse_parts.specs.declared.instruction.Op.TheVariants as ops
 use Rattle.cse_parts.specs.declared.instruction.Instr.{Instr}
-use Rattle.cse_value.specs.declared.shape.RecordShape.{RecordShape}
-use Rattle.cse_parts.specs.Image.{Image, RoutineLists}
+use Rattle.cse_parts.specs.Image.{Image, Lists, RoutineLists}
 use Rattle.cse_typing.specs.declared.kind.Kind.{Kind}
 use Rattle.cse_typing.specs.declared.depth.Depth.{Depth as Cells}
 use Rattle.cse_typing.specs.declared.control.Control.{Control}
@@ -140,7 +139,7 @@ frames_up x r lt =
 
 -- ---- a program that is typed
 
-control_call : (records : List RecordShape) (op : Op) (a b c : ℕ) → op ≡ ops.Call → control_by records op a b c ≡ Call c
+control_call : (records : Lists) (op : Op) (a b c : ℕ) → op ≡ ops.Call → control_by records op a b c ≡ Call c
 unfolding control_by
 control_call records op a b c is = ap (λ o. control_by records o a b c) is
 
@@ -177,13 +176,13 @@ module _ (s : ShapeLists) (x : Image) (table : List Cells) (typed : IsTyped s x)
 
   called_at : (c : Calling) (callee : ℕ) (w : Waits s x callee c) → slice_get (skeleton_of x c.routine) c.place ≡ Some (Call callee)
   called_at c callee w =
-      slice_get-map (control x.lists.records) (code_of x c.routine) c.place ∙ ap (option_map (control x.lists.records)) w.at
-      ∙ ap Some (control_call x.lists.records w.instr.op w.instr.a w.instr.b w.instr.c w.is_call ∙ ap Call w.callee_is)
+      slice_get-map (control x.lists) (code_of x c.routine) c.place ∙ ap (option_map (control x.lists)) w.at
+      ∙ ap Some (control_call x.lists w.instr.op w.instr.a w.instr.b w.instr.c w.is_call ∙ ap Call w.callee_is)
 
   smaller : (c : Calling) (callee : ℕ) → Waits s x callee c → callee < c.routine
   smaller c callee w =
       let lt = slice_get_within x.lists.routines c.routine w.stands.routine w.stands.there in
-      calls_below x.lists.records x.lists.routines c.routine w.stands.routine.ambient (code_of x c.routine)
+      calls_below x.lists x.lists.routines c.routine w.stands.routine.ambient (code_of x c.routine)
       (typed.routines c.routine w.stands.routine lt w.stands.there).calls c.place callee (called_at c callee w)
 
   -- a call that waits keeps, with the call of its callee, no more than its routine
@@ -234,7 +233,7 @@ module _ (s : ShapeLists) (x : Image) (table : List Cells) (typed : IsTyped s x)
   place_there : (c : Calling) (h : Stands s x c) → c.place < length (skeleton_of x c.routine)
   place_there c h =
       let i = there_or (code_of x c.routine) c.place h.within in
-      slice_get_within (skeleton_of x c.routine) c.place (control x.lists.records i.0) (slice_get-map (control x.lists.records) (code_of x c.routine) c.place ∙ ap (option_map (control x.lists.records)) i.1)
+      slice_get_within (skeleton_of x c.routine) c.place (control x.lists i.0) (slice_get-map (control x.lists) (code_of x c.routine) c.place ∙ ap (option_map (control x.lists)) i.1)
 
   open_waiting : (callee : ℕ) (below : List Calling) → callee < length x.lists.routines → AllWait s x callee below → frames_of x callee + open_in x below ≤ frames x
   open_waiting callee [] lt all = let up = frames_up x callee lt in omega arith

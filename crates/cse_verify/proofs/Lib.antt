@@ -5,3 +5,5 @@ pub mod DepthLaws
 pub mod ChainLaws
 pub mod FirstLaws
 pub mod StartLaws
+pub mod MeaningLaws
+pub mod WalkLaws

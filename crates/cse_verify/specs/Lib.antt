@@ -4,3 +4,4 @@ pub mod Verified
 pub mod Measured
 pub mod Chain
 pub mod Starts
+pub mod Meaning

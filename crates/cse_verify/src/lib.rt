@@ -24,7 +24,7 @@ pub use cse_bounds::STEP_LIMIT;
 pub use cse_typing::{NONE, Refusal, routine_of};
 pub use depth::Depth;
 pub use jumps::check_jumps;
-pub use laws::first_reason_is_one;
+pub use laws::{first_reason_is_one, upgrade_means_the_same};
 pub use shape::same_shape;
 pub use verified::Verified;
 pub use verifying::verify;
@@ -33,6 +33,8 @@ pub use verifying::verify;
 mod bound_tests;
 #[cfg(test)]
 mod chain_tests;
+#[cfg(test)]
+mod limit_tests;
 #[cfg(test)]
 mod tests;
 #[cfg(test)]

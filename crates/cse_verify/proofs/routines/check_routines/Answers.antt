@@ -69,7 +69,7 @@ add_bound-requires-clause-keeps g c =
     let code = ap (part c.routines.start y.instructions) c.code-code.ensures ∙ part_is c.args.program.now c.routines.routine-index c.routines.start y there c.routines.invariant.start_is in
     let typed = routine_typed (shape_lists c.args.shape.now) c.args.program.now c.routines.routine-index c.routines.number y (lists_of c.tables-tables.result.now) _
     c.routines.invariant.number_is c.tables-tables.ensures.lists code c.in_ok-kept.ensures.sound in
-    let skel = skeleton_here c.args.program.now c.routines.routine-index _ _ _ c.new-skeleton.ensures code (c.deref-in-routines.ensures.value ∙ ap (λ (l : Lists). l.records) c.tables-tables.ensures.lists) in
+    let skel = skeleton_here c.args.program.now c.routines.routine-index _ _ _ c.new-skeleton.ensures code c.tables-tables.ensures.lists in
     keeps_here (shape_lists c.args.shape.now) c.args.program.now c.routines.routine-index y _ skel typed
 
 pub add_bound-requires-clause-calls : goal.add_bound-requires-clause-calls
@@ -80,7 +80,7 @@ add_bound-requires-clause-calls g c =
     let code = ap (part c.routines.start y.instructions) c.code-code.ensures ∙ part_is c.args.program.now c.routines.routine-index c.routines.start y there c.routines.invariant.start_is in
     let typed = routine_typed (shape_lists c.args.shape.now) c.args.program.now c.routines.routine-index c.routines.number y (lists_of c.tables-tables.result.now) _
     c.routines.invariant.number_is c.tables-tables.ensures.lists code c.in_ok-kept.ensures.sound in
-    let skel = skeleton_here c.args.program.now c.routines.routine-index _ _ _ c.new-skeleton.ensures code (c.deref-in-routines.ensures.value ∙ ap (λ (l : Lists). l.records) c.tables-tables.ensures.lists) in
+    let skel = skeleton_here c.args.program.now c.routines.routine-index _ _ _ c.new-skeleton.ensures code c.tables-tables.ensures.lists in
     calls_here (shape_lists c.args.shape.now) c.args.program.now c.routines.routine-index _ y _ skel (bounds_length _ _ _ _ _ _ c.routines.invariant.measured) typed
 
 pub add_frames-requires-clause-keeps : goal.add_frames-requires-clause-keeps
@@ -91,7 +91,7 @@ add_frames-requires-clause-keeps g c =
     let code = ap (part c.routines.start y.instructions) c.code-code.ensures ∙ part_is c.args.program.now c.routines.routine-index c.routines.start y there c.routines.invariant.start_is in
     let typed = routine_typed (shape_lists c.args.shape.now) c.args.program.now c.routines.routine-index c.routines.number y (lists_of c.tables-tables.result.now) _
     c.routines.invariant.number_is c.tables-tables.ensures.lists code c.in_ok-kept.ensures.sound in
-    let skel = skeleton_here c.args.program.now c.routines.routine-index _ _ _ c.new-skeleton.ensures code (c.deref-in-routines.ensures.value ∙ ap (λ (l : Lists). l.records) c.tables-tables.ensures.lists) in
+    let skel = skeleton_here c.args.program.now c.routines.routine-index _ _ _ c.new-skeleton.ensures code c.tables-tables.ensures.lists in
     keeps_here (shape_lists c.args.shape.now) c.args.program.now c.routines.routine-index y _ skel typed
 
 pub add_frames-requires-clause-calls : goal.add_frames-requires-clause-calls
@@ -102,7 +102,7 @@ add_frames-requires-clause-calls g c =
     let code = ap (part c.routines.start y.instructions) c.code-code.ensures ∙ part_is c.args.program.now c.routines.routine-index c.routines.start y there c.routines.invariant.start_is in
     let typed = routine_typed (shape_lists c.args.shape.now) c.args.program.now c.routines.routine-index c.routines.number y (lists_of c.tables-tables.result.now) _
     c.routines.invariant.number_is c.tables-tables.ensures.lists code c.in_ok-kept.ensures.sound in
-    let skel = skeleton_here c.args.program.now c.routines.routine-index _ _ _ c.new-skeleton.ensures code (c.deref-in-routines.ensures.value ∙ ap (λ (l : Lists). l.records) c.tables-tables.ensures.lists) in
+    let skel = skeleton_here c.args.program.now c.routines.routine-index _ _ _ c.new-skeleton.ensures code c.tables-tables.ensures.lists in
     calls_here (shape_lists c.args.shape.now) c.args.program.now c.routines.routine-index _ y _ skel (frames_length _ _ _ _ _ _ c.routines.invariant.measured) typed
 
 pub add_bound-requires-clause-small : goal.add_bound-requires-clause-small
@@ -116,7 +116,7 @@ returns-in_err-add_bound-clause-first g c =
     let code = ap (part c.routines.start y.instructions) c.code-code.ensures ∙ part_is c.args.program.now c.routines.routine-index c.routines.start y there c.routines.invariant.start_is in
     let typed = routine_typed (shape_lists c.args.shape.now) c.args.program.now c.routines.routine-index c.routines.number y (lists_of c.tables-tables.result.now) _
     c.routines.invariant.number_is c.tables-tables.ensures.lists code c.in_ok-kept.ensures.sound in
-    let skel = skeleton_here c.args.program.now c.routines.routine-index _ _ _ c.new-skeleton.ensures code (c.deref-in-routines.ensures.value ∙ ap (λ (l : Lists). l.records) c.tables-tables.ensures.lists) in
+    let skel = skeleton_here c.args.program.now c.routines.routine-index _ _ _ c.new-skeleton.ensures code c.tables-tables.ensures.lists in
     handed_on c.from_residual-in_err-add_bound.result c.in_err-add_bound.field-0.0 _ c.from_residual-in_err-add_bound.ensures.1
     (too_long_here (shape_lists c.args.shape.now) c.args.program.now c.routines.routine-index c.routines.number y _ _ _ _ c.in_err-add_bound.field-0.0
     c.routines.invariant.number_is skel c.requires.shape there c.routines.invariant.measured typed c.in_err-add_bound.ensures.refused)
@@ -140,7 +140,7 @@ routines-preserved g c =
     let code = ap (part c.routines.start y.instructions) c.code-code.ensures ∙ part_is c.args.program.now c.routines.routine-index c.routines.start y there c.routines.invariant.start_is in
     let typed = routine_typed (shape_lists c.args.shape.now) c.args.program.now c.routines.routine-index c.routines.number y (lists_of c.tables-tables.result.now) _
     c.routines.invariant.number_is c.tables-tables.ensures.lists code c.in_ok-kept.ensures.sound in
-    let skel = skeleton_here c.args.program.now c.routines.routine-index _ _ _ c.new-skeleton.ensures code (c.deref-in-routines.ensures.value ∙ ap (λ (l : Lists). l.records) c.tables-tables.ensures.lists) in
+    let skel = skeleton_here c.args.program.now c.routines.routine-index _ _ _ c.new-skeleton.ensures code c.tables-tables.ensures.lists in
     record {
       start_is = start_next c.args.program.now c.routines.routine-index c.routines.start y there c.routines.invariant.start_is;
       number_is = omega arith;
