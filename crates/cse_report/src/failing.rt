@@ -1,10 +1,11 @@
 //! Writers that fail, and growths that are refused.
 
 use super::*;
-use crate::tests::{RUNS, back, front, listing_text, program_of, report_each, reports_of, words};
+use crate::tests::{
+    AGE_MESSAGES, AGES, back, front, give, give_ages, impute, listing_text, program_of, reports_of,
+    whole, words,
+};
 use cse_dict::{Dictionary, Unseen};
-use cse_fixtures::device::Slow;
-use cse_fixtures::outline::MessageOutline;
 use cse_value::{Num, OutOfMemory, Writes, write_all};
 use std::alloc::Global;
 use std::io;
@@ -12,67 +13,99 @@ use std::ops::Range;
 use std::process::Abort;
 use std::test::Fail;
 
-/// The listing of four ages, and the reports that were given.
-const AGES: usize = 5;
-
-/// How many bytes of it are lines.
-const LINES: usize = 110;
-
-/// Writers, by how many bytes they take in a call, at which call they fail and at which they take none; and how many
-/// bytes they take of a flush and of the whole listing.
-static WRITERS: [(usize, u64, u64, usize, usize); 9] = [
-    (1, 0, 0, 110, 226),
-    (1, 1, 0, 0, 0),
-    (1, 40, 0, 39, 39),
-    (1, 0, 110, 109, 109),
-    (1, 200, 0, 110, 199),
-    (7, 3, 0, 14, 14),
-    (9999, 0, 0, 110, 226),
-    (9999, 1, 0, 0, 0),
-    (9999, 0, 1, 0, 0),
-];
-
-/// The reports of four ages.
-fn ages(alloc: Global) -> Result<Reports, Fail> {
-    let mut reports = reports_of(alloc, RUNS[AGES].messages)?;
-    report_each(alloc, &mut reports, RUNS[AGES].given)?;
-    Ok(reports)
+/// A writer that takes at most so many bytes in a call, and fails at a call or takes none.
+#[derive(Drop)]
+struct Slow {
+    taken: Vec<u8>,
+    at_most: usize,
+    calls: u64,
+    fails_at: u64,
+    takes_none_at: u64,
 }
 
-/// Whether so many bytes are written of the whole listing.
-fn ends(reports: &Reports, writer: Slow, taken: usize) -> bool {
-    let text = RUNS[AGES].listing.as_bytes();
-    let mut out = Writes::new(writer);
+impl io::Write for Slow {
+    fn write(&mut self, buf: &[u8]) -> io::Result<usize> {
+        self.calls = self.calls.saturating_add(1);
+        if self.calls == self.fails_at {
+            return Err(io::Error::from(io::ErrorKind::TimedOut));
+        }
+        if self.calls == self.takes_none_at {
+            return Ok(0);
+        }
+        let n = buf.len().min(self.at_most);
+        self.taken.extend_from_slice(&buf[..n])?;
+        Ok(n)
+    }
+
+    fn flush(&mut self) -> io::Result<()> {
+        Ok(())
+    }
+}
+
+/// The bytes that a writer took.
+fn taken_by(writer: Slow) -> Vec<u8> {
+    let Slow {
+        taken,
+        at_most: _,
+        calls: _,
+        fails_at: _,
+        takes_none_at: _,
+    } = writer;
+    taken
+}
+
+/// A writer that takes at most so many bytes in a call, and fails at a call or takes none.
+fn make_slow(alloc: Global, at_most: usize, fails_at: u64, takes_none_at: u64) -> Writes<Slow> {
+    Writes::new(Slow {
+        taken: Vec::new(alloc),
+        at_most,
+        calls: 0,
+        fails_at,
+        takes_none_at,
+    })
+}
+
+/// Writes the listing of four ages to its end, of which a writer takes so many bytes.
+fn end_ages(rt: &impl Abort, reports: &Reports, mut out: Writes<Slow>, taken: usize) {
     let answer = reports.listing.write_to(4, 4, 0, &mut out);
-    answer.is_ok() == (taken == text.len()) && out.into_inner().taken() == front(text, taken)
+    assert_eq!(rt; answer.is_ok(), taken == AGES.len());
+    let bytes = taken_by(out.into_inner());
+    assert_eq!(rt; bytes.as_slice(), front(AGES.as_bytes(), taken));
 }
 
-/// Whether so many bytes are written by a flush, after which nothing is held only where all were.
-fn flushes(reports: &mut Reports, writer: Slow, taken: usize) -> bool {
-    let mut out = Writes::new(writer);
-    let is_ok = reports.listing.flush_to(&mut out).is_ok();
-    is_ok == (taken == LINES)
-        && reports.listing.text(3).is_none() == is_ok
-        && out.into_inner().taken() == front(RUNS[AGES].listing.as_bytes(), taken)
-}
-
-/// Whether what is held after a flush that wrote so many bytes is the rest of the listing, or all of it.
-fn holds(alloc: Global, reports: &Reports, flushed: usize) -> Result<bool, Fail> {
-    let held = listing_text(alloc, reports, 4, 4, 0)?;
-    let written = if flushed == LINES { LINES } else { 0 };
-    Ok(held.as_slice() == back(RUNS[AGES].listing.as_bytes(), written))
+/// Flushes the listing of four ages, of which a writer takes so many bytes.
+fn flush_ages(rt: &impl Abort, reports: &mut Reports, mut out: Writes<Slow>, taken: usize) {
+    let answer = reports.listing.flush_to(&mut out);
+    assert_eq!(rt; answer.is_ok(), taken == 110);
+    assert_eq!(rt; reports.listing.text(3).is_none(), answer.is_ok());
+    let bytes = taken_by(out.into_inner());
+    assert_eq!(rt; bytes.as_slice(), front(AGES.as_bytes(), taken));
 }
 
 #[test]
 fn holds_its_lines_where_a_writer_fails(rt: HostRuntime) -> Result<(), Fail> {
     let alloc = rt.alloc();
-    for (at_most, fails_at, takes_none_at, flushed, ended) in &WRITERS {
-        let mut reports = ages(alloc)?;
-        let writer = Slow::new(alloc, *at_most, *fails_at, *takes_none_at);
-        assert!(rt; ends(&reports, writer, *ended));
-        let writer = Slow::new(alloc, *at_most, *fails_at, *takes_none_at);
-        assert!(rt; flushes(&mut reports, writer, *flushed));
-        assert!(rt; holds(alloc, &reports, *flushed)?);
+    for (at_most, fails_at, takes_none_at, flushed, ended) in [
+        (1, 0, 0, 110, 226),
+        (1, 1, 0, 0, 0),
+        (1, 40, 0, 39, 39),
+        (1, 0, 110, 109, 109),
+        (1, 200, 0, 110, 199),
+        (7, 3, 0, 14, 14),
+        (9999, 0, 0, 110, 226),
+        (9999, 1, 0, 0, 0),
+        (9999, 0, 1, 0, 0),
+    ] {
+        let mut reports = reports_of(alloc, &AGE_MESSAGES)?;
+        let mut memory = Writes::new(Vec::new(alloc));
+        give_ages(&rt, alloc, &mut reports, &mut memory, 0)?;
+        let out = make_slow(alloc, at_most, fails_at, takes_none_at);
+        end_ages(&rt, &reports, out, ended);
+        let out = make_slow(alloc, at_most, fails_at, takes_none_at);
+        flush_ages(&rt, &mut reports, out, flushed);
+        let held = listing_text(alloc, &reports, 4, 4, 0)?;
+        let written = if flushed == 110 { 110 } else { 0 };
+        assert_eq!(rt; held.as_slice(), back(AGES.as_bytes(), written));
     }
     Ok(())
 }
@@ -131,50 +164,12 @@ fn look_at(reports: &Reports, dictionary: &Dictionary) -> Seen {
     out.into_inner()
 }
 
-static MESSAGES: [MessageOutline; 2] = [
-    MessageOutline {
-        number: 0,
-        summary: false,
-        text: "%d %s",
-    },
-    MessageOutline {
-        number: 0,
-        summary: true,
-        text: "x",
-    },
-];
-
-/// A message is given.
-fn give(
-    rt: &impl Abort,
-    reports: &mut Reports,
-    index: usize,
-    args: &[Arg],
-) -> Result<(), OutOfMemory> {
-    assert!(rt; reports.listing.takes(index, args), "{index}");
-    reports.message(index, args)
-}
-
-/// A value is imputed.
-fn impute(
-    rt: &impl Abort,
-    reports: &mut Reports,
-    item: usize,
-    value: Num,
-) -> Result<(), OutOfMemory> {
-    assert!(rt; item < reports.frequencies.len());
-    reports.imputed(item, value)
-}
-
-fn whole(number: i64) -> Arg {
-    Arg::Number(Num::Whole(number))
-}
-
 /// The reports of a program of one item, and its dictionary, if there is memory for them.
 fn begin(alloc: Global) -> Option<(Dictionary, Reports)> {
     let text = "[Dictionary]\nName=D\n[Level]\nName=L\n[IdItems]\n[Item]\nName=AGE\nStart=1\nLen=1";
     let dictionary = Dictionary::read(alloc, text.as_bytes()).ok()?;
-    let program = program_of(alloc, dictionary.shape(), &MESSAGES).ok()??;
+    let messages = [(0, false, "%d %s"), (0, true, "x")];
+    let program = program_of(alloc, dictionary.shape(), &messages).ok()??;
     let reports = Reports::new(alloc, &program).ok()?;
     Some((dictionary, reports))
 }
