@@ -1,7 +1,6 @@
 //! Laws of steps and runs.
 
 ghost use Rattle.cse_image.specs.Spelling.{Fits};
-ghost use Rattle.cse_steps.specs.Fits.{HasItsRows};
 ghost use Rattle.cse_steps.specs.Laws.{EventsGoWell, FirstFits, RunsCompose, StepsAreSafe};
 
 use cse_image::{Code, Program};
@@ -17,7 +16,6 @@ fn hand_on<C: Code>(program: &Program<C>)
 /// Law: a state of a verified program that fits and has not ended has a step, and what follows fits. No
 /// operand lacks or is of another kind, size or record, and whatever an instruction names is there.
 pub fn steps_are_safe<C: Code>(verified: &Verified<'_, C>)
-    requires rows { HasItsRows verified.now.dictionary }
     ensures { StepsAreSafe verified.now }
 {
     hand_on(verified.program());
@@ -25,7 +23,6 @@ pub fn steps_are_safe<C: Code>(verified: &Verified<'_, C>)
 
 /// Law: the first state of an event of a verified program fits, where its case and store fit.
 pub fn first_states_fit<C: Code>(verified: &Verified<'_, C>)
-    requires rows { HasItsRows verified.now.dictionary }
     ensures { FirstFits verified.now }
 {
     hand_on(verified.program());
@@ -33,7 +30,6 @@ pub fn first_states_fit<C: Code>(verified: &Verified<'_, C>)
 
 /// Law: each state that an event of a verified program comes to fits, and it has ended or a step follows.
 pub fn events_go_well<C: Code>(verified: &Verified<'_, C>)
-    requires rows { HasItsRows verified.now.dictionary }
     ensures { EventsGoWell verified.now }
 {
     hand_on(verified.program());

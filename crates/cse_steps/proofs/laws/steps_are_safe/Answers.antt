@@ -4,4 +4,4 @@ use Rattle.cse_steps.proofs.Runs.{next_is_safe as law}
 use Rattle.cse_steps.proofs.laws.steps_are_safe.Goals as goal
 
 pub returns : goal.returns
-returns g c = law c.args.verified.now (record { fits = subst Fits c.program.ensures.program c.hand_on.ensures; may_run = c.program.ensures.may_run; rows = c.requires.rows })
+returns g c = law c.args.verified.now (record { fits = subst Fits c.program.ensures.program c.hand_on.ensures; may_run = c.program.ensures.may_run })
