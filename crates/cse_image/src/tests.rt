@@ -318,6 +318,9 @@ fn bytes_left_over(rt: HostRuntime) -> Result<(), Fail> {
 /// the constants, of which there are none, stands a count of 0 limits.
 fn in_version_2(alloc: Global, bytes: &[u8]) -> Result<Vec<u8>, Fail> {
     let mut all = Vec::new(alloc);
+    if bytes.len() < 28 {
+        return Ok(all);
+    }
     all.extend_from_slice(&HELLO[..8])?;
     all.extend_from_slice(&bytes[8..28])?;
     all.extend_from_slice(&[0, 0, 0, 0])?;
