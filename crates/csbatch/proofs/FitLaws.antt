@@ -7,6 +7,7 @@ use Rattle.cse_codec.specs.Reader.{AllAfter}
 use Rattle.cse_parts.specs.declared.entries.Array.{Array}
 use Rattle.cse_parts.specs.Image.{ArrayLists, RoutineLists, array_lists}
 use Rattle.cse_parts.specs.Fields.{instructions_in, is_room_for_code, is_dimension_count}
+use Rattle.cse_parts.specs.declared.version.Version.TheVariants as versions
 use Rattle.cse_image.specs.Spelling.{ArrayFits, RoutineFits}
 
 at_most_three : (n : ℕ) → is_dimension_count n ≡ true → n ≤ 3
@@ -19,7 +20,7 @@ arrays_small before (a ∷ arrays) h = (at_most_three (length a.dimensions.items
 one_at_least : (before n : ℕ) → is_room_for_code before n ≡ true → 1 ≤ n
 one_at_least before n h = grind (arith, nat_tests)
 
-pub routine_some : (before routines : List RoutineLists) (r : ℕ) (y : RoutineLists) → AllAfter (λ before. RoutineFits (instructions_in before)) before routines
+pub routine_some : (before routines : List RoutineLists) (r : ℕ) (y : RoutineLists) → AllAfter (λ before. RoutineFits versions.Two (instructions_in before)) before routines
     → slice_get routines r ≡ Some y → 1 ≤ y.instructions
 routine_some before [] r y h e = cc
 routine_some before (x ∷ routines) zero y h e = let same : x ≡ y = cc in subst (λ (v : RoutineLists). 1 ≤ v.instructions) same (one_at_least (instructions_in before) x.instructions h.0.room)

@@ -4,7 +4,7 @@ use Rattle.std.specs.Io.KnownBytes.{Appends}
 use Rattle.cse_value.specs.Writing.{AppendsFront}
 use Rattle.cse_parts.specs.Image.{Image, RoutineLists}
 use Rattle.cse_parts.specs.Fields.{instructions_in}
-use Rattle.cse_image.specs.Spelling.{Spells}
+use Rattle.cse_image.specs.Spelling.{StandFor}
 use Rattle.cse_image.specs.Reading.{reading}
 use Rattle.cse_image.specs.Place.{placed}
 use Rattle.cse_typing.specs.declared.refusal.Refusal.{Refusal}
@@ -60,7 +60,7 @@ is_shapeless x = (length x.lists.records == 0) && ((length x.lists.items == 0) &
 -- The bytes are the spelling of a program that `try` runs, and its preproc goes so.
 pub record Runs (bytes : List ℕ) (end : TryEnd) : Type 0 where
   pub program : Image
-  pub spells : Spells program bytes
+  pub spells : StandFor program bytes
   pub shapeless : is_shapeless program ≡ true
   pub rules : AllKeepRules program
   pub listed : List ℕ
@@ -73,14 +73,14 @@ text_of {bytes} {end} r = printed r.program.lists.messages r.listed end
 -- The program has a record, an item or a set.
 pub record RefusedByShape (bytes : List ℕ) (r : Refusal) : Type 0 where
   pub program : Image
-  pub spells : Spells program bytes
+  pub spells : StandFor program bytes
   pub shape : is_shapeless program ≡ false
   pub is : r ≡ record { number = 68; routine = NONE; at = NONE }
 
 -- The program has no shape, and breaks the rules of jumps and brackets at this place first.
 pub record RefusedByRules (bytes : List ℕ) (r : Refusal) : Type 0 where
   pub program : Image
-  pub spells : Spells program bytes
+  pub spells : StandFor program bytes
   pub shapeless : is_shapeless program ≡ true
   pub number : r.number ≡ 65
   pub breaks : BreaksRulesAt program r.routine r.at

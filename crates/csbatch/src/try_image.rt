@@ -3,7 +3,7 @@
 ghost use Rattle.std.specs.Prelude.{◌≡◌, true, false, IfOk, IfErr};
 ghost use Rattle.std.specs.List.{find};
 ghost use Rattle.std.specs.Io.KnownBytes.{Appends};
-ghost use Rattle.cse_image.specs.Spelling.{Spells};
+ghost use Rattle.cse_image.specs.Spelling.{StandFor};
 ghost use Rattle.cse_typing.specs.Rules.{AllKeepRules};
 ghost use Rattle.csbatch.specs.Run.{preproc_of, is_preproc};
 ghost use Rattle.csbatch.specs.Tried.{GoesPreproc, IsRefused, Runs, text_of, PrintsBefore, FailsByWrite, is_write, is_shapeless};
@@ -60,7 +60,7 @@ pub fn try_to<W: Output>(alloc: Global, image: &[u8], out: &mut W) -> Result<Try
 
 /// The program that the bytes spell, with its code read in place.
 fn program_of(alloc: Global, image: &[u8]) -> Result<Program<CodeView>, TryFault>
-    ensures found { IfOk result (λ p. Spells p image.now) }
+    ensures found { IfOk result (λ p. StandFor p image.now) }
     ensures refused { IfErr result (λ f. IsRefused image.now f) }
 {
     match view_image(alloc, image) {
@@ -77,7 +77,7 @@ fn program_of(alloc: Global, image: &[u8]) -> Result<Program<CodeView>, TryFault
 
 /// The program of an image, where `try` runs it.
 fn ready_program(alloc: Global, image: &[u8]) -> Result<Program<CodeView>, TryFault>
-    ensures found { IfOk result (λ p. Spells p image.now) }
+    ensures found { IfOk result (λ p. StandFor p image.now) }
     ensures shapeless { IfOk result (λ p. is_shapeless p ≡ true) }
     ensures rules { IfOk result (λ p. AllKeepRules p) }
     ensures refused { IfErr result (λ f. IsRefused image.now f) }

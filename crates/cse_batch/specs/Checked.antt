@@ -3,7 +3,7 @@ use Rattle.std.specs.Prelude.{◌≡◌, ◌==◌, ℕ, List, length, Err, if◌
 use Rattle.cse_value.specs.Shape.{ShapeLists}
 use Rattle.cse_parts.specs.Image.{Image}
 use Rattle.cse_image.specs.declared.error.ImageError.{ImageError}
-use Rattle.cse_image.specs.Spelling.{Spells}
+use Rattle.cse_image.specs.Spelling.{StandFor}
 use Rattle.cse_image.specs.Reading.{reading}
 use Rattle.cse_image.specs.Place.{placed}
 use Rattle.cse_typing.specs.declared.refusal.Refusal.{Refusal}
@@ -22,14 +22,14 @@ of_verifying r = if r.number == 90 then faults.Memory else faults.Refused r
 
 -- The bytes are the spelling of a program that is typed for a dictionary of this shape, and bounded.
 pub record IsAccepted (s : ShapeLists) (bytes : List ℕ) (x : Image) : Type 0 where
-  pub spells : Spells x bytes
+  pub spells : StandFor x bytes
   pub typed : IsTyped s x
   pub bounded : IsBounded x
 
 -- The bytes are the spelling of a program, and this is the first reason why it may not run.
 pub record IsRefusedProgram (s : ShapeLists) (bytes : List ℕ) (r : Refusal) : Type 0 where
   pub program : Image
-  pub spells : Spells program bytes
+  pub spells : StandFor program bytes
   pub first : IsFirstFault s program r
 
 -- Why an image may not run.
