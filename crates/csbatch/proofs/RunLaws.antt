@@ -6,8 +6,7 @@ use Rattle.cse_parts.specs.declared.instruction.Op.{Op}
 use Rattle.cse_parts.specs.declared.instruction.Op.TheVariants as ops
 use Rattle.cse_parts.specs.declared.instruction.Instr.{Instr}
 use Rattle.cse_parts.specs.declared.entries.Local.{Local}
-use Rattle.cse_parts.specs.Image.{Image, RoutineLists}
-use Rattle.cse_value.specs.declared.shape.RecordShape.{RecordShape}
+use Rattle.cse_parts.specs.Image.{Image, Lists, RoutineLists}
 use Rattle.cse_typing.specs.declared.control.Control.{Control}
 use Rattle.cse_typing.specs.declared.control.Control.TheVariants.{Step, Branch, Return}
 use Rattle.cse_typing.specs.Code.{code_of}
@@ -126,7 +125,7 @@ acted_leads x d o i h after e = mapped (next h) (Leads o i h) (calculated o i.a 
 -- ---- what the rules of jumps give
 
 -- an instruction that may jump does so by the rule of jumps
-jumps_so : (code : List Control) (records : List RecordShape) (place : ℕ) (o : Op) (a b c : ℕ) → may_jump o a ≡ true → IsFine code place (control_by records o a b c) → IsJump code place c
+jumps_so : (code : List Control) (lists : Lists) (place : ℕ) (o : Op) (a b c : ℕ) → may_jump o a ≡ true → IsFine code place (control_by lists o a b c) → IsJump code place c
 unfolding may_jump control_by
 jumps_so code records place ops.Jump a b c may fine = fine
 jumps_so code records place ops.JumpUnless a b c may fine = fine
@@ -140,19 +139,19 @@ no_return c true e = cc
 no_return c false e = cc
 
 -- what returns in the skeleton is a Return
-returns_by : (records : List RecordShape) (o : Op) (a b c : ℕ) → control_by records o a b c ≡ Return → is_return o ≡ true
+returns_by : (lists : Lists) (o : Op) (a b c : ℕ) → control_by lists o a b c ≡ Return → is_return o ≡ true
 unfolding control_by is_return
 returns_by records ops.Return a b c e = refl
 returns_by records ops.Row a b c e = absurd (no_return c (a == 0) e)
 returns_by records o a b c e = cc
 
 -- where the rules hold, a place of the routine follows
-pub goes_on : (x : Image) (d : List Local) (code : List Control) (size : ℕ) (i : Instr) (h after : Here) → IsFineAt code h.place (control x.lists.records i)
+pub goes_on : (x : Image) (d : List Local) (code : List Control) (size : ℕ) (i : Instr) (h after : Here) → IsFineAt code h.place (control x.lists i)
     → length code ≡ size → is_return i.op ≡ false → h.place < size → acted x d i.op i h ≡ Some after → (h.place < after.place) × (after.place < size)
 goes_on x d code size i h after fine long other within acts =
     elim (acted_leads x d i.op i h after acts) [
-      | inl p ↦ let inside : h.place + 1 ≡ length code → ⊥ = λ e. let yes = returns_by x.lists.records i.op i.a i.b i.c (fine.1 e) in cc in
+      | inl p ↦ let inside : h.place + 1 ≡ length code → ⊥ = λ e. let yes = returns_by x.lists i.op i.a i.b i.c (fine.1 e) in cc in
           (omega arith, omega (arith, inside))
-      | inr p ↦ let ahead = jumps_so code x.lists.records h.place i.op i.a i.b i.c p.0 fine.0 in
+      | inr p ↦ let ahead = jumps_so code x.lists h.place i.op i.a i.b i.c p.0 fine.0 in
           (omega (arith, p.1, ahead.0), omega (arith, p.1, ahead.1, long))
     ]

@@ -37,12 +37,12 @@ instr_is x routine start place head i ready h e =
 
 -- the skeleton of the routine has its size
 skeleton_size : (x : Image) (routine start : ℕ) (head : RoutineLists) → IsReady x routine head start → length (skeleton_of x routine) ≡ head.instructions
-skeleton_size x routine start head ready = length-map (code_of x routine) (control x.lists.records) ∙ size_is x routine start head ready
+skeleton_size x routine start head ready = length-map (code_of x routine) (control x.lists) ∙ size_is x routine start head ready
 
 -- what stands at a place of the skeleton
-control_at : (x : Image) (routine place : ℕ) (i : Instr) → slice_get (code_of x routine) place ≡ Some i → slice_get (skeleton_of x routine) place ≡ Some (control x.lists.records i)
+control_at : (x : Image) (routine place : ℕ) (i : Instr) → slice_get (code_of x routine) place ≡ Some i → slice_get (skeleton_of x routine) place ≡ Some (control x.lists i)
 control_at x routine place i at =
-    slice_get-map (control x.lists.records) (code_of x routine) place ∙ ap (option_map (control x.lists.records)) at
+    slice_get-map (control x.lists) (code_of x routine) place ∙ ap (option_map (control x.lists)) at
 
 -- A call that keeps running: an instruction other than Return had a step.
 pub moves : (x : Image) (from : State) (n start : ℕ) (head : RoutineLists) (c : Call) (s : Store) (r : Reports) (i : Instr) (after : Here)
@@ -58,7 +58,7 @@ pub leads : (x : Image) (start : ℕ) (head : RoutineLists) (c : Call) (s : Stor
 leads x start head c s r i after ready at other h acts =
     let long = skeleton_size x c.routine start head ready in
     let within : c.place < length (skeleton_of x c.routine) = omega (arith, long) in
-    let rules = ready.rules c.place within (control x.lists.records i) (control_at x c.routine c.place i at) in
+    let rules = ready.rules c.place within (control x.lists i) (control_at x c.routine c.place i at) in
     goes_on x head.locals (skeleton_of x c.routine) head.instructions i (here c s r) after rules long other h acts
 
 -- An instruction without a step.
