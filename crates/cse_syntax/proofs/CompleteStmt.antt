@@ -7,7 +7,7 @@ use Rattle.cse_syntax.specs.declared.token.Mark.TheVariants as m
 use Rattle.cse_syntax.specs.declared.tree.Count.{Count}
 use Rattle.cse_syntax.specs.declared.tree.Count.TheVariants as c
 use Rattle.cse_syntax.specs.declared.tree.Jump.{Jump}
-use Rattle.cse_syntax.specs.Word.{Word, Name, Digits, Leave, Sign}
+use Rattle.cse_syntax.specs.Word.{Word, Name, Digits, Sign}
 use Rattle.cse_syntax.specs.Tree.{Spelling, Expr, Exprs, no_expr, expr_and, exprs, Literal, Limit, Fixed, Counted, Counting, Message, Own, Numbered, Stmt, Empty, Assign, Call, If, For, Do, Jump', Impute, PutDeck, ErrMsg, Stmts, no_stmt, stmt_and, stmts, Arms, no_arm, arm, arms, else_of}
 use Rattle.cse_syntax.specs.Grammar.{is_within, IsName, Below, HasRoom, spell_mark, spell_expr, spell_exprs, spell_others, spell_subscripts, IsExpr, AreInner, spell_literal, spell_limit, spell_by, spell_counting, spell_message, spell_stmt, spell_stmts, spell_arms, IsLimit, IsBy, IsCounting, IsMessage, IsStmt, AreStmts, AreArms}
 use Rattle.cse_syntax.specs.Reading.{Parser, sees, after, snoc, nested}

@@ -1,5 +1,5 @@
 -- Where a text in quotes may be cut.
-use Rattle.std.proofs.Common.{◌≡◌, ℕ, zero, suc, ◌+◌, ◌-◌, ◌≤◌, ◌<◌, Bool, true, false, ◌||◌, ◌&&◌, ◌==◌, List, [], ◌∷◌, length, take, drop, get_or, refl, sym, ap, subst, ◌∙◌, arith, IsUtf8}
+use Rattle.std.proofs.Common.{◌≡◌, ℕ, zero, suc, ◌-◌, ◌<◌, Bool, true, false, ◌||◌, ◌&&◌, ◌==◌, List, [], ◌∷◌, length, take, drop, get_or, refl, ap, ◌∙◌, arith, IsUtf8}
 use Rattle.std.specs.Prelude.{nat_le}
 use Rattle.std.specs.List.{count_by, list_all}
 use Rattle.std.specs.Str.{IsCharBoundary}

@@ -1,6 +1,6 @@
 -- The children that a tree holds in a `Vec`: the view of a node that is made of them. Walks over trees in the crates above
 -- cite these lemmas.
-use Rattle.std.proofs.Common.{◌≡◌, ℕ, List, map, Option, Some, None, refl, ap, sym, ◌∙◌}
+use Rattle.std.proofs.Common.{◌≡◌, List, map, Option, Some, None, refl, ap, sym, ◌∙◌}
 use Rattle.std.specs.Global.{Vec, Box}
 use Rattle.cse_syntax.specs.declared.tree.Lexeme.{Lexeme}
 use Rattle.cse_syntax.specs.declared.tree.Operation as rustop

@@ -1,13 +1,12 @@
 -- What is skipped is blanks and comments, which nest.
-use Rattle.std.proofs.Common.{◌≡◌, ℕ, zero, suc, Bool, true, false, cond, ◌||◌, ◌&&◌, not, ◌==◌, List, [], ◌∷◌, ◌++◌, Option, Some, None, refl, sym, ap, subst, ◌∙◌, inl, inr, ◌⊎◌}
+use Rattle.std.proofs.Common.{◌≡◌, ℕ, zero, suc, Bool, true, false, cond, ◌&&◌, ◌==◌, List, [], ◌∷◌, ◌++◌, Option, Some, None, refl, sym, ap, subst, ◌∙◌, inl, inr, ◌⊎◌}
 use Rattle.std.specs.List.{list_all}
 use Rattle.std.proofs.lemmas.Bool.{eqb-true}
 use Rattle.cse_syntax.specs.declared.lexer.Gap.{Gap}
 use Rattle.cse_syntax.specs.declared.lexer.Gap.TheVariants as g
 use Rattle.cse_syntax.specs.Leaf.{begins, or_else}
-use Rattle.cse_syntax.specs.Text.{is_blank, turn, skip}
+use Rattle.cse_syntax.specs.Text.{is_blank, skip}
 use Rattle.cse_syntax.specs.BlankText.{Inside, close, byte, nested, Blanks, nothing, blank, braces, line, last_line, spell_inside, spell_blanks, in_line, IsInside, AreBlanks}
-use Rattle.cse_syntax.proofs.Steps.{some_is}
 
 abbrev Made : List ℕ → Type 0
 Made bs = (x : Blanks) × AreBlanks x × (bs ≡ spell_blanks x)

@@ -11,7 +11,7 @@ use Rattle.cse_syntax.specs.declared.token.Kind.TheVariants as kinds
 use Rattle.cse_syntax.specs.declared.token.Mark.{Mark}
 use Rattle.cse_syntax.specs.declared.tree.Special.{Special}
 use Rattle.cse_syntax.specs.declared.tree.Jump.{Jump}
-use Rattle.cse_syntax.specs.Leaf.{or_else, begins, first_of, mark_of, looked_up, specials, jumps, reserved, is_left_out, word_kind, is_word_byte, is_name, starts_with_letter, is_digits, is_inside, is_start, is_quote, text_of, is_text, is_token}
+use Rattle.cse_syntax.specs.Leaf.{or_else, begins, first_of, mark_of, looked_up, specials, jumps, reserved, is_left_out, word_kind, is_word_byte, is_name, starts_with_letter, is_digits, is_inside, is_start, is_quote, is_text, is_token}
 use Rattle.cse_syntax.specs.Text.{symbol_at, text_len, token_at}
 use Rattle.cse_syntax.proofs.Steps.{some_is, bind_some, if_some, test_some}
 use Rattle.cse_syntax.proofs.SoundStmt.{both_true}

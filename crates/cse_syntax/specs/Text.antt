@@ -1,8 +1,7 @@
 -- The tokens of a text, as a function of its bytes: blanks and comments, the longest token, and all of them in order.
-use Rattle.std.specs.Prelude.{ℕ, zero, suc, ◌-◌, ◌+◌, Bool, true, false, ◌||◌, ◌&&◌, not, ◌==◌, if◌then◌else◌, List, [], ◌∷◌, length, take, drop, map, Option, Some, None, codes, nat_le, nat_lt}
+use Rattle.std.specs.Prelude.{ℕ, zero, suc, ◌-◌, ◌+◌, Bool, true, false, ◌||◌, ◌&&◌, ◌==◌, if◌then◌else◌, List, [], ◌∷◌, length, take, drop, map, Option, Some, None, nat_le}
 use Rattle.std.specs.List.{prefix_len, count_by}
-use Rattle.std.specs.Str.{str_eq_ignore_ascii_case}
-use Rattle.std.specs.Char.{is_ascii_alphabetic, is_ascii_digit, is_ascii_alphanumeric}
+use Rattle.std.specs.Char.{is_ascii_alphabetic, is_ascii_digit}
 use Rattle.cse_syntax.specs.declared.token.Mark.{Mark}
 use Rattle.cse_syntax.specs.declared.token.Mark.TheVariants as m
 use Rattle.cse_syntax.specs.declared.token.Kind.{Kind}
