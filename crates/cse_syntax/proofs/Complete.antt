@@ -8,14 +8,13 @@ use Rattle.cse_syntax.specs.declared.tree.Operator.{Operator}
 use Rattle.cse_syntax.specs.declared.tree.Operator.TheVariants as o
 use Rattle.cse_syntax.specs.declared.tree.Relation.{Relation}
 use Rattle.cse_syntax.specs.declared.tree.Relation.TheVariants as r
-use Rattle.cse_syntax.specs.declared.tree.Special.TheVariants as v
 use Rattle.cse_syntax.specs.declared.tree.Function.{Function}
 use Rattle.cse_syntax.specs.declared.tree.Function.TheVariants as u
 use Rattle.cse_syntax.specs.declared.tree.Query.{Query}
 use Rattle.cse_syntax.specs.declared.tree.Query.TheVariants as q
 use Rattle.cse_syntax.specs.Word.{Word, Name, Sign}
-use Rattle.cse_syntax.specs.Tree.{Spelling, Expr, Exprs, Operations, Number, Text, Special', Bare, Indexed, Group, Apply, Query', InValueSet, Minus, Not, Compare, Chain, none, more, last, then, exprs, operations}
-use Rattle.cse_syntax.specs.Grammar.{sign, relation_sign, spell_each, spell_list, spell_set, Each, IsSome, spell_expr, spell_exprs, spell_others, spell_operations, binds, level, rule, Below, HasRoom, IsExpr, AreInner, AreOperations, spell_subscripts}
+use Rattle.cse_syntax.specs.Tree.{Spelling, Expr, Exprs, Operations, Number, Text, Special', Bare, Indexed, Group, Apply, Query', InValueSet, Minus, Not, Compare, Chain, no_expr, expr_and, no_operation, operation_and, exprs, operations}
+use Rattle.cse_syntax.specs.Grammar.{sign, relation_sign, spell_each, spell_list, spell_set, Each, IsSome, spell_expr, spell_exprs, spell_others, spell_operations, binds, level, rule, Below, HasRoom, IsExpr, AreInner, AreOperations, spell_subscripts, IsName, IsSetName}
 use Rattle.cse_syntax.specs.Reading.{Parser, sees, enter, snoc, others_from, listed, operator_at, operations_from, chain, or_operator, and_operator, sum_operator, product_operator, relation_of, bracketed, subscripts, arguments, named, group, apply, query, set_after, member, marked, prim, unary, product, sum, related, relation, negation, conjunction, disjunction, nested}
 use Rattle.cse_syntax.proofs.Sound.{IsAt, IsInner}
 
@@ -49,7 +48,7 @@ mutual
   pub longer_expr : (x : Expr) (rest : List Word) → length rest ≤ length (spell_expr x rest)
   longer_expr (Number digits) rest = omega arith
   longer_expr (Text text) rest = omega arith
-  longer_expr (Special' value) rest = omega arith
+  longer_expr (Special' token value) rest = omega arith
   longer_expr (Bare name) rest = omega arith
   longer_expr (Indexed name xs) rest = omega (arith, longer_exprs xs (Sign m.Close ∷ rest))
   longer_expr (Group x) rest = omega (arith, longer_expr x (Sign m.Close ∷ rest))
@@ -63,20 +62,20 @@ mutual
   longer_expr (Chain x ys) rest = omega (arith, longer_expr x (spell_operations ys rest), longer_operations ys rest)
 
   pub longer_exprs : (xs : Exprs) (rest : List Word) → length rest ≤ length (spell_exprs xs rest)
-  longer_exprs none rest = omega arith
-  longer_exprs (more x xs) rest = omega (arith, longer_expr x (spell_others xs rest), longer_others xs rest)
+  longer_exprs no_expr rest = omega arith
+  longer_exprs (expr_and x xs) rest = omega (arith, longer_expr x (spell_others xs rest), longer_others xs rest)
 
   pub longer_others : (xs : Exprs) (rest : List Word) → length rest ≤ length (spell_others xs rest)
-  longer_others none rest = omega arith
-  longer_others (more x xs) rest = omega (arith, longer_expr x (spell_others xs rest), longer_others xs rest)
+  longer_others no_expr rest = omega arith
+  longer_others (expr_and x xs) rest = omega (arith, longer_expr x (spell_others xs rest), longer_others xs rest)
 
   longer_operations : (xs : Operations) (rest : List Word) → length rest ≤ length (spell_operations xs rest)
-  longer_operations last rest = omega arith
-  longer_operations (then op x xs) rest = omega (arith, longer_expr x (spell_operations xs rest), longer_operations xs rest)
+  longer_operations no_operation rest = omega arith
+  longer_operations (operation_and op x xs) rest = omega (arith, longer_expr x (spell_operations xs rest), longer_operations xs rest)
 
 pub longer_subscripts : (xs : Exprs) (rest : List Word) → length rest ≤ length (spell_subscripts xs rest)
-longer_subscripts none rest = omega arith
-longer_subscripts (more x xs) rest = omega (arith, longer_exprs (more x xs) (Sign m.Close ∷ rest))
+longer_subscripts no_expr rest = omega arith
+longer_subscripts (expr_and x xs) rest = omega (arith, longer_exprs (expr_and x xs) (Sign m.Close ∷ rest))
 
 -- ---- lists with commas
 
@@ -126,19 +125,19 @@ binds_gap o.Divide = inr (omega arith, omega arith)
 binds_gap o.Remainder = inr (omega arith, omega arith)
 
 level_gap : (ys : Operations) → (level ys ≤ 2) ⊎ ((5 ≤ level ys) × (level ys ≤ 6))
-level_gap last = inl (omega arith)
-level_gap (then op y ys) = binds_gap op
+level_gap no_operation = inl (omega arith)
+level_gap (operation_and op y ys) = binds_gap op
 
 level_small : (ys : Operations) → level ys ≤ 6
 level_small ys = elim (level_gap ys) [ inl h ↦ omega arith | inr h ↦ h.1 ]
 
 abbrev operation_list : Operations → List (Operator × Expr)
-operation_list last = []
-operation_list (then op y ys) = (op, y) ∷ operation_list ys
+operation_list no_operation = []
+operation_list (operation_and op y ys) = (op, y) ∷ operation_list ys
 
 operations-operation_list : (ys : Operations) → operations (operation_list ys) ≡ ys
-operations-operation_list last = refl
-operations-operation_list (then op y ys) = ap (then op y) (operations-operation_list ys)
+operations-operation_list no_operation = refl
+operations-operation_list (operation_and op y ys) = ap (operation_and op y) (operations-operation_list ys)
 
 record Chains (operator : Mark → Option Operator) (level : ℕ) : Type 0 where
   takes : (op : Operator) → binds op ≡ level → operator (sign op) ≡ Some op
@@ -146,37 +145,37 @@ record Chains (operator : Mark → Option Operator) (level : ℕ) : Type 0 where
 
 module _ (operator : Mark → Option Operator) (at room : ℕ) (chains : Chains operator at) (small : at ≤ 6) (three : at ≡ 3 → ⊥) (four : at ≡ 4 → ⊥) (operand : Parser Expr) (reads : Reads (suc at) room operand) where
   follow_operations : (ys : Operations) (rest : List Word) → AreOperations ys at room → follow rest < at → follow (spell_operations ys rest) < suc at
-  follow_operations last rest h f = omega arith
-  follow_operations (then op y ys) rest h f = omega (arith, follow_sign op, h.0)
+  follow_operations no_operation rest h f = omega arith
+  follow_operations (operation_and op y ys) rest h f = omega (arith, follow_sign op, h.0)
 
   operations_read : (ys : Operations) (n : ℕ) (found : List (Operator × Expr)) (rest : List Word) → AreOperations ys at room → follow rest < at → length (spell_operations ys rest) ≤ n
       → operations_from operator operand n found (spell_operations ys rest) ≡ Some (found ++ operation_list ys, rest)
-  operations_read last zero found rest h f le = rw append-nil refl
-  operations_read last (suc n) found rest h f le = rw (chains.stops rest f, append-nil) refl
-  operations_read (then op y ys) zero found rest h f le = absurd (omega arith)
-  operations_read (then op y ys) (suc n) found rest h f le =
+  operations_read no_operation zero found rest h f le = rw append-nil refl
+  operations_read no_operation (suc n) found rest h f le = rw (chains.stops rest f, append-nil) refl
+  operations_read (operation_and op y ys) zero found rest h f le = absurd (omega arith)
+  operations_read (operation_and op y ys) (suc n) found rest h f le =
       let one = reads y (spell_operations ys rest) (h.1, h.2) (follow_operations ys rest h.3 f) in
       let t = chains.takes op h.0 in
       let go = operations_read ys n (snoc found (op, y)) rest h.3 f (omega (arith, longer_expr y (spell_operations ys rest))) in
       rw (t, one, go) (rw append_assoc refl)
 
   operand_only : (x : Expr) (rest : List Word) → IsAt (suc at) room x → follow rest < at → chain operator operand (spell_expr x rest) ≡ Some (x, rest)
-  operand_only x rest h f = rw (reads x rest h (omega arith), operations_read last (length rest) [] rest tt f (omega arith)) refl
+  operand_only x rest h f = rw (reads x rest h (omega arith), operations_read no_operation (length rest) [] rest tt f (omega arith)) refl
 
-  whole_chain : (x : Expr) (op : Operator) (y : Expr) (ys : Operations) (rest : List Word) → IsAt (suc at) room x → AreOperations (then op y ys) at room → follow rest < at → chain operator operand (spell_expr x (spell_operations (then op y ys) rest)) ≡ Some (Chain x (then op y ys), rest)
+  whole_chain : (x : Expr) (op : Operator) (y : Expr) (ys : Operations) (rest : List Word) → IsAt (suc at) room x → AreOperations (operation_and op y ys) at room → follow rest < at → chain operator operand (spell_expr x (spell_operations (operation_and op y ys) rest)) ≡ Some (Chain x (operation_and op y ys), rest)
   whole_chain x op y ys rest h i f =
-      let one = reads x (spell_operations (then op y ys) rest) h (follow_operations (then op y ys) rest i f) in
-      let go = operations_read (then op y ys) (length (spell_operations (then op y ys) rest)) [] rest i f (omega arith) in
+      let one = reads x (spell_operations (operation_and op y ys) rest) h (follow_operations (operation_and op y ys) rest i f) in
+      let go = operations_read (operation_and op y ys) (length (spell_operations (operation_and op y ys) rest)) [] rest i f (omega arith) in
       rw (one, go, operations-operation_list ys) refl
 
   chain_reads : Reads at room (chain operator operand)
-  chain_reads (Chain x last) rest h f = absurd (omega (arith, h.1.0))
-  chain_reads (Chain x (then op y ys)) rest h f =
+  chain_reads (Chain x no_operation) rest h f = absurd (omega (arith, h.1.0))
+  chain_reads (Chain x (operation_and op y ys)) rest h f =
       elim (cases_lt at (binds op)) [
-        | inl lt ↦ operand_only (Chain x (then op y ys)) rest (omega arith, h.1) f
+        | inl lt ↦ operand_only (Chain x (operation_and op y ys)) rest (omega arith, h.1) f
         | inr le ↦
             let b : binds op ≡ at = omega (arith, h.0) in
-            whole_chain x op y ys rest (omega (arith, b, h.1.1), h.1.2) (subst (λ (n : ℕ). AreOperations (then op y ys) n room) b h.1.3) f
+            whole_chain x op y ys rest (omega (arith, b, h.1.1), h.1.2) (subst (λ (n : ℕ). AreOperations (operation_and op y ys) n room) b h.1.3) f
       ]
   chain_reads (Not x) rest h f =
       elim (cases_lt at 3) [
@@ -260,9 +259,6 @@ no_open (Sign m.Open ∷ ws) h = absurd (omega arith)
 no_open _ h = refl
 
 no_close : (x : Expr) (rest : List Word) → sees m.Close (spell_expr x rest) ≡ false
-no_close (Special' v.NotAppl) rest = refl
-no_close (Special' v.Missing) rest = refl
-no_close (Special' v.Default) rest = refl
 no_close (Apply u.Int x) rest = refl
 no_close (Apply u.Special x) rest = refl
 no_close (Query' q.GetDeck name) rest = refl
@@ -274,9 +270,6 @@ no_close (Chain x ys) rest = no_close x (spell_operations ys rest)
 no_close x rest = refl
 
 no_minus : (x : Expr) (rest : List Word) → 8 ≤ rule x → sees m.Minus (spell_expr x rest) ≡ false
-no_minus (Special' v.NotAppl) rest h = refl
-no_minus (Special' v.Missing) rest h = refl
-no_minus (Special' v.Default) rest h = refl
 no_minus (Apply u.Int x) rest h = refl
 no_minus (Apply u.Special x) rest h = refl
 no_minus (Query' q.GetDeck name) rest h = refl
@@ -289,9 +282,6 @@ no_minus (Chain x ys) rest h = absurd (omega (arith, level_small ys))
 no_minus x rest h = refl
 
 no_not : (x : Expr) (room : ℕ) (rest : List Word) → IsExpr x room → 4 ≤ rule x → sees m.Not (spell_expr x rest) ≡ false
-no_not (Special' v.NotAppl) room rest h r = refl
-no_not (Special' v.Missing) room rest h r = refl
-no_not (Special' v.Default) room rest h r = refl
 no_not (Apply u.Int x) room rest h r = refl
 no_not (Apply u.Special x) room rest h r = refl
 no_not (Query' q.GetDeck name) room rest h r = refl
@@ -306,24 +296,24 @@ no_not x room rest h r = refl
 -- ---- expressions in parentheses
 
 abbrev pub list_of : Exprs → List Expr
-list_of none = []
-list_of (more x xs) = x ∷ list_of xs
+list_of no_expr = []
+list_of (expr_and x xs) = x ∷ list_of xs
 
 pub exprs-list_of : (xs : Exprs) → exprs (list_of xs) ≡ xs
-exprs-list_of none = refl
-exprs-list_of (more x xs) = ap (more x) (exprs-list_of xs)
+exprs-list_of no_expr = refl
+exprs-list_of (expr_and x xs) = ap (expr_and x) (exprs-list_of xs)
 
 pub others_list : (xs : Exprs) (rest : List Word) → spell_others xs rest ≡ spell_each spell_expr (list_of xs) rest
-others_list none rest = refl
-others_list (more x xs) rest = ap (λ (ws : List Word). Sign m.Comma ∷ spell_expr x ws) (others_list xs rest)
+others_list no_expr rest = refl
+others_list (expr_and x xs) rest = ap (λ (ws : List Word). Sign m.Comma ∷ spell_expr x ws) (others_list xs rest)
 
 exprs_list : (xs : Exprs) (rest : List Word) → spell_exprs xs rest ≡ spell_list spell_expr (list_of xs) rest
-exprs_list none rest = refl
-exprs_list (more x xs) rest = ap (spell_expr x) (others_list xs rest)
+exprs_list no_expr rest = refl
+exprs_list (expr_and x xs) rest = ap (spell_expr x) (others_list xs rest)
 
 each_inner : (room : ℕ) (xs : Exprs) → AreInner xs room → Each (IsInner room) (list_of xs)
-each_inner room none h = tt
-each_inner room (more x xs) h = (h.0, each_inner room xs h.1)
+each_inner room no_expr h = tt
+each_inner room (expr_and x xs) h = (h.0, each_inner room xs h.1)
 
 pub enter_reads : (room : ℕ) (ws : List Word) → HasRoom room → enter room (Sign m.Open ∷ ws) ≡ Some ws
 enter_reads zero ws h = absurd h
@@ -346,23 +336,23 @@ module _ (room : ℕ) (inner : Parser Expr) (inner_reads : ReadsInner room inner
       let e = others_list xs rest in
       rw e (each_read spell_expr (IsInner room) inner Ends inner_reads longer_expr (λ ws. omega arith) (list_of xs) (length (spell_each spell_expr (list_of xs) rest)) [] rest (each_inner room xs h) f c (omega arith))
 
-  inner_listed : (x : Expr) (xs : Exprs) (rest : List Word) → AreInner (more x xs) room → listed inner (spell_exprs (more x xs) (Sign m.Close ∷ rest)) ≡ Some (x ∷ list_of xs, Sign m.Close ∷ rest)
+  inner_listed : (x : Expr) (xs : Exprs) (rest : List Word) → AreInner (expr_and x xs) room → listed inner (spell_exprs (expr_and x xs) (Sign m.Close ∷ rest)) ≡ Some (x ∷ list_of xs, Sign m.Close ∷ rest)
   inner_listed x xs rest h =
-      let e = exprs_list (more x xs) (Sign m.Close ∷ rest) in
-      ap (listed inner) e ∙ listed_reads spell_expr (IsInner room) inner Ends inner_reads longer_expr (λ ws. omega arith) (x ∷ list_of xs) (Sign m.Close ∷ rest) tt (each_inner room (more x xs) h) (omega arith) refl
+      let e = exprs_list (expr_and x xs) (Sign m.Close ∷ rest) in
+      ap (listed inner) e ∙ listed_reads spell_expr (IsInner room) inner Ends inner_reads longer_expr (λ ws. omega arith) (x ∷ list_of xs) (Sign m.Close ∷ rest) tt (each_inner room (expr_and x xs) h) (omega arith) refl
 
   pub subscripts_read : (xs : Exprs) (rest : List Word) → AreInner xs room → follow rest < 9 → subscripts room inner (spell_subscripts xs rest) ≡ Some (list_of xs, rest)
   unfolding subscripts bracketed
-  subscripts_read none rest h f = rw (no_open rest f) refl
-  subscripts_read (more x xs) rest h f =
-      let a = enter_reads room (spell_exprs (more x xs) (Sign m.Close ∷ rest)) (has_room room (IsExpr x) h.0) in
+  subscripts_read no_expr rest h f = rw (no_open rest f) refl
+  subscripts_read (expr_and x xs) rest h f =
+      let a = enter_reads room (spell_exprs (expr_and x xs) (Sign m.Close ∷ rest)) (has_room room (IsExpr x) h.0) in
       rw (a, inner_listed x xs rest h) refl
 
   pub arguments_read : (xs : Exprs) (rest : List Word) → HasRoom room → AreInner xs room → arguments room inner (Sign m.Open ∷ spell_exprs xs (Sign m.Close ∷ rest)) ≡ Some (list_of xs, rest)
   unfolding arguments
-  arguments_read none rest i h = rw (enter_reads room (Sign m.Close ∷ rest) i) refl
-  arguments_read (more x xs) rest i h =
-      let a = enter_reads room (spell_exprs (more x xs) (Sign m.Close ∷ rest)) i in
+  arguments_read no_expr rest i h = rw (enter_reads room (Sign m.Close ∷ rest) i) refl
+  arguments_read (expr_and x xs) rest i h =
+      let a = enter_reads room (spell_exprs (expr_and x xs) (Sign m.Close ∷ rest)) i in
       let c = no_close x (spell_others xs (Sign m.Close ∷ rest)) in
       rw (a, c, inner_listed x xs rest h) refl
 
@@ -382,32 +372,30 @@ module _ (room : ℕ) (inner : Parser Expr) (inner_reads : ReadsInner room inner
   unfolding apply
   apply_reads function x rest h = rw (enter_reads room (spell_expr x (Sign m.Close ∷ rest)) (has_room room (IsExpr x) h), inner_reads x (Sign m.Close ∷ rest) h (omega arith)) refl
 
-  query_reads : (which : Query) (name : Spelling) (rest : List Word) → HasRoom room → query room inner which (Sign m.Open ∷ Name name ∷ Sign m.Close ∷ rest) ≡ Some (Query' which name, rest)
+  query_reads : (which : Query) (name : Spelling) (rest : List Word) → IsName name → HasRoom room → query room inner which (Sign m.Open ∷ Name name ∷ Sign m.Close ∷ rest) ≡ Some (Query' which name, rest)
   unfolding query
-  query_reads which name rest h = rw (enter_reads room (Name name ∷ Sign m.Close ∷ rest) h) refl
+  query_reads which name rest i h = rw (enter_reads room (Name name ∷ Sign m.Close ∷ rest) h, i) refl
 
-  member_reads : (item : Spelling) (set : Option Spelling) (rest : List Word) → HasRoom room → member room inner (Sign m.Open ∷ Name item ∷ spell_set set (Sign m.Close ∷ rest)) ≡ Some (InValueSet item set, rest)
+  member_reads : (item : Spelling) (set : Option Spelling) (rest : List Word) → IsName item → IsSetName set → HasRoom room → member room inner (Sign m.Open ∷ Name item ∷ spell_set set (Sign m.Close ∷ rest)) ≡ Some (InValueSet item set, rest)
   unfolding member set_after
-  member_reads item None rest h = rw (enter_reads room (Name item ∷ Sign m.Close ∷ rest) h) refl
-  member_reads item (Some set) rest h = rw (enter_reads room (Name item ∷ Sign m.Comma ∷ Name set ∷ Sign m.Close ∷ rest) h) refl
+  member_reads item None rest i k h = rw (enter_reads room (Name item ∷ Sign m.Close ∷ rest) h, i) refl
+  member_reads item (Some set) rest i k h = rw (enter_reads room (Name item ∷ Sign m.Comma ∷ Name set ∷ Sign m.Close ∷ rest) h, i, k) refl
 
   prim_reads : Reads 8 room (prim room inner)
   unfolding prim marked
   prim_reads (Number digits) rest h f = rw h.1 refl
-  prim_reads (Text text) rest h f = refl
-  prim_reads (Special' v.NotAppl) rest h f = refl
-  prim_reads (Special' v.Missing) rest h f = refl
-  prim_reads (Special' v.Default) rest h f = refl
-  prim_reads (Bare name) rest h f = bare_reads name rest f
-  prim_reads (Indexed name xs) rest h f = indexed_reads name xs rest h.1.0 h.1.1
+  prim_reads (Text text) rest h f = rw h.1 refl
+  prim_reads (Special' token value) rest h f = refl
+  prim_reads (Bare name) rest h f = rw h.1 (bare_reads name rest f)
+  prim_reads (Indexed name xs) rest h f = rw h.1.0 (indexed_reads name xs rest h.1.1 h.1.2)
   prim_reads (Group x) rest h f = group_reads x rest h.1
   prim_reads (Apply u.Int x) rest h f = apply_reads u.Int x rest h.1
   prim_reads (Apply u.Special x) rest h f = apply_reads u.Special x rest h.1
-  prim_reads (Query' q.GetDeck name) rest h f = query_reads q.GetDeck name rest h.1
-  prim_reads (Query' q.TotOcc name) rest h f = query_reads q.TotOcc name rest h.1
-  prim_reads (Query' q.MaxOcc name) rest h f = query_reads q.MaxOcc name rest h.1
-  prim_reads (Query' q.CurOcc name) rest h f = query_reads q.CurOcc name rest h.1
-  prim_reads (InValueSet item set) rest h f = member_reads item set rest h.1
+  prim_reads (Query' q.GetDeck name) rest h f = query_reads q.GetDeck name rest h.1.0 h.1.1
+  prim_reads (Query' q.TotOcc name) rest h f = query_reads q.TotOcc name rest h.1.0 h.1.1
+  prim_reads (Query' q.MaxOcc name) rest h f = query_reads q.MaxOcc name rest h.1.0 h.1.1
+  prim_reads (Query' q.CurOcc name) rest h f = query_reads q.CurOcc name rest h.1.0 h.1.1
+  prim_reads (InValueSet item set) rest h f = member_reads item set rest h.1.0 h.1.1 h.1.2
   prim_reads (Chain x ys) rest h f = absurd (omega (arith, h.0, level_small ys))
   prim_reads x rest h f = absurd (omega (arith, h.0))
 

@@ -2,10 +2,9 @@
 use Rattle.std.proofs.Common.{◌≡◌, ℕ, zero, suc, ◌≤◌, Bool, true, false, List, [], ◌∷◌, ◌++◌, length, Option, Some, None, refl, arith, append_assoc}
 use Rattle.std.proofs.lemmas.List.{append-nil}
 use Rattle.cse_syntax.specs.declared.token.Mark.TheVariants as m
-use Rattle.cse_syntax.specs.declared.tree.Jump.TheVariants as j
 use Rattle.cse_syntax.specs.Word.{Word, Name, Sign}
-use Rattle.cse_syntax.specs.Tree.{Spelling, Stmts, done, next, Jump', Literal, Dimension, Sized, Rows, Parameter, Array, Declaration, Numeric, Alpha, Array', Function', Body, Plain, Preproc, Both, Postproc, Procedure, Tree}
-use Rattle.cse_syntax.specs.Grammar.{MOST, spell_mark, spell_each, spell_list, spell_all, spell_name, Each, IsSome, spell_stmts, AreStmts, spell_literal, spell_dimension, spell_parameter, spell_cells, spell_array, spell_declaration, spell_body, spell_procedure, spell_globals, IsDimension, IsLiteral, IsArray, IsDeclaration, IsBody, IsProcedure, AreGlobals, IsSource}
+use Rattle.cse_syntax.specs.Tree.{Spelling, Stmts, no_stmt, stmt_and, Empty, Literal, Dimension, Sized, Rows, Parameter, Array, Declaration, Numeric, Alpha, Array', Function', Body, Plain, Preproc, Both, Postproc, Procedure, Tree}
+use Rattle.cse_syntax.specs.Grammar.{MOST, IsName, IsParameter, spell_mark, spell_each, spell_list, spell_all, spell_name, Each, IsSome, spell_stmts, AreStmts, spell_literal, spell_dimension, spell_parameter, spell_cells, spell_array, spell_declaration, spell_body, spell_procedure, spell_globals, IsDimension, IsLiteral, IsArray, IsDeclaration, IsBody, IsProcedure, AreGlobals, IsSource}
 use Rattle.cse_syntax.specs.Reading.{Parser, sees, after, take_name, loop, snoc, listed}
 use Rattle.cse_syntax.specs.ReadingStmt.{literal, starts_stmt}
 use Rattle.cse_syntax.specs.ReadingSource.{rows, dimension, parameter, parameters, cells, numeric, alpha, array, array_declaration, function, declaration, starts_declaration, declarations, globals, plain, postproc, preproc, body, procedure, procedures, source_at}
@@ -15,12 +14,11 @@ use Rattle.cse_syntax.proofs.CompleteStmt.{literal_reads, longer_literal, longer
 abbrev Any : {A : Type 0} → A → Type 0
 Any x = Unit {0}
 
-each_any : {A : Type 0} (xs : List A) → Each Any xs
-each_any [] = tt
-each_any (x ∷ xs) = (tt, each_any xs)
+name_reads : (name : Spelling) (rest : List Word) → IsName name → take_name (Name name ∷ rest) ≡ Some (name, rest)
+name_reads name rest h = rw h refl
 
-names_read : (xs : List Spelling) (rest : List Word) → IsSome xs → sees m.Comma rest ≡ false → listed take_name (spell_list spell_name xs rest) ≡ Some (xs, rest)
-names_read xs rest i c = listed_reads spell_name Any take_name Any (λ x rest h s. refl) (λ x rest. omega arith) (λ ws. tt) xs rest i (each_any xs) tt c
+names_read : (xs : List Spelling) (rest : List Word) → IsSome xs → Each IsName xs → sees m.Comma rest ≡ false → listed take_name (spell_list spell_name xs rest) ≡ Some (xs, rest)
+names_read xs rest i h c = listed_reads spell_name IsName take_name Any (λ x rest h s. name_reads x rest h) (λ x rest. omega arith) (λ ws. tt) xs rest i h tt c
 
 -- ---- dimensions, parameters and cells
 
@@ -30,8 +28,8 @@ NoOpen rest = sees m.Open rest ≡ false
 dimension_reads : (x : Dimension) (rest : List Word) → IsDimension x → NoOpen rest → dimension (spell_dimension x rest) ≡ Some (x, rest)
 unfolding dimension rows
 dimension_reads (Sized digits) rest h s = rw h refl
-dimension_reads (Rows set true) rest h s = refl
-dimension_reads (Rows set false) rest h s = rw s refl
+dimension_reads (Rows set true) rest h s = rw h refl
+dimension_reads (Rows set false) rest h s = rw (h, s) refl
 
 longer_dimension : (x : Dimension) (rest : List Word) → length rest ≤ length (spell_dimension x rest)
 longer_dimension (Sized digits) rest = omega arith
@@ -41,12 +39,12 @@ longer_dimension (Rows set false) rest = omega arith
 dimensions_read : (xs : List Dimension) (rest : List Word) → IsSome xs → Each IsDimension xs → listed dimension (spell_list spell_dimension xs (Sign m.Close ∷ rest)) ≡ Some (xs, Sign m.Close ∷ rest)
 dimensions_read xs rest i h = listed_reads spell_dimension IsDimension dimension NoOpen dimension_reads longer_dimension (λ ws. refl) xs (Sign m.Close ∷ rest) i h refl refl
 
-parameter_reads : (x : Parameter) (rest : List Word) → parameter (spell_parameter x rest) ≡ Some (x, rest)
+parameter_reads : (x : Parameter) (rest : List Word) → IsParameter x → parameter (spell_parameter x rest) ≡ Some (x, rest)
 unfolding parameter
-parameter_reads x rest =
+parameter_reads x rest h =
     let by : (b : Bool) → parameter (spell_mark m.Numeric b (Name x.name ∷ rest)) ≡ Some (record { declared = b; name = x.name }, rest) = λ b. elim b as (λ b. parameter (spell_mark m.Numeric b (Name x.name ∷ rest)) ≡ Some (record { declared = b; name = x.name }, rest)) [
-      | true ↦ refl
-      | false ↦ refl
+      | true ↦ rw h refl
+      | false ↦ rw h refl
     ] in by x.declared
 
 longer_name : (b : Bool) (name : Spelling) (rest : List Word) → length rest ≤ length (spell_mark m.Numeric b (Name name ∷ rest))
@@ -57,12 +55,12 @@ no_close : (b : Bool) (name : Spelling) (rest : List Word) → sees m.Close (spe
 no_close true name rest = refl
 no_close false name rest = refl
 
-parameters_read : (xs : List Parameter) (rest : List Word) → parameters (spell_list spell_parameter xs (Sign m.Close ∷ rest)) ≡ Some (xs, Sign m.Close ∷ rest)
+parameters_read : (xs : List Parameter) (rest : List Word) → Each IsParameter xs → parameters (spell_list spell_parameter xs (Sign m.Close ∷ rest)) ≡ Some (xs, Sign m.Close ∷ rest)
 unfolding parameters
-parameters_read [] rest = refl
-parameters_read (x ∷ xs) rest =
+parameters_read [] rest h = refl
+parameters_read (x ∷ xs) rest h =
     let c = no_close x.declared x.name (spell_each spell_parameter xs (Sign m.Close ∷ rest)) in
-    let go = listed_reads spell_parameter Any parameter Any (λ x rest h s. parameter_reads x rest) (λ x rest. longer_name x.declared x.name rest) (λ ws. tt) (x ∷ xs) (Sign m.Close ∷ rest) tt (each_any (x ∷ xs)) tt refl in
+    let go = listed_reads spell_parameter IsParameter parameter Any (λ x rest h s. parameter_reads x rest h) (λ x rest. longer_name x.declared x.name rest) (λ ws. tt) (x ∷ xs) (Sign m.Close ∷ rest) tt h tt refl in
     rw c go
 
 cells_read : (xs : List Literal) (rest : List Word) → Each IsLiteral xs → cells (spell_cells xs (Sign m.Semicolon ∷ rest)) ≡ Some (xs, Sign m.Semicolon ∷ rest)
@@ -87,22 +85,22 @@ behind_save false xs rest = rw (no_save xs rest) refl
 array_reads : (x : Array) (rest : List Word) → IsArray x → array (spell_array x (Sign m.Semicolon ∷ rest)) ≡ Some (x, Sign m.Semicolon ∷ rest)
 unfolding array
 array_reads x rest h =
-    let dims = dimensions_read x.dimensions (spell_mark m.Save x.saved (spell_cells x.cells (Sign m.Semicolon ∷ rest))) h.0 h.1 in
-    rw (dims, behind_save x.saved x.cells rest, saved_is x.saved x.cells rest, cells_read x.cells rest h.2) refl
+    let dims = dimensions_read x.dimensions (spell_mark m.Save x.saved (spell_cells x.cells (Sign m.Semicolon ∷ rest))) h.1 h.2 in
+    rw (h.0, dims, behind_save x.saved x.cells rest, saved_is x.saved x.cells rest, cells_read x.cells rest h.3) refl
 
 module _ (room : ℕ) where
-  function_reads : (name : Spelling) (ps : List Parameter) (xs : Stmts) (rest : List Word) → AreStmts xs room
+  function_reads : (name : Spelling) (ps : List Parameter) (xs : Stmts) (rest : List Word) → IsName name → Each IsParameter ps → AreStmts xs room
       → function room (Name name ∷ Sign m.Open ∷ spell_list spell_parameter ps (Sign m.Close ∷ spell_stmts xs (Sign m.End ∷ Sign m.Semicolon ∷ rest))) ≡ Some (Function' name ps xs, rest)
   unfolding function
-  function_reads name ps xs rest h =
-      rw (parameters_read ps (spell_stmts xs (Sign m.End ∷ Sign m.Semicolon ∷ rest)), statements_at_read room xs (Sign m.End ∷ Sign m.Semicolon ∷ rest) h refl, stmts-stmt_list xs) refl
+  function_reads name ps xs rest i k h =
+      rw (i, parameters_read ps (spell_stmts xs (Sign m.End ∷ Sign m.Semicolon ∷ rest)) k, statements_at_read room xs (Sign m.End ∷ Sign m.Semicolon ∷ rest) h refl, stmts-stmt_list xs) refl
 
   declaration_reads : (x : Declaration) (rest : List Word) → IsDeclaration room x → declaration room (spell_declaration x rest) ≡ Some (x, rest)
   unfolding declaration numeric alpha array_declaration
-  declaration_reads (Numeric names) rest h = rw (names_read names (Sign m.Semicolon ∷ rest) h refl) refl
-  declaration_reads (Alpha size names) rest h = rw (h.0, names_read names (Sign m.Semicolon ∷ rest) h.1 refl) refl
+  declaration_reads (Numeric names) rest h = rw (names_read names (Sign m.Semicolon ∷ rest) h.0 h.1 refl) refl
+  declaration_reads (Alpha size names) rest h = rw (h.0, names_read names (Sign m.Semicolon ∷ rest) h.1 h.2 refl) refl
   declaration_reads (Array' x) rest h = rw (array_reads x rest h) refl
-  declaration_reads (Function' name ps xs) rest h = function_reads name ps xs rest h
+  declaration_reads (Function' name ps xs) rest h = function_reads name ps xs rest h.0 h.1 h.2
 
 -- ---- one after the other
 
@@ -170,18 +168,14 @@ pub record Behind (rest : List Word) : Type 0 where
   pub no_postproc : sees m.Postproc rest ≡ false
 
 no_preproc_in : (xs : Stmts) (rest : List Word) → sees m.Preproc rest ≡ false → sees m.Preproc (spell_stmts xs rest) ≡ false
-no_preproc_in done rest h = h
-no_preproc_in (next (Jump' j.Break) xs) rest h = refl
-no_preproc_in (next (Jump' j.Next) xs) rest h = refl
-no_preproc_in (next (Jump' j.Exit) xs) rest h = refl
-no_preproc_in (next x xs) rest h = refl
+no_preproc_in no_stmt rest h = h
+no_preproc_in (stmt_and Empty xs) rest h = refl
+no_preproc_in (stmt_and x xs) rest h = refl
 
 no_postproc_in : (xs : Stmts) (rest : List Word) → sees m.Postproc rest ≡ false → sees m.Postproc (spell_stmts xs rest) ≡ false
-no_postproc_in done rest h = h
-no_postproc_in (next (Jump' j.Break) xs) rest h = refl
-no_postproc_in (next (Jump' j.Next) xs) rest h = refl
-no_postproc_in (next (Jump' j.Exit) xs) rest h = refl
-no_postproc_in (next x xs) rest h = refl
+no_postproc_in no_stmt rest h = h
+no_postproc_in (stmt_and Empty xs) rest h = refl
+no_postproc_in (stmt_and x xs) rest h = refl
 
 module _ (room : ℕ) where
   plain_reads : (xs : Stmts) (rest : List Word) → AreStmts xs room → Behind rest → plain room (spell_stmts xs rest) ≡ Some (Plain xs, rest)
@@ -209,7 +203,7 @@ module _ (room : ℕ) where
 
   procedure_reads : (x : Procedure) (rest : List Word) → IsProcedure room x → Behind rest → procedure room (spell_procedure x rest) ≡ Some (x, rest)
   unfolding procedure
-  procedure_reads x rest h b = rw (body_reads x.body rest h b) refl
+  procedure_reads x rest h b = rw (h.0, body_reads x.body rest h.1 b) refl
 
 longer_body : (x : Body) (rest : List Word) → length rest ≤ length (spell_body x rest)
 longer_body (Plain xs) rest = longer_stmts xs rest

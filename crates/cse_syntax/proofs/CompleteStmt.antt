@@ -7,28 +7,35 @@ use Rattle.cse_syntax.specs.declared.token.Mark.TheVariants as m
 use Rattle.cse_syntax.specs.declared.tree.Count.{Count}
 use Rattle.cse_syntax.specs.declared.tree.Count.TheVariants as c
 use Rattle.cse_syntax.specs.declared.tree.Jump.{Jump}
-use Rattle.cse_syntax.specs.declared.tree.Jump.TheVariants as j
 use Rattle.cse_syntax.specs.Word.{Word, Name, Digits, Sign}
-use Rattle.cse_syntax.specs.Tree.{Spelling, Expr, Exprs, none, more, exprs, Literal, Limit, Fixed, Counted, Counting, Message, Own, Numbered, Stmt, Empty, Assign, Call, If, For, Do, Jump', Impute, PutDeck, ErrMsg, Stmts, done, next, stmts, Arms, no_arm, arm, arms, Otherwise, no_else, else_of}
-use Rattle.cse_syntax.specs.Grammar.{is_within, Below, HasRoom, spell_mark, spell_expr, spell_exprs, spell_others, spell_subscripts, IsExpr, AreInner, spell_literal, spell_limit, spell_by, spell_counting, spell_message, spell_stmt, spell_stmts, spell_arms, spell_otherwise, IsLimit, IsBy, IsCounting, IsMessage, IsStmt, AreStmts, AreArms, IsOtherwise}
+use Rattle.cse_syntax.specs.Tree.{Spelling, Expr, Exprs, no_expr, expr_and, exprs, Literal, Limit, Fixed, Counted, Counting, Message, Own, Numbered, Stmt, Empty, Assign, Call, If, For, Do, Jump', Impute, PutDeck, ErrMsg, Stmts, no_stmt, stmt_and, stmts, Arms, no_arm, arm, arms, else_of}
+use Rattle.cse_syntax.specs.Grammar.{is_within, IsName, Below, HasRoom, spell_mark, spell_expr, spell_exprs, spell_others, spell_subscripts, IsExpr, AreInner, spell_literal, spell_limit, spell_by, spell_counting, spell_message, spell_stmt, spell_stmts, spell_arms, IsLimit, IsBy, IsCounting, IsMessage, IsStmt, AreStmts, AreArms}
 use Rattle.cse_syntax.specs.Reading.{Parser, sees, after, snoc, nested}
 use Rattle.cse_syntax.specs.ReadingStmt.{literal, counted, fixed, limit, step, again, counting, message, assigned, called, named_stmt, putdeck, errmsg, jump, imputed, impute, guarded, elseifs, elseifs_from, otherwise, conditional, body_to_end, over, over_at, counted_at, marked_stmt, statement, starts_stmt, statements, statements_from, body_at, statements_at}
 use Rattle.cse_syntax.proofs.Complete.{longer_expr, longer_exprs, longer_others, longer_subscripts, list_of, exprs-list_of, enter_reads, has_room, others_read, subscripts_read, arguments_read, nested_reads, expr_reads}
 
 abbrev pub stmt_list : Stmts → List Stmt
-stmt_list done = []
-stmt_list (next x xs) = x ∷ stmt_list xs
+stmt_list no_stmt = []
+stmt_list (stmt_and x xs) = x ∷ stmt_list xs
 
 pub stmts-stmt_list : (xs : Stmts) → stmts (stmt_list xs) ≡ xs
-stmts-stmt_list done = refl
-stmts-stmt_list (next x xs) = ap (next x) (stmts-stmt_list xs)
+stmts-stmt_list no_stmt = refl
+stmts-stmt_list (stmt_and x xs) = ap (stmt_and x) (stmts-stmt_list xs)
 
+-- each `elseif` of some arms, and what stands behind them
 abbrev arm_list : Arms → List (Expr × Stmts)
 arm_list no_arm = []
+arm_list (else_of body) = []
 arm_list (arm condition body others) = (condition, body) ∷ arm_list others
 
-arms-arm_list : (xs : Arms) → arms (arm_list xs) ≡ xs
+abbrev last_of : Arms → Arms
+last_of no_arm = no_arm
+last_of (else_of body) = else_of body
+last_of (arm condition body others) = last_of others
+
+arms-arm_list : (xs : Arms) → arms (arm_list xs) (last_of xs) ≡ xs
 arms-arm_list no_arm = refl
+arms-arm_list (else_of body) = refl
 arms-arm_list (arm condition body others) = ap (arm condition body) (arms-arm_list others)
 
 longer_mark : (mark : Mark) (b : Bool) (rest : List Word) → length rest ≤ length (spell_mark mark b rest)
@@ -59,12 +66,12 @@ mutual
   longer_stmt Empty rest = omega arith
   longer_stmt (Assign name is value) rest = omega (arith, longer_subscripts is (Sign m.Equals ∷ spell_expr value (Sign m.Semicolon ∷ rest)), longer_expr value (Sign m.Semicolon ∷ rest))
   longer_stmt (Call name xs) rest = omega (arith, longer_exprs xs (Sign m.Close ∷ Sign m.Semicolon ∷ rest))
-  longer_stmt (If condition body others last) rest =
+  longer_stmt (If condition body others) rest =
       let end : List Word = Sign m.EndIf ∷ Sign m.Semicolon ∷ rest in
-      omega (arith, longer_expr condition (Sign m.Then ∷ spell_stmts body (spell_arms others (spell_otherwise last end))), longer_stmts body (spell_arms others (spell_otherwise last end)), longer_arms others (spell_otherwise last end), longer_otherwise last end)
+      omega (arith, longer_expr condition (Sign m.Then ∷ spell_stmts body (spell_arms others end)), longer_stmts body (spell_arms others end), longer_arms others end)
   longer_stmt (For variable record_name body) rest = omega (arith, longer_stmts body (Sign m.EndDo ∷ Sign m.Semicolon ∷ rest))
   longer_stmt (Do head body) rest = omega (arith, longer_counting head (spell_stmts body (Sign m.EndDo ∷ Sign m.Semicolon ∷ rest)), longer_stmts body (Sign m.EndDo ∷ Sign m.Semicolon ∷ rest))
-  longer_stmt (Jump' which) rest = omega arith
+  longer_stmt (Jump' token which) rest = omega arith
   longer_stmt (Impute name is value) rest = omega (arith, longer_subscripts is (Sign m.Comma ∷ spell_expr value (Sign m.Close ∷ Sign m.Semicolon ∷ rest)), longer_expr value (Sign m.Close ∷ Sign m.Semicolon ∷ rest))
   longer_stmt (PutDeck deck value) rest = omega (arith, longer_expr value (Sign m.Close ∷ Sign m.Semicolon ∷ rest))
   longer_stmt (ErrMsg what values summary) rest =
@@ -72,20 +79,17 @@ mutual
       omega (arith, longer_message what (spell_others values (Sign m.Close ∷ end)), longer_others values (Sign m.Close ∷ end), longer_mark m.Summary summary (Sign m.Semicolon ∷ rest))
 
   pub longer_stmts : (xs : Stmts) (rest : List Word) → length rest ≤ length (spell_stmts xs rest)
-  longer_stmts done rest = omega arith
-  longer_stmts (next x xs) rest = omega (arith, longer_stmt x (spell_stmts xs rest), longer_stmts xs rest)
+  longer_stmts no_stmt rest = omega arith
+  longer_stmts (stmt_and x xs) rest = omega (arith, longer_stmt x (spell_stmts xs rest), longer_stmts xs rest)
 
   longer_arms : (xs : Arms) (rest : List Word) → length rest ≤ length (spell_arms xs rest)
   longer_arms no_arm rest = omega arith
+  longer_arms (else_of body) rest = omega (arith, longer_stmts body rest)
   longer_arms (arm condition body others) rest = omega (arith, longer_expr condition (Sign m.Then ∷ spell_stmts body (spell_arms others rest)), longer_stmts body (spell_arms others rest), longer_arms others rest)
-
-  longer_otherwise : (x : Otherwise) (rest : List Word) → length rest ≤ length (spell_otherwise x rest)
-  longer_otherwise no_else rest = omega arith
-  longer_otherwise (else_of body) rest = omega (arith, longer_stmts body rest)
 
 -- ---- the head of a `do`
 
-pub literal_reads : (most : ℕ) (x : Literal) (rest : List Word) → is_within 0 most x.digits ≡ true → literal most (spell_literal x rest) ≡ Some (x, rest)
+pub literal_reads : (most : ℕ) (x : Literal) (rest : List Word) → is_within 0 most x.digits.text ≡ true → literal most (spell_literal x rest) ≡ Some (x, rest)
 unfolding literal
 literal_reads most x rest h =
     let by : (b : Bool) → literal most (spell_mark m.Minus b (Digits x.digits ∷ rest)) ≡ Some (record { minus = b; digits = x.digits }, rest) = λ b. elim b as (λ b. literal most (spell_mark m.Minus b (Digits x.digits ∷ rest)) ≡ Some (record { minus = b; digits = x.digits }, rest)) [
@@ -93,11 +97,11 @@ literal_reads most x rest h =
       | false ↦ rw h refl
     ] in by x.minus
 
-counted_reads : (room : ℕ) (count : Count) (name : Spelling) (rest : List Word) → HasRoom room → counted room count (Sign m.Open ∷ Name name ∷ Sign m.Close ∷ rest) ≡ Some (Counted count name, rest)
+counted_reads : (room : ℕ) (count : Count) (name : Spelling) (rest : List Word) → IsName name → HasRoom room → counted room count (Sign m.Open ∷ Name name ∷ Sign m.Close ∷ rest) ≡ Some (Counted count name, rest)
 unfolding counted
-counted_reads room count name rest h = rw (enter_reads room (Name name ∷ Sign m.Close ∷ rest) h) refl
+counted_reads room count name rest i h = rw (enter_reads room (Name name ∷ Sign m.Close ∷ rest) h, i) refl
 
-fixed_reads : (x : Literal) (rest : List Word) → is_within 0 999999999 x.digits ≡ true → fixed (spell_literal x rest) ≡ Some (Fixed x, rest)
+fixed_reads : (x : Literal) (rest : List Word) → is_within 0 999999999 x.digits.text ≡ true → fixed (spell_literal x rest) ≡ Some (Fixed x, rest)
 unfolding fixed
 fixed_reads x rest h = rw (literal_reads 999999999 x rest h) refl
 
@@ -109,30 +113,30 @@ limit_is_fixed room false digits rest = refl
 limit_reads : (room : ℕ) (x : Limit) (rest : List Word) → IsLimit x room → limit room (spell_limit x rest) ≡ Some (x, rest)
 unfolding limit
 limit_reads room (Fixed x) rest h = limit_is_fixed room x.minus x.digits rest ∙ fixed_reads x rest h
-limit_reads room (Counted c.TotOcc name) rest h = counted_reads room c.TotOcc name rest h
-limit_reads room (Counted c.MaxOcc name) rest h = counted_reads room c.MaxOcc name rest h
+limit_reads room (Counted c.TotOcc name) rest h = counted_reads room c.TotOcc name rest h.0 h.1
+limit_reads room (Counted c.MaxOcc name) rest h = counted_reads room c.MaxOcc name rest h.0 h.1
 
 step_reads : (x : Option Spelling) (rest : List Word) → IsBy x → sees m.By rest ≡ false → step (spell_by x rest) ≡ Some (x, rest)
 unfolding step
 step_reads None rest h b = rw b refl
 step_reads (Some digits) rest h b = rw h refl
 
-again_reads : (variable name : Spelling) (rest : List Word) → str_eq_ignore_ascii_case variable name ≡ true → again variable (Name name ∷ rest) ≡ Some (name, rest)
+again_reads : (variable name : Spelling) (rest : List Word) → IsName name → str_eq_ignore_ascii_case variable.text name.text ≡ true → again variable (Name name ∷ rest) ≡ Some (name, rest)
 unfolding again
-again_reads variable name rest h = rw h refl
+again_reads variable name rest i h = rw (i, h) refl
 
 counting_reads : (room : ℕ) (x : Counting) (rest : List Word) → IsCounting x room → sees m.By rest ≡ false → counting room (spell_counting x rest) ≡ Some (x, rest)
 unfolding counting
 counting_reads room x rest h b =
-    let start = limit_reads room x.start (Sign m.Until ∷ Name x.again ∷ Sign m.More ∷ spell_limit x.stop (spell_by x.by rest)) h.0 in
-    let second = again_reads x.variable x.again (Sign m.More ∷ spell_limit x.stop (spell_by x.by rest)) h.1 in
-    let stop = limit_reads room x.stop (spell_by x.by rest) h.2 in
-    let by = step_reads x.by rest h.3 b in
-    rw (start, second, stop, by) refl
+    let start = limit_reads room x.start (Sign m.Until ∷ Name x.again ∷ Sign m.More ∷ spell_limit x.stop (spell_by x.by rest)) h.1 in
+    let second = again_reads x.variable x.again (Sign m.More ∷ spell_limit x.stop (spell_by x.by rest)) h.2 h.3 in
+    let stop = limit_reads room x.stop (spell_by x.by rest) h.4 in
+    let by = step_reads x.by rest h.5 b in
+    rw (h.0, start, second, stop, by) refl
 
 message_reads : (x : Message) (rest : List Word) → IsMessage x → message (spell_message x rest) ≡ Some (x, rest)
 unfolding message
-message_reads (Own text) rest h = refl
+message_reads (Own text) rest h = rw h refl
 message_reads (Numbered digits) rest h = rw h refl
 
 -- ---- first words
@@ -141,35 +145,24 @@ starts : (x : Stmt) (rest : List Word) → starts_stmt (spell_stmt x rest) ≡ t
 starts Empty rest = refl
 starts (Assign name is value) rest = refl
 starts (Call name xs) rest = refl
-starts (If condition body others last) rest = refl
+starts (If condition body others) rest = refl
 starts (For variable record_name body) rest = refl
 starts (Do head body) rest = refl
-starts (Jump' j.Break) rest = refl
-starts (Jump' j.Next) rest = refl
-starts (Jump' j.Exit) rest = refl
+starts (Jump' token which) rest = refl
 starts (Impute name is value) rest = refl
 starts (PutDeck deck value) rest = refl
 starts (ErrMsg what values summary) rest = refl
 
 arms_start : (xs : Arms) (rest : List Word) → starts_stmt rest ≡ false → starts_stmt (spell_arms xs rest) ≡ false
 arms_start no_arm rest h = h
+arms_start (else_of body) rest h = refl
 arms_start (arm condition body others) rest h = refl
-
-otherwise_starts : (x : Otherwise) (rest : List Word) → starts_stmt rest ≡ false → starts_stmt (spell_otherwise x rest) ≡ false
-otherwise_starts no_else rest h = h
-otherwise_starts (else_of body) rest h = refl
-
-no_elseif : (x : Otherwise) (rest : List Word) → sees m.ElseIf rest ≡ false → sees m.ElseIf (spell_otherwise x rest) ≡ false
-no_elseif no_else rest h = h
-no_elseif (else_of body) rest h = refl
 
 -- statements begin with no `by`
 no_by : (xs : Stmts) (rest : List Word) → sees m.By rest ≡ false → sees m.By (spell_stmts xs rest) ≡ false
-no_by done rest h = h
-no_by (next (Jump' j.Break) xs) rest h = refl
-no_by (next (Jump' j.Next) xs) rest h = refl
-no_by (next (Jump' j.Exit) xs) rest h = refl
-no_by (next x xs) rest h = refl
+no_by no_stmt rest h = h
+no_by (stmt_and Empty xs) rest h = refl
+no_by (stmt_and x xs) rest h = refl
 
 -- ---- statements without others in them
 
@@ -178,29 +171,29 @@ module _ (room : ℕ) where
   unfolding assigned
   assigned_reads name xs value rest h = rw (expr_reads room value (Sign m.Semicolon ∷ rest) h (omega arith)) refl
 
-  assign_some : (name : Spelling) (x : Expr) (xs : Exprs) (value : Expr) (rest : List Word) → AreInner (more x xs) room → IsExpr value room
-      → named_stmt room name (spell_subscripts (more x xs) (Sign m.Equals ∷ spell_expr value (Sign m.Semicolon ∷ rest))) ≡ Some (Assign name (more x xs) value, rest)
+  assign_some : (name : Spelling) (x : Expr) (xs : Exprs) (value : Expr) (rest : List Word) → AreInner (expr_and x xs) room → IsExpr value room
+      → named_stmt room name (spell_subscripts (expr_and x xs) (Sign m.Equals ∷ spell_expr value (Sign m.Semicolon ∷ rest))) ≡ Some (Assign name (expr_and x xs) value, rest)
   unfolding named_stmt called
   assign_some name x xs value rest h i =
-      let a = arguments_read room (nested room) (nested_reads room) (more x xs) (Sign m.Equals ∷ spell_expr value (Sign m.Semicolon ∷ rest)) (has_room room (IsExpr x) h.0) h in
+      let a = arguments_read room (nested room) (nested_reads room) (expr_and x xs) (Sign m.Equals ∷ spell_expr value (Sign m.Semicolon ∷ rest)) (has_room room (IsExpr x) h.0) h in
       let b = assigned_reads name (x ∷ list_of xs) value rest i in
       rw (a, b, exprs-list_of xs) refl
 
   assign_reads : (name : Spelling) (xs : Exprs) (value : Expr) (rest : List Word) → AreInner xs room → IsExpr value room
       → named_stmt room name (spell_subscripts xs (Sign m.Equals ∷ spell_expr value (Sign m.Semicolon ∷ rest))) ≡ Some (Assign name xs value, rest)
   unfolding named_stmt
-  assign_reads name none value rest h i = assigned_reads name [] value rest i
-  assign_reads name (more x xs) value rest h i = assign_some name x xs value rest h i
+  assign_reads name no_expr value rest h i = assigned_reads name [] value rest i
+  assign_reads name (expr_and x xs) value rest h i = assign_some name x xs value rest h i
 
   call_reads : (name : Spelling) (xs : Exprs) (rest : List Word) → HasRoom room → AreInner xs room → named_stmt room name (Sign m.Open ∷ spell_exprs xs (Sign m.Close ∷ Sign m.Semicolon ∷ rest)) ≡ Some (Call name xs, rest)
   unfolding named_stmt called
   call_reads name xs rest h i = rw (arguments_read room (nested room) (nested_reads room) xs (Sign m.Semicolon ∷ rest) h i, exprs-list_of xs) refl
 
-  putdeck_reads : (deck : Spelling) (value : Expr) (rest : List Word) → Below room (IsExpr value) → putdeck room (Sign m.Open ∷ Name deck ∷ Sign m.Comma ∷ spell_expr value (Sign m.Close ∷ Sign m.Semicolon ∷ rest)) ≡ Some (PutDeck deck value, rest)
+  putdeck_reads : (deck : Spelling) (value : Expr) (rest : List Word) → IsName deck → Below room (IsExpr value) → putdeck room (Sign m.Open ∷ Name deck ∷ Sign m.Comma ∷ spell_expr value (Sign m.Close ∷ Sign m.Semicolon ∷ rest)) ≡ Some (PutDeck deck value, rest)
   unfolding putdeck
-  putdeck_reads deck value rest h =
+  putdeck_reads deck value rest i h =
       let a = enter_reads room (Name deck ∷ Sign m.Comma ∷ spell_expr value (Sign m.Close ∷ Sign m.Semicolon ∷ rest)) (has_room room (IsExpr value) h) in
-      rw (a, nested_reads room value (Sign m.Close ∷ Sign m.Semicolon ∷ rest) h (omega arith)) refl
+      rw (a, i, nested_reads room value (Sign m.Close ∷ Sign m.Semicolon ∷ rest) h (omega arith)) refl
 
   summary_is : (b : Bool) (rest : List Word) → sees m.Summary (spell_mark m.Summary b (Sign m.Semicolon ∷ rest)) ≡ b
   summary_is true rest = refl
@@ -220,23 +213,23 @@ module _ (room : ℕ) where
       let d = others_read room (nested room) (nested_reads room) values (Sign m.Close ∷ end) k (omega arith) refl in
       rw (a, b, d, behind_summary summary rest, summary_is summary rest, exprs-list_of values) refl
 
-  jump_reads : (which : Jump) (rest : List Word) → jump room which (Sign m.Semicolon ∷ rest) ≡ Some (Jump' which, rest)
+  jump_reads : (token : ℕ) (which : Jump) (rest : List Word) → jump room token which (Sign m.Semicolon ∷ rest) ≡ Some (Jump' token which, rest)
   unfolding jump
-  jump_reads which rest = refl
+  jump_reads token which rest = refl
 
-  imputed_reads : (name : Spelling) (xs : Exprs) (value : Expr) (rest : List Word) → AreInner xs room → IsExpr value room
+  imputed_reads : (name : Spelling) (xs : Exprs) (value : Expr) (rest : List Word) → IsName name → AreInner xs room → IsExpr value room
       → imputed room (Name name ∷ spell_subscripts xs (Sign m.Comma ∷ spell_expr value (Sign m.Close ∷ Sign m.Semicolon ∷ rest))) ≡ Some (Impute name xs value, rest)
   unfolding imputed
-  imputed_reads name xs value rest h i =
+  imputed_reads name xs value rest n h i =
       let a = subscripts_read room (nested room) (nested_reads room) xs (Sign m.Comma ∷ spell_expr value (Sign m.Close ∷ Sign m.Semicolon ∷ rest)) h (omega arith) in
       let b = expr_reads room value (Sign m.Close ∷ Sign m.Semicolon ∷ rest) i (omega arith) in
-      rw (a, b, exprs-list_of xs) refl
+      rw (n, a, b, exprs-list_of xs) refl
 
-impute_reads : (room : ℕ) (name : Spelling) (xs : Exprs) (value : Expr) (rest : List Word) → Below room (AreInner xs) → Below room (IsExpr value)
+impute_reads : (room : ℕ) (name : Spelling) (xs : Exprs) (value : Expr) (rest : List Word) → IsName name → Below room (AreInner xs) → Below room (IsExpr value)
     → impute room (Sign m.Open ∷ Name name ∷ spell_subscripts xs (Sign m.Comma ∷ spell_expr value (Sign m.Close ∷ Sign m.Semicolon ∷ rest))) ≡ Some (Impute name xs value, rest)
 unfolding impute
-impute_reads zero name xs value rest h i = absurd h
-impute_reads (suc room) name xs value rest h i = imputed_reads room name xs value rest h i
+impute_reads zero name xs value rest n h i = absurd h
+impute_reads (suc room) name xs value rest n h i = imputed_reads room name xs value rest n h i
 
 -- ---- statements with others in them
 
@@ -249,47 +242,49 @@ module _ (room : ℕ) (body : Parser (List Stmt)) (body_reads : ReadsBody room b
   guarded_reads x xs rest h i s = rw (nested_reads room x (Sign m.Then ∷ spell_stmts xs rest) h (omega arith), body_reads xs rest i s, stmts-stmt_list xs) refl
 
   arms_read : (xs : Arms) (n : ℕ) (found : List (Expr × Stmts)) (rest : List Word) → AreArms xs room → sees m.ElseIf rest ≡ false → starts_stmt rest ≡ false → length (spell_arms xs rest) ≤ n
-      → elseifs_from room body n found (spell_arms xs rest) ≡ Some (found ++ arm_list xs, rest)
+      → elseifs_from room body n found (spell_arms xs rest) ≡ Some (found ++ arm_list xs, spell_arms (last_of xs) rest)
   arms_read no_arm zero found rest h e s le = rw append-nil refl
   arms_read no_arm (suc n) found rest h e s le = rw (e, append-nil) refl
+  arms_read (else_of b) zero found rest h e s le = rw append-nil refl
+  arms_read (else_of b) (suc n) found rest h e s le = rw append-nil refl
   arms_read (arm x b xs) zero found rest h e s le = absurd (omega arith)
   arms_read (arm x b xs) (suc n) found rest h e s le =
       let one = guarded_reads x b (spell_arms xs rest) h.0 h.1 (arms_start xs rest s) in
       let go = arms_read xs n (snoc found (x, b)) rest h.2 e s (omega (arith, longer_expr x (Sign m.Then ∷ spell_stmts b (spell_arms xs rest)), longer_stmts b (spell_arms xs rest))) in
       rw (one, go) (rw append_assoc refl)
 
-  elseifs_read : (xs : Arms) (rest : List Word) → AreArms xs room → sees m.ElseIf rest ≡ false → starts_stmt rest ≡ false → elseifs room body (spell_arms xs rest) ≡ Some (arm_list xs, rest)
+  elseifs_read : (xs : Arms) (rest : List Word) → AreArms xs room → sees m.ElseIf rest ≡ false → starts_stmt rest ≡ false → elseifs room body (spell_arms xs rest) ≡ Some (arm_list xs, spell_arms (last_of xs) rest)
   unfolding elseifs
   elseifs_read xs rest h e s = arms_read xs (length (spell_arms xs rest)) [] rest h e s (omega arith)
 
-  otherwise_reads : (x : Otherwise) (rest : List Word) → IsOtherwise x room → sees m.Else rest ≡ false → starts_stmt rest ≡ false → otherwise room body (spell_otherwise x rest) ≡ Some (x, rest)
+  otherwise_reads : (xs : Arms) (rest : List Word) → AreArms xs room → sees m.Else rest ≡ false → starts_stmt rest ≡ false → otherwise room body (spell_arms (last_of xs) rest) ≡ Some (last_of xs, rest)
   unfolding otherwise
-  otherwise_reads no_else rest h e s = rw e refl
+  otherwise_reads no_arm rest h e s = rw e refl
   otherwise_reads (else_of xs) rest h e s = rw (body_reads xs rest h s, stmts-stmt_list xs) refl
+  otherwise_reads (arm x b xs) rest h e s = otherwise_reads xs rest h.2 e s
 
-  conditional_reads : (x : Expr) (b : Stmts) (others : Arms) (last : Otherwise) (rest : List Word) → IsStmt (If x b others last) room
-      → conditional room body (spell_expr x (Sign m.Then ∷ spell_stmts b (spell_arms others (spell_otherwise last (Sign m.EndIf ∷ Sign m.Semicolon ∷ rest))))) ≡ Some (If x b others last, rest)
+  conditional_reads : (x : Expr) (b : Stmts) (others : Arms) (rest : List Word) → IsStmt (If x b others) room
+      → conditional room body (spell_expr x (Sign m.Then ∷ spell_stmts b (spell_arms others (Sign m.EndIf ∷ Sign m.Semicolon ∷ rest)))) ≡ Some (If x b others, rest)
   unfolding conditional
-  conditional_reads x b others last rest h =
+  conditional_reads x b others rest h =
       let end : List Word = Sign m.EndIf ∷ Sign m.Semicolon ∷ rest in
-      let s = otherwise_starts last end refl in
-      let first = guarded_reads x b (spell_arms others (spell_otherwise last end)) h.0 h.1 (arms_start others (spell_otherwise last end) s) in
-      rw (first, elseifs_read others (spell_otherwise last end) h.2 (no_elseif last end refl) s, otherwise_reads last end h.3 refl refl, arms-arm_list others) refl
+      let first = guarded_reads x b (spell_arms others end) h.0 h.1 (arms_start others end refl) in
+      rw (first, elseifs_read others end h.2 refl refl, otherwise_reads others end h.2 refl refl, arms-arm_list others) refl
 
   body_to_end_reads : (xs : Stmts) (rest : List Word) → Below room (AreStmts xs) → body_to_end room body (spell_stmts xs (Sign m.EndDo ∷ Sign m.Semicolon ∷ rest)) ≡ Some (xs, rest)
   unfolding body_to_end
   body_to_end_reads xs rest h = rw (body_reads xs (Sign m.EndDo ∷ Sign m.Semicolon ∷ rest) h refl, stmts-stmt_list xs) refl
 
-  over_reads : (variable record_name : Spelling) (xs : Stmts) (rest : List Word) → Below room (AreStmts xs)
+  over_reads : (variable record_name : Spelling) (xs : Stmts) (rest : List Word) → IsName variable → IsName record_name → Below room (AreStmts xs)
       → over room body (Name variable ∷ Sign m.In ∷ Name record_name ∷ Sign m.Do ∷ spell_stmts xs (Sign m.EndDo ∷ Sign m.Semicolon ∷ rest)) ≡ Some (For variable record_name xs, rest)
   unfolding over
-  over_reads variable record_name xs rest h = rw (body_to_end_reads xs rest h) refl
+  over_reads variable record_name xs rest i k h = rw (i, k, body_to_end_reads xs rest h) refl
 
-over_at_reads : (room : ℕ) (body : Parser (List Stmt)) → ReadsBody room body → (variable record_name : Spelling) (xs : Stmts) (rest : List Word) → Below room (AreStmts xs)
+over_at_reads : (room : ℕ) (body : Parser (List Stmt)) → ReadsBody room body → (variable record_name : Spelling) (xs : Stmts) (rest : List Word) → IsName variable → IsName record_name → Below room (AreStmts xs)
     → over_at room body (Name variable ∷ Sign m.In ∷ Name record_name ∷ Sign m.Do ∷ spell_stmts xs (Sign m.EndDo ∷ Sign m.Semicolon ∷ rest)) ≡ Some (For variable record_name xs, rest)
 unfolding over_at
-over_at_reads zero body reads variable record_name xs rest h = absurd h
-over_at_reads (suc room) body reads variable record_name xs rest h = over_reads (suc room) body reads variable record_name xs rest h
+over_at_reads zero body reads variable record_name xs rest i k h = absurd h
+over_at_reads (suc room) body reads variable record_name xs rest i k h = over_reads (suc room) body reads variable record_name xs rest i k h
 
 counted_at_reads : (room : ℕ) (body : Parser (List Stmt)) → ReadsBody room body → (head : Counting) (xs : Stmts) (rest : List Word) → Below room (IsCounting head) → Below room (AreStmts xs)
     → counted_at room body (spell_counting head (spell_stmts xs (Sign m.EndDo ∷ Sign m.Semicolon ∷ rest))) ≡ Some (Do head xs, rest)
@@ -300,27 +295,29 @@ counted_at_reads (suc room) body reads head xs rest h i =
     rw (counting_reads room head (spell_stmts xs end) h (no_by xs end refl), body_to_end_reads (suc room) body reads xs rest i) refl
 
 module _ (room : ℕ) (body : Parser (List Stmt)) (body_reads : ReadsBody room body) where
+  assigns : (name : Spelling) (xs : Exprs) (value : Expr) (rest : List Word) → IsStmt (Assign name xs value) room → statement room body (spell_stmt (Assign name xs value) rest) ≡ Some (Assign name xs value, rest)
+  unfolding statement
+  assigns name xs value rest h = rw h.0 (assign_reads room name xs value rest h.1 h.2)
+
   statement_reads : (x : Stmt) (rest : List Word) → IsStmt x room → statement room body (spell_stmt x rest) ≡ Some (x, rest)
   unfolding statement marked_stmt
   statement_reads Empty rest h = refl
-  statement_reads (Assign name is value) rest h = assign_reads room name is value rest h.0 h.1
-  statement_reads (Call name xs) rest h = call_reads room name xs rest h.0 h.1
-  statement_reads (If x b others last) rest h = conditional_reads room body body_reads x b others last rest h
-  statement_reads (For variable record_name xs) rest h = over_at_reads room body body_reads variable record_name xs rest h
+  statement_reads (Assign name is value) rest h = assigns name is value rest h
+  statement_reads (Call name xs) rest h = rw h.0 (call_reads room name xs rest h.1 h.2)
+  statement_reads (If x b others) rest h = conditional_reads room body body_reads x b others rest h
+  statement_reads (For variable record_name xs) rest h = over_at_reads room body body_reads variable record_name xs rest h.0 h.1 h.2
   statement_reads (Do head xs) rest h = counted_at_reads room body body_reads head xs rest h.0 h.1
-  statement_reads (Jump' j.Break) rest h = jump_reads room j.Break rest
-  statement_reads (Jump' j.Next) rest h = jump_reads room j.Next rest
-  statement_reads (Jump' j.Exit) rest h = jump_reads room j.Exit rest
-  statement_reads (Impute name xs value) rest h = impute_reads room name xs value rest h.0 h.1
-  statement_reads (PutDeck deck value) rest h = putdeck_reads room deck value rest h
+  statement_reads (Jump' token which) rest h = jump_reads room token which rest
+  statement_reads (Impute name xs value) rest h = impute_reads room name xs value rest h.0 h.1 h.2
+  statement_reads (PutDeck deck value) rest h = putdeck_reads room deck value rest h.0 h.1
   statement_reads (ErrMsg what values summary) rest h = errmsg_reads room what values summary rest h.0 h.1 h.2
 
   all_read : (xs : Stmts) (n : ℕ) (found : List Stmt) (rest : List Word) → AreStmts xs room → starts_stmt rest ≡ false → length (spell_stmts xs rest) ≤ n
       → statements_from room body n found (spell_stmts xs rest) ≡ Some (found ++ stmt_list xs, rest)
-  all_read done zero found rest h s le = rw append-nil refl
-  all_read done (suc n) found rest h s le = rw (s, append-nil) refl
-  all_read (next x xs) zero found rest h s le = absurd (omega (arith, longer_stmt x (spell_stmts xs rest)))
-  all_read (next x xs) (suc n) found rest h s le =
+  all_read no_stmt zero found rest h s le = rw append-nil refl
+  all_read no_stmt (suc n) found rest h s le = rw (s, append-nil) refl
+  all_read (stmt_and x xs) zero found rest h s le = absurd (omega (arith, longer_stmt x (spell_stmts xs rest)))
+  all_read (stmt_and x xs) (suc n) found rest h s le =
       let go = all_read xs n (snoc found x) rest h.1 s (omega (arith, longer_stmt x (spell_stmts xs rest))) in
       rw (starts x (spell_stmts xs rest), statement_reads x (spell_stmts xs rest) h.0, go) (rw append_assoc refl)
 

@@ -10,4 +10,9 @@ pub mod Complete
 pub mod CompleteStmt
 pub mod CompleteSource
 pub mod Spans
+pub mod WrittenAsKind
+pub mod TokenNumbers
 pub mod Whole
+pub mod LongestToken
+pub mod QuotedText
+pub mod SkippedText

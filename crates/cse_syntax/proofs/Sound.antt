@@ -4,14 +4,13 @@ use Rattle.cse_syntax.specs.declared.token.Mark.{Mark}
 use Rattle.cse_syntax.specs.declared.token.Mark.TheVariants as m
 use Rattle.cse_syntax.specs.declared.tree.Operator.{Operator}
 use Rattle.cse_syntax.specs.declared.tree.Relation.{Relation}
-use Rattle.cse_syntax.specs.declared.tree.Special.TheVariants as v
 use Rattle.cse_syntax.specs.declared.tree.Function.{Function}
 use Rattle.cse_syntax.specs.declared.tree.Function.TheVariants as f
 use Rattle.cse_syntax.specs.declared.tree.Query.{Query}
 use Rattle.cse_syntax.specs.declared.tree.Query.TheVariants as q
-use Rattle.cse_syntax.specs.Word.{Word, Name, Digits, Quoted, Sign, Stray}
+use Rattle.cse_syntax.specs.Word.{Word, Name, Digits, Quoted, Value, Leave, Sign, Stray}
 use Rattle.cse_syntax.specs.Tree.{Spelling, Expr, Number, Text, Special', Bare, Indexed, Group, Apply, Query', InValueSet, Minus, Not, Compare, exprs, operations}
-use Rattle.cse_syntax.specs.Grammar.{sign, relation_sign, function_sign, query_sign, spell_each, spell_list, spell_set, Each, IsSome, spell_expr, spell_exprs, spell_others, spell_operations, binds, level, rule, Below, HasRoom, IsExpr, AreInner, AreOperations, spell_subscripts, is_within, MOST}
+use Rattle.cse_syntax.specs.Grammar.{sign, relation_sign, function_sign, query_sign, spell_each, spell_list, spell_set, Each, IsSome, spell_expr, spell_exprs, spell_others, spell_operations, binds, level, rule, Below, HasRoom, IsExpr, AreInner, AreOperations, spell_subscripts, is_name, is_within, is_text, MOST, IsName, IsSetName}
 use Rattle.cse_syntax.specs.Reading.{◌>>=◌, Parser, sees, expect, enter, take_name, loop, snoc, after_comma, others_from, listed, operator_at, is_some, operation, operations_from, chained, chain, or_operator, and_operator, sum_operator, product_operator, relation_of, bracketed, subscripts, arguments, named, group, apply, query, set_after, member, marked, prim, unary, product, sum, related, relation, negation, conjunction, disjunction, nested}
 use Rattle.cse_syntax.proofs.Steps.{read, some_is, both_are, bind_some, if_some, test_some, sees_is, expect_is, enter_is, take_name_is}
 
@@ -119,6 +118,8 @@ module _ (operator : Mark → Option Operator) (level room : ℕ) (positive : 1 
   operator_is (Name s ∷ ws) op e = absurd cc
   operator_is (Digits s ∷ ws) op e = absurd cc
   operator_is (Quoted s ∷ ws) op e = absurd cc
+  operator_is (Value t s ∷ ws) op e = absurd cc
+  operator_is (Leave t s ∷ ws) op e = absurd cc
   operator_is (Stray ∷ ws) op e = absurd cc
   operator_is (Sign found ∷ ws) op e = let b = binding.is found op e in (ap (λ (k : Mark). Sign k ∷ ws) b.0, b.1)
 
@@ -179,6 +180,8 @@ relation_at_is [] which e = absurd cc
 relation_at_is (Name s ∷ ws) which e = absurd cc
 relation_at_is (Digits s ∷ ws) which e = absurd cc
 relation_at_is (Quoted s ∷ ws) which e = absurd cc
+relation_at_is (Value t s ∷ ws) which e = absurd cc
+relation_at_is (Leave t s ∷ ws) which e = absurd cc
 relation_at_is (Stray ∷ ws) which e = absurd cc
 relation_at_is (Sign found ∷ ws) which e = ap (λ (k : Mark). Sign k ∷ ws) (relation_is found which e)
 
@@ -253,15 +256,15 @@ module _ (room : ℕ) (inner : Parser Expr) (inner_sound : Sound spell_expr (IsI
             made spell_arguments AreArguments ws b.0.0 x c.0 rest c.2 (open_is.0 ∙ ap (λ (r : List Word). Sign m.Open ∷ r) (y.0 ∙ ap (spell_exprs (exprs b.0.0)) (expect_is m.Close b.0.1 c.0 c.1))) (open_is.1, y.1.1)
       ]
 
-  named_sound : (name : Spelling) → SoundAfter (λ r. Name name ∷ r) spell_expr (IsAt 8 room) (named room inner name)
+  named_sound : (name : Spelling) → IsName name → SoundAfter (λ r. Name name ∷ r) spell_expr (IsAt 8 room) (named room inner name)
   unfolding named
-  named_sound name ws x rest e =
+  named_sound name is ws x rest e =
       elim (if_some (sees m.Open ws) _ _ _ e) [
         | inl h ↦
             let a = bind_some (arguments room inner ws) _ _ h.1 in
             let y = arguments_sound ws a.0.0 a.0.1 a.1 in
-            made spell_expr (IsAt 8 room) (Name name ∷ ws) (Indexed name (exprs a.0.0)) x a.0.1 rest a.2 (ap (λ (r : List Word). Name name ∷ r) y.0) (omega arith, y.1)
-        | inr h ↦ made spell_expr (IsAt 8 room) (Name name ∷ ws) (Bare name) x ws rest h.1 refl (omega arith, tt)
+            made spell_expr (IsAt 8 room) (Name name ∷ ws) (Indexed name (exprs a.0.0)) x a.0.1 rest a.2 (ap (λ (r : List Word). Name name ∷ r) y.0) (omega arith, (is, y.1.0, y.1.1))
+        | inr h ↦ made spell_expr (IsAt 8 room) (Name name ∷ ws) (Bare name) x ws rest h.1 refl (omega arith, is)
       ]
 
   group_sound : SoundAfter (λ r. Sign m.Open ∷ r) spell_expr (IsAt 8 room) (group room inner)
@@ -289,17 +292,19 @@ module _ (room : ℕ) (inner : Parser Expr) (inner_sound : Sound spell_expr (IsI
       let b = bind_some (take_name a.0) _ _ a.2 in
       let c = bind_some (expect m.Close b.0.1) _ _ b.2 in
       let open_is = enter_is room ws a.0 a.1 in
+      let name = take_name_is a.0 b.0.0 b.0.1 b.1 in
       made spell_expr (IsAt 8 room) (Sign (query_sign which) ∷ ws) (Query' which b.0.0) x c.0 rest c.2
-      (ap (λ (r : List Word). Sign (query_sign which) ∷ r) (open_is.0 ∙ ap (λ (r : List Word). Sign m.Open ∷ r) (take_name_is a.0 b.0.0 b.0.1 b.1 ∙ ap (λ (r : List Word). Name b.0.0 ∷ r) (expect_is m.Close b.0.1 c.0 c.1)))) (omega arith, open_is.1)
+      (ap (λ (r : List Word). Sign (query_sign which) ∷ r) (open_is.0 ∙ ap (λ (r : List Word). Sign m.Open ∷ r) (name.0 ∙ ap (λ (r : List Word). Name b.0.0 ∷ r) (expect_is m.Close b.0.1 c.0 c.1)))) (omega arith, (name.1, open_is.1))
 
-set_after_sound : Sound spell_set (λ s. Unit {0}) set_after
+set_after_sound : Sound spell_set IsSetName set_after
 unfolding set_after
 set_after_sound ws x rest e =
     elim (if_some (sees m.Comma ws) _ _ _ e) [
       | inl h ↦
           let a = bind_some (take_name (drop 1 ws)) _ _ h.1 in
-          made spell_set (λ s. Unit {0}) ws (Some a.0.0) x a.0.1 rest a.2 (sees_is m.Comma ws h.0 ∙ ap (λ (r : List Word). Sign m.Comma ∷ r) (take_name_is (drop 1 ws) a.0.0 a.0.1 a.1)) tt
-      | inr h ↦ made spell_set (λ s. Unit {0}) ws None x ws rest h.1 refl tt
+          let name = take_name_is (drop 1 ws) a.0.0 a.0.1 a.1 in
+          made spell_set IsSetName ws (Some a.0.0) x a.0.1 rest a.2 (sees_is m.Comma ws h.0 ∙ ap (λ (r : List Word). Sign m.Comma ∷ r) name.0) name.1
+      | inr h ↦ made spell_set IsSetName ws None x ws rest h.1 refl tt
     ]
 
 module _ (room : ℕ) (inner : Parser Expr) (inner_sound : Sound spell_expr (IsInner room) inner) where
@@ -311,16 +316,14 @@ module _ (room : ℕ) (inner : Parser Expr) (inner_sound : Sound spell_expr (IsI
       let c = bind_some (set_after b.0.1) _ _ b.2 in
       let d = bind_some (expect m.Close c.0.1) _ _ c.2 in
       let open_is = enter_is room ws a.0 a.1 in
-      let set = (set_after_sound b.0.1 c.0.0 c.0.1 c.1).0 in
+      let item = take_name_is a.0 b.0.0 b.0.1 b.1 in
+      let set = set_after_sound b.0.1 c.0.0 c.0.1 c.1 in
       made spell_expr (IsAt 8 room) (Sign m.InValueSet ∷ ws) (InValueSet b.0.0 c.0.0) x d.0 rest d.2
-      (ap (λ (r : List Word). Sign m.InValueSet ∷ r) (open_is.0 ∙ ap (λ (r : List Word). Sign m.Open ∷ r) (take_name_is a.0 b.0.0 b.0.1 b.1 ∙ ap (λ (r : List Word). Name b.0.0 ∷ r) (set ∙ ap (spell_set c.0.0) (expect_is m.Close c.0.1 d.0 d.1))))) (omega arith, open_is.1)
+      (ap (λ (r : List Word). Sign m.InValueSet ∷ r) (open_is.0 ∙ ap (λ (r : List Word). Sign m.Open ∷ r) (item.0 ∙ ap (λ (r : List Word). Name b.0.0 ∷ r) (set.0 ∙ ap (spell_set c.0.0) (expect_is m.Close c.0.1 d.0 d.1))))) (omega arith, (item.1, set.1, open_is.1))
 
   marked_sound : (mark : Mark) → SoundAfter (λ r. Sign mark ∷ r) spell_expr (IsAt 8 room) (marked room inner mark)
   unfolding marked
   marked_sound m.Open ws x rest e = group_sound room inner inner_sound ws x rest e
-  marked_sound m.NotAppl ws x rest e = made spell_expr (IsAt 8 room) (Sign m.NotAppl ∷ ws) (Special' v.NotAppl) x ws rest e refl (omega arith, tt)
-  marked_sound m.Missing ws x rest e = made spell_expr (IsAt 8 room) (Sign m.Missing ∷ ws) (Special' v.Missing) x ws rest e refl (omega arith, tt)
-  marked_sound m.Default ws x rest e = made spell_expr (IsAt 8 room) (Sign m.Default ∷ ws) (Special' v.Default) x ws rest e refl (omega arith, tt)
   marked_sound m.Int ws x rest e = apply_sound room inner inner_sound f.Int ws x rest e
   marked_sound m.Special ws x rest e = apply_sound room inner inner_sound f.Special ws x rest e
   marked_sound m.GetDeck ws x rest e = query_sound room inner inner_sound q.GetDeck ws x rest e
@@ -334,10 +337,18 @@ module _ (room : ℕ) (inner : Parser Expr) (inner_sound : Sound spell_expr (IsI
   unfolding prim
   prim_sound [] x rest e = absurd cc
   prim_sound (Digits digits ∷ ws) x rest e =
-      let t = test_some (is_within 0 MOST digits) (Number digits, ws) (x, rest) e in
+      let t = test_some (is_within 0 MOST digits.text) (Number digits, ws) (x, rest) e in
       made spell_expr (IsAt 8 room) (Digits digits ∷ ws) (Number digits) x ws rest t.1 refl (omega arith, t.0)
-  prim_sound (Quoted text ∷ ws) x rest e = made spell_expr (IsAt 8 room) (Quoted text ∷ ws) (Text text) x ws rest e refl (omega arith, tt)
-  prim_sound (Name name ∷ ws) x rest e = named_sound room inner inner_sound name ws x rest e
+  prim_sound (Quoted text ∷ ws) x rest e =
+      let t = test_some (is_text text.text) (Text text, ws) (x, rest) e in
+      made spell_expr (IsAt 8 room) (Quoted text ∷ ws) (Text text) x ws rest t.1 refl (omega arith, t.0)
+  prim_sound (Value token value ∷ ws) x rest e = made spell_expr (IsAt 8 room) (Value token value ∷ ws) (Special' token value) x ws rest e refl (omega arith, tt)
+  prim_sound (Leave token jump ∷ ws) x rest e = absurd cc
+  prim_sound (Name name ∷ ws) x rest e =
+      elim (if_some (is_name name.text) _ _ _ e) [
+        | inl h ↦ named_sound room inner inner_sound name h.0 ws x rest h.1
+        | inr h ↦ absurd cc
+      ]
   prim_sound (Sign mark ∷ ws) x rest e = marked_sound mark ws x rest e
   prim_sound (Stray ∷ ws) x rest e = absurd cc
 

@@ -3,9 +3,9 @@ use Rattle.std.proofs.Common.{◌≡◌, ℕ, Bool, true, false, ◌&&◌, ◌==
 use Rattle.std.proofs.lemmas.Bool.{eqb-true}
 use Rattle.std.proofs.lemmas.List.{nil_from_length}
 use Rattle.cse_syntax.specs.declared.token.Mark.TheVariants as m
-use Rattle.cse_syntax.specs.Word.{Word, Name, Digits, Quoted, Sign, Stray}
+use Rattle.cse_syntax.specs.Word.{Word, Name, Digits, Quoted, Value, Leave, Sign, Stray}
 use Rattle.cse_syntax.specs.Tree.{Spelling, stmts, Literal, Sized, Rows, Numeric, Alpha, Array', Function', Plain, Preproc, Both, Postproc, Tree}
-use Rattle.cse_syntax.specs.Grammar.{is_within, MOST, spell_mark, spell_list, spell_all, spell_name, Each, IsSome, spell_literal, spell_dimension, spell_parameter, spell_cells, spell_array, spell_declaration, spell_body, spell_procedure, spell_globals, spell_tree, IsDimension, IsLiteral, IsArray, IsDeclaration, IsBody, IsProcedure, AreGlobals, IsSource}
+use Rattle.cse_syntax.specs.Grammar.{is_name, is_within, MOST, IsName, IsParameter, spell_mark, spell_list, spell_all, spell_name, Each, IsSome, spell_literal, spell_dimension, spell_parameter, spell_cells, spell_array, spell_declaration, spell_body, spell_procedure, spell_globals, spell_tree, IsDimension, IsLiteral, IsArray, IsDeclaration, IsBody, IsProcedure, AreGlobals, IsSource}
 use Rattle.cse_syntax.specs.Reading.{Parser, sees, after, expect, take_name, take_number, loop, snoc, listed}
 use Rattle.cse_syntax.specs.ReadingStmt.{literal, statements_at}
 use Rattle.cse_syntax.specs.ReadingSource.{rows, dimension, parameter, parameters, cells, numeric, alpha, array, array_declaration, function, declaration, starts_declaration, declarations, globals, plain, postproc, preproc, body, procedure, procedures, source_at}
@@ -13,48 +13,52 @@ use Rattle.cse_syntax.proofs.Steps.{some_is, bind_some, if_some, test_some, sees
 use Rattle.cse_syntax.proofs.Sound.{Sound, SoundAfter, made, loop_sound, listed_sound}
 use Rattle.cse_syntax.proofs.SoundStmt.{spell_block, literal_sound, statements_at_sound}
 
-abbrev Any : {A : Type 0} → A → Type 0
-Any x = Unit {0}
+names_sound : Sound (spell_list spell_name) (λ xs. IsSome xs × Each IsName xs) (listed take_name)
+names_sound = listed_sound spell_name IsName take_name take_name_is
 
-names_sound : Sound (spell_list spell_name) (λ xs. IsSome xs × Each Any xs) (listed take_name)
-names_sound = listed_sound spell_name Any take_name (λ ws x rest e. (take_name_is ws x rest e, tt))
-
-rows_sound : (set : Spelling) → SoundAfter (λ r. Name set ∷ r) spell_dimension IsDimension (rows set)
+rows_sound : (set : Spelling) → IsName set → SoundAfter (λ r. Name set ∷ r) spell_dimension IsDimension (rows set)
 unfolding rows
-rows_sound set ws x rest e =
+rows_sound set is ws x rest e =
     elim (if_some (sees m.Open ws) _ _ _ e) [
       | inl h ↦
           let a = bind_some (expect m.Plus (drop 1 ws)) _ _ h.1 in
           let b = bind_some (expect m.Close a.0) _ _ a.2 in
           made spell_dimension IsDimension (Name set ∷ ws) (Rows set true) x b.0 rest b.2
-          (ap (λ (r : List Word). Name set ∷ r) (sees_is m.Open ws h.0 ∙ ap (λ (r : List Word). Sign m.Open ∷ r) (expect_is m.Plus (drop 1 ws) a.0 a.1 ∙ ap (λ (r : List Word). Sign m.Plus ∷ r) (expect_is m.Close a.0 b.0 b.1)))) tt
-      | inr h ↦ made spell_dimension IsDimension (Name set ∷ ws) (Rows set false) x ws rest h.1 refl tt
+          (ap (λ (r : List Word). Name set ∷ r) (sees_is m.Open ws h.0 ∙ ap (λ (r : List Word). Sign m.Open ∷ r) (expect_is m.Plus (drop 1 ws) a.0 a.1 ∙ ap (λ (r : List Word). Sign m.Plus ∷ r) (expect_is m.Close a.0 b.0 b.1)))) is
+      | inr h ↦ made spell_dimension IsDimension (Name set ∷ ws) (Rows set false) x ws rest h.1 refl is
     ]
 
 dimension_sound : Sound spell_dimension IsDimension dimension
 unfolding dimension
 dimension_sound [] x rest e = absurd cc
-dimension_sound (Name name ∷ ws) x rest e = rows_sound name ws x rest e
+dimension_sound (Name name ∷ ws) x rest e =
+    elim (if_some (is_name name.text) _ _ _ e) [
+      | inl h ↦ rows_sound name h.0 ws x rest h.1
+      | inr h ↦ absurd cc
+    ]
 dimension_sound (Digits s ∷ ws) x rest e =
-    let t = test_some (is_within 1 65535 s) (Sized s, ws) (x, rest) e in
+    let t = test_some (is_within 1 65535 s.text) (Sized s, ws) (x, rest) e in
     made spell_dimension IsDimension (Digits s ∷ ws) (Sized s) x ws rest t.1 refl t.0
 dimension_sound (Quoted s ∷ ws) x rest e = absurd cc
+dimension_sound (Value t s ∷ ws) x rest e = absurd cc
+dimension_sound (Leave t s ∷ ws) x rest e = absurd cc
 dimension_sound (Sign s ∷ ws) x rest e = absurd cc
 dimension_sound (Stray ∷ ws) x rest e = absurd cc
 
-parameter_sound : Sound spell_parameter Any parameter
+parameter_sound : Sound spell_parameter IsParameter parameter
 unfolding parameter
 parameter_sound ws x rest e =
     let a = bind_some (take_name (after m.Numeric ws)) _ _ e in
-    made spell_parameter Any ws (record { declared = sees m.Numeric ws; name = a.0.0 }) x a.0.1 rest a.2
-    (after_is_spelled m.Numeric ws ∙ ap (spell_mark m.Numeric (sees m.Numeric ws)) (take_name_is (after m.Numeric ws) a.0.0 a.0.1 a.1)) tt
+    let name = take_name_is (after m.Numeric ws) a.0.0 a.0.1 a.1 in
+    made spell_parameter IsParameter ws (record { declared = sees m.Numeric ws; name = a.0.0 }) x a.0.1 rest a.2
+    (after_is_spelled m.Numeric ws ∙ ap (spell_mark m.Numeric (sees m.Numeric ws)) name.0) name.1
 
-parameters_sound : Sound (spell_list spell_parameter) Any parameters
+parameters_sound : Sound (spell_list spell_parameter) (Each IsParameter) parameters
 unfolding parameters
 parameters_sound ws x rest e =
     elim (if_some (sees m.Close ws) _ _ _ e) [
-      | inl h ↦ made (spell_list spell_parameter) Any ws [] x ws rest h.1 refl tt
-      | inr h ↦ ((listed_sound spell_parameter Any parameter parameter_sound ws x rest h.1).0, tt)
+      | inl h ↦ made (spell_list spell_parameter) (Each IsParameter) ws [] x ws rest h.1 refl tt
+      | inr h ↦ let y = listed_sound spell_parameter IsParameter parameter parameter_sound ws x rest h.1 in (y.0, y.1.1)
     ]
 
 cells_are : (xs : List Literal) (rest : List Word) → IsSome xs → Sign m.Equals ∷ spell_list spell_literal xs rest ≡ spell_cells xs rest
@@ -79,11 +83,12 @@ array_sound ws x rest e =
     let c = bind_some (listed dimension b.0) _ _ b.2 in
     let d = bind_some (expect m.Close c.0.1) _ _ c.2 in
     let f = bind_some (cells (after m.Save d.0)) _ _ d.2 in
+    let name = take_name_is ws a.0.0 a.0.1 a.1 in
     let dims = listed_sound spell_dimension IsDimension dimension dimension_sound b.0 c.0.0 c.0.1 c.1 in
     let list = cells_sound (after m.Save d.0) f.0.0 f.0.1 f.1 in
     let end = dims.0 ∙ ap (spell_list spell_dimension c.0.0) (expect_is m.Close c.0.1 d.0 d.1 ∙ ap (λ (r : List Word). Sign m.Close ∷ r) (after_is_spelled m.Save d.0 ∙ ap (spell_mark m.Save (sees m.Save d.0)) list.0)) in
     made spell_array IsArray ws (record { name = a.0.0; dimensions = c.0.0; saved = sees m.Save d.0; cells = f.0.0 }) x f.0.1 rest f.2
-    (take_name_is ws a.0.0 a.0.1 a.1 ∙ ap (λ (r : List Word). Name a.0.0 ∷ r) (expect_is m.Open a.0.1 b.0 b.1 ∙ ap (λ (r : List Word). Sign m.Open ∷ r) end)) (dims.1.0, dims.1.1, list.1)
+    (name.0 ∙ ap (λ (r : List Word). Name a.0.0 ∷ r) (expect_is m.Open a.0.1 b.0 b.1 ∙ ap (λ (r : List Word). Sign m.Open ∷ r) end)) (name.1, dims.1.0, dims.1.1, list.1)
 
 module _ (room : ℕ) where
   numeric_sound : SoundAfter (λ r. Sign m.Numeric ∷ r) spell_declaration (IsDeclaration room) numeric
@@ -93,7 +98,7 @@ module _ (room : ℕ) where
       let b = bind_some (expect m.Semicolon a.0.1) _ _ a.2 in
       let names = names_sound ws a.0.0 a.0.1 a.1 in
       made spell_declaration (IsDeclaration room) (Sign m.Numeric ∷ ws) (Numeric a.0.0) x b.0 rest b.2
-      (ap (λ (r : List Word). Sign m.Numeric ∷ r) (names.0 ∙ ap (spell_list spell_name a.0.0) (expect_is m.Semicolon a.0.1 b.0 b.1))) names.1.0
+      (ap (λ (r : List Word). Sign m.Numeric ∷ r) (names.0 ∙ ap (spell_list spell_name a.0.0) (expect_is m.Semicolon a.0.1 b.0 b.1))) names.1
 
   alpha_sound : SoundAfter (λ r. Sign m.Alpha ∷ r) spell_declaration (IsDeclaration room) alpha
   unfolding alpha
@@ -108,7 +113,7 @@ module _ (room : ℕ) where
       let end = names.0 ∙ ap (spell_list spell_name d.0.0) (expect_is m.Semicolon d.0.1 f.0 f.1) in
       let mid = size.0 ∙ ap (λ (r : List Word). Digits b.0.0 ∷ r) (expect_is m.Close b.0.1 c.0 c.1 ∙ ap (λ (r : List Word). Sign m.Close ∷ r) end) in
       made spell_declaration (IsDeclaration room) (Sign m.Alpha ∷ ws) (Alpha b.0.0 d.0.0) x f.0 rest f.2
-      (ap (λ (r : List Word). Sign m.Alpha ∷ r) (expect_is m.Open ws a.0 a.1 ∙ ap (λ (r : List Word). Sign m.Open ∷ r) mid)) (size.1, names.1.0)
+      (ap (λ (r : List Word). Sign m.Alpha ∷ r) (expect_is m.Open ws a.0 a.1 ∙ ap (λ (r : List Word). Sign m.Open ∷ r) mid)) (size.1, names.1.0, names.1.1)
 
   array_declaration_sound : SoundAfter (λ r. Sign m.Array ∷ r) spell_declaration (IsDeclaration room) array_declaration
   unfolding array_declaration
@@ -129,12 +134,13 @@ module _ (room : ℕ) where
       let f = bind_some (statements_at room d.0) _ _ d.2 in
       let g = bind_some (expect m.End f.0.1) _ _ f.2 in
       let h = bind_some (expect m.Semicolon g.0) _ _ g.2 in
+      let name = take_name_is ws a.0.0 a.0.1 a.1 in
       let ps = parameters_sound b.0 c.0.0 c.0.1 c.1 in
       let block = statements_at_sound room d.0 f.0.0 f.0.1 f.1 in
       let end = block.0 ∙ ap (spell_block f.0.0) (expect_is m.End f.0.1 g.0 g.1 ∙ ap (λ (r : List Word). Sign m.End ∷ r) (expect_is m.Semicolon g.0 h.0 h.1)) in
       let mid = ps.0 ∙ ap (spell_list spell_parameter c.0.0) (expect_is m.Close c.0.1 d.0 d.1 ∙ ap (λ (r : List Word). Sign m.Close ∷ r) end) in
       made spell_declaration (IsDeclaration room) (Sign m.Function ∷ ws) (Function' a.0.0 c.0.0 (stmts f.0.0)) x h.0 rest h.2
-      (ap (λ (r : List Word). Sign m.Function ∷ r) (take_name_is ws a.0.0 a.0.1 a.1 ∙ ap (λ (r : List Word). Name a.0.0 ∷ r) (expect_is m.Open a.0.1 b.0 b.1 ∙ ap (λ (r : List Word). Sign m.Open ∷ r) mid))) block.1
+      (ap (λ (r : List Word). Sign m.Function ∷ r) (name.0 ∙ ap (λ (r : List Word). Name a.0.0 ∷ r) (expect_is m.Open a.0.1 b.0 b.1 ∙ ap (λ (r : List Word). Sign m.Open ∷ r) mid))) (name.1, ps.1, block.1)
 
   declaration_sound : Sound spell_declaration (IsDeclaration room) (declaration room)
   unfolding declaration
@@ -142,6 +148,8 @@ module _ (room : ℕ) where
   declaration_sound (Name s ∷ ws) x rest e = absurd cc
   declaration_sound (Digits s ∷ ws) x rest e = absurd cc
   declaration_sound (Quoted s ∷ ws) x rest e = absurd cc
+  declaration_sound (Value t s ∷ ws) x rest e = absurd cc
+  declaration_sound (Leave t s ∷ ws) x rest e = absurd cc
   declaration_sound (Stray ∷ ws) x rest e = absurd cc
   declaration_sound (Sign m.Numeric ∷ ws) x rest e = numeric_sound ws x rest e
   declaration_sound (Sign m.Alpha ∷ ws) x rest e = alpha_sound ws x rest e
@@ -229,9 +237,10 @@ module _ (room : ℕ) where
       let a = bind_some (expect m.Proc ws) _ _ e in
       let b = bind_some (take_name a.0) _ _ a.2 in
       let c = bind_some (body room b.0.1) _ _ b.2 in
+      let name = take_name_is a.0 b.0.0 b.0.1 b.1 in
       let y = body_sound b.0.1 c.0.0 c.0.1 c.1 in
       made spell_procedure (IsProcedure room) ws (record { name = b.0.0; body = c.0.0 }) x c.0.1 rest c.2
-      (expect_is m.Proc ws a.0 a.1 ∙ ap (λ (r : List Word). Sign m.Proc ∷ r) (take_name_is a.0 b.0.0 b.0.1 b.1 ∙ ap (λ (r : List Word). Name b.0.0 ∷ r) y.0)) y.1
+      (expect_is m.Proc ws a.0 a.1 ∙ ap (λ (r : List Word). Sign m.Proc ∷ r) (name.0 ∙ ap (λ (r : List Word). Name b.0.0 ∷ r) y.0)) (name.1, y.1)
 
   procedures_sound : Sound (spell_all spell_procedure) (Each (IsProcedure room)) (procedures room)
   unfolding procedures

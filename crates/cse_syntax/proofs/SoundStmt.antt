@@ -1,15 +1,14 @@
 -- Statements that are read are of the grammar, and their words stood at the front.
-use Rattle.std.proofs.Common.{◌≡◌, ℕ, zero, suc, Bool, true, false, ◌&&◌, List, [], ◌∷◌, length, drop, Some, None, refl, sym, ap, ◌∙◌, inl, inr}
+use Rattle.std.proofs.Common.{◌≡◌, ℕ, zero, suc, Bool, true, false, ◌&&◌, List, [], ◌∷◌, length, drop, Some, None, refl, sym, ap, subst, ◌∙◌, inl, inr}
 use Rattle.std.specs.Str.{str_eq_ignore_ascii_case}
 use Rattle.cse_syntax.specs.declared.token.Mark.{Mark}
 use Rattle.cse_syntax.specs.declared.token.Mark.TheVariants as m
 use Rattle.cse_syntax.specs.declared.tree.Count.{Count}
 use Rattle.cse_syntax.specs.declared.tree.Count.TheVariants as c
 use Rattle.cse_syntax.specs.declared.tree.Jump.{Jump}
-use Rattle.cse_syntax.specs.declared.tree.Jump.TheVariants as j
-use Rattle.cse_syntax.specs.Word.{Word, Name, Digits, Quoted, Sign, Stray}
-use Rattle.cse_syntax.specs.Tree.{Spelling, Expr, exprs, Literal, Limit, Fixed, Counted, Counting, Own, Numbered, Stmt, Empty, Assign, Call, If, For, Do, Jump', Impute, PutDeck, ErrMsg, Stmts, stmts, arms, Otherwise, no_else, else_of}
-use Rattle.cse_syntax.specs.Grammar.{is_within, MOST, count_sign, jump_sign, Below, HasRoom, spell_mark, spell_expr, spell_exprs, spell_others, spell_subscripts, IsExpr, AreInner, spell_literal, spell_limit, spell_by, spell_counting, spell_message, spell_stmt, spell_stmts, spell_arms, spell_otherwise, IsLimit, IsBy, IsCounting, IsMessage, IsStmt, AreStmts, AreArms, IsOtherwise}
+use Rattle.cse_syntax.specs.Word.{Word, Name, Digits, Quoted, Value, Leave, Sign, Stray}
+use Rattle.cse_syntax.specs.Tree.{Spelling, Expr, exprs, Literal, Limit, Fixed, Counted, Counting, Own, Numbered, Stmt, Empty, Assign, Call, If, For, Do, Jump', Impute, PutDeck, ErrMsg, Stmts, stmts, Arms, arms, no_arm, else_of}
+use Rattle.cse_syntax.specs.Grammar.{is_name, is_within, is_text, MOST, IsName, count_sign, Below, HasRoom, Each, spell_mark, spell_expr, spell_exprs, spell_others, spell_subscripts, IsExpr, AreInner, spell_literal, spell_limit, spell_by, spell_counting, spell_message, spell_stmt, spell_stmts, spell_arms, IsLimit, IsBy, IsCounting, IsMessage, IsStmt, AreStmts, AreArms}
 use Rattle.cse_syntax.specs.Reading.{Parser, sees, after, expect, enter, take_name, take_number, snoc, others_from, subscripts, arguments, nested, expr_at}
 use Rattle.cse_syntax.specs.ReadingStmt.{literal, counted, fixed, limit, step, again, counting, message, assigned, has_some, called, named_stmt, putdeck, errmsg, jump, imputed, impute, guarded, elseif, elseifs, otherwise, conditional, body_to_end, over, over_at, counted_at, marked_stmt, statement, starts_stmt, statements, body_at, statements_at}
 use Rattle.cse_syntax.proofs.Steps.{both_are, bind_some, if_some, test_some, sees_is, expect_is, enter_is, take_name_is, take_number_is, after_is_spelled}
@@ -18,7 +17,7 @@ use Rattle.cse_syntax.proofs.Sound.{Sound, SoundAfter, made, loop_sound, others_
 -- ---- the head of a `do`
 
 abbrev IsWithin : ℕ → Literal → Type 0
-IsWithin most x = is_within 0 most x.digits ≡ true
+IsWithin most x = is_within 0 most x.digits.text ≡ true
 
 pub literal_sound : (most : ℕ) → Sound spell_literal (IsWithin most) (literal most)
 unfolding literal
@@ -37,8 +36,9 @@ counted_sound room count ws x rest e =
     let b = bind_some (take_name a.0) _ _ a.2 in
     let d = bind_some (expect m.Close b.0.1) _ _ b.2 in
     let open_is = enter_is room ws a.0 a.1 in
+    let name = take_name_is a.0 b.0.0 b.0.1 b.1 in
     made spell_limit (Limits room) (Sign (count_sign count) ∷ ws) (Counted count b.0.0) x d.0 rest d.2
-    (ap (λ (r : List Word). Sign (count_sign count) ∷ r) (open_is.0 ∙ ap (λ (r : List Word). Sign m.Open ∷ r) (take_name_is a.0 b.0.0 b.0.1 b.1 ∙ ap (λ (r : List Word). Name b.0.0 ∷ r) (expect_is m.Close b.0.1 d.0 d.1)))) open_is.1
+    (ap (λ (r : List Word). Sign (count_sign count) ∷ r) (open_is.0 ∙ ap (λ (r : List Word). Sign m.Open ∷ r) (name.0 ∙ ap (λ (r : List Word). Name b.0.0 ∷ r) (expect_is m.Close b.0.1 d.0 d.1)))) (name.1, open_is.1)
 
 fixed_sound : (room : ℕ) → Sound spell_limit (Limits room) fixed
 unfolding fixed
@@ -64,14 +64,17 @@ step_sound ws x rest e =
       | inr h ↦ made spell_by IsBy ws None x ws rest h.1 refl tt
     ]
 
-again_is : (variable : Spelling) (ws : List Word) (name : Spelling) (rest : List Word) → again variable ws ≡ Some (name, rest) → (ws ≡ Name name ∷ rest) × (str_eq_ignore_ascii_case variable name ≡ true)
+again_is : (variable : Spelling) (ws : List Word) (name : Spelling) (rest : List Word) → again variable ws ≡ Some (name, rest) → (ws ≡ Name name ∷ rest) × IsName name × (str_eq_ignore_ascii_case variable.text name.text ≡ true)
 unfolding again
 again_is variable ws name rest e =
     let a = bind_some (take_name ws) _ _ e in
-    let t = test_some (str_eq_ignore_ascii_case variable a.0.0) (a.0.0, a.0.1) (name, rest) a.2 in
+    let t = test_some (str_eq_ignore_ascii_case variable.text a.0.0.text) (a.0.0, a.0.1) (name, rest) a.2 in
     let p = both_are t.1 in
-    let n = take_name_is ws a.0.0 a.0.1 a.1 in
-    (n ∙ ap (λ (s : Spelling). Name s ∷ a.0.1) p.0 ∙ ap (λ (r : List Word). Name name ∷ r) p.1, ap (str_eq_ignore_ascii_case variable) (sym p.0) ∙ t.0)
+    let n = take_name_is ws a.0.0 a.0.1 a.1 in (
+      n.0 ∙ ap (λ (s : Spelling). Name s ∷ a.0.1) p.0 ∙ ap (λ (r : List Word). Name name ∷ r) p.1,
+      subst IsName p.0 n.1,
+      ap (λ (s : Spelling). str_eq_ignore_ascii_case variable.text s.text) (sym p.0) ∙ t.0,
+    )
 
 abbrev Counts : ℕ → Counting → Type 0
 Counts room x = IsCounting x room
@@ -88,6 +91,7 @@ counting_sound room ws x rest e =
     let i = bind_some (expect m.More h.0.1) _ _ h.2 in
     let k = bind_some (limit room i.0) _ _ i.2 in
     let n = bind_some (step k.0.1) _ _ k.2 in
+    let variable = take_name_is a.0 b.0.0 b.0.1 b.1 in
     let start = limit_sound room d.0 f.0.0 f.0.1 f.1 in
     let second = again_is b.0.0 g.0 h.0.0 h.0.1 h.1 in
     let stop = limit_sound room i.0 k.0.0 k.0.1 k.1 in
@@ -95,17 +99,21 @@ counting_sound room ws x rest e =
     let last = expect_is m.More h.0.1 i.0 i.1 ∙ ap (λ (r : List Word). Sign m.More ∷ r) (stop.0 ∙ ap (spell_limit k.0.0) by.0) in
     let mid = expect_is m.Until f.0.1 g.0 g.1 ∙ ap (λ (r : List Word). Sign m.Until ∷ r) (second.0 ∙ ap (λ (r : List Word). Name h.0.0 ∷ r) last) in
     let front = expect_is m.Equals b.0.1 d.0 d.1 ∙ ap (λ (r : List Word). Sign m.Equals ∷ r) (start.0 ∙ ap (spell_limit f.0.0) mid) in
-    let words = expect_is m.Varying ws a.0 a.1 ∙ ap (λ (r : List Word). Sign m.Varying ∷ r) (take_name_is a.0 b.0.0 b.0.1 b.1 ∙ ap (λ (r : List Word). Name b.0.0 ∷ r) front) in
-    made spell_counting (Counts room) ws (record { variable = b.0.0; start = f.0.0; again = h.0.0; stop = k.0.0; by = n.0.0 }) x n.0.1 rest n.2 words (start.1, second.1, stop.1, by.1)
+    let words = expect_is m.Varying ws a.0 a.1 ∙ ap (λ (r : List Word). Sign m.Varying ∷ r) (variable.0 ∙ ap (λ (r : List Word). Name b.0.0 ∷ r) front) in
+    made spell_counting (Counts room) ws (record { variable = b.0.0; start = f.0.0; again = h.0.0; stop = k.0.0; by = n.0.0 }) x n.0.1 rest n.2 words (variable.1, start.1, second.1, second.2, stop.1, by.1)
 
 message_sound : Sound spell_message IsMessage message
 unfolding message
 message_sound [] x rest e = absurd cc
 message_sound (Name s ∷ ws) x rest e = absurd cc
 message_sound (Digits s ∷ ws) x rest e =
-    let t = test_some (is_within 0 MOST s) (Numbered s, ws) (x, rest) e in
+    let t = test_some (is_within 0 MOST s.text) (Numbered s, ws) (x, rest) e in
     made spell_message IsMessage (Digits s ∷ ws) (Numbered s) x ws rest t.1 refl t.0
-message_sound (Quoted s ∷ ws) x rest e = made spell_message IsMessage (Quoted s ∷ ws) (Own s) x ws rest e refl tt
+message_sound (Quoted s ∷ ws) x rest e =
+    let t = test_some (is_text s.text) (Own s, ws) (x, rest) e in
+    made spell_message IsMessage (Quoted s ∷ ws) (Own s) x ws rest t.1 refl t.0
+message_sound (Value t s ∷ ws) x rest e = absurd cc
+message_sound (Leave t s ∷ ws) x rest e = absurd cc
 message_sound (Sign s ∷ ws) x rest e = absurd cc
 message_sound (Stray ∷ ws) x rest e = absurd cc
 
@@ -134,13 +142,27 @@ spell_guarded x rest = spell_expr x.0 (Sign m.Then ∷ spell_stmts x.1 rest)
 abbrev IsArm : ℕ → Arm → Type 0
 IsArm room x = Below room (IsExpr x.0) × Below room (AreStmts x.1)
 
-spell_arms_snoc : (xs : List Arm) (x : Arm) (rest : List Word) → spell_arms (arms (snoc xs x)) rest ≡ spell_arms (arms xs) (Sign m.ElseIf ∷ spell_guarded x rest)
-spell_arms_snoc [] x rest = refl
-spell_arms_snoc (y ∷ xs) x rest = ap (λ (r : List Word). Sign m.ElseIf ∷ spell_guarded y r) (spell_arms_snoc xs x rest)
+-- each `elseif`
+abbrev pub spell_elseifs : List Arm → List Word → List Word
+spell_elseifs [] rest = rest
+spell_elseifs (x ∷ xs) rest = Sign m.ElseIf ∷ spell_guarded x (spell_elseifs xs rest)
 
-AreArms-snoc : (room : ℕ) (xs : List Arm) (x : Arm) → AreArms (arms xs) room → IsArm room x → AreArms (arms (snoc xs x)) room
-AreArms-snoc room [] x h i = (i.0, i.1, tt)
-AreArms-snoc room (y ∷ xs) x h i = (h.0, h.1, AreArms-snoc room xs x h.2 i)
+spell_elseifs_snoc : (xs : List Arm) (x : Arm) (rest : List Word) → spell_elseifs (snoc xs x) rest ≡ spell_elseifs xs (Sign m.ElseIf ∷ spell_guarded x rest)
+spell_elseifs_snoc [] x rest = refl
+spell_elseifs_snoc (y ∷ xs) x rest = ap (λ (r : List Word). Sign m.ElseIf ∷ spell_guarded y r) (spell_elseifs_snoc xs x rest)
+
+Each-snoc : {A : Type 0} (P : A → Type 0) (xs : List A) (x : A) → Each P xs → P x → Each P (snoc xs x)
+Each-snoc P [] x h i = (i, tt)
+Each-snoc P (y ∷ xs) x h i = (h.0, Each-snoc P xs x h.1 i)
+
+-- the `else` behind them
+spell_arms_elseifs : (xs : List Arm) (last : Arms) (rest : List Word) → spell_elseifs xs (spell_arms last rest) ≡ spell_arms (arms xs last) rest
+spell_arms_elseifs [] last rest = refl
+spell_arms_elseifs (x ∷ xs) last rest = ap (λ (r : List Word). Sign m.ElseIf ∷ spell_guarded x r) (spell_arms_elseifs xs last rest)
+
+AreArms-elseifs : (room : ℕ) (xs : List Arm) (last : Arms) → Each (IsArm room) xs → AreArms last room → AreArms (arms xs last) room
+AreArms-elseifs room [] last h i = i
+AreArms-elseifs room (x ∷ xs) last h i = (h.0.0, h.0.1, AreArms-elseifs room xs last h.1 i)
 
 -- ---- statements without others in them
 
@@ -148,14 +170,14 @@ abbrev Is : ℕ → Stmt → Type 0
 Is room x = IsStmt x room
 
 module _ (room : ℕ) where
-  assigned_sound : (name : Spelling) (subs : List Expr) → AreInner (exprs subs) room → SoundAfter (λ r. Name name ∷ spell_subscripts (exprs subs) (Sign m.Equals ∷ r)) spell_stmt (Is room) (assigned room name subs)
+  assigned_sound : (name : Spelling) (subs : List Expr) → IsName name → AreInner (exprs subs) room → SoundAfter (λ r. Name name ∷ spell_subscripts (exprs subs) (Sign m.Equals ∷ r)) spell_stmt (Is room) (assigned room name subs)
   unfolding assigned
-  assigned_sound name subs h ws x rest e =
+  assigned_sound name subs is h ws x rest e =
       let a = bind_some (expr_at room ws) _ _ e in
       let b = bind_some (expect m.Semicolon a.0.1) _ _ a.2 in
       let value = expr_sound room ws a.0.0 a.0.1 a.1 in
       made spell_stmt (Is room) (Name name ∷ spell_subscripts (exprs subs) (Sign m.Equals ∷ ws)) (Assign name (exprs subs) a.0.0) x b.0 rest b.2
-      (ap (λ (r : List Word). Name name ∷ spell_subscripts (exprs subs) (Sign m.Equals ∷ r)) (value.0 ∙ ap (spell_expr a.0.0) (expect_is m.Semicolon a.0.1 b.0 b.1))) (h, value.1)
+      (ap (λ (r : List Word). Name name ∷ spell_subscripts (exprs subs) (Sign m.Equals ∷ r)) (value.0 ∙ ap (spell_expr a.0.0) (expect_is m.Semicolon a.0.1 b.0 b.1))) (is, h, value.1)
 
   pub both_true : (a b : Bool) → (a && b) ≡ true → (a ≡ true) × (b ≡ true)
   both_true true true e = (refl, refl)
@@ -166,32 +188,32 @@ module _ (room : ℕ) where
   some_subscripts [] rest e = absurd cc
   some_subscripts (y ∷ xs) rest e = refl
 
-  called_sound : (name : Spelling) (xs : List Expr) → HasRoom room → AreInner (exprs xs) room → SoundAfter (λ r. Name name ∷ Sign m.Open ∷ spell_exprs (exprs xs) (Sign m.Close ∷ r)) spell_stmt (Is room) (called room name xs)
+  called_sound : (name : Spelling) (xs : List Expr) → IsName name → HasRoom room → AreInner (exprs xs) room → SoundAfter (λ r. Name name ∷ Sign m.Open ∷ spell_exprs (exprs xs) (Sign m.Close ∷ r)) spell_stmt (Is room) (called room name xs)
   unfolding called
-  called_sound name xs h i ws x rest e =
+  called_sound name xs is h i ws x rest e =
       elim (if_some (sees m.Equals ws && has_some room xs) _ _ _ e) [
         | inl t ↦
             let b = both_true (sees m.Equals ws) (has_some room xs) t.0 in
-            let y = assigned_sound name xs i (drop 1 ws) x rest t.1 in
+            let y = assigned_sound name xs is i (drop 1 ws) x rest t.1 in
             (ap (λ (r : List Word). Name name ∷ r) (ap (λ (r : List Word). Sign m.Open ∷ spell_exprs (exprs xs) (Sign m.Close ∷ r)) (sees_is m.Equals ws b.0) ∙ some_subscripts xs (Sign m.Equals ∷ drop 1 ws) b.1) ∙ y.0, y.1)
         | inr t ↦
             let a = bind_some (expect m.Semicolon ws) _ _ t.1 in
             made spell_stmt (Is room) (Name name ∷ Sign m.Open ∷ spell_exprs (exprs xs) (Sign m.Close ∷ ws)) (Call name (exprs xs)) x a.0 rest a.2
-            (ap (λ (r : List Word). Name name ∷ Sign m.Open ∷ spell_exprs (exprs xs) (Sign m.Close ∷ r)) (expect_is m.Semicolon ws a.0 a.1)) (h, i)
+            (ap (λ (r : List Word). Name name ∷ Sign m.Open ∷ spell_exprs (exprs xs) (Sign m.Close ∷ r)) (expect_is m.Semicolon ws a.0 a.1)) (is, h, i)
       ]
 
-  named_stmt_sound : (name : Spelling) → SoundAfter (λ r. Name name ∷ r) spell_stmt (Is room) (named_stmt room name)
+  named_stmt_sound : (name : Spelling) → IsName name → SoundAfter (λ r. Name name ∷ r) spell_stmt (Is room) (named_stmt room name)
   unfolding named_stmt
-  named_stmt_sound name ws x rest e =
+  named_stmt_sound name is ws x rest e =
       elim (if_some (sees m.Open ws) _ _ _ e) [
         | inl t ↦
             let a = bind_some (arguments room (nested room) ws) _ _ t.1 in
             let xs = arguments_sound room (nested room) (nested_sound room) ws a.0.0 a.0.1 a.1 in
-            let y = called_sound name a.0.0 xs.1.0 xs.1.1 a.0.1 x rest a.2 in
+            let y = called_sound name a.0.0 is xs.1.0 xs.1.1 a.0.1 x rest a.2 in
             (ap (λ (r : List Word). Name name ∷ r) xs.0 ∙ y.0, y.1)
         | inr t ↦
             let a = bind_some (expect m.Equals ws) _ _ t.1 in
-            let y = assigned_sound name [] tt a.0 x rest a.2 in
+            let y = assigned_sound name [] is tt a.0 x rest a.2 in
             (ap (λ (r : List Word). Name name ∷ r) (expect_is m.Equals ws a.0 a.1) ∙ y.0, y.1)
       ]
 
@@ -204,10 +226,11 @@ module _ (room : ℕ) where
       let f = bind_some (nested room d.0) _ _ d.2 in
       let g = bind_some (expect m.Close f.0.1) _ _ f.2 in
       let h = bind_some (expect m.Semicolon g.0) _ _ g.2 in
+      let name = take_name_is a.0 b.0.0 b.0.1 b.1 in
       let value = nested_sound room d.0 f.0.0 f.0.1 f.1 in
       let end = expect_is m.Close f.0.1 g.0 g.1 ∙ ap (λ (r : List Word). Sign m.Close ∷ r) (expect_is m.Semicolon g.0 h.0 h.1) in
-      let inside = take_name_is a.0 b.0.0 b.0.1 b.1 ∙ ap (λ (r : List Word). Name b.0.0 ∷ r) (expect_is m.Comma b.0.1 d.0 d.1 ∙ ap (λ (r : List Word). Sign m.Comma ∷ r) (value.0 ∙ ap (spell_expr f.0.0) end)) in
-      made spell_stmt (Is room) (Sign m.PutDeck ∷ ws) (PutDeck b.0.0 f.0.0) x h.0 rest h.2 (ap (λ (r : List Word). Sign m.PutDeck ∷ r) ((enter_is room ws a.0 a.1).0 ∙ ap (λ (r : List Word). Sign m.Open ∷ r) inside)) value.1
+      let inside = name.0 ∙ ap (λ (r : List Word). Name b.0.0 ∷ r) (expect_is m.Comma b.0.1 d.0 d.1 ∙ ap (λ (r : List Word). Sign m.Comma ∷ r) (value.0 ∙ ap (spell_expr f.0.0) end)) in
+      made spell_stmt (Is room) (Sign m.PutDeck ∷ ws) (PutDeck b.0.0 f.0.0) x h.0 rest h.2 (ap (λ (r : List Word). Sign m.PutDeck ∷ r) ((enter_is room ws a.0 a.1).0 ∙ ap (λ (r : List Word). Sign m.Open ∷ r) inside)) (name.1, value.1)
 
   errmsg_sound : SoundAfter (λ r. Sign m.ErrMsg ∷ r) spell_stmt (Is room) (errmsg room)
   unfolding errmsg
@@ -225,11 +248,11 @@ module _ (room : ℕ) where
       made spell_stmt (Is room) (Sign m.ErrMsg ∷ ws) (ErrMsg b.0.0 (exprs d.0.0) (sees m.Summary f.0)) x g.0 rest g.2
       (ap (λ (r : List Word). Sign m.ErrMsg ∷ r) (open_is.0 ∙ ap (λ (r : List Word). Sign m.Open ∷ r) (what.0 ∙ ap (spell_message b.0.0) end))) (open_is.1, what.1, values.1)
 
-  jump_sound : (which : Jump) → SoundAfter (λ r. Sign (jump_sign which) ∷ r) spell_stmt (Is room) (jump room which)
+  jump_sound : (token : ℕ) (which : Jump) → SoundAfter (λ r. Leave token which ∷ r) spell_stmt (Is room) (jump room token which)
   unfolding jump
-  jump_sound which ws x rest e =
+  jump_sound token which ws x rest e =
       let a = bind_some (expect m.Semicolon ws) _ _ e in
-      made spell_stmt (Is room) (Sign (jump_sign which) ∷ ws) (Jump' which) x a.0 rest a.2 (ap (λ (r : List Word). Sign (jump_sign which) ∷ r) (expect_is m.Semicolon ws a.0 a.1)) tt
+      made spell_stmt (Is room) (Leave token which ∷ ws) (Jump' token which) x a.0 rest a.2 (ap (λ (r : List Word). Leave token which ∷ r) (expect_is m.Semicolon ws a.0 a.1)) tt
 
   imputed_sound : SoundAfter (λ r. Sign m.Impute ∷ Sign m.Open ∷ r) spell_stmt (Is (suc room)) (imputed room)
   unfolding imputed
@@ -240,11 +263,12 @@ module _ (room : ℕ) where
       let f = bind_some (expr_at room d.0) _ _ d.2 in
       let g = bind_some (expect m.Close f.0.1) _ _ f.2 in
       let h = bind_some (expect m.Semicolon g.0) _ _ g.2 in
+      let name = take_name_is ws a.0.0 a.0.1 a.1 in
       let subs = subscripts_sound room (nested room) (nested_sound room) a.0.1 b.0.0 b.0.1 b.1 in
       let value = expr_sound room d.0 f.0.0 f.0.1 f.1 in
       let end = expect_is m.Close f.0.1 g.0 g.1 ∙ ap (λ (r : List Word). Sign m.Close ∷ r) (expect_is m.Semicolon g.0 h.0 h.1) in
-      let inside = take_name_is ws a.0.0 a.0.1 a.1 ∙ ap (λ (r : List Word). Name a.0.0 ∷ r) (subs.0 ∙ ap (spell_subscripts (exprs b.0.0)) (expect_is m.Comma b.0.1 d.0 d.1 ∙ ap (λ (r : List Word). Sign m.Comma ∷ r) (value.0 ∙ ap (spell_expr f.0.0) end))) in
-      made spell_stmt (Is (suc room)) (Sign m.Impute ∷ Sign m.Open ∷ ws) (Impute a.0.0 (exprs b.0.0) f.0.0) x h.0 rest h.2 (ap (λ (r : List Word). Sign m.Impute ∷ Sign m.Open ∷ r) inside) (subs.1, value.1)
+      let inside = name.0 ∙ ap (λ (r : List Word). Name a.0.0 ∷ r) (subs.0 ∙ ap (spell_subscripts (exprs b.0.0)) (expect_is m.Comma b.0.1 d.0 d.1 ∙ ap (λ (r : List Word). Sign m.Comma ∷ r) (value.0 ∙ ap (spell_expr f.0.0) end))) in
+      made spell_stmt (Is (suc room)) (Sign m.Impute ∷ Sign m.Open ∷ ws) (Impute a.0.0 (exprs b.0.0) f.0.0) x h.0 rest h.2 (ap (λ (r : List Word). Sign m.Impute ∷ Sign m.Open ∷ r) inside) (name.1, subs.1, value.1)
 
 impute_sound : (room : ℕ) → SoundAfter (λ r. Sign m.Impute ∷ r) spell_stmt (Is room) (impute room)
 unfolding impute
@@ -276,24 +300,24 @@ module _ (room : ℕ) (body : Parser (List Stmt)) (body_sound : Sound spell_bloc
       let y = guarded_sound a.0 x rest a.2 in
       (expect_is m.ElseIf ws a.0 a.1 ∙ ap (λ (r : List Word). Sign m.ElseIf ∷ r) y.0, y.1)
 
-  elseifs_sound : Sound (λ xs r. spell_arms (arms xs) r) (λ xs. AreArms (arms xs) room) (elseifs room body)
+  elseifs_sound : Sound spell_elseifs (Each (IsArm room)) (elseifs room body)
   unfolding elseifs
   elseifs_sound ws x rest e =
-      loop_sound (sees m.ElseIf) (elseif room body) snoc (λ xs r. spell_arms (arms xs) r) (λ xs. AreArms (arms xs) room) (λ y r. Sign m.ElseIf ∷ spell_guarded y r) (IsArm room) elseif_sound
-      (λ xs y r h. spell_arms_snoc xs y r) (λ xs y h i. AreArms-snoc room xs y h i) (length ws) [] ws x rest tt e
+      loop_sound (sees m.ElseIf) (elseif room body) snoc spell_elseifs (Each (IsArm room)) (λ y r. Sign m.ElseIf ∷ spell_guarded y r) (IsArm room) elseif_sound
+      (λ xs y r h. spell_elseifs_snoc xs y r) (λ xs y h i. Each-snoc (IsArm room) xs y h i) (length ws) [] ws x rest tt e
 
-  abbrev IsLast : Otherwise → Type 0
-  IsLast x = IsOtherwise x room
+  abbrev IsLast : Arms → Type 0
+  IsLast x = AreArms x room
 
-  otherwise_sound : Sound spell_otherwise (λ x. IsOtherwise x room) (otherwise room body)
+  otherwise_sound : Sound spell_arms (λ x. AreArms x room) (otherwise room body)
   unfolding otherwise
   otherwise_sound ws x rest e =
       elim (if_some (sees m.Else ws) _ _ _ e) [
         | inl h ↦
             let a = bind_some (body (drop 1 ws)) _ _ h.1 in
             let block = body_sound (drop 1 ws) a.0.0 a.0.1 a.1 in
-            made spell_otherwise IsLast ws (else_of (stmts a.0.0)) x a.0.1 rest a.2 (sees_is m.Else ws h.0 ∙ ap (λ (r : List Word). Sign m.Else ∷ r) block.0) block.1
-        | inr h ↦ made spell_otherwise IsLast ws no_else x ws rest h.1 refl tt
+            made spell_arms IsLast ws (else_of (stmts a.0.0)) x a.0.1 rest a.2 (sees_is m.Else ws h.0 ∙ ap (λ (r : List Word). Sign m.Else ∷ r) block.0) block.1
+        | inr h ↦ made spell_arms IsLast ws no_arm x ws rest h.1 refl tt
       ]
 
   conditional_sound : SoundAfter (λ r. Sign m.If ∷ r) spell_stmt (Is room) (conditional room body)
@@ -308,8 +332,8 @@ module _ (room : ℕ) (body : Parser (List Stmt)) (body_sound : Sound spell_bloc
       let others = elseifs_sound a.0.1 b.0.0 b.0.1 b.1 in
       let last = otherwise_sound b.0.1 d.0.0 d.0.1 d.1 in
       let end = expect_is m.EndIf d.0.1 f.0 f.1 ∙ ap (λ (r : List Word). Sign m.EndIf ∷ r) (expect_is m.Semicolon f.0 g.0 g.1) in
-      let words = first.0 ∙ ap (spell_guarded a.0.0) (others.0 ∙ ap (spell_arms (arms b.0.0)) (last.0 ∙ ap (spell_otherwise d.0.0) end)) in
-      made spell_stmt (Is room) (Sign m.If ∷ ws) (If a.0.0.0 a.0.0.1 (arms b.0.0) d.0.0) x g.0 rest g.2 (ap (λ (r : List Word). Sign m.If ∷ r) words) (first.1.0, first.1.1, others.1, last.1)
+      let behind = others.0 ∙ ap (spell_elseifs b.0.0) (last.0 ∙ ap (spell_arms d.0.0) end) ∙ spell_arms_elseifs b.0.0 d.0.0 (Sign m.EndIf ∷ Sign m.Semicolon ∷ g.0) in
+      made spell_stmt (Is room) (Sign m.If ∷ ws) (If a.0.0.0 a.0.0.1 (arms b.0.0 d.0.0)) x g.0 rest g.2 (ap (λ (r : List Word). Sign m.If ∷ r) (first.0 ∙ ap (spell_guarded a.0.0) behind)) (first.1.0, first.1.1, AreArms-elseifs room b.0.0 d.0.0 others.1 last.1)
 
   body_to_end_sound : Sound (λ b r. spell_stmts b (Sign m.EndDo ∷ Sign m.Semicolon ∷ r)) (λ b. Below room (AreStmts b)) (body_to_end room body)
   unfolding body_to_end
@@ -329,10 +353,12 @@ module _ (room : ℕ) (body : Parser (List Stmt)) (body_sound : Sound spell_bloc
       let d = bind_some (take_name b.0) _ _ b.2 in
       let f = bind_some (expect m.Do d.0.1) _ _ d.2 in
       let g = bind_some (body_to_end room body f.0) _ _ f.2 in
+      let variable = take_name_is ws a.0.0 a.0.1 a.1 in
+      let record_name = take_name_is b.0 d.0.0 d.0.1 d.1 in
       let block = body_to_end_sound f.0 g.0.0 g.0.1 g.1 in
       let do_word = expect_is m.Do d.0.1 f.0 f.1 ∙ ap (λ (r : List Word). Sign m.Do ∷ r) block.0 in
-      let in_word = expect_is m.In a.0.1 b.0 b.1 ∙ ap (λ (r : List Word). Sign m.In ∷ r) (take_name_is b.0 d.0.0 d.0.1 d.1 ∙ ap (λ (r : List Word). Name d.0.0 ∷ r) do_word) in
-      made spell_stmt (Is room) (Sign m.For ∷ ws) (For a.0.0 d.0.0 g.0.0) x g.0.1 rest g.2 (ap (λ (r : List Word). Sign m.For ∷ r) (take_name_is ws a.0.0 a.0.1 a.1 ∙ ap (λ (r : List Word). Name a.0.0 ∷ r) in_word)) block.1
+      let in_word = expect_is m.In a.0.1 b.0 b.1 ∙ ap (λ (r : List Word). Sign m.In ∷ r) (record_name.0 ∙ ap (λ (r : List Word). Name d.0.0 ∷ r) do_word) in
+      made spell_stmt (Is room) (Sign m.For ∷ ws) (For a.0.0 d.0.0 g.0.0) x g.0.1 rest g.2 (ap (λ (r : List Word). Sign m.For ∷ r) (variable.0 ∙ ap (λ (r : List Word). Name a.0.0 ∷ r) in_word)) (variable.1, record_name.1, block.1)
 
 over_at_sound : (room : ℕ) (body : Parser (List Stmt)) → Sound spell_block (AreInside room) body → SoundAfter (λ r. Sign m.For ∷ r) spell_stmt (Is room) (over_at room body)
 unfolding over_at
@@ -356,9 +382,6 @@ module _ (room : ℕ) (body : Parser (List Stmt)) (body_sound : Sound spell_bloc
   marked_stmt_sound m.If ws x rest e = conditional_sound room body body_sound ws x rest e
   marked_stmt_sound m.For ws x rest e = over_at_sound room body body_sound ws x rest e
   marked_stmt_sound m.Do ws x rest e = counted_at_sound room body body_sound ws x rest e
-  marked_stmt_sound m.Break ws x rest e = jump_sound room j.Break ws x rest e
-  marked_stmt_sound m.Next ws x rest e = jump_sound room j.Next ws x rest e
-  marked_stmt_sound m.Exit ws x rest e = jump_sound room j.Exit ws x rest e
   marked_stmt_sound m.Impute ws x rest e = impute_sound room ws x rest e
   marked_stmt_sound m.PutDeck ws x rest e = putdeck_sound room ws x rest e
   marked_stmt_sound m.ErrMsg ws x rest e = errmsg_sound room ws x rest e
@@ -367,7 +390,13 @@ module _ (room : ℕ) (body : Parser (List Stmt)) (body_sound : Sound spell_bloc
   statement_sound : Sound spell_stmt (Is room) (statement room body)
   unfolding statement
   statement_sound [] x rest e = absurd cc
-  statement_sound (Name name ∷ ws) x rest e = named_stmt_sound room name ws x rest e
+  statement_sound (Name name ∷ ws) x rest e =
+      elim (if_some (is_name name.text) _ _ _ e) [
+        | inl h ↦ named_stmt_sound room name h.0 ws x rest h.1
+        | inr h ↦ absurd cc
+      ]
+  statement_sound (Value token value ∷ ws) x rest e = absurd cc
+  statement_sound (Leave token which ∷ ws) x rest e = jump_sound room token which ws x rest e
   statement_sound (Digits s ∷ ws) x rest e = absurd cc
   statement_sound (Quoted s ∷ ws) x rest e = absurd cc
   statement_sound (Sign mark ∷ ws) x rest e = marked_stmt_sound mark ws x rest e

@@ -108,10 +108,10 @@ or_left : (x y : Bool) → x ≡ true → (x || y) ≡ true
 or_left true y e = refl
 or_left false y e = absurd cc
 
-letter_is : (b : ℕ) → is_ascii_alphabetic b ≡ true → is_word_byte b ≡ true
+pub letter_is : (b : ℕ) → is_ascii_alphabetic b ≡ true → is_word_byte b ≡ true
 letter_is b h = or_left (is_ascii_alphanumeric b) (b == 95) (either (is_in_range 48 57 b) (is_in_range 65 90 b) (is_in_range 97 122 b) h)
 
-begins_some : (c : ℕ) (bs : List ℕ) → begins c bs ≡ true → 0 < length bs
+pub begins_some : (c : ℕ) (bs : List ℕ) → begins c bs ≡ true → 0 < length bs
 begins_some c [] e = absurd cc
 begins_some c (b ∷ bs) e = omega arith
 
@@ -234,7 +234,7 @@ covers_from (suc n) total found all text rest le enough e =
       | inr h ↦ ([], sym (pair_is h.1) ∙ sym (append-nil found), nothing_left text h.0)
     ]
 
-mark_within : (text : List ℕ) → mark_len text ≤ length text
+pub mark_within : (text : List ℕ) → mark_len text ≤ length text
 mark_within [] = omega arith
 mark_within (a ∷ []) = elim (a == 239) as (λ x. cond (x && false) 3 0 ≤ 1) [ true ↦ omega arith | false ↦ omega arith ]
 mark_within (a ∷ b ∷ []) =

@@ -5,9 +5,9 @@ use Rattle.std.proofs.Common.{rules}
 use Rattle.cse_syntax.specs.contracts.token.Mark.{the_type}
 use Rattle.cse_syntax.specs.declared.token.Mark.{Mark}
 use Rattle.cse_syntax.specs.declared.token.Mark.TheVariants as m
-use Rattle.cse_syntax.specs.Word.{Word, Name, Digits, Quoted, Sign, Stray}
+use Rattle.cse_syntax.specs.Word.{Word, Name, Digits, Quoted, Value, Leave, Sign, Stray}
 use Rattle.cse_syntax.specs.Tree.{Spelling}
-use Rattle.cse_syntax.specs.Grammar.{is_within, HasRoom, spell_mark}
+use Rattle.cse_syntax.specs.Grammar.{is_name, is_within, IsName, HasRoom, spell_mark}
 use Rattle.cse_syntax.specs.Reading.{◌>>=◌, same, sees, after, expect, enter, take_name, take_number}
 
 pub some_is : {A : Type 0} {x y : A} → Some x ≡ Some y → x ≡ y
@@ -42,6 +42,8 @@ sees_is mark [] e = absurd cc
 sees_is mark (Name s ∷ ws) e = absurd cc
 sees_is mark (Digits s ∷ ws) e = absurd cc
 sees_is mark (Quoted s ∷ ws) e = absurd cc
+sees_is mark (Value t s ∷ ws) e = absurd cc
+sees_is mark (Leave t s ∷ ws) e = absurd cc
 sees_is mark (Stray ∷ ws) e = absurd cc
 sees_is mark (Sign found ∷ ws) e = ap (λ (k : Mark). Sign k ∷ ws) (same_is found mark e)
 
@@ -56,23 +58,30 @@ pub enter_is : (room : ℕ) (ws rest : List Word) → enter room ws ≡ Some res
 enter_is zero ws rest e = absurd cc
 enter_is (suc room) ws rest e = (expect_is m.Open ws rest e, tt)
 
-pub take_name_is : (ws : List Word) (name : Spelling) (rest : List Word) → take_name ws ≡ Some (name, rest) → ws ≡ Name name ∷ rest
+pub take_name_is : (ws : List Word) (name : Spelling) (rest : List Word) → take_name ws ≡ Some (name, rest) → (ws ≡ Name name ∷ rest) × IsName name
 take_name_is [] name rest e = absurd cc
-take_name_is (Name s ∷ ws) name rest e = let p = both_are e in ap (λ (n : Spelling). Name n ∷ ws) p.0 ∙ ap (λ (r : List Word). Name name ∷ r) p.1
+take_name_is (Name s ∷ ws) name rest e =
+    let t = test_some (is_name s.text) (s, ws) (name, rest) e in
+    let p = both_are t.1 in
+    (ap (λ (n : Spelling). Name n ∷ ws) p.0 ∙ ap (λ (r : List Word). Name name ∷ r) p.1, ap (λ (n : Spelling). is_name n.text) (sym p.0) ∙ t.0)
 take_name_is (Digits s ∷ ws) name rest e = absurd cc
 take_name_is (Quoted s ∷ ws) name rest e = absurd cc
 take_name_is (Sign s ∷ ws) name rest e = absurd cc
+take_name_is (Value t s ∷ ws) name rest e = absurd cc
+take_name_is (Leave t s ∷ ws) name rest e = absurd cc
 take_name_is (Stray ∷ ws) name rest e = absurd cc
 
-pub take_number_is : (least most : ℕ) (ws : List Word) (digits : Spelling) (rest : List Word) → take_number least most ws ≡ Some (digits, rest) → (ws ≡ Digits digits ∷ rest) × (is_within least most digits ≡ true)
+pub take_number_is : (least most : ℕ) (ws : List Word) (digits : Spelling) (rest : List Word) → take_number least most ws ≡ Some (digits, rest) → (ws ≡ Digits digits ∷ rest) × (is_within least most digits.text ≡ true)
 take_number_is least most [] digits rest e = absurd cc
 take_number_is least most (Name s ∷ ws) digits rest e = absurd cc
 take_number_is least most (Digits s ∷ ws) digits rest e =
-    let t = test_some (is_within least most s) (s, ws) (digits, rest) e in
+    let t = test_some (is_within least most s.text) (s, ws) (digits, rest) e in
     let p = both_are t.1 in
-    (ap (λ (n : Spelling). Digits n ∷ ws) p.0 ∙ ap (λ (r : List Word). Digits digits ∷ r) p.1, ap (is_within least most) (sym p.0) ∙ t.0)
+    (ap (λ (n : Spelling). Digits n ∷ ws) p.0 ∙ ap (λ (r : List Word). Digits digits ∷ r) p.1, ap (λ (n : Spelling). is_within least most n.text) (sym p.0) ∙ t.0)
 take_number_is least most (Quoted s ∷ ws) digits rest e = absurd cc
 take_number_is least most (Sign s ∷ ws) digits rest e = absurd cc
+take_number_is least most (Value t s ∷ ws) digits rest e = absurd cc
+take_number_is least most (Leave t s ∷ ws) digits rest e = absurd cc
 take_number_is least most (Stray ∷ ws) digits rest e = absurd cc
 
 -- the words of a mark that was looked for

@@ -1,5 +1,5 @@
 -- The words of a tree, and which trees are of the grammar.
-use Rattle.std.specs.Prelude.{◌≡◌, ℕ, zero, suc, ◌+◌, ◌-◌, ◌*◌, ◌≤◌, Bool, true, false, ◌&&◌, nat_le, List, [], ◌∷◌, Option, Some, None}
+use Rattle.std.specs.Prelude.{◌≡◌, ℕ, zero, suc, ◌≤◌, Bool, true, false, List, [], ◌∷◌, Option, Some, None}
 use Rattle.std.specs.Str.{str_eq_ignore_ascii_case}
 use Rattle.cse_syntax.specs.declared.token.Mark.{Mark}
 use Rattle.cse_syntax.specs.declared.token.Mark.TheVariants as m
@@ -7,37 +7,28 @@ use Rattle.cse_syntax.specs.declared.tree.Operator.{Operator}
 use Rattle.cse_syntax.specs.declared.tree.Operator.TheVariants as o
 use Rattle.cse_syntax.specs.declared.tree.Relation.{Relation}
 use Rattle.cse_syntax.specs.declared.tree.Relation.TheVariants as r
-use Rattle.cse_syntax.specs.declared.tree.Special.{Special}
-use Rattle.cse_syntax.specs.declared.tree.Special.TheVariants as v
 use Rattle.cse_syntax.specs.declared.tree.Function.{Function}
 use Rattle.cse_syntax.specs.declared.tree.Function.TheVariants as f
 use Rattle.cse_syntax.specs.declared.tree.Query.{Query}
 use Rattle.cse_syntax.specs.declared.tree.Query.TheVariants as q
 use Rattle.cse_syntax.specs.declared.tree.Count.{Count}
 use Rattle.cse_syntax.specs.declared.tree.Count.TheVariants as c
-use Rattle.cse_syntax.specs.declared.tree.Jump.{Jump}
-use Rattle.cse_syntax.specs.declared.tree.Jump.TheVariants as j
-use Rattle.cse_syntax.specs.Word.{Word, Name, Digits, Quoted, Sign}
-use Rattle.cse_syntax.specs.Tree.{Spelling, Expr, Exprs, Operations, Number, Text, Special', Bare, Indexed, Group, Apply, Query', InValueSet, Minus, Not, Compare, Chain, none, more, last, then}
-use Rattle.cse_syntax.specs.Tree.{Literal, Limit, Fixed, Counted, Counting, Message, Own, Numbered, Stmt, Empty, Assign, Call, If, For, Do, Jump', Impute, PutDeck, ErrMsg, Stmts, done, next, Arms, no_arm, arm, Otherwise, no_else, else_of}
+use Rattle.cse_syntax.specs.Word.{Word, Name, Digits, Quoted, Value, Leave, Sign}
+pub use Rattle.cse_syntax.specs.Leaf.{is_name, is_within, is_text, MOST}
+use Rattle.cse_syntax.specs.Tree.{Spelling, Expr, Exprs, Operations, Number, Text, Special', Bare, Indexed, Group, Apply, Query', InValueSet, Minus, Not, Compare, Chain, no_expr, expr_and, no_operation, operation_and}
+use Rattle.cse_syntax.specs.Tree.{Literal, Limit, Fixed, Counted, Counting, Message, Own, Numbered, Stmt, Empty, Assign, Call, If, For, Do, Jump', Impute, PutDeck, ErrMsg, Stmts, no_stmt, stmt_and, Arms, no_arm, else_of, arm}
 use Rattle.cse_syntax.specs.Tree.{Dimension, Sized, Rows, Parameter, Array, Declaration, Numeric, Alpha, Array', Function', Body, Plain, Preproc, Both, Postproc, Procedure, Tree}
 
--- ---- numbers
+-- ---- leaves
 
--- the number that digits write, after the number that those before them write
-abbrev pub number_from : ℕ → Spelling → ℕ
-number_from n [] = n
-number_from n (d ∷ ds) = number_from (10 * n + (d - 48)) ds
-
--- whether digits write a number in this range
-unfoldable pub is_within : ℕ → ℕ → Spelling → Bool
-is_within least most digits = nat_le least (number_from 0 digits) && nat_le (number_from 0 digits) most
-
-abbrev pub MOST : ℕ
-MOST = 9223372036854775807
+abbrev pub IsName : Spelling → Type 0
+IsName name = is_name name.text ≡ true
 
 abbrev pub IsNumber : Spelling → Type 0
-IsNumber digits = is_within 0 MOST digits ≡ true
+IsNumber digits = is_within 0 MOST digits.text ≡ true
+
+abbrev pub IsText : Spelling → Type 0
+IsText text = is_text text.text ≡ true
 
 -- ---- signs
 
@@ -58,11 +49,6 @@ relation_sign r.AtMost = m.AtMost
 relation_sign r.More = m.More
 relation_sign r.AtLeast = m.AtLeast
 
-abbrev pub special_sign : Special → Mark
-special_sign v.NotAppl = m.NotAppl
-special_sign v.Missing = m.Missing
-special_sign v.Default = m.Default
-
 abbrev pub function_sign : Function → Mark
 function_sign f.Int = m.Int
 function_sign f.Special = m.Special
@@ -76,11 +62,6 @@ query_sign q.CurOcc = m.CurOcc
 abbrev pub count_sign : Count → Mark
 count_sign c.TotOcc = m.TotOcc
 count_sign c.MaxOcc = m.MaxOcc
-
-abbrev pub jump_sign : Jump → Mark
-jump_sign j.Break = m.Break
-jump_sign j.Next = m.Next
-jump_sign j.Exit = m.Exit
 
 -- ---- lists
 
@@ -129,7 +110,7 @@ abbrev mutual
   pub spell_expr : Expr → List Word → List Word
   spell_expr (Number digits) rest = Digits digits ∷ rest
   spell_expr (Text text) rest = Quoted text ∷ rest
-  spell_expr (Special' value) rest = Sign (special_sign value) ∷ rest
+  spell_expr (Special' token value) rest = Value token value ∷ rest
   spell_expr (Bare name) rest = Name name ∷ rest
   spell_expr (Indexed name arguments) rest = Name name ∷ Sign m.Open ∷ spell_exprs arguments (Sign m.Close ∷ rest)
   spell_expr (Group x) rest = Sign m.Open ∷ spell_expr x (Sign m.Close ∷ rest)
@@ -143,17 +124,17 @@ abbrev mutual
 
   -- with commas between them
   pub spell_exprs : Exprs → List Word → List Word
-  spell_exprs none rest = rest
-  spell_exprs (more x xs) rest = spell_expr x (spell_others xs rest)
+  spell_exprs no_expr rest = rest
+  spell_exprs (expr_and x xs) rest = spell_expr x (spell_others xs rest)
 
   -- each after a comma
   pub spell_others : Exprs → List Word → List Word
-  spell_others none rest = rest
-  spell_others (more x xs) rest = Sign m.Comma ∷ spell_expr x (spell_others xs rest)
+  spell_others no_expr rest = rest
+  spell_others (expr_and x xs) rest = Sign m.Comma ∷ spell_expr x (spell_others xs rest)
 
   pub spell_operations : Operations → List Word → List Word
-  spell_operations last rest = rest
-  spell_operations (then operator x xs) rest = Sign (sign operator) ∷ spell_expr x (spell_operations xs rest)
+  spell_operations no_operation rest = rest
+  spell_operations (operation_and operator x xs) rest = Sign (sign operator) ∷ spell_expr x (spell_operations xs rest)
 
 -- The rules of the grammar, from the loosest: 1 `or`, 2 `and`, 3 `not`, 4 relations, 5 `+ -`, 6 `* / %`, 7 a minus
 -- before an operand, 8 what needs no parentheses.
@@ -168,8 +149,8 @@ binds o.Remainder = 6
 
 -- the rule of a chain of operators, which is that of its first
 abbrev pub level : Operations → ℕ
-level last = 0
-level (then operator x xs) = binds operator
+level no_operation = 0
+level (operation_and operator x xs) = binds operator
 
 abbrev pub rule : Expr → ℕ
 rule (Minus x) = 7
@@ -187,18 +168,22 @@ abbrev pub HasRoom : ℕ → Type 0
 HasRoom zero = ⊥
 HasRoom (suc room) = Unit {0}
 
+abbrev pub IsSetName : Option Spelling → Type 0
+IsSetName None = Unit {0}
+IsSetName (Some set) = IsName set
+
 -- The tree is of the grammar, with at most this many more parentheses open at once.
 abbrev mutual
   pub IsExpr : Expr → ℕ → Type 0
   IsExpr (Number digits) room = IsNumber digits
-  IsExpr (Text text) room = Unit {0}
-  IsExpr (Special' value) room = Unit {0}
-  IsExpr (Bare name) room = Unit {0}
-  IsExpr (Indexed name arguments) room = HasRoom room × AreInner arguments room
+  IsExpr (Text text) room = IsText text
+  IsExpr (Special' token value) room = Unit {0}
+  IsExpr (Bare name) room = IsName name
+  IsExpr (Indexed name arguments) room = IsName name × HasRoom room × AreInner arguments room
   IsExpr (Group x) room = Below room (IsExpr x)
   IsExpr (Apply function x) room = Below room (IsExpr x)
-  IsExpr (Query' query name) room = HasRoom room
-  IsExpr (InValueSet item set) room = HasRoom room
+  IsExpr (Query' query name) room = IsName name × HasRoom room
+  IsExpr (InValueSet item set) room = IsName item × IsSetName set × HasRoom room
   IsExpr (Minus x) room = (8 ≤ rule x) × IsExpr x room
   IsExpr (Not x) room = (4 ≤ rule x) × IsExpr x room
   IsExpr (Compare relation x y) room = (5 ≤ rule x) × (5 ≤ rule y) × IsExpr x room × IsExpr y room
@@ -206,19 +191,19 @@ abbrev mutual
 
   -- in parentheses
   pub AreInner : Exprs → ℕ → Type 0
-  AreInner none room = Unit {0}
-  AreInner (more x xs) room = Below room (IsExpr x) × AreInner xs room
+  AreInner no_expr room = Unit {0}
+  AreInner (expr_and x xs) room = Below room (IsExpr x) × AreInner xs room
 
   -- operators of this rule, with operands of tighter ones
   pub AreOperations : Operations → ℕ → ℕ → Type 0
-  AreOperations last n room = Unit {0}
-  AreOperations (then operator x xs) n room = (binds operator ≡ n) × (suc n ≤ rule x) × IsExpr x room × AreOperations xs n room
+  AreOperations no_operation n room = Unit {0}
+  AreOperations (operation_and operator x xs) n room = (binds operator ≡ n) × (suc n ≤ rule x) × IsExpr x room × AreOperations xs n room
 
 -- ---- statements
 
 abbrev pub spell_subscripts : Exprs → List Word → List Word
-spell_subscripts none rest = rest
-spell_subscripts (more x xs) rest = Sign m.Open ∷ spell_exprs (more x xs) (Sign m.Close ∷ rest)
+spell_subscripts no_expr rest = rest
+spell_subscripts (expr_and x xs) rest = Sign m.Open ∷ spell_exprs (expr_and x xs) (Sign m.Close ∷ rest)
 
 abbrev pub spell_digits : Spells Spelling
 spell_digits digits rest = Digits digits ∷ rest
@@ -247,12 +232,12 @@ abbrev mutual
   spell_stmt Empty rest = Sign m.Semicolon ∷ rest
   spell_stmt (Assign name subscripts value) rest = Name name ∷ spell_subscripts subscripts (Sign m.Equals ∷ spell_expr value (Sign m.Semicolon ∷ rest))
   spell_stmt (Call name arguments) rest = Name name ∷ Sign m.Open ∷ spell_exprs arguments (Sign m.Close ∷ Sign m.Semicolon ∷ rest)
-  spell_stmt (If condition body others otherwise) rest =
-      Sign m.If ∷ spell_expr condition (Sign m.Then ∷ spell_stmts body (spell_arms others (spell_otherwise otherwise (Sign m.EndIf ∷ Sign m.Semicolon ∷ rest))))
+  spell_stmt (If condition body others) rest =
+      Sign m.If ∷ spell_expr condition (Sign m.Then ∷ spell_stmts body (spell_arms others (Sign m.EndIf ∷ Sign m.Semicolon ∷ rest)))
   spell_stmt (For variable record_name body) rest =
       Sign m.For ∷ Name variable ∷ Sign m.In ∷ Name record_name ∷ Sign m.Do ∷ spell_stmts body (Sign m.EndDo ∷ Sign m.Semicolon ∷ rest)
   spell_stmt (Do counting body) rest = Sign m.Do ∷ spell_counting counting (spell_stmts body (Sign m.EndDo ∷ Sign m.Semicolon ∷ rest))
-  spell_stmt (Jump' jump) rest = Sign (jump_sign jump) ∷ Sign m.Semicolon ∷ rest
+  spell_stmt (Jump' token jump) rest = Leave token jump ∷ Sign m.Semicolon ∷ rest
   spell_stmt (Impute name subscripts value) rest =
       Sign m.Impute ∷ Sign m.Open ∷ Name name ∷ spell_subscripts subscripts (Sign m.Comma ∷ spell_expr value (Sign m.Close ∷ Sign m.Semicolon ∷ rest))
   spell_stmt (PutDeck deck value) rest = Sign m.PutDeck ∷ Sign m.Open ∷ Name deck ∷ Sign m.Comma ∷ spell_expr value (Sign m.Close ∷ Sign m.Semicolon ∷ rest)
@@ -260,58 +245,52 @@ abbrev mutual
       Sign m.ErrMsg ∷ Sign m.Open ∷ spell_message message (spell_others values (Sign m.Close ∷ spell_mark m.Summary summary (Sign m.Semicolon ∷ rest)))
 
   pub spell_stmts : Stmts → List Word → List Word
-  spell_stmts done rest = rest
-  spell_stmts (next x xs) rest = spell_stmt x (spell_stmts xs rest)
+  spell_stmts no_stmt rest = rest
+  spell_stmts (stmt_and x xs) rest = spell_stmt x (spell_stmts xs rest)
 
   pub spell_arms : Arms → List Word → List Word
   spell_arms no_arm rest = rest
+  spell_arms (else_of body) rest = Sign m.Else ∷ spell_stmts body rest
   spell_arms (arm condition body others) rest = Sign m.ElseIf ∷ spell_expr condition (Sign m.Then ∷ spell_stmts body (spell_arms others rest))
 
-  pub spell_otherwise : Otherwise → List Word → List Word
-  spell_otherwise no_else rest = rest
-  spell_otherwise (else_of body) rest = Sign m.Else ∷ spell_stmts body rest
-
 abbrev pub IsLimit : Limit → ℕ → Type 0
-IsLimit (Fixed x) room = is_within 0 999999999 x.digits ≡ true
-IsLimit (Counted count name) room = HasRoom room
+IsLimit (Fixed x) room = is_within 0 999999999 x.digits.text ≡ true
+IsLimit (Counted count name) room = IsName name × HasRoom room
 
 abbrev pub IsBy : Option Spelling → Type 0
 IsBy None = Unit {0}
-IsBy (Some digits) = is_within 1 999 digits ≡ true
+IsBy (Some digits) = is_within 1 999 digits.text ≡ true
 
 -- The two names are the same but for letter case.
 abbrev pub IsCounting : Counting → ℕ → Type 0
-IsCounting x room = IsLimit x.start room × (str_eq_ignore_ascii_case x.variable x.again ≡ true) × IsLimit x.stop room × IsBy x.by
+IsCounting x room = IsName x.variable × IsLimit x.start room × IsName x.again × (str_eq_ignore_ascii_case x.variable.text x.again.text ≡ true) × IsLimit x.stop room × IsBy x.by
 
 abbrev pub IsMessage : Message → Type 0
-IsMessage (Own text) = Unit {0}
+IsMessage (Own text) = IsText text
 IsMessage (Numbered digits) = IsNumber digits
 
 -- An open `if`, `for` or `do` takes room as a parenthesis does.
 abbrev mutual
   pub IsStmt : Stmt → ℕ → Type 0
   IsStmt Empty room = Unit {0}
-  IsStmt (Assign name subscripts value) room = AreInner subscripts room × IsExpr value room
-  IsStmt (Call name arguments) room = HasRoom room × AreInner arguments room
-  IsStmt (If condition body others otherwise) room = Below room (IsExpr condition) × Below room (AreStmts body) × AreArms others room × IsOtherwise otherwise room
-  IsStmt (For variable record_name body) room = Below room (AreStmts body)
+  IsStmt (Assign name subscripts value) room = IsName name × AreInner subscripts room × IsExpr value room
+  IsStmt (Call name arguments) room = IsName name × HasRoom room × AreInner arguments room
+  IsStmt (If condition body others) room = Below room (IsExpr condition) × Below room (AreStmts body) × AreArms others room
+  IsStmt (For variable record_name body) room = IsName variable × IsName record_name × Below room (AreStmts body)
   IsStmt (Do counting body) room = Below room (IsCounting counting) × Below room (AreStmts body)
-  IsStmt (Jump' jump) room = Unit {0}
-  IsStmt (Impute name subscripts value) room = Below room (AreInner subscripts) × Below room (IsExpr value)
-  IsStmt (PutDeck deck value) room = Below room (IsExpr value)
+  IsStmt (Jump' token jump) room = Unit {0}
+  IsStmt (Impute name subscripts value) room = IsName name × Below room (AreInner subscripts) × Below room (IsExpr value)
+  IsStmt (PutDeck deck value) room = IsName deck × Below room (IsExpr value)
   IsStmt (ErrMsg message values summary) room = HasRoom room × IsMessage message × AreInner values room
 
   pub AreStmts : Stmts → ℕ → Type 0
-  AreStmts done room = Unit {0}
-  AreStmts (next x xs) room = IsStmt x room × AreStmts xs room
+  AreStmts no_stmt room = Unit {0}
+  AreStmts (stmt_and x xs) room = IsStmt x room × AreStmts xs room
 
   pub AreArms : Arms → ℕ → Type 0
   AreArms no_arm room = Unit {0}
+  AreArms (else_of body) room = Below room (AreStmts body)
   AreArms (arm condition body others) room = Below room (IsExpr condition) × Below room (AreStmts body) × AreArms others room
-
-  pub IsOtherwise : Otherwise → ℕ → Type 0
-  IsOtherwise no_else room = Unit {0}
-  IsOtherwise (else_of body) room = Below room (AreStmts body)
 
 -- ---- sources
 
@@ -355,20 +334,23 @@ abbrev pub spell_tree : Tree → List Word
 spell_tree x = spell_globals x.globals (spell_all spell_procedure x.procedures [])
 
 abbrev pub IsDimension : Dimension → Type 0
-IsDimension (Sized digits) = is_within 1 65535 digits ≡ true
-IsDimension (Rows set one_more) = Unit {0}
+IsDimension (Sized digits) = is_within 1 65535 digits.text ≡ true
+IsDimension (Rows set one_more) = IsName set
+
+abbrev pub IsParameter : Parameter → Type 0
+IsParameter x = IsName x.name
 
 abbrev pub IsLiteral : Literal → Type 0
 IsLiteral x = IsNumber x.digits
 
 abbrev pub IsArray : Array → Type 0
-IsArray x = IsSome x.dimensions × Each IsDimension x.dimensions × Each IsLiteral x.cells
+IsArray x = IsName x.name × IsSome x.dimensions × Each IsDimension x.dimensions × Each IsLiteral x.cells
 
 abbrev pub IsDeclaration : ℕ → Declaration → Type 0
-IsDeclaration room (Numeric names) = IsSome names
-IsDeclaration room (Alpha size names) = (is_within 1 255 size ≡ true) × IsSome names
+IsDeclaration room (Numeric names) = IsSome names × Each IsName names
+IsDeclaration room (Alpha size names) = (is_within 1 255 size.text ≡ true) × IsSome names × Each IsName names
 IsDeclaration room (Array' array) = IsArray array
-IsDeclaration room (Function' name parameters body) = AreStmts body room
+IsDeclaration room (Function' name parameters body) = IsName name × Each IsParameter parameters × AreStmts body room
 
 abbrev pub IsBody : ℕ → Body → Type 0
 IsBody room (Plain xs) = AreStmts xs room
@@ -377,7 +359,7 @@ IsBody room (Both xs ys) = AreStmts xs room × AreStmts ys room
 IsBody room (Postproc xs) = AreStmts xs room
 
 abbrev pub IsProcedure : ℕ → Procedure → Type 0
-IsProcedure room x = IsBody room x.body
+IsProcedure room x = IsName x.name × IsBody room x.body
 
 abbrev pub AreGlobals : ℕ → Option (List Declaration) → Type 0
 AreGlobals room None = Unit {0}

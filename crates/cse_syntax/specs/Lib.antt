@@ -1,4 +1,5 @@
 pub mod Loop
+pub mod Leaf
 pub mod Word
 pub mod Text
 pub mod Lexed
@@ -6,5 +7,9 @@ pub mod Tree
 pub mod Grammar
 pub mod Reading
 pub mod ReadingStmt
-pub mod ReadingSource
 pub mod Source
+pub mod ReadingSource
+pub mod Place
+pub mod First
+pub mod TreeLaws
+pub mod BlankText

@@ -10,7 +10,6 @@ use Rattle.cse_syntax.specs.declared.tree.Operator.{Operator}
 use Rattle.cse_syntax.specs.declared.tree.Operator.TheVariants as o
 use Rattle.cse_syntax.specs.declared.tree.Relation.{Relation}
 use Rattle.cse_syntax.specs.declared.tree.Relation.TheVariants as r
-use Rattle.cse_syntax.specs.declared.tree.Special.TheVariants as v
 use Rattle.cse_syntax.specs.declared.tree.Function.{Function}
 use Rattle.cse_syntax.specs.declared.tree.Function.TheVariants as f
 use Rattle.cse_syntax.specs.declared.tree.Query.{Query}
@@ -18,10 +17,10 @@ use Rattle.cse_syntax.specs.declared.tree.Query.TheVariants as q
 use Rattle.cse_syntax.specs.declared.token.Token.{Token}
 use Rattle.cse_syntax.specs.declared.parser.Level.{Level}
 use Rattle.cse_syntax.specs.declared.parser.Level.TheVariants as level
-use Rattle.cse_syntax.specs.Word.{Word, Name, Digits, Quoted, Sign, word, words}
+use Rattle.cse_syntax.specs.Word.{Word, Name, Digits, Quoted, Value, Sign, word_of, words}
 pub use Rattle.cse_syntax.specs.Loop.{◌>>=◌, Reader, loop, snoc}
 use Rattle.cse_syntax.specs.Tree.{Spelling, Expr, Number, Text, Special', Bare, Indexed, Group, Apply, Query', InValueSet, Minus, Not, Compare, Chain, exprs, operations}
-use Rattle.cse_syntax.specs.Grammar.{is_within, MOST}
+use Rattle.cse_syntax.specs.Leaf.{is_token, is_name, is_within, is_text, MOST}
 
 abbrev pub Parser : Type 0 → Type 0
 Parser A = Reader Word A
@@ -58,7 +57,7 @@ Leaves (Err e) reading after = Fails e reading
 -- the next token, if there is one
 abbrev pub Takes : Option Token → List Word → List Word → Type 0
 Takes None old new = (old ≡ []) × (new ≡ [])
-Takes (Some t) old new = old ≡ word t.kind t.text.now ∷ new
+Takes (Some t) old new = (old ≡ word_of t ∷ new) × (is_token t.kind t.text.now ≡ true)
 
 -- `==` on marks
 abbrev pub same : Mark → Mark → Bool
@@ -83,12 +82,12 @@ enter zero ws = None
 enter (suc room) ws = expect m.Open ws
 
 abbrev pub take_name : Parser Spelling
-take_name (Name name ∷ ws) = Some (name, ws)
+take_name (Name name ∷ ws) = if is_name name.text then Some (name, ws) else None
 take_name _ = None
 
 -- a number in this range
 abbrev pub take_number : ℕ → ℕ → Parser Spelling
-take_number least most (Digits digits ∷ ws) = if is_within least most digits then Some (digits, ws) else None
+take_number least most (Digits digits ∷ ws) = if is_within least most digits.text then Some (digits, ws) else None
 take_number least most _ = None
 
 -- ---- lists with commas
@@ -237,9 +236,6 @@ module _ (room : ℕ) (inner : Parser Expr) where
   -- after a mark that begins an operand
   unfoldable pub marked : Mark → Parser Expr
   marked m.Open ws = group ws
-  marked m.NotAppl ws = Some (Special' v.NotAppl, ws)
-  marked m.Missing ws = Some (Special' v.Missing, ws)
-  marked m.Default ws = Some (Special' v.Default, ws)
   marked m.Int ws = apply f.Int ws
   marked m.Special ws = apply f.Special ws
   marked m.GetDeck ws = query q.GetDeck ws
@@ -250,9 +246,10 @@ module _ (room : ℕ) (inner : Parser Expr) where
   marked _ ws = None
 
   unfoldable pub prim : Parser Expr
-  prim (Digits digits ∷ ws) = if is_within 0 MOST digits then Some (Number digits, ws) else None
-  prim (Quoted text ∷ ws) = Some (Text text, ws)
-  prim (Name name ∷ ws) = named name ws
+  prim (Digits digits ∷ ws) = if is_within 0 MOST digits.text then Some (Number digits, ws) else None
+  prim (Quoted text ∷ ws) = if is_text text.text then Some (Text text, ws) else None
+  prim (Value token value ∷ ws) = Some (Special' token value, ws)
+  prim (Name name ∷ ws) = if is_name name.text then named name ws else None
   prim (Sign mark ∷ ws) = marked mark ws
   prim _ = None
 

@@ -3,9 +3,11 @@ use Rattle.std.specs.Prelude.{ℕ, Bool, true, false, ◌&&◌, ◌==◌, if◌t
 use Rattle.cse_syntax.specs.declared.token.Mark.TheVariants as m
 use Rattle.cse_syntax.specs.Word.{Word, Name, Digits, Sign}
 use Rattle.cse_syntax.specs.Tree.{Spelling, Literal, stmts, Dimension, Sized, Rows, Parameter, Array, Declaration, Numeric, Alpha, Array', Function', Body, Plain, Preproc, Both, Postproc, Procedure, Tree}
-use Rattle.cse_syntax.specs.Grammar.{is_within, MOST}
+use Rattle.cse_syntax.specs.Leaf.{is_name, is_within, MOST}
 use Rattle.cse_syntax.specs.Reading.{◌>>=◌, Parser, loop, snoc, sees, expect, after, take_name, take_number, listed}
 use Rattle.cse_syntax.specs.ReadingStmt.{literal, statements_at}
+use Rattle.cse_syntax.specs.Text.{pieces_of}
+use Rattle.cse_syntax.specs.Source.{said}
 
 -- after the name of a value set
 unfoldable pub rows : Spelling → Parser Dimension
@@ -17,8 +19,8 @@ rows name ws =
     else Some (Rows name false, ws)
 
 unfoldable pub dimension : Parser Dimension
-dimension (Digits digits ∷ ws) = if is_within 1 65535 digits then Some (Sized digits, ws) else None
-dimension (Name name ∷ ws) = rows name ws
+dimension (Digits digits ∷ ws) = if is_within 1 65535 digits.text then Some (Sized digits, ws) else None
+dimension (Name name ∷ ws) = if is_name name.text then rows name ws else None
 dimension _ = None
 
 unfoldable pub parameter : Parser Parameter
@@ -149,3 +151,7 @@ module _ (room : ℕ) where
     first ← globals ws
     found ← procedures first.1
     if length found.1 == 0 then Some (record { globals = first.0; procedures = found.0 }) else None
+
+-- the tree of a text
+abbrev pub tree_of : ℕ → List ℕ → Option Tree
+tree_of room text = pieces_of text >>= λ ps. source_at room (said ps)

@@ -6,10 +6,9 @@ use Rattle.cse_syntax.specs.declared.token.Mark.TheVariants as m
 use Rattle.cse_syntax.specs.declared.tree.Count.{Count}
 use Rattle.cse_syntax.specs.declared.tree.Count.TheVariants as c
 use Rattle.cse_syntax.specs.declared.tree.Jump.{Jump}
-use Rattle.cse_syntax.specs.declared.tree.Jump.TheVariants as j
-use Rattle.cse_syntax.specs.Word.{Word, Name, Digits, Quoted, Sign}
-use Rattle.cse_syntax.specs.Tree.{Spelling, Expr, exprs, Literal, Limit, Fixed, Counted, Counting, Message, Own, Numbered, Stmt, Empty, Assign, Call, If, For, Do, Jump', Impute, PutDeck, ErrMsg, Stmts, stmts, arms, Otherwise, no_else, else_of}
-use Rattle.cse_syntax.specs.Grammar.{is_within, MOST}
+use Rattle.cse_syntax.specs.Word.{Word, Name, Digits, Quoted, Leave, Sign}
+use Rattle.cse_syntax.specs.Tree.{Spelling, Expr, exprs, Literal, Limit, Fixed, Counted, Counting, Message, Own, Numbered, Stmt, Empty, Assign, Call, If, For, Do, Jump', Impute, PutDeck, ErrMsg, Stmts, stmts, Arms, no_arm, else_of, arms}
+use Rattle.cse_syntax.specs.Leaf.{is_name, is_within, is_text, MOST}
 use Rattle.cse_syntax.specs.Reading.{◌>>=◌, Parser, loop, snoc, sees, expect, after, enter, take_name, take_number, others_from, subscripts, arguments, nested, expr_at}
 
 abbrev pub starts_mark : Mark → Bool
@@ -17,9 +16,6 @@ starts_mark m.Semicolon = true
 starts_mark m.If = true
 starts_mark m.For = true
 starts_mark m.Do = true
-starts_mark m.Break = true
-starts_mark m.Next = true
-starts_mark m.Exit = true
 starts_mark m.Impute = true
 starts_mark m.PutDeck = true
 starts_mark m.ErrMsg = true
@@ -27,6 +23,7 @@ starts_mark _ = false
 
 abbrev pub starts_stmt : List Word → Bool
 starts_stmt (Name name ∷ ws) = true
+starts_stmt (Leave token jump ∷ ws) = true
 starts_stmt (Sign mark ∷ ws) = starts_mark mark
 starts_stmt _ = false
 
@@ -64,7 +61,7 @@ step ws =
 unfoldable pub again : Spelling → Parser Spelling
 again variable ws = do
   name ← take_name ws
-  if str_eq_ignore_ascii_case variable name.0 then Some (name.0, name.1) else None
+  if str_eq_ignore_ascii_case variable.text name.0.text then Some (name.0, name.1) else None
 
 -- what stands between a `do` and its body
 unfoldable pub counting : ℕ → Parser Counting
@@ -81,8 +78,8 @@ counting room ws = do
   Some (record { variable = variable.0; start = start.0; again = second.0; stop = stop.0; by = by.0 }, by.1)
 
 unfoldable pub message : Parser Message
-message (Quoted text ∷ ws) = Some (Own text, ws)
-message (Digits digits ∷ ws) = if is_within 0 MOST digits then Some (Numbered digits, ws) else None
+message (Quoted text ∷ ws) = if is_text text.text then Some (Own text, ws) else None
+message (Digits digits ∷ ws) = if is_within 0 MOST digits.text then Some (Numbered digits, ws) else None
 message _ = None
 
 -- ---- statements without others in them, with room for this many parentheses and statements
@@ -135,10 +132,10 @@ module _ (room : ℕ) where
     behind ← expect m.Semicolon (after m.Summary close)
     Some (ErrMsg what.0 (exprs values.0) (sees m.Summary close), behind)
 
-  unfoldable pub jump : Jump → Parser Stmt
-  jump which ws = do
+  unfoldable pub jump : ℕ → Jump → Parser Stmt
+  jump token which ws = do
     rest ← expect m.Semicolon ws
-    Some (Jump' which, rest)
+    Some (Jump' token which, rest)
 
 -- in the parentheses of an `impute`, and up to its end
 unfoldable pub imputed : ℕ → Parser Stmt
@@ -173,12 +170,12 @@ module _ (room : ℕ) (body : Parser (List Stmt)) where
   unfoldable pub elseifs : Parser (List (Expr × Stmts))
   elseifs ws = elseifs_from (length ws) [] ws
 
-  unfoldable pub otherwise : Parser Otherwise
+  unfoldable pub otherwise : Parser Arms
   otherwise ws =
       if sees m.Else ws then (do
         found ← body (drop 1 ws)
         Some (else_of (stmts found.0), found.1))
-      else Some (no_else, ws)
+      else Some (no_arm, ws)
 
   unfoldable pub conditional : Parser Stmt
   conditional ws = do
@@ -187,7 +184,7 @@ module _ (room : ℕ) (body : Parser (List Stmt)) where
     last ← otherwise others.1
     rest ← expect m.EndIf last.1
     behind ← expect m.Semicolon rest
-    Some (If first.0.0 first.0.1 (arms others.0) last.0, behind)
+    Some (If first.0.0 first.0.1 (arms others.0 last.0), behind)
 
   unfoldable pub body_to_end : Parser Stmts
   body_to_end ws = do
@@ -224,16 +221,14 @@ module _ (room : ℕ) (body : Parser (List Stmt)) where
   marked_stmt m.If ws = conditional room body ws
   marked_stmt m.For ws = over_at room body ws
   marked_stmt m.Do ws = counted_at room body ws
-  marked_stmt m.Break ws = jump room j.Break ws
-  marked_stmt m.Next ws = jump room j.Next ws
-  marked_stmt m.Exit ws = jump room j.Exit ws
   marked_stmt m.Impute ws = impute room ws
   marked_stmt m.PutDeck ws = putdeck room ws
   marked_stmt m.ErrMsg ws = errmsg room ws
   marked_stmt _ ws = None
 
   unfoldable pub statement : Parser Stmt
-  statement (Name name ∷ ws) = named_stmt room name ws
+  statement (Name name ∷ ws) = if is_name name.text then named_stmt room name ws else None
+  statement (Leave token which ∷ ws) = jump room token which ws
   statement (Sign mark ∷ ws) = marked_stmt mark ws
   statement _ = None
 

@@ -1,5 +1,5 @@
 -- What a source text is.
-use Rattle.std.specs.Prelude.{◌≡◌, ℕ, ◌+◌, List, [], ◌∷◌, ◌++◌, length, drop, map, Option, Some, Result, Ok, Err}
+use Rattle.std.specs.Prelude.{◌≡◌, ℕ, suc, ◌+◌, List, [], ◌∷◌, ◌++◌, length, drop, Some, Result, Ok, Err}
 use Rattle.cse_syntax.specs.declared.lexer.Gap.TheVariants as g
 use Rattle.cse_syntax.specs.declared.error.Cause.{Cause}
 use Rattle.cse_syntax.specs.declared.error.Cause.TheVariants as cause
@@ -9,12 +9,15 @@ use Rattle.cse_syntax.specs.declared.error.SyntaxError.{SyntaxError}
 use Rattle.cse_syntax.specs.Word.{Word, word}
 use Rattle.cse_syntax.specs.Tree.{Tree}
 use Rattle.cse_syntax.specs.Grammar.{IsSource}
-use Rattle.cse_syntax.specs.Loop.{◌>>=◌}
-use Rattle.cse_syntax.specs.ReadingSource.{source_at}
 use Rattle.cse_syntax.specs.Text.{skip, mark_len, Piece, pieces_of}
 
+-- the words of tokens, which are counted from this number
+abbrev pub said_from : ℕ → List Piece → List Word
+said_from n [] = []
+said_from n (p ∷ ps) = word n p.kind p.text ∷ said_from (suc n) ps
+
 abbrev pub said : List Piece → List Word
-said ps = map (λ p. word p.kind p.text) ps
+said ps = said_from 0 ps
 
 -- The text is cut into tokens, whose words are the tree's, with at most this many parentheses and statements open at once.
 abbrev pub IsSourceText : ℕ → List ℕ → Tree → Type 0
@@ -30,9 +33,6 @@ Covers place text (p ∷ ps) =
 abbrev pub IsCovered : List ℕ → List Piece → Type 0
 IsCovered text ps = Covers (mark_len text) (drop (mark_len text) text) ps
 
-abbrev pub tree_of : ℕ → List ℕ → Option Tree
-tree_of room text = pieces_of text >>= λ ps. source_at room (said ps)
-
 -- ---- faults
 
 abbrev pub cause_number : Cause → ℕ
@@ -43,9 +43,9 @@ cause_number cause.LeftOut = 33
 cause_number cause.TooDeep = 34
 cause_number cause.OutOfRange = 35
 
-abbrev pub number_of : ReadError → ℕ
-number_of errors.Memory = 90
-number_of (errors.Found fault) = cause_number fault.cause
+abbrev pub error_number : ReadError → ℕ
+error_number errors.Memory = 90
+error_number (errors.Found fault) = cause_number fault.cause
 
 -- A source text is read as its tree, unless memory runs out.
 abbrev pub IsRead : {A : Type 0} → (A → Tree) → Result A SyntaxError → Tree → Type 0

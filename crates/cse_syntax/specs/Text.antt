@@ -1,8 +1,7 @@
 -- The tokens of a text, as a function of its bytes: blanks and comments, the longest token, and all of them in order.
-use Rattle.std.specs.Prelude.{ℕ, zero, suc, ◌-◌, ◌+◌, Bool, true, false, ◌||◌, ◌&&◌, not, ◌==◌, if◌then◌else◌, List, [], ◌∷◌, length, take, drop, map, Option, Some, None, codes, nat_le, nat_lt}
+use Rattle.std.specs.Prelude.{ℕ, zero, suc, ◌-◌, ◌+◌, Bool, true, false, ◌||◌, ◌&&◌, ◌==◌, if◌then◌else◌, List, [], ◌∷◌, length, take, drop, map, Option, Some, None, nat_le}
 use Rattle.std.specs.List.{prefix_len, count_by}
-use Rattle.std.specs.Str.{str_eq_ignore_ascii_case}
-use Rattle.std.specs.Char.{is_ascii_alphabetic, is_ascii_digit, is_ascii_alphanumeric}
+use Rattle.std.specs.Char.{is_ascii_alphabetic, is_ascii_digit}
 use Rattle.cse_syntax.specs.declared.token.Mark.{Mark}
 use Rattle.cse_syntax.specs.declared.token.Mark.TheVariants as m
 use Rattle.cse_syntax.specs.declared.token.Kind.{Kind}
@@ -11,15 +10,7 @@ use Rattle.cse_syntax.specs.declared.token.Token.{Token}
 use Rattle.cse_syntax.specs.declared.lexer.Gap.{Gap}
 use Rattle.cse_syntax.specs.declared.lexer.Gap.TheVariants as g
 use Rattle.cse_syntax.specs.Loop.{◌>>=◌, Reader, loop, snoc}
-
-abbrev pub or_else : {A B : Type 0} → Option A → (A → B) → B → B
-or_else None f y = y
-or_else (Some x) f y = f x
-
--- whether this byte comes next
-abbrev pub begins : ℕ → List ℕ → Bool
-begins c [] = false
-begins c (b ∷ bs) = b == c
+pub use Rattle.cse_syntax.specs.Leaf.{or_else, begins, word_kind, is_word_byte, is_inside, is_start}
 
 -- ---- blanks and comments
 
@@ -51,117 +42,6 @@ skip gap (b ∷ bs) = or_else (turn gap b (begins 47 bs)) (λ after. skip after 
 abbrev pub mark_len : List ℕ → ℕ
 mark_len bs = if (begins 239 bs && (begins 187 (drop 1 bs) && begins 191 (drop 2 bs))) then 3 else 0
 
--- ---- words
-
--- the word of a list that a text spells in either case
-abbrev pub looked_up : {A : Type 0} → List (List ℕ × A) → List ℕ → Option A
-looked_up [] text = None
-looked_up (entry ∷ entries) text = if str_eq_ignore_ascii_case text entry.0 then Some entry.1 else looked_up entries text
-
--- what opens and names the parts of a source
-abbrev pub heads : List (List ℕ × Mark)
-heads =
-    (codes "proc", m.Proc) ∷
-    (codes "global", m.Global) ∷
-    (codes "preproc", m.Preproc) ∷
-    (codes "postproc", m.Postproc) ∷
-    (codes "numeric", m.Numeric) ∷
-    (codes "alpha", m.Alpha) ∷
-    (codes "array", m.Array) ∷
-    (codes "save", m.Save) ∷
-    (codes "function", m.Function) ∷
-    (codes "end", m.End) ∷
-    []
-
--- statements that hold others
-abbrev pub blocks : List (List ℕ × Mark)
-blocks =
-    (codes "if", m.If) ∷
-    (codes "then", m.Then) ∷
-    (codes "elseif", m.ElseIf) ∷
-    (codes "else", m.Else) ∷
-    (codes "endif", m.EndIf) ∷
-    (codes "for", m.For) ∷
-    (codes "in", m.In) ∷
-    (codes "do", m.Do) ∷
-    (codes "enddo", m.EndDo) ∷
-    (codes "varying", m.Varying) ∷
-    (codes "until", m.Until) ∷
-    (codes "by", m.By) ∷
-    []
-
--- other statements
-abbrev pub commands : List (List ℕ × Mark)
-commands =
-    (codes "break", m.Break) ∷
-    (codes "next", m.Next) ∷
-    (codes "exit", m.Exit) ∷
-    (codes "impute", m.Impute) ∷
-    (codes "putdeck", m.PutDeck) ∷
-    (codes "errmsg", m.ErrMsg) ∷
-    (codes "summary", m.Summary) ∷
-    []
-
--- expressions
-abbrev pub values : List (List ℕ × Mark)
-values =
-    (codes "and", m.And) ∷
-    (codes "or", m.Or) ∷
-    (codes "not", m.Not) ∷
-    (codes "notappl", m.NotAppl) ∷
-    (codes "missing", m.Missing) ∷
-    (codes "default", m.Default) ∷
-    (codes "getdeck", m.GetDeck) ∷
-    (codes "totocc", m.TotOcc) ∷
-    (codes "maxocc", m.MaxOcc) ∷
-    (codes "curocc", m.CurOcc) ∷
-    (codes "int", m.Int) ∷
-    (codes "special", m.Special) ∷
-    (codes "invalueset", m.InValueSet) ∷
-    []
-
--- words of CSPro's logic that are no part of this language
-abbrev pub left_out : List (List ℕ × Kind)
-left_out =
-    (codes "while", k.LeftOut) ∷
-    (codes "recode", k.LeftOut) ∷
-    (codes "box", k.LeftOut) ∷
-    (codes "endbox", k.LeftOut) ∷
-    (codes "skip", k.LeftOut) ∷
-    (codes "stop", k.LeftOut) ∷
-    (codes "write", k.LeftOut) ∷
-    (codes "noinput", k.LeftOut) ∷
-    (codes "advance", k.LeftOut) ∷
-    (codes "reenter", k.LeftOut) ∷
-    (codes "denom", k.LeftOut) ∷
-    (codes "stat", k.LeftOut) ∷
-    (codes "insert", k.LeftOut) ∷
-    (codes "delete", k.LeftOut) ∷
-    (codes "sort", k.LeftOut) ∷
-    (codes "file", k.LeftOut) ∷
-    (codes "list", k.LeftOut) ∷
-    (codes "onfocus", k.LeftOut) ∷
-    (codes "killfocus", k.LeftOut) ∷
-    (codes "onoccchange", k.LeftOut) ∷
-    (codes "export", k.LeftOut) ∷
-    []
-
-abbrev pub first_of : {A : Type 0} → Option A → Option A → Option A
-first_of None y = y
-first_of (Some x) y = Some x
-
-abbrev pub reserved : List ℕ → Option Mark
-reserved text = first_of (looked_up heads text) (first_of (looked_up blocks text) (first_of (looked_up commands text) (looked_up values text)))
-
--- a reserved word, one that is left out, a name, or a word too long for a name
-abbrev pub word_kind : List ℕ → Kind
-word_kind text =
-    or_else (reserved text) (λ mark. k.Mark mark) (or_else (looked_up left_out text) (λ kind. kind) (if nat_le (length text) 32 then k.Name else k.LongWord))
-
--- what goes on with a word: letters, digits and `_`
-abbrev pub is_word_byte : ℕ → Bool
-is_word_byte b = is_ascii_alphanumeric b || b == 95
-
 -- ---- symbols and texts
 
 -- a symbol of one character
@@ -185,14 +65,6 @@ symbol_at b bs =
     if b == 60 then (if begins 62 bs then Some (2, m.Differs) else (if begins 61 bs then Some (2, m.AtMost) else Some (1, m.Less)))
     else (if b == 62 then (if begins 61 bs then Some (2, m.AtLeast) else Some (1, m.More))
     else (symbol b >>= λ mark. Some (1, mark)))
-
--- a byte that a text in this quote may have: no control character, and not the quote
-abbrev pub is_inside : ℕ → ℕ → Bool
-is_inside quote b = nat_le 32 b && not (b == quote)
-
--- a byte that begins a character
-abbrev pub is_start : ℕ → Bool
-is_start b = nat_lt b 128 || nat_le 192 b
 
 -- the length of a text with its quotes, where these bytes come after the first quote: it ends at the next such quote,
 -- on the same line, and has at most 255 characters

@@ -2,6 +2,7 @@
 use Rattle.std.specs.Prelude.{ℕ, Bool, List, [], ◌∷◌, map, Option, Some, None}
 use Rattle.std.specs.Option.{option_map}
 use Rattle.std.specs.Global.{Vec}
+pub use Rattle.cse_syntax.specs.Word.{Spelling}
 use Rattle.cse_syntax.specs.declared.tree.Operator.{Operator}
 use Rattle.cse_syntax.specs.declared.tree.Relation.{Relation}
 use Rattle.cse_syntax.specs.declared.tree.Special.{Special}
@@ -33,18 +34,14 @@ use Rattle.cse_syntax.specs.declared.tree.Body.TheVariants as b
 use Rattle.cse_syntax.specs.declared.tree.Procedure as rustprocedure
 use Rattle.cse_syntax.specs.declared.tree.Tree as rusttree
 
--- a name, a number or a text, by its bytes
-abbrev pub Spelling : Type 0
-Spelling = List ℕ
-
 abbrev pub written : Lexeme → Spelling
-written x = x.text.now
+written x = record { token = x.token; text = x.text.now }
 
 mutual
   pub data Expr : Type 0 where
     Number : (digits : Spelling) → Expr
     Text : (text : Spelling) → Expr
-    Special' : (value : Special) → Expr
+    Special' : (token : ℕ) (value : Special) → Expr
     Bare : (name : Spelling) → Expr
     Indexed : (name : Spelling) (arguments : Exprs) → Expr
     Group : (inner : Expr) → Expr
@@ -57,44 +54,44 @@ mutual
     Chain : (first : Expr) (others : Operations) → Expr
 
   pub data Exprs : Type 0 where
-    none : Exprs
-    more : (first : Expr) (others : Exprs) → Exprs
+    no_expr : Exprs
+    expr_and : (first : Expr) (others : Exprs) → Exprs
 
   pub data Operations : Type 0 where
-    last : Operations
-    then : (operator : Operator) (operand : Expr) (others : Operations) → Operations
+    no_operation : Operations
+    operation_and : (operator : Operator) (operand : Expr) (others : Operations) → Operations
 
 abbrev pub exprs : List Expr → Exprs
-exprs [] = none
-exprs (x ∷ xs) = more x (exprs xs)
+exprs [] = no_expr
+exprs (x ∷ xs) = expr_and x (exprs xs)
 
 abbrev pub operations : List (Operator × Expr) → Operations
-operations [] = last
-operations (x ∷ xs) = then x.0 x.1 (operations xs)
+operations [] = no_operation
+operations (x ∷ xs) = operation_and x.0 x.1 (operations xs)
 
 abbrev mutual
   pub expr : rust.Expression → Expr
   expr (e.Number x) = Number (written x)
   expr (e.Text x) = Text (written x)
-  expr (e.Special t value) = Special' value
+  expr (e.Special t value) = Special' t value
   expr (e.Name x) = Bare (written x)
   expr (e.Indexed' x n row) = Indexed (written x) (expr_row row)
-  expr (e.Group' t p x) = Group (expr x)
-  expr (e.Apply' t function p x) = Apply function (expr x)
-  expr (e.Query t query x) = Query' query (written x)
-  expr (e.InValueSet t x set) = InValueSet (written x) (option_map written set)
-  expr (e.Minus' t p x) = Minus (expr x)
-  expr (e.Not' t p x) = Not (expr x)
-  expr (e.Compare' p x t relation q y) = Compare relation (expr x) (expr y)
+  expr (e.Group' p x) = Group (expr x)
+  expr (e.Apply' function p x) = Apply function (expr x)
+  expr (e.Query query x) = Query' query (written x)
+  expr (e.InValueSet x set) = InValueSet (written x) (option_map written set)
+  expr (e.Minus' p x) = Minus (expr x)
+  expr (e.Not' p x) = Not (expr x)
+  expr (e.Compare' p x relation q y) = Compare relation (expr x) (expr y)
   expr (e.Chain' p x n row) = Chain (expr x) (operation_row row)
 
   pub expr_row : {n : _} → rust.Row_of-Expression n → Exprs
-  expr_row rust.end_of-Expression = none
-  expr_row (rust.more_of-Expression x xs) = more (expr x) (expr_row xs)
+  expr_row rust.end_of-Expression = no_expr
+  expr_row (rust.more_of-Expression x xs) = expr_and (expr x) (expr_row xs)
 
   pub operation_row : {n : _} → rust.Row_of-Operation n → Operations
-  operation_row rust.end_of-Operation = last
-  operation_row (rust.more_of-Operation t operator x xs) = then operator (expr x) (operation_row xs)
+  operation_row rust.end_of-Operation = no_operation
+  operation_row (rust.more_of-Operation operator x xs) = operation_and operator (expr x) (operation_row xs)
 
 abbrev pub operation_tree : rustop.Operation → Operator × Expr
 operation_tree x = (x.operator, expr x.operand)
@@ -126,40 +123,39 @@ mutual
     Empty : Stmt
     Assign : (name : Spelling) (subscripts : Exprs) (value : Expr) → Stmt
     Call : (name : Spelling) (arguments : Exprs) → Stmt
-    If : (condition : Expr) (body : Stmts) (others : Arms) (otherwise : Otherwise) → Stmt
+    If : (condition : Expr) (body : Stmts) (others : Arms) → Stmt
     For : (variable record_name : Spelling) (body : Stmts) → Stmt
     Do : (counting : Counting) (body : Stmts) → Stmt
-    Jump' : (jump : Jump) → Stmt
+    Jump' : (token : ℕ) (jump : Jump) → Stmt
     Impute : (name : Spelling) (subscripts : Exprs) (value : Expr) → Stmt
     PutDeck : (deck : Spelling) (value : Expr) → Stmt
     ErrMsg : (message : Message) (values : Exprs) (summary : Bool) → Stmt
 
   pub data Stmts : Type 0 where
-    done : Stmts
-    next : (first : Stmt) (others : Stmts) → Stmts
+    no_stmt : Stmts
+    stmt_and : (first : Stmt) (others : Stmts) → Stmts
 
+  -- what stands behind the first condition and its statements: an `elseif`, the `else`, or nothing
   pub data Arms : Type 0 where
     no_arm : Arms
+    else_of : (body : Stmts) → Arms
     arm : (condition : Expr) (body : Stmts) (others : Arms) → Arms
 
-  pub data Otherwise : Type 0 where
-    no_else : Otherwise
-    else_of : (body : Stmts) → Otherwise
-
 abbrev pub stmts : List Stmt → Stmts
-stmts [] = done
-stmts (x ∷ xs) = next x (stmts xs)
+stmts [] = no_stmt
+stmts (x ∷ xs) = stmt_and x (stmts xs)
 
-abbrev pub arms : List (Expr × Stmts) → Arms
-arms [] = no_arm
-arms (x ∷ xs) = arm x.0 x.1 (arms xs)
+-- each `elseif`, and then the `else`, if there is one
+abbrev pub arms : List (Expr × Stmts) → Arms → Arms
+arms [] otherwise = otherwise
+arms (x ∷ xs) otherwise = arm x.0 x.1 (arms xs otherwise)
 
 abbrev pub literal : rustliteral.Literal → Literal
-literal x = record { minus = x.is_negative; digits = x.digits.now }
+literal x = record { minus = x.is_negative; digits = written x.digits }
 
 abbrev pub limit : rustlimit.Limit → Limit
 limit (l.Literal x) = Fixed (literal x)
-limit (l.Count t count x) = Counted count (written x)
+limit (l.Count count x) = Counted count (written x)
 
 abbrev pub counting : rustcounting.Counting → Counting
 counting x = record { variable = written x.variable; start = limit x.from; again = written x.again; stop = limit x.to; by = option_map written x.by }
@@ -170,27 +166,27 @@ message (g.Number x) = Numbered (written x)
 
 abbrev mutual
   pub stmt : rusts.Statement → Stmt
-  stmt (s.Empty t) = Empty
+  stmt s.Empty = Empty
   stmt (s.Assign place value) = Assign (written place.name) (exprs (map expr place.subscripts.items)) (expr value)
   stmt (s.Call x arguments) = Call (written x) (exprs (map expr arguments.items))
-  stmt (s.If' t condition n body k others otherwise) = If (expr condition) (stmt_row body) (arm_row others) (otherwise_of otherwise)
-  stmt (s.For' t x y n body) = For (written x) (written y) (stmt_row body)
-  stmt (s.Do' t c n body) = Do (counting c) (stmt_row body)
-  stmt (s.Jump t jump) = Jump' jump
-  stmt (s.Impute t place value) = Impute (written place.name) (exprs (map expr place.subscripts.items)) (expr value)
-  stmt (s.PutDeck t x value) = PutDeck (written x) (expr value)
-  stmt (s.ErrMsg t x values summary) = ErrMsg (message x) (exprs (map expr values.items)) summary
+  stmt (s.If' condition n body k others otherwise) = If (expr condition) (stmt_row body) (arm_row others (otherwise_of otherwise))
+  stmt (s.For' x y n body) = For (written x) (written y) (stmt_row body)
+  stmt (s.Do' c n body) = Do (counting c) (stmt_row body)
+  stmt (s.Jump t jump) = Jump' t jump
+  stmt (s.Impute place value) = Impute (written place.name) (exprs (map expr place.subscripts.items)) (expr value)
+  stmt (s.PutDeck x value) = PutDeck (written x) (expr value)
+  stmt (s.ErrMsg x values summary) = ErrMsg (message x) (exprs (map expr values.items)) summary
 
   pub stmt_row : {n : _} → rusts.Row_of-Statement n → Stmts
-  stmt_row rusts.end_of-Statement = done
-  stmt_row (rusts.more_of-Statement x xs) = next (stmt x) (stmt_row xs)
+  stmt_row rusts.end_of-Statement = no_stmt
+  stmt_row (rusts.more_of-Statement x xs) = stmt_and (stmt x) (stmt_row xs)
 
-  pub arm_row : {n : _} → rusts.Row_of-Arm n → Arms
-  arm_row rusts.end_of-Arm = no_arm
-  arm_row (rusts.more_of-Arm t condition n body xs) = arm (expr condition) (stmt_row body) (arm_row xs)
+  pub arm_row : {n : _} → rusts.Row_of-Arm n → Arms → Arms
+  arm_row rusts.end_of-Arm otherwise = otherwise
+  arm_row (rusts.more_of-Arm condition n body xs) otherwise = arm (expr condition) (stmt_row body) (arm_row xs otherwise)
 
-  pub otherwise_of : rusts.Held-Statement-If-2 → Otherwise
-  otherwise_of rusts.None' = no_else
+  pub otherwise_of : rusts.Held-Statement-If-2 → Arms
+  otherwise_of rusts.None' = no_arm
   otherwise_of (rusts.Some' n body) = else_of (stmt_row body)
 
 abbrev pub block : List rusts.Statement → Stmts
@@ -199,8 +195,8 @@ block xs = stmts (map stmt xs)
 abbrev pub arm_tree : rustarm.Arm → Expr × Stmts
 arm_tree a = (expr a.condition, block a.body.items)
 
-abbrev pub otherwise_tree : Option (Vec rusts.Statement) → Otherwise
-otherwise_tree None = no_else
+abbrev pub otherwise_tree : Option (Vec rusts.Statement) → Arms
+otherwise_tree None = no_arm
 otherwise_tree (Some body) = else_of (block body.items)
 
 -- ---- sources
@@ -251,10 +247,10 @@ abbrev pub array : rustarray.Array → Array
 array x = record { name = written x.name; dimensions = map dimension x.dimensions.items; saved = x.is_saved; cells = map literal x.cells.items }
 
 abbrev pub declaration : rustdeclaration.Declaration → Declaration
-declaration (c.Numeric t names) = Numeric (map written names.items)
-declaration (c.Alpha t size names) = Alpha (written size) (map written names.items)
-declaration (c.Array t x) = Array' (array x)
-declaration (c.Function t name parameters body) = Function' (written name) (map parameter parameters.items) (block body.items)
+declaration (c.Numeric names) = Numeric (map written names.items)
+declaration (c.Alpha size names) = Alpha (written size) (map written names.items)
+declaration (c.Array x) = Array' (array x)
+declaration (c.Function name parameters body) = Function' (written name) (map parameter parameters.items) (block body.items)
 
 abbrev pub body_tree : rustbody.Body → Body
 body_tree (b.Plain xs) = Plain (block xs.items)

@@ -55,19 +55,20 @@ impl<'t, 'a> Parser<'t, 'a> {
     fn dimension(&mut self) -> Result<Dimension<'a>, ReadError>
         ensures { Reads tree.dimension rule.dimension result self.old.rest.now self.new.rest.now }
     {
-        let token = self.index();
         let Some(first) = self.take() else {
             return Err(self.ended());
         };
-        let lexeme = Lexeme {
-            token,
-            text: first.text,
-        };
         match first.kind {
-            Kind::Name => self.rows(lexeme),
-            Kind::Number if is_within(1, DIMENSION_MOST, first.text) => Ok(Dimension::Number(
-                lexeme,
-            )),
+            Kind::Name => self.rows(Lexeme {
+                token: first.index,
+                text: first.text,
+            }),
+            Kind::Number if is_within(1, DIMENSION_MOST, first.text) => {
+                Ok(Dimension::Number(Lexeme {
+                    token: first.index,
+                    text: first.text,
+                }))
+            }
             Kind::Number => Err(self.out_of_range()),
             _ => Err(refused(&first)),
         }
@@ -105,14 +106,9 @@ impl<'t, 'a> Parser<'t, 'a> {
     fn parameter(&mut self) -> Result<Parameter<'a>, ReadError>
         ensures { Reads tree.parameter rule.parameter result self.old.rest.now self.new.rest.now }
     {
-        let token = self.index();
         let is_declared = self.eat(Mark::Numeric);
         let name = self.name()?;
-        Ok(Parameter {
-            token,
-            is_declared,
-            name,
-        })
+        Ok(Parameter { is_declared, name })
     }
 
     #[tactic(auto, unfolding(crate::specs::Reading::listed))]
@@ -151,16 +147,16 @@ impl<'t, 'a> Parser<'t, 'a> {
     }
 
     #[tactic(auto, unfolding(crate::specs::ReadingSource::numeric))]
-    fn numeric(&mut self, token: usize) -> Result<Declaration<'a>, ReadError>
+    fn numeric(&mut self) -> Result<Declaration<'a>, ReadError>
         ensures { Reads tree.declaration rule.numeric result self.old.rest.now self.new.rest.now }
     {
         let names = self.names()?;
         self.expect(Mark::Semicolon)?;
-        Ok(Declaration::Numeric(token, names))
+        Ok(Declaration::Numeric(names))
     }
 
     #[tactic(auto, unfolding(crate::specs::ReadingSource::alpha))]
-    fn alpha(&mut self, token: usize) -> Result<Declaration<'a>, ReadError>
+    fn alpha(&mut self) -> Result<Declaration<'a>, ReadError>
         ensures { Reads tree.declaration rule.alpha result self.old.rest.now self.new.rest.now }
     {
         self.expect(Mark::Open)?;
@@ -168,7 +164,7 @@ impl<'t, 'a> Parser<'t, 'a> {
         self.expect(Mark::Close)?;
         let names = self.names()?;
         self.expect(Mark::Semicolon)?;
-        Ok(Declaration::Alpha(token, size, names))
+        Ok(Declaration::Alpha(size, names))
     }
 
     #[tactic(auto, unfolding(crate::specs::ReadingSource::array))]
@@ -190,16 +186,16 @@ impl<'t, 'a> Parser<'t, 'a> {
     }
 
     #[tactic(auto, unfolding(crate::specs::ReadingSource::array_declaration))]
-    fn array_declaration(&mut self, token: usize) -> Result<Declaration<'a>, ReadError>
+    fn array_declaration(&mut self) -> Result<Declaration<'a>, ReadError>
         ensures { Reads tree.declaration rule.array_declaration result self.old.rest.now self.new.rest.now }
     {
         let array = self.array()?;
         self.expect(Mark::Semicolon)?;
-        Ok(Declaration::Array(token, array))
+        Ok(Declaration::Array(array))
     }
 
     #[tactic(auto, unfolding(crate::specs::ReadingSource::function))]
-    fn function(&mut self, room: usize, token: usize) -> Result<Declaration<'a>, ReadError>
+    fn function(&mut self, room: usize) -> Result<Declaration<'a>, ReadError>
         ensures { Reads tree.declaration (rule.function room) result self.old.rest.now self.new.rest.now }
     {
         let name = self.name()?;
@@ -209,7 +205,7 @@ impl<'t, 'a> Parser<'t, 'a> {
         let body = self.statements(room)?;
         self.expect(Mark::End)?;
         self.expect(Mark::Semicolon)?;
-        Ok(Declaration::Function(token, name, parameters, body))
+        Ok(Declaration::Function(name, parameters, body))
     }
 
     fn starts_declaration(&self) -> bool
@@ -229,15 +225,14 @@ impl<'t, 'a> Parser<'t, 'a> {
         ensures reads { Reads tree.declaration (rule.declaration room) result self.old.rest.now self.new.rest.now }
         ensures taken { IfOk result (λ _. length self.new.rest.now < length self.old.rest.now) }
     {
-        let token = self.index();
         let Some(first) = self.take() else {
             return Err(self.ended());
         };
         match first.kind {
-            Kind::Mark(Mark::Numeric) => self.numeric(token),
-            Kind::Mark(Mark::Alpha) => self.alpha(token),
-            Kind::Mark(Mark::Array) => self.array_declaration(token),
-            Kind::Mark(Mark::Function) => self.function(room, token),
+            Kind::Mark(Mark::Numeric) => self.numeric(),
+            Kind::Mark(Mark::Alpha) => self.alpha(),
+            Kind::Mark(Mark::Array) => self.array_declaration(),
+            Kind::Mark(Mark::Function) => self.function(room),
             _ => Err(refused(&first)),
         }
     }
@@ -315,13 +310,12 @@ impl<'t, 'a> Parser<'t, 'a> {
         ensures reads { Reads tree.procedure (rule.procedure room) result self.old.rest.now self.new.rest.now }
         ensures taken { IfOk result (λ _. length self.new.rest.now < length self.old.rest.now) }
     {
-        let token = self.index();
         if !self.eat(Mark::Proc) {
             return Err(self.unexpected());
         }
         let name = self.name()?;
         let body = self.procedure_body(room)?;
-        Ok(Procedure { token, name, body })
+        Ok(Procedure { name, body })
     }
 
     #[tactic(auto, unfolding(crate::specs::ReadingSource::procedures))]

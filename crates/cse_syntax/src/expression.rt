@@ -13,7 +13,7 @@ use crate::error::ReadError;
 use crate::number::is_within;
 use crate::parser::{Level, Parser, refused};
 use crate::token::{Kind, Mark, Token};
-use crate::tree::{Expression, Function, Lexeme, Operation, Query, Relation, Special};
+use crate::tree::{Expression, Function, Lexeme, Operation, Query, Relation};
 use std::alloc::{AllocError, Global};
 
 /// The greatest number of a source.
@@ -113,43 +113,33 @@ impl<'t, 'a> Parser<'t, 'a> {
 
     #[cycle(expression)]
     #[tactic(auto, unfolding(crate::specs::Reading::group))]
-    fn group(&mut self, room: usize, token: usize) -> Result<Expression<'a>, ReadError>
+    fn group(&mut self, room: usize) -> Result<Expression<'a>, ReadError>
         ensures { Reads expr (spec.group room (spec.nested room)) result self.old.rest.now self.new.rest.now }
     {
         let inner = self.nested(room)?;
         self.expect(Mark::Close)?;
-        Ok(Expression::Group(token, Box::new(self.alloc, inner)?))
+        Ok(Expression::Group(Box::new(self.alloc, inner)?))
     }
 
     #[cycle(expression)]
     #[tactic(auto, unfolding(crate::specs::Reading::apply))]
-    fn apply(
-        &mut self,
-        room: usize,
-        token: usize,
-        function: Function,
-    ) -> Result<Expression<'a>, ReadError>
+    fn apply(&mut self, room: usize, function: Function) -> Result<Expression<'a>, ReadError>
         ensures { Reads expr (spec.apply room (spec.nested room) function) result self.old.rest.now self.new.rest.now }
     {
         self.enter(room)?;
         let argument = self.nested(room)?;
         self.expect(Mark::Close)?;
-        Ok(Expression::Apply(token, function, Box::new(self.alloc, argument)?))
+        Ok(Expression::Apply(function, Box::new(self.alloc, argument)?))
     }
 
     #[tactic(auto, unfolding(crate::specs::Reading::query))]
-    fn query(
-        &mut self,
-        room: usize,
-        token: usize,
-        query: Query,
-    ) -> Result<Expression<'a>, ReadError>
+    fn query(&mut self, room: usize, query: Query) -> Result<Expression<'a>, ReadError>
         ensures { Reads expr (spec.query room (spec.nested room) query) result self.old.rest.now self.new.rest.now }
     {
         self.enter(room)?;
         let name = self.name()?;
         self.expect(Mark::Close)?;
-        Ok(Expression::Query(token, query, name))
+        Ok(Expression::Query(query, name))
     }
 
     /// The set after an item, if one stands there.
@@ -165,14 +155,14 @@ impl<'t, 'a> Parser<'t, 'a> {
     }
 
     #[tactic(auto, unfolding(crate::specs::Reading::member))]
-    fn member(&mut self, room: usize, token: usize) -> Result<Expression<'a>, ReadError>
+    fn member(&mut self, room: usize) -> Result<Expression<'a>, ReadError>
         ensures { Reads expr (spec.member room (spec.nested room)) result self.old.rest.now self.new.rest.now }
     {
         self.enter(room)?;
         let item = self.name()?;
         let set = self.set_after()?;
         self.expect(Mark::Close)?;
-        Ok(Expression::InValueSet(token, item, set))
+        Ok(Expression::InValueSet(item, set))
     }
 
     /// What begins with a reserved word or a symbol, which is the last token.
@@ -181,24 +171,20 @@ impl<'t, 'a> Parser<'t, 'a> {
     fn marked(
         &mut self,
         room: usize,
-        token: usize,
         mark: Mark,
         first: Token<'a>,
     ) -> Result<Expression<'a>, ReadError>
         ensures { Reads expr (spec.marked room (spec.nested room) mark) result self.old.rest.now self.new.rest.now }
     {
         match mark {
-            Mark::Open => self.group(room, token),
-            Mark::NotAppl => Ok(Expression::Special(token, Special::NotAppl)),
-            Mark::Missing => Ok(Expression::Special(token, Special::Missing)),
-            Mark::Default => Ok(Expression::Special(token, Special::Default)),
-            Mark::Int => self.apply(room, token, Function::Int),
-            Mark::Special => self.apply(room, token, Function::Special),
-            Mark::GetDeck => self.query(room, token, Query::GetDeck),
-            Mark::TotOcc => self.query(room, token, Query::TotOcc),
-            Mark::MaxOcc => self.query(room, token, Query::MaxOcc),
-            Mark::CurOcc => self.query(room, token, Query::CurOcc),
-            Mark::InValueSet => self.member(room, token),
+            Mark::Open => self.group(room),
+            Mark::Int => self.apply(room, Function::Int),
+            Mark::Special => self.apply(room, Function::Special),
+            Mark::GetDeck => self.query(room, Query::GetDeck),
+            Mark::TotOcc => self.query(room, Query::TotOcc),
+            Mark::MaxOcc => self.query(room, Query::MaxOcc),
+            Mark::CurOcc => self.query(room, Query::CurOcc),
+            Mark::InValueSet => self.member(room),
             _ => Err(refused(&first)),
         }
     }
@@ -209,20 +195,30 @@ impl<'t, 'a> Parser<'t, 'a> {
     fn prim(&mut self, room: usize) -> Result<Expression<'a>, ReadError>
         ensures { Reads expr (spec.prim room (spec.nested room)) result self.old.rest.now self.new.rest.now }
     {
-        let token = self.index();
         let Some(first) = self.take() else {
             return Err(self.ended());
         };
-        let lexeme = Lexeme {
-            token,
-            text: first.text,
-        };
         match first.kind {
-            Kind::Number if is_within(0, MOST, first.text) => Ok(Expression::Number(lexeme)),
+            Kind::Number if is_within(0, MOST, first.text) => {
+                Ok(Expression::Number(Lexeme {
+                    token: first.index,
+                    text: first.text,
+                }))
+            }
             Kind::Number => Err(self.out_of_range()),
-            Kind::Text => Ok(Expression::Text(lexeme)),
-            Kind::Name => self.named(room, lexeme),
-            Kind::Mark(mark) => self.marked(room, token, mark, first),
+            Kind::Text => Ok(Expression::Text(Lexeme {
+                token: first.index,
+                text: first.text,
+            })),
+            Kind::Special(special) => Ok(Expression::Special(first.index, special)),
+            Kind::Name => self.named(
+                room,
+                Lexeme {
+                    token: first.index,
+                    text: first.text,
+                },
+            ),
+            Kind::Mark(mark) => self.marked(room, mark, first),
             _ => Err(refused(&first)),
         }
     }
@@ -232,12 +228,11 @@ impl<'t, 'a> Parser<'t, 'a> {
     fn unary(&mut self, room: usize) -> Result<Expression<'a>, ReadError>
         ensures { Reads expr (spec.unary room (spec.nested room)) result self.old.rest.now self.new.rest.now }
     {
-        let token = self.index();
         if !self.eat(Mark::Minus) {
             return self.prim(room);
         }
         let operand = self.prim(room)?;
-        Ok(Expression::Minus(token, Box::new(self.alloc, operand)?))
+        Ok(Expression::Minus(Box::new(self.alloc, operand)?))
     }
 
     /// Operands of a level, with its operators between them.
@@ -256,13 +251,8 @@ impl<'t, 'a> Parser<'t, 'a> {
     {
         let mut found = Vec::new(self.alloc);
         'operands: while let Some(operator) = self.take_operator(level) {
-            let token = self.index().saturating_sub(1);
             let operand = self.operand(level, room)?;
-            found.push(Operation {
-                token,
-                operator,
-                operand,
-            })?;
+            found.push(Operation { operator, operand })?;
         }
         Ok(found)
     }
@@ -285,12 +275,11 @@ impl<'t, 'a> Parser<'t, 'a> {
     fn negation(&mut self, room: usize) -> Result<Expression<'a>, ReadError>
         ensures { Reads expr (spec.negation room (spec.nested room)) result self.old.rest.now self.new.rest.now }
     {
-        let token = self.index();
         if !self.eat(Mark::Not) {
             return self.relation(room);
         }
         let operand = self.relation(room)?;
-        Ok(Expression::Not(token, Box::new(self.alloc, operand)?))
+        Ok(Expression::Not(Box::new(self.alloc, operand)?))
     }
 
     #[cycle(expression)]
@@ -299,12 +288,11 @@ impl<'t, 'a> Parser<'t, 'a> {
         ensures { Reads expr (spec.relation room (spec.nested room)) result self.old.rest.now self.new.rest.now }
     {
         let left = self.chain(Level::Sum, room)?;
-        let token = self.index();
         let Some(relation) = self.take_relation() else {
             return Ok(left);
         };
         let right = self.chain(Level::Sum, room)?;
-        Ok(compare(self.alloc, left, token, relation, right)?)
+        Ok(compare(self.alloc, left, relation, right)?)
     }
 
     #[tactic(auto, unfolding(crate::specs::Reading::disjunction))]
@@ -318,7 +306,6 @@ impl<'t, 'a> Parser<'t, 'a> {
 fn compare<'a>(
     alloc: Global,
     left: Expression<'a>,
-    token: usize,
     relation: Relation,
     right: Expression<'a>,
 ) -> Result<Expression<'a>, AllocError>
@@ -326,7 +313,7 @@ fn compare<'a>(
 {
     let left = Box::new(alloc, left)?;
     let right = Box::new(alloc, right)?;
-    Ok(Expression::Compare(left, token, relation, right))
+    Ok(Expression::Compare(left, relation, right))
 }
 
 // A node that holds a `Vec` is made in a function of its own, whose clause is its view.

@@ -1,10 +1,11 @@
 //! From a text to its tokens.
 
-ghost use Rattle.std.specs.Prelude.{◌≡◌, ◌≤◌, ◌<◌, ◌+◌, ◌-◌, drop, map, length, take, slice_index, Some, None, MatchOption, MatchResult, IfSome, IfNone, IfOk, IfErr, false, ◌∷◌};
+ghost use Rattle.std.specs.Prelude.{◌≡◌, ◌≤◌, ◌<◌, ◌+◌, ◌-◌, drop, map, length, take, slice_index, Some, None, MatchOption, MatchResult, IfSome, IfNone, IfOk, IfErr, true, false, ◌∷◌};
 ghost use Rattle.std.specs.List.{prefix_len, count_by};
 ghost use Rattle.std.specs.Char.{is_ascii_digit};
 ghost use Rattle.cse_syntax.specs.Text as spec;
 ghost use Rattle.cse_syntax.specs.Text.{piece};
+ghost use Rattle.cse_syntax.specs.Leaf.{is_token};
 ghost use Rattle.cse_syntax.specs.Lexed.{depth, Splits, Continues, IsShorter};
 
 use crate::error::{Cause, Fault};
@@ -181,7 +182,7 @@ fn inside_len(quote: u8, bytes: &[u8]) -> usize
 }
 
 /// How many characters are in the bytes of a text.
-fn characters(bytes: &[u8]) -> usize
+pub fn characters(bytes: &[u8]) -> usize
     ensures { result ≡ count_by spec.is_start bytes.now }
 {
     bytes.iter().filter(|b| **b < 128 || **b >= 192).count()
@@ -226,6 +227,16 @@ fn token_at(bytes: &[u8]) -> Option<(usize, Kind)>
     Some((n, Kind::Mark(mark)))
 }
 
+/// The same, written as its kind wants.
+fn token_of_kind(bytes: &[u8]) -> Option<(usize, Kind)>
+    ensures value { result ≡ spec.token_at bytes.now }
+    ensures within { IfSome result (λ t. (0 < t.0) × (t.0 ≤ length bytes.now)) }
+    ensures ascii { IfSome result (λ t. slice_index bytes.now (t.0 - 1) < 128) }
+    ensures kind { IfSome result (λ t. is_token t.1 (take t.0 bytes.now) ≡ true) }
+{
+    token_at(bytes)
+}
+
 /// The text after blanks and comments at its front, or else the place of the outermost brace that isn't closed.
 fn past_gap(text: &str) -> Result<&str, usize>
     ensures value { MatchResult result (λ rest. spec.skip Gap.Between text.now ≡ Some rest.now) (λ _. spec.skip Gap.Between text.now ≡ None) }
@@ -248,17 +259,18 @@ fn fault_at(bytes: &[u8], place: usize) -> Fault {
 /// The token at the front of what is left of a text, and the text from the next one on; or else the fault there,
 /// and the token too if the fault is behind it.
 #[tactic(auto, unfolding(crate::specs::Text::next_piece))]
-fn next_token<'a>(total: usize, rest: &'a str) -> Next<'a>
+fn next_token<'a>(index: usize, total: usize, rest: &'a str) -> Next<'a>
     requires { length rest.now ≤ total }
-    ensures value { Continues total rest.now result }
+    ensures value { Continues index total rest.now result }
     ensures shorter { IsShorter rest.now result }
 {
     let place = total - rest.len();
-    let Some((len, kind)) = token_at(rest.as_bytes()) else {
+    let Some((len, kind)) = token_of_kind(rest.as_bytes()) else {
         return Next::Fault(fault_at(rest.as_bytes(), place));
     };
     let (text, behind) = rest.split_at(len);
     let token = Token {
+        index,
         kind,
         start: place,
         end: place + len,
@@ -326,7 +338,7 @@ pub fn tokens<'a>(alloc: Global, text: &'a str) -> Result<Lexed<'a>, AllocError>
         }
     };
     'all: while !rest.is_empty() {
-        match next_token(text.len(), rest) {
+        match next_token(tokens.len(), text.len(), rest) {
             Next::Token(token, after) => {
                 tokens.push(token)?;
                 rest = after;

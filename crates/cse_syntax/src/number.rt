@@ -1,8 +1,10 @@
 //! The numbers that digits write.
 
-ghost use Rattle.std.specs.Prelude.{◌≡◌, ◌≤◌, ◌<◌, ◌+◌, ◌*◌, MatchOption};
-ghost use Rattle.cse_syntax.specs.Grammar as spec;
-ghost use Rattle.cse_syntax.specs.Grammar.{number_from};
+ghost use Rattle.std.specs.Prelude.{◌≡◌, ◌≤◌, ◌<◌, ◌+◌, ◌*◌, MatchOption, true, false};
+ghost use Rattle.std.specs.List.{list_all};
+ghost use Rattle.std.specs.Char.{is_ascii_digit};
+ghost use Rattle.cse_syntax.specs.Leaf as spec;
+ghost use Rattle.cse_syntax.specs.Leaf.{number_from, MOST};
 
 /// A number with one more digit behind it, if it is at most this.
 fn appended(most: u64, value: u64, digit: u8) -> Option<u64>
@@ -29,13 +31,44 @@ fn value(most: u64, digits: &[u8]) -> Option<u64>
     Some(value)
 }
 
-/// Whether digits write a number in this range.
-#[tactic(auto, unfolding(crate::specs::Grammar::is_within))]
+fn all_digits(text: &[u8]) -> bool
+    ensures { result ≡ list_all is_ascii_digit text.now }
+{
+    text.iter().all(|b| b.is_ascii_digit())
+}
+
+/// Whether these are digits, one at least.
+#[tactic(auto, unfolding(crate::specs::Leaf::is_digits))]
+fn is_digits(text: &[u8]) -> bool
+    ensures { result ≡ spec.is_digits text.now }
+{
+    if text.is_empty() {
+        return false;
+    }
+    all_digits(text)
+}
+
+/// Whether these are digits, and write a number in this range.
+#[tactic(auto, unfolding(crate::specs::Leaf::is_within))]
 pub fn is_within(least: u64, most: u64, digits: &str) -> bool
     ensures { result ≡ spec.is_within least most digits.now }
 {
+    if !is_digits(digits.as_bytes()) {
+        return false;
+    }
     match value(most, digits.as_bytes()) {
         Some(value) => least <= value,
         None => false,
     }
+}
+
+/// The number that a literal writes: none for what isn't digits alone, and for more than 9,223,372,036,854,775,807.
+#[tactic(auto, unfolding(crate::specs::Leaf::is_within))]
+pub fn number_of(digits: &str) -> Option<u64>
+    ensures { MatchOption result (spec.is_within 0 spec.MOST digits.now ≡ false) (λ v. (spec.is_within 0 spec.MOST digits.now ≡ true) × (v ≡ spec.number_of digits.now)) }
+{
+    if !is_digits(digits.as_bytes()) {
+        return None;
+    }
+    value(9_223_372_036_854_775_807, digits.as_bytes())
 }

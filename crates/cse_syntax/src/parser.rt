@@ -17,8 +17,6 @@ use std::alloc::Global;
 pub struct Parser<'t, 'a> {
     pub alloc: Global,
     pub rest: &'t [Token<'a>],
-    /// How many tokens there were.
-    pub count: usize,
     /// The place of the last token that was taken.
     pub last: usize,
     /// What is wrong where no token is left.
@@ -46,7 +44,6 @@ impl<'t, 'a> Parser<'t, 'a> {
         Parser {
             alloc,
             rest,
-            count: rest.len(),
             last: 0,
             end,
         }
@@ -56,11 +53,6 @@ impl<'t, 'a> Parser<'t, 'a> {
         ensures { result ≡ (length (words self.now.rest.now) == 0) }
     {
         self.rest.is_empty()
-    }
-
-    /// The index of the next token.
-    pub fn index(&self) -> usize {
-        self.count.saturating_sub(self.rest.len())
     }
 
     /// The fault of the next token, which can't stand here.
@@ -178,13 +170,12 @@ impl<'t, 'a> Parser<'t, 'a> {
     pub fn name(&mut self) -> Result<Lexeme<'a>, ReadError>
         ensures { Reads written spec.take_name result self.old.rest.now self.new.rest.now }
     {
-        let token = self.index();
         let Some(found) = self.take() else {
             return Err(self.ended());
         };
         match found.kind {
             Kind::Name => Ok(Lexeme {
-                token,
+                token: found.index,
                 text: found.text,
             }),
             _ => Err(refused(&found)),
@@ -195,17 +186,14 @@ impl<'t, 'a> Parser<'t, 'a> {
     pub fn number(&mut self, least: u64, most: u64) -> Result<Lexeme<'a>, ReadError>
         ensures { Reads written (spec.take_number least most) result self.old.rest.now self.new.rest.now }
     {
-        let token = self.index();
         let Some(found) = self.take() else {
             return Err(self.ended());
         };
         match found.kind {
-            Kind::Number if is_within(least, most, found.text) => {
-                Ok(Lexeme {
-                    token,
-                    text: found.text,
-                })
-            }
+            Kind::Number if is_within(least, most, found.text) => Ok(Lexeme {
+                token: found.index,
+                text: found.text,
+            }),
             Kind::Number => Err(self.out_of_range()),
             _ => Err(refused(&found)),
         }

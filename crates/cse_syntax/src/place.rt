@@ -1,41 +1,81 @@
 //! Where a byte of a text is: its line and its column.
 
-use crate::lexer::past_mark;
+ghost use Rattle.std.specs.Prelude.{◌≡◌, ◌<◌, ◌≤◌, ◌+◌, if◌then◌else◌, length};
+ghost use Rattle.std.specs.List.{count_by};
+ghost use Rattle.cse_syntax.specs.Place as spec;
 
-/// A line and a column, both from 1.
+use crate::lexer::{characters, past_mark};
+
+/// A line and a column, both from 1. Only LF ends a line; each character is a column, but a byte order mark at the front
+/// is none. What a `u32` can't hold is its greatest.
 #[derive(Clone, Copy, Debug, PartialEq, Eq)]
 pub struct Position {
     pub line: u32,
     pub column: u32,
 }
 
-/// The place behind this byte. Only LF ends a line, and each character is one column.
-fn passed(position: Position, byte: u8) -> Position {
-    if byte == b'\n' {
-        Position {
-            line: position.line.saturating_add(1),
-            column: 1,
-        }
-    } else if byte < 128 || byte >= 192 {
-        Position {
-            line: position.line,
-            column: position.column.saturating_add(1),
-        }
+fn smaller(a: usize, b: usize) -> usize
+    ensures value { result ≡ spec.smaller a b }
+    ensures within { result ≤ b }
+{
+    if a < b { a } else { b }
+}
+
+/// The bytes of a text before a place, without the mark.
+fn before(text: &str, place: usize) -> &[u8]
+    ensures { result.now ≡ spec.before text.now place }
+{
+    let front = past_mark(text);
+    let end = smaller(place.saturating_sub(text.len() - front.len()), front.len());
+    &front.as_bytes()[..end]
+}
+
+/// How many lines end in these bytes.
+fn lines(bytes: &[u8]) -> usize
+    ensures { result ≡ count_by spec.is_line_end bytes.now }
+{
+    bytes.iter().filter(|b| **b == b'\n').count()
+}
+
+/// Where the last line begins, behind this byte.
+fn next_start(start: usize, i: usize, byte: u8) -> usize
+    requires { i < usize.MAX }
+    ensures { result ≡ (if spec.is_line_end byte then i + 1 else start) }
+{
+    if byte == b'\n' { i + 1 } else { start }
+}
+
+/// Where the last line begins.
+fn line_start(bytes: &[u8]) -> usize
+    ensures value { result ≡ spec.start_from 0 0 bytes.now }
+    ensures within { result ≤ length bytes.now }
+{
+    let mut start = 0;
+    for (i, byte) in bytes.iter().enumerate() {
+        start = next_start(start, i, *byte);
+    }
+    start
+}
+
+/// The next number, or the greatest that fits.
+fn next(n: usize) -> u32
+    ensures { result ≡ spec.cut (n + 1) }
+{
+    if n < 4_294_967_295 {
+        n as u32 + 1
     } else {
-        position
+        u32::MAX
     }
 }
 
-/// Where this byte of a text is. A byte order mark at the front is no column.
-pub fn position_of(text: &str, place: usize) -> Position {
-    let front = past_mark(text);
-    let end = place.saturating_sub(text.len() - front.len());
-    let mut position = Position { line: 1, column: 1 };
-    for (i, byte) in front.as_bytes().iter().enumerate() {
-        if i >= end {
-            break;
-        }
-        position = passed(position, *byte);
-    }
-    position
+/// Where this byte of a text is.
+pub fn position_of(text: &str, place: usize) -> Position
+    ensures line { result.line ≡ spec.cut (spec.line_of text.now place) }
+    ensures column { result.column ≡ spec.cut (spec.column_of text.now place) }
+{
+    let bytes = before(text, place);
+    let start = line_start(bytes);
+    let line = next(lines(bytes));
+    let column = next(characters(&bytes[start..]));
+    Position { line, column }
 }

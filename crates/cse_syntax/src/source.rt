@@ -1,18 +1,20 @@
 //! A whole text.
 
 ghost use Rattle.std.specs.Prelude.{◌≡◌, ◌≤◌, ◌⊎◌, Some, IfOk, IfErr};
-ghost use Rattle.cse_syntax.specs.Word.{words};
+ghost use Rattle.cse_syntax.specs.Word.{words, AreNumbered};
 ghost use Rattle.cse_syntax.specs.Tree as tree;
+ghost use Rattle.cse_syntax.specs.Tree.{tree as seen};
+ghost use Rattle.cse_syntax.specs.Place.{cut, line_of, column_of, start_of};
 ghost use Rattle.cse_syntax.specs.Grammar.{IsSource};
 ghost use Rattle.cse_syntax.specs.Reading.{GivesAll};
-ghost use Rattle.cse_syntax.specs.ReadingSource.{source_at};
+ghost use Rattle.cse_syntax.specs.ReadingSource.{source_at, tree_of};
 ghost use Rattle.cse_syntax.specs.Text.{pieces, pieces_of};
-ghost use Rattle.cse_syntax.specs.Source.{IsCovered, IsSourceText, tree_of, cause_number, number_of, IsRead};
+ghost use Rattle.cse_syntax.specs.Source.{IsCovered, IsSourceText, cause_number, error_number, IsRead};
 
 use crate::error::{Cause, Fault, ReadError, SyntaxError};
 use crate::lexer;
 use crate::parser::Parser;
-use crate::place::position_of;
+use crate::place::{Position, position_of};
 use crate::token::Token;
 use crate::tree::Tree;
 use std::alloc::Global;
@@ -23,11 +25,30 @@ pub const LIMIT: usize = 64;
 /// The number of want of memory.
 const MEMORY: u8 = 90;
 
-/// A text's tokens, in its order, and its tree.
+/// A text, its tokens, in its order, and its tree.
+///
+/// [`parse`] makes one; whoever makes another proves that it is the tree of the tokens, with at most 64 parentheses and
+/// statements open at once.
 #[derive(Drop)]
 pub struct Source<'a> {
+    pub text: &'a str,
     pub tokens: Vec<Token<'a>>,
     pub tree: Tree<'a>,
+    pub ghost is_source: { ∥ IsSource 64 (seen tree) (words tokens.items) ∥₁ },
+    pub ghost is_numbered: { ∥ AreNumbered 0 tokens.items ∥₁ },
+}
+
+impl Source<'_> {
+    /// Where this token is, by its index; the end of the text for one that isn't there.
+    pub fn position(&self, token: usize) -> Position
+        ensures line { result.line ≡ cut (line_of self.now.text.now (start_of self.now.text.now self.now.tokens.items token)) }
+        ensures column { result.column ≡ cut (column_of self.now.text.now (start_of self.now.text.now self.now.tokens.items token)) }
+    {
+        match self.tokens.get(token) {
+            Some(found) => position_of(self.text, found.start),
+            None => position_of(self.text, self.text.len()),
+        }
+    }
 }
 
 /// All of the tokens as a tree; `end` is what is wrong behind them.
@@ -48,7 +69,9 @@ fn tree_from<'a>(alloc: Global, tokens: &[Token<'a>], end: Fault) -> Result<Tree
 }
 
 fn read<'a>(alloc: Global, text: &'a str) -> Result<Source<'a>, ReadError>
+    ensures text { IfOk result (λ s. s.text.now ≡ text.now) }
     ensures tokens { IfOk result (λ s. pieces_of text.now ≡ Some (pieces s.tokens.items)) }
+    ensures numbered { IfOk result (λ s. AreNumbered 0 s.tokens.items) }
     ensures tree { GivesAll (λ s. tree.tree s.tree) result (tree_of LIMIT text.now) }
 {
     let found = lexer::tokens(alloc, text)?;
@@ -60,6 +83,7 @@ fn read<'a>(alloc: Global, text: &'a str) -> Result<Source<'a>, ReadError>
             };
             let tree = tree_from(alloc, &found.tokens, end)?;
             Ok(Source {
+                text,
                 tokens: found.tokens,
                 tree,
             })
@@ -80,7 +104,7 @@ fn number(cause: Cause) -> u8
 
 /// An error with its line and column.
 fn located(text: &str, error: ReadError) -> SyntaxError
-    ensures number { result.number ≡ number_of error }
+    ensures number { result.number ≡ error_number error }
     ensures memory { result.number ≡ 90 → (result.line ≡ 0) × (result.column ≡ 0) }
 {
     match error {
@@ -105,7 +129,9 @@ fn located(text: &str, error: ReadError) -> SyntaxError
 /// A text that is none is refused by its first fault: see [`SyntaxError`]. Depth is bounded by fault 34, so no text
 /// exhausts the stack.
 pub fn parse<'a>(alloc: Global, text: &'a str) -> Result<Source<'a>, SyntaxError>
-    // The tokens are the text's.
+    ensures text { IfOk result (λ s. s.text.now ≡ text.now) }
+    // The tokens are the text's, counted from 0.
+    ensures numbered { IfOk result (λ s. AreNumbered 0 s.tokens.items) }
     ensures tokens { IfOk result (λ s. pieces_of text.now ≡ Some (pieces s.tokens.items)) }
     // They lie in the text in order, with blanks and comments alone between them.
     ensures spans { IfOk result (λ s. IsCovered text.now (pieces s.tokens.items)) }

@@ -33,9 +33,6 @@ fn starts_mark(mark: Mark) -> bool
             | Mark::If
             | Mark::For
             | Mark::Do
-            | Mark::Break
-            | Mark::Next
-            | Mark::Exit
             | Mark::Impute
             | Mark::PutDeck
             | Mark::ErrMsg
@@ -55,7 +52,7 @@ impl<'t, 'a> Parser<'t, 'a> {
         match self.rest.first() {
             None => false,
             Some(token) => match token.kind {
-                Kind::Name => true,
+                Kind::Name | Kind::Jump(_) => true,
                 Kind::Mark(mark) => starts_mark(mark),
                 _ => false,
             },
@@ -67,13 +64,11 @@ impl<'t, 'a> Parser<'t, 'a> {
     pub fn literal(&mut self, most: u64) -> Result<Literal<'a>, ReadError>
         ensures { Reads tree.literal (rule.literal most) result self.old.rest.now self.new.rest.now }
     {
-        let token = self.index();
         let is_negative = self.eat(Mark::Minus);
-        let number = self.number(0, most)?;
+        let digits = self.number(0, most)?;
         Ok(Literal {
-            token,
             is_negative,
-            digits: number.text,
+            digits,
         })
     }
 
@@ -81,11 +76,10 @@ impl<'t, 'a> Parser<'t, 'a> {
     fn counted(&mut self, room: usize, count: Count) -> Result<Limit<'a>, ReadError>
         ensures { Reads tree.limit (rule.counted room count) result self.old.rest.now self.new.rest.now }
     {
-        let token = self.index().saturating_sub(1);
         self.enter(room)?;
         let record = self.name()?;
         self.expect(Mark::Close)?;
-        Ok(Limit::Count(token, count, record))
+        Ok(Limit::Count(count, record))
     }
 
     #[tactic(auto, unfolding(crate::specs::ReadingStmt::fixed))]
@@ -122,12 +116,12 @@ impl<'t, 'a> Parser<'t, 'a> {
 
     /// The second name of the variable, which is the first but for letter case.
     #[tactic(auto, unfolding(crate::specs::ReadingStmt::again))]
-    fn again(&mut self, variable: &'a str) -> Result<Lexeme<'a>, ReadError>
-        ensures { Reads written (rule.again variable.now) result self.old.rest.now self.new.rest.now }
+    fn again(&mut self, variable: Lexeme<'a>) -> Result<Lexeme<'a>, ReadError>
+        ensures { Reads written (rule.again (written variable.entry)) result self.old.rest.now self.new.rest.now }
     {
         let place = self.unexpected();
         let name = self.name()?;
-        if is_same_name(variable, name.text) {
+        if is_same_name(variable.text, name.text) {
             Ok(name)
         } else {
             Err(place)
@@ -144,7 +138,7 @@ impl<'t, 'a> Parser<'t, 'a> {
         self.expect(Mark::Equals)?;
         let from = self.limit(room)?;
         self.expect(Mark::Until)?;
-        let again = self.again(variable.text)?;
+        let again = self.again(variable)?;
         self.expect(Mark::More)?;
         let to = self.limit(room)?;
         let by = self.step()?;
@@ -161,17 +155,18 @@ impl<'t, 'a> Parser<'t, 'a> {
     fn message(&mut self) -> Result<Message<'a>, ReadError>
         ensures { Reads tree.message rule.message result self.old.rest.now self.new.rest.now }
     {
-        let token = self.index();
         let Some(first) = self.take() else {
             return Err(self.ended());
         };
-        let lexeme = Lexeme {
-            token,
-            text: first.text,
-        };
         match first.kind {
-            Kind::Text => Ok(Message::Text(lexeme)),
-            Kind::Number if is_within(0, MOST, first.text) => Ok(Message::Number(lexeme)),
+            Kind::Text => Ok(Message::Text(Lexeme {
+                token: first.index,
+                text: first.text,
+            })),
+            Kind::Number if is_within(0, MOST, first.text) => Ok(Message::Number(Lexeme {
+                token: first.index,
+                text: first.text,
+            })),
             Kind::Number => Err(self.out_of_range()),
             _ => Err(refused(&first)),
         }
@@ -223,7 +218,7 @@ impl<'t, 'a> Parser<'t, 'a> {
     }
 
     #[tactic(auto, unfolding(crate::specs::ReadingStmt::putdeck))]
-    fn putdeck(&mut self, room: usize, token: usize) -> Result<Statement<'a>, ReadError>
+    fn putdeck(&mut self, room: usize) -> Result<Statement<'a>, ReadError>
         ensures { Reads stmt (rule.putdeck room) result self.old.rest.now self.new.rest.now }
     {
         self.enter(room)?;
@@ -232,11 +227,11 @@ impl<'t, 'a> Parser<'t, 'a> {
         let value = self.nested(room)?;
         self.expect(Mark::Close)?;
         self.expect(Mark::Semicolon)?;
-        Ok(Statement::PutDeck(token, deck, value))
+        Ok(Statement::PutDeck(deck, value))
     }
 
     #[tactic(auto, unfolding(crate::specs::ReadingStmt::errmsg))]
-    fn errmsg(&mut self, room: usize, token: usize) -> Result<Statement<'a>, ReadError>
+    fn errmsg(&mut self, room: usize) -> Result<Statement<'a>, ReadError>
         ensures { Reads stmt (rule.errmsg room) result self.old.rest.now self.new.rest.now }
     {
         self.enter(room)?;
@@ -245,31 +240,31 @@ impl<'t, 'a> Parser<'t, 'a> {
         self.expect(Mark::Close)?;
         let is_summary = self.eat(Mark::Summary);
         self.expect(Mark::Semicolon)?;
-        Ok(Statement::ErrMsg(token, message, values, is_summary))
+        Ok(Statement::ErrMsg(message, values, is_summary))
     }
 
     #[tactic(auto, unfolding(crate::specs::ReadingStmt::jump))]
     fn jump(&mut self, room: usize, token: usize, jump: Jump) -> Result<Statement<'a>, ReadError>
-        ensures { Reads stmt (rule.jump room jump) result self.old.rest.now self.new.rest.now }
+        ensures { Reads stmt (rule.jump room token jump) result self.old.rest.now self.new.rest.now }
     {
         self.expect(Mark::Semicolon)?;
         Ok(Statement::Jump(token, jump))
     }
 
     #[tactic(auto, unfolding(crate::specs::ReadingStmt::impute))]
-    fn impute(&mut self, room: usize, token: usize) -> Result<Statement<'a>, ReadError>
+    fn impute(&mut self, room: usize) -> Result<Statement<'a>, ReadError>
         ensures { Reads stmt (rule.impute room) result self.old.rest.now self.new.rest.now }
     {
         self.expect(Mark::Open)?;
         if room == 0 {
             return Err(self.too_deep());
         }
-        self.imputed(room - 1, token)
+        self.imputed(room - 1)
     }
 
     /// What stands in the parentheses of an `impute`, and its end.
     #[tactic(auto, unfolding(crate::specs::ReadingStmt::imputed))]
-    fn imputed(&mut self, room: usize, token: usize) -> Result<Statement<'a>, ReadError>
+    fn imputed(&mut self, room: usize) -> Result<Statement<'a>, ReadError>
         ensures { Reads stmt (rule.imputed room) result self.old.rest.now self.new.rest.now }
     {
         let name = self.name()?;
@@ -278,7 +273,7 @@ impl<'t, 'a> Parser<'t, 'a> {
         let value = self.expression(room)?;
         self.expect(Mark::Close)?;
         self.expect(Mark::Semicolon)?;
-        Ok(Statement::Impute(token, Place { name, subscripts }, value))
+        Ok(Statement::Impute(Place { name, subscripts }, value))
     }
 
     /// Statements, up to what begins none.
@@ -313,7 +308,6 @@ impl<'t, 'a> Parser<'t, 'a> {
         ensures reads { Reads stmt (rule.statement room (rule.body_at room)) result self.old.rest.now self.new.rest.now }
         ensures taken { IfOk result (λ _. length self.new.rest.now < length self.old.rest.now) }
     {
-        let token = self.index();
         let Some(first) = self.take() else {
             return Err(self.ended());
         };
@@ -321,11 +315,12 @@ impl<'t, 'a> Parser<'t, 'a> {
             Kind::Name => self.named_statement(
                 room,
                 Lexeme {
-                    token,
+                    token: first.index,
                     text: first.text,
                 },
             ),
-            Kind::Mark(mark) => self.marked_statement(room, token, mark, first),
+            Kind::Jump(jump) => self.jump(room, first.index, jump),
+            Kind::Mark(mark) => self.marked_statement(room, mark, first),
             _ => Err(refused(&first)),
         }
     }
@@ -336,33 +331,29 @@ impl<'t, 'a> Parser<'t, 'a> {
     fn marked_statement(
         &mut self,
         room: usize,
-        token: usize,
         mark: Mark,
         first: Token<'a>,
     ) -> Result<Statement<'a>, ReadError>
         ensures { Reads stmt (rule.marked_stmt room (rule.body_at room) mark) result self.old.rest.now self.new.rest.now }
     {
         match mark {
-            Mark::Semicolon => Ok(Statement::Empty(token)),
-            Mark::If => self.conditional(room, token),
-            Mark::For => self.over(room, token),
-            Mark::Do => self.repeated(room, token),
-            Mark::Break => self.jump(room, token, Jump::Break),
-            Mark::Next => self.jump(room, token, Jump::Next),
-            Mark::Exit => self.jump(room, token, Jump::Exit),
-            Mark::Impute => self.impute(room, token),
-            Mark::PutDeck => self.putdeck(room, token),
-            Mark::ErrMsg => self.errmsg(room, token),
+            Mark::Semicolon => Ok(Statement::Empty),
+            Mark::If => self.conditional(room),
+            Mark::For => self.over(room),
+            Mark::Do => self.repeated(room),
+            Mark::Impute => self.impute(room),
+            Mark::PutDeck => self.putdeck(room),
+            Mark::ErrMsg => self.errmsg(room),
             _ => Err(refused(&first)),
         }
     }
 
     #[cycle(statement)]
     #[tactic(auto, unfolding(crate::specs::ReadingStmt::conditional))]
-    fn conditional(&mut self, room: usize, token: usize) -> Result<Statement<'a>, ReadError>
+    fn conditional(&mut self, room: usize) -> Result<Statement<'a>, ReadError>
         ensures { Reads stmt (rule.conditional room (rule.body_at room)) result self.old.rest.now self.new.rest.now }
     {
-        let first = self.guarded(room, token)?;
+        let first = self.guarded(room)?;
         let others = self.elseifs(room)?;
         let otherwise = self.otherwise(room)?;
         self.expect(Mark::EndIf)?;
@@ -373,17 +364,13 @@ impl<'t, 'a> Parser<'t, 'a> {
     /// A condition and the statements that it guards.
     #[cycle(statement)]
     #[tactic(auto, unfolding(crate::specs::ReadingStmt::guarded))]
-    fn guarded(&mut self, room: usize, token: usize) -> Result<Arm<'a>, ReadError>
+    fn guarded(&mut self, room: usize) -> Result<Arm<'a>, ReadError>
         ensures { Reads arm_tree (rule.guarded room (rule.body_at room)) result self.old.rest.now self.new.rest.now }
     {
         let condition = self.nested(room)?;
         self.expect(Mark::Then)?;
         let body = self.body(room)?;
-        Ok(Arm {
-            token,
-            condition,
-            body,
-        })
+        Ok(Arm { condition, body })
     }
 
     #[cycle(statement)]
@@ -393,8 +380,7 @@ impl<'t, 'a> Parser<'t, 'a> {
     {
         let mut found = Vec::new(self.alloc);
         'all: while self.eat(Mark::ElseIf) {
-            let token = self.index().saturating_sub(1);
-            let next = self.guarded(room, token)?;
+            let next = self.guarded(room)?;
             found.push(next)?;
         }
         Ok(found)
@@ -426,7 +412,7 @@ impl<'t, 'a> Parser<'t, 'a> {
 
     #[cycle(statement)]
     #[tactic(auto, unfolding(crate::specs::ReadingStmt::over, crate::specs::ReadingStmt::over_at))]
-    fn over(&mut self, room: usize, token: usize) -> Result<Statement<'a>, ReadError>
+    fn over(&mut self, room: usize) -> Result<Statement<'a>, ReadError>
         ensures { Reads stmt (rule.over_at room (rule.body_at room)) result self.old.rest.now self.new.rest.now }
     {
         if room == 0 {
@@ -437,12 +423,12 @@ impl<'t, 'a> Parser<'t, 'a> {
         let record_name = self.name()?;
         self.expect(Mark::Do)?;
         let body = self.body_to_end(room)?;
-        Ok(for_node(token, variable, record_name, body))
+        Ok(for_node(variable, record_name, body))
     }
 
     #[cycle(statement)]
     #[tactic(auto, unfolding(crate::specs::ReadingStmt::counted_at))]
-    fn repeated(&mut self, room: usize, token: usize) -> Result<Statement<'a>, ReadError>
+    fn repeated(&mut self, room: usize) -> Result<Statement<'a>, ReadError>
         ensures { Reads stmt (rule.counted_at room (rule.body_at room)) result self.old.rest.now self.new.rest.now }
     {
         if room == 0 {
@@ -450,7 +436,7 @@ impl<'t, 'a> Parser<'t, 'a> {
         }
         let counting = self.counting(room - 1)?;
         let body = self.body_to_end(room)?;
-        Ok(do_node(token, counting, body))
+        Ok(do_node(counting, body))
     }
 }
 
@@ -461,24 +447,23 @@ fn if_node<'a>(
     others: Vec<Arm<'a>>,
     otherwise: Option<Vec<Statement<'a>>>,
 ) -> Statement<'a>
-    ensures { stmt result ≡ tree.If (expr first.entry.condition) (block first.entry.body.items) (arms (map arm_tree others.entry.items)) (otherwise_tree otherwise.entry) }
+    ensures { stmt result ≡ tree.If (expr first.entry.condition) (block first.entry.body.items) (arms (map arm_tree others.entry.items) (otherwise_tree otherwise.entry)) }
 {
     Statement::If(first, others, otherwise)
 }
 
 fn for_node<'a>(
-    token: usize,
     variable: Lexeme<'a>,
     record_name: Lexeme<'a>,
     body: Vec<Statement<'a>>,
 ) -> Statement<'a>
     ensures { stmt result ≡ tree.For (written variable.entry) (written record_name.entry) (block body.entry.items) }
 {
-    Statement::For(token, variable, record_name, body)
+    Statement::For(variable, record_name, body)
 }
 
-fn do_node<'a>(token: usize, counting: Counting<'a>, body: Vec<Statement<'a>>) -> Statement<'a>
+fn do_node<'a>(counting: Counting<'a>, body: Vec<Statement<'a>>) -> Statement<'a>
     ensures { stmt result ≡ tree.Do (tree.counting counting.entry) (block body.entry.items) }
 {
-    Statement::Do(token, counting, body)
+    Statement::Do(counting, body)
 }

@@ -1,5 +1,10 @@
 //! The tokens of a text.
 
+ghost use Rattle.std.specs.Prelude.{◌≡◌, true};
+ghost use Rattle.cse_syntax.specs.Leaf.{is_token};
+
+use crate::tree::{Jump, Special};
+
 /// A reserved word or a symbol.
 #[derive(Clone, Copy, Debug, PartialEq, Eq)]
 pub enum Mark {
@@ -25,9 +30,6 @@ pub enum Mark {
     Varying,
     Until,
     By,
-    Break,
-    Next,
-    Exit,
     Impute,
     PutDeck,
     GetDeck,
@@ -39,9 +41,6 @@ pub enum Mark {
     Int,
     Special,
     InValueSet,
-    NotAppl,
-    Missing,
-    Default,
     And,
     Or,
     Not,
@@ -69,6 +68,10 @@ pub enum Kind {
     Number,
     /// A text, its quotes included.
     Text,
+    /// A special value.
+    Special(Special),
+    /// What leaves a turn, a loop or a routine.
+    Jump(Jump),
     Mark(Mark),
     /// A word of CSPro's logic that this language leaves out.
     LeftOut,
@@ -79,8 +82,12 @@ pub enum Kind {
 /// A token: the bytes of the source from `start` up to `end`.
 #[derive(Clone, Copy, Debug)]
 pub struct Token<'a> {
+    /// How many tokens stand before it.
+    pub index: usize,
     pub kind: Kind,
     pub start: usize,
     pub end: usize,
     pub text: &'a str,
+    // A name is written as names are, a number as numbers, a text as texts.
+    pub ghost is_token: { is_token kind text.now ≡ true },
 }

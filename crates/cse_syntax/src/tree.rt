@@ -1,7 +1,11 @@
 //! Syntax trees of logic. Names, numbers and texts are slices of the source, as written.
 //!
-//! Each node has the index of its first token, counted from 0, so that a reader can tell its line and column:
-//! a field `token` or the first field of a variant, or else [`Expression::token`].
+//! Each leaf has the index of its token, counted from 0, so that a reader can tell its line and column. The token that
+//! another node begins with stands right before its first leaf: [`Expression::token`] and the like tell it.
+
+ghost use Rattle.std.specs.Prelude.{◌≡◌, ◌-◌};
+ghost use Rattle.cse_syntax.specs.Tree.{expr, literal, message, stmt};
+ghost use Rattle.cse_syntax.specs.First.{expr_token, literal_token, message_token, stmt_token};
 
 /// A name, a number or a text (its quotes included), as written.
 #[derive(Clone, Copy, Debug)]
@@ -63,20 +67,21 @@ pub enum Query {
 pub enum Expression<'a> {
     Number(Lexeme<'a>),
     Text(Lexeme<'a>),
+    /// With its token.
     Special(usize, Special),
     Name(Lexeme<'a>),
     /// A name with parentheses after it: a place with subscripts, or a call.
     Indexed(Lexeme<'a>, Vec<Expression<'a>>),
     /// In parentheses.
-    Group(usize, Box<Expression<'a>>),
-    Apply(usize, Function, Box<Expression<'a>>),
-    Query(usize, Query, Lexeme<'a>),
+    Group(Box<Expression<'a>>),
+    Apply(Function, Box<Expression<'a>>),
+    Query(Query, Lexeme<'a>),
     /// Whether an item's value is in a set, or in its first one.
-    InValueSet(usize, Lexeme<'a>, Option<Lexeme<'a>>),
-    Minus(usize, Box<Expression<'a>>),
-    Not(usize, Box<Expression<'a>>),
-    /// Two sums with a relation between them, whose token this is.
-    Compare(Box<Expression<'a>>, usize, Relation, Box<Expression<'a>>),
+    InValueSet(Lexeme<'a>, Option<Lexeme<'a>>),
+    Minus(Box<Expression<'a>>),
+    Not(Box<Expression<'a>>),
+    /// Two sums with a relation between them.
+    Compare(Box<Expression<'a>>, Relation, Box<Expression<'a>>),
     /// Operands of one level with its operators between them, which group to the left. There is at least one operator.
     Chain(Box<Expression<'a>>, Vec<Operation<'a>>),
 }
@@ -85,7 +90,6 @@ pub enum Expression<'a> {
 #[cycle(expr)]
 #[derive(Drop)]
 pub struct Operation<'a> {
-    pub token: usize,
     pub operator: Operator,
     pub operand: Expression<'a>,
 }
@@ -102,10 +106,8 @@ pub struct Place<'a> {
 /// A number with its sign.
 #[derive(Clone, Copy, Debug)]
 pub struct Literal<'a> {
-    /// Of the sign, if there is one, or else of the number.
-    pub token: usize,
     pub is_negative: bool,
-    pub digits: &'a str,
+    pub digits: Lexeme<'a>,
 }
 
 /// What a limit of a `do` counts.
@@ -119,7 +121,7 @@ pub enum Count {
 #[derive(Clone, Copy, Debug)]
 pub enum Limit<'a> {
     Literal(Literal<'a>),
-    Count(usize, Count, Lexeme<'a>),
+    Count(Count, Lexeme<'a>),
 }
 
 /// The head of a `do varying`. The two names of its variable are the same but for letter case.
@@ -149,26 +151,26 @@ pub enum Message<'a> {
 #[cycle(stmt)]
 #[derive(Drop)]
 pub enum Statement<'a> {
-    Empty(usize),
+    Empty,
     Assign(Place<'a>, Expression<'a>),
     Call(Lexeme<'a>, Vec<Expression<'a>>),
     /// The `if` and each `elseif`, in order, and the `else`.
     If(Arm<'a>, Vec<Arm<'a>>, Option<Vec<Statement<'a>>>),
     /// Over the occurrences of a record: the variable, the record and the body.
-    For(usize, Lexeme<'a>, Lexeme<'a>, Vec<Statement<'a>>),
-    Do(usize, Counting<'a>, Vec<Statement<'a>>),
+    For(Lexeme<'a>, Lexeme<'a>, Vec<Statement<'a>>),
+    Do(Counting<'a>, Vec<Statement<'a>>),
+    /// With its token.
     Jump(usize, Jump),
-    Impute(usize, Place<'a>, Expression<'a>),
-    PutDeck(usize, Lexeme<'a>, Expression<'a>),
+    Impute(Place<'a>, Expression<'a>),
+    PutDeck(Lexeme<'a>, Expression<'a>),
     /// The message, its values, and whether it is only counted.
-    ErrMsg(usize, Message<'a>, Vec<Expression<'a>>, bool),
+    ErrMsg(Message<'a>, Vec<Expression<'a>>, bool),
 }
 
-/// A condition and the statements that it guards. The token is that of the `if` or `elseif`.
+/// A condition and the statements that it guards.
 #[cycle(stmt)]
 #[derive(Drop)]
 pub struct Arm<'a> {
-    pub token: usize,
     pub condition: Expression<'a>,
     pub body: Vec<Statement<'a>>,
 }
@@ -182,21 +184,20 @@ pub enum Dimension<'a> {
     Set(Lexeme<'a>, bool),
 }
 
-/// A parameter of a function. The token is that of `numeric`, if it stands there, or else of the name.
+/// A parameter of a function, and whether `numeric` stands before it.
 #[derive(Clone, Copy, Debug)]
 pub struct Parameter<'a> {
-    pub token: usize,
     pub is_declared: bool,
     pub name: Lexeme<'a>,
 }
 
 #[derive(Drop)]
 pub enum Declaration<'a> {
-    Numeric(usize, Vec<Lexeme<'a>>),
+    Numeric(Vec<Lexeme<'a>>),
     /// The length of the texts, and their names.
-    Alpha(usize, Lexeme<'a>, Vec<Lexeme<'a>>),
-    Array(usize, Array<'a>),
-    Function(usize, Lexeme<'a>, Vec<Parameter<'a>>, Vec<Statement<'a>>),
+    Alpha(Lexeme<'a>, Vec<Lexeme<'a>>),
+    Array(Array<'a>),
+    Function(Lexeme<'a>, Vec<Parameter<'a>>, Vec<Statement<'a>>),
 }
 
 #[derive(Drop)]
@@ -219,7 +220,6 @@ pub enum Body<'a> {
 
 #[derive(Drop)]
 pub struct Procedure<'a> {
-    pub token: usize,
     pub name: Lexeme<'a>,
     pub body: Body<'a>,
 }
@@ -233,20 +233,77 @@ pub struct Tree<'a> {
 
 impl Expression<'_> {
     /// The index of the first token.
-    pub fn token(&self) -> usize {
+    pub fn token(&self) -> usize
+        ensures { result ≡ expr_token (expr self.now) }
+    {
         match self {
-            Expression::Number(lexeme) | Expression::Text(lexeme) | Expression::Name(lexeme) => {
-                lexeme.token
-            }
+            Expression::Number(lexeme) => lexeme.token,
+            Expression::Text(lexeme) => lexeme.token,
+            Expression::Name(lexeme) => lexeme.token,
             Expression::Indexed(name, _) => name.token,
-            Expression::Special(token, _)
-            | Expression::Group(token, _)
-            | Expression::Apply(token, _, _)
-            | Expression::Query(token, _, _)
-            | Expression::InValueSet(token, _, _)
-            | Expression::Minus(token, _)
-            | Expression::Not(token, _) => *token,
-            Expression::Compare(first, _, _, _) | Expression::Chain(first, _) => first.token(),
+            Expression::Special(token, _) => *token,
+            Expression::Group(inner) => inner.token().saturating_sub(1),
+            Expression::Apply(_, argument) => argument.token().saturating_sub(2),
+            Expression::Query(_, name) => name.token.saturating_sub(2),
+            Expression::InValueSet(item, _) => item.token.saturating_sub(2),
+            Expression::Minus(operand) => operand.token().saturating_sub(1),
+            Expression::Not(operand) => operand.token().saturating_sub(1),
+            Expression::Compare(first, _, _) => first.token(),
+            Expression::Chain(first, _) => first.token(),
+        }
+    }
+}
+
+impl Operation<'_> {
+    /// The index of the operator.
+    pub fn token(&self) -> usize
+        ensures { result ≡ expr_token (expr self.now.operand) - 1 }
+    {
+        self.operand.token().saturating_sub(1)
+    }
+}
+
+impl Literal<'_> {
+    /// The index of the sign, if there is one, or else of the number.
+    pub fn token(&self) -> usize
+        ensures { result ≡ literal_token (literal self.now) }
+    {
+        if self.is_negative {
+            self.digits.token.saturating_sub(1)
+        } else {
+            self.digits.token
+        }
+    }
+}
+
+impl Message<'_> {
+    /// The index of the text or the number.
+    pub fn token(&self) -> usize
+        ensures { result ≡ message_token (message self.now) }
+    {
+        match self {
+            Message::Text(text) => text.token,
+            Message::Number(number) => number.token,
+        }
+    }
+}
+
+impl Statement<'_> {
+    /// The index of the first token; an empty statement tells none.
+    pub fn token(&self) -> Option<usize>
+        ensures { result ≡ stmt_token (stmt self.now) }
+    {
+        match self {
+            Statement::Empty => None,
+            Statement::Assign(place, _) => Some(place.name.token),
+            Statement::Call(name, _) => Some(name.token),
+            Statement::If(first, _, _) => Some(first.condition.token().saturating_sub(1)),
+            Statement::For(variable, _, _) => Some(variable.token.saturating_sub(1)),
+            Statement::Do(counting, _) => Some(counting.variable.token.saturating_sub(2)),
+            Statement::Jump(token, _) => Some(*token),
+            Statement::Impute(place, _) => Some(place.name.token.saturating_sub(2)),
+            Statement::PutDeck(deck, _) => Some(deck.token.saturating_sub(2)),
+            Statement::ErrMsg(message, _, _) => Some(message.token().saturating_sub(2)),
         }
     }
 }

@@ -2,9 +2,10 @@
 
 ghost use Rattle.std.specs.Prelude.{◌≡◌, length};
 ghost use Rattle.std.specs.Str.{str_eq_ignore_ascii_case};
-ghost use Rattle.cse_syntax.specs.Text as spec;
+ghost use Rattle.cse_syntax.specs.Leaf as spec;
 
 use crate::token::{Kind, Mark};
+use crate::tree::{Jump, Special};
 
 /// How many characters a name may have.
 const NAME_LEN: usize = 32;
@@ -81,13 +82,7 @@ fn blocks(text: &[u8]) -> Option<Mark>
 fn commands(text: &[u8]) -> Option<Mark>
     ensures { result ≡ spec.looked_up spec.commands text.now }
 {
-    if is_word(text, b"break") {
-        Some(Mark::Break)
-    } else if is_word(text, b"next") {
-        Some(Mark::Next)
-    } else if is_word(text, b"exit") {
-        Some(Mark::Exit)
-    } else if is_word(text, b"impute") {
+    if is_word(text, b"impute") {
         Some(Mark::Impute)
     } else if is_word(text, b"putdeck") {
         Some(Mark::PutDeck)
@@ -110,12 +105,6 @@ fn values(text: &[u8]) -> Option<Mark>
         Some(Mark::Or)
     } else if is_word(text, b"not") {
         Some(Mark::Not)
-    } else if is_word(text, b"notappl") {
-        Some(Mark::NotAppl)
-    } else if is_word(text, b"missing") {
-        Some(Mark::Missing)
-    } else if is_word(text, b"default") {
-        Some(Mark::Default)
     } else if is_word(text, b"getdeck") {
         Some(Mark::GetDeck)
     } else if is_word(text, b"totocc") {
@@ -135,8 +124,9 @@ fn values(text: &[u8]) -> Option<Mark>
     }
 }
 
-fn reserved(text: &[u8]) -> Option<Mark>
-    ensures { result ≡ spec.reserved text.now }
+#[tactic(auto, unfolding(crate::specs::Leaf::mark_of))]
+fn mark_of(text: &[u8]) -> Option<Mark>
+    ensures { result ≡ spec.mark_of text.now }
 {
     if let Some(mark) = heads(text) {
         return Some(mark);
@@ -150,65 +140,88 @@ fn reserved(text: &[u8]) -> Option<Mark>
     values(text)
 }
 
-// Words of CSPro's logic that are no part of this language.
-fn left_out(text: &[u8]) -> Option<Kind>
-    ensures { result ≡ spec.looked_up spec.left_out text.now }
+// The special values.
+fn specials(text: &[u8]) -> Option<Special>
+    ensures { result ≡ spec.looked_up spec.specials text.now }
 {
-    if is_word(text, b"while") {
-        Some(Kind::LeftOut)
-    } else if is_word(text, b"recode") {
-        Some(Kind::LeftOut)
-    } else if is_word(text, b"box") {
-        Some(Kind::LeftOut)
-    } else if is_word(text, b"endbox") {
-        Some(Kind::LeftOut)
-    } else if is_word(text, b"skip") {
-        Some(Kind::LeftOut)
-    } else if is_word(text, b"stop") {
-        Some(Kind::LeftOut)
-    } else if is_word(text, b"write") {
-        Some(Kind::LeftOut)
-    } else if is_word(text, b"noinput") {
-        Some(Kind::LeftOut)
-    } else if is_word(text, b"advance") {
-        Some(Kind::LeftOut)
-    } else if is_word(text, b"reenter") {
-        Some(Kind::LeftOut)
-    } else if is_word(text, b"denom") {
-        Some(Kind::LeftOut)
-    } else if is_word(text, b"stat") {
-        Some(Kind::LeftOut)
-    } else if is_word(text, b"insert") {
-        Some(Kind::LeftOut)
-    } else if is_word(text, b"delete") {
-        Some(Kind::LeftOut)
-    } else if is_word(text, b"sort") {
-        Some(Kind::LeftOut)
-    } else if is_word(text, b"file") {
-        Some(Kind::LeftOut)
-    } else if is_word(text, b"list") {
-        Some(Kind::LeftOut)
-    } else if is_word(text, b"onfocus") {
-        Some(Kind::LeftOut)
-    } else if is_word(text, b"killfocus") {
-        Some(Kind::LeftOut)
-    } else if is_word(text, b"onoccchange") {
-        Some(Kind::LeftOut)
-    } else if is_word(text, b"export") {
-        Some(Kind::LeftOut)
+    if is_word(text, b"notappl") {
+        Some(Special::NotAppl)
+    } else if is_word(text, b"missing") {
+        Some(Special::Missing)
+    } else if is_word(text, b"default") {
+        Some(Special::Default)
     } else {
         None
     }
 }
 
+// What leaves a turn, a loop or a routine.
+fn jumps(text: &[u8]) -> Option<Jump>
+    ensures { result ≡ spec.looked_up spec.jumps text.now }
+{
+    if is_word(text, b"break") {
+        Some(Jump::Break)
+    } else if is_word(text, b"next") {
+        Some(Jump::Next)
+    } else if is_word(text, b"exit") {
+        Some(Jump::Exit)
+    } else {
+        None
+    }
+}
+
+#[tactic(auto, unfolding(crate::specs::Leaf::reserved))]
+fn reserved(text: &[u8]) -> Option<Kind>
+    ensures { result ≡ spec.reserved text.now }
+{
+    if let Some(mark) = mark_of(text) {
+        return Some(Kind::Mark(mark));
+    }
+    if let Some(special) = specials(text) {
+        return Some(Kind::Special(special));
+    }
+    match jumps(text) {
+        Some(jump) => Some(Kind::Jump(jump)),
+        None => None,
+    }
+}
+
+// Words of CSPro's logic that are no part of this language.
+#[tactic(auto, unfolding(crate::specs::Leaf::is_left_out))]
+fn is_left_out(text: &[u8]) -> bool
+    ensures { result ≡ spec.is_left_out text.now }
+{
+    is_word(text, b"while")
+        || is_word(text, b"recode")
+        || is_word(text, b"box")
+        || is_word(text, b"endbox")
+        || is_word(text, b"skip")
+        || is_word(text, b"stop")
+        || is_word(text, b"write")
+        || is_word(text, b"noinput")
+        || is_word(text, b"advance")
+        || is_word(text, b"reenter")
+        || is_word(text, b"denom")
+        || is_word(text, b"stat")
+        || is_word(text, b"insert")
+        || is_word(text, b"delete")
+        || is_word(text, b"sort")
+        || is_word(text, b"file")
+        || is_word(text, b"list")
+        || is_word(text, b"onfocus")
+        || is_word(text, b"killfocus")
+        || is_word(text, b"onoccchange")
+        || is_word(text, b"export")
+}
+
 pub fn word_kind(text: &[u8]) -> Kind
     ensures { result ≡ spec.word_kind text.now }
 {
-    if let Some(mark) = reserved(text) {
-        return Kind::Mark(mark);
-    }
-    if let Some(kind) = left_out(text) {
+    if let Some(kind) = reserved(text) {
         return kind;
+    }
+    if is_left_out(text) {
+        return Kind::LeftOut;
     }
     if text.len() <= NAME_LEN {
         Kind::Name

@@ -6,6 +6,7 @@ use Rattle.std.proofs.lemmas.List.{map_push}
 use Rattle.std.proofs.lemmas.Bool.{eqb-true}
 use Rattle.cse_syntax.specs.Loop.{snoc}
 use Rattle.cse_syntax.proofs.Loops as loops
+use Rattle.cse_syntax.proofs.TokenNumbers.{numbered_push}
 use Rattle.cse_syntax.proofs.Text.{all_read, none_read, no_first, goes_on_there, ends_there}
 
 pub returns-in-Err : goal.returns-in-Err
@@ -30,10 +31,13 @@ all-preserved c =
     let pushed = ap (map piece) c.in_ok-push-in-Token.ensures.items ∙ map_push piece c.all.tokens.items c.in-Token.token in (
       omega (arith, next.shorter),
       search rules,
-      loops.goes_on_as spec.goes_on (spec.next_piece (length c.args.text.now)) snoc _ (map piece c.all.tokens.items) _ c.all.rest.now (piece c.in-Token.token) c.in-Token.after.now (goes_on_there _ some) next.value next.shorter pushed c.all.invariant.2,
+      loops.goes_on_as spec.goes_on (spec.next_piece (length c.args.text.now)) snoc _ (map piece c.all.tokens.items) _ c.all.rest.now (piece c.in-Token.token) c.in-Token.after.now (goes_on_there _ some) next.value.0 next.shorter pushed c.all.invariant.2,
+      numbered_push c.all.tokens.items _ c.in-Token.token c.all.invariant.3 (omega (arith, next.value.1, c.len.ensures)) c.in_ok-push-in-Token.ensures.items,
     )
 
 pub returns : goal.returns
-returns c =
-    all_read c.args.text.now c.in-Ok.rest.now c.all.rest.now (map piece c.all.tokens.items) (rw c.past_mark-front.ensures.value at c.in-Ok.ensures.value)
-    (loops.ends spec.goes_on (spec.next_piece (length c.args.text.now)) snoc _ (map piece c.all.tokens.items) c.all.rest.now (ends_there _ (eqb-true _ 0 (sym c.all-test.ensures))) c.all.invariant.2)
+returns c = (
+  all_read c.args.text.now c.in-Ok.rest.now c.all.rest.now (map piece c.all.tokens.items) (rw c.past_mark-front.ensures.value at c.in-Ok.ensures.value)
+      (loops.ends spec.goes_on (spec.next_piece (length c.args.text.now)) snoc _ (map piece c.all.tokens.items) c.all.rest.now (ends_there _ (eqb-true _ 0 (sym c.all-test.ensures))) c.all.invariant.2),
+  c.all.invariant.3,
+)

@@ -1,5 +1,5 @@
 use Rattle.std.proofs.Common.{◌≡◌, ◌≤◌, drop}
-use Rattle.cse_syntax.specs.Grammar.{number_from}
+use Rattle.cse_syntax.specs.Leaf.{number_from}
 use Rattle.cse_syntax.proofs.number.value.Given as goal
 
 abbrev pub invariant-loop-byte : goal.invariant-loop-byte

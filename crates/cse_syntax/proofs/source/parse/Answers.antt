@@ -8,7 +8,7 @@ pub returns-in-Ok-clause-spans : goal.returns-in-Ok-clause-spans
 returns-in-Ok-clause-spans c = covers c.args.text.now _ c.in-Ok.ensures.tokens
 
 pub returns-in-Ok-clause-tree : goal.returns-in-Ok-clause-tree
-returns-in-Ok-clause-tree c = is_source LIMIT c.args.text.now c.in-Ok.source.tokens.items _ c.in-Ok.ensures.tokens c.in-Ok.ensures.tree
+returns-in-Ok-clause-tree c = is_source LIMIT c.args.text.now c.in-Ok.source.tokens.items _ c.in-Ok.ensures.tokens c.in-Ok.ensures.numbered c.in-Ok.ensures.tree
 
 pub returns-in-Ok-clause-only : goal.returns-in-Ok-clause-only
 returns-in-Ok-clause-only c = λ t h. one_tree_of LIMIT c.args.text.now t _ c.in-Ok.ensures.tree h

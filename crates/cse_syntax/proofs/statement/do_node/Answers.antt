@@ -2,4 +2,4 @@ use Rattle.cse_syntax.proofs.Rows.{do_is}
 use Rattle.cse_syntax.proofs.statement.do_node.Goals as goal
 
 pub returns : goal.returns
-returns c = do_is c.args.token c.args.counting c.args.body
+returns c = do_is c.args.counting c.args.body
