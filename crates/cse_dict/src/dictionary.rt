@@ -27,7 +27,6 @@ use std::marker::Model;
 
 /// A dictionary: the names of its file and level, the columns of the record type, and its records,
 /// items and value sets, each numbered from 0 in order of appearance.
-#[derive(Drop)]
 pub struct Dictionary {
     pub(crate) name: String,
     pub(crate) level_name: String,
@@ -61,6 +60,24 @@ impl Model for Dictionary {
       items = d.items.items;
       sets = d.sets.items;
     }) d.record_places d.item_places d.set_places (shape_lists d.shape) };
+}
+
+// Written out, so that a crate that owns a dictionary calls this drop and does not prove one for each part.
+impl Drop for Dictionary {
+    fn drop(self) {
+        let Dictionary {
+            name: _name,
+            level_name: _level_name,
+            type_columns: _type_columns,
+            records: _records,
+            items: _items,
+            sets: _sets,
+            record_places: _record_places,
+            item_places: _item_places,
+            set_places: _set_places,
+            shape: _shape,
+        } = self;
+    }
 }
 
 /// The shapes of records.
