@@ -154,7 +154,7 @@ const ENDS: &[(&[Line], &str)] = &[
     (
         &[
             (Op::Number, 0, 0, 0),
-            (Op::LoopCount, 0, 1, 2),
+            (Op::LoopCount, 0, 0, 2),
             (Op::End, 0, 0, 1),
         ],
         "trap routine 0 place 1\n",
@@ -162,7 +162,7 @@ const ENDS: &[(&[Line], &str)] = &[
     (
         &[
             (Op::Number, 0, 0, 0),
-            (Op::LoopCount, 0, 1, 2),
+            (Op::LoopCount, 0, 0, 2),
             (Op::End, 0, 0, 0),
         ],
         "refused 65 routine 0 place 1\n",

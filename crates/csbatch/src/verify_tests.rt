@@ -4,8 +4,8 @@ use crate::fault::{Fault, fault_line};
 use crate::verify_image::{VerifyFault, verify_to};
 use cse_dict::Dictionary;
 use cse_image::{
-    Ambient, Array, EventCode, EventEntry, Gift, Instr, Local, LocalKind, Op, Parts, Program,
-    Routine, write_image,
+    Ambient, Array, EventCode, EventEntry, Gift, Instr, Local, LocalKind, Message, Op, Parts,
+    Program, Routine, write_image,
 };
 use cse_value::Writes;
 use std::alloc::{AllocError, Global};
@@ -57,7 +57,7 @@ type Made = (
 const LOOPS: &[Line] = &[
     (Op::LoopOccurrences, 0, 0, 9),
     (Op::Number, 0, 0, 0),
-    (Op::LoopCount, 0, 10, 8),
+    (Op::LoopCount, 0, 0, 8),
     (Op::TotalOccurrences, 0, 0, 0),
     (Op::Number, 0, 0, 1),
     (Op::Compare, 4, 0, 0),
@@ -71,9 +71,9 @@ const LOOPS: &[Line] = &[
 /// 65534 times 65535 turns of nothing: 4294967295 steps.
 const LONG: &[Line] = &[
     (Op::Number, 0, 0, 3),
-    (Op::LoopCount, 0, 65534, 5),
+    (Op::LoopCount, 0, 1, 5),
     (Op::Number, 0, 0, 3),
-    (Op::LoopCount, 0, 65535, 4),
+    (Op::LoopCount, 0, 2, 4),
     (Op::End, 0, 0, 3),
     (Op::End, 0, 0, 1),
     (Op::Return, 0, 0, 0),
@@ -82,9 +82,9 @@ const LONG: &[Line] = &[
 /// Calls it 2^32 times.
 const LONGER: &[Line] = &[
     (Op::Number, 0, 0, 3),
-    (Op::LoopCount, 0, 32768, 9),
+    (Op::LoopCount, 0, 3, 9),
     (Op::Number, 0, 0, 3),
-    (Op::LoopCount, 0, 32768, 8),
+    (Op::LoopCount, 0, 3, 8),
     (Op::Number, 0, 0, 3),
     (Op::LoopCount, 0, 4, 7),
     (Op::Call, 0, 0, 0),
@@ -99,7 +99,7 @@ const THREE: &[Line] = &[(Op::Number, 0, 0, 2), (Op::Return, 0, 0, 0)];
 
 const CALLS: &[Line] = &[
     (Op::Number, 0, 0, 2),
-    (Op::LoopCount, 0, 3, 4),
+    (Op::LoopCount, 0, 5, 4),
     (Op::Call, 0, 0, 0),
     (Op::Pop, 0, 0, 0),
     (Op::End, 0, 0, 1),
@@ -108,7 +108,7 @@ const CALLS: &[Line] = &[
 
 const CALLS_ITSELF: &[Line] = &[
     (Op::Number, 0, 0, 2),
-    (Op::LoopCount, 0, 3, 4),
+    (Op::LoopCount, 0, 5, 4),
     (Op::Call, 0, 0, 1),
     (Op::Pop, 0, 0, 0),
     (Op::End, 0, 0, 1),
@@ -149,45 +149,59 @@ const DECK: &[Line] = &[
 /// 10^12 steps in all, and 10^12 and some more.
 const MOST: &[Line] = &[
     (Op::Number, 0, 0, 4),
-    (Op::LoopCount, 0, 10000, 8),
+    (Op::LoopCount, 0, 6, 8),
     (Op::Number, 0, 0, 4),
-    (Op::LoopCount, 0, 9999, 7),
+    (Op::LoopCount, 0, 7, 7),
     (Op::Number, 0, 0, 4),
-    (Op::LoopCount, 0, 9997, 6),
+    (Op::LoopCount, 0, 8, 6),
     (Op::End, 0, 0, 5),
     (Op::End, 0, 0, 3),
     (Op::End, 0, 0, 1),
     (Op::Number, 0, 0, 4),
-    (Op::LoopCount, 0, 9996, 14),
+    (Op::LoopCount, 0, 9, 14),
     (Op::Number, 0, 0, 4),
-    (Op::LoopCount, 0, 9997, 13),
+    (Op::LoopCount, 0, 8, 13),
     (Op::End, 0, 0, 12),
     (Op::End, 0, 0, 10),
     (Op::Number, 0, 0, 4),
-    (Op::LoopCount, 0, 9993, 17),
+    (Op::LoopCount, 0, 10, 17),
     (Op::End, 0, 0, 16),
+    (Op::Return, 0, 0, 0),
+];
+
+/// 10^15 steps in all, and one more.
+const GREATEST: &[Line] = &[
+    (Op::Number, 0, 0, 4),
+    (Op::LoopCount, 0, 11, 5),
+    (Op::Number, 0, 0, 4),
+    (Op::LoopCount, 0, 12, 4),
+    (Op::End, 0, 0, 3),
+    (Op::End, 0, 0, 1),
+    (Op::Number, 0, 0, 4),
+    (Op::LoopCount, 0, 13, 8),
+    (Op::End, 0, 0, 7),
     (Op::Return, 0, 0, 0),
 ];
 
 const TOO_MANY: &[Line] = &[
     (Op::Number, 0, 0, 4),
-    (Op::LoopCount, 0, 10000, 8),
+    (Op::LoopCount, 0, 11, 5),
     (Op::Number, 0, 0, 4),
-    (Op::LoopCount, 0, 9999, 7),
-    (Op::Number, 0, 0, 4),
-    (Op::LoopCount, 0, 9997, 6),
-    (Op::End, 0, 0, 5),
+    (Op::LoopCount, 0, 12, 4),
     (Op::End, 0, 0, 3),
     (Op::End, 0, 0, 1),
     (Op::Number, 0, 0, 4),
-    (Op::LoopCount, 0, 9996, 14),
-    (Op::Number, 0, 0, 4),
-    (Op::LoopCount, 0, 9997, 13),
-    (Op::End, 0, 0, 12),
-    (Op::End, 0, 0, 10),
-    (Op::Number, 0, 0, 4),
-    (Op::LoopCount, 0, 9994, 17),
-    (Op::End, 0, 0, 16),
+    (Op::LoopCount, 0, 14, 8),
+    (Op::End, 0, 0, 7),
+    (Op::Return, 0, 0, 0),
+];
+
+/// A routine that gives a text, and one that lists it.
+const YOU: &[Line] = &[(Op::Text, 0, 0, 0), (Op::Return, 0, 0, 0)];
+
+const GREETS: &[Line] = &[
+    (Op::Call, 0, 0, 0),
+    (Op::Message, 0, 0, 0),
     (Op::Return, 0, 0, 0),
 ];
 
@@ -277,13 +291,43 @@ const PROGRAMS: &[Made] = &[
         EMPTY,
         &[(Ambient::Run, Gift::Nothing, false, TOO_MANY)],
         RUN,
-        "refused 67 routine 0 place 18\n",
+        "refused 67 routine 0 place 9\n",
     ),
     (
         SAMPLE,
         &[(Ambient::Case, Gift::Nothing, true, MOST)],
         AGE,
+        "routine 0 1000000000000 steps\ncase 30000000000000 steps\nrun 0 steps\ndepth 1 0 1 3\naccepted\n",
+    ),
+    (
+        SAMPLE,
+        &[(Ambient::Case, Gift::Nothing, true, GREATEST)],
+        AGE,
         "refused 67\n",
+    ),
+    (
+        EMPTY,
+        &[(Ambient::Run, Gift::Nothing, false, GREATEST)],
+        RUN,
+        "routine 0 1000000000000000 steps\ncase 0 steps\nrun 1000000000000000 steps\ndepth 1 0 0 2\naccepted\n",
+    ),
+    (
+        EMPTY,
+        &[
+            (Ambient::Run, Gift::Text, false, YOU),
+            (Ambient::Run, Gift::Nothing, false, GREETS),
+        ],
+        RUN_SECOND,
+        "routine 0 2 steps\nroutine 1 5 steps\ncase 0 steps\nrun 5 steps\ndepth 0 1 0 0\naccepted\n",
+    ),
+    (
+        EMPTY,
+        &[
+            (Ambient::Run, Gift::Number, false, YOU),
+            (Ambient::Run, Gift::Nothing, false, GREETS),
+        ],
+        RUN_SECOND,
+        "refused 66 routine 0 place 1\n",
     ),
     (
         EMPTY,
@@ -309,6 +353,12 @@ const PROGRAMS: &[Made] = &[
         LEVEL,
         "refused 66 routine 0 place 0\n",
     ),
+];
+
+/// The limits of counted loops.
+const LIMITS: [u32; 15] = [
+    10, 65534, 65535, 32768, 4, 3, 10000, 9999, 9997, 9996, 9993, 999999, 999999997, 999999995,
+    999999996,
 ];
 
 fn code_of(alloc: Global, routines: &[Part]) -> Result<Vec<Instr>, AllocError> {
@@ -387,6 +437,16 @@ fn arrays_of(alloc: Global) -> Result<Vec<Array>, AllocError> {
     Ok(arrays)
 }
 
+fn messages_of(alloc: Global) -> Result<Vec<Message>, AllocError> {
+    let mut messages = Vec::new(alloc);
+    messages.push(Message {
+        number: 0,
+        summary: false,
+        text: String::from_str(alloc, "Hi %s")?,
+    })?;
+    Ok(messages)
+}
+
 /// The parts of a program that was made for a dictionary.
 fn parts_of(alloc: Global, dict: &Dictionary, made: &Made) -> Result<Parts, AllocError> {
     let (_, routines, events, _) = *made;
@@ -403,10 +463,11 @@ fn parts_of(alloc: Global, dict: &Dictionary, made: &Made) -> Result<Parts, Allo
         sets: Vec::from_slice(alloc, &shape.sets)?,
         order,
         constants: Vec::from_slice(alloc, &[10, 2, 3, 1, 0])?,
+        limits: Vec::from_slice(alloc, &LIMITS)?,
         texts,
         globals: Vec::new(alloc),
         arrays: arrays_of(alloc)?,
-        messages: Vec::new(alloc),
+        messages: messages_of(alloc)?,
         routines: routines_of(alloc, routines)?,
         events: events_of(alloc, events)?,
         code: code_of(alloc, routines)?,

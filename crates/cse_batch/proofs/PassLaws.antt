@@ -5,18 +5,21 @@ use Rattle.std.specs.Io.KnownBytes.{Consumes, IsAtEnd}
 use Rattle.std.proofs.KnownBytes.{Consumes-trans, Consumes-nil}
 use Rattle.std.proofs.lemmas.List.{length-map}
 use Rattle.std.proofs.lemmas.List.Sums.{sum_by-append}
-use Rattle.std.proofs.lemmas.Bool.{ne_eqb, eq-eqb}
+use Rattle.std.proofs.lemmas.Bool.{cases_lt, eq-eqb, false≢true, ne_eqb}
+use Rattle.std.proofs.lemmas.Grind.{flat_map-append}
+use Rattle.std.specs.List.{flat_map}
 use Rattle.cse_dict.specs.Dictionary.{DictionaryText, shape_of}
 use Rattle.cse_lines.specs.declared.error.DataError.{DataError}
 use Rattle.cse_lines.specs.Line.{FileLine, lines_in}
 use Rattle.cse_lines.specs.Columns.{line_text}
 use Rattle.cse_lines.specs.Run.{RunText, written_run}
 use Rattle.cse_lines.specs.Runs.{given, given_of, fault_in, later_by, MayFollow}
+use Rattle.cse_lines.specs.Gathering.{bytes_of}
 use Rattle.cse_lines.specs.Reader.{ReaderText, IsError, IsFaulty, NeedsMore, held_of, is_front}
 use mir.Val.{bool_byte}
 use Rattle.std.proofs.lemmas.Bool.{MatchBool-at_true}
 use Rattle.cse_value.specs.declared.device.Failed.{Failed}
-use Rattle.cse_value.specs.Writing.{AppendsFront, WritesAll}
+use Rattle.cse_value.specs.Writing.{AppendsFront, FailsAtErr, WritesAll}
 use Rattle.cse_output.specs.Gathering.{Gathered, Gathering, GaveUp, Going}
 use Rattle.cse_case.specs.Case.{CaseText, records_of, types_of, unseen_lines}
 use Rattle.cse_case.specs.Seen.{is_case, unseen_of}
@@ -25,7 +28,7 @@ use Rattle.cse_case.proofs.CaseLaws.{length-unseen_of, unseen_below}
 use Rattle.cse_batch.specs.declared.totals.Totals.{Totals}
 use Rattle.cse_batch.specs.declared.totals.RunFault.{RunFault}
 use Rattle.cse_batch.specs.Totals.{is_case_run, unseen_in, totals_of}
-use Rattle.cse_batch.specs.Pass.{BreaksOff, Copied, IsDataFault, Stopped, Stops}
+use Rattle.cse_batch.specs.Pass.{BreaksOff, Copied, IsDataFault, Stopped, Stops, given_bytes}
 
 -- the cases so far: their bytes, and that the rest is given of what is held and may follow
 pub record SoFar (before now : Option (List ℕ)) (d : DictionaryText) (r : ReaderText) (text : List ℕ) (totals : Totals) : Type 0 where
@@ -33,6 +36,7 @@ pub record SoFar (before now : Option (List ℕ)) (d : DictionaryText) (r : Read
   pub dictionary : r.dictionary ≡ d
   pub reads : Consumes before now (text ++ held_of r)
   pub counted : r.reads ≤ length (text ++ held_of r)
+  pub text_is : text ≡ flat_map bytes_of runs
   pub totals_are : totals ≡ totals_of d runs
   pub lines_are : totals.lines ≡ r.lines
   pub few_cases : totals.cases ≤ totals.lines
@@ -73,6 +77,7 @@ SoFar-none now d r same none unended unread front =
       dictionary = same;
       reads = rw none (Consumes-nil now);
       counted = omega arith;
+      text_is = refl;
       totals_are = refl;
       lines_are = sym front;
       few_cases = omega arith;
@@ -127,15 +132,18 @@ module _ (before now after : Option (List ℕ)) (d : DictionaryText) (r r' : Rea
     pub case_unseen : length (unseen_lines c) ≤ length c.run.lines
     case_unseen = omega (arith, unseen_below (records_of c) c.run.first_line (types_of c.run.lines), length-map c.run.lines (λ l. l.record_number))
 
+    dictionary_is : c.dictionary ≡ d
+    dictionary_is = ap (λ (x : CaseText). x.dictionary) gives.is
+
     unseen_is : length (unseen_lines c) ≡ unseen_in d gives.run.lines
     unseen_is =
         length-unseen_of (records_of c) c.run.first_line 1 (types_of c.run.lines)
-        ∙ (ap (λ (x : DictionaryText). length (unseen_of (shape_of x).records 1 (types_of c.run.lines))) gives.dictionary
+        ∙ (ap (λ (x : DictionaryText). length (unseen_of (shape_of x).records 1 (types_of c.run.lines))) dictionary_is
         ∙ ap (λ (x : RunText). length (unseen_of (shape_of d).records 1 (types_of x.lines))) gives.run.is)
 
     is_case_is : is_case (records_of c) (types_of c.run.lines) ≡ is_case_run d gives.run.lines
     is_case_is =
-        ap (λ (x : DictionaryText). is_case (shape_of x).records (types_of c.run.lines)) gives.dictionary
+        ap (λ (x : DictionaryText). is_case (shape_of x).records (types_of c.run.lines)) dictionary_is
         ∙ ap (λ (x : RunText). is_case (shape_of d).records (types_of x.lines)) gives.run.is
 
     lines_now : r'.lines ≡ r.lines + length gives.run.lines
@@ -155,6 +163,7 @@ module _ (before now after : Option (List ℕ)) (d : DictionaryText) (r r' : Rea
           dictionary = n.dictionary ∙ s.dictionary;
           reads = subst (Consumes before after) shift (Consumes-trans before now after (text ++ held_of r) n.taken s.reads n.consumes);
           counted = omega (arith, s.counted, n.counted, ap length shift, length-append (text ++ held_of r) n.taken);
+          text_is = ap (λ l. l ++ written_run c.run) s.text_is ∙ (ap (λ l. flat_map bytes_of s.runs ++ l) (gives.run.written ∙ sym (append-nil (bytes_of gives.run.lines))) ∙ sym (flat_map-append bytes_of s.runs (gives.run.lines ∷ [])));
           totals_are = ap (λ (t : Totals). record { cases = t.cases + cond case 1 0; lines = t.lines + length c.run.lines; unseen = t.unseen + length (unseen_lines c) }) s.totals_are ∙ sym more;
           lines_are = omega (arith, s.lines_are, lines_now, run_lines);
           few_cases = omega (arith, s.few_cases, case_lines, one);
@@ -216,6 +225,12 @@ module _ (before now after : Option (List ℕ)) (d : DictionaryText) (r r' : Rea
       sound = ap (fault_in d true r'.ended) (sym whole) ∙ (s.fault r'.ended n.taken (λ e. ((n.stays e).1, (n.stays e).0)) ∙ ap (later_by r.lines) needs.sound);
     }
 
+    -- no run is given of what is held: all that is given was put
+    all_put : given d (is_front r) r'.ended (held_of r ++ n.taken) ≡ [] → text ≡ given_bytes d r'.ended (text ++ (held_of r ++ n.taken))
+    all_put none =
+        s.text_is ∙ (ap (flat_map bytes_of) (sym (append-nil s.runs)) ∙ (ap (λ l. flat_map bytes_of (s.runs ++ l)) (sym none)
+        ∙ (ap (flat_map bytes_of) (sym (s.goes_on r'.ended n.taken (λ e. ((n.stays e).1, (n.stays e).0)))) ∙ ap (given_bytes d r'.ended) whole)))
+
     -- an error was answered
     pub SoFar-error : (start : Option (List ℕ)) (sound failed : Bool) (g : Going) → (r'.ended ≡ true → IsAtEnd after) → Gathering start sound g text
         → (error.number ≡ 70 → (failed ≡ true) ⊎ (r'.reads ≡ 2 ^ 40))
@@ -228,6 +243,10 @@ module _ (before now after : Option (List ℕ)) (d : DictionaryText) (r r' : Rea
       end = end;
       gathers = gathers;
       faulty = λ low. data_fault (is_error.faulty low);
+      all = λ low. elim (cases_lt error.number 70) [
+        | inl below ↦ all_put (is_error.faulty below).none
+        | inr high ↦ all_put (is_error.needed (omega arith)).none
+      ];
       needed = λ e. breaks_off (is_error.needed e);
       reading = λ e. elim (reading e) [
         | inl f ↦ inl f
@@ -243,10 +262,17 @@ pub front_of : (r : Result (Unit {0}) Failed) (a b : Option (List ℕ)) (text : 
 front_of (Ok x) a b text w = record { written = text; rest = []; is = sym (append-nil text); appends = w }
 front_of (Err e) a b text w = w
 
+-- and all of it where the device hasn't failed
+pub all_of : (r : Result (Unit {0}) Failed) (a b : Option (List ℕ)) (text : List ℕ) (sound failed : Bool) → (w : WritesAll r a b text) → FailsAtErr r sound failed → failed ≡ false → (front_of r a b text w).rest ≡ []
+unfolding front_of
+all_of (Ok x) a b text sound failed w f e = refl
+all_of (Err x) a b text sound failed w f e = absurd (false≢true (sym e ∙ f))
+
 -- what was gathered was written, or a front of it
 pub Stops-front : (d : DictionaryText) (before after start has : Option (List ℕ)) (sound input_failed output_failed : Bool) (g : Going) (fault : RunFault) → (s : Stopped d before after start sound g input_failed fault)
-    → AppendsFront start has s.text → (fault.number ≡ 71 → output_failed ≡ true) → Stops d before after start has input_failed output_failed fault
-Stops-front d before after start has sound input_failed output_failed g fault s front writing =
+    → (front : AppendsFront start has s.text) → (fault.number < 71 → output_failed ≡ false → front.rest ≡ []) → (fault.number ≡ 71 → output_failed ≡ true)
+    → Stops d before after start has input_failed output_failed fault
+Stops-front d before after start has sound input_failed output_failed g fault s front none writing =
     let is : s.text ++ s.rest ≡ front.written ++ (front.rest ++ s.rest) = ap (λ l. l ++ s.rest) front.is ∙ append_assoc front.written front.rest s.rest in
     record {
       written = front.written;
@@ -256,6 +282,9 @@ Stops-front d before after start has sound input_failed output_failed g fault s 
       end = s.end;
       writes = front.appends;
       faulty = λ low. subst (λ (l : List ℕ). IsDataFault d s.ended l fault) is (s.faulty low);
+      all = λ low works.
+          let whole : s.text ≡ front.written = front.is ∙ (ap (λ l. front.written ++ l) (none low works) ∙ append-nil front.written) in
+          sym whole ∙ (s.all low ∙ ap (given_bytes d s.ended) is);
       needed = λ e. subst (BreaksOff d s.ended) is (s.needed e);
       reading = λ e. elim (s.reading e) [ inl f ↦ inl f | inr f ↦ inr (omega (arith, ap length is)) ];
       writing = writing;
@@ -278,6 +307,7 @@ Stops-end d before after start has sound input_failed output_failed g totals s f
   end = λ e. s.end;
   writes = front.appends;
   faulty = λ low. absurd (omega arith);
+  all = λ low. absurd (omega arith);
   needed = λ e. absurd (omega arith);
   reading = λ e. absurd (omega arith);
   writing = λ e. failed;

@@ -2,7 +2,9 @@
 use Rattle.std.specs.Prelude.{◌≡◌, ◌≤◌, ◌<◌, ◌+◌, ◌^◌, ◌⊎◌, ℕ, Bool, true, false, List, ◌++◌, length, Option, None, Some}
 use Rattle.std.specs.Io.KnownBytes.{Consumes, Appends, IsAtEnd}
 use Rattle.cse_dict.specs.Dictionary.{DictionaryText}
+use Rattle.std.specs.List.{flat_map}
 use Rattle.cse_lines.specs.Runs.{given, fault_in}
+use Rattle.cse_lines.specs.Gathering.{bytes_of}
 use Rattle.cse_output.specs.Gathering.{Going, Gathering}
 use Rattle.cse_batch.specs.declared.totals.Totals.{Totals}
 use Rattle.cse_batch.specs.declared.totals.RunFault.{RunFault}
@@ -28,8 +30,12 @@ pub record BreaksOff (d : DictionaryText) (ended : Bool) (bytes : List ℕ) : Ty
   pub unended : ended ≡ false
   pub sound : fault_in d true ended bytes ≡ None
 
+-- the bytes of the runs that are given of a file, after which it has ended or breaks off
+abbrev pub given_bytes : DictionaryText → Bool → List ℕ → List ℕ
+given_bytes d ended bytes = flat_map bytes_of (given d true ended bytes)
+
 -- A front of what was read was written. The mark says whether the end of the input was read, and then nothing is left of it. A fault below 70 is that of
--- the first faulty line. 70 comes only where what was read breaks off without a faulty line, and the input has failed or 2^40 bytes were read; 71 only
+-- the first faulty line. After a fault of the data, and after 70, all that was given before it was written, unless the output has failed. 70 comes only where what was read breaks off without a faulty line, and the input has failed or 2^40 bytes were read; 71 only
 -- where the output has failed; and the only other fault is 90. From 70 on there is no line.
 pub record Stops (d : DictionaryText) (before after had has : Option (List ℕ)) (input_failed output_failed : Bool) (fault : RunFault) : Type 0 where
   pub written : List ℕ
@@ -39,6 +45,7 @@ pub record Stops (d : DictionaryText) (before after had has : Option (List ℕ))
   pub end : ended ≡ true → IsAtEnd after
   pub writes : Appends had has written
   pub faulty : fault.number < 70 → IsDataFault d ended (written ++ rest) fault
+  pub all : fault.number < 71 → output_failed ≡ false → written ≡ given_bytes d ended (written ++ rest)
   pub needed : fault.number ≡ 70 → BreaksOff d ended (written ++ rest)
   pub reading : fault.number ≡ 70 → (input_failed ≡ true) ⊎ (2 ^ 40 ≤ length (written ++ rest))
   pub writing : fault.number ≡ 71 → output_failed ≡ true
@@ -63,6 +70,7 @@ pub record Stopped (d : DictionaryText) (before after start : Option (List ℕ))
   pub end : ended ≡ true → IsAtEnd after
   pub gathers : Gathering start sound g text
   pub faulty : fault.number < 70 → IsDataFault d ended (text ++ rest) fault
+  pub all : fault.number < 71 → text ≡ given_bytes d ended (text ++ rest)
   pub needed : fault.number ≡ 70 → BreaksOff d ended (text ++ rest)
   pub reading : fault.number ≡ 70 → (input_failed ≡ true) ⊎ (2 ^ 40 ≤ length (text ++ rest))
   pub writing : fault.number ≡ 71 → g.gave_up ≡ true

@@ -96,7 +96,8 @@ fn pass_cases<R: Input, W: Output>(
 /// Copies a data file case by case, byte for byte, and counts its cases, lines and unseen lines.
 ///
 /// `Ok` comes only where the end of the input was read and no line is faulty; then what was written is what
-/// was read. After a fault what was written is a front of what was read. The faults are those of
+/// was read. After a fault what was written is a front of what was read; after a fault of the data, and after
+/// 70, it is all that was given before the fault, where the output hasn't failed. The faults are those of
 /// `DataError`, and 71 where the output failed. At 70 what was read breaks off before the end of the input
 /// and has no faulty line, and the input has failed or 2^40 bytes were read.
 pub fn pass<R: Input, W: Output>(

@@ -29,6 +29,7 @@ fn program(alloc: Global) -> Result<Option<Program>, AllocError> {
         sets: Vec::new(alloc),
         order: Vec::new(alloc),
         constants: Vec::new(alloc),
+        limits: Vec::new(alloc),
         texts: Vec::new(alloc),
         globals: Vec::new(alloc),
         arrays: vec![in alloc; array]?,

@@ -43,6 +43,7 @@ fn program_of(alloc: Global) -> Result<Option<Program>, AllocError> {
         sets: Vec::new(alloc),
         order: Vec::new(alloc),
         constants: Vec::new(alloc),
+        limits: Vec::new(alloc),
         texts: Vec::new(alloc),
         globals: Vec::new(alloc),
         arrays: Vec::new(alloc),

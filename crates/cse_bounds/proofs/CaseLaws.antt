@@ -15,7 +15,7 @@ use Rattle.cse_typing.specs.Skeleton.{most_occurrences}
 use Rattle.cse_typing.specs.Order.{NamesEachOnce}
 use Rattle.cse_bounds.specs.Bound.{bound}
 use Rattle.cse_bounds.specs.EventBound.{times_in_case, case_bound}
-use Rattle.cse_bounds.specs.CaseEvents.{event, item_events, occurrence_events, record_events, records_events, case_events, KeepsMost, is_of, events_bound, KeepsTimes}
+use Rattle.cse_bounds.specs.CaseEvents.{event, Moment, moment, item_events, occurrence_events, record_events, records_events, case_events, KeepsMost, is_of, events_bound, KeepsTimes}
 
 abbrev one : Bool → ℕ
 one b = cond b 1 0
@@ -51,21 +51,24 @@ module _ (x : Image) where
   found_first y ys e true = omega arith
   found_first y ys e false = omega arith
 
-  split : (y : EventEntry) (ys : List EventEntry) (events : List Event) → sum_by (found_in (y ∷ ys)) events ≤ count_by (λ e. is_of e y) events * bound x y.routine + sum_by (found_in ys) events
+  abbrev found_at : List EventEntry → Moment → ℕ
+  found_at entries m = found_in entries m.event
+
+  split : (y : EventEntry) (ys : List EventEntry) (events : List Moment) → sum_by (found_at (y ∷ ys)) events ≤ count_by (λ m. is_of m.event y) events * bound x y.routine + sum_by (found_at ys) events
   split y ys [] = omega arith
-  split y ys (e ∷ es) =
-      let a = sum_by-cons (found_in (y ∷ ys)) e es in
-      let b = sum_by-cons (found_in ys) e es in
-      let c = ap (λ n. n * bound x y.routine) (sum_by-cons (λ e. one (is_of e y)) e es) in
-      let here = found_first y ys e (is_of e y) in
-      let rest = split y ys es in
+  split y ys (m ∷ ms) =
+      let a = sum_by-cons (found_at (y ∷ ys)) m ms in
+      let b = sum_by-cons (found_at ys) m ms in
+      let c = ap (λ n. n * bound x y.routine) (sum_by-cons (λ m. one (is_of m.event y)) m ms) in
+      let here = found_first y ys m.event (is_of m.event y) in
+      let rest = split y ys ms in
       omega arith
 
-  none_found : (events : List Event) → sum_by (found_in []) events ≡ 0
+  none_found : (events : List Moment) → sum_by (found_at []) events ≡ 0
   none_found [] = refl
-  none_found (e ∷ es) = let a = sum_by-cons (found_in []) e es in let rest = none_found es in omega arith
+  none_found (m ∷ ms) = let a = sum_by-cons (found_at []) m ms in let rest = none_found ms in omega arith
 
-  within : (entries : List EventEntry) (events : List Event) → KeepsTimes x events → sum_by (found_in entries) events ≤ sum_by (λ y. times_in_case x.lists y.code y.index * bound x y.routine) entries
+  within : (entries : List EventEntry) (events : List Moment) → KeepsTimes x events → sum_by (found_at entries) events ≤ sum_by (λ y. times_in_case x.lists y.code y.index * bound x y.routine) entries
   within [] events few = let none = none_found events in omega arith
   within (y ∷ ys) events few =
       let a = sum_by-cons (λ y. times_in_case x.lists y.code y.index * bound x y.routine) y ys in
@@ -74,7 +77,7 @@ module _ (x : Image) where
       let rest = within ys events few in
       omega arith
 
-  pub listed_within : (events : List Event) → KeepsTimes x events → events_bound x events ≤ case_bound x
+  pub listed_within : (events : List Moment) → KeepsTimes x events → events_bound x events ≤ case_bound x
   listed_within events few = within x.lists.events events few
 
 -- ---- how often a kind of event comes in a case
@@ -86,64 +89,64 @@ owned r (Some item) = one (eqb item.owner r)
 module _ (p : Event → Bool) (i : ℕ) (rp rq ip iq : Bool)
     (is_rp : (k : ℕ) → p (event codes.RecordPreproc k) ≡ (rp && eqb i k)) (is_rq : (k : ℕ) → p (event codes.RecordPostproc k) ≡ (rq && eqb i k))
     (is_ip : (k : ℕ) → p (event codes.ItemPreproc k) ≡ (ip && eqb i k)) (is_iq : (k : ℕ) → p (event codes.ItemPostproc k) ≡ (iq && eqb i k)) where
-  abbrev count : List Event → ℕ
-  count events = sum_by (λ e. one (p e)) events
+  abbrev count : List Moment → ℕ
+  count events = sum_by (λ m. one (p m.event)) events
 
-  head_by : (k : ℕ) (b : Bool) → count (cond b (event codes.ItemPreproc k ∷ event codes.ItemPostproc k ∷ []) []) ≡ one b * ((one ip + one iq) * one (eqb i k))
-  head_by k true =
+  head_by : (k o : ℕ) (b : Bool) → count (cond b (moment codes.ItemPreproc k o ∷ moment codes.ItemPostproc k o ∷ []) []) ≡ one b * ((one ip + one iq) * one (eqb i k))
+  head_by k o true =
       let a = ap one (is_ip k) ∙ one_and ip (eqb i k) in
       let b = ap one (is_iq k) ∙ one_and iq (eqb i k) in
       omega arith
-  head_by k false = omega arith
+  head_by k o false = omega arith
 
-  item_more : (r k : ℕ) (item : ItemShape) (items : List ItemShape) → count (item_events r k (item ∷ items)) ≡ one (eqb item.owner r) * ((one ip + one iq) * one (eqb i k)) + count (item_events r (suc k) items)
-  item_more r k item items =
-      sum_by-append (λ e. one (p e)) (cond (eqb item.owner r) (event codes.ItemPreproc k ∷ event codes.ItemPostproc k ∷ []) []) (item_events r (suc k) items)
-      ∙ ap (λ n. n + count (item_events r (suc k) items)) (head_by k (eqb item.owner r))
+  item_more : (r o k : ℕ) (item : ItemShape) (items : List ItemShape) → count (item_events r o k (item ∷ items)) ≡ one (eqb item.owner r) * ((one ip + one iq) * one (eqb i k)) + count (item_events r o (suc k) items)
+  item_more r o k item items =
+      sum_by-append (λ m. one (p m.event)) (cond (eqb item.owner r) (moment codes.ItemPreproc k o ∷ moment codes.ItemPostproc k o ∷ []) []) (item_events r o (suc k) items)
+      ∙ ap (λ n. n + count (item_events r o (suc k) items)) (head_by k o (eqb item.owner r))
 
-  items_none : (r k : ℕ) (items : List ItemShape) → i < k → count (item_events r k items) ≡ 0
-  items_none r k [] lt = refl
-  items_none r k (item ∷ items) lt =
-      let more = item_more r k item items in
+  items_none : (r o k : ℕ) (items : List ItemShape) → i < k → count (item_events r o k items) ≡ 0
+  items_none r o k [] lt = refl
+  items_none r o k (item ∷ items) lt =
+      let more = item_more r o k item items in
       let zero_here = ap (λ b. one (eqb item.owner r) * ((one ip + one iq) * one b)) (ne_eqb i k (λ e. omega arith)) in
-      let rest = items_none r (suc k) items (omega arith) in
+      let rest = items_none r o (suc k) items (omega arith) in
       omega arith
 
-  items_at : (r k j : ℕ) (items : List ItemShape) → i ≡ k + j → count (item_events r k items) ≤ (one ip + one iq) * owned r (slice_get items j)
-  items_at r k j [] e = omega arith
-  items_at r k zero (item ∷ items) e =
-      let more = item_more r k item items in
+  items_at : (r o k j : ℕ) (items : List ItemShape) → i ≡ k + j → count (item_events r o k items) ≤ (one ip + one iq) * owned r (slice_get items j)
+  items_at r o k j [] e = omega arith
+  items_at r o k zero (item ∷ items) e =
+      let more = item_more r o k item items in
       let here = ap (λ b. one (eqb item.owner r) * ((one ip + one iq) * one b)) (eq-eqb i k (omega arith)) in
-      let rest = items_none r (suc k) items (omega arith) in
+      let rest = items_none r o (suc k) items (omega arith) in
       omega arith
-  items_at r k (suc j) (item ∷ items) e =
-      let more = item_more r k item items in
+  items_at r o k (suc j) (item ∷ items) e =
+      let more = item_more r o k item items in
       let zero_here = ap (λ b. one (eqb item.owner r) * ((one ip + one iq) * one b)) (ne_eqb i k (λ w. omega arith)) in
-      let rest = items_at r (suc k) j items (omega arith) in
+      let rest = items_at r o (suc k) j items (omega arith) in
       omega arith
 
-  occurrences_at : (r n : ℕ) (items : List ItemShape) → count (occurrence_events r items n) ≡ n * count (item_events r 0 items)
-  occurrences_at r zero items = omega arith
-  occurrences_at r (suc n) items =
-      let more = sum_by-append (λ e. one (p e)) (item_events r 0 items) (occurrence_events r items n) in
-      let rest = occurrences_at r n items in
+  occurrences_at : (r o n : ℕ) (items : List ItemShape) → count (occurrence_events r items o n) ≤ n * ((one ip + one iq) * owned r (slice_get items i))
+  occurrences_at r o zero items = omega arith
+  occurrences_at r o (suc n) items =
+      let more = sum_by-append (λ m. one (p m.event)) (item_events r o 0 items) (occurrence_events r items (suc o) n) in
+      let here = items_at r o 0 i items (omega arith) in
+      let rest = occurrences_at r (suc o) n items in
       omega arith
 
   record_at : (r n : ℕ) (items : List ItemShape) → count (record_events items r n) ≤ (one rp + one rq) * one (eqb i r) + (one ip + one iq) * (n * owned r (slice_get items i))
   record_at r n items =
-      let a = sum_by-append (λ e. one (p e)) (event codes.RecordPreproc r ∷ occurrence_events r items n) (event codes.RecordPostproc r ∷ []) in
-      let b = sum_by-cons (λ e. one (p e)) (event codes.RecordPreproc r) (occurrence_events r items n) in
+      let a = sum_by-append (λ m. one (p m.event)) (moment codes.RecordPreproc r 0 ∷ occurrence_events r items 1 n) (moment codes.RecordPostproc r 0 ∷ []) in
+      let b = sum_by-cons (λ m. one (p m.event)) (moment codes.RecordPreproc r 0) (occurrence_events r items 1 n) in
       let first = ap one (is_rp r) ∙ one_and rp (eqb i r) in
       let last = ap one (is_rq r) ∙ one_and rq (eqb i r) in
-      let each = occurrences_at r n items in
-      let few = mul-le-mul_left n (items_at r 0 i items (omega arith)) in
+      let each = occurrences_at r 1 n items in
       omega arith
 
   records_at : (items : List ItemShape) (occurrences : ℕ → ℕ) (order : List ℕ) → count (records_events items occurrences order)
       ≤ (one rp + one rq) * sum_by (λ r. one (eqb i r)) order + (one ip + one iq) * sum_by (λ r. occurrences r * owned r (slice_get items i)) order
   records_at items occurrences [] = omega arith
   records_at items occurrences (r ∷ rs) =
-      let a = sum_by-append (λ e. one (p e)) (record_events items r (occurrences r)) (records_events items occurrences rs) in
+      let a = sum_by-append (λ m. one (p m.event)) (record_events items r (occurrences r)) (records_events items occurrences rs) in
       let b = ap (λ n. (one rp + one rq) * n) (sum_by-cons (λ r. one (eqb i r)) r rs) in
       let c = ap (λ n. (one ip + one iq) * n) (sum_by-cons (λ r. occurrences r * owned r (slice_get items i)) r rs) in
       let here = record_at r (occurrences r) items in
@@ -155,8 +158,8 @@ module _ (p : Event → Bool) (i : ℕ) (rp rq ip iq : Bool)
       + ((one rp + one rq) * sum_by (λ r. one (eqb i r)) x.lists.order + (one ip + one iq) * sum_by (λ r. occurrences r * owned r (slice_get x.lists.items i)) x.lists.order)
   case_at x occurrences =
       let records = records_events x.lists.items occurrences x.lists.order in
-      let a = sum_by-append (λ e. one (p e)) (event codes.LevelPreproc 0 ∷ records) (event codes.LevelPostproc 0 ∷ []) in
-      let b = sum_by-cons (λ e. one (p e)) (event codes.LevelPreproc 0) records in
+      let a = sum_by-append (λ m. one (p m.event)) (moment codes.LevelPreproc 0 0 ∷ records) (moment codes.LevelPostproc 0 0 ∷ []) in
+      let b = sum_by-cons (λ m. one (p m.event)) (moment codes.LevelPreproc 0 0) records in
       let rest = records_at x.lists.items occurrences x.lists.order in
       omega arith
 
@@ -208,7 +211,7 @@ module _ (x : Image) (n : ℕ) (each : NamesEachOnce n x.lists.order) (occurrenc
   abbrev p : EventCode → ℕ → ℕ → Event → Bool
   p code i routine e = is_of e (record { code = code; index = i; routine = routine })
 
-  by_code : (code : EventCode) (i routine : ℕ) → sum_by (λ e. one (p code i routine e)) (case_events x occurrences) ≤ times_in_case x.lists code i
+  by_code : (code : EventCode) (i routine : ℕ) → sum_by (λ m. one (p code i routine m.event)) (case_events x occurrences) ≤ times_in_case x.lists code i
   by_code codes.ApplicationPreproc i routine =
       let all = case_at (p codes.ApplicationPreproc i routine) i false false false false (λ k. refl) (λ k. refl) (λ k. refl) (λ k. refl) x occurrences in omega arith
   by_code codes.ApplicationPostproc i routine =

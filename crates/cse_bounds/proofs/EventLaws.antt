@@ -10,7 +10,7 @@ use Rattle.cse_parts.specs.declared.entries.EventEntry.{EventEntry}
 use Rattle.cse_parts.specs.Image.{Image, Lists, RoutineLists}
 use Rattle.cse_typing.specs.Code.{part, start_of, code_of}
 use Rattle.cse_typing.specs.Skeleton.{skeleton}
-use Rattle.cse_bounds.specs.declared.limits.TheConstants.{STEP_LIMIT}
+use Rattle.cse_bounds.specs.Limit.{step_limit}
 use Rattle.cse_bounds.specs.Bound.{partial, bounds_below, bound, AreBoundedBelow}
 use Rattle.cse_bounds.specs.EventBound.{times_in_case, times_in_run, case_bound, run_bound}
 use Rattle.cse_bounds.specs.Running.{case_sum, run_sum}
@@ -33,7 +33,7 @@ bounds_at x (suc n) r lt =
     (cases_lt r n)
 
 -- each keeps to the limit
-pub table_small : (x : Image) (n : ℕ) (bounds : List ℕ) → bounds ≡ bounds_below x n → AreBoundedBelow x n → (r : ℕ) → r < length bounds → get_or bounds r 0 ≤ STEP_LIMIT
+pub table_small : (x : Image) (n : ℕ) (bounds : List ℕ) → bounds ≡ bounds_below x n → AreBoundedBelow x n → (r : ℕ) → r < length bounds → get_or bounds r 0 ≤ step_limit
 table_small x n bounds is bounded r lt =
     let within : r < n = let len = ap (λ (l : List ℕ). length l) is ∙ length-bounds x n in omega arith in
     let e = ap (λ (l : List ℕ). get_or l r 0) is ∙ bounds_at x n r within in
@@ -44,7 +44,7 @@ table_small x n bounds is bounded r lt =
 bound_past : (x : Image) (r : ℕ) → length x.lists.routines ≤ r → bound x r ≡ 0
 unfolding code_of partial
 bound_past x r past =
-    ap (λ (o : Option RoutineLists). let code = skeleton x.lists.records (part (start_of x.lists.routines r) (option_map_or (λ y. y.instructions) o 0) x.code) in partial (bounds_below x r) code (length code))
+    ap (λ (o : Option RoutineLists). let code = skeleton x.lists (part (start_of x.lists.routines r) (option_map_or (λ y. y.instructions) o 0) x.code) in partial (bounds_below x r) code (length code))
     (slice_get_past x.lists.routines r past)
 
 -- the table tells the bound of each routine
@@ -55,6 +55,14 @@ bound_told x bounds r is =
     (λ (l : r < length x.lists.routines). bounds_at x (length x.lists.routines) r l)
     (λ (l : length x.lists.routines ≤ r).
     get_or_past (bounds_below x (length x.lists.routines)) r 0 (let n = length-bounds x (length x.lists.routines) in omega arith) ∙ sym (bound_past x r l))
+    (cases_lt r (length x.lists.routines))
+
+-- each keeps to the limit, those that aren't there too
+pub bound_small : (x : Image) → AreBoundedBelow x (length x.lists.routines) → (r : ℕ) → bound x r ≤ step_limit
+bound_small x bounded r =
+    ⊎_elim
+    (λ (l : r < length x.lists.routines). bounded r l)
+    (λ (l : length x.lists.routines ≤ r). let none = bound_past x r l in omega arith)
     (cases_lt r (length x.lists.routines))
 
 -- ---- sums
@@ -77,7 +85,7 @@ run_sum_is x events bounds same is =
     (λ e. ap (λ n. times_in_run e.code * n) (bound_told x bounds e.routine is)) x.lists.events
 
 -- a sum of the first terms that is above the limit
-pub too_many : {X : Type 0} (f : X → ℕ) (xs : List X) (i total : ℕ) (d : X) → i < length xs → total ≡ sum_by f (take i xs) → STEP_LIMIT < total + f (get_or xs i d) → STEP_LIMIT < sum_by f xs
+pub too_many : {X : Type 0} (f : X → ℕ) (xs : List X) (i total : ℕ) (d : X) → i < length xs → total ≡ sum_by f (take i xs) → step_limit < total + f (get_or xs i d) → step_limit < sum_by f xs
 too_many f xs i total d lt is more =
     let next = sum_by_more f xs i d lt in
     let le = sum_by-take-le f xs (i + 1) in
@@ -88,15 +96,25 @@ pub some_same : (o : Option ℕ) (m n : ℕ) → m ≡ n → IfSome o (λ k. k �
 some_same None m n same h = tt
 some_same (Some k) m n same h = h ∙ same
 
-pub none_same : (o : Option ℕ) (m n : ℕ) → m ≡ n → IfNone o (STEP_LIMIT < m) → IfNone o (STEP_LIMIT < n)
+pub none_same : (o : Option ℕ) (m n : ℕ) → m ≡ n → IfNone o (step_limit < m) → IfNone o (step_limit < n)
 none_same None m n same h = omega arith
 none_same (Some k) m n same h = tt
 
 pub case_too_many : (lists : Lists) (bounds : List ℕ) (events : List EventEntry) (i total times b : ℕ) (d : EventEntry) → events ≡ lists.events → i < length events → total ≡ sum_by (λ e. times_in_case lists e.code e.index * slice_index bounds e.routine) (take i events)
-    → times ≡ times_in_case lists (get_or events i d).code (get_or events i d).index → b ≡ slice_index bounds (get_or events i d).routine → STEP_LIMIT < total + times * b → STEP_LIMIT < case_sum lists bounds
+    → times ≡ times_in_case lists (get_or events i d).code (get_or events i d).index → b ≡ slice_index bounds (get_or events i d).routine → step_limit < total + times * b → step_limit < case_sum lists bounds
 case_too_many lists bounds events i total times b d same lt is often cost more =
     let share : EventEntry → ℕ = λ e. times_in_case lists e.code e.index * slice_index bounds e.routine in
     let here : times * b ≡ share (get_or events i d) = cc in
     let k = too_many share events i total d lt is (omega arith) in
     let e = ap (sum_by share) same in
+    omega arith
+
+-- a sum of the first terms with the next one is no more than the whole
+pub run_fits : (bounds : List ℕ) (events : List EventEntry) (i total times b : ℕ) (d : EventEntry) → i < length events → total ≡ sum_by (λ e. times_in_run e.code * slice_index bounds e.routine) (take i events)
+    → times ≡ times_in_run (get_or events i d).code → b ≡ slice_index bounds (get_or events i d).routine → total + times * b ≤ run_sum events bounds
+run_fits bounds events i total times b d lt is often cost =
+    let share : EventEntry → ℕ = λ e. times_in_run e.code * slice_index bounds e.routine in
+    let here : times * b ≡ share (get_or events i d) = cc in
+    let next = sum_by_more share events i d lt in
+    let le = sum_by-take-le share events (i + 1) in
     omega arith

@@ -3,3 +3,8 @@ pub mod SumLaws
 pub mod FrameLaws
 pub mod EventLaws
 pub mod CaseLaws
+pub mod Tails
+pub mod Later
+pub mod WalkLaws
+pub mod OpenLaws
+pub mod FitLaws

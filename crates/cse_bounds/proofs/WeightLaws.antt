@@ -8,16 +8,16 @@ use Rattle.cse_typing.specs.declared.control.Control.TheVariants.{Open, End}
 use Rattle.cse_typing.specs.Bracket.{first, around, IsNestedBelow, KeepsRulesAt, KeepsRules}
 use Rattle.cse_typing.proofs.Around.{nested_before, around_start}
 use Rattle.cse_typing.proofs.Checks.{pass_shallow, pass_opener, pass_some, pass_end, pass_plain}
-use Rattle.cse_bounds.specs.declared.limits.TheConstants.{STEP_LIMIT}
+use Rattle.cse_bounds.specs.Limit.{step_limit}
 use Rattle.cse_bounds.specs.Weight.{limit_in, product, weight}
 use Rattle.cse_bounds.specs.Running.{weights_in, weights_at}
 
 -- a weight within the limit, times a limit of turns, fits
-pub small_product : (b w : ℕ) → b < 2 ^ 16 → w ≤ STEP_LIMIT → b * w < 2 ^ 64
+pub small_product : (b w : ℕ) → b < 2 ^ 32 → w ≤ step_limit → b * w < 2 ^ 128
 small_product b w few small =
     let k = mul-le-mul_left b small in
-    let few : b ≤ 65535 = omega arith in
-    let m = mul-le-mul_right STEP_LIMIT few in
+    let few : b ≤ 4294967295 = omega arith in
+    let m = mul-le-mul_right step_limit few in
     omega arith
 
 -- ---- of a list of openers

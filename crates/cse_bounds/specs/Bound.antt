@@ -5,7 +5,7 @@ use Rattle.cse_typing.specs.declared.control.Control.{Control}
 use Rattle.cse_typing.specs.declared.control.Control.TheVariants.{Call}
 use Rattle.cse_typing.specs.declared.refusal.Refusal.{Refusal}
 use Rattle.cse_typing.specs.Skeleton.{skeleton_of}
-use Rattle.cse_bounds.specs.declared.limits.TheConstants.{STEP_LIMIT}
+use Rattle.cse_bounds.specs.Limit.{step_limit}
 use Rattle.cse_bounds.specs.Weight.{weight}
 
 -- the steps of one visit, with the bounds of the smaller routines: one, and at a call those of the callee
@@ -34,13 +34,13 @@ bound x r = partial_of x r (length (skeleton_of x r))
 
 -- the bounds of the routines below n keep to the limit
 abbrev pub AreBoundedBelow : Image → ℕ → Type 0
-AreBoundedBelow x n = (r : ℕ) → r < n → bound x r ≤ STEP_LIMIT
+AreBoundedBelow x n = (r : ℕ) → r < n → bound x r ≤ step_limit
 
 -- the least place at which the partial sum passes the limit
 pub record PassesLimit (bounds : List ℕ) (code : List Control) (p : ℕ) : Type 0 where
   pub within : p < length code
-  pub before : partial bounds code p ≤ STEP_LIMIT
-  pub after : STEP_LIMIT < partial bounds code (suc p)
+  pub before : partial bounds code p ≤ step_limit
+  pub after : step_limit < partial bounds code (suc p)
 
 -- 67: the least routine whose bound is above the limit, and the least place at which its sum passes it
 pub record IsTooLong (x : Image) (e : Refusal) : Type 0 where

@@ -1,7 +1,11 @@
+pub mod Limit
 pub mod Weight
 pub mod Bound
 pub mod EventBound
 pub mod Bounded
 pub mod Frames
 pub mod CaseEvents
+pub mod Walk
+pub mod Rest
+pub mod Calls
 pub mod Running

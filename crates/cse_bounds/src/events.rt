@@ -1,7 +1,10 @@
 //! The steps of the events of a case and of the application.
 
-ghost use Rattle.std.specs.Prelude.{◌≡◌, ◌*◌, ◌^◌, ◌<◌, ◌≤◌, List, ℕ, length, slice_index, EachIndex, IfSome, IfNone, OnSome};
+ghost use Rattle.std.specs.Prelude.{◌≡◌, ◌*◌, ◌^◌, ◌<◌, ◌≤◌, List, ℕ, length, slice_index, EachIndex, IfSome, IfNone, IsTrue};
 ghost use Rattle.cse_parts.specs.Image.{lists_of};
+ghost use Rattle.cse_typing.specs.Order.{all_events_fit};
+ghost use Rattle.cse_typing.specs.Shapes.{shape_of};
+ghost use Rattle.cse_bounds.specs.Limit.{step_limit};
 ghost use Rattle.cse_bounds.specs.Bound.{bounds_below, AreBoundedBelow};
 ghost use Rattle.cse_bounds.specs.EventBound.{most_of_item, times_in_case, times_in_run, case_bound, run_bound};
 ghost use Rattle.cse_bounds.specs.Running.{case_sum, run_sum};
@@ -57,9 +60,9 @@ fn times_in_run(code: EventCode) -> u16
 
 /// The bound of a routine; 0 where there is no such routine.
 fn bound_at(bounds: &[u64], routine: u32) -> u64
-    requires { EachIndex bounds.now (λ r. slice_index bounds.now r ≤ STEP_LIMIT) }
+    requires { EachIndex bounds.now (λ r. slice_index bounds.now r ≤ step_limit) }
     ensures value { result ≡ slice_index bounds.now routine }
-    ensures small { result ≤ STEP_LIMIT }
+    ensures small { result ≤ step_limit }
 {
     match bounds.get(routine as usize) {
         Some(bound) => *bound,
@@ -69,26 +72,27 @@ fn bound_at(bounds: &[u64], routine: u32) -> u64
 
 /// The sum over the events of a case, where it keeps to the limit.
 fn sum_of_case(tables: &Tables, bounds: &[u64]) -> Option<u64>
-    requires { EachIndex bounds.now (λ r. slice_index bounds.now r ≤ STEP_LIMIT) }
+    requires { EachIndex bounds.now (λ r. slice_index bounds.now r ≤ step_limit) }
     ensures value { IfSome result (λ n. n ≡ case_sum (lists_of tables.now) bounds.now) }
-    ensures small { IfSome result (λ n. n ≤ STEP_LIMIT) }
-    ensures too_many { IfNone result (STEP_LIMIT < case_sum (lists_of tables.now) bounds.now) }
+    ensures small { IfSome result (λ n. n ≤ step_limit) }
+    ensures too_many { IfNone result (step_limit < case_sum (lists_of tables.now) bounds.now) }
 {
     let mut total = 0;
     'events: for event in &tables.events {
         let times = times_in_case(tables, event.code, event.index);
-        total += times as u64 * bound_at(bounds, event.routine);
-        if total > STEP_LIMIT {
+        let sum = total as u128 + times as u128 * bound_at(bounds, event.routine) as u128;
+        if sum > STEP_LIMIT as u128 {
             return None;
         }
+        total = sum as u64;
     }
     Some(total)
 }
 
 /// The sum over the application's events.
 fn sum_of_run(events: &[EventEntry], bounds: &[u64]) -> u64
-    requires small { EachIndex bounds.now (λ r. slice_index bounds.now r ≤ STEP_LIMIT) }
-    requires few { length events.now ≤ 50000 }
+    requires small { EachIndex bounds.now (λ r. slice_index bounds.now r ≤ step_limit) }
+    requires fits { run_sum events.now bounds.now < 2 ^ 64 }
     ensures { result ≡ run_sum events.now bounds.now }
 {
     let mut total = 0;
@@ -104,17 +108,18 @@ pub fn case_steps<C: Code>(program: &Program<C>, bounds: &[u64]) -> Option<u64>
     requires bounds { bounds.now ≡ bounds_below program.now (length program.now.lists.routines) }
     requires bounded { AreBoundedBelow program.now (length program.now.lists.routines) }
     ensures value { IfSome result (λ n. n ≡ case_bound program.now) }
-    ensures small { IfSome result (λ n. n ≤ STEP_LIMIT) }
-    ensures too_many { IfNone result (STEP_LIMIT < case_bound program.now) }
+    ensures small { IfSome result (λ n. n ≤ step_limit) }
+    ensures too_many { IfNone result (step_limit < case_bound program.now) }
 {
     sum_of_case(program.tables(), bounds)
 }
 
-/// The most steps that the application's events may take together, by the bounds of the routines.
-/// Takes no memory.
+/// The most steps that the application's events, which fit, may take together, by the bounds of the
+/// routines. Takes no memory.
 pub fn run_steps<C: Code>(program: &Program<C>, bounds: &[u64]) -> u64
     requires bounds { bounds.now ≡ bounds_below program.now (length program.now.lists.routines) }
     requires bounded { AreBoundedBelow program.now (length program.now.lists.routines) }
+    requires events { IsTrue (all_events_fit (shape_of program.now) program.now.lists) }
     ensures { result ≡ run_bound program.now }
 {
     sum_of_run(&program.tables().events, bounds)

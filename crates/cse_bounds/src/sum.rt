@@ -2,6 +2,7 @@
 
 ghost use Rattle.std.specs.Prelude.{◌≡◌, ℕ, suc, Some, ◌+◌, ◌*◌, ◌^◌, ◌<◌, ◌≤◌, length, slice_get, slice_index, EachIndex, IfOk, IfErr};
 ghost use Rattle.cse_typing.specs.Bracket.{KeepsRules};
+ghost use Rattle.cse_bounds.specs.Limit.{step_limit};
 ghost use Rattle.cse_bounds.specs.Weight.{weight as weight_of};
 ghost use Rattle.cse_bounds.specs.Bound.{cost, partial, CallsBelow, PassesLimit};
 ghost use Rattle.cse_bounds.specs.Running.{weights_at};
@@ -14,9 +15,9 @@ use cse_typing::{Control, RoutineCode};
 /// The steps of one visit of an instruction.
 fn cost_of(control: Control, bounds: &[u64]) -> u64
     requires call { (c : ℕ) → control ≡ Control.Call c → c < length bounds.now }
-    requires small { EachIndex bounds.now (λ r. slice_index bounds.now r ≤ STEP_LIMIT) }
+    requires small { EachIndex bounds.now (λ r. slice_index bounds.now r ≤ step_limit) }
     ensures value { result ≡ cost bounds.now (Some control) }
-    ensures small { result ≤ STEP_LIMIT + 1 }
+    ensures small { result ≤ step_limit + 1 }
 {
     match control {
         Control::Call(routine) => 1 + bounds[routine as usize],
@@ -29,13 +30,13 @@ fn pass<C: Code>(code: &RoutineCode<'_, C>, place: u32, control: Control, weight
     requires keeps { KeepsRules code.now }
     requires there { slice_get code.now place ≡ Some control }
     requires weights { weights.old ≡ weights_at code.now place }
-    requires small { weight_of code.now place ≤ STEP_LIMIT }
+    requires small { weight_of code.now place ≤ step_limit }
     ensures { weights.new ≡ weights_at code.now (suc place) }
 {
     match control {
         Control::Open(limit, _) => {
             let weight = weights.top();
-            weights.push(limit as u64 * weight);
+            weights.push(limit as u128 * weight);
         }
         Control::End(_) => weights.pop(),
         _ => {}
@@ -46,9 +47,9 @@ fn pass<C: Code>(code: &RoutineCode<'_, C>, place: u32, control: Control, weight
 pub fn bound_of<C: Code>(code: &RoutineCode<'_, C>, bounds: &[u64]) -> Result<u64, u32>
     requires keeps { KeepsRules code.now }
     requires calls { CallsBelow (length bounds.now) code.now }
-    requires small { EachIndex bounds.now (λ r. slice_index bounds.now r ≤ STEP_LIMIT) }
+    requires small { EachIndex bounds.now (λ r. slice_index bounds.now r ≤ step_limit) }
     ensures bound { IfOk result (λ n. n ≡ partial bounds.now code.now (length code.now)) }
-    ensures small { IfOk result (λ n. n ≤ STEP_LIMIT) }
+    ensures small { IfOk result (λ n. n ≤ step_limit) }
     ensures too_long { IfErr result (λ p. PassesLimit bounds.now code.now p) }
 {
     let mut weights = Weights::new();
@@ -58,10 +59,10 @@ pub fn bound_of<C: Code>(code: &RoutineCode<'_, C>, bounds: &[u64]) -> Result<u6
             unreachable!()
         };
         let weight = weights.top();
-        if weight > STEP_LIMIT {
+        if weight > STEP_LIMIT as u128 {
             return Err(place);
         }
-        let sum = total as u128 + weight as u128 * cost_of(control, bounds) as u128;
+        let sum = total as u128 + weight * cost_of(control, bounds) as u128;
         if sum > STEP_LIMIT as u128 {
             return Err(place);
         }

@@ -8,7 +8,7 @@ use std::marker::Model;
 /// A stack of at most 65 weights, seen as the list with the top first.
 #[derive(Drop)]
 pub struct Weights {
-    weights: [u64; 65],
+    weights: [u128; 65],
     len: usize,
 }
 
@@ -32,14 +32,14 @@ impl Weights {
     }
 
     /// The weight of the place.
-    pub fn top(&self) -> u64
+    pub fn top(&self) -> u128
         requires { self.now ≢ [] }
         ensures { first self.now ≡ Some result }
     {
         self.weights[self.len - 1]
     }
 
-    pub fn push(&mut self, weight: u64)
+    pub fn push(&mut self, weight: u128)
         requires { length self.old < 65 }
         ensures { self.new ≡ weight ∷ self.old }
     {

@@ -37,7 +37,7 @@ onto_below : (n : ℕ) (o : Option Unseen) (xs : List (ℕ × Unseen)) (k : ℕ)
 onto_below n None xs k h = omega arith
 onto_below n (Some why) xs k h = omega arith
 
-unseen_from_below : (records : List RecordShape) (n : ℕ) (before types : List (Option ℕ)) → length (unseen_from records n before types) ≤ length types
+pub unseen_from_below : (records : List RecordShape) (n : ℕ) (before types : List (Option ℕ)) → length (unseen_from records n before types) ≤ length types
 unseen_from_below records n before [] = omega arith
 unseen_from_below records n before (t ∷ ts) =
     onto_below n (unseen_after records before t) (unseen_from records (n + 1) (before ++ t ∷ []) ts) (length ts) (unseen_from_below records (n + 1) (before ++ t ∷ []) ts)

@@ -1,8 +1,13 @@
 -- Laws of an item's columns among those of a line.
-use Rattle.std.proofs.Common.{◌≡◌, ℕ, ◌+◌, ◌-◌, min, List, ◌++◌, length, take, drop, ap, sym, ◌∙◌, arith, length-drop, append_assoc, drop-drop}
-use Rattle.std.proofs.lemmas.List.{take_rest, take_min, drop_min}
+use Rattle.std.proofs.Common.{◌≡◌, ℕ, ◌+◌, ◌-◌, ◌≤◌, min, List, ◌++◌, length, take, drop, ap, sym, ◌∙◌, arith, length-drop, drop-drop}
+use Rattle.std.proofs.lemmas.List.{length-take, length-take-le, take_rest, take_min, drop_min}
 use borrow.Rule.Slice.PartMut.{put_mid}
 use Rattle.cse_value.specs.declared.shape.ItemShape.{ItemShape}
+use Rattle.cse_value.proofs.WidthLaws.{length-put, length-put_text}
+use Rattle.cse_lines.specs.Run.{with_columns}
+use Rattle.cse_case.specs.declared.field.Entry.{Entry}
+use Rattle.cse_case.specs.declared.field.Entry.TheVariants.{Number, Words}
+use Rattle.cse_case.specs.Entry.{entry_columns}
 use Rattle.cse_case.specs.Field.{field_of, rewritten}
 
 -- the columns that are there
@@ -29,5 +34,24 @@ written_here item put columns new s n e f is =
     let back : drop (s + n - s) (drop s columns) ≡ drop (item.start - 1 + item.len) columns = drop-drop (s + n - s) s columns ∙ end in
     ap (λ l. l ++ (new ++ drop (s + n - s) (drop s columns))) start
     ∙ (ap (λ l. take (item.start - 1) columns ++ (l ++ drop (s + n - s) (drop s columns))) wrote
-    ∙ (ap (λ l. take (item.start - 1) columns ++ (put (length (field_of item columns)) ++ l)) back
-    ∙ sym (append_assoc (take (item.start - 1) columns) (put (length (field_of item columns))) (drop (item.start - 1 + item.len) columns))))
+    ∙ ap (λ l. take (item.start - 1) columns ++ (put (length (field_of item columns)) ++ l)) back)
+
+-- the columns of an item are Len at most
+pub short_field : (item : ItemShape) (columns : List ℕ) → length (field_of item columns) ≤ item.len
+unfolding field_of
+short_field item columns = omega (arith, length-take item.len (drop (item.start - 1) columns))
+
+-- where all columns of the item are there, Len are written
+pub rewritten_whole : (item : ItemShape) (put : ℕ → List ℕ) (columns : List ℕ) → item.start - 1 + item.len ≤ length columns → length (put item.len) ≡ item.len
+    → rewritten item put columns ≡ with_columns (item.start - 1) (put item.len) columns
+unfolding field_of rewritten
+rewritten_whole item put columns within wide =
+    let rest = drop (item.start - 1) columns in
+    let count : length (take item.len rest) ≡ item.len = length-take-le item.len rest (omega (arith, length-drop (item.start - 1) columns)) in
+    ap (λ n. take (item.start - 1) columns ++ (put n ++ drop (item.start - 1 + item.len) columns)) count
+    ∙ ap (λ n. take (item.start - 1) columns ++ (put item.len ++ drop (item.start - 1 + n) columns)) (sym wide)
+
+-- an entry has as many columns as are asked for
+pub entry_wide : (entry : Entry) (n : ℕ) → length (entry_columns entry n) ≡ n
+entry_wide (Number value zero_fill code) n = length-put n value zero_fill code
+entry_wide (Words text) n = length-put_text n text.now.items

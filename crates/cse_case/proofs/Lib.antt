@@ -5,3 +5,5 @@ pub mod WriteLaws
 pub mod IdLaws
 pub mod FitLaws
 pub mod ReadLaws
+pub mod SightLaws
+pub mod SetLaws

@@ -13,7 +13,8 @@ use Rattle.std.specs.Option.{option_map_or}
 use Rattle.cse_value.specs.declared.shape.RecordShape.{RecordShape}
 use Rattle.cse_dict.specs.declared.lookup.Unseen.TheVariants.{Extra}
 use Rattle.cse_case.specs.declared.seen.Span.{Span}
-use Rattle.cse_case.specs.Seen.{is_of, most_of, places_from, occurrence_places, unseen_after, unseen_from, onto_unseen}
+use Rattle.cse_value.specs.Occurrences.{most_occurrences}
+use Rattle.cse_case.specs.Seen.{is_of, places_from, occurrence_places, unseen_after, unseen_from, onto_unseen}
 use Rattle.cse_case.specs.Table.{AreCounts, AreSpans, IsTable}
 
 -- one line more is counted
@@ -28,10 +29,10 @@ not_counted q xs y h = count_by-more (is_of q) xs y ∙ rw h (add-zero (count_by
 pub counted : (q : ℕ) (xs : List (Option ℕ)) (y : Option ℕ) → is_of q y ≡ true → count_by (is_of q) (xs ++ y ∷ []) ≡ count_by (is_of q) xs + 1
 counted q xs y h = count_by-more (is_of q) xs y ∙ rw h refl
 
-pub most_at : (records : List RecordShape) (r : ℕ) (d : RecordShape) → r < length records → most_of records r ≡ (get_or records r d).max_records
+pub most_at : (records : List RecordShape) (r : ℕ) (d : RecordShape) → r < length records → most_occurrences records r ≡ (get_or records r d).max_records
 most_at records r d h = ap (λ (o : Option RecordShape). option_map_or (λ x. x.max_records) o 0) (slice_get-get_or records r d h)
 
-pub most_past : (records : List RecordShape) (r : ℕ) → length records ≤ r → most_of records r ≡ 0
+pub most_past : (records : List RecordShape) (r : ℕ) → length records ≤ r → most_occurrences records r ≡ 0
 most_past records r h = ap (λ (o : Option RecordShape). option_map_or (λ x. x.max_records) o 0) (slice_get_past records r h)
 
 other : (q r : ℕ) → (q ≡ r → ⊥) → is_of q (Some r) ≡ false
@@ -42,60 +43,60 @@ same r = eq-eqb r r refl
 
 -- an occurrence more
 pub AreCounts-seen : (records : List RecordShape) (before : List (Option ℕ)) (counts : List ℕ) (r : ℕ) → AreCounts records before counts → r < length records
-    → get_or counts r 0 < most_of records r → AreCounts records (before ++ Some r ∷ []) (slice_set counts r (get_or counts r 0 + 1))
+    → get_or counts r 0 < most_occurrences records r → AreCounts records (before ++ Some r ∷ []) (slice_set counts r (get_or counts r 0 + 1))
 AreCounts-seen records before counts r are there room = record {
   size = length-set counts r (get_or counts r 0 + 1) ∙ are.size;
   each = λ q h. elim (cases_eq q r) [
     | inl e ↦
         let one : count_by (is_of q) (before ++ Some r ∷ []) ≡ count_by (is_of q) before + 1 = counted q before (Some r) (rw e (same r)) in
-        let had : get_or counts r 0 ≡ min (count_by (is_of q) before) (most_of records q) = rw (← e) (are.each q h) in
-        let room' : get_or counts r 0 < most_of records q = rw e room in
+        let had : get_or counts r 0 ≡ min (count_by (is_of q) before) (most_occurrences records q) = rw (← e) (are.each q h) in
+        let room' : get_or counts r 0 < most_occurrences records q = rw e room in
         let set : get_or (slice_set counts r (get_or counts r 0 + 1)) q 0 ≡ get_or counts r 0 + 1 = rw e (get_or-set_same counts r (get_or counts r 0 + 1) 0 (omega (arith, are.size))) in
-        set ∙ (let n : get_or counts r 0 + 1 ≡ min (count_by (is_of q) before + 1) (most_of records q) = omega arith in n ∙ ap (λ k. min k (most_of records q)) (sym one))
-    | inr n ↦ get_or-set_other counts r q (get_or counts r 0 + 1) 0 n ∙ (are.each q h ∙ ap (λ k. min k (most_of records q)) (sym (not_counted q before (Some r) (other q r n))))
+        set ∙ (let n : get_or counts r 0 + 1 ≡ min (count_by (is_of q) before + 1) (most_occurrences records q) = omega arith in n ∙ ap (λ k. min k (most_occurrences records q)) (sym one))
+    | inr n ↦ get_or-set_other counts r q (get_or counts r 0 + 1) 0 n ∙ (are.each q h ∙ ap (λ k. min k (most_occurrences records q)) (sym (not_counted q before (Some r) (other q r n))))
   ];
 }
 
 -- a line that is no occurrence changes no count
 pub AreCounts-extra : (records : List RecordShape) (before : List (Option ℕ)) (counts : List ℕ) (r : ℕ) → AreCounts records before counts
-    → (r < length records → most_of records r ≤ get_or counts r 0) → AreCounts records (before ++ Some r ∷ []) counts
+    → (r < length records → most_occurrences records r ≤ get_or counts r 0) → AreCounts records (before ++ Some r ∷ []) counts
 AreCounts-extra records before counts r are full = record {
   size = are.size;
   each = λ q h. elim (cases_eq q r) [
     | inl e ↦
         let one : count_by (is_of q) (before ++ Some r ∷ []) ≡ count_by (is_of q) before + 1 = counted q before (Some r) (rw e (same r)) in
-        let had : get_or counts q 0 ≡ min (count_by (is_of q) before) (most_of records q) = are.each q h in
-        let full' : most_of records q ≤ get_or counts q 0 = rw e (full (rw (← e) h)) in
-        (let n : get_or counts q 0 ≡ min (count_by (is_of q) before + 1) (most_of records q) = omega arith in n ∙ ap (λ k. min k (most_of records q)) (sym one))
-    | inr n ↦ are.each q h ∙ ap (λ k. min k (most_of records q)) (sym (not_counted q before (Some r) (other q r n)))
+        let had : get_or counts q 0 ≡ min (count_by (is_of q) before) (most_occurrences records q) = are.each q h in
+        let full' : most_occurrences records q ≤ get_or counts q 0 = rw e (full (rw (← e) h)) in
+        (let n : get_or counts q 0 ≡ min (count_by (is_of q) before + 1) (most_occurrences records q) = omega arith in n ∙ ap (λ k. min k (most_occurrences records q)) (sym one))
+    | inr n ↦ are.each q h ∙ ap (λ k. min k (most_occurrences records q)) (sym (not_counted q before (Some r) (other q r n)))
   ];
 }
 
 -- a line is seen where its record has room
 pub seen_if_room : (records : List RecordShape) (before : List (Option ℕ)) (counts : List ℕ) (r : ℕ) → AreCounts records before counts → r < length records
-    → get_or counts r 0 < most_of records r → unseen_after records before (Some r) ≡ None
+    → get_or counts r 0 < most_occurrences records r → unseen_after records before (Some r) ≡ None
 seen_if_room records before counts r are there room =
-    let had : get_or counts r 0 ≡ min (count_by (is_of r) before) (most_of records r) = are.each r there in
-    let below : count_by (is_of r) before < most_of records r = omega arith in
-    rw (lt-ltb (count_by (is_of r) before) (most_of records r) below) refl
+    let had : get_or counts r 0 ≡ min (count_by (is_of r) before) (most_occurrences records r) = are.each r there in
+    let below : count_by (is_of r) before < most_occurrences records r = omega arith in
+    rw (lt-ltb (count_by (is_of r) before) (most_occurrences records r) below) refl
 
 pub extra_if_full : (records : List RecordShape) (before : List (Option ℕ)) (counts : List ℕ) (r : ℕ) → AreCounts records before counts
-    → (r < length records → most_of records r ≤ get_or counts r 0) → unseen_after records before (Some r) ≡ Some Extra
+    → (r < length records → most_occurrences records r ≤ get_or counts r 0) → unseen_after records before (Some r) ≡ Some Extra
 extra_if_full records before counts r are full =
-    let above : most_of records r ≤ count_by (is_of r) before = elim (cases_lt r (length records)) [
+    let above : most_occurrences records r ≤ count_by (is_of r) before = elim (cases_lt r (length records)) [
       | inl there ↦
-          let had : get_or counts r 0 ≡ min (count_by (is_of r) before) (most_of records r) = are.each r there in
+          let had : get_or counts r 0 ≡ min (count_by (is_of r) before) (most_occurrences records r) = are.each r there in
           let most = full there in
           omega arith
       | inr past ↦ let none = most_past records r past in omega arith
     ] in
-    rw (le-ltb (count_by (is_of r) before) (most_of records r) above) refl
+    rw (le-ltb (count_by (is_of r) before) (most_occurrences records r) above) refl
 
 -- none is counted of no lines
 pub AreCounts-none : (records : List RecordShape) (n : ℕ) → n ≡ length records → AreCounts records [] (replicate n 0)
 AreCounts-none records n e = record {
   size = length-replicate n 0 ∙ e;
-  each = λ r h. get_or-replicate n r 0 0 (rw e h) ∙ (let none : 0 ≡ min 0 (most_of records r) = omega arith in none);
+  each = λ r h. get_or-replicate n r 0 0 (rw e h) ∙ (let none : 0 ≡ min 0 (most_occurrences records r) = omega arith in none);
 }
 
 -- places of lines that follow others
@@ -168,7 +169,7 @@ enough r count k types h =
 pub counts_there : (records : List RecordShape) (lines : List (Option ℕ)) (counts : List ℕ) → AreCounts records lines counts → (r : ℕ) → r < length counts
     → slice_index counts r ≤ length (places_from 0 r lines)
 counts_there records lines counts are r h =
-    let had : slice_index counts r ≡ min (count_by (is_of r) lines) (most_of records r) = are.each r (rw (← are.size) h) in
+    let had : slice_index counts r ≡ min (count_by (is_of r) lines) (most_occurrences records r) = are.each r (rw (← are.size) h) in
     omega (arith, length-places_from 0 r lines)
 
 -- spans of what was counted are the table
@@ -181,8 +182,8 @@ IsTable-spans records lines counts places spans are size here = record {
       let found = here r span h e in
       let there : r < length records = omega (arith, size, are.size) in
       let all = places_from 0 r lines in
-      let count : span.count ≡ min (most_of records r) (length all) = omega (arith, found.1, are.each r there, length-places_from 0 r lines) in
-      found.0.places_are ∙ (ap (λ n. take n all) count ∙ take_min (most_of records r) all);
+      let count : span.count ≡ min (most_occurrences records r) (length all) = omega (arith, found.1, are.each r there, length-places_from 0 r lines) in
+      found.0.places_are ∙ (ap (λ n. take n all) count ∙ take_min (most_occurrences records r) all);
   fits = λ r span h e. (here r span h e).0.fits;
 }
 
@@ -213,7 +214,7 @@ places_below n r k (x ∷ xs) h = at (λ j. places_below (n + 1) r j xs) (is_of 
 pub place_below : (records : List RecordShape) (lines : List (Option ℕ)) (r o : ℕ) → o < length (occurrence_places records r lines) → slice_index (occurrence_places records r lines) o < length lines
 unfolding occurrence_places
 place_below records lines r o h =
-    let most = most_of records r in
+    let most = most_occurrences records r in
     let all = places_from 0 r lines in
     let short = length-take most all in
     let low : o < most = omega arith in

@@ -1,5 +1,5 @@
 -- The columns of an item in a line, and the line after they were written.
-use Rattle.std.specs.Prelude.{◌≡◌, ◌<◌, ℕ, ◌+◌, ◌-◌, List, ◌++◌, length, take, drop, slice_get}
+use Rattle.std.specs.Prelude.{◌≡◌, ◌<◌, ◌≤◌, ◌⊎◌, ℕ, ◌+◌, ◌-◌, List, ◌++◌, length, take, drop, slice_get}
 use Rattle.std.specs.Option.{option_map_or}
 use Rattle.cse_value.specs.declared.shape.ItemShape.{ItemShape}
 use Rattle.cse_value.specs.declared.shape.ItemKind.{ItemKind}
@@ -22,10 +22,14 @@ pub record IsItem (items : List ItemShape) (owner : ℕ) (kind : ItemKind) (n : 
 unfoldable pub field_of : ItemShape → List ℕ → List ℕ
 field_of item columns = take item.len (drop (item.start - 1) columns)
 
--- a line's columns with others at the item's
-abbrev pub with_field : ItemShape → List ℕ → List ℕ → List ℕ
-with_field item field columns = take (item.start - 1) columns ++ field ++ drop (item.start - 1 + item.len) columns
+-- the item has this column, counted from 0
+abbrev pub HasColumn : ItemShape → ℕ → Type 0
+HasColumn item k = (item.start - 1 ≤ k) × (k < item.start - 1 + item.len)
+
+-- the items have no column in common
+abbrev pub HaveNoneInCommon : ItemShape → ItemShape → Type 0
+HaveNoneInCommon a b = (a.start + a.len ≤ b.start) ⊎ (b.start + b.len ≤ a.start)
 
 -- a line's columns with those of the item written anew, in so many columns as they were
 unfoldable pub rewritten : ItemShape → (ℕ → List ℕ) → List ℕ → List ℕ
-rewritten item put columns = with_field item (put (length (field_of item columns))) columns
+rewritten item put columns = take (item.start - 1) columns ++ (put (length (field_of item columns)) ++ drop (item.start - 1 + item.len) columns)

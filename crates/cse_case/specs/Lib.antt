@@ -5,6 +5,8 @@ pub mod Entry
 pub mod Kept
 pub mod Case
 pub mod Fit
+pub mod Sight
+pub mod Writes
 pub mod AtEnd
 pub mod Reading
 pub mod Streaming

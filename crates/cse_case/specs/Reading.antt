@@ -3,18 +3,14 @@ use Rattle.std.specs.Prelude.{◌≡◌, ◌+◌, ◌≤◌, ℕ, Bool, true, Li
 use Rattle.std.specs.Io.KnownBytes.{Consumes}
 use Rattle.cse_dict.specs.Dictionary.{DictionaryText}
 use Rattle.cse_lines.specs.declared.error.DataError.{DataError}
-use Rattle.cse_lines.specs.Field.{ids_of}
-use Rattle.cse_lines.specs.Run.{line_at}
 use Rattle.cse_lines.specs.Reader.{ReaderText, GivesRun, IsEnd, IsError, held_of, is_front}
-use Rattle.cse_case.specs.Case.{CaseText}
+use Rattle.cse_case.specs.Case.{CaseText, case_of}
 use Rattle.cse_case.specs.Fit.{IsFit}
 
--- The bytes are the lines of the case and then the held ones; the case is the first run that is given of them, read by the dictionary, with the
--- id columns of its first line; and it fits.
+-- The bytes are the lines of the case and then the held ones; the case is that of the first run that is given of them; and it fits.
 pub record GivesCase (d : DictionaryText) (bytes held : List ℕ) (front ended : Bool) (number : ℕ) (c : CaseText) : Type 0 where
   pub run : GivesRun d bytes held front ended number c.run
-  pub dictionary : c.dictionary ≡ d
-  pub ids : c.ids ≡ ids_of d (line_at c.run 0).columns
+  pub is : c ≡ case_of d number run.lines
   pub fits : IsFit c
 
 -- what the answer says of the bytes held before and read in the call

@@ -1,9 +1,9 @@
 -- Which lines of a run are seen, and as which occurrence of their record. A line whose type is no record's
 -- is unseen (unknown), and so is one past MaxRecords of its record (extra); the others are the occurrences
 -- of their records, numbered from 1. A run is told by the records of its lines, in order.
-use Rattle.std.specs.Prelude.{ℕ, ◌+◌, Bool, false, ◌==◌, nat_lt, List, [], ◌∷◌, ◌++◌, length, take, slice_get, count_by, Option, None, Some, if◌then◌else◌}
-use Rattle.std.specs.Option.{option_map_or}
+use Rattle.std.specs.Prelude.{ℕ, ◌+◌, Bool, false, ◌==◌, nat_lt, List, [], ◌∷◌, ◌++◌, length, take, count_by, Option, None, Some, if◌then◌else◌}
 use Rattle.cse_value.specs.declared.shape.RecordShape.{RecordShape}
+use Rattle.cse_value.specs.Occurrences.{most_occurrences}
 use Rattle.cse_dict.specs.declared.lookup.Unseen.{Unseen}
 use Rattle.cse_dict.specs.declared.lookup.Unseen.TheVariants.{Unknown, Extra}
 
@@ -12,10 +12,6 @@ abbrev pub is_of : ℕ → Option ℕ → Bool
 is_of r None = false
 is_of r (Some n) = n == r
 
--- MaxRecords of a record; none of a record that isn't there
-abbrev pub most_of : List RecordShape → ℕ → ℕ
-most_of records r = option_map_or (λ x. x.max_records) (slice_get records r) 0
-
 -- the places of a record's lines, the first line standing at place n
 abbrev pub places_from : ℕ → ℕ → List (Option ℕ) → List ℕ
 places_from n r [] = []
@@ -23,7 +19,7 @@ places_from n r (line ∷ lines) = if is_of r line then n ∷ places_from (n + 1
 
 -- the places, from 0, of the occurrences of a record: those of its lines, at most MaxRecords
 unfoldable pub occurrence_places : List RecordShape → ℕ → List (Option ℕ) → List ℕ
-occurrence_places records r lines = take (most_of records r) (places_from 0 r lines)
+occurrence_places records r lines = take (most_occurrences records r) (places_from 0 r lines)
 
 -- how many occurrences a record has
 abbrev pub occurrences : List RecordShape → ℕ → List (Option ℕ) → ℕ
@@ -32,7 +28,7 @@ occurrences records r lines = length (occurrence_places records r lines)
 -- why a line is unseen that comes after these lines of its run, if it is
 abbrev pub unseen_after : List RecordShape → List (Option ℕ) → Option ℕ → Option Unseen
 unseen_after records before None = Some Unknown
-unseen_after records before (Some r) = if nat_lt (count_by (is_of r) before) (most_of records r) then None else Some Extra
+unseen_after records before (Some r) = if nat_lt (count_by (is_of r) before) (most_occurrences records r) then None else Some Extra
 
 abbrev pub onto_unseen : ℕ → Option Unseen → List (ℕ × Unseen) → List (ℕ × Unseen)
 onto_unseen n None unseen = unseen

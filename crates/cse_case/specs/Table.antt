@@ -4,12 +4,13 @@ use Rattle.std.specs.Prelude.{◌≡◌, ◌<◌, ◌≤◌, ℕ, ◌+◌, min, 
 use Rattle.std.specs.List.{slice_index_or}
 use Rattle.cse_value.specs.declared.shape.RecordShape.{RecordShape}
 use Rattle.cse_case.specs.declared.seen.Span.{Span}
-use Rattle.cse_case.specs.Seen.{is_of, most_of, occurrence_places, places_from}
+use Rattle.cse_value.specs.Occurrences.{most_occurrences}
+use Rattle.cse_case.specs.Seen.{is_of, occurrence_places, places_from}
 
 -- how many of these lines are occurrences of each record
 pub record AreCounts (records : List RecordShape) (lines : List (Option ℕ)) (counts : List ℕ) : Type 0 where
   pub size : length counts ≡ length records
-  pub each : (r : ℕ) → r < length records → slice_index counts r ≡ min (count_by (is_of r) lines) (most_of records r)
+  pub each : (r : ℕ) → r < length records → slice_index counts r ≡ min (count_by (is_of r) lines) (most_occurrences records r)
 
 -- the span holds so many places of a record's lines
 pub record IsSpan (lines : List (Option ℕ)) (places : List ℕ) (r : ℕ) (span : Span) : Type 0 where

@@ -1,11 +1,12 @@
 //! A case: the lines of one run, read by a dictionary.
 
-ghost use Rattle.std.specs.Prelude.{◌≡◌, ◌<◌, ◌≤◌, ◌+◌, ◌^◌, List, length, map, take, IfOk};
+ghost use Rattle.std.specs.Prelude.{◌≡◌, ◌<◌, ◌≤◌, ◌+◌, ◌^◌, ℕ, Some, length, IfOk};
 ghost use Rattle.std.specs.Bool.{OnTrue, OnFalse};
 ghost use Rattle.cse_value.specs.declared.shape.ItemKind.TheVariants.{Number as ANumber, Text as AText};
 ghost use Rattle.cse_value.specs.Writing.{WritesAll, FailsAtErr};
 ghost use Rattle.cse_output.specs.Gathering.{going, Puts};
-ghost use Rattle.cse_lines.specs.Run.{written_run};
+ghost use Rattle.cse_dict.specs.Sound.{IsSound};
+ghost use Rattle.cse_lines.specs.Run.{line_at, written_run};
 ghost use Rattle.cse_case.specs.Seen.{is_case};
 ghost use Rattle.cse_case.specs.Field.{IsItem, item_at};
 ghost use Rattle.cse_case.specs.Entry.{entry_columns};
@@ -17,7 +18,7 @@ use cse_dict::{Dictionary, Unseen};
 use cse_lines::{Line, Run};
 use cse_output::Gatherer;
 use cse_value::shape::{ID_OWNER, ItemKind, ItemShape};
-use cse_value::{Failed, Num, Output, TEXT_LEN, Text, read_num, read_text};
+use cse_value::{Failed, Num, Output, Text, read_num, read_text};
 use std::alloc::{AllocError, Global};
 use std::marker::Model;
 
@@ -55,8 +56,8 @@ impl<'a> Model for Case<'a> {
 }
 
 impl<'a> Case<'a> {
-    ghost use Rattle.cse_case.specs.Case.{IsOccurrence, columns_at, items_of, number_at, place_of, places_of, records_of, types_of, unseen_lines, with_item, with_number, with_text};
-    ghost use Rattle.cse_case.specs.Fit.{IsFit};
+    ghost use Rattle.cse_case.specs.Case.{IsOccurrence, columns_at, items_of, number_at, place_of, places_of, records_of, text_at, types_of, unseen_lines, with_item, with_number, with_text};
+    ghost use Rattle.cse_case.specs.Fit.{IsFit, line_width};
 
     /// The case of a run, with these id columns. Its occurrences are counted in `counts`.
     pub(crate) fn new(
@@ -66,7 +67,9 @@ impl<'a> Case<'a> {
         ids: Vec<char>,
         run: Run,
     ) -> Result<Case<'a>, AllocError>
-        requires { run.first_line + length run.lines < 2 ^ 64 }
+        requires some { 0 < length run.lines }
+        requires wide { (place : ℕ) → place < length run.lines → length (line_at run place).columns ≡ line_width dictionary.now (line_at run place) }
+        requires few { run.first_line + length run.lines < 2 ^ 64 }
         ensures { IfOk result (λ c. c ≡ record { dictionary = dictionary.now; ids = ids.items; run = run }) }
     {
         let (columns, lines, marked, first_line) = run.into_parts();
@@ -95,9 +98,10 @@ impl<'a> Case<'a> {
         self.table.unseen.len() < self.lines.len()
     }
 
-    /// How many lines the run has.
+    /// How many lines the run has: one at least. The case fits its dictionary.
     pub fn lines(&self) -> u64
-        ensures { result ≡ length self.now.run.lines }
+        ensures lines { result ≡ length self.now.run.lines }
+        ensures fits { IsFit self.now }
     {
         self.lines.len() as u64
     }
@@ -156,15 +160,17 @@ impl<'a> Case<'a> {
         requires occurrence { IsOccurrence self.now number occurrence }
         ensures value { result ≡ place_of self.now number occurrence }
         ensures within { result < length self.now.run.lines }
+        ensures own { (line_at self.now.run result).record_number ≡ Some number }
     {
         let span = self.table.spans[number as usize];
         self.table.places[span.start + (occurrence - 1) as usize]
     }
 
-    /// An item of the dictionary.
+    /// An item of the dictionary, which is sound.
     fn item(&self, item: u16) -> &ItemShape
         requires { item < length (items_of self.now) }
-        ensures { result.now ≡ item_at (items_of self.now) item }
+        ensures item { result.now ≡ item_at (items_of self.now) item }
+        ensures sound { IsSound self.now.dictionary }
     {
         let shape = self.dictionary.shape();
         &shape.items[item as usize]
@@ -174,13 +180,15 @@ impl<'a> Case<'a> {
     fn columns_at(&self, place: usize, item: u16) -> &[char]
         requires place { place < length self.now.run.lines }
         requires item { item < length (items_of self.now) }
-        ensures { result.now ≡ columns_at self.now place item }
+        ensures columns { result.now ≡ columns_at self.now place item }
+        ensures text { (item_at (items_of self.now) item).kind ≡ AText → length result.now ≤ 255 }
     {
         let line = self.lines[place];
         field_of(self.item(item), line_columns(&self.columns, line))
     }
 
     /// The number in an item's columns, in the line at a place.
+    #[tactic(auto, unfolding(crate::specs::Case::number_at))]
     fn number_at(&self, place: usize, item: u16) -> Num
         requires place { place < length self.now.run.lines }
         requires item { item < length (items_of self.now) }
@@ -189,20 +197,19 @@ impl<'a> Case<'a> {
         read_num(self.columns_at(place, item), self.dictionary.code(item))
     }
 
-    /// The text in an item's columns, in the line at a place; of an item with more than 255 columns the
-    /// first 255.
+    /// The text in the columns of a text item, in the line at a place.
+    #[tactic(auto, unfolding(crate::specs::Case::text_at))]
     fn text_at(&self, place: usize, item: u16) -> Text
         requires place { place < length self.now.run.lines }
         requires item { item < length (items_of self.now) }
-        ensures { result.items ≡ take 255 (columns_at self.now place item) }
+        requires text { (item_at (items_of self.now) item).kind ≡ AText }
+        ensures { result.items ≡ text_at self.now place item }
     {
-        let columns = self.columns_at(place, item);
-        read_text(&columns[..TEXT_LEN.min(columns.len())])
+        read_text(self.columns_at(place, item))
     }
 
     /// The number of an item in an occurrence of its record.
     pub fn get_num(&self, number: u16, occurrence: u16, item: u16) -> Num
-        requires there { number < length (records_of self.now) }
         requires occurrence { IsOccurrence self.now number occurrence }
         requires item { IsItem (items_of self.now) number ANumber item }
         ensures { result ≡ number_at self.now (place_of self.now number occurrence) item }
@@ -210,42 +217,41 @@ impl<'a> Case<'a> {
         self.number_at(self.place(number, occurrence), item)
     }
 
-    /// The text of an item in an occurrence of its record; of an item with more than 255 columns the first
-    /// 255.
+    /// The text of an item in an occurrence of its record: all its columns.
     pub fn get_text(&self, number: u16, occurrence: u16, item: u16) -> Text
-        requires there { number < length (records_of self.now) }
         requires occurrence { IsOccurrence self.now number occurrence }
         requires item { IsItem (items_of self.now) number AText item }
-        ensures { result.items ≡ take 255 (columns_at self.now (place_of self.now number occurrence) item) }
+        ensures { result.items ≡ text_at self.now (place_of self.now number occurrence) item }
     {
         self.text_at(self.place(number, occurrence), item)
     }
 
     /// The number of an id item, which is read from the first line.
     pub fn id_num(&self, item: u16) -> Num
-        requires some { 0 < length self.now.run.lines }
         requires item { IsItem (items_of self.now) ID_OWNER ANumber item }
         ensures { result ≡ number_at self.now 0 item }
     {
+        let _lines = self.lines();
         self.number_at(0, item)
     }
 
-    /// The text of an id item, which is read from the first line; of an item with more than 255 columns
-    /// the first 255.
+    /// The text of an id item, which is read from the first line: all its columns.
     pub fn id_text(&self, item: u16) -> Text
-        requires some { 0 < length self.now.run.lines }
         requires item { IsItem (items_of self.now) ID_OWNER AText item }
-        ensures { result.items ≡ take 255 (columns_at self.now 0 item) }
+        ensures { result.items ≡ text_at self.now 0 item }
     {
+        let _lines = self.lines();
         self.text_at(0, item)
     }
 
-    /// Writes into an item of the line at a place.
+    /// Writes into an item of the line at a place, which is one of the item's record and so has all its
+    /// columns.
     fn set(&mut self, place: usize, item: u16, entry: Entry<'_>)
         requires place { place < length self.old.run.lines }
         requires item { item < length (items_of self.old) }
-        ensures changed { self.new ≡ with_item self.old place item (entry_columns entry.entry) }
-        ensures fits { IsFit self.old → IsFit self.new }
+        requires own { (line_at self.old.run place).record_number ≡ Some (item_at (items_of self.old) item).owner }
+        requires there { (item_at (items_of self.old) item).owner < length (records_of self.old) }
+        ensures { self.new ≡ with_item self.old place item (entry_columns entry.entry (item_at (items_of self.old) item).len) }
     {
         let shape = *self.item(item);
         let line = self.lines[place];
@@ -253,12 +259,12 @@ impl<'a> Case<'a> {
     }
 
     /// Writes a number into an item of an occurrence of its record, and changes nothing else.
+    #[tactic(auto, unfolding(crate::specs::Case::with_number))]
     pub fn set_num(&mut self, number: u16, occurrence: u16, item: u16, value: Num)
-        requires there { number < length (records_of self.old) }
         requires occurrence { IsOccurrence self.old number occurrence }
         requires item { IsItem (items_of self.old) number ANumber item }
         ensures changed { self.new ≡ with_number self.old number occurrence item value }
-        ensures fits { IsFit self.old → IsFit self.new }
+        ensures fits { IsFit self.new }
     {
         let place = self.place(number, occurrence);
         let entry = Entry::Number {
@@ -267,19 +273,21 @@ impl<'a> Case<'a> {
             code: self.dictionary.code(item),
         };
         self.set(place, item, entry);
+        let _lines = self.lines();
     }
 
     /// Writes a text into an item of an occurrence of its record, cut to its columns or padded with
     /// blanks, and changes nothing else.
+    #[tactic(auto, unfolding(crate::specs::Case::with_text))]
     pub fn set_text(&mut self, number: u16, occurrence: u16, item: u16, text: &Text)
-        requires there { number < length (records_of self.old) }
         requires occurrence { IsOccurrence self.old number occurrence }
         requires item { IsItem (items_of self.old) number AText item }
         ensures changed { self.new ≡ with_text self.old number occurrence item text.now.items }
-        ensures fits { IsFit self.old → IsFit self.new }
+        ensures fits { IsFit self.new }
     {
         let place = self.place(number, occurrence);
         self.set(place, item, Entry::Words(text));
+        let _lines = self.lines();
     }
 
     /// Puts the lines of the run into a buffer before a device.

@@ -6,10 +6,12 @@
 //! - `write`: how the lines of a run are written.
 //! - `source`: the id columns of a run.
 //! - `stream`, `reader`: the reader of cases.
+//! - `laws`: what a write changes and leaves alone, and which lines are seen.
 #![tactic(auto)]
 
 mod case;
 mod field;
+mod laws;
 mod reader;
 mod seen;
 mod source;
@@ -18,6 +20,10 @@ mod write;
 
 pub use case::Case;
 pub use cse_lines::{DataError, Kept};
+pub use laws::{
+    column_stays, fit_stays, ids_and_types_stay, occurrences_stay, others_stay, reads_what_was_set,
+    seen_or_unseen,
+};
 pub use reader::CaseReader;
 pub use stream::CaseStream;
 

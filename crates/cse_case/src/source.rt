@@ -1,8 +1,9 @@
 //! A dictionary with its id items, which are listed when they are first needed.
 
-ghost use Rattle.std.specs.Prelude.{◌≡◌, ◌==◌, ◌<◌, ◌+◌, ◌^◌, filter, length, map, IfOk};
+ghost use Rattle.std.specs.Prelude.{◌≡◌, ◌==◌, ◌<◌, ◌+◌, ◌^◌, ℕ, filter, length, map, IfOk};
 ghost use Rattle.cse_lines.specs.Field.{fields_at, ids_of, span_of};
 ghost use Rattle.cse_lines.specs.Run.{line_at};
+ghost use Rattle.cse_case.specs.Fit.{line_width};
 
 use crate::case::Case;
 use crate::field::field_of;
@@ -83,6 +84,7 @@ impl<'a> Source<'a> {
     /// The case of a run.
     pub fn case_of(&mut self, alloc: Global, run: Run) -> Result<Case<'a>, AllocError>
         requires some { 0 < length run.lines }
+        requires wide { (place : ℕ) → place < length run.lines → length (line_at run place).columns ≡ line_width self.old (line_at run place) }
         requires few { run.first_line + length run.lines < 2 ^ 64 }
         ensures same { self.new ≡ self.old }
         ensures made { IfOk result (λ c. c ≡ record { dictionary = self.old; ids = ids_of self.old (line_at run 0).columns; run = run }) }

@@ -86,6 +86,7 @@ impl<'a> CaseStream<'a> {
         ensures again { IfSome self.old.error (λ error. (result ≡ Err error) × (self.new ≡ self.old) × (input.new ≡ input.old)) }
         ensures end { self.new.ended ≡ true → IsAtEnd (R.remaining input.new) }
         ensures failed { self.old.error ≡ None → IfErr result (λ error. error.number ≡ 70 → (R.has_failed input.new ≡ true) ⊎ (self.new.reads ≡ 2 ^ 40)) }
+        ensures few_reads { self.old.error ≡ None → self.new.reads ≤ 2 ^ 40 }
         ensures few { self.old.error ≡ None → self.new.lines ≤ 2 ^ 40 * 65536 }
         ensures works { OnOk result (R.has_failed input.new ≡ R.has_failed input.old) }
     {

@@ -78,15 +78,30 @@ fn with_age(rt: &impl Abort, alloc: Global, line: &str, value: Num) -> Result<Ve
 
 #[test]
 fn a_number_is_written_into_its_columns(rt: HostRuntime) -> Result<(), Fail> {
-    let line = with_age(&rt, rt.alloc(), "P00211\n", Num::Whole(35))?;
-    assert_eq!(rt; line.as_slice(), b"P00211 35\n".as_slice());
-    let line = with_age(&rt, rt.alloc(), "P00111 35\n", Num::NotAppl)?;
-    assert_eq!(rt; line.as_slice(), b"P00111   \n".as_slice());
-    let line = with_age(&rt, rt.alloc(), "P00111 35\r\n", Num::Whole(1000))?;
-    assert_eq!(rt; line.as_slice(), b"P00111***\r\n".as_slice());
-    let line = with_age(&rt, rt.alloc(), "P001", Num::Whole(-5))?;
-    assert_eq!(rt; line.as_slice(), b"P001   -5".as_slice());
+    for (line, value, wanted) in [
+        ("P00211\n", Num::Whole(35), b"P00211 35\n".as_slice()),
+        ("P00111 35\n", Num::NotAppl, b"P00111   \n".as_slice()),
+        (
+            "P00111 35\r\n",
+            Num::Whole(1000),
+            b"P00111***\r\n".as_slice(),
+        ),
+        ("P001", Num::Whole(-5), b"P001   -5".as_slice()),
+    ] {
+        let written = with_age(&rt, rt.alloc(), line, value)?;
+        assert_eq!(rt; written.as_slice(), wanted);
+    }
     Ok(())
+}
+
+/// Puts a sign in place of the name's, which is this one.
+fn rename(rt: &impl Abort, case: &mut Case<'_>, name: char, other: char) {
+    assert!(rt; case.has_occurrence(0, 1));
+    assert!(rt; case.has_item(0, ItemKind::Text, NAME));
+    let mut text = case.get_text(0, 1, NAME);
+    assert_eq!(rt; text.pop(), Some(name));
+    assert!(rt; text.try_push(other).is_ok());
+    case.set_text(0, 1, NAME, &text);
 }
 
 #[test]
@@ -97,16 +112,31 @@ fn a_text_is_one_character_a_column(rt: HostRuntime) -> Result<(), Fail> {
     let Ok(Some(mut case)) = reader.next() else {
         return Err("no case".into());
     };
-    assert!(rt; case.has_occurrence(0, 1));
-    assert!(rt; case.has_item(0, ItemKind::Text, NAME));
-    let mut text = case.get_text(0, 1, NAME);
-    assert_eq!(rt; text.as_slice(), ['\u{e9}'].as_slice());
-    assert!(rt; text.pop().is_some());
-    assert!(rt; text.try_push('\u{1f600}').is_ok());
-    case.set_text(0, 1, NAME, &text);
+    rename(&rt, &mut case, '\u{e9}', '\u{1f600}');
     let line = written(rt.alloc(), &case)?;
     assert_eq!(rt; line.as_slice(), "P0011\u{1f600} 35\n".as_bytes());
     Ok(())
+}
+
+/// The lines of the second case.
+fn check_lines(rt: &impl Abort, case: &Case<'_>) {
+    assert!(rt; case.is_case());
+    assert_eq!(rt; case.lines(), 5);
+    assert_eq!(rt; case.ids(), ['0', '0', '1'].as_slice());
+    assert_eq!(rt;
+        case.unseen(),
+        [(3, Unseen::Unknown), (6, Unseen::Extra)].as_slice()
+    );
+}
+
+/// The items of the second case.
+fn check_items(rt: &impl Abort, case: &Case<'_>) {
+    assert!(rt; !case.has_occurrence(0, 4));
+    assert!(rt; case.has_occurrence(0, 3));
+    assert!(rt; case.has_item(0, ItemKind::Number, AGE));
+    assert_eq!(rt; case.get_num(0, 3, AGE), Num::Whole(5));
+    assert!(rt; case.has_item(u16::from(ID_OWNER), ItemKind::Number, HH));
+    assert_eq!(rt; case.id_num(HH), Num::Whole(1));
 }
 
 #[test]
@@ -122,23 +152,34 @@ fn a_case_tells_its_lines(rt: HostRuntime) -> Result<(), Fail> {
     let Ok(Some(case)) = reader.next() else {
         return Err("no case".into());
     };
-    assert!(rt; case.is_case());
-    assert_eq!(rt; case.lines(), 5);
-    assert_eq!(rt; case.ids(), ['0', '0', '1'].as_slice());
-    assert_eq!(rt;
-        case.unseen(),
-        [(3, Unseen::Unknown), (6, Unseen::Extra)].as_slice()
-    );
-    assert!(rt; !case.has_occurrence(0, 4));
-    assert!(rt; case.has_occurrence(0, 3));
-    assert!(rt; case.has_item(0, ItemKind::Number, AGE));
-    assert_eq!(rt; case.get_num(0, 3, AGE), Num::Whole(5));
-    assert!(rt; case.has_item(u16::from(ID_OWNER), ItemKind::Number, HH));
-    assert!(rt; case.lines() > 0);
-    assert_eq!(rt; case.id_num(HH), Num::Whole(1));
-    let kept = reader.kept();
-    assert!(rt; kept.lines <= 1);
+    check_lines(&rt, &case);
+    check_items(&rt, &case);
     Ok(())
+}
+
+/// The answers of a reader of the bytes, which fails before byte `breaks`: so many cases, and then this
+/// fault for good.
+fn check_fault(
+    rt: &impl Abort,
+    d: &Dictionary,
+    alloc: Global,
+    bytes: &[u8],
+    breaks: usize,
+    cases: usize,
+    fault: DataError,
+) {
+    let mut input = Pieces {
+        bytes,
+        breaks,
+        failed: false,
+    };
+    let mut reader = CaseReader::new(alloc, d, &mut input);
+    for call in 0..cases.saturating_add(3) {
+        match reader.next() {
+            Ok(_) => assert!(rt; call < cases),
+            Err(error) => assert_eq!(rt; (call < cases, error), (false, fault)),
+        }
+    }
 }
 
 #[test]
@@ -148,18 +189,7 @@ fn an_error_is_for_good(rt: HostRuntime) -> Result<(), Fail> {
         number: 20,
         line: 2,
     };
-    let mut input = Pieces {
-        bytes: b"P001\n\xff\nP002\n",
-        breaks: 99,
-        failed: false,
-    };
-    let mut reader = CaseReader::new(rt.alloc(), &d, &mut input);
-    for _ in 0..4 {
-        let Err(error) = reader.next() else {
-            return Err("no error".into());
-        };
-        assert_eq!(rt; error, fault);
-    }
+    check_fault(&rt, &d, rt.alloc(), b"P001\n\xff\nP002\n", 99, 0, fault);
     Ok(())
 }
 
@@ -171,21 +201,15 @@ fn an_input_fails_for_good(rt: HostRuntime) -> Result<(), Fail> {
         line: 0,
     };
     for breaks in 0..12 {
-        let mut input = Pieces {
-            bytes: b"P001\nP002\nP003\n",
+        check_fault(
+            &rt,
+            &d,
+            rt.alloc(),
+            b"P001\nP002\nP003\n",
             breaks,
-            failed: false,
-        };
-        let mut reader = CaseReader::new(rt.alloc(), &d, &mut input);
-        for _ in 0..breaks / 10 {
-            assert!(rt; reader.next().is_ok());
-        }
-        for _ in 0..3 {
-            let Err(error) = reader.next() else {
-                return Err("no error".into());
-            };
-            assert_eq!(rt; error, fault);
-        }
+            breaks / 10,
+            fault,
+        );
     }
     Ok(())
 }

@@ -116,6 +116,13 @@ refit G laws there back = record {
   again = λ a rest h. laws.again a rest (back a h);
 }
 
+-- another way to write the same spelling
+pub respell : {A : Type 0} {r : Reader A} {w : A → List ℕ} {F : A → Type 0} (v : A → List ℕ) → Laws r w F → ((a : A) → F a → w a ≡ v a) → Laws r v F
+respell {A} {r} {w} {F} v laws same = record {
+  takes = λ bytes x ok_bytes e. let t = laws.takes bytes x ok_bytes e in (subst (λ (y : List ℕ). Takes bytes y x.1) (same x.0 t.1) t.0, t.1);
+  again = λ a rest h. subst (λ (y : List ℕ). r (y ++ rest) ≡ Ok (a, rest)) (same a h) (laws.again a rest h);
+}
+
 test_ok : {A : Type 0} (b : Bool) (d : Fault) (x y : A) → cond b (ok x) (Err d) ≡ Ok y → (b ≡ true) × (x ≡ y)
 test_ok true d x y e = (refl, cc)
 test_ok false d x y e = absurd cc

@@ -9,7 +9,6 @@ pub mod InsideLaws
 pub mod LineLaws
 pub mod LoadLaws
 pub mod OnceLaws
-pub mod PlaceLaws
 pub mod SaveLaws
 pub mod SavedLaws
 pub mod StoreLaws

@@ -1,6 +1,6 @@
 //! Lines of a deck text.
 
-ghost use Rattle.std.specs.Prelude.{◌≡◌, ◌==◌, ◌<◌, ◌≤◌, ◌+◌, [], ◌∷◌, position, MatchOption, IsTrue, length, take, drop};
+ghost use Rattle.std.specs.Prelude.{◌≡◌, ◌==◌, ◌<◌, ◌≤◌, ◌+◌, [], ◌∷◌, MatchOption, IsTrue, length, take, drop};
 ghost use Rattle.std.specs.List.{list_all};
 ghost use Rattle.std.specs.Char.{is_ascii_digit};
 ghost use Rattle.std.specs.Option.{option_map};
@@ -8,6 +8,7 @@ ghost use Rattle.cse_value.specs.Field.{field};
 ghost use Rattle.cse_decks.specs.Loading.{cut, cell_of, if_shown, blank_place, word, after_word, is_plain, after_size, are_sizes, is_array_line};
 
 use arrayvec::ArrayVec;
+use cse_sections::text::place_of;
 use cse_value::{Num, read_num, show_num};
 use memchr::memchr;
 
@@ -62,13 +63,6 @@ fn number_in(line: &[u8]) -> Num
         columns.push(*byte as char);
     }
     read_num(columns.as_slice(), None)
-}
-
-/// Where the byte first stands.
-fn place_of(byte: u8, text: &[u8]) -> Option<usize>
-    ensures { result ≡ position (λ b. b == byte) text.now }
-{
-    memchr(byte, text)
 }
 
 /// Where the first blank stands, or the end.

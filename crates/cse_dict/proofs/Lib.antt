@@ -2,6 +2,9 @@ pub mod NameLaws
 pub mod PieceLaws
 pub mod PlaceLaws
 pub mod LimitLaws
+pub mod ReadLaws
+pub mod ItemLaws
+pub mod SoundLaws
 pub mod LeastLaws
 pub mod SearchLaws
 pub mod RowLaws

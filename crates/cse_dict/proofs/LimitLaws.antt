@@ -1,9 +1,8 @@
 -- Where there is no fault, records, items and sets keep to their limits.
-use Rattle.std.proofs.Common.{◌≡◌, ◌≤◌, ◌<◌, ◌+◌, ◌-◌, sym, ap, ◌∙◌, subst, get_or, take, drop, ℕ, Bool, true, false, List, [], ◌∷◌, ◌++◌, length, refl, arith, Option, length-append}
+use Rattle.std.proofs.Common.{◌≡◌, ◌≤◌, ◌<◌, ◌+◌, ◌-◌, ◌∙◌, ℕ, Bool, true, false, List, [], ◌∷◌, ◌++◌, length, refl, arith, Option, length-append}
 use Rattle.std.specs.Prelude.{nat_le, if◌then◌else◌}
 use Rattle.std.specs.Str.{is_utf8}
 use Rattle.std.proofs.lemmas.Bool.{leb-false}
-use Rattle.std.proofs.lemmas.List.{take_rest}
 use Rattle.cse_sections.specs.Sections.{SectionText, sections_of}
 use Rattle.cse_dict.specs.Keys.{kind_of}
 use Rattle.cse_dict.specs.Types.{type_len_of}
@@ -14,17 +13,8 @@ use Rattle.cse_dict.specs.Dictionary.{IsSmall, dictionary_of, item_by_kind, item
 use Rattle.cse_dict.specs.declared.keys.Kind.{Kind}
 use Rattle.cse_dict.specs.declared.keys.Kind.TheVariants.{Dictionary, Level, IdItems, Record, Item, ValueSet, Other}
 use Rattle.cse_dict.specs.declared.field.Columns.{Columns}
-use Rattle.cse_dict.specs.declared.fault.DictError.{DictError}
 use Rattle.cse_dict.specs.declared.seen.Seen.{Seen}
-
-append_none : (xs ys : List DictError) → xs ++ ys ≡ [] → (xs ≡ []) × (ys ≡ [])
-append_none [] ys h = (refl, h)
-append_none (x ∷ xs) ys h = cc
-
--- a rule that gives no fault fails
-no_fault : (b : Bool) (line number : ℕ) → fault_if b line number ≡ [] → b ≡ false
-no_fault true line number h = cc
-no_fault false line number h = refl
+use Rattle.cse_dict.proofs.ReadLaws.{append_none, no_fault}
 
 -- a count below its limit
 below_limit : (limit n line number : ℕ) → fault_if (nat_le limit n) line number ≡ [] → n < limit
@@ -35,7 +25,7 @@ abbrev Keeps : ℕ → ℕ → ℕ → ℕ → Type 0
 Keeps limit before more after = (after ≤ limit) × (before + more ≤ after)
 
 module _ (covered : List Columns) (len : Option ℕ) (seen : Seen) (s : SectionText) where
-  record_below : record_faults len seen s ≡ [] → seen.context.records < 200
+  pub record_below : record_faults len seen s ≡ [] → seen.context.records < 200
   unfolding record_faults record_head_faults
   record_below h = below_limit 200 _ _ _ ((append_none _ _ ((append_none _ _ ((append_none _ _ ((append_none _ _ h).0)).0)).0)).0)
 
@@ -128,7 +118,7 @@ module _ (covered : List Columns) (len : Option ℕ) where
       let last = rw (context_along covered len seen s) at here.1 in
       omega (arith, last, rest, length-append (set_in seen.context s) (sets_from (context_after seen.context s) ss))
 
-rest_none : (first : SectionText) (rest : List SectionText) → faults_behind first rest ≡ [] → rest_faults first (read_part rest) ≡ []
+pub rest_none : (first : SectionText) (rest : List SectionText) → faults_behind first rest ≡ [] → rest_faults first (read_part rest) ≡ []
 unfolding faults_behind
 rest_none first rest h = (append_none _ _ ((append_none _ _ ((append_none _ _ h).1)).0)).1
 
@@ -168,14 +158,3 @@ sections_sound bytes h = by (is_utf8 bytes) h
     by : (v : Bool) → (if v then faults_of (sections_of bytes) else record { number = 10; line = 0 } ∷ []) ≡ [] → faults_of (sections_of bytes) ≡ []
     by true h = h
     by false h = cc
-
--- sections by the first one and those behind it
-sections_split : (ss : List SectionText) (s : SectionText) → 1 ≤ length ss → s ≡ get_or ss 0 s → ss ≡ s ∷ take (length ss - 1) (drop 1 ss)
-sections_split [] s long is = absurd (omega (arith, long))
-sections_split (x ∷ xs) s long is = sym (ap (λ y. y ∷ take (length (x ∷ xs) - 1) (drop 1 (x ∷ xs))) is ∙ ap (λ r. x ∷ r) (take_rest (x ∷ xs) 1))
-
-pub IsSmall-split : (ss : List SectionText) (s : SectionText) → 1 ≤ length ss → s ≡ get_or ss 0 s → faults_of ss ≡ []
-    → IsSmall (dictionary_of (s ∷ take (length ss - 1) (drop 1 ss)))
-IsSmall-split ss s long is none =
-    let P : List SectionText → Type 0 = λ xs. IsSmall (dictionary_of xs) in
-    subst P (sections_split ss s long is) (IsSmall-sections ss none)

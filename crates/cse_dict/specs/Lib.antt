@@ -7,4 +7,5 @@ pub mod Context
 pub mod Faults
 pub mod Dictionary
 pub mod Reading
+pub mod Sound
 pub mod Kept

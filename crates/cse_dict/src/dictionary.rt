@@ -1,5 +1,5 @@
 //! A dictionary, and how it is read.
-ghost use Rattle.std.specs.Prelude.{◌≡◌, ℕ, ◌≤◌, [], ◌∷◌, None, map, find, length, unwrap_or, OnOk, IfOk, IfErr};
+ghost use Rattle.std.specs.Prelude.{◌≡◌, ℕ, ◌≤◌, length, [], ◌∷◌, None, map, find, unwrap_or, OnOk, IfOk, IfErr};
 ghost use Rattle.cse_value.specs.Shape.{shape_lists};
 ghost use Rattle.cse_sections.specs.Sections.{sections_of};
 ghost use Rattle.std.specs.Option.{option_copied};
@@ -8,7 +8,9 @@ ghost use Rattle.cse_dict.specs.Faults.{faults_of, is_level, note_all};
 ghost use Rattle.cse_dict.specs.Fields.{type_columns_of};
 ghost use Rattle.cse_dict.specs.Reading.{IsAnswer, IsNoted, text_faults};
 ghost use Rattle.cse_dict.specs.Kept.{IsKept};
-ghost use Rattle.cse_dict.specs.Dictionary.{DictionaryText, IsSmall, dictionary_of, level_name_of, no_columns};
+ghost use Rattle.cse_dict.specs.Sound.{IsSound};
+ghost use Rattle.cse_dict.specs.Context.{covered_by, no_context};
+ghost use Rattle.cse_dict.specs.Dictionary.{DictionaryText, IsSmall, dictionary_of, items_from, level_name_of, name_at, no_columns, places_from};
 
 use crate::context::covered_by;
 use crate::fault::DictError;
@@ -51,7 +53,14 @@ impl Model for Dictionary {
       sets = d.sets.items;
     } };
 
-    ghost invariant = { λ d. IsKept d.records.items d.items.items d.sets.items d.record_places d.item_places d.set_places (shape_lists d.shape) };
+    ghost invariant = { λ d. IsKept (record {
+      name = string_bytes d.name;
+      level_name = string_bytes d.level_name;
+      type_columns = d.type_columns;
+      records = d.records.items;
+      items = d.items.items;
+      sets = d.sets.items;
+    }) d.record_places d.item_places d.set_places (shape_lists d.shape) };
 }
 
 /// The shapes of records.
@@ -115,7 +124,52 @@ fn type_columns_or_none(first: &Section<'_>) -> Columns
     }
 }
 
-/// What stands at the names of records, items and value sets, and their shapes.
+/// The shapes of all.
+fn shape_of(
+    alloc: Global,
+    records: &[Record],
+    items: &[Item],
+    sets: &[Set],
+) -> Result<Shape, AllocError>
+    ensures { IfOk result (λ shape. shape_lists shape ≡ record {
+      records = map (λ r. r.shape) records.now;
+      items = map (λ i. i.shape) items.now;
+      sets = map (λ s. s.shape) sets.now;
+    }) }
+{
+    let records = record_shapes(alloc, records)?;
+    let items = item_shapes(alloc, items)?;
+    let sets = set_shapes(alloc, sets)?;
+    Ok(Shape {
+        records,
+        items,
+        sets,
+    })
+}
+
+/// What stands at the names of records, items and value sets.
+fn places_of(
+    alloc: Global,
+    records: &[Record],
+    items: &[Item],
+    sets: &[Set],
+) -> Result<(Places, Places, Places), AllocError>
+    requires records { length records.now ≤ 200 }
+    requires items { length items.now ≤ 10000 }
+    requires sets { length sets.now ≤ 10000 }
+    ensures { IfOk result (λ p. p ≡ (
+      places_from [] 0 (map (λ r. r.name) records.now),
+      places_from [] 0 (map (λ i. i.name) items.now),
+      places_from [] 0 (map (λ s. s.name) sets.now),
+    )) }
+{
+    let records = record_places(alloc, records)?;
+    let items = item_places(alloc, items)?;
+    let sets = set_places(alloc, sets)?;
+    Ok((records, items, sets))
+}
+
+/// A dictionary of its parts. What can fail is asked of two functions, since each exit drops all parts.
 fn dictionary_with(
     alloc: Global,
     names: (String, String),
@@ -124,9 +178,14 @@ fn dictionary_with(
     items: Vec<Item>,
     sets: Vec<Set>,
 ) -> Result<Dictionary, AllocError>
-    requires records { length records.items ≤ 200 }
-    requires items { length items.items ≤ 10000 }
-    requires sets { length sets.items ≤ 10000 }
+    requires { IsSound (record {
+      name = string_bytes names.0;
+      level_name = string_bytes names.1;
+      type_columns = type_columns;
+      records = records.items;
+      items = items.items;
+      sets = sets.items;
+    }) }
     ensures { IfOk result (λ d. d ≡ record {
       name = string_bytes names.0;
       level_name = string_bytes names.1;
@@ -136,14 +195,8 @@ fn dictionary_with(
       sets = sets.items;
     }) }
 {
-    let record_places = record_places(alloc, &records)?;
-    let item_places = item_places(alloc, &items)?;
-    let set_places = set_places(alloc, &sets)?;
-    let shape = Shape {
-        records: record_shapes(alloc, &records)?,
-        items: item_shapes(alloc, &items)?,
-        sets: set_shapes(alloc, &sets)?,
-    };
+    let shape = shape_of(alloc, &records, &items, &sets)?;
+    let (record_places, item_places, set_places) = places_of(alloc, &records, &items, &sets)?;
     let (name, level_name) = names;
     Ok(Dictionary {
         name,
@@ -159,6 +212,31 @@ fn dictionary_with(
     })
 }
 
+/// The names of the dictionary and of its level.
+fn names_of(
+    alloc: Global,
+    first: &Section<'_>,
+    read: &[Section<'_>],
+) -> Result<(String, String), AllocError>
+    ensures { IfOk result (λ names. (string_bytes names.0 ≡ name_at first.now) × (string_bytes names.1 ≡ level_name_of read.now)) }
+{
+    let name = name_at(alloc, first)?;
+    let level_name = level_name_of(alloc, read)?;
+    Ok((name, level_name))
+}
+
+/// The items of the sections behind the first one.
+fn items_behind(
+    alloc: Global,
+    first: &Section<'_>,
+    read: &[Section<'_>],
+) -> Result<Vec<Item>, AllocError>
+    ensures { IfOk result (λ v. v.items ≡ items_from (covered_by first.now read.now) no_context read.now) }
+{
+    let covered = covered_by(alloc, first, read)?;
+    items_of(alloc, &covered, read)
+}
+
 /// The dictionary of a first section and those behind it.
 #[tactic(auto, unfolding(crate::specs::Dictionary::dictionary_of, crate::specs::Faults::read_part))]
 fn dictionary_behind(
@@ -166,25 +244,16 @@ fn dictionary_behind(
     first: &Section<'_>,
     rest: &[Section<'_>],
 ) -> Result<Dictionary, AllocError>
-    requires { IsSmall (dictionary_of (first.now ∷ rest.now)) }
+    requires { IsSound (dictionary_of (first.now ∷ rest.now)) }
     ensures { IfOk result (λ d. d ≡ dictionary_of (first.now ∷ rest.now)) }
 {
     let read = &rest[..read_len(rest)];
-    let name = name_at(alloc, first)?;
-    let level_name = level_name_of(alloc, read)?;
+    let names = names_of(alloc, first, read)?;
     let type_columns = type_columns_or_none(first);
     let records = records_of(alloc, type_len_of(first), read)?;
-    let covered = covered_by(alloc, first, read)?;
-    let items = items_of(alloc, &covered, read)?;
+    let items = items_behind(alloc, first, read)?;
     let sets = sets_of(alloc, read)?;
-    dictionary_with(
-        alloc,
-        (name, level_name),
-        type_columns,
-        records,
-        items,
-        sets,
-    )
+    dictionary_with(alloc, names, type_columns, records, items, sets)
 }
 
 /// The dictionary of sections without a fault.

@@ -8,6 +8,7 @@ mod fault;
 mod faults;
 mod field;
 mod keys;
+mod laws;
 mod lookup;
 mod names;
 mod pairs;
@@ -21,6 +22,7 @@ mod whole;
 
 pub use dictionary::Dictionary;
 pub use fault::DictError;
+pub use laws::sound_without_fault;
 pub use lookup::Unseen;
 
 #[cfg(test)]

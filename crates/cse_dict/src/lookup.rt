@@ -3,6 +3,7 @@ ghost use Rattle.std.specs.Prelude.{◌≡◌, ◌<◌, ◌≤◌, length, posit
 ghost use Rattle.std.specs.Option.{option_copied};
 ghost use Rattle.std.specs.Str.{bytes_eq};
 ghost use Rattle.cse_value.specs.Shape.{shape_lists};
+ghost use Rattle.cse_dict.specs.Sound.{IsSound};
 ghost use Rattle.cse_dict.specs.Dictionary.{IsSmall, code_at, item_name_at, item_names, number_named, number_of_type, record_name_at, record_names, row_in, rows_at, set_name_at, set_names, shape_of, spans_at, zero_fill_at};
 
 use crate::dictionary::Dictionary;
@@ -65,10 +66,11 @@ impl Dictionary {
         (self.type_columns.start, self.type_columns.len)
     }
 
-    /// The records, items and sets, as a program must know them.
+    /// The records, items and sets, as a program must know them. Whoever has a dictionary has a sound one.
     pub fn shape(&self) -> &Shape
         ensures shape { shape_lists result.now ≡ shape_of self.now }
         ensures small { IsSmall self.now }
+        ensures sound { IsSound self.now }
     {
         &self.shape
     }

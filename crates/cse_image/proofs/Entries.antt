@@ -10,17 +10,20 @@ use Rattle.cse_parts.specs.declared.entries.GlobalVariable.{GlobalVariable}
 use Rattle.cse_parts.specs.declared.entries.Local.{Local}
 use Rattle.cse_parts.specs.declared.entries.EventEntry.{EventEntry}
 use Rattle.cse_parts.specs.declared.instruction.Instr.{Instr}
+use Rattle.cse_parts.specs.declared.version.Version.{Version}
+use Rattle.cse_parts.specs.declared.version.Version.TheVariants as versions
+use Rattle.cse_parts.specs.Versions.{may_give}
 use Rattle.cse_parts.specs.Image.{ArrayLists, MessageLists, RoutineLists}
 use Rattle.cse_parts.specs.Texts.{is_text, is_short, is_name, is_new}
 use Rattle.cse_parts.specs.Placeholders.{has_few_placeholders}
-use Rattle.cse_parts.specs.Fields.{fits_global_length, fits_local_length, fits_owner, fits_kind, are_locals, is_dimension_count, is_dimension, cells_in, is_room_for_cells, fits_cells, is_room_for_code, is_after}
+use Rattle.cse_parts.specs.Fields.{fits_global_length, fits_local_length, fits_owner, fits_kind, are_locals, is_limit, is_dimension_count, is_dimension, cells_in, is_room_for_cells, fits_cells, is_room_for_code, is_after}
 use Rattle.cse_parts.specs.Opcodes.{fits_a, fits_b, fits_c}
 use Rattle.cse_codec.specs.declared.fault.Rule.TheVariants.{Form, Limit}
 use Rattle.cse_codec.specs.Reader.{many, AllAfter}
-use Rattle.cse_codec.specs.Spelling.{u16}
-use Rattle.cse_codec.proofs.Algebra.{Laws, field, last, refit, checked_laws, bytes_laws, number_laws, signed_laws, many_laws, each_laws}
-use Rattle.cse_image.specs.Reading.{zero_at, record_at, item_at, set_at, characters_at, text_at, global_at, has_room_at_last, dimension_at, name_at, array_at, message_at, local_at, routine_at, event_at, instr_at}
-use Rattle.cse_image.specs.Spelling.{record_shape, item_shape, set_shape, text, global, array, message, local, routine, event, instr, RecordFits, ItemFits, SetFits, TextFits, GlobalFits, DimensionFits, ArrayFits, MessageFits, LocalFits, LocalsFit, RoutineFits, EventFits, InstrFits}
+use Rattle.cse_codec.specs.Spelling.{u16, u32}
+use Rattle.cse_codec.proofs.Algebra.{Laws, field, finish, last, refit, counted_laws, checked_laws, bytes_laws, number_laws, signed_laws, many_laws, each_laws}
+use Rattle.cse_image.specs.Reading.{limit_at, limits_at, zero_at, record_at, item_at, set_at, characters_at, text_at, global_at, has_room_at_last, dimension_at, name_at, array_at, message_at, local_at, routine_at, event_at, instr_at}
+use Rattle.cse_image.specs.Spelling.{record_shape, item_shape, set_shape, limits, text, global, array, message, local, routine, event, instr, RecordFits, ItemFits, SetFits, LimitFits, LimitsFit, TextFits, GlobalFits, DimensionFits, ArrayFits, MessageFits, LocalFits, LocalsFit, RoutineFits, EventFits, InstrFits}
 use Rattle.cse_image.proofs.Codes.{flag_laws, item_kind_laws, global_kind_laws, local_kind_laws, ambient_laws, gift_laws, event_code_laws, op_laws}
 use Rattle.cse_image.proofs.Sizes.{some_rank, small_rank, name_size}
 
@@ -60,6 +63,15 @@ set_laws =
     (λ x h. (refl, (let whole : ◌≡◌ {A = SetShape} (record { item = x.item; rows = x.rows; partial = x.partial }) x = refl in cc))))))
 
 -- ---- values
+
+limit_laws : Laws limit_at u32 LimitFits
+unfolding limit_at
+limit_laws = refit LimitFits (checked_laws Form is_limit (number_laws 4)) (λ n h. record { size = h.0; some = h.1 }) (λ n h. (h.size, h.some))
+
+pub limits_laws : (version : Version) → Laws (limits_at version) (limits version) (LimitsFit version)
+unfolding limits_at
+limits_laws versions.One = finish [] (λ xs. xs ≡ []) refl (λ xs h. h)
+limits_laws versions.Two = counted_laws 65536 (omega arith) (λ before. limit_laws)
 
 record CharactersFit (len : ℕ) (t : List ℕ) : Type 0 where
   size : length t ≡ len
@@ -191,19 +203,19 @@ local_laws parameters index =
     (λ n n_fits. (let fits : LocalFits parameters index (record { kind = kind; owner = owner; length = n }) = record { kind = assumption; owner_size = assumption; owner = assumption; length_size = assumption; length = assumption } in assumption fits))
     (λ x h. ((assumption, (let r : fits_local_length x.kind x.length ≡ true = assumption in let e : x.kind ≡ kind = assumption in cc)), (let whole : ◌≡◌ {A = Local} (record { kind = x.kind; owner = x.owner; length = x.length }) x = refl in cc)))))
 
-pub routine_laws : (before : ℕ) → Laws (routine_at before) routine (RoutineFits before)
+pub routine_laws : (version : Version) (before : ℕ) → Laws (routine_at version before) routine (RoutineFits version before)
 unfolding routine_at
-routine_laws before =
-    field (λ x. x.ambient) (RoutineFits before) ambient_laws (λ x h. tt) (λ ambient a.
-    field (λ x. x.gives) _ gift_laws (λ x h. tt) (λ gives g.
+routine_laws version before =
+    field (λ x. x.ambient) (RoutineFits version before) ambient_laws (λ x h. tt) (λ ambient a.
+    field (λ x. x.gives) _ (checked_laws Form (may_give version) gift_laws) (λ x h. (tt, h.0.gives)) (λ gives g.
     field (λ x. x.parameters) _ (number_laws 1) (λ x h. assumption) (λ parameters p.
     field (λ x. length x.locals) _ (checked_laws Form (are_locals parameters) (number_laws 1)) (λ x h. (assumption, (let r : are_locals x.parameters (length x.locals) ≡ true = assumption in let e : x.parameters ≡ parameters = assumption in cc))) (λ count c.
     field (λ x. x.locals) _ (many_laws count (λ before. local_laws parameters (length before)))
     (λ x h. (let r : AllAfter (λ before. LocalFits x.parameters (length before)) [] x.locals = assumption in let e : x.parameters ≡ parameters = assumption in subst (λ (n : ℕ). AllAfter (λ before. LocalFits n (length before)) [] x.locals) e r, assumption)) (λ locals locals_fit.
     last (λ n. record { ambient = ambient; gives = gives; parameters = parameters; locals = locals; instructions = n }) (λ x. x.instructions) _ (checked_laws Limit (is_room_for_code before) (number_laws 4))
     (λ n n_fits. (let all : LocalsFit parameters locals = record { count = omega arith; among = cc; each = assumption } in
-    let fits : RoutineFits before (record { ambient = ambient; gives = gives; parameters = parameters; locals = locals; instructions = n })
-    = record { parameters = assumption; locals = all; size = assumption; room = assumption } in assumption fits))
+    let fits : RoutineFits version before (record { ambient = ambient; gives = gives; parameters = parameters; locals = locals; instructions = n })
+    = record { gives = assumption; parameters = assumption; locals = all; size = assumption; room = assumption } in assumption fits))
     (λ x h. (assumption, (let whole : ◌≡◌ {A = RoutineLists} (record { ambient = x.ambient; gives = x.gives; parameters = x.parameters; locals = x.locals; instructions = x.instructions }) x = refl in cc))))))))
 
 pub event_laws : (last : Option EventEntry) → Laws (event_at last) event (EventFits last)
@@ -220,15 +232,15 @@ event_laws before =
 
 -- ---- instructions
 
-pub instr_laws : Laws instr_at instr InstrFits
+pub instr_laws : (version : Version) → Laws (instr_at version) instr (InstrFits version)
 unfolding instr_at
-instr_laws =
-    field (λ x. x.op) InstrFits op_laws (λ x h. tt) (λ op u.
+instr_laws version =
+    field (λ x. x.op) (InstrFits version) op_laws (λ x h. tt) (λ op u.
     field (λ x. x.a) _ (checked_laws Form (fits_a op) (number_laws 1))
     (λ x h. (assumption, (let r : fits_a x.op x.a ≡ true = assumption in let e : x.op ≡ op = assumption in cc))) (λ a a_fits.
-    field (λ x. x.b) _ (checked_laws Form (fits_b op) (number_laws 2))
-    (λ x h. (assumption, (let r : fits_b x.op x.b ≡ true = assumption in let e : x.op ≡ op = assumption in cc))) (λ b b_fits.
+    field (λ x. x.b) _ (checked_laws Form (fits_b version op) (number_laws 2))
+    (λ x h. (assumption, (let r : fits_b version x.op x.b ≡ true = assumption in let e : x.op ≡ op = assumption in cc))) (λ b b_fits.
     last (λ c. record { op = op; a = a; b = b; c = c }) (λ x. x.c) _ (checked_laws Form (fits_c op a) (number_laws 4))
-    (λ c c_fits. (let fits : InstrFits (record { op = op; a = a; b = b; c = c })
+    (λ c c_fits. (let fits : InstrFits version (record { op = op; a = a; b = b; c = c })
     = record { a_size = assumption; a = assumption; b_size = assumption; b = assumption; c_size = assumption; c = assumption } in assumption fits))
     (λ x h. ((assumption, (let r : fits_c x.op x.a x.c ≡ true = assumption in let e : x.op ≡ op = assumption in let f : x.a ≡ a = assumption in cc)), (let whole : ◌≡◌ {A = Instr} (record { op = x.op; a = x.a; b = x.b; c = x.c }) x = refl in cc))))))

@@ -4,4 +4,5 @@ pub mod Codes
 pub mod Entries
 pub mod ImageLaws
 pub mod Views
+pub mod Upgrades
 pub mod Whole

@@ -9,19 +9,20 @@ use Rattle.cse_parts.specs.Image.{RoutineLists, routine_lists, Lists}
 use Rattle.std.proofs.Common.{take, get_or, length}
 use Rattle.std.proofs.lemmas.List.{take_more, map_push}
 use Rattle.cse_parts.specs.Fields.{instructions_in, is_room_for_code}
+use Rattle.cse_parts.specs.declared.version.Version.{Version}
 use Rattle.cse_codec.specs.Reader.{AllAfter}
 use Rattle.cse_image.specs.Spelling.{RoutineFits, ListsFit}
 use Rattle.std.proofs.Common.{append_assoc, sym, true, ap, ◌∙◌}
 
-after_small : (before xs : List RoutineLists) → instructions_in before ≤ 1000000 → AllAfter (λ before. RoutineFits (instructions_in before)) before xs → instructions_in (before ++ xs) ≤ 1000000
-after_small before [] small h = rw append-nil small
-after_small before (x ∷ xs) small h =
+after_small : (version : Version) (before xs : List RoutineLists) → instructions_in before ≤ 1000000 → AllAfter (λ before. RoutineFits version (instructions_in before)) before xs → instructions_in (before ++ xs) ≤ 1000000
+after_small version before [] small h = rw append-nil small
+after_small version before (x ∷ xs) small h =
     let p : (leb 1 x.instructions ≡ true) × (leb (instructions_in before + x.instructions) 1000000 ≡ true) = and_parts _ _ h.0.room in
     let step : instructions_in (before ++ x ∷ []) ≤ 1000000 = omega (arith, sum_by_push (λ r. r.instructions) before x, leb-true (instructions_in before + x.instructions) 1000000 p.1) in
-    subst (λ (ys : List RoutineLists). instructions_in ys ≤ 1000000) (append_assoc before (x ∷ []) xs) (after_small (before ++ x ∷ []) xs step h.1)
+    subst (λ (ys : List RoutineLists). instructions_in ys ≤ 1000000) (append_assoc before (x ∷ []) xs) (after_small version (before ++ x ∷ []) xs step h.1)
 
-pub total_small : (x : Lists) → ListsFit x → instructions_in x.routines ≤ 1000000
-total_small x fits = after_small [] x.routines (omega arith) fits.routines.each
+pub total_small : (version : Version) (x : Lists) → ListsFit version x → instructions_in x.routines ≤ 1000000
+total_small version x fits = after_small version [] x.routines (omega arith) fits.routines.each
 
 numbers : (xs : List Routine) → map (λ r. r.instructions) (map routine_lists xs) ≡ map (λ r. r.instructions) xs
 numbers [] = refl

@@ -10,10 +10,11 @@ use Rattle.cse_image.specs.declared.error.ImageError.{ImageError}
 use Rattle.cse_image.specs.Place.{error_of, Answers}
 use Rattle.cse_parts.specs.Image.{Image}
 use Rattle.cse_codec.specs.Reader.{fault, without_rest, Fails}
-use Rattle.cse_image.specs.Reading.{image_at, reading}
-use Rattle.cse_image.specs.Spelling.{spelling, Spells}
+use Rattle.cse_parts.specs.declared.version.Version.{Version}
+use Rattle.cse_image.specs.Reading.{Edition, edition, edition_at, whole_edition, programs, reading}
+use Rattle.cse_image.specs.Spelling.{spelling_in, SpellsIn, program_in, StandFor}
 use Rattle.cse_codec.specs.Reader.{IsBytes}
-use Rattle.cse_image.proofs.ImageLaws.{image_laws}
+use Rattle.cse_image.proofs.ImageLaws.{edition_laws}
 
 ended_ok : {A : Type 0} (b : Bool) (f : Fault) (x y : A) → cond b (Ok x) (Err f) ≡ Ok y → (b ≡ true) × (x ≡ y)
 ended_ok true f x y e = (refl, cc)
@@ -30,18 +31,32 @@ not_both : {Y : Type 0} (read : Result Y Fault) (f : Fault) (x : Y) → read ≡
 not_both (Ok y) f x p q = absurd cc
 not_both (Err g) f x p q = absurd cc
 
-pub reading_found : (bytes : List ℕ) (x : Image) → IsBytes bytes → reading bytes ≡ Ok x → Spells x bytes
-unfolding reading
-reading_found bytes x fits e =
-    let t = image_laws.takes bytes (x, []) fits (all_ok (image_at bytes) x e) in
-    record { fits = t.1; bytes_are = t.0.parts ∙ append-nil (spelling x) }
+pub edition_found : (bytes : List ℕ) (e : Edition) → IsBytes bytes → whole_edition bytes ≡ Ok e → SpellsIn e.version e.image bytes
+unfolding whole_edition
+edition_found bytes e fits read =
+    let t = edition_laws.takes bytes (e, []) fits (all_ok (edition_at bytes) e read) in
+    record { fits = t.1; bytes_are = t.0.parts ∙ append-nil (spelling_in e.version e.image) }
 
-pub reading_only : (bytes : List ℕ) (x : Image) → Spells x bytes → reading bytes ≡ Ok x
-unfolding reading
-reading_only bytes x spells =
-    let one = image_laws.again x [] spells.fits in
-    let e : bytes ≡ spelling x ++ [] = spells.bytes_are ∙ sym (append-nil (spelling x)) in
+pub edition_only : (bytes : List ℕ) (version : Version) (x : Image) → SpellsIn version x bytes → whole_edition bytes ≡ Ok (edition version x)
+unfolding whole_edition
+edition_only bytes version x spells =
+    let one = edition_laws.again (edition version x) [] spells.fits in
+    let e : bytes ≡ spelling_in version x ++ [] = spells.bytes_are ∙ sym (append-nil (spelling_in version x)) in
     rw (e, one) refl
+
+programs_ok : (r : Result Edition Fault) (x : Image) → programs r ≡ Ok x → (e : Edition) × (r ≡ Ok e) × (x ≡ program_in e.version e.image)
+programs_ok (Ok e) x h = (e, refl, cc)
+programs_ok (Err f) x h = absurd cc
+
+pub reading_found : (bytes : List ℕ) (x : Image) → IsBytes bytes → reading bytes ≡ Ok x → StandFor x bytes
+unfolding reading
+reading_found bytes x fits read =
+    let p = programs_ok (whole_edition bytes) x read in
+    record { version = p.0.version; image = p.0.image; spells = edition_found bytes p.0 fits p.1; stands = p.2 }
+
+pub reading_only : (bytes : List ℕ) (x : Image) → StandFor x bytes → reading bytes ≡ Ok x
+unfolding reading
+reading_only bytes x stands = ap programs (edition_only bytes stands.version stands.image stands.spells) ∙ ap (λ (y : Image). Ok y) (sym stands.stands)
 
 -- where reading gives a value, a function that stopped ran out of memory
 pub stopped_only : {X Y : Type 0} (view : X → Y) (stop : Stop) (len : ℕ) (e : ImageError) (read : Result Y Fault) (x : Y)
@@ -49,15 +64,16 @@ pub stopped_only : {X Y : Type 0} (view : X → Y) (stop : Stop) (len : ℕ) (e 
 stopped_only view stops.Memory len e read x fails reads same = inl same
 stopped_only view (stops.Fault f) len e read x fails reads same = absurd (not_both read f x fails reads)
 
-pub spelled_once : (x : Image) (a b : List ℕ) → Spells x a → Spells x b → a ≡ b
-spelled_once x a b p q = p.bytes_are ∙ sym q.bytes_are
+pub spelled_once : (version : Version) (x : Image) (a b : List ℕ) → SpellsIn version x a → SpellsIn version x b → a ≡ b
+spelled_once version x a b p q = p.bytes_are ∙ sym q.bytes_are
 
 ok_parts : {A B : Type 0} (x y : A) (r s : B) → ◌≡◌ {A = Result (A × B) Fault} (Ok (x, r)) (Ok (y, s)) → (x ≡ y) × (r ≡ s)
 ok_parts {A} {B} x y r s e = let both : ◌≡◌ {A = A × B} (x, r) (y, s) = cc in (ap (λ (p : A × B). p.0) both, ap (λ (p : A × B). p.1) both)
 
-pub begins_none : (x y : Image) (a b rest : List ℕ) → Spells x a → Spells y b → a ++ rest ≡ b → (x ≡ y) × (rest ≡ [])
-begins_none x y a b rest p q e =
-    let one : image_at (spelling x ++ rest) ≡ Ok (x, rest) = image_laws.again x rest p.fits in
-    let two : image_at (spelling y ++ []) ≡ Ok (y, []) = image_laws.again y [] q.fits in
-    let same : spelling x ++ rest ≡ spelling y ++ [] = ap (λ (t : List ℕ). t ++ rest) (sym p.bytes_are) ∙ e ∙ q.bytes_are ∙ sym (append-nil (spelling y)) in
-    ok_parts x y rest [] (sym one ∙ ap image_at same ∙ two)
+pub begins_none : (v w : Version) (x y : Image) (a b rest : List ℕ) → SpellsIn v x a → SpellsIn w y b → a ++ rest ≡ b → (v ≡ w) × (x ≡ y) × (rest ≡ [])
+begins_none v w x y a b rest p q e =
+    let one : edition_at (spelling_in v x ++ rest) ≡ Ok (edition v x, rest) = edition_laws.again (edition v x) rest p.fits in
+    let two : edition_at (spelling_in w y ++ []) ≡ Ok (edition w y, []) = edition_laws.again (edition w y) [] q.fits in
+    let same : spelling_in v x ++ rest ≡ spelling_in w y ++ [] = ap (λ (t : List ℕ). t ++ rest) (sym p.bytes_are) ∙ e ∙ q.bytes_are ∙ sym (append-nil (spelling_in w y)) in
+    let both = ok_parts (edition v x) (edition w y) rest [] (sym one ∙ ap edition_at same ∙ two) in
+    (ap (λ (e : Edition). e.version) both.0, ap (λ (e : Edition). e.image) both.0, both.1)

@@ -1,4 +1,5 @@
--- The one spelling of an image, section by section, and which images have one.
+-- The one spelling of an image in each version of the format, section by section, and which images have
+-- one. An image of version 1 has no limits: its spelling lacks that section.
 use Rattle.std.specs.Prelude.{◌≡◌, ◌<◌, ◌^◌, ℕ, Option, List, [], ◌∷◌, length, FitsSigned, IsTrue}
 use Rattle.std.specs.List.{flat_map, AllByRecursion}
 use Rattle.std.specs.Int.{w64}
@@ -10,11 +11,15 @@ use Rattle.cse_parts.specs.declared.entries.GlobalVariable.{GlobalVariable}
 use Rattle.cse_parts.specs.declared.entries.Local.{Local}
 use Rattle.cse_parts.specs.declared.entries.EventEntry.{EventEntry}
 use Rattle.cse_parts.specs.declared.instruction.Instr.{Instr}
-use Rattle.cse_parts.specs.declared.limits.TheConstants.{MOST_RECORDS, MOST_ITEMS, MOST_SETS, MOST_ORDER, MOST_CONSTANTS, MOST_TEXTS, MOST_GLOBALS, MOST_ARRAYS, MOST_MESSAGES, MOST_ROUTINES, MOST_EVENTS}
+use Rattle.cse_parts.specs.declared.limits.TheConstants.{MOST_RECORDS, MOST_ITEMS, MOST_SETS, MOST_ORDER, MOST_CONSTANTS, MOST_LIMITS, MOST_TEXTS, MOST_GLOBALS, MOST_ARRAYS, MOST_MESSAGES, MOST_ROUTINES, MOST_EVENTS}
 use Rattle.cse_parts.specs.Image.{ArrayLists, MessageLists, RoutineLists, Lists, Image}
+use Rattle.cse_parts.specs.declared.version.Version.{Version}
+use Rattle.cse_parts.specs.declared.version.Version.TheVariants as versions
+use Rattle.cse_parts.specs.Versions.{version_code, may_give}
+use Rattle.cse_parts.specs.Upgrade.{upgrade}
 use Rattle.cse_parts.specs.Codes.{flag_code, item_kind_code, global_kind_code, local_kind_code, ambient_code, gift_code, event_code}
 use Rattle.cse_parts.specs.Texts.{is_text, is_short, is_name, is_new}
-use Rattle.cse_parts.specs.Fields.{fits_global_length, fits_local_length, fits_owner, fits_kind, are_locals, is_dimension_count, is_dimension, cells_in, is_room_for_cells, fits_cells, instructions_in, is_room_for_code, last_event, is_after}
+use Rattle.cse_parts.specs.Fields.{fits_global_length, fits_local_length, fits_owner, fits_kind, are_locals, is_limit, is_dimension_count, is_dimension, cells_in, is_room_for_cells, fits_cells, instructions_in, is_room_for_code, last_event, is_after}
 use Rattle.cse_parts.specs.Opcodes.{op_code, fits_a, fits_b, fits_c}
 use Rattle.cse_parts.specs.Placeholders.{has_few_placeholders}
 use Rattle.cse_codec.specs.Reader.{AllAfter}
@@ -26,9 +31,9 @@ use Rattle.cse_codec.specs.Spelling.{◌⧺◌, u8, u16, u32, i64, section, Sect
 abbrev pub magic : List ℕ
 magic = 67 ∷ 83 ∷ 69 ∷ 66 ∷ []
 
--- version 1, 0
-abbrev pub header : List ℕ
-header = magic ⧺ u16 1 ⧺ u16 0
+-- the version, 0
+abbrev pub header : Version → List ℕ
+header version = magic ⧺ u16 (version_code version) ⧺ u16 0
 
 abbrev pub record_shape : RecordShape → List ℕ
 record_shape x = u16 x.max_records ⧺ u16 0 ⧺ u32 x.record_len
@@ -38,6 +43,10 @@ item_shape x = u8 x.owner ⧺ u8 (item_kind_code x.kind) ⧺ u16 x.len ⧺ u32 x
 
 abbrev pub set_shape : SetShape → List ℕ
 set_shape x = u16 x.item ⧺ u16 x.rows ⧺ u8 (flag_code x.partial) ⧺ little_bytes 3 0
+
+abbrev pub limits : Version → List ℕ → List ℕ
+limits versions.One xs = []
+limits versions.Two xs = section u32 xs
 
 abbrev pub text : List ℕ → List ℕ
 text t = u16 (length t) ⧺ t
@@ -63,12 +72,15 @@ event x = u8 (event_code x.code) ⧺ u8 0 ⧺ u16 x.index ⧺ u32 x.routine
 abbrev pub instr : Instr → List ℕ
 instr x = u8 (op_code x.op) ⧺ u8 x.a ⧺ u16 x.b ⧺ u32 x.c
 
-abbrev pub lists : Lists → List ℕ
-lists x = section record_shape x.records ⧺ section item_shape x.items ⧺ section set_shape x.sets ⧺ section u32 x.order ⧺ section i64 x.constants ⧺ section text x.texts ⧺ section global x.globals ⧺ section array x.arrays ⧺ section message x.messages ⧺ section routine x.routines ⧺ section event x.events
+abbrev pub lists : Version → Lists → List ℕ
+lists version x = section record_shape x.records ⧺ section item_shape x.items ⧺ section set_shape x.sets ⧺ section u32 x.order ⧺ section i64 x.constants ⧺ limits version x.limits ⧺ section text x.texts ⧺ section global x.globals ⧺ section array x.arrays ⧺ section message x.messages ⧺ section routine x.routines ⧺ section event x.events
 
 -- The code has no count: the routines tell how many instructions there are.
+abbrev pub spelling_in : Version → Image → List ℕ
+spelling_in version x = header version ⧺ lists version x.lists ⧺ flat_map instr x.code
+
 abbrev pub spelling : Image → List ℕ
-spelling x = header ⧺ lists x.lists ⧺ flat_map instr x.code
+spelling x = spelling_in versions.Two x
 
 -- ---- what has a spelling
 
@@ -87,6 +99,14 @@ pub record SetFits (x : SetShape) : Type 0 where
 
 abbrev pub OrderFits : ℕ → Type 0
 OrderFits n = n < 2 ^ 32
+
+pub record LimitFits (n : ℕ) : Type 0 where
+  pub size : n < 2 ^ 32
+  pub some : IsTrue (is_limit n)
+
+abbrev pub LimitsFit : Version → List ℕ → Type 0
+LimitsFit versions.One xs = xs ≡ []
+LimitsFit versions.Two xs = SectionFits MOST_LIMITS (λ _. LimitFits) xs
 
 pub record TextFits (t : List ℕ) : Type 0 where
   pub size : length t < 2 ^ 16
@@ -132,7 +152,8 @@ pub record LocalsFit (parameters : ℕ) (xs : List Local) : Type 0 where
   pub each : AllAfter (λ before. LocalFits parameters (length before)) [] xs
 
 -- before is how many instructions the routines before it have
-pub record RoutineFits (before : ℕ) (x : RoutineLists) : Type 0 where
+pub record RoutineFits (version : Version) (before : ℕ) (x : RoutineLists) : Type 0 where
+  pub gives : IsTrue (may_give version x.gives)
   pub parameters : x.parameters < 2 ^ 8
   pub locals : LocalsFit x.parameters x.locals
   pub size : x.instructions < 2 ^ 32
@@ -143,33 +164,55 @@ pub record EventFits (last : Option EventEntry) (x : EventEntry) : Type 0 where
   pub after : IsTrue (is_after last x.code x.index)
   pub routine : x.routine < 2 ^ 32
 
-pub record InstrFits (x : Instr) : Type 0 where
+pub record InstrFits (version : Version) (x : Instr) : Type 0 where
   pub a_size : x.a < 2 ^ 8
   pub a : IsTrue (fits_a x.op x.a)
   pub b_size : x.b < 2 ^ 16
-  pub b : IsTrue (fits_b x.op x.b)
+  pub b : IsTrue (fits_b version x.op x.b)
   pub c_size : x.c < 2 ^ 32
   pub c : IsTrue (fits_c x.op x.a x.c)
 
-pub record ListsFit (x : Lists) : Type 0 where
+pub record ListsFit (version : Version) (x : Lists) : Type 0 where
   pub records : SectionFits MOST_RECORDS (λ _. RecordFits) x.records
   pub items : SectionFits MOST_ITEMS (λ _. ItemFits) x.items
   pub sets : SectionFits MOST_SETS (λ _. SetFits) x.sets
   pub order : SectionFits MOST_ORDER (λ _. OrderFits) x.order
   pub constants : SectionFits MOST_CONSTANTS (λ _. FitsSigned w64) x.constants
+  pub limits : LimitsFit version x.limits
   pub texts : SectionFits MOST_TEXTS (λ _. TextFits) x.texts
   pub globals : SectionFits MOST_GLOBALS (λ _. GlobalFits) x.globals
   pub arrays : SectionFits MOST_ARRAYS ArrayFits x.arrays
   pub messages : SectionFits MOST_MESSAGES (λ _. MessageFits) x.messages
-  pub routines : SectionFits MOST_ROUTINES (λ before. RoutineFits (instructions_in before)) x.routines
+  pub routines : SectionFits MOST_ROUTINES (λ before. RoutineFits version (instructions_in before)) x.routines
   pub events : SectionFits MOST_EVENTS (λ before. EventFits (last_event before)) x.events
 
-pub record Fits (x : Image) : Type 0 where
-  pub lists : ListsFit x.lists
-  pub code : AllByRecursion InstrFits x.code
+pub record FitsIn (version : Version) (x : Image) : Type 0 where
+  pub lists : ListsFit version x.lists
+  pub code : AllByRecursion (InstrFits version) x.code
   pub count : length x.code ≡ instructions_in x.lists.routines
 
--- The bytes are the spelling of the image.
-pub record Spells (x : Image) (bytes : List ℕ) : Type 0 where
-  pub fits : Fits x
-  pub bytes_are : bytes ≡ spelling x
+abbrev pub Fits : Image → Type 0
+Fits x = FitsIn versions.Two x
+
+-- The bytes are the spelling of the image in this version.
+pub record SpellsIn (version : Version) (x : Image) (bytes : List ℕ) : Type 0 where
+  pub fits : FitsIn version x
+  pub bytes_are : bytes ≡ spelling_in version x
+
+abbrev pub Spells : Image → List ℕ → Type 0
+Spells x bytes = SpellsIn versions.Two x bytes
+
+-- ---- which program a spelling stands for
+
+-- an image of version 1 stands for its upgrade
+abbrev pub program_in : Version → Image → Image
+program_in versions.One x = upgrade x
+program_in versions.Two x = x
+
+-- The bytes are the version 2 spelling of the program, or the version 1 spelling of an image whose
+-- upgrade it is.
+pub record StandFor (x : Image) (bytes : List ℕ) : Type 0 where
+  pub version : Version
+  pub image : Image
+  pub spells : SpellsIn version image bytes
+  pub stands : x ≡ program_in version image

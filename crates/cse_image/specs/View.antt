@@ -1,9 +1,12 @@
 -- Instructions that lie in bytes, eight bytes each.
-use Rattle.std.specs.Prelude.{◌≡◌, ◌/◌, ℕ, List, [], length, Result, Ok, Err}
+use Rattle.std.specs.Prelude.{◌≡◌, ◌/◌, ℕ, List, [], map, length, Result, Ok, Err}
 use Rattle.std.specs.List.{flat_map, AllByRecursion}
 use Rattle.cse_codec.specs.declared.fault.Fault.{Fault}
 use Rattle.cse_codec.specs.Reader.{each}
 use Rattle.cse_parts.specs.declared.instruction.Instr.{Instr}
+use Rattle.cse_parts.specs.declared.version.Version.{Version}
+use Rattle.cse_parts.specs.declared.version.Version.TheVariants as versions
+use Rattle.cse_parts.specs.Upgrade.{upgrade_instr}
 use Rattle.cse_image.specs.Reading.{instr_at}
 use Rattle.cse_image.specs.Spelling.{instr, InstrFits}
 
@@ -12,10 +15,19 @@ value_of (Ok x) = x.0
 value_of (Err f) = []
 
 -- the instructions that the bytes are
-unfoldable pub code_in : List ℕ → List Instr
-code_in bytes = value_of (each instr_at (length bytes / 8) bytes)
+unfoldable pub code_in : Version → List ℕ → List Instr
+code_in version bytes = value_of (each (instr_at version) (length bytes / 8) bytes)
 
 -- The bytes are the spelling of these instructions.
-pub record IsCodeOf (xs : List Instr) (bytes : List ℕ) : Type 0 where
-  pub fit : AllByRecursion InstrFits xs
+pub record IsCodeOf (version : Version) (xs : List Instr) (bytes : List ℕ) : Type 0 where
+  pub fit : AllByRecursion (InstrFits version) xs
   pub bytes_are : bytes ≡ flat_map instr xs
+
+-- the instructions that they stand for
+abbrev pub program_instr : Version → Instr → Instr
+program_instr versions.One x = upgrade_instr x
+program_instr versions.Two x = x
+
+abbrev pub program_code : Version → List Instr → List Instr
+program_code versions.One xs = map upgrade_instr xs
+program_code versions.Two xs = xs

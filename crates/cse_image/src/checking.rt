@@ -1,4 +1,4 @@
-//! Does an entry fit, so that it has a spelling? The rules are those that reading calls.
+//! Does an entry fit, so that it has a spelling in version 2? The rules are those that reading calls.
 
 ghost use Rattle.std.specs.Prelude.{◌≡◌, ◌≤◌, ◌<◌, ◌^◌, [], map, length, FitsSigned, true};
 ghost use Rattle.std.specs.Bool.{Decides};
@@ -7,8 +7,9 @@ ghost use Rattle.std.specs.List.{AllByRecursion};
 ghost use Rattle.std.specs.String.{string_bytes};
 ghost use Rattle.cse_codec.specs.Reader.{AllAfter};
 ghost use Rattle.cse_parts.specs.Image.{array_lists, message_lists, routine_lists};
+ghost use Rattle.cse_parts.specs.declared.version.Version.TheVariants as versions;
 ghost use Rattle.cse_parts.specs.Fields.{cells_in, is_dimension_count, fits_cells};
-ghost use Rattle.cse_image.specs.Spelling.{RecordFits, ItemFits, SetFits, TextFits, GlobalFits, DimensionFits, ArrayFits, MessageFits, LocalFits, LocalsFit, RoutineFits, EventFits, InstrFits};
+ghost use Rattle.cse_image.specs.Spelling.{RecordFits, ItemFits, SetFits, LimitFits, TextFits, GlobalFits, DimensionFits, ArrayFits, MessageFits, LocalFits, LocalsFit, RoutineFits, EventFits, InstrFits};
 
 use cse_parts::entries::{Array, EventEntry, GlobalVariable, Local, Message, Routine};
 use cse_parts::instruction::Instr;
@@ -17,10 +18,11 @@ use cse_parts::opcodes::{is_right_a, is_right_b, is_right_c};
 use cse_parts::placeholders::are_few_placeholders;
 use cse_parts::rules::{
     comes_after, has_parameters, has_room_for_cells, has_room_for_code, is_count_of_dimensions,
-    is_right_cell_count, is_right_dimension, is_right_global_length, is_right_kind,
+    is_right_cell_count, is_right_dimension, is_right_global_length, is_right_kind, is_right_limit,
     is_right_local_length, is_right_owner,
 };
 use cse_parts::texts::{is_array_name, is_new_name, is_plain_text, is_short_text};
+use cse_parts::version::{Version, may_give};
 use cse_value::shape::{ItemShape, RecordShape, SetShape};
 
 /// Reading the fields of a record tells their ranges.
@@ -85,6 +87,12 @@ pub fn read_numbers(numbers: &[i64])
     for n in numbers {
         read_i64(n);
     }
+}
+
+pub fn limit_fits(limit: &u32) -> bool
+    ensures { Decides result (LimitFits limit.now) }
+{
+    is_right_limit(*limit)
 }
 
 pub fn text_fits(text: &str) -> bool
@@ -187,9 +195,10 @@ fn has_right_locals(parameters: u8, locals: &[Local]) -> bool
 /// A routine, after routines of so many instructions together.
 pub fn routine_fits(before: u32, routine: &Routine) -> bool
     requires { before ≤ MOST_INSTRUCTIONS }
-    ensures { Decides result (RoutineFits before (routine_lists routine.now)) }
+    ensures { Decides result (RoutineFits versions.Two before (routine_lists routine.now)) }
 {
-    has_right_locals(routine.parameters, &routine.locals)
+    may_give(Version::Two, routine.gives)
+        && has_right_locals(routine.parameters, &routine.locals)
         && has_room_for_code(before, routine.instructions)
 }
 
@@ -202,9 +211,9 @@ pub fn event_fits(last: Option<EventEntry>, event: &EventEntry) -> bool
 }
 
 pub fn instr_fits(instr: &Instr) -> bool
-    ensures { Decides result (InstrFits instr.now) }
+    ensures { Decides result (InstrFits versions.Two instr.now) }
 {
     is_right_a(instr.op, instr.a)
-        && is_right_b(instr.op, instr.b)
+        && is_right_b(Version::Two, instr.op, instr.b)
         && is_right_c(instr.op, instr.a, instr.c)
 }

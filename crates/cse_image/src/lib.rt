@@ -1,5 +1,6 @@
-//! A program's image, read and written: exactly the spellings of programs are read, and of other
-//! bytes the first fault from the left is told.
+//! A program's image, read and written: exactly the spellings of programs are read, in version 2 of the
+//! format or in version 1, whose programs are upgraded; of other bytes the first fault from the left is
+//! told. Images are written in version 2.
 #![tactic(auto)]
 
 mod checking;
@@ -27,8 +28,9 @@ pub use cse_parts::instruction::{Instr, Op};
 pub use cse_parts::placeholders::{
     ArgumentKind, Kinds, Piece, Pieces, count_placeholders, kind_at,
 };
+pub use cse_parts::version::Version;
 pub use error::ImageError;
-pub use laws::{none_begins_another, one_spelling};
+pub use laws::{none_begins_another, one_spelling, upgrade_has_a_spelling};
 pub use program::{Program, read_image, write_image};
 pub use view::{CodeView, view_image};
 

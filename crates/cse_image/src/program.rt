@@ -5,15 +5,15 @@ ghost use Rattle.std.specs.Bool.{Decides};
 ghost use Rattle.std.specs.List.{flat_map};
 ghost use Rattle.std.specs.String.{string_bytes};
 ghost use Rattle.cse_parts.specs.Image.{Image, lists_of, image_of, image_with, array_lists, message_lists, routine_lists};
-ghost use Rattle.cse_image.specs.Spelling.{Fits, Spells, spelling, instr};
+ghost use Rattle.cse_image.specs.Spelling.{Fits, Spells, StandFor, spelling, instr};
 ghost use Rattle.cse_image.specs.Reading.{reading};
 ghost use Rattle.cse_image.specs.Place.{Answers, placed, out_of_memory};
 
 use crate::code::{Code, Owned};
-use crate::error::{ImageError, error_within};
+use crate::error::ImageError;
 use crate::fitting::{each_instr_fits, is_code_of, tables_fit};
-use crate::reading::whole_image;
 use crate::sections::put_tables;
+use crate::view::{CodeView, view_image};
 use crate::writing::{put_header, put_instr};
 use cse_parts::entries::{Array, EventEntry, GlobalVariable, Message, Parts, Routine, Tables};
 use cse_parts::instruction::Instr;
@@ -91,6 +91,13 @@ impl<C: Code> Program<C> {
         &self.tables.constants
     }
 
+    /// How many turns a counting loop may take, by the place that it names.
+    pub fn limits(&self) -> &[u32]
+        ensures { result.now ≡ self.now.lists.limits }
+    {
+        &self.tables.limits
+    }
+
     pub fn texts(&self) -> &[String]
         ensures { map string_bytes result.now ≡ self.now.lists.texts }
     {
@@ -136,22 +143,52 @@ fn with_code(tables: Tables, instructions: Vec<Instr>) -> Program
     Program::with(tables, Owned { instructions })
 }
 
-/// The program that the bytes spell.
-pub fn read_image(alloc: Global, bytes: &[u8]) -> Result<Program, ImageError>
-    // What is read is spelled so.
-    ensures found { IfOk result (λ p. Spells p bytes.now) }
-    // What is spelled so is read, unless memory runs out.
-    ensures only { (x : Image) → Spells x bytes.now → Answers (λ p. p) result (Ok x) }
-    // Which rule is broken first, and where.
-    ensures exact { Answers (λ p. p) result (placed (length bytes.now) (reading bytes.now)) }
+/// The instructions, in memory of their own.
+fn instructions_of<C: Code>(alloc: Global, code: &C) -> Result<Vec<Instr>, AllocError>
+    ensures { IfOk result (λ v. v.items ≡ C.list code.now) }
 {
-    match whole_image(alloc, bytes) {
-        Ok((tables, code)) => Ok(with_code(tables, code)),
-        Err(stop) => Err(error_within(stop, bytes.len())),
+    let mut instructions = Vec::new(alloc);
+    for i in 0..code.len() {
+        instructions.push(code.at(i))?;
+    }
+    Ok(instructions)
+}
+
+fn into_tables(program: Program<CodeView>) -> Tables
+    ensures { lists_of result ≡ program.entry.lists }
+{
+    program.tables
+}
+
+/// The same program with its code in memory of its own. The only error is want of memory, 90.
+fn owned(alloc: Global, program: Program<CodeView>) -> Result<Program, ImageError>
+    ensures same { IfOk result (λ p. p ≡ program.entry) }
+    ensures memory { IfErr result (λ e. e ≡ out_of_memory) }
+{
+    match instructions_of(alloc, program.code()) {
+        Ok(code) => Ok(with_code(into_tables(program), code)),
+        Err(_) => Err(ImageError { number: 90, at: 0 }),
     }
 }
 
-/// The one spelling of the program. The only error is want of memory, 90.
+/// The program that the bytes stand for: they spell it, or they spell a program of version 1 whose
+/// upgrade it is.
+pub fn read_image(alloc: Global, bytes: &[u8]) -> Result<Program, ImageError>
+    // What is read is what the bytes stand for: they are its spelling in version 2, or that of a
+    // version 1 program whose upgrade it is.
+    ensures found { IfOk result (λ p. StandFor p bytes.now) }
+    // What they stand for is read, unless memory runs out.
+    ensures only { (x : Image) → StandFor x bytes.now → Answers (λ p. p) result (Ok x) }
+    // Which rule is broken first, and where, by the rules of the version that stands in the header.
+    ensures exact { Answers (λ p. p) result (placed (length bytes.now) (reading bytes.now)) }
+{
+    match view_image(alloc, bytes) {
+        Ok(program) => owned(alloc, program),
+        Err(error) => Err(error),
+    }
+}
+
+/// The one spelling of the program, in version 2. The only error is want of memory, 90.
 pub fn write_image<C: Code>(alloc: Global, program: &Program<C>) -> Result<Vec<u8>, ImageError>
     ensures spelling { IfOk result (λ v. v.items ≡ spelling program.now) }
     ensures memory { IfErr result (λ e. e ≡ out_of_memory) }
@@ -182,7 +219,7 @@ fn put_code<C: Code>(out: &mut Vec<u8>, code: &C) -> Result<(), AllocError>
 }
 
 impl Program {
-    /// The program of these parts, where they have a spelling; else the parts are given up. Takes no
+    /// The program of these parts, where they have a spelling in version 2; else the parts are given up. Takes no
     /// memory.
     pub fn from_parts(parts: Parts) -> Option<Program>
         ensures { MatchOption result ((bytes : List ℕ) → Spells (image_of parts) bytes → ⊥) (λ p. (p ≡ image_of parts) × Spells p (spelling p)) }
@@ -207,6 +244,7 @@ fn split(parts: Parts) -> (Tables, Vec<Instr>)
             sets: parts.sets,
             order: parts.order,
             constants: parts.constants,
+            limits: parts.limits,
             texts: parts.texts,
             globals: parts.globals,
             arrays: parts.arrays,

@@ -1,18 +1,17 @@
-//! Instructions, eight bytes each.
+//! An instruction, eight bytes.
 
-ghost use Rattle.std.specs.Prelude.{[]};
-ghost use Rattle.cse_codec.specs.Reader.{Gives, GivesFault, many};
+ghost use Rattle.cse_codec.specs.Reader.{GivesFault};
 ghost use Rattle.cse_image.specs.Reading.{instr_at};
 
-use cse_codec::{Fault, Rule, Stop, broken, u8_at, u16_at, u32_at};
+use cse_codec::{Fault, Rule, broken, u8_at, u16_at, u32_at};
 use cse_parts::instruction::Instr;
 use cse_parts::opcodes::{is_right_a, is_right_b, is_right_c, op_named};
-use std::alloc::Global;
+use cse_parts::version::Version;
 
 #[inline]
 #[tactic(auto, unfolding(cse_codec::specs::Reader::checked, cse_codec::specs::Reader::decoded, cse_codec::specs::Reader::then_at, cse_codec::specs::Reader::done, crate::specs::Reading::instr_at))]
-pub fn instr_of(bytes: &[u8]) -> Result<(Instr, &[u8]), Fault>
-    ensures { GivesFault (λ x. (x.0, x.1.now)) result (instr_at bytes.now) }
+pub fn instr_of(version: Version, bytes: &[u8]) -> Result<(Instr, &[u8]), Fault>
+    ensures { GivesFault (λ x. (x.0, x.1.now)) result (instr_at version bytes.now) }
 {
     let (code, after_op) = u8_at(bytes)?;
     let Some(op) = op_named(code) else {
@@ -23,7 +22,7 @@ pub fn instr_of(bytes: &[u8]) -> Result<(Instr, &[u8]), Fault>
         return Err(broken(Rule::Form, after_op));
     }
     let (b, after_b) = u16_at(after_a)?;
-    if !is_right_b(op, b) {
+    if !is_right_b(version, op, b) {
         return Err(broken(Rule::Form, after_a));
     }
     let (c, rest) = u32_at(after_b)?;
@@ -31,19 +30,4 @@ pub fn instr_of(bytes: &[u8]) -> Result<(Instr, &[u8]), Fault>
         return Err(broken(Rule::Form, after_b));
     }
     Ok((Instr { op, a, b, c }, rest))
-}
-
-/// So many instructions. Memory is asked for as each was read.
-#[tactic(auto, using(cse_codec::proofs::Loop::many_step, cse_codec::proofs::Loop::many_done))]
-pub fn code_in(alloc: Global, count: u32, bytes: &[u8]) -> Result<(Vec<Instr>, &[u8]), Stop>
-    ensures { Gives (λ x. (x.0.items, x.1.now)) result (many (λ _. instr_at) [] count bytes.now) }
-{
-    let mut code = Vec::new(alloc);
-    let mut rest = bytes;
-    for _ in 0..count {
-        let (instr, after) = instr_of(rest)?;
-        code.push(instr)?;
-        rest = after;
-    }
-    Ok((code, rest))
 }

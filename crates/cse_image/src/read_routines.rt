@@ -3,6 +3,7 @@
 ghost use Rattle.std.specs.Prelude.{◌≡◌, ◌≤◌, ◌+◌, [], IfOk, map, length};
 ghost use Rattle.cse_codec.specs.Reader.{Gives, GivesFault, number, checked, decoded, many, counted};
 ghost use Rattle.cse_codec.specs.declared.fault.Rule.TheVariants.{Form, Limit};
+ghost use Rattle.cse_parts.specs.Versions.{may_give as spec_may_give};
 ghost use Rattle.cse_parts.specs.Codes.{ambient_of as spec_ambient_of, gift_of as spec_gift_of, event_code_of as spec_event_code_of, local_kind_of as spec_local_kind_of};
 ghost use Rattle.cse_parts.specs.Image.{routine_lists};
 ghost use Rattle.cse_parts.specs.Fields.{fits_kind, fits_owner, fits_local_length, are_locals, instructions_in, is_room_for_code, last_event, is_after};
@@ -16,6 +17,7 @@ use cse_parts::rules::{
     comes_after, has_parameters, has_room_for_code, is_right_kind, is_right_local_length,
     is_right_owner, last_of,
 };
+use cse_parts::version::{Version, may_give};
 use std::alloc::Global;
 
 /// The kind of the local at this place, from 0, beside so many parameters.
@@ -102,15 +104,19 @@ fn ambient_of(bytes: &[u8]) -> Result<(Ambient, &[u8]), Fault>
     }
 }
 
-#[tactic(auto, unfolding(cse_codec::specs::Reader::decoded))]
-fn gift_of(bytes: &[u8]) -> Result<(Gift, &[u8]), Fault>
-    ensures { GivesFault (λ x. (x.0, x.1.now)) result (decoded Form spec_gift_of (number 1) bytes.now) }
+/// What a routine gives: a text from version 2 on.
+#[tactic(auto, unfolding(cse_codec::specs::Reader::checked, cse_codec::specs::Reader::decoded))]
+fn gift_of(version: Version, bytes: &[u8]) -> Result<(Gift, &[u8]), Fault>
+    ensures { GivesFault (λ x. (x.0, x.1.now)) result (checked Form (spec_may_give version) (decoded Form spec_gift_of (number 1)) bytes.now) }
 {
     let (code, rest) = u8_at(bytes)?;
-    match gift_named(code) {
-        Some(gives) => Ok((gives, rest)),
-        None => Err(broken(Rule::Form, bytes)),
+    let Some(gives) = gift_named(code) else {
+        return Err(broken(Rule::Form, bytes));
+    };
+    if !may_give(version, gives) {
+        return Err(broken(Rule::Form, bytes));
     }
+    Ok((gives, rest))
 }
 
 /// The count of the locals, among which are so many parameters.
@@ -141,13 +147,18 @@ fn instruction_count_of(before: u32, bytes: &[u8]) -> Result<(u32, &[u8]), Fault
 
 /// A routine, after routines of so many instructions together.
 #[tactic(auto, unfolding(cse_codec::specs::Reader::then_at, cse_codec::specs::Reader::done, crate::specs::Reading::routine_at))]
-fn routine_of(alloc: Global, before: u32, bytes: &[u8]) -> Result<(Routine, &[u8]), Stop>
+fn routine_of(
+    alloc: Global,
+    version: Version,
+    before: u32,
+    bytes: &[u8],
+) -> Result<(Routine, &[u8]), Stop>
     requires { before ≤ MOST_INSTRUCTIONS }
-    ensures exact { Gives (λ x. (routine_lists x.0, x.1.now)) result (routine_at before bytes.now) }
+    ensures exact { Gives (λ x. (routine_lists x.0, x.1.now)) result (routine_at version before bytes.now) }
     ensures room { IfOk result (λ x. before + x.0.instructions ≤ MOST_INSTRUCTIONS) }
 {
     let (ambient, rest) = ambient_of(bytes)?;
-    let (gives, rest) = gift_of(rest)?;
+    let (gives, rest) = gift_of(version, rest)?;
     let (parameters, rest) = u8_at(rest)?;
     let (count, rest) = local_count_of(parameters, rest)?;
     let (locals, rest) = locals_in(alloc, parameters, count, rest)?;
@@ -165,15 +176,20 @@ fn routine_of(alloc: Global, before: u32, bytes: &[u8]) -> Result<(Routine, &[u8
 }
 
 #[tactic(auto, using(cse_codec::proofs::Loop::many_done))]
-fn routines_in(alloc: Global, count: u32, bytes: &[u8]) -> Result<(Vec<Routine>, &[u8]), Stop>
-    ensures exact { Gives (λ x. (map routine_lists x.0.items, x.1.now)) result (many (λ before. routine_at (instructions_in before)) [] count bytes.now) }
+fn routines_in(
+    alloc: Global,
+    version: Version,
+    count: u32,
+    bytes: &[u8],
+) -> Result<(Vec<Routine>, &[u8]), Stop>
+    ensures exact { Gives (λ x. (map routine_lists x.0.items, x.1.now)) result (many (λ before. routine_at version (instructions_in before)) [] count bytes.now) }
     ensures room { IfOk result (λ x. instructions_in (map routine_lists x.0.items) ≤ MOST_INSTRUCTIONS) }
 {
     let mut routines = Vec::new(alloc);
     let mut so_far = 0;
     let mut rest = bytes;
     for _ in 0..count {
-        let (routine, after) = routine_of(alloc, so_far, rest)?;
+        let (routine, after) = routine_of(alloc, version, so_far, rest)?;
         so_far += routine.instructions;
         routines.push(routine)?;
         rest = after;
@@ -182,12 +198,16 @@ fn routines_in(alloc: Global, count: u32, bytes: &[u8]) -> Result<(Vec<Routine>,
 }
 
 #[tactic(auto, unfolding(cse_codec::specs::Reader::then_at, cse_codec::specs::Reader::counted))]
-pub fn routines_of(alloc: Global, bytes: &[u8]) -> Result<(Vec<Routine>, &[u8]), Stop>
-    ensures exact { Gives (λ x. (map routine_lists x.0.items, x.1.now)) result (counted MOST_ROUTINES (λ before. routine_at (instructions_in before)) bytes.now) }
+pub fn routines_of(
+    alloc: Global,
+    version: Version,
+    bytes: &[u8],
+) -> Result<(Vec<Routine>, &[u8]), Stop>
+    ensures exact { Gives (λ x. (map routine_lists x.0.items, x.1.now)) result (counted MOST_ROUTINES (λ before. routine_at version (instructions_in before)) bytes.now) }
     ensures room { IfOk result (λ x. instructions_in (map routine_lists x.0.items) ≤ MOST_INSTRUCTIONS) }
 {
     let (count, rest) = count_at(MOST_ROUTINES, bytes)?;
-    routines_in(alloc, count, rest)
+    routines_in(alloc, version, count, rest)
 }
 
 #[tactic(auto, unfolding(cse_codec::specs::Reader::decoded))]

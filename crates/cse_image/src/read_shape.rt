@@ -12,6 +12,7 @@ use cse_codec::{
 };
 use cse_parts::codes::{flag_named, item_kind_named};
 use cse_parts::limits::{MOST_ITEMS, MOST_RECORDS, MOST_SETS};
+use cse_parts::version::{Version, version_named};
 use cse_value::shape::{ItemKind, ItemShape, RecordShape, SetShape};
 use std::alloc::Global;
 
@@ -27,8 +28,9 @@ pub fn flag_of(bytes: &[u8]) -> Result<(bool, &[u8]), Fault>
     }
 }
 
-#[tactic(auto, unfolding(cse_codec::specs::Reader::checked, cse_codec::specs::Reader::then_at, cse_codec::specs::Reader::done, cse_codec::specs::Reader::whole, crate::specs::Reading::zero_at, crate::specs::Reading::header_at))]
-pub fn header_of(bytes: &[u8]) -> Result<(u8, &[u8]), Fault>
+/// The version.
+#[tactic(auto, unfolding(cse_codec::specs::Reader::checked, cse_codec::specs::Reader::decoded, cse_codec::specs::Reader::then_at, cse_codec::specs::Reader::done, cse_codec::specs::Reader::whole, crate::specs::Reading::zero_at, crate::specs::Reading::header_at))]
+pub fn header_of(bytes: &[u8]) -> Result<(Version, &[u8]), Fault>
     ensures { GivesFault (λ x. (x.0, x.1.now)) result (header_at bytes.now) }
 {
     if bytes.len() < 8 {
@@ -38,12 +40,12 @@ pub fn header_of(bytes: &[u8]) -> Result<(u8, &[u8]), Fault>
     if magic != b"CSEB".as_slice() {
         return Err(broken(Rule::Header, bytes));
     }
-    let (version, after_version) = u16_at(after_magic)?;
-    if version != 1 {
+    let (code, after_version) = u16_at(after_magic)?;
+    let Some(version) = version_named(code) else {
         return Err(broken(Rule::Header, after_magic));
-    }
+    };
     let (_, rest) = zero_u16_at(after_version)?;
-    Ok((0, rest))
+    Ok((version, rest))
 }
 
 #[tactic(auto, unfolding(cse_codec::specs::Reader::then_at, cse_codec::specs::Reader::done, crate::specs::Reading::zero_at, crate::specs::Reading::record_at))]

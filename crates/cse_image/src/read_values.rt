@@ -1,4 +1,4 @@
-//! The sections of plain values: the records' order, constants, texts, globals and messages.
+//! The sections of plain values: the records' order, constants, limits, texts, globals and messages.
 
 ghost use Rattle.std.specs.Prelude.{◌≡◌, [], map};
 ghost use Rattle.std.specs.String.{string_bytes};
@@ -7,7 +7,7 @@ ghost use Rattle.cse_codec.specs.declared.fault.Rule.TheVariants.{Form};
 ghost use Rattle.cse_parts.specs.Codes.{global_kind_of as kind_of};
 ghost use Rattle.cse_parts.specs.Fields.{fits_global_length};
 ghost use Rattle.cse_parts.specs.Image.{message_lists};
-ghost use Rattle.cse_image.specs.Reading.{characters_at, text_at, global_at, message_at};
+ghost use Rattle.cse_image.specs.Reading.{limit_at, limits_at, characters_at, text_at, global_at, message_at};
 
 use crate::read_shape::flag_of;
 use cse_codec::{
@@ -16,10 +16,13 @@ use cse_codec::{
 };
 use cse_parts::codes::global_kind_named;
 use cse_parts::entries::{GlobalKind, GlobalVariable, Message};
-use cse_parts::limits::{MOST_CONSTANTS, MOST_GLOBALS, MOST_MESSAGES, MOST_ORDER, MOST_TEXTS};
+use cse_parts::limits::{
+    MOST_CONSTANTS, MOST_GLOBALS, MOST_LIMITS, MOST_MESSAGES, MOST_ORDER, MOST_TEXTS,
+};
 use cse_parts::placeholders::are_few_placeholders;
-use cse_parts::rules::is_right_global_length;
+use cse_parts::rules::{is_right_global_length, is_right_limit};
 use cse_parts::texts::{is_short_text, plain_text};
+use cse_parts::version::Version;
 use std::alloc::Global;
 
 #[tactic(auto, unfolding(cse_codec::specs::Reader::then_at, cse_codec::specs::Reader::counted))]
@@ -36,6 +39,46 @@ pub fn constants_of(alloc: Global, bytes: &[u8]) -> Result<(Vec<i64>, &[u8]), St
 {
     let (count, rest) = count_at(MOST_CONSTANTS, bytes)?;
     i64s_at(alloc, count, rest)
+}
+
+/// A limit of a counting loop.
+#[tactic(auto, unfolding(cse_codec::specs::Reader::checked, crate::specs::Reading::limit_at))]
+fn limit_of(bytes: &[u8]) -> Result<(u32, &[u8]), Fault>
+    ensures { GivesFault (λ x. (x.0, x.1.now)) result (limit_at bytes.now) }
+{
+    let (limit, rest) = u32_at(bytes)?;
+    if !is_right_limit(limit) {
+        return Err(broken(Rule::Form, bytes));
+    }
+    Ok((limit, rest))
+}
+
+#[tactic(auto, using(cse_codec::proofs::Loop::many_step, cse_codec::proofs::Loop::many_done))]
+fn limits_in(alloc: Global, count: u32, bytes: &[u8]) -> Result<(Vec<u32>, &[u8]), Stop>
+    ensures { Gives (λ x. (x.0.items, x.1.now)) result (many (λ _. limit_at) [] count bytes.now) }
+{
+    let mut limits = Vec::new(alloc);
+    let mut rest = bytes;
+    for _ in 0..count {
+        let (limit, after) = limit_of(rest)?;
+        limits.push(limit)?;
+        rest = after;
+    }
+    Ok((limits, rest))
+}
+
+/// The table of limits, which version 1 has not.
+#[tactic(auto, unfolding(cse_codec::specs::Reader::then_at, cse_codec::specs::Reader::done, cse_codec::specs::Reader::counted, crate::specs::Reading::limits_at))]
+pub fn limits_of(alloc: Global, version: Version, bytes: &[u8]) -> Result<(Vec<u32>, &[u8]), Stop>
+    ensures { Gives (λ x. (x.0.items, x.1.now)) result (limits_at version bytes.now) }
+{
+    match version {
+        Version::One => Ok((Vec::new(alloc), bytes)),
+        Version::Two => {
+            let (count, rest) = count_at(MOST_LIMITS, bytes)?;
+            limits_in(alloc, count, rest)
+        }
+    }
 }
 
 /// The characters of a text.

@@ -1,25 +1,24 @@
-//! All of an image: its tables and its code.
+//! The tables of an image: all sections but the code.
 
 ghost use Rattle.std.specs.Prelude.{◌≡◌, ◌≤◌, IfOk, map};
-ghost use Rattle.cse_codec.specs.Reader.{Gives, each};
-ghost use Rattle.cse_parts.specs.Image.{routine_lists, lists_of, image_with};
+ghost use Rattle.cse_codec.specs.Reader.{Gives};
+ghost use Rattle.cse_parts.specs.Image.{routine_lists, lists_of};
 ghost use Rattle.cse_parts.specs.Fields.{instructions_in};
-ghost use Rattle.cse_image.specs.Reading.{instr_at, lists_at, image_at, reading};
+ghost use Rattle.cse_image.specs.Reading.{lists_at};
 
 use crate::read_arrays::arrays_of;
-use crate::read_code::code_in;
 use crate::read_routines::{events_of, routines_of};
-use crate::read_shape::{header_of, items_of, records_of, sets_of};
-use crate::read_values::{constants_of, globals_of, messages_of, order_of, texts_of};
-use cse_codec::{Rule, Stop, broken};
+use crate::read_shape::{items_of, records_of, sets_of};
+use crate::read_values::{constants_of, globals_of, limits_of, messages_of, order_of, texts_of};
+use cse_codec::Stop;
 use cse_parts::entries::{Routine, Tables};
-use cse_parts::instruction::Instr;
 use cse_parts::limits::MOST_INSTRUCTIONS;
+use cse_parts::version::Version;
 use std::alloc::Global;
 
 #[tactic(auto, unfolding(cse_codec::specs::Reader::then_at, cse_codec::specs::Reader::done, crate::specs::Reading::lists_at))]
-pub fn tables_of(alloc: Global, bytes: &[u8]) -> Result<(Tables, &[u8]), Stop>
-    ensures exact { Gives (λ x. (lists_of x.0, x.1.now)) result (lists_at bytes.now) }
+pub fn tables_of(alloc: Global, version: Version, bytes: &[u8]) -> Result<(Tables, &[u8]), Stop>
+    ensures exact { Gives (λ x. (lists_of x.0, x.1.now)) result (lists_at version bytes.now) }
     ensures room { IfOk result (λ x. instructions_in (map routine_lists x.0.routines.items) ≤ MOST_INSTRUCTIONS) }
 {
     let (records, rest) = records_of(alloc, bytes)?;
@@ -27,11 +26,12 @@ pub fn tables_of(alloc: Global, bytes: &[u8]) -> Result<(Tables, &[u8]), Stop>
     let (sets, rest) = sets_of(alloc, rest)?;
     let (order, rest) = order_of(alloc, rest)?;
     let (constants, rest) = constants_of(alloc, rest)?;
+    let (limits, rest) = limits_of(alloc, version, rest)?;
     let (texts, rest) = texts_of(alloc, rest)?;
     let (globals, rest) = globals_of(alloc, rest)?;
     let (arrays, rest) = arrays_of(alloc, rest)?;
     let (messages, rest) = messages_of(alloc, rest)?;
-    let (routines, rest) = routines_of(alloc, rest)?;
+    let (routines, rest) = routines_of(alloc, version, rest)?;
     let (events, rest) = events_of(alloc, rest)?;
     Ok((
         Tables {
@@ -40,6 +40,7 @@ pub fn tables_of(alloc: Global, bytes: &[u8]) -> Result<(Tables, &[u8]), Stop>
             sets,
             order,
             constants,
+            limits,
             texts,
             globals,
             arrays,
@@ -58,40 +59,4 @@ pub fn total_of(routines: &[Routine]) -> u32
     ensures { result ≡ instructions_in (map routine_lists routines.now) }
 {
     routines.iter().map(|r| r.instructions).sum()
-}
-
-/// The code of these routines.
-fn code_of<'a>(
-    alloc: Global,
-    routines: &[Routine],
-    bytes: &'a [u8],
-) -> Result<(Vec<Instr>, &'a [u8]), Stop>
-    requires { instructions_in (map routine_lists routines.now) ≤ MOST_INSTRUCTIONS }
-    ensures { Gives (λ x. (x.0.items, x.1.now)) result (each instr_at (instructions_in (map routine_lists routines.now)) bytes.now) }
-{
-    let count = total_of(routines);
-    code_in(alloc, count, bytes)
-}
-
-/// The tables and the code that the bytes begin with, and what follows them.
-#[tactic(auto, unfolding(cse_codec::specs::Reader::then_at, cse_codec::specs::Reader::done, crate::specs::Reading::image_at))]
-fn parts_of(alloc: Global, bytes: &[u8]) -> Result<((Tables, Vec<Instr>), &[u8]), Stop>
-    ensures { Gives (λ x. (image_with x.0.0 x.0.1.items, x.1.now)) result (image_at bytes.now) }
-{
-    let (_, rest) = header_of(bytes)?;
-    let (tables, rest) = tables_of(alloc, rest)?;
-    let (code, rest) = code_of(alloc, &tables.routines, rest)?;
-    Ok(((tables, code), rest))
-}
-
-/// All of the bytes are one image.
-#[tactic(auto, unfolding(crate::specs::Reading::reading))]
-pub fn whole_image(alloc: Global, bytes: &[u8]) -> Result<(Tables, Vec<Instr>), Stop>
-    ensures { Gives (λ x. image_with x.0 x.1.items) result (reading bytes.now) }
-{
-    let (parts, rest) = parts_of(alloc, bytes)?;
-    if !rest.is_empty() {
-        return Err(Stop::from(broken(Rule::LeftOver, rest)));
-    }
-    Ok(parts)
 }

@@ -5,9 +5,10 @@ ghost use Rattle.std.specs.Int.{w64};
 ghost use Rattle.std.specs.List.{flat_map};
 ghost use Rattle.std.specs.String.{string_bytes};
 ghost use Rattle.cse_codec.specs.Spelling.{◌⧺◌, section, SectionFits, u32 as u32_spelling, i64 as i64_spelling};
+ghost use Rattle.cse_parts.specs.declared.version.Version.TheVariants as versions;
 ghost use Rattle.cse_parts.specs.Image.{array_lists, message_lists, routine_lists, lists_of};
 ghost use Rattle.cse_parts.specs.Fields.{instructions_in, last_event};
-ghost use Rattle.cse_image.specs.Spelling.{ListsFit, RecordFits, ItemFits, SetFits, OrderFits, TextFits, GlobalFits, ArrayFits, MessageFits, RoutineFits, EventFits, record_shape, item_shape, set_shape, text as text_spelling, global as global_spelling, array as array_spelling, message as message_spelling, routine as routine_spelling, event as event_spelling, lists as lists_spelling};
+ghost use Rattle.cse_image.specs.Spelling.{ListsFit, RecordFits, ItemFits, SetFits, OrderFits, LimitFits, TextFits, GlobalFits, ArrayFits, MessageFits, RoutineFits, EventFits, record_shape, item_shape, set_shape, text as text_spelling, global as global_spelling, array as array_spelling, message as message_spelling, routine as routine_spelling, event as event_spelling, lists as lists_spelling};
 
 use crate::writing::{
     put_array, put_event, put_global, put_item, put_message, put_record, put_routine, put_set,
@@ -16,8 +17,8 @@ use crate::writing::{
 use cse_codec::{put_i64s, put_u32, put_u32s};
 use cse_parts::entries::{Array, EventEntry, GlobalVariable, Message, Routine, Tables};
 use cse_parts::limits::{
-    MOST_ARRAYS, MOST_CONSTANTS, MOST_EVENTS, MOST_GLOBALS, MOST_ITEMS, MOST_MESSAGES, MOST_ORDER,
-    MOST_RECORDS, MOST_ROUTINES, MOST_SETS, MOST_TEXTS,
+    MOST_ARRAYS, MOST_CONSTANTS, MOST_EVENTS, MOST_GLOBALS, MOST_ITEMS, MOST_LIMITS, MOST_MESSAGES,
+    MOST_ORDER, MOST_RECORDS, MOST_ROUTINES, MOST_SETS, MOST_TEXTS,
 };
 use cse_value::shape::{ItemShape, RecordShape, SetShape};
 use std::alloc::AllocError;
@@ -89,7 +90,7 @@ fn put_messages(out: &mut Vec<u8>, messages: &[Message]) -> Result<(), AllocErro
 }
 
 fn put_routines(out: &mut Vec<u8>, routines: &[Routine]) -> Result<(), AllocError>
-    requires { SectionFits MOST_ROUTINES (λ before. RoutineFits (instructions_in before)) (map routine_lists routines.now) }
+    requires { SectionFits MOST_ROUTINES (λ before. RoutineFits versions.Two (instructions_in before)) (map routine_lists routines.now) }
     ensures { OnOk result (out.new.items ≡ out.old.items ++ flat_map routine_spelling (map routine_lists routines.now)) }
 {
     for routine in routines {
@@ -153,6 +154,15 @@ fn section_of_constants(out: &mut Vec<u8>, constants: &[i64]) -> Result<(), Allo
 }
 
 #[tactic(auto, using(cse_codec::proofs::Places::count_small), unfolding(cse_codec::specs::Spelling::section))]
+fn section_of_limits(out: &mut Vec<u8>, limits: &[u32]) -> Result<(), AllocError>
+    requires { SectionFits MOST_LIMITS (λ _. LimitFits) limits.now }
+    ensures { OnOk result (out.new.items ≡ out.old.items ++ section u32_spelling limits.now) }
+{
+    put_u32(out, limits.len() as u32)?;
+    put_u32s(out, limits)
+}
+
+#[tactic(auto, using(cse_codec::proofs::Places::count_small), unfolding(cse_codec::specs::Spelling::section))]
 fn section_of_texts(out: &mut Vec<u8>, texts: &[String]) -> Result<(), AllocError>
     requires { SectionFits MOST_TEXTS (λ _. TextFits) (map string_bytes texts.now) }
     ensures { OnOk result (out.new.items ≡ out.old.items ++ section text_spelling (map string_bytes texts.now)) }
@@ -190,7 +200,7 @@ fn section_of_messages(out: &mut Vec<u8>, messages: &[Message]) -> Result<(), Al
 
 #[tactic(auto, using(cse_codec::proofs::Places::count_small), unfolding(cse_codec::specs::Spelling::section))]
 fn section_of_routines(out: &mut Vec<u8>, routines: &[Routine]) -> Result<(), AllocError>
-    requires { SectionFits MOST_ROUTINES (λ before. RoutineFits (instructions_in before)) (map routine_lists routines.now) }
+    requires { SectionFits MOST_ROUTINES (λ before. RoutineFits versions.Two (instructions_in before)) (map routine_lists routines.now) }
     ensures { OnOk result (out.new.items ≡ out.old.items ++ section routine_spelling (map routine_lists routines.now)) }
 {
     put_u32(out, routines.len() as u32)?;
@@ -206,21 +216,22 @@ fn section_of_events(out: &mut Vec<u8>, events: &[EventEntry]) -> Result<(), All
     put_events(out, events)
 }
 
-/// Writes the sections from the records to the constants.
+/// Writes the sections from the records to the limits.
 fn put_early(out: &mut Vec<u8>, tables: &Tables) -> Result<(), AllocError>
-    requires { ListsFit (lists_of tables.now) }
-    ensures { OnOk result (out.new.items ≡ out.old.items ++ (section record_shape tables.now.records.items ⧺ section item_shape tables.now.items.items ⧺ section set_shape tables.now.sets.items ⧺ section u32_spelling tables.now.order.items ⧺ section i64_spelling tables.now.constants.items)) }
+    requires { ListsFit versions.Two (lists_of tables.now) }
+    ensures { OnOk result (out.new.items ≡ out.old.items ++ (section record_shape tables.now.records.items ⧺ section item_shape tables.now.items.items ⧺ section set_shape tables.now.sets.items ⧺ section u32_spelling tables.now.order.items ⧺ section i64_spelling tables.now.constants.items ⧺ section u32_spelling tables.now.limits.items)) }
 {
     section_of_records(out, &tables.records)?;
     section_of_items(out, &tables.items)?;
     section_of_sets(out, &tables.sets)?;
     section_of_order(out, &tables.order)?;
-    section_of_constants(out, &tables.constants)
+    section_of_constants(out, &tables.constants)?;
+    section_of_limits(out, &tables.limits)
 }
 
 /// Writes the sections from the texts to the events.
 fn put_late(out: &mut Vec<u8>, tables: &Tables) -> Result<(), AllocError>
-    requires { ListsFit (lists_of tables.now) }
+    requires { ListsFit versions.Two (lists_of tables.now) }
     ensures { OnOk result (out.new.items ≡ out.old.items ++ (section text_spelling (map string_bytes tables.now.texts.items) ⧺ section global_spelling tables.now.globals.items ⧺ section array_spelling (map array_lists tables.now.arrays.items) ⧺ section message_spelling (map message_lists tables.now.messages.items) ⧺ section routine_spelling (map routine_lists tables.now.routines.items) ⧺ section event_spelling tables.now.events.items)) }
 {
     section_of_texts(out, &tables.texts)?;
@@ -233,8 +244,8 @@ fn put_late(out: &mut Vec<u8>, tables: &Tables) -> Result<(), AllocError>
 
 /// Writes the sections but the code.
 pub fn put_tables(out: &mut Vec<u8>, tables: &Tables) -> Result<(), AllocError>
-    requires { ListsFit (lists_of tables.now) }
-    ensures { OnOk result (out.new.items ≡ out.old.items ++ lists_spelling (lists_of tables.now)) }
+    requires { ListsFit versions.Two (lists_of tables.now) }
+    ensures { OnOk result (out.new.items ≡ out.old.items ++ lists_spelling versions.Two (lists_of tables.now)) }
 {
     put_early(out, tables)?;
     put_late(out, tables)

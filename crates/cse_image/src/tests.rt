@@ -1,11 +1,13 @@
-//! Worked images, and for each rule of the format bytes that break it, with the number and the place.
+//! Worked images of both versions, and for each rule of the format bytes that break it, with the number
+//! and the place. Tables are gone through by one function each.
 
 use super::*;
 use std::alloc::Global;
 use std::test::*;
 
-/// Lists "Hi" in the application's preproc: one message, one routine of two instructions, one event.
-const HELLO: [u8; 94] = [
+/// Lists "Hi" in the application's preproc: one message, one routine of two instructions, one event. In
+/// version 1.
+const HELLO_ONE: [u8; 94] = [
     67, 83, 69, 66, 1, 0, 0, 0, // header
     0, 0, 0, 0, 0, 0, 0, 0, 0, 0, 0, 0, 0, 0, 0, 0, // records, items, sets, order
     0, 0, 0, 0, 0, 0, 0, 0, 0, 0, 0, 0, 0, 0, 0, 0, // constants, texts, globals, arrays
@@ -16,7 +18,73 @@ const HELLO: [u8; 94] = [
     40, 0, 0, 0, 0, 0, 0, 0, // Return
 ];
 
-/// Each section has an entry or two. In front of a line, the place of its first byte.
+/// The same in version 2.
+const HELLO: [u8; 98] = [
+    67, 83, 69, 66, 2, 0, 0, 0, // header
+    0, 0, 0, 0, 0, 0, 0, 0, 0, 0, 0, 0, 0, 0, 0, 0, // records, items, sets, order
+    0, 0, 0, 0, 0, 0, 0, 0, 0, 0, 0, 0, 0, 0, 0, 0, // constants, limits, texts, globals
+    0, 0, 0, 0, // arrays
+    1, 0, 0, 0, 0, 0, 0, 0, 0, 0, 2, 0, 72, 105, // messages
+    1, 0, 0, 0, 0, 0, 0, 0, 2, 0, 0, 0, // routines
+    1, 0, 0, 0, 0, 0, 0, 0, 0, 0, 0, 0, // events
+    37, 0, 0, 0, 0, 0, 0, 0, // Message 0
+    40, 0, 0, 0, 0, 0, 0, 0, // Return
+];
+
+/// A counting loop of at most 3 turns, in version 1.
+const LOOP_ONE: [u8; 108] = [
+    67, 83, 69, 66, 1, 0, 0, 0, // header
+    0, 0, 0, 0, 0, 0, 0, 0, 0, 0, 0, 0, 0, 0, 0, 0, // records, items, sets, order
+    1, 0, 0, 0, 0, 0, 0, 0, 0, 0, 0, 0, // constants
+    0, 0, 0, 0, 0, 0, 0, 0, 0, 0, 0, 0, 0, 0, 0, 0, // texts, globals, arrays, messages
+    1, 0, 0, 0, 0, 0, 0, 0, 4, 0, 0, 0, // routines
+    1, 0, 0, 0, 0, 0, 0, 0, 0, 0, 0, 0, // events
+    1, 0, 0, 0, 0, 0, 0, 0, // Number 0
+    41, 0, 3, 0, 2, 0, 0, 0, // LoopCount 3, 2
+    43, 0, 0, 0, 1, 0, 0, 0, // End 1
+    40, 0, 0, 0, 0, 0, 0, 0, // Return
+];
+
+/// The same in version 2: the limits are 1, 2, 3, and the loop names the last.
+const LOOP: [u8; 124] = [
+    67, 83, 69, 66, 2, 0, 0, 0, // header
+    0, 0, 0, 0, 0, 0, 0, 0, 0, 0, 0, 0, 0, 0, 0, 0, // records, items, sets, order
+    1, 0, 0, 0, 0, 0, 0, 0, 0, 0, 0, 0, // constants
+    3, 0, 0, 0, 1, 0, 0, 0, 2, 0, 0, 0, 3, 0, 0, 0, // limits
+    0, 0, 0, 0, 0, 0, 0, 0, 0, 0, 0, 0, 0, 0, 0, 0, // texts, globals, arrays, messages
+    1, 0, 0, 0, 0, 0, 0, 0, 4, 0, 0, 0, // routines
+    1, 0, 0, 0, 0, 0, 0, 0, 0, 0, 0, 0, // events
+    1, 0, 0, 0, 0, 0, 0, 0, // Number 0
+    41, 0, 2, 0, 2, 0, 0, 0, // LoopCount, place 2, 2
+    43, 0, 0, 0, 1, 0, 0, 0, // End 1
+    40, 0, 0, 0, 0, 0, 0, 0, // Return
+];
+
+/// Bytes of `LOOP` that are changed, with the number and the place of the fault; 0 and 0 for a program.
+const LOOP_FAULTS: [(usize, &[u8], u8, usize); 11] = [
+    (4, &[3], 60, 4),
+    (4, &[0], 60, 4),
+    (36, &[1, 0, 1], 64, 36),
+    (36, &[255, 255, 255, 255], 64, 36),
+    (40, &[0], 63, 40),
+    (48, &[0], 63, 48),
+    (40, &[255, 255, 255, 255], 0, 0),
+    (73, &[2], 0, 0),
+    (73, &[3], 63, 73),
+    // a place outside the table is nothing to the reader
+    (102, &[3], 0, 0),
+    (102, &[255, 255], 0, 0),
+];
+
+/// The same of `LOOP_ONE`: b is the limit, from 1, and no routine gives a text.
+const LOOP_ONE_FAULTS: [(usize, &[u8], u8, usize); 4] = [
+    (57, &[1], 0, 0),
+    (57, &[2], 63, 57),
+    (86, &[0], 63, 86),
+    (86, &[255, 255], 0, 0),
+];
+
+/// Each section of version 1 has an entry or two. In front of a line, the place of its first byte.
 const FULL: [u8; 210] = [
     67, 83, 69, 66, 1, 0, 0, 0, // 0: header
     1, 0, 0, 0, 30, 0, 0, 0, 12, 0, 0, 0, // 8: records
@@ -43,7 +111,7 @@ const FULL: [u8; 210] = [
 const FAULTS: [(usize, &[u8], u8, usize); 72] = [
     (0, b"X", 60, 0),
     (3, b"X", 60, 0),
-    (4, &[2], 60, 4),
+    (4, &[3], 60, 4),
     (5, &[1], 60, 4),
     (6, &[1], 63, 6),
     (7, &[1], 63, 6),
@@ -124,7 +192,7 @@ const FAULTS: [(usize, &[u8], u8, usize); 72] = [
     (193, &[1], 63, 190),
 ];
 
-/// The number and the place of the fault that reading tells; 0 and 0 for a program.
+/// The fault that reading tells; 0 and 0 for a program.
 fn fault_of(alloc: Global, bytes: &[u8]) -> (u8, usize) {
     match read_image(alloc, bytes) {
         Ok(_) => (0, 0),
@@ -140,6 +208,11 @@ fn fault_in_view(alloc: Global, bytes: &[u8]) -> (u8, usize) {
     }
 }
 
+/// Both tell this fault.
+fn is_fault(alloc: Global, bytes: &[u8], number: u8, at: usize) -> bool {
+    fault_of(alloc, bytes) == (number, at) && fault_in_view(alloc, bytes) == (number, at)
+}
+
 /// The bytes with these from a place on.
 fn changed(alloc: Global, bytes: &[u8], at: usize, new: &[u8]) -> Result<Vec<u8>, Fail> {
     let mut all = Vec::from_slice(alloc, bytes)?;
@@ -149,6 +222,155 @@ fn changed(alloc: Global, bytes: &[u8], at: usize, new: &[u8]) -> Result<Vec<u8>
         }
     }
     Ok(all)
+}
+
+/// The first row that doesn't say which fault the changed image has.
+fn wrong_row(
+    alloc: Global,
+    image: &[u8],
+    rows: &[(usize, &[u8], u8, usize)],
+) -> Result<Option<usize>, Fail> {
+    for (i, row) in rows.iter().enumerate() {
+        let bytes = changed(alloc, image, row.0, row.1)?;
+        if !is_fault(alloc, &bytes, row.2, row.3) {
+            return Ok(Some(i));
+        }
+    }
+    Ok(None)
+}
+
+#[test]
+fn each_rule(rt: HostRuntime) -> Result<(), Fail> {
+    assert_eq!(rt; wrong_row(rt.alloc(), &FULL, &FAULTS)?, None);
+    Ok(())
+}
+
+#[test]
+fn rules_of_version_2(rt: HostRuntime) -> Result<(), Fail> {
+    assert_eq!(rt; wrong_row(rt.alloc(), &LOOP, &LOOP_FAULTS)?, None);
+    Ok(())
+}
+
+#[test]
+fn rules_of_version_1(rt: HostRuntime) -> Result<(), Fail> {
+    assert_eq!(rt; wrong_row(rt.alloc(), &LOOP_ONE, &LOOP_ONE_FAULTS)?, None);
+    Ok(())
+}
+
+/// The program that the bytes stand for, written.
+fn rewritten(alloc: Global, bytes: &[u8]) -> Result<Vec<u8>, Fail> {
+    Ok(write_image(alloc, &read_image(alloc, bytes)?)?)
+}
+
+/// The same by way of a view.
+fn rewritten_view(alloc: Global, bytes: &[u8]) -> Result<Vec<u8>, Fail> {
+    Ok(write_image(alloc, &view_image(alloc, bytes)?)?)
+}
+
+fn is_rewritten(alloc: Global, bytes: &[u8], expected: &[u8]) -> Result<bool, Fail> {
+    Ok(
+        rewritten(alloc, bytes)?.as_slice() == expected
+            && rewritten_view(alloc, bytes)?.as_slice() == expected,
+    )
+}
+
+#[test]
+fn written_in_version_2(rt: HostRuntime) -> Result<(), Fail> {
+    let rows: [(&[u8], &[u8]); 4] = [
+        (&HELLO, &HELLO),
+        (&HELLO_ONE, &HELLO),
+        (&LOOP, &LOOP),
+        (&LOOP_ONE, &LOOP),
+    ];
+    for (bytes, expected) in rows {
+        assert!(rt; is_rewritten(rt.alloc(), bytes, expected)?);
+    }
+    Ok(())
+}
+
+/// Each beginning of the image ends too early.
+fn ends_early(alloc: Global, image: &[u8]) -> bool {
+    for n in 0..image.len() {
+        if !is_fault(alloc, &image[..n], 61, n) {
+            return false;
+        }
+    }
+    true
+}
+
+#[test]
+fn cut_short(rt: HostRuntime) {
+    let images: [&[u8]; 4] = [&HELLO, &HELLO_ONE, &LOOP, &FULL];
+    for image in images {
+        assert!(rt; ends_early(rt.alloc(), image));
+    }
+}
+
+#[test]
+fn bytes_left_over(rt: HostRuntime) -> Result<(), Fail> {
+    let mut bytes = Vec::from_slice(rt.alloc(), &HELLO)?;
+    bytes.push(0)?;
+    assert!(rt; is_fault(rt.alloc(), &bytes, 62, 98));
+    Ok(())
+}
+
+/// An image of version 1 without loops, spelled in version 2: the header tells the version, and after
+/// the constants, of which there are none, stands a count of 0 limits.
+fn in_version_2(alloc: Global, bytes: &[u8]) -> Result<Vec<u8>, Fail> {
+    let mut all = Vec::new(alloc);
+    all.extend_from_slice(&HELLO[..8])?;
+    all.extend_from_slice(&bytes[8..28])?;
+    all.extend_from_slice(&[0, 0, 0, 0])?;
+    all.extend_from_slice(&bytes[28..])?;
+    Ok(all)
+}
+
+/// Is the byte at the place the version's?
+fn of_version_1(bytes: &[u8]) -> bool {
+    bytes.get(4) == Some(&1)
+}
+
+/// The version 2 spelling of an image without loops and constants.
+fn spelled(alloc: Global, bytes: &[u8]) -> Result<Vec<u8>, Fail> {
+    if of_version_1(bytes) {
+        return in_version_2(alloc, bytes);
+    }
+    Ok(Vec::from_slice(alloc, bytes)?)
+}
+
+/// The image is refused, or its program is written in version 2.
+fn refused_or_spelled(alloc: Global, bytes: &[u8]) -> Result<bool, Fail> {
+    match read_image(alloc, bytes) {
+        Ok(program) => Ok(write_image(alloc, &program)? == spelled(alloc, bytes)?),
+        Err(_) => Ok(true),
+    }
+}
+
+/// The same with each other value in the place of one byte.
+fn each_value(alloc: Global, image: &[u8], at: usize) -> Result<bool, Fail> {
+    for value in 0..=255u8 {
+        let bytes = changed(alloc, image, at, &[value])?;
+        if !refused_or_spelled(alloc, &bytes)? {
+            return Ok(false);
+        }
+    }
+    Ok(true)
+}
+
+#[test]
+fn each_byte_replaced(rt: HostRuntime) -> Result<(), Fail> {
+    for at in 0..98usize {
+        assert!(rt; each_value(rt.alloc(), &HELLO, at)?);
+    }
+    Ok(())
+}
+
+#[test]
+fn each_byte_of_version_1_replaced(rt: HostRuntime) -> Result<(), Fail> {
+    for at in 0..94usize {
+        assert!(rt; each_value(rt.alloc(), &HELLO_ONE, at)?);
+    }
+    Ok(())
 }
 
 /// An instruction whose fields are 0.
@@ -185,6 +407,7 @@ fn hello(alloc: Global) -> Result<Parts, Fail> {
         sets: Vec::new(alloc),
         order: Vec::new(alloc),
         constants: Vec::new(alloc),
+        limits: Vec::new(alloc),
         texts: Vec::new(alloc),
         globals: Vec::new(alloc),
         arrays: Vec::new(alloc),
@@ -212,87 +435,33 @@ fn parts_without_a_spelling(rt: HostRuntime) -> Result<(), Fail> {
 }
 
 #[test]
-fn there_and_back(rt: HostRuntime) -> Result<(), Fail> {
-    let read = read_image(rt.alloc(), &FULL)?;
-    let written = write_image(rt.alloc(), &read)?;
-    assert_eq!(rt; written.as_slice(), FULL.as_slice());
-    let view = view_image(rt.alloc(), &FULL)?;
-    let written = write_image(rt.alloc(), &view)?;
-    assert_eq!(rt; written.as_slice(), FULL.as_slice());
-    assert_eq!(rt; view.code().len(), 3);
+fn a_limit_of_0_has_no_spelling(rt: HostRuntime) -> Result<(), Fail> {
+    let mut parts = hello(rt.alloc())?;
+    parts.limits.push(0)?;
+    assert!(rt; Program::from_parts(parts).is_none());
     Ok(())
 }
 
-#[test]
-fn each_rule(rt: HostRuntime) -> Result<(), Fail> {
-    for (at, new, number, place) in FAULTS.iter() {
-        let bytes = changed(rt.alloc(), &FULL, *at, new)?;
-        let want = (*number, *place);
-        assert_eq!(rt; fault_of(rt.alloc(), &bytes), want, "at {at}");
-        assert_eq!(rt;
-            fault_in_view(rt.alloc(), &bytes),
-            want,
-            "in a view, at {at}"
-        );
-    }
-    Ok(())
-}
-
-#[test]
-fn cut_short(rt: HostRuntime) {
-    for n in 0..94usize {
-        if let Some(bytes) = HELLO.get(..n) {
-            assert_eq!(rt; fault_of(rt.alloc(), bytes), (61, n));
-        }
-    }
-    for n in 0..210usize {
-        if let Some(bytes) = FULL.get(..n) {
-            assert_eq!(rt; fault_of(rt.alloc(), bytes), (61, n));
-            assert_eq!(rt; fault_in_view(rt.alloc(), bytes), (61, n));
-        }
-    }
-}
-
-#[test]
-fn bytes_left_over(rt: HostRuntime) -> Result<(), Fail> {
-    let mut bytes = Vec::from_slice(rt.alloc(), &HELLO)?;
-    bytes.push(0)?;
-    assert_eq!(rt; fault_of(rt.alloc(), &bytes), (62, 94));
-    assert_eq!(rt; fault_in_view(rt.alloc(), &bytes), (62, 94));
-    Ok(())
-}
-
-/// Each byte replaced by each other: refused, or read as a program that is spelled so.
-#[test]
-fn each_byte_replaced(rt: HostRuntime) -> Result<(), Fail> {
-    for at in 0..94usize {
-        for value in 0..=255u8 {
-            let bytes = changed(rt.alloc(), &HELLO, at, &[value])?;
-            if let Ok(program) = read_image(rt.alloc(), &bytes) {
-                let written = write_image(rt.alloc(), &program)?;
-                assert_eq!(rt; written.as_slice(), bytes.as_slice());
-            }
-        }
-    }
-    Ok(())
-}
-
-/// `HELLO` with another text: as its message, or in the section of texts.
-fn with_text(alloc: Global, is_message: bool, text: &str) -> Result<Vec<u8>, Fail> {
+/// A message of such a text, in an image of version 2.
+fn with_message(alloc: Global, text: &str) -> Result<Vec<u8>, Fail> {
     let len = u16::try_from(text.len()).ok().ok_or("a short text")?;
     let mut bytes = Vec::new(alloc);
-    if is_message {
-        bytes.extend_from_slice(&HELLO[..50])?;
-        bytes.extend_from_slice(&len.to_le_bytes())?;
-        bytes.extend_from_slice(text.as_bytes())?;
-        bytes.extend_from_slice(&HELLO[54..])?;
-    } else {
-        bytes.extend_from_slice(&HELLO[..28])?;
-        bytes.extend_from_slice(&[1, 0, 0, 0])?;
-        bytes.extend_from_slice(&len.to_le_bytes())?;
-        bytes.extend_from_slice(text.as_bytes())?;
-        bytes.extend_from_slice(&HELLO[32..])?;
-    }
+    bytes.extend_from_slice(&HELLO[..54])?;
+    bytes.extend_from_slice(&len.to_le_bytes())?;
+    bytes.extend_from_slice(text.as_bytes())?;
+    bytes.extend_from_slice(&HELLO[58..])?;
+    Ok(bytes)
+}
+
+/// Such a text in the section of texts.
+fn with_text(alloc: Global, text: &str) -> Result<Vec<u8>, Fail> {
+    let len = u16::try_from(text.len()).ok().ok_or("a short text")?;
+    let mut bytes = Vec::new(alloc);
+    bytes.extend_from_slice(&HELLO[..32])?;
+    bytes.extend_from_slice(&[1, 0, 0, 0])?;
+    bytes.extend_from_slice(&len.to_le_bytes())?;
+    bytes.extend_from_slice(text.as_bytes())?;
+    bytes.extend_from_slice(&HELLO[36..])?;
     Ok(bytes)
 }
 
@@ -304,29 +473,35 @@ fn repeated(alloc: Global, piece: &str, count: usize) -> Result<String, Fail> {
     Ok(text)
 }
 
+/// A text so often, and the faults of it as a message and as a text.
+const LONG: [(&str, usize, (u8, usize), (u8, usize)); 8] = [
+    ("a", 255, (0, 0), (0, 0)),
+    ("a", 256, (64, 56), (64, 38)),
+    ("\u{e9}", 255, (0, 0), (0, 0)),
+    ("\u{e9}", 256, (64, 56), (64, 38)),
+    ("\n", 256, (63, 56), (63, 38)),
+    ("%d", 16, (0, 0), (0, 0)),
+    ("%s", 17, (64, 56), (0, 0)),
+    ("%%", 100, (0, 0), (0, 0)),
+];
+
+fn fault_as_message(alloc: Global, piece: &str, count: usize) -> Result<(u8, usize), Fail> {
+    let long = repeated(alloc, piece, count)?;
+    let bytes = with_message(alloc, &long)?;
+    Ok(fault_of(alloc, &bytes))
+}
+
+fn fault_as_text(alloc: Global, piece: &str, count: usize) -> Result<(u8, usize), Fail> {
+    let long = repeated(alloc, piece, count)?;
+    let bytes = with_text(alloc, &long)?;
+    Ok(fault_of(alloc, &bytes))
+}
+
 #[test]
 fn long_texts(rt: HostRuntime) -> Result<(), Fail> {
-    // a text, how often, and the faults as a message and as a text
-    let cases = [
-        ("a", 255, (0, 0), (0, 0)),
-        ("a", 256, (64, 52), (64, 34)),
-        ("\u{e9}", 255, (0, 0), (0, 0)),
-        ("\u{e9}", 256, (64, 52), (64, 34)),
-        ("\n", 256, (63, 52), (63, 34)),
-        ("%d", 16, (0, 0), (0, 0)),
-        ("%s", 17, (64, 52), (0, 0)),
-        ("%%", 100, (0, 0), (0, 0)),
-    ];
-    for (piece, count, message, text) in cases.iter() {
-        let long = repeated(rt.alloc(), piece, *count)?;
-        let bytes = with_text(rt.alloc(), true, &long)?;
-        assert_eq!(rt;
-            fault_of(rt.alloc(), &bytes),
-            *message,
-            "a message of {piece}"
-        );
-        let bytes = with_text(rt.alloc(), false, &long)?;
-        assert_eq!(rt; fault_of(rt.alloc(), &bytes), *text, "a text of {piece}");
+    for (piece, count, message, text) in LONG.iter() {
+        assert_eq!(rt; fault_as_message(rt.alloc(), piece, *count)?, *message);
+        assert_eq!(rt; fault_as_text(rt.alloc(), piece, *count)?, *text);
     }
     Ok(())
 }

@@ -4,6 +4,7 @@ ghost use Rattle.std.specs.Prelude.{◌≡◌, ◌<◌, ◌^◌, ◌++◌, lengt
 ghost use Rattle.std.specs.List.{flat_map};
 ghost use Rattle.std.specs.String.{string_bytes};
 ghost use Rattle.cse_codec.specs.Spelling.{u16 as u16_spelling};
+ghost use Rattle.cse_parts.specs.declared.version.Version.TheVariants as versions;
 ghost use Rattle.cse_parts.specs.Image.{array_lists, message_lists, routine_lists};
 ghost use Rattle.cse_image.specs.Spelling.{header, record_shape, item_shape, set_shape, text as text_spelling, global as global_spelling, array as array_spelling, message as message_spelling, local as local_spelling, routine as routine_spelling, event as event_spelling, instr as instr_spelling};
 
@@ -15,14 +16,16 @@ use cse_parts::codes::{
 use cse_parts::entries::{Array, EventEntry, GlobalVariable, Local, Message, Routine};
 use cse_parts::instruction::Instr;
 use cse_parts::opcodes::op_number;
+use cse_parts::version::{Version, version_number};
 use cse_value::shape::{ItemShape, RecordShape, SetShape};
 use std::alloc::AllocError;
 
+/// The header of version 2, in which all images are written.
 pub fn put_header(out: &mut Vec<u8>) -> Result<(), AllocError>
-    ensures { OnOk result (out.new.items ≡ out.old.items ++ header) }
+    ensures { OnOk result (out.new.items ≡ out.old.items ++ header versions.Two) }
 {
     put_bytes(out, b"CSEB")?;
-    put_u16(out, 1)?;
+    put_u16(out, version_number(Version::Two))?;
     put_u16(out, 0)
 }
 

@@ -11,13 +11,13 @@ use Rattle.cse_lines.specs.Columns.{id_of, line_text}
 use Rattle.cse_lines.specs.Field.{least_width}
 use Rattle.cse_lines.specs.Cutting.{HasNoFeed, IsFirstLine}
 use Rattle.cse_lines.specs.Run.{RunText, begins_marked, line_at, run_text, with_line, written_run}
-use Rattle.cse_lines.specs.Runs.{MayFollow, fault_in, fault_of, first_fault, given, given_of, later_by, line_fault, place_after}
+use Rattle.cse_lines.specs.Runs.{AreSound, MayFollow, fault_in, fault_of, first_fault, given, given_of, later_by, line_fault, place_after}
 use Rattle.cse_lines.specs.Reader.{GivesRun}
 use Rattle.cse_lines.specs.Gathering.{Gathered, IsRunOf, StandsFrom, bytes_of, first_id, front_after}
 use Rattle.cse_lines.specs.Taking.{CutsPast, EndsRun, Gathers, GathersAll, GivesFirst, GoesOn, Refuses, RefusesAt, run_id}
 use Rattle.cse_lines.proofs.DecodeLaws.{short_line}
 use Rattle.cse_lines.proofs.TakeLaws.{id_of_is, least_fits}
-use Rattle.cse_lines.proofs.WrittenLaws.{AreSound, written-run}
+use Rattle.cse_lines.proofs.WrittenLaws.{written-run}
 use Rattle.cse_lines.proofs.RunLaws.{Differs, IsRunOf-push, first_fault-found, first_fault-run, given_of-fault, given_of-last, given_of-nil, given_of-step, place-first}
 
 not_true : (b : Bool) → (b ≡ true → ⊥) → b ≡ false
@@ -36,7 +36,7 @@ fine_at place line h low =
     let few : ltb 10000 place ≡ false = not_true _ (λ e. let above : 10000 < place = ltb-true 10000 place e in absurd (omega arith)) in
     rw (h, few) refl
 
-are_sound : (d : DictionaryText) (id : List ℕ) (n : ℕ) (lines : List FileLine) → IsRunOf d id n lines → AreSound lines
+pub are_sound : (d : DictionaryText) (id : List ℕ) (n : ℕ) (lines : List FileLine) → IsRunOf d id n lines → AreSound lines
 are_sound d id n [] h = tt
 are_sound d id n (l ∷ ls) h = (own_sound (n + 1) l h.1, are_sound d id (n + 1) ls h.2)
 
@@ -214,6 +214,7 @@ module _ (d : DictionaryText) (front ended : Bool) (start : RunText) (begun : Li
         gives = record {
           lines = g.done;
           some = some;
+          sound = are_sound d id 0 g.done g.same;
           is = e.is ∙ g.is ∙ ap (λ n. run_text d n g.done) h.first_line;
           written = ap written_run e.is ∙ held_bytes d front ended old.first_line old uncut g;
           whole = sym h.held ∙ ap (λ x. x ++ uncut) (ap written_run (sym e.is)) ∙ ap (λ x. written_run run ++ x) (sym back);

@@ -16,7 +16,7 @@ use Rattle.cse_lines.specs.Reader.{GivesRun, IsError, NeedsMore, Next, ReaderTex
 use Rattle.cse_lines.specs.Gathering.{Gathered, IsRunOf, bytes_of, first_id, front_after}
 use Rattle.cse_lines.specs.Resting.{GivesRest, HasNoRest, IsResting, TakesRest, reader_of}
 use Rattle.cse_lines.specs.Taking.{GathersAll, GivesFirst, RefusesAt}
-use Rattle.cse_lines.proofs.GatherLaws.{held_bytes, length-done}
+use Rattle.cse_lines.proofs.GatherLaws.{are_sound, held_bytes, length-done}
 use Rattle.cse_lines.proofs.RunLaws.{first_fault-none, first_fault-run, given_of-last, given_of-nil, given_of-open}
 use Rattle.cse_lines.proofs.LineLaws.{lines_in-nil}
 
@@ -199,6 +199,7 @@ GivesRun-last d front ended number run uncut held g end some empty no_held =
     record {
       lines = g.done;
       some = some';
+      sound = are_sound d id 0 g.done g.same;
       is = g.is;
       written = own;
       whole = ap (λ x. written_run run ++ x) (empty ∙ sym no_held);

@@ -14,7 +14,7 @@ use Rattle.cse_lines.specs.Field.{padded, width_of}
 use Rattle.cse_lines.specs.Columns.{columns_of, line_text}
 use Rattle.cse_lines.specs.Written.{kept_columns, mark_bytes, onto_trimmed, without_blanks, written_line}
 use Rattle.cse_lines.specs.Run.{begins_marked, run_text, written_run}
-use Rattle.cse_lines.specs.Runs.{line_fault}
+use Rattle.cse_lines.specs.Runs.{AreSound, line_fault}
 use Rattle.cse_lines.specs.Gathering.{StandsFrom, bytes_of}
 use Rattle.cse_lines.proofs.DecodeLaws.{text_is_utf8}
 
@@ -85,7 +85,7 @@ kept_columns-padded width columns =
     ∙ ap (λ l. columns ++ without_blanks l) (drop_at columns blanks (length columns) refl)
     ∙ ap (λ l. columns ++ l) (without_blanks-replicate (width - length columns)) ∙ append-nil columns
 
--- a line with its mark
+-- a line with its mark; proofs of crates above cite this
 pub written-line : (d : DictionaryText) (line : FileLine) → line_fault line ≡ None → mark_bytes (is_marked line) ++ written_line (line_text d line) ≡ line.1
 unfolding written_line line_text
 written-line d line sound =
@@ -95,11 +95,6 @@ written-line d line sound =
     ap (λ t. mark_bytes (is_marked line) ++ (t ++ end_bytes (ending_of (line.1)))) text
     ∙ sym (append_assoc (mark_bytes (is_marked line)) (text_of line) (end_bytes (ending_of (line.1))))
     ∙ ap (λ t. t ++ end_bytes (ending_of (line.1))) (mark_parts (line.0) (before_end (line.1))) ∙ end_parts (line.1)
-
--- lines without a fault
-abbrev pub AreSound : List FileLine → Type 0
-AreSound [] = Unit {0}
-AreSound (line ∷ lines) = (line_fault line ≡ None) × AreSound lines
 
 written-inside : (d : DictionaryText) (lines : List FileLine) → AreSound lines → StandsFrom false lines → flat_map written_line (map (line_text d) lines) ≡ bytes_of lines
 written-inside d [] s f = refl

@@ -5,6 +5,7 @@ pub mod Written
 pub mod Laid
 pub mod Run
 pub mod Runs
+pub mod Untouched
 pub mod Reader
 pub mod Resting
 pub mod Gathering

@@ -7,7 +7,7 @@ use Rattle.cse_lines.specs.declared.error.DataError.{DataError}
 use Rattle.cse_lines.specs.Line.{FileLine}
 use Rattle.cse_lines.specs.Columns.{LineText}
 use Rattle.cse_lines.specs.Run.{RunText, run_text, written_run}
-use Rattle.cse_lines.specs.Runs.{given, fault_in, later_by, MayFollow}
+use Rattle.cse_lines.specs.Runs.{AreSound, given, fault_in, later_by, MayFollow}
 
 -- what a reader holds: its dictionary, the lines that are cut and not yet given, the bytes behind them that aren't cut, whether the end was read,
 -- how many reads gave bytes, how many lines were given, and the error that it answers from now on
@@ -34,11 +34,12 @@ given_lines (Ok (Some run)) = run.lines
 given_lines (Ok None) = []
 given_lines (Err error) = []
 
--- The bytes are the lines of the run and then the held ones. The run is the first that is given of them, and the rest is given of what is held
+-- The bytes are the lines of the run, of which none is faulty, and then the held ones. The run is the first that is given of them, and the rest is given of what is held
 -- and may follow.
 pub record GivesRun (d : DictionaryText) (bytes held : List ℕ) (front ended : Bool) (number : ℕ) (run : RunText) : Type 0 where
   pub lines : List FileLine
   pub some : 0 < length lines
+  pub sound : AreSound lines
   pub is : run ≡ run_text d number lines
   pub written : written_run run ≡ flat_map (λ line. line.1) lines
   pub whole : bytes ≡ written_run run ++ held

@@ -1,5 +1,5 @@
 -- A run: lines that follow one another and have the same id columns.
-use Rattle.std.specs.Prelude.{ℕ, ◌+◌, ◌||◌, Bool, false, map, List, [], ◌∷◌, ◌++◌, take, drop, length, slice_index_or, slice_set}
+use Rattle.std.specs.Prelude.{ℕ, ◌+◌, ◌||◌, Bool, false, map, List, [], ◌∷◌, ◌++◌, take, drop, length, slice_index_or}
 use Rattle.std.specs.List.{flat_map}
 use Rattle.cse_dict.specs.Dictionary.{DictionaryText}
 use Rattle.cse_lines.specs.declared.line.Line.{Line}
@@ -37,8 +37,3 @@ with_line run marked line = record { lines = run.lines ++ line ∷ []; marked = 
 -- the columns with others in place of those from a place on
 abbrev pub with_columns : ℕ → List ℕ → List ℕ → List ℕ
 with_columns at field columns = take at columns ++ (field ++ drop (at + length field) columns)
-
--- the run with others in place of the columns of a line from a place on
-abbrev pub with_field : RunText → ℕ → ℕ → List ℕ → RunText
-with_field run i at field =
-    record run { lines = slice_set run.lines i (record (line_at run i) { columns = with_columns at field (line_at run i).columns }) }

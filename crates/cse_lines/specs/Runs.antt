@@ -13,6 +13,11 @@ line_fault line =
     else if is_utf8 (text_of line) then (if nat_lt 65536 (length (columns_of line)) then Some 21 else None)
     else Some 20
 
+-- none of the lines has a fault by itself
+abbrev pub AreSound : List FileLine → Type 0
+AreSound [] = Unit {0}
+AreSound (line ∷ lines) = (line_fault line ≡ None) × AreSound lines
+
 -- the fault of a line that stands at this place of its run, from 1: after its own, 22 above 10,000 lines
 abbrev pub fault_of : ℕ → FileLine → Option ℕ
 fault_of place line = if is_some (line_fault line) then line_fault line else if nat_lt 10000 place then Some 22 else None

@@ -4,6 +4,7 @@
 //! - `run`: consecutive lines with equal id columns (CSPro Users Guide, data files; the limits are own).
 //! - `error`: what a data file can be refused by.
 //! - `layout`: the columns that a dictionary names on each line.
+//! - `untouched`: the law that a line which was not set is written as it came.
 #![tactic(auto)]
 
 mod buffer;
@@ -17,11 +18,13 @@ mod next;
 pub mod reader;
 pub mod run;
 mod take;
+pub mod untouched;
 
 pub use error::DataError;
 pub use line::{Ending, Line};
 pub use reader::{Kept, RunReader};
 pub use run::Run;
+pub use untouched::untouched_line_stays;
 
 #[cfg(test)]
 mod tests;

@@ -111,6 +111,7 @@ impl<'a> RunReader<'a> {
         ensures err { IfErr result (λ error. self.new.error ≡ Some error) }
         ensures again { IfSome self.old.error (λ error. (result ≡ Err error) × (self.new ≡ self.old) × (input.new ≡ input.old)) }
         ensures end { self.new.ended ≡ true → IsAtEnd (R.remaining input.new) }
+        ensures few_reads { self.new.reads ≤ 2 ^ 40 }
         ensures few { self.new.lines ≤ 2 ^ 40 * 65536 }
         ensures failed { self.old.error ≡ None → IfErr result (λ error. error.number ≡ 70 → (R.has_failed input.new ≡ true) ⊎ (self.new.reads ≡ 2 ^ 40)) }
         ensures works { OnOk result (R.has_failed input.new ≡ R.has_failed input.old) }

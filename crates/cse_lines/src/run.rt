@@ -3,10 +3,10 @@
 ghost use Rattle.std.specs.Prelude.{◌≡◌, ◌<◌, ◌≤◌, ◌+◌, ◌++◌, ◌∷◌, [], IfOk, OnErr, OnOk, drop, false, length, take};
 ghost use Rattle.cse_lines.specs.Decoding.{line_with};
 ghost use Rattle.cse_lines.specs.Laid.{IsLaid, laid_lines, line_behind};
-ghost use Rattle.cse_lines.specs.Run.{line_at, with_columns, with_field, with_line};
+ghost use Rattle.cse_lines.specs.Run.{line_at, with_line};
 
 use crate::decode::Head;
-use crate::line::{Ending, Line};
+use crate::line::Line;
 use std::alloc::{AllocError, Global};
 use std::marker::Model;
 
@@ -38,14 +38,6 @@ fn part(columns: &[char], first: usize, width: usize) -> &[char]
     ensures { result.now ≡ take width (drop first columns.now) }
 {
     &columns[first..first + width]
-}
-
-/// Writes columns over those from a place on.
-fn put(columns: &mut [char], first: usize, field: &[char])
-    requires { first + length field.now ≤ length columns.old }
-    ensures { columns.new ≡ with_columns first field.now columns.old }
-{
-    columns[first..first + field.len()].copy_from_slice(field);
 }
 
 /// Appends a line and its columns.
@@ -145,13 +137,6 @@ impl Run {
         self.first_line
     }
 
-    /// Whether the byte order mark at the front of the file stands before its first line.
-    pub fn is_marked(&self) -> bool
-        ensures { result ≡ self.now.marked }
-    {
-        self.marked
-    }
-
     /// The columns of a line, by its place from 0, padded with blanks to its width.
     pub fn columns(&self, i: usize) -> &[char]
         requires { i < length self.now.lines }
@@ -159,42 +144,5 @@ impl Run {
     {
         let line = self.lines[i];
         part(&self.columns, line.first, line.width)
-    }
-
-    /// How many columns a line had in the file.
-    pub fn line_len(&self, i: usize) -> usize
-        requires { i < length self.now.lines }
-        ensures { result ≡ (line_at self.now i).len }
-    {
-        let line = self.lines[i];
-        line.len
-    }
-
-    /// How a line ends.
-    pub fn ending(&self, i: usize) -> Ending
-        requires { i < length self.now.lines }
-        ensures { result ≡ (line_at self.now i).ending }
-    {
-        let line = self.lines[i];
-        line.ending
-    }
-
-    /// The number of the record whose type stands in a line.
-    pub fn record_number(&self, i: usize) -> Option<u16>
-        requires { i < length self.now.lines }
-        ensures { result ≡ (line_at self.now i).record_number }
-    {
-        let line = self.lines[i];
-        line.record_number
-    }
-
-    /// Writes columns of a line from a place on, counted from 0.
-    pub fn set(&mut self, i: usize, at: usize, field: &[char])
-        requires line { i < length self.old.lines }
-        requires columns { at + length field.now ≤ length (line_at self.old i).columns }
-        ensures { self.new ≡ with_field self.old i at field.now }
-    {
-        let line = self.lines[i];
-        put(&mut self.columns, line.first + at, field);
     }
 }

@@ -46,7 +46,7 @@ const PERSONS: &str =
 const FILE: &str = "\u{feff}P00111\r\nP0012\nX001\nP002  b \n\nP00\u{e9}\nP00\u{e9}z\nP003\rx";
 
 const RUNS: &str =
-    "1m:|P00111|6 ReturnFeed Some(0)|P0012 |5 Feed Some(0)|X001|4 Feed None\n4:|P002  b |8 Feed Some(0)\n5:|    |0 Feed None\n6:|P00\u{e9}  |4 Feed Some(0)|P00\u{e9}z |5 Feed Some(0)\n8:|P003\rx|6 FileEnd Some(0)\nend\nend\n";
+    "P00111|P0012 |X001|1m:6 ReturnFeed Some(0):5 Feed Some(0):4 Feed None\nP002  b |4:8 Feed Some(0)\n    |5:0 Feed None\nP00\u{e9}  |P00\u{e9}z |6:4 Feed Some(0):5 Feed Some(0)\nP003\rx|8:6 FileEnd Some(0)\nend\nend\n";
 
 fn persons(alloc: Global) -> Result<Dictionary, Fail> {
     match Dictionary::read(alloc, PERSONS.as_bytes()) {
@@ -55,18 +55,21 @@ fn persons(alloc: Global) -> Result<Dictionary, Fail> {
     }
 }
 
-/// The number of a run's first line, whether it is marked, and its lines: columns, length, end, record.
-fn tell_run(alloc: Global, told: &mut String, run: &Run) -> Result<(), Fail> {
-    let mark = if run.is_marked() { "m" } else { "" };
-    let head = format!(in alloc; "{}{mark}:", run.first_line())?;
-    told.push_str(head.as_str())?;
+/// The columns of a run's lines, the number of the first, whether it is marked, and of each its length,
+/// end and record.
+fn tell_run(alloc: Global, told: &mut String, run: Run) -> Result<(), Fail> {
     for i in 0..run.len() {
-        told.push('|')?;
         for column in run.columns(i) {
             told.push(*column)?;
         }
-        let (len, ending, record) = (run.line_len(i), run.ending(i), run.record_number(i));
-        let tail = format!(in alloc; "|{len} {ending:?} {record:?}")?;
+        told.push('|')?;
+    }
+    let (_, lines, marked, first_line) = run.into_parts();
+    let mark = if marked { "m" } else { "" };
+    let head = format!(in alloc; "{first_line}{mark}")?;
+    told.push_str(head.as_str())?;
+    for line in &lines {
+        let tail = format!(in alloc; ":{} {:?} {:?}", line.len, line.ending, line.record_number)?;
         told.push_str(tail.as_str())?;
     }
     told.push('\n')?;
@@ -80,7 +83,7 @@ fn told(alloc: Global, mut input: Pieces<'_>, calls: usize) -> Result<String, Fa
     let mut told = String::new(alloc);
     for _ in 0..calls {
         match reader.next(&mut input) {
-            Ok(Some(run)) => tell_run(alloc, &mut told, &run)?,
+            Ok(Some(run)) => tell_run(alloc, &mut told, run)?,
             Ok(None) => told.push_str("end\n")?,
             Err(error) => {
                 let fault = format!(in alloc; "{}:{}\n", error.number, error.line)?;
@@ -140,31 +143,18 @@ fn pieces_of_any_size_give_the_same(rt: HostRuntime) -> Result<(), Fail> {
     Ok(())
 }
 
-/// What two calls answer on a text.
-fn told_twice(alloc: Global, text: &str) -> Result<String, Fail> {
-    told(alloc, in_pieces(text.as_bytes(), 1), 2)
-}
-
 #[test]
 fn small_files(rt: HostRuntime) -> Result<(), Fail> {
-    let alloc = rt.alloc();
-    assert_eq!(rt; told_twice(alloc, "")?.as_str(), "end\nend\n");
-    assert_eq!(rt;
-        told_twice(alloc, "\u{feff}")?.as_str(),
-        "1m:|    |0 FileEnd None\nend\n"
-    );
-    assert_eq!(rt;
-        told_twice(alloc, "P1\r")?.as_str(),
-        "1:|P1\r   |3 FileEnd Some(0)\nend\n"
-    );
-    assert_eq!(rt;
-        told_twice(alloc, "P1\r\r\n")?.as_str(),
-        "1:|P1\r   |3 ReturnFeed Some(0)\nend\n"
-    );
-    assert_eq!(rt;
-        told_twice(alloc, "\r\n")?.as_str(),
-        "1:|    |0 ReturnFeed None\nend\n"
-    );
+    for (text, wanted) in [
+        ("", "end\nend\n"),
+        ("\u{feff}", "    |1m:0 FileEnd None\nend\n"),
+        ("P1\r", "P1\r   |1:3 FileEnd Some(0)\nend\n"),
+        ("P1\r\r\n", "P1\r   |1:3 ReturnFeed Some(0)\nend\n"),
+        ("\r\n", "    |1:0 ReturnFeed None\nend\n"),
+    ] {
+        let told = told(rt.alloc(), in_pieces(text.as_bytes(), 1), 2)?;
+        assert_eq!(rt; told.as_str(), wanted);
+    }
     Ok(())
 }
 
@@ -195,59 +185,37 @@ fn a_faulty_line_stays(rt: HostRuntime) -> Result<(), Fail> {
     Ok(())
 }
 
-/// The same of a piece of bytes, repeated.
-fn outcome_of(alloc: Global, piece: &[u8], times: usize) -> Result<(u8, u64), Fail> {
-    let bytes = repeated(alloc, piece, times)?;
-    outcome(alloc, &bytes)
-}
-
 #[test]
-fn lines_of_a_run(rt: HostRuntime) -> Result<(), Fail> {
-    let alloc = rt.alloc();
-    assert_eq!(rt; outcome_of(alloc, b"P001\n", 10_000)?, (0, 1));
-    assert_eq!(rt; outcome_of(alloc, b"P001\n", 10_001)?, (22, 10_001));
-    assert_eq!(rt;
-        outcome_of(alloc, b"P00111\nP00211\r\n", 50_000)?,
-        (0, 100_000)
-    );
+fn limits_of_runs_and_lines(rt: HostRuntime) -> Result<(), Fail> {
+    for (piece, times, answer) in [
+        (b"P001\n".as_slice(), 10_000usize, (0u8, 1u64)),
+        (b"P001\n".as_slice(), 10_001, (22, 10_001)),
+        (b"P00111\nP00211\r\n".as_slice(), 50_000, (0, 100_000)),
+        (b"\xc3\xa9".as_slice(), 65_536, (0, 1)),
+        (b"\xc3\xa9".as_slice(), 65_537, (21, 1)),
+        (b"\xff".as_slice(), 262_144, (20, 1)),
+        (b"\xff".as_slice(), 262_145, (21, 1)),
+    ] {
+        let bytes = repeated(rt.alloc(), piece, times)?;
+        assert_eq!(rt; outcome(rt.alloc(), &bytes)?, answer);
+    }
     Ok(())
 }
 
-#[test]
-fn columns_and_bytes_of_a_line(rt: HostRuntime) -> Result<(), Fail> {
-    let alloc = rt.alloc();
-    assert_eq!(rt; outcome_of(alloc, b"\xc3\xa9", 65_536)?, (0, 1));
-    assert_eq!(rt; outcome_of(alloc, b"\xc3\xa9", 65_537)?, (21, 1));
-    assert_eq!(rt; outcome_of(alloc, b"\xff", 262_144)?, (20, 1));
-    assert_eq!(rt; outcome_of(alloc, b"\xff", 262_145)?, (21, 1));
-    Ok(())
-}
-
-#[test]
-fn parts_and_fields(rt: HostRuntime) -> Result<(), Fail> {
-    let alloc = rt.alloc();
+/// How many reads gave bytes until the first run was given.
+fn reads_of(alloc: Global, bytes: &[u8], size: usize) -> Result<u64, Fail> {
     let dictionary = persons(alloc)?;
-    let mut input = in_pieces(b"P0011\nP001\n", 4);
+    let mut input = in_pieces(bytes, size);
     let mut reader = RunReader::new(alloc, &dictionary);
     match reader.next(&mut input) {
-        Ok(Some(mut run)) => {
-            assert_eq!(rt; run.len(), 2);
-            assert_eq!(rt; run.columns(1).len(), 6);
-            run.set(1, 4, &['7', '8']);
-            let mut told = String::new(alloc);
-            tell_run(alloc, &mut told, &run)?;
-            assert_eq!(rt;
-                told.as_str(),
-                "1:|P0011 |5 Feed Some(0)|P00178|4 Feed Some(0)\n"
-            );
-            let (columns, lines, marked, first_line) = run.into_parts();
-            assert_eq!(rt;
-                (columns.len(), lines.len(), marked, first_line),
-                (12, 2, false, 1)
-            );
-        }
-        _ => return Err("no run".into()),
+        Ok(Some(_)) => Ok(reader.reads()),
+        _ => Err("no run".into()),
     }
-    assert_eq!(rt; reader.reads(), 3);
+}
+
+#[test]
+fn reads_are_counted(rt: HostRuntime) -> Result<(), Fail> {
+    let reads = reads_of(rt.alloc(), b"P0011\nP001\n", 4)?;
+    assert_eq!(rt; reads, 3);
     Ok(())
 }

@@ -13,6 +13,9 @@ use Rattle.cse_parts.specs.declared.entries.Gift.{Gift}
 use Rattle.cse_parts.specs.declared.entries.Gift.TheVariants as gifts
 use Rattle.cse_parts.specs.declared.entries.EventCode.{EventCode}
 use Rattle.cse_parts.specs.declared.entries.EventCode.TheVariants as events
+use Rattle.cse_parts.specs.declared.version.Version.{Version}
+use Rattle.cse_parts.specs.declared.version.Version.TheVariants as versions
+use Rattle.cse_parts.specs.Versions.{version_code, version_of}
 use Rattle.cse_parts.specs.Codes.{named, HasOneCode, flag_code, flag_of, item_kind_code, item_kind_of, global_kind_code, global_kind_of, local_kind_code, local_kind_of, ambient_code, ambient_of, gift_code, gift_of, event_code, event_code_of}
 
 named_step : {X : Type 0} (code : X → ℕ) (ys : List X) (n : ℕ) (x y : X) (b : Bool) → eqb (code y) n ≡ b → cond b (Some y) (named code ys n) ≡ Some x → (named code ys n ≡ Some x → code x ≡ n) → code x ≡ n
@@ -86,13 +89,15 @@ ambient_back n x e = named_back ambient_code (ambients.Run ∷ ambients.Case ∷
 pub gift_there : (x : Gift) → gift_of (gift_code x) ≡ Some x
 gift_there gifts.Nothing = refl
 gift_there gifts.Number = refl
+gift_there gifts.Text = refl
 
 pub gift_small : (x : Gift) → gift_code x < 256
 gift_small gifts.Nothing = omega arith
 gift_small gifts.Number = omega arith
+gift_small gifts.Text = omega arith
 
 pub gift_back : (n : ℕ) (x : Gift) → gift_of n ≡ Some x → gift_code x ≡ n
-gift_back n x e = named_back gift_code (gifts.Nothing ∷ gifts.Number ∷ []) n x e
+gift_back n x e = named_back gift_code (gifts.Nothing ∷ gifts.Number ∷ gifts.Text ∷ []) n x e
 
 pub event_code_there : (x : EventCode) → event_code_of (event_code x) ≡ Some x
 event_code_there events.ApplicationPreproc = refl
@@ -116,6 +121,20 @@ event_code_small events.ItemPostproc = omega arith
 
 pub event_code_back : (n : ℕ) (x : EventCode) → event_code_of n ≡ Some x → event_code x ≡ n
 event_code_back n x e = named_back event_code (events.ApplicationPreproc ∷ events.ApplicationPostproc ∷ events.LevelPreproc ∷ events.LevelPostproc ∷ events.RecordPreproc ∷ events.RecordPostproc ∷ events.ItemPreproc ∷ events.ItemPostproc ∷ []) n x e
+
+pub version_there : (x : Version) → version_of (version_code x) ≡ Some x
+version_there versions.One = refl
+version_there versions.Two = refl
+
+pub version_small : (x : Version) → version_code x < 256
+version_small versions.One = omega arith
+version_small versions.Two = omega arith
+
+pub version_back : (n : ℕ) (x : Version) → version_of n ≡ Some x → version_code x ≡ n
+version_back n x e = named_back version_code (versions.One ∷ versions.Two ∷ []) n x e
+
+pub version_code_is_one : (x : Version) → HasOneCode version_code version_of x
+version_code_is_one x = record { there = version_there x; back = λ n e. version_back n x e; small = version_small x }
 
 pub flag_code_is_one : (x : Bool) → HasOneCode flag_code flag_of x
 flag_code_is_one x = record { there = flag_there x; back = λ n e. flag_back n x e; small = flag_small x }

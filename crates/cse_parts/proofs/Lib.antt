@@ -1,5 +1,6 @@
 pub mod Names
 pub mod CodeLaws
 pub mod OpcodeLaws
+pub mod UpgradeLaws
 pub mod PieceLaws
 pub mod WrittenLaws

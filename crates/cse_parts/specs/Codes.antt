@@ -65,9 +65,10 @@ ambient_of = named ambient_code (ambients.Run ∷ ambients.Case ∷ [])
 abbrev pub gift_code : Gift → ℕ
 gift_code gifts.Nothing = 0
 gift_code gifts.Number = 1
+gift_code gifts.Text = 2
 
 abbrev pub gift_of : ℕ → Option Gift
-gift_of = named gift_code (gifts.Nothing ∷ gifts.Number ∷ [])
+gift_of = named gift_code (gifts.Nothing ∷ gifts.Number ∷ gifts.Text ∷ [])
 
 abbrev pub event_code : EventCode → ℕ
 event_code events.ApplicationPreproc = 0

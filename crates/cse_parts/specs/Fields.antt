@@ -44,6 +44,12 @@ fits_kind parameters index locals.Occurrence = nat_lt index parameters
 abbrev pub are_locals : ℕ → ℕ → Bool
 are_locals parameters count = nat_le parameters count
 
+-- ---- limits
+
+-- a counting loop may take a turn
+abbrev pub is_limit : ℕ → Bool
+is_limit n = nat_lt 0 n
+
 -- ---- arrays
 
 abbrev pub is_dimension_count : ℕ → Bool

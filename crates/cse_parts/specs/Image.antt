@@ -35,13 +35,14 @@ pub record RoutineLists : Type 0 where
   pub locals : List Local
   pub instructions : ℕ
 
--- the sections before the code
+-- The sections before the code. The limits are those of counting loops; a loop names its limit by the place.
 pub record Lists : Type 0 where
   pub records : List RecordShape
   pub items : List ItemShape
   pub sets : List SetShape
   pub order : List ℕ
   pub constants : List ℤ
+  pub limits : List ℕ
   pub texts : List (List ℕ)
   pub globals : List GlobalVariable
   pub arrays : List ArrayLists
@@ -72,6 +73,7 @@ lists_of t = record {
   sets = t.sets.items;
   order = t.order.items;
   constants = t.constants.items;
+  limits = t.limits.items;
   texts = map string_bytes t.texts.items;
   globals = t.globals.items;
   arrays = map array_lists t.arrays.items;
@@ -87,6 +89,7 @@ lists_of_parts p = record {
   sets = p.sets.items;
   order = p.order.items;
   constants = p.constants.items;
+  limits = p.limits.items;
   texts = map string_bytes p.texts.items;
   globals = p.globals.items;
   arrays = map array_lists p.arrays.items;

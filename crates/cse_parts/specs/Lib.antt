@@ -1,6 +1,9 @@
 pub mod Image
 pub mod Limits
 pub mod Codes
+pub mod Versions
+pub mod Turns
+pub mod Upgrade
 pub mod Texts
 pub mod Fields
 pub mod Opcodes

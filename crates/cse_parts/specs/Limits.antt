@@ -17,6 +17,10 @@ most_order = 200
 abbrev pub most_constants : ℕ
 most_constants = 65536
 
+-- entries of the table of limits
+abbrev pub most_limits : ℕ
+most_limits = 65536
+
 abbrev pub most_texts : ℕ
 most_texts = 65536
 

@@ -1,9 +1,11 @@
 //! The codes of one byte: a number from 0 for each kind, flag, gift and so on (own).
 
 ghost use Rattle.std.specs.Prelude.{◌≡◌};
+ghost use Rattle.cse_parts.specs.Versions.{version_code, version_of};
 ghost use Rattle.cse_parts.specs.Codes.{HasOneCode, flag_code, flag_of, item_kind_code, item_kind_of, global_kind_code, global_kind_of, local_kind_code, local_kind_of, ambient_code, ambient_of, gift_code, gift_of, event_code, event_code_of};
 
 use crate::entries::{Ambient, EventCode, Gift, GlobalKind, LocalKind};
+use crate::version::Version;
 use cse_value::shape::ItemKind;
 
 pub fn flag_named(code: u8) -> Option<bool>
@@ -94,6 +96,7 @@ pub fn gift_named(code: u8) -> Option<Gift>
     match code {
         0 => Some(Gift::Nothing),
         1 => Some(Gift::Number),
+        2 => Some(Gift::Text),
         _ => None,
     }
 }
@@ -127,7 +130,7 @@ pub fn event_code_number(code: EventCode) -> u8
 }
 
 /// Law: a value is the one that its code stands for, and no other number stands for it.
-#[tactic(auto, using(crate::proofs::CodeLaws::flag_code_is_one, crate::proofs::CodeLaws::item_kind_code_is_one, crate::proofs::CodeLaws::global_kind_code_is_one, crate::proofs::CodeLaws::local_kind_code_is_one, crate::proofs::CodeLaws::ambient_code_is_one, crate::proofs::CodeLaws::gift_code_is_one, crate::proofs::CodeLaws::event_code_is_one))]
+#[tactic(auto, using(crate::proofs::CodeLaws::flag_code_is_one, crate::proofs::CodeLaws::item_kind_code_is_one, crate::proofs::CodeLaws::global_kind_code_is_one, crate::proofs::CodeLaws::local_kind_code_is_one, crate::proofs::CodeLaws::ambient_code_is_one, crate::proofs::CodeLaws::gift_code_is_one, crate::proofs::CodeLaws::event_code_is_one, crate::proofs::CodeLaws::version_code_is_one))]
 pub fn each_value_has_one_code(
     flag: bool,
     item: ItemKind,
@@ -136,6 +139,7 @@ pub fn each_value_has_one_code(
     ambient: Ambient,
     gift: Gift,
     event: EventCode,
+    version: Version,
 )
     ensures flags { HasOneCode flag_code flag_of flag }
     ensures items { HasOneCode item_kind_code item_kind_of item }
@@ -144,4 +148,5 @@ pub fn each_value_has_one_code(
     ensures ambients { HasOneCode ambient_code ambient_of ambient }
     ensures gifts { HasOneCode gift_code gift_of gift }
     ensures events { HasOneCode event_code event_code_of event }
+    ensures versions { HasOneCode version_code version_of version }
 {}

@@ -73,6 +73,8 @@ pub enum Ambient {
 pub enum Gift {
     Nothing = 0,
     Number = 1,
+    /// From version 2 of the format on.
+    Text = 2,
 }
 
 /// A routine, without its code.
@@ -126,6 +128,8 @@ pub struct Parts {
     /// The records in edit order.
     pub order: Vec<u32>,
     pub constants: Vec<i64>,
+    /// How many turns a counting loop may take, each 1 at least: a loop names its limit by the place.
+    pub limits: Vec<u32>,
     pub texts: Vec<String>,
     pub globals: Vec<GlobalVariable>,
     pub arrays: Vec<Array>,
@@ -144,6 +148,7 @@ pub struct Tables {
     pub sets: Vec<SetShape>,
     pub order: Vec<u32>,
     pub constants: Vec<i64>,
+    pub limits: Vec<u32>,
     pub texts: Vec<String>,
     pub globals: Vec<GlobalVariable>,
     pub arrays: Vec<Array>,

@@ -11,3 +11,4 @@ pub mod rules;
 #[cfg(test)]
 mod tests;
 pub mod texts;
+pub mod version;

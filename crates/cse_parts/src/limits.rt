@@ -1,7 +1,7 @@
 //! How much an image may have of each thing (own).
 
 ghost use Rattle.std.specs.Prelude.{◌≡◌};
-ghost use Rattle.cse_parts.specs.Limits.{most_records, most_items, most_sets, most_order, most_constants, most_texts, most_globals, most_arrays, most_messages, most_routines, most_events, most_dimensions, most_cells, most_instructions, most_characters, most_name_bytes, most_placeholders};
+ghost use Rattle.cse_parts.specs.Limits.{most_records, most_items, most_sets, most_order, most_constants, most_limits, most_texts, most_globals, most_arrays, most_messages, most_routines, most_events, most_dimensions, most_cells, most_instructions, most_characters, most_name_bytes, most_placeholders};
 
 pub const MOST_RECORDS: usize = 200;
 
@@ -12,6 +12,9 @@ pub const MOST_SETS: usize = 10_000;
 pub const MOST_ORDER: usize = 200;
 
 pub const MOST_CONSTANTS: usize = 65_536;
+
+/// Entries of the table of limits.
+pub const MOST_LIMITS: usize = 65_536;
 
 pub const MOST_TEXTS: usize = 65_536;
 
@@ -44,6 +47,7 @@ pub fn limits_are_as_defined()
     ensures sets { MOST_SETS ≡ most_sets }
     ensures order { MOST_ORDER ≡ most_order }
     ensures constants { MOST_CONSTANTS ≡ most_constants }
+    ensures loop_limits { MOST_LIMITS ≡ most_limits }
     ensures texts { MOST_TEXTS ≡ most_texts }
     ensures globals { MOST_GLOBALS ≡ most_globals }
     ensures arrays { MOST_ARRAYS ≡ most_arrays }

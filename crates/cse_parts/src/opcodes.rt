@@ -6,6 +6,7 @@ ghost use Rattle.cse_parts.specs.Ranges.{range};
 ghost use Rattle.cse_parts.specs.Opcodes.{Range, lies_in, up_to as spec_up_to, shape, op_of, op_code, fits_a, fits_b, fits_c};
 
 use crate::instruction::Op;
+use crate::version::{Version, holds_limit};
 
 /// The opcode of this code.
 #[tactic(auto, unfolding(crate::specs::Opcodes::op_of, crate::specs::Opcodes::shape))]
@@ -103,7 +104,13 @@ const SET: Numbers = Numbers {
     high: 65535,
 };
 
-/// A limit of turns, or of an index: from 1.
+/// The place of a limit.
+const LIMIT: Numbers = Numbers {
+    low: 0,
+    high: 65535,
+};
+
+/// The limit of an index: from 1.
 const POSITIVE: Numbers = Numbers {
     low: 1,
     high: 65535,
@@ -146,7 +153,8 @@ fn fields_of(op: Op) -> Fields
         Op::StoreNumber | Op::StoreText | Op::Impute => (NONE, NONE, ANY, ANY),
         Op::LoadCell | Op::StoreCell => (NONE, NONE, ANY, ANY),
         Op::Jump | Op::JumpUnless | Op::End | Op::Break => (NONE, NONE, ANY, ANY),
-        Op::Index | Op::LoopCount => (NONE, POSITIVE, ANY, ANY),
+        Op::Index => (NONE, POSITIVE, ANY, ANY),
+        Op::LoopCount => (NONE, LIMIT, ANY, ANY),
         Op::Occurrence | Op::LoopOccurrences => (RECORD, NONE, ANY, ANY),
         Op::CurrentOccurrence | Op::OccurrenceNumber | Op::TotalOccurrences => {
             (RECORD, NONE, NONE, NONE)
@@ -164,11 +172,11 @@ pub fn is_right_a(op: Op, a: u8) -> bool
     fields_of(op).a.have(a as u32)
 }
 
-/// May it have this b?
-pub fn is_right_b(op: Op, b: u16) -> bool
-    ensures { result ≡ fits_b op b }
+/// May it have this b? In version 1 the b of a counting loop is its limit, from 1.
+pub fn is_right_b(version: Version, op: Op, b: u16) -> bool
+    ensures { result ≡ fits_b version op b }
 {
-    fields_of(op).b.have(b as u32)
+    fields_of(op).b.have(b as u32) && !(holds_limit(version, op) && b == 0)
 }
 
 /// May it have this c beside its a?

@@ -1,7 +1,7 @@
 //! The rules of the fields of variables, arrays, routines and events, each once (own).
 
 ghost use Rattle.std.specs.Prelude.{◌≡◌, ◌≤◌, length, map};
-ghost use Rattle.cse_parts.specs.Fields.{is_text_length, fits_global_length, fits_local_length, fits_owner, fits_kind, are_locals, is_dimension_count, is_dimension, product, is_room_for_cells, fits_cells, is_room_for_code, last_event, is_after};
+ghost use Rattle.cse_parts.specs.Fields.{is_text_length, fits_global_length, fits_local_length, fits_owner, fits_kind, are_locals, is_limit, is_dimension_count, is_dimension, product, is_room_for_cells, fits_cells, is_room_for_code, last_event, is_after};
 
 use crate::entries::{EventCode, EventEntry, GlobalKind, LocalKind};
 use crate::limits::{MOST_CELLS, MOST_CHARACTERS, MOST_DIMENSIONS, MOST_INSTRUCTIONS};
@@ -58,6 +58,13 @@ pub fn has_parameters(parameters: u8, count: u8) -> bool
     ensures { result ≡ are_locals parameters count }
 {
     parameters <= count
+}
+
+/// A counting loop may take a turn.
+pub fn is_right_limit(limit: u32) -> bool
+    ensures { result ≡ is_limit limit }
+{
+    limit != 0
 }
 
 /// An array has one to three dimensions.

@@ -7,6 +7,7 @@ use crate::opcodes::*;
 use crate::placeholders::*;
 use crate::rules::*;
 use crate::texts::*;
+use crate::version::*;
 
 /// The pieces of the text are these and no others.
 fn has_pieces(text: &[u8], expected: &[Piece]) -> bool {
@@ -155,15 +156,17 @@ fn instructions(rt: HostRuntime) {
     ];
     for (code, a, b, c) in rows {
         let right = match op_named(code) {
-            Some(op) => is_right_a(op, a) && is_right_b(op, b) && is_right_c(op, a, c),
+            Some(op) => is_right_a(op, a)
+                && is_right_b(Version::One, op, b)
+                && is_right_c(op, a, c),
             None => false,
         };
         assert!(rt; right);
     }
     assert!(rt; !is_right_a(Op::Special, 3));
     assert!(rt; !is_right_a(Op::Row, 2));
-    assert!(rt; !is_right_b(Op::Index, 0));
-    assert!(rt; !is_right_b(Op::LoopOccurrences, 1));
+    assert!(rt; !is_right_b(Version::Two, Op::Index, 0));
+    assert!(rt; !is_right_b(Version::Two, Op::LoopOccurrences, 1));
     assert!(rt; !is_right_c(Op::Row, 1, 1));
     assert!(rt; !is_right_c(Op::Return, 0, 1));
     assert!(rt; op_named(0).is_none());

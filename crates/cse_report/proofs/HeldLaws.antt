@@ -34,3 +34,8 @@ reported-listed h i args m e s = rw (e, s) refl
 
 pub is_listed-there : (messages : List MessageLists) (i : ℕ) (m : MessageLists) → slice_get messages i ≡ Some m → m.summary ≡ false → is_listed messages i ≡ true
 is_listed-there messages i m e s = rw (e, s) refl
+
+-- a message that isn't listed, whatever its arguments
+pub reported-unlisted : (h : Held) (i : ℕ) (args : List Arg) → is_listed h.messages i ≡ false
+    → reported h (Gives i args) ≡ held h.messages (slice_set h.counts i (one_more (slice_index h.counts i))) h.heading (h.lines ++ []) (h.texts ++ [])
+reported-unlisted h i args e = rw e refl

@@ -5,3 +5,4 @@ pub mod TallyLaws
 pub mod PutLaws
 pub mod ListingLaws
 pub mod FrequencyLaws
+pub mod ToldLaws

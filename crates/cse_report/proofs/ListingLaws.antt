@@ -16,7 +16,7 @@ messages_stay p [] = refl
 messages_stay p (Lists r ∷ steps) = messages_stay (stepped p (Lists r)) steps
 messages_stay p (Flushes ∷ steps) = messages_stay (stepped p Flushes) steps
 
-lines_given : (p : Progress) (steps : List Step) → (after_steps p steps).written ++ (after_steps p steps).held.lines ≡ (p.written ++ p.held.lines) ++ lines_from p.held.messages p.held.heading (reports_in steps)
+pub lines_given : (p : Progress) (steps : List Step) → (after_steps p steps).written ++ (after_steps p steps).held.lines ≡ (p.written ++ p.held.lines) ++ lines_from p.held.messages p.held.heading (reports_in steps)
 lines_given p [] = sym (append-nil (p.written ++ p.held.lines))
 lines_given p (Lists r ∷ steps) =
     let m = p.held.messages in

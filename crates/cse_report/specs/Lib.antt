@@ -4,7 +4,9 @@ pub mod Counts
 pub mod Listing
 pub mod Heading
 pub mod Held
+pub mod Unended
 pub mod Spans
 pub mod Frequency
+pub mod AllReported
 pub mod Values
 pub mod Reports

@@ -14,7 +14,10 @@ mod summary;
 
 pub use argument::Arg;
 pub use frequencies::Frequencies;
-pub use laws::{flushes_change_nothing, tables_count_the_run};
+pub use laws::{
+    flush_between_changes_nothing, flushes_change_nothing, grows_at_its_end, imputes_all_values,
+    lines_so_far, lists_all_reports, tables_count_the_run,
+};
 pub use listing::Listing;
 pub use reports::Reports;
 

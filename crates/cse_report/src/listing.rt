@@ -1,10 +1,12 @@
 //! The listing of a run, which is written as it grows.
 
-ghost use Rattle.std.specs.Prelude.{◌≡◌, ◌<◌, ◌≤◌, ◌+◌, ◌++◌, ◌∷◌, [], OnOk, OnErr, IfOk, IsOk, length, map, slice_get, slice_index, slice_set, replicate, false};
+ghost use Rattle.std.specs.Prelude.{◌≡◌, ◌<◌, ◌≤◌, ◌+◌, ◌++◌, ◌∷◌, [], List, not, OnOk, OnErr, IfOk, IsOk, length, map, slice_get, slice_index, slice_set, replicate, false};
 ghost use Rattle.std.specs.Option.{option_copied};
 ghost use Rattle.std.specs.Bool.{Decides, OnTrue};
 ghost use Rattle.cse_value.specs.Writing.{WritesAll, FailsAtErr};
 ghost use Rattle.cse_parts.specs.Image.{message_lists};
+ghost use Rattle.cse_output.specs.Gathering.{going, Puts};
+ghost use Rattle.cse_report.specs.declared.argument.Arg.{Arg};
 ghost use Rattle.cse_report.specs.Counts.{one_more};
 ghost use Rattle.cse_report.specs.MessageText.{HasArguments};
 ghost use Rattle.cse_report.specs.Listing.{is_listed, text_of, BeginsRun, BeginsCase, LeavesUnseen, Gives};
@@ -231,6 +233,24 @@ impl Listing {
         Ok(())
     }
 
+    /// Whether the message of this number, from 0, is only counted. Takes no memory.
+    pub fn is_summary(&self, index: usize) -> bool
+        requires { index < length self.now.messages }
+        ensures { result ≡ not (is_listed self.now.messages index) }
+    {
+        self.messages[index].summary
+    }
+
+    /// The message of this number, from 0, is given, which is only counted. A count stays at 2^64 - 1. Takes no
+    /// memory.
+    pub fn summary_message(&mut self, index: usize)
+        requires there { index < length self.old.messages }
+        requires summary { is_listed self.old.messages index ≡ false }
+        ensures { (args : List Arg) → self.new ≡ reported self.old (Gives index args) }
+    {
+        count_one(&mut self.counts, index);
+    }
+
     /// The text of a message held, in order from 0. Takes no memory.
     pub fn text(&self, i: usize) -> Option<&str>
         ensures { option_copied result ≡ slice_get self.now.texts i }
@@ -250,6 +270,18 @@ impl Listing {
         self.spans.clear();
         Ok(())
     }
+
+    /// Puts the lines held into a buffer and drops them: the buffer's end tells whether they were written.
+    /// Takes no memory.
+    pub fn put_to<W: Output>(&mut self, gatherer: &mut Gatherer, out: &mut W)
+        ensures puts { Puts (going (W.contents out.old) (W.has_failed out.old) gatherer.old.waiting.items gatherer.old.gave_up) (going (W.contents out.new) (W.has_failed out.new) gatherer.new.waiting.items gatherer.new.gave_up) self.old.lines }
+        ensures held { self.new ≡ flushed self.old }
+    {
+        gatherer.put(out, &self.lines);
+        self.lines.clear();
+        self.spans.clear();
+    }
+
     /// Writes the lines held and the summary: how many cases, data lines and unseen lines there were, and how
     /// often each message was given. Takes no memory.
     pub fn write_to<W: Output>(

@@ -1,7 +1,8 @@
 //! What a run reports.
 
-ghost use Rattle.std.specs.Prelude.{◌≡◌, ◌<◌, ◌≤◌, [], false, OnOk, OnErr, IfOk, IsOk, length, replicate};
+ghost use Rattle.std.specs.Prelude.{◌≡◌, ◌<◌, ◌≤◌, List, [], not, false, OnOk, OnErr, IfOk, IsOk, length, replicate};
 ghost use Rattle.cse_parts.specs.Image.{Image};
+ghost use Rattle.cse_report.specs.declared.argument.Arg.{Arg};
 ghost use Rattle.cse_report.specs.MessageText.{HasArguments};
 ghost use Rattle.cse_report.specs.Listing.{is_listed, text_of, BeginsRun, BeginsCase, LeavesUnseen, Gives};
 ghost use Rattle.cse_report.specs.Held.{begun, reported};
@@ -81,6 +82,26 @@ impl Reports {
         ensures fits { (x : Image) → ReportsFit x self.old → ReportsFit x self.new }
     {
         self.listing.message(index, args)
+    }
+
+    /// Whether the message of this number, from 0, is only counted. Takes no memory.
+    pub fn is_summary(&self, index: usize) -> bool
+        requires { index < length self.now.listing.messages }
+        ensures { result ≡ not (is_listed self.now.listing.messages index) }
+    {
+        self.listing.is_summary(index)
+    }
+
+    /// The message of this number, from 0, is given, which is only counted, whatever its arguments. Takes no
+    /// memory.
+    pub fn summary_message(&mut self, index: usize)
+        requires there { index < length self.old.listing.messages }
+        requires summary { is_listed self.old.listing.messages index ≡ false }
+        ensures listing { (args : List Arg) → self.new.listing ≡ reported self.old.listing (Gives index args) }
+        ensures frequencies { self.new.frequencies ≡ self.old.frequencies }
+        ensures fits { (x : Image) → ReportsFit x self.old → ReportsFit x self.new }
+    {
+        self.listing.summary_message(index);
     }
 
     /// A value was imputed to an item. After want of memory nothing has changed.

@@ -70,7 +70,7 @@ fn without_return(line: &[u8]) -> &[u8]
 }
 
 /// The first line of a text, without its end, and what follows.
-fn first_line(text: &[u8]) -> (&[u8], &[u8])
+pub fn first_line(text: &[u8]) -> (&[u8], &[u8])
     requires { 0 < length text.now }
     ensures lines { lines_of text.now ≡ result.0.now ∷ lines_of result.1.now }
     ensures shorter { length result.1.now < length text.now }
@@ -125,7 +125,7 @@ fn add_line<'a>(
 
 /// The text behind a byte order mark.
 #[tactic(auto, unfolding(crate::specs::Sections::after_mark))]
-fn after_mark(text: &[u8]) -> &[u8]
+pub fn after_mark(text: &[u8]) -> &[u8]
     ensures { result.now ≡ after_mark text.now }
 {
     match text.strip_prefix(b"\xef\xbb\xbf".as_slice()) {

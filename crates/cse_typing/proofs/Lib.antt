@@ -15,3 +15,11 @@ pub mod OpenerLaws
 pub mod PassLaws
 pub mod OrderLaws
 pub mod TypedLaws
+pub mod Few
+pub mod OneTyping
+pub mod EdgeLaws
+pub mod HandlerLaws
+pub mod GrowthLaws
+pub mod Fitting
+pub mod Twins
+pub mod Upgrades

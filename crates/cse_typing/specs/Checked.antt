@@ -12,7 +12,7 @@ use Rattle.cse_typing.specs.Judged.{StopsAtInstr, StopsAtStack}
 
 -- nothing is wrong with routine r
 pub record IsSound (s : Scene) (r : ℕ) (code : List Instr) : Type 0 where
-  pub brackets : KeepsRules (skeleton s.lists.records code)
+  pub brackets : KeepsRules (skeleton s.lists code)
   pub calls : AllMayStand s.lists.routines r s.routine.ambient code
   pub typing : IsTypedCode (rule s code) code
 
@@ -20,20 +20,20 @@ pub record IsSound (s : Scene) (r : ℕ) (code : List Instr) : Type 0 where
 pub record FailsRules (s : Scene) (r : ℕ) (code : List Instr) (e : Refusal) : Type 0 where
   pub number : e.number ≡ 65
   pub routine : e.routine ≡ r
-  pub at : BreaksFirst (skeleton s.lists.records code) e.at
+  pub at : BreaksFirst (skeleton s.lists code) e.at
 
 -- 69: an instruction may not stand in routine r
 pub record FailsCalls (s : Scene) (r : ℕ) (code : List Instr) (e : Refusal) : Type 0 where
   pub number : e.number ≡ 69
   pub routine : e.routine ≡ r
-  pub brackets : KeepsRules (skeleton s.lists.records code)
+  pub brackets : KeepsRules (skeleton s.lists code)
   pub at : StopsAtInstr s r code e.at
 
 -- 66: no stack fits a place of routine r
 pub record FailsTyping (s : Scene) (r : ℕ) (code : List Instr) (e : Refusal) : Type 0 where
   pub number : e.number ≡ 66
   pub routine : e.routine ≡ r
-  pub brackets : KeepsRules (skeleton s.lists.records code)
+  pub brackets : KeepsRules (skeleton s.lists code)
   pub at : StopsAtStack s r code e.at
 
 abbrev pub Fails : Scene → ℕ → List Instr → Refusal → Type 0

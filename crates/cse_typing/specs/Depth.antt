@@ -1,6 +1,6 @@
 -- The depth of a routine: how many numbers, texts and ordinals (indexes and occurrences) a call of it
 -- keeps at most, its own and those of the calls within it.
-use Rattle.std.specs.Prelude.{◌≡◌, ℕ, zero, suc, ◌+◌, ◌^◌, ◌<◌, ◌≤◌, max, List, [], ◌∷◌, length, map, take, drop, Option, None, Some, slice_get}
+use Rattle.std.specs.Prelude.{◌≡◌, ℕ, zero, suc, ◌+◌, ◌*◌, ◌≤◌, max, List, [], ◌∷◌, length, map, take, drop, Option, None, Some, slice_get}
 use Rattle.std.specs.Option.{option_map_or}
 use Rattle.cse_parts.specs.declared.instruction.Op.{Op}
 use Rattle.cse_parts.specs.declared.instruction.Op.TheVariants as ops
@@ -25,9 +25,9 @@ infixl 6 ◌⊕◌
 abbrev pub ◌⊕◌ : Depth → Depth → Depth
 a ⊕ b = record { numbers = a.numbers + b.numbers; texts = a.texts + b.texts; ordinals = a.ordinals + b.ordinals }
 
--- each number is below 2^64
-abbrev pub IsCountable : Depth → Type 0
-IsCountable d = (d.numbers < 2 ^ 64) × (d.texts < 2 ^ 64) × (d.ordinals < 2 ^ 64)
+-- each number is at most n
+abbrev pub IsAtMost : ℕ → Depth → Type 0
+IsAtMost n d = (d.numbers ≤ n) × (d.texts ≤ n) × (d.ordinals ≤ n)
 
 -- the greater one, for numbers, texts and ordinals each
 abbrev pub greater : Depth → Depth → Depth
@@ -99,6 +99,14 @@ abbrev pub AreDepths : ShapeLists → Image → List Depth → Type 0
 AreDepths s x depths =
     (r : ℕ) (y : RoutineLists) (d : Depth) → slice_get x.lists.routines r ≡ Some y → slice_get depths r ≡ Some d
     → IsDepth (scene_of s x y) (take r depths) (code_of x r) d
+
+-- what a routine may keep beside what a callee keeps: 255 locals, and one value for each of 1,000,000 places
+abbrev pub most_kept : ℕ
+most_kept = 1000255
+
+-- no routine of a table keeps more than so much for each routine of the table
+abbrev pub KeepFew : List Depth → Type 0
+KeepFew depths = (r : ℕ) (d : Depth) → slice_get depths r ≡ Some d → IsAtMost (most_kept * length depths) d
 
 -- the greatest depth of a table
 abbrev pub greatest : List Depth → Depth

@@ -62,3 +62,4 @@ local_kind x = kind_by x.kind x.owner
 abbrev pub gift_kinds : Gift → List Kind
 gift_kinds gifts.Nothing = []
 gift_kinds gifts.Number = Number ∷ []
+gift_kinds gifts.Text = Text ∷ []

@@ -22,3 +22,6 @@ pub mod Depth
 pub mod EntryOrder
 pub mod Shared
 pub mod Innermost
+pub mod Laws
+pub mod Handlers
+pub mod Growth

@@ -27,6 +27,7 @@ is_run ambients.Case = false
 abbrev pub gives_nothing : Gift → Bool
 gives_nothing gifts.Nothing = true
 gives_nothing gifts.Number = false
+gives_nothing gifts.Text = false
 
 -- a routine of this ambient that takes so many parameters and gives nothing
 abbrev pub is_handler : Bool → ℕ → RoutineLists → Bool

@@ -44,4 +44,4 @@ rule_by s in_loop control q i stack =
 
 -- the rule of the instructions of a routine, which are the code
 abbrev pub rule : Scene → List Instr → Rule
-rule s code q i stack = rule_by s (is_in_loop s.lists.records code q i.a) (control s.lists.records i) q i stack
+rule s code q i stack = rule_by s (is_in_loop s.lists code q i.a) (control s.lists i) q i stack

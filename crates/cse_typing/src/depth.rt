@@ -1,7 +1,7 @@
 //! How many values a call keeps at most, by the three stacks of the machine.
 
-ghost use Rattle.std.specs.Prelude.{◌≡◌, IfSome, IfNone};
-ghost use Rattle.cse_typing.specs.Depth.{◌⊕◌, IsCountable, greater, one_of};
+ghost use Rattle.std.specs.Prelude.{◌≡◌, ◌+◌, ◌^◌, ◌<◌};
+ghost use Rattle.cse_typing.specs.Depth.{◌⊕◌, greater, one_of};
 
 use crate::kind::Kind;
 
@@ -40,19 +40,18 @@ impl Depth {
         }
     }
 
-    /// Both together; none, where a sum is 2^64 or more.
-    pub fn plus(self, other: Depth) -> Option<Depth>
-        ensures sum { IfSome result (λ d. d ≡ self ⊕ other) }
-        ensures none { IfNone result (IsCountable (self ⊕ other) → ⊥) }
+    /// Both together.
+    pub fn plus(self, other: Depth) -> Self
+        requires numbers { self.numbers + other.numbers < 2 ^ 64 }
+        requires texts { self.texts + other.texts < 2 ^ 64 }
+        requires ordinals { self.ordinals + other.ordinals < 2 ^ 64 }
+        ensures { result ≡ self ⊕ other }
     {
-        let numbers = self.numbers.checked_add(other.numbers)?;
-        let texts = self.texts.checked_add(other.texts)?;
-        let ordinals = self.ordinals.checked_add(other.ordinals)?;
-        Some(Depth {
-            numbers,
-            texts,
-            ordinals,
-        })
+        Depth {
+            numbers: self.numbers + other.numbers,
+            texts: self.texts + other.texts,
+            ordinals: self.ordinals + other.ordinals,
+        }
     }
 
     /// The greater numbers of both.

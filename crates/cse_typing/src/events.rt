@@ -1,12 +1,8 @@
 //! Tables of events, orders and shapes, and what code costs that means harm.
 
-use crate::depth::Depth;
-use crate::programs::{parts_of, shape_of, told};
+use crate::programs::{parts_of, told};
 use crate::refusal::NONE;
-use crate::rows::Line;
-use crate::turn::Surroundings;
-use crate::whole::{check_routine, typed};
-use cse_image::{Ambient, Code, EventCode, EventEntry, Instr, Op, Program};
+use cse_image::{Ambient, EventCode, EventEntry, Instr, Op};
 use std::test::Fail;
 
 /// A program that refuses has no routine and no place to tell.
@@ -92,47 +88,6 @@ fn other_shapes(rt: HostRuntime) -> Result<(), Fail> {
         }
         assert_eq!(rt; told(alloc, parts)?, (68, NONE, NONE), "part {part}");
     }
-    Ok(())
-}
-
-/// A routine with an occurrence, a number and a text calls one that keeps two numbers and a text,
-/// beside a number of its own.
-#[test]
-fn depth_of_a_call(rt: HostRuntime) -> Result<(), Fail> {
-    let alloc = rt.alloc();
-    let lines: [Line; 5] = [
-        (Op::Number, 0, 0, 0),
-        (Op::Number, 0, 0, 0),
-        (Op::Text, 0, 0, 0),
-        (Op::Call, 0, 0, 0),
-        (Op::Add, 0, 0, 0),
-    ];
-    let mut parts = parts_of(alloc, Ambient::Case, &lines)?;
-    if let Some(routine) = parts.routines.get_mut(2) {
-        routine.gives = cse_image::Gift::Number;
-    }
-    let program = Program::from_parts(parts).ok_or("no spelling")?;
-    let shape = shape_of(alloc)?;
-    let tables = program.tables();
-    let callee = Depth {
-        numbers: 2,
-        texts: 1,
-        ordinals: 0,
-    };
-    let routine = tables.routines.get(2).ok_or("no routine")?;
-    let around = Surroundings {
-        shape: &shape,
-        tables,
-        routine,
-    };
-    assert!(rt; routine.instructions == 6 && program.code().len() == 11);
-    let depth = check_routine(alloc, around, program.code(), 3, 2, &[callee])?;
-    let wanted = Depth {
-        numbers: 4,
-        texts: 2,
-        ordinals: 1,
-    };
-    assert_eq!(rt; depth, wanted);
     Ok(())
 }
 

@@ -22,11 +22,11 @@ pub fn check_jumps_and_brackets<C: Code>(program: &Program<C>) -> Result<(), Ref
 {
     let code = program.code();
     let _fits = code.len();
-    let records = program.records();
+    let tables = program.tables();
     let mut start = 0;
     let mut routine = 0;
-    for head in &program.tables().routines {
-        let skeleton = RoutineCode::new(code, records, start, head.instructions);
+    for head in &tables.routines {
+        let skeleton = RoutineCode::new(code, tables, start, head.instructions);
         if let Some(at) = check_code(&skeleton, None) {
             return Err(Refusal {
                 number: 65,

@@ -9,11 +9,13 @@ mod brackets;
 mod control;
 mod depth;
 mod exits;
+mod handlers;
 mod in_loop;
 mod innermost;
 mod jumps;
 mod kind;
 mod known;
+mod laws;
 mod need;
 mod numbers;
 mod openers;
@@ -30,15 +32,17 @@ mod whole;
 
 pub use control::{Control, control_of};
 pub use depth::Depth;
+pub use handlers::routine_of;
 pub use jumps::check_jumps_and_brackets;
 pub use kind::{Kind, is_same_kind, kind_of_argument, kind_of_global, kind_of_local};
+pub use laws::{edges_lead_inside, events_run_handlers, growth_is_told, typing_is_one};
 pub use order::{all_events_fit, fits_event, names_each_once};
 pub use refusal::{NONE, Refusal};
 pub use routine_code::RoutineCode;
 pub use shape::same_shape;
 pub use stand::may_stand;
 pub use turn::Surroundings;
-pub use walk::{Fault, fault_of, judge};
+pub use walk::{Fault, judge};
 pub use whole::{check_events, check_routine, typed};
 
 #[cfg(test)]

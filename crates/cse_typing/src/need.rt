@@ -4,6 +4,7 @@ ghost use Rattle.std.specs.Prelude.{◌≡◌, option_map, option_and_then, slic
 ghost use Rattle.std.specs.Option.{option_to_list};
 ghost use Rattle.cse_value.specs.Shape.{shape_lists};
 ghost use Rattle.cse_parts.specs.Image.{Lists, lists_of, routine_lists};
+ghost use Rattle.cse_parts.specs.Turns.{limit_of};
 ghost use Rattle.cse_typing.specs.Kinds.{gift_kinds};
 ghost use Rattle.cse_typing.specs.Signature.{id_number, id_text, number_item, text_item, is_record, is_numeric, rows_of, global_at, local_at, storable, stored_at, given, dropped, indexes_of, arguments_of, parameters_of, ◌⇒◌, signature_by};
 ghost use Rattle.cse_typing.specs.Needs.{signature_of};
@@ -182,6 +183,7 @@ fn gift_of(gives: Gift) -> Option<Kind>
     match gives {
         Gift::Nothing => None,
         Gift::Number => Some(Kind::Number),
+        Gift::Text => Some(Kind::Text),
     }
 }
 
@@ -245,6 +247,16 @@ fn of_call(tables: &Tables, callee: u32) -> Option<Need>
             listed: Listed::Parameters(callee),
             leaves: gift_of(routine.gives),
         }),
+    }
+}
+
+/// A counting loop: its limit is there.
+fn of_loop(tables: &Tables, place: u16) -> Option<Need>
+    ensures { (x : Lists) → option_map (signature_of x) result ≡ option_and_then (λ n. Kind.Number ∷ [] ⇒ []) (limit_of (lists_of tables.now).limits place) }
+{
+    match tables.limits.get(place as usize) {
+        None => None,
+        Some(_) => plain(Some(Kind::Number), None, None),
     }
 }
 
@@ -381,7 +393,7 @@ pub fn need_of(
         Op::Impute => writes_item(number_item(shape, c), Kind::Number),
         Op::Call => of_call(tables, c),
         Op::Return => plain(gift_of(routine.gives), None, None),
-        Op::LoopCount => plain(number, None, None),
+        Op::LoopCount => of_loop(tables, instr.b),
         Op::LoopOccurrences => when(record, plain(None, None, None)),
         Op::End => plain(None, None, None),
         Op::Break => plain(None, None, None),

@@ -15,7 +15,7 @@ fn gives_nothing(gives: Gift) -> bool
 {
     match gives {
         Gift::Nothing => true,
-        Gift::Number => false,
+        Gift::Number | Gift::Text => false,
     }
 }
 

@@ -1,11 +1,11 @@
 //! Abstract stacks by number, in a table in which each entry puts a kind on an earlier stack. Equal
 //! stacks have equal numbers.
 
-ghost use Rattle.std.specs.Prelude.{◌≡◌, ◌≤◌, ◌<◌, ◌+◌, [], ◌∷◌, ℕ, Some, length, OnErr, OnOk, IfOk, MatchOption};
+ghost use Rattle.std.specs.Prelude.{◌≡◌, ◌≤◌, ◌<◌, ◌+◌, ◌^◌, [], ◌∷◌, ℕ, Some, length, OnErr, OnOk, IfOk, MatchOption};
 ghost use Rattle.cse_typing.specs.Piles.{stack_of, entry_of};
 ghost use Rattle.cse_typing.specs.Within.{KeepsStacks};
 ghost use Rattle.cse_typing.specs.Kinds.{top_of};
-ghost use Rattle.cse_typing.specs.Depth.{count_of};
+ghost use Rattle.cse_typing.specs.Depth.{IsAtMost, count_of};
 ghost use Rattle.cse_typing.specs.Pass.{same_kinds};
 
 use crate::depth::Depth;
@@ -66,18 +66,18 @@ impl Piles {
     /// The number of a kind on a stack: that of the entry which is there already, or a new one. Takes
     /// time that grows with the logarithm of the number of stacks.
     pub fn push(&mut self, kind: Kind, below: usize) -> Result<usize, AllocError>
-        requires { below ≤ length self.old }
+        requires below { below ≤ length self.old }
+        requires few { length self.old < 2 ^ 32 }
         ensures stack { IfOk result (λ n. stack_of self.new n ≡ kind ∷ stack_of self.old below) }
         ensures within { IfOk result (λ n. n ≤ length self.new) }
         ensures keeps { KeepsStacks self.old self.new }
+        ensures one { length self.new ≤ length self.old + 1 }
     {
         let entry = Entry { kind, below };
         if let Some(number) = self.numbers.find(entry) {
             return Ok(number);
         }
-        let Some(depth) = Depth::one_of(kind).plus(self.depth(below)) else {
-            return Err(AllocError);
-        };
+        let depth = Depth::one_of(kind).plus(self.depth(below));
         self.add(entry, depth)?;
         Ok(self.entries.len())
     }
@@ -107,7 +107,8 @@ impl Piles {
     /// How many numbers, texts and ordinals a stack has.
     pub fn depth(&self, stack: usize) -> Depth
         requires { stack ≤ length self.now }
-        ensures { result ≡ count_of (stack_of self.now stack) }
+        ensures value { result ≡ count_of (stack_of self.now stack) }
+        ensures few { IsAtMost (length self.now) result }
     {
         if stack == 0 {
             return Depth::NONE;

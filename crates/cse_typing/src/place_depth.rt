@@ -1,10 +1,10 @@
 //! How many values are kept at a place, and by the locals of a routine.
 
-ghost use Rattle.std.specs.Prelude.{◌≡◌, ◌≤◌, Some, length, drop, slice_get, IfSome};
+ghost use Rattle.std.specs.Prelude.{◌≡◌, ◌+◌, ◌*◌, ◌^◌, ◌<◌, ◌≤◌, Some, length, drop, slice_get};
 ghost use Rattle.cse_parts.specs.Image.{lists_of};
 ghost use Rattle.cse_typing.specs.Piles.{stack_of, stack_at};
 ghost use Rattle.cse_typing.specs.Within.{IsWithin};
-ghost use Rattle.cse_typing.specs.Depth.{count_of, depth_at, parameters_at, call_depth, place_depth, locals_depth};
+ghost use Rattle.cse_typing.specs.Depth.{IsAtMost, KeepFew, most_kept, count_of, depth_at, parameters_at, call_depth, place_depth, locals_depth};
 
 use crate::depth::Depth;
 use crate::kind::kind_of_local;
@@ -18,21 +18,27 @@ fn local_at(locals: &[Local], i: usize) -> Option<Local>
     locals.get(i).copied()
 }
 
-/// How many values the locals are; none, where that is 2^64 or more.
-pub fn locals_depth(locals: &[Local]) -> Option<Depth>
-    ensures { IfSome result (λ d. d ≡ locals_depth locals.now) }
+/// How many values the locals are.
+pub fn locals_depth(locals: &[Local]) -> Depth
+    requires { length locals.now ≤ 255 }
+    ensures value { result ≡ locals_depth locals.now }
+    ensures few { IsAtMost 255 result }
 {
     let mut total = Depth::NONE;
     'locals: for i in 0..locals.len() {
-        let local = local_at(locals, i)?;
-        total = total.plus(Depth::one_of(kind_of_local(local)))?;
+        let Some(local) = local_at(locals, i) else {
+            unreachable!()
+        };
+        total = total.plus(Depth::one_of(kind_of_local(local)));
     }
-    Some(total)
+    total
 }
 
 /// The depth of a routine, as a table tells it.
 fn depth_at(depths: &[Depth], routine: u32) -> Depth
-    ensures { result ≡ depth_at depths.now routine }
+    requires { KeepFew depths.now }
+    ensures value { result ≡ depth_at depths.now routine }
+    ensures few { IsAtMost (most_kept * length depths.now) result }
 {
     match depths.get(routine as usize).copied() {
         None => Depth::NONE,
@@ -66,15 +72,13 @@ fn without(piles: &Piles, stack: usize, count: u8) -> usize
 }
 
 /// What is kept within a call: the stack without the arguments, and the depth of the routine.
-fn call_depth(
-    tables: &Tables,
-    depths: &[Depth],
-    piles: &Piles,
-    callee: u32,
-    stack: usize,
-) -> Option<Depth>
-    requires { stack ≤ length piles.now }
-    ensures { IfSome result (λ d. d ≡ call_depth (lists_of tables.now).routines depths.now callee (stack_of piles.now stack)) }
+fn call_depth(tables: &Tables, depths: &[Depth], piles: &Piles, callee: u32, stack: usize) -> Depth
+    requires stack { stack ≤ length piles.now }
+    requires stacks { length piles.now < 2 ^ 32 }
+    requires routines { length depths.now < 2 ^ 32 }
+    requires few { KeepFew depths.now }
+    ensures value { result ≡ call_depth (lists_of tables.now).routines depths.now callee (stack_of piles.now stack) }
+    ensures few { IsAtMost (length piles.now + most_kept * length depths.now) result }
 {
     let rest = without(piles, stack, parameters_at(tables, callee));
     piles.depth(rest).plus(depth_at(depths, callee))
@@ -95,7 +99,7 @@ fn stack_there(piles: &Piles, there: Expected) -> usize
 }
 
 /// How many values are kept at an instruction before the stack that is expected there, by the depths
-/// of smaller routines; none, where that is 2^64 or more.
+/// of smaller routines.
 #[tactic(auto, unfolding(crate::specs::Depth::depth_by))]
 pub fn place_depth(
     tables: &Tables,
@@ -103,17 +107,21 @@ pub fn place_depth(
     piles: &Piles,
     there: Expected,
     instr: Instr,
-) -> Option<Depth>
-    requires { IsWithin (length piles.now) there }
-    ensures { IfSome result (λ d. d ≡ place_depth (lists_of tables.now).routines depths.now (Some instr) (stack_at piles.now there)) }
+) -> Depth
+    requires within { IsWithin (length piles.now) there }
+    requires stacks { length piles.now < 2 ^ 32 }
+    requires routines { length depths.now < 2 ^ 32 }
+    requires few { KeepFew depths.now }
+    ensures value { result ≡ place_depth (lists_of tables.now).routines depths.now (Some instr) (stack_at piles.now there) }
+    ensures few { IsAtMost (length piles.now + most_kept * length depths.now) result }
 {
     let stack = stack_there(piles, there);
     let kept = piles.depth(stack);
     match instr.op {
         Op::Call => {
-            let within = call_depth(tables, depths, piles, instr.c, stack)?;
-            Some(kept.greater(within))
+            let within = call_depth(tables, depths, piles, instr.c, stack);
+            kept.greater(within)
         }
-        _ => Some(kept),
+        _ => kept,
     }
 }

@@ -141,6 +141,7 @@ pub fn parts_of(alloc: Global, ambient: Ambient, lines: &[Line]) -> Result<Parts
         sets: shape.sets,
         order: Vec::from_slice(alloc, &[1, 0])?,
         constants: Vec::from_slice(alloc, &[1])?,
+        limits: Vec::from_slice(alloc, &[1, 2, 3, 4])?,
         texts,
         globals: Vec::from_slice(alloc, &globals)?,
         arrays,

@@ -11,9 +11,11 @@ use std::fmt;
 pub const NONE: u32 = 4_294_967_295;
 
 /// Why a program may not run, by number (own): 65 a jump or bracket breaks its rules; 66 no abstract
-/// stack fits a place; 68 the shape is another one, with no routine and no place; 69 a call leads to a
-/// routine that isn't smaller, a routine of the whole run asks for a case, or, with no routine and no
-/// place, the order or an event doesn't fit; 90 memory ran out, with no routine and no place.
+/// stack fits a place; 67 the steps of a routine pass the limit at a place, or, with no routine and no
+/// place, those of a case (told by `cse_verify`); 68 the shape is another one, with no routine and no
+/// place; 69 a call leads to a routine that isn't smaller, a routine of the whole run asks for a case,
+/// or, with no routine and no place, the order or an event doesn't fit; 90 memory ran out, with no
+/// routine and no place.
 #[derive(Clone, Copy, Debug, PartialEq, Eq)]
 pub struct Refusal {
     pub number: u8,

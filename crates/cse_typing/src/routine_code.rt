@@ -1,19 +1,20 @@
 //! The code of one routine, as a part of the code of the program.
 
 ghost use Rattle.std.specs.Prelude.{◌≡◌, ◌≤◌, ◌<◌, ◌+◌, length, slice_get, Some};
+ghost use Rattle.cse_parts.specs.Image.{lists_of};
 ghost use Rattle.cse_typing.specs.Code.{part};
 ghost use Rattle.cse_typing.specs.Skeleton.{skeleton};
 
 use crate::control::{Control, control_of};
 use cse_image::Code;
-use cse_value::shape::RecordShape;
+use cse_parts::entries::Tables;
 use std::marker::Model;
 
 /// The skeleton of a routine, read in place.
 #[derive(Drop)]
 pub struct RoutineCode<'a, C: Code> {
     code: &'a C,
-    records: &'a [RecordShape],
+    tables: &'a Tables,
     start: usize,
     size: u32,
 }
@@ -21,25 +22,26 @@ pub struct RoutineCode<'a, C: Code> {
 impl<'a, C: Code> Model for RoutineCode<'a, C> {
     ghost use Rattle.std.specs.Prelude.{List, ◌≤◌, ◌+◌, length};
     ghost use Rattle.cse_typing.specs.declared.control.Control.{Control};
+    ghost use Rattle.cse_parts.specs.Image.{lists_of};
     ghost use Rattle.cse_typing.specs.Code.{part};
     ghost use Rattle.cse_typing.specs.Skeleton.{skeleton};
 
     ghost Value = { List Control };
 
-    ghost view = { λ r. skeleton r.records.now (part r.start r.size (C.list r.code.now)) };
+    ghost view = { λ r. skeleton (lists_of r.tables.now) (part r.start r.size (C.list r.code.now)) };
 
     ghost invariant = { λ r. r.start + r.size ≤ length (C.list r.code.now) };
 }
 
 impl<'a, C: Code> RoutineCode<'a, C> {
     /// The routine whose instructions start there.
-    pub fn new(code: &'a C, records: &'a [RecordShape], start: usize, size: u32) -> Self
+    pub fn new(code: &'a C, tables: &'a Tables, start: usize, size: u32) -> Self
         requires { start + size ≤ length (C.list code.now) }
-        ensures { result ≡ skeleton records.now (part start size (C.list code.now)) }
+        ensures { result ≡ skeleton (lists_of tables.now) (part start size (C.list code.now)) }
     {
         RoutineCode {
             code,
-            records,
+            tables,
             start,
             size,
         }
@@ -59,7 +61,7 @@ impl<'a, C: Code> RoutineCode<'a, C> {
         if place < self.size {
             let _fits = self.code.len();
             let instr = self.code.at(self.start + place as usize);
-            Some(control_of(self.records, instr))
+            Some(control_of(self.tables, instr))
         } else {
             None
         }

@@ -54,6 +54,7 @@ fn parts_of(alloc: Global, code: Vec<Instr>) -> Result<Parts, AllocError> {
         sets: Vec::new(alloc),
         order: Vec::new(alloc),
         constants: Vec::from_slice(alloc, &[1])?,
+        limits: Vec::from_slice(alloc, &[1, 2, 3, 4])?,
         texts,
         globals: Vec::new(alloc),
         arrays,
@@ -210,7 +211,18 @@ fn nests_64_deep(rt: HostRuntime) -> Result<(), Fail> {
 }
 
 /// Code, and the first place that has no stack.
-const TYPINGS: [(&[Line], u8, u32); 8] = [
+const TYPINGS: [(&[Line], u8, u32); 9] = [
+    // A limit that isn't there.
+    (
+        &[
+            (Op::Number, 0, 0, 0),
+            (Op::LoopCount, 0, 4, 2),
+            (Op::End, 0, 0, 1),
+            (Op::Return, 0, 0, 0),
+        ],
+        66,
+        1,
+    ),
     // A number is not a text.
     (
         &[

@@ -1,6 +1,6 @@
 //! One place of the pass over a routine.
 
-ghost use Rattle.std.specs.Prelude.{◌≡◌, ◌≤◌, ◌++◌, length, Some, None, IfOk, IfSome, option_map, option_and_then, if◌then◌else◌};
+ghost use Rattle.std.specs.Prelude.{◌≡◌, ◌≤◌, ◌<◌, ◌+◌, ◌^◌, ◌++◌, length, Some, None, IfOk, IfSome, option_map, option_and_then, if◌then◌else◌};
 ghost use Rattle.std.specs.Option.{option_to_list};
 ghost use Rattle.cse_typing.specs.Pass.{merge, turn};
 ghost use Rattle.cse_typing.specs.Piles.{stack_of};
@@ -41,10 +41,12 @@ pub struct Standing {
 
 /// Puts what is left on a stack.
 fn put_left(piles: &mut Piles, leaves: Option<Kind>, rest: usize) -> Result<usize, AllocError>
-    requires { rest ≤ length piles.old }
+    requires rest { rest ≤ length piles.old }
+    requires few { length piles.old < 2 ^ 32 }
     ensures stack { IfOk result (λ n. stack_of piles.new n ≡ option_to_list leaves ++ stack_of piles.old rest) }
     ensures within { IfOk result (λ n. n ≤ length piles.new) }
     ensures keeps { KeepsStacks piles.old piles.new }
+    ensures one { length piles.new ≤ length piles.old + 1 }
 {
     match leaves {
         None => Ok(rest),
@@ -62,10 +64,12 @@ fn edges_at(
     stack: usize,
     piles: &mut Piles,
 ) -> Result<Option<Exits>, AllocError>
-    requires { stack ≤ length piles.old }
+    requires stack { stack ≤ length piles.old }
+    requires few { length piles.old < 2 ^ 32 }
     ensures rule { IfOk result (λ o. rule_by (scene_in around.entry) at.in_loop at.control at.place at.instr (stack_of piles.old stack) ≡ option_map (edges_of piles.new) o) }
     ensures within { IfOk result (λ o. IfSome o (ExitsWithin (length piles.new))) }
     ensures keeps { KeepsStacks piles.old piles.new }
+    ensures one { length piles.new ≤ length piles.old + 1 }
 {
     let top = piles.top(stack);
     let Some(need) = need_of(
@@ -95,10 +99,12 @@ fn follow(
     known: &mut [Expected],
 ) -> Result<bool, AllocError>
     requires stack { stack ≤ length piles.old }
+    requires few { length piles.old < 2 ^ 32 }
     requires within { AreWithin (length piles.old) known.old }
     ensures turn { IfOk result (λ yes. option_and_then (λ es. merge at.place es (known_of piles.old known.old)) (rule_by (scene_in around.entry) at.in_loop at.control at.place at.instr (stack_of piles.old stack))
         ≡ (if yes then Some (known_of piles.new known.new) else None)) }
     ensures within { AreWithin (length piles.new) known.new }
+    ensures one { length piles.new ≤ length piles.old + 1 }
 {
     match edges_at(around, at, stack, piles)? {
         None => Ok(false),
@@ -117,10 +123,12 @@ pub fn turn(
     piles: &mut Piles,
     known: &mut [Expected],
 ) -> Result<bool, AllocError>
-    requires { AreWithin (length piles.old) known.old }
+    requires within { AreWithin (length piles.old) known.old }
+    requires few { length piles.old < 2 ^ 32 }
     ensures turn { IfOk result (λ yes. turn (rule_by (scene_in around.entry) at.in_loop at.control) at.place at.instr (known_of piles.old known.old)
         ≡ (if yes then Some (known_of piles.new known.new) else None)) }
     ensures within { AreWithin (length piles.new) known.new }
+    ensures one { length piles.new ≤ length piles.old + 1 }
 {
     match expected_at(known, at.place as usize) {
         Expected::Clash => Ok(false),

@@ -1,12 +1,13 @@
 //! The pass over the places of a routine.
 
-ghost use Rattle.std.specs.Prelude.{◌≡◌, ◌≤◌, ◌+◌, length, IfOk, replicate};
+ghost use Rattle.std.specs.Prelude.{◌≡◌, ◌<◌, ◌≤◌, ◌+◌, ◌*◌, ◌^◌, length, IfOk, replicate};
+ghost use Rattle.cse_parts.specs.Image.{lists_of};
 ghost use Rattle.cse_typing.specs.Code.{part};
 ghost use Rattle.cse_typing.specs.Skeleton.{skeleton};
 ghost use Rattle.cse_typing.specs.Bracket.{KeepsRules};
 ghost use Rattle.cse_typing.specs.Tables.{scene_in};
 ghost use Rattle.cse_typing.specs.Judged.{Judges, fault_in};
-ghost use Rattle.cse_typing.specs.Depth.{IsDepth, IsDepthBelow};
+ghost use Rattle.cse_typing.specs.Depth.{IsAtMost, KeepFew, most_kept, IsDepth, IsDepthBelow};
 
 use crate::brackets::pass;
 use crate::control::control_of;
@@ -42,27 +43,8 @@ fn nothing(alloc: Global, places: u32) -> Result<Vec<Expected>, AllocError>
     Ok(known)
 }
 
-/// The first fault of a routine whose brackets keep their rules.
-pub fn fault_of<C: Code>(
-    alloc: Global,
-    around: Surroundings<'_>,
-    code: &C,
-    start: usize,
-    number: u32,
-) -> Result<Option<Fault>, AllocError>
-    requires within { start + around.routine.now.instructions ≤ length (C.list code.now) }
-    requires brackets { KeepsRules (skeleton around.tables.now.records.items (part start around.routine.now.instructions (C.list code.now))) }
-    ensures { IfOk result (Judges (scene_in around.entry) number (part start around.entry.routine.now.instructions (C.list code.now))) }
-{
-    match judge(alloc, around, code, start, number, &[])? {
-        Ok(_) => Ok(None),
-        Err(fault) => Ok(Some(fault)),
-    }
-}
-
 /// The depth of a routine whose brackets keep their rules, by the depths of smaller routines, or its
-/// first fault. A depth of 2^64 or more counts as a want of memory. One pass over the places: each
-/// takes time that grows with the logarithm of how many stacks there are, and with what it takes from
+/// first fault. One pass over the places: each takes time that grows with the logarithm of how many stacks there are, and with what it takes from
 /// the stack; at most 64 openers are looked at.
 pub fn judge<C: Code>(
     alloc: Global,
@@ -73,20 +55,20 @@ pub fn judge<C: Code>(
     smaller: &[Depth],
 ) -> Result<Result<Depth, Fault>, AllocError>
     requires within { start + around.routine.now.instructions ≤ length (C.list code.now) }
-    requires brackets { KeepsRules (skeleton around.tables.now.records.items (part start around.routine.now.instructions (C.list code.now))) }
+    requires brackets { KeepsRules (skeleton (lists_of around.tables.now) (part start around.routine.now.instructions (C.list code.now))) }
+    requires routines { length smaller.now < 2 ^ 32 }
+    requires few { KeepFew smaller.now }
+    requires locals { length around.routine.now.locals.items ≤ 255 }
+    requires size { around.routine.now.instructions ≤ 1000000 }
     ensures judges { IfOk result (λ v. Judges (scene_in around.entry) number (part start around.entry.routine.now.instructions (C.list code.now)) (fault_in v)) }
     ensures depth { IfOk result (λ v. IfOk v (IsDepth (scene_in around.entry) smaller.now (part start around.entry.routine.now.instructions (C.list code.now)))) }
+    ensures few { IfOk result (λ v. IfOk v (IsAtMost (most_kept * (length smaller.now + 1)))) }
 {
     let mut known = nothing(alloc, around.routine.instructions)?;
-    let Some(locals) = locals_depth(&around.routine.locals) else {
-        return Err(AllocError);
-    };
+    let locals = locals_depth(&around.routine.locals);
     match walk(alloc, around, code, start, number, smaller, &mut known)? {
         Err(fault) => Ok(Err(fault)),
-        Ok(places) => match locals.plus(places) {
-            None => Err(AllocError),
-            Some(depth) => Ok(Ok(depth)),
-        },
+        Ok(places) => Ok(Ok(locals.plus(places))),
     }
 }
 
@@ -101,14 +83,17 @@ fn walk<C: Code>(
     known: &mut [Expected],
 ) -> Result<Result<Depth, Fault>, AllocError>
     requires within { start + around.routine.now.instructions ≤ length (C.list code.now) }
-    requires brackets { KeepsRules (skeleton around.tables.now.records.items (part start around.routine.now.instructions (C.list code.now))) }
+    requires brackets { KeepsRules (skeleton (lists_of around.tables.now) (part start around.routine.now.instructions (C.list code.now))) }
+    requires routines { length smaller.now < 2 ^ 32 }
+    requires few { KeepFew smaller.now }
     requires known { known.old ≡ replicate around.routine.now.instructions Expected.Free }
     ensures judges { IfOk result (λ v. Judges (scene_in around.entry) number (part start around.entry.routine.now.instructions (C.list code.now)) (fault_in v)) }
     ensures depth { IfOk result (λ v. IfOk v (IsDepthBelow (scene_in around.entry) smaller.now (part start around.entry.routine.now.instructions (C.list code.now)) around.entry.routine.now.instructions)) }
+    ensures few { IfOk result (λ v. IfOk v (IsAtMost (around.entry.routine.now.instructions + most_kept * length smaller.now))) }
 {
     let _fits = code.len();
     let size = around.routine.instructions;
-    let skeleton = RoutineCode::new(code, &around.tables.records, start, size);
+    let skeleton = RoutineCode::new(code, around.tables, start, size);
     let mut openers = Openers::new();
     let mut piles = Piles::new(alloc);
     let mut most = Depth::NONE;
@@ -117,7 +102,7 @@ fn walk<C: Code>(
         if !may_stand(around.tables, number, around.routine.ambient, instr) {
             return Ok(Err(Fault::MayNotStand(place)));
         }
-        let control = control_of(&around.tables.records, instr);
+        let control = control_of(around.tables, instr);
         let in_loop = is_in_loop(code, start, size, &openers, instr.a);
         let at = Standing {
             place,
@@ -126,9 +111,7 @@ fn walk<C: Code>(
             in_loop,
         };
         let there = expected_at(known, place as usize);
-        let Some(kept) = place_depth(around.tables, smaller, &piles, there, instr) else {
-            return Err(AllocError);
-        };
+        let kept = place_depth(around.tables, smaller, &piles, there, instr);
         if !turn(around, at, &mut piles, known)? {
             return Ok(Err(Fault::NoStack(place)));
         }

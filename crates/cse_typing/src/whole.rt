@@ -1,12 +1,12 @@
 //! Whether a program as a whole is typed for a dictionary of a shape.
 
-ghost use Rattle.std.specs.Prelude.{◌≡◌, ◌≤◌, ◌+◌, length, OnOk, IfOk, IfErr, ◌⊎◌};
+ghost use Rattle.std.specs.Prelude.{◌≡◌, ◌<◌, ◌≤◌, ◌+◌, ◌*◌, ◌^◌, length, OnOk, IfOk, IfErr, ◌⊎◌};
 ghost use Rattle.cse_value.specs.Shape.{shape_lists};
 ghost use Rattle.cse_typing.specs.Code.{part};
 ghost use Rattle.cse_typing.specs.Shapes.{shape_of};
 ghost use Rattle.cse_typing.specs.Tables.{scene_in};
 ghost use Rattle.cse_typing.specs.Checked.{IsSound, Fails};
-ghost use Rattle.cse_typing.specs.Depth.{IsDepth};
+ghost use Rattle.cse_typing.specs.Depth.{IsAtMost, KeepFew, most_kept, IsDepth};
 ghost use Rattle.cse_typing.specs.Typed.{AreTypedBelow, IsTyped, HasUnfitEvents, IsOutOfMemory, Refuses};
 
 use crate::brackets::first_break;
@@ -23,8 +23,7 @@ use std::alloc::Global;
 
 /// The depth of the routine of this number, whose code starts there, by the depths of smaller routines,
 /// where the routine keeps the rules of brackets, its instructions may stand in it, and it has a typing.
-/// Else its first fault: 65; then, at the least place, 69 or 66. 90 where memory runs out, or a depth is
-/// 2^64 or more.
+/// Else its first fault: 65; then, at the least place, 69 or 66. 90 where memory runs out.
 pub fn check_routine<C: Code>(
     alloc: Global,
     around: Surroundings<'_>,
@@ -34,12 +33,17 @@ pub fn check_routine<C: Code>(
     smaller: &[Depth],
 ) -> Result<Depth, Refusal>
     requires within { start + around.routine.now.instructions ≤ length (C.list code.now) }
+    requires routines { length smaller.now < 2 ^ 32 }
+    requires few { KeepFew smaller.now }
+    requires locals { length around.routine.now.locals.items ≤ 255 }
+    requires size { around.routine.now.instructions ≤ 1000000 }
     ensures sound { OnOk result (IsSound (scene_in around.entry) number (part start around.entry.routine.now.instructions (C.list code.now))) }
     ensures depth { IfOk result (IsDepth (scene_in around.entry) smaller.now (part start around.entry.routine.now.instructions (C.list code.now))) }
+    ensures few { IfOk result (IsAtMost (most_kept * (length smaller.now + 1))) }
     ensures fails { IfErr result (λ e. IsOutOfMemory e ⊎ Fails (scene_in around.entry) number (part start around.entry.routine.now.instructions (C.list code.now)) e) }
 {
     let size = around.routine.instructions;
-    let skeleton = RoutineCode::new(code, &around.tables.records, start, size);
+    let skeleton = RoutineCode::new(code, around.tables, start, size);
     if let Some(at) = first_break(alloc, &skeleton)? {
         return Err(Refusal {
             number: 65,

@@ -1,4 +1,5 @@
 pub mod FieldLaws
 pub mod FieldSteps
 pub mod TextLaws
+pub mod WidthLaws
 pub mod WriteLaws

@@ -116,6 +116,13 @@ ReadsWhatWasPut = (columns : List ℕ) (value : Num) (fill : Bool) (code : Optio
 abbrev pub put_text : ℕ → List ℕ → List ℕ
 put_text width text = take width (padded width text)
 
+-- A write keeps the number of columns, of a number and of a text.
+abbrev pub PutKeepsWidth : Type 0
+PutKeepsWidth = (width : ℕ) (value : Num) (fill : Bool) (code : Option ℤ) → length (put width value fill code) ≡ width
+
+abbrev pub PutTextKeepsWidth : Type 0
+PutTextKeepsWidth = (width : ℕ) (text : List ℕ) → length (put_text width text) ≡ width
+
 -- the text of a value in a message
 abbrev pub shown : Num → List ℕ
 shown (Whole z) = signed_decimal z

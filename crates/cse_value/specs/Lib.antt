@@ -1,5 +1,6 @@
 pub mod Field
 pub mod Number
+pub mod Occurrences
 pub mod Shape
 pub mod Texts
 pub mod Writing

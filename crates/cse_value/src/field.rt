@@ -6,7 +6,7 @@
 
 ghost use Rattle.std.specs.Prelude.{◌≡◌, ◌+◌, ◌-◌, ◌*◌, ◌<◌, ◌≤◌, ◌++◌, List, length, min, neg_ℤ, pos, replicate, reverse};
 ghost use Rattle.std.specs.Option.{option_map};
-ghost use Rattle.cse_value.specs.Field.{ReadsWhatWasPut, digits_number, field, in_i64, numeral, put, put_text, put_whole, shown, trimmed, without_blanks};
+ghost use Rattle.cse_value.specs.Field.{PutKeepsWidth, PutTextKeepsWidth, ReadsWhatWasPut, digits_number, field, in_i64, numeral, put, put_text, put_whole, shown, trimmed, without_blanks};
 
 use crate::number::Num;
 use crate::text::Text;
@@ -231,4 +231,10 @@ fn short_text(text: &str) -> ArrayString<20>
 /// a number that has room and isn't the code, and `Undef` for all else.
 pub fn round_trip()
     ensures { ReadsWhatWasPut }
+{}
+
+/// A write of a number, or of a text, keeps the number of columns.
+pub fn keeps_width()
+    ensures numbers { PutKeepsWidth }
+    ensures texts { PutTextKeepsWidth }
 {}

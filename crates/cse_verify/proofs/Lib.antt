@@ -2,3 +2,8 @@ pub mod CallLaws
 pub mod MeasureLaws
 pub mod VerifiedLaws
 pub mod DepthLaws
+pub mod ChainLaws
+pub mod FirstLaws
+pub mod StartLaws
+pub mod MeaningLaws
+pub mod WalkLaws

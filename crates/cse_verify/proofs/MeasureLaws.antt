@@ -5,13 +5,12 @@ use Rattle.std.proofs.lemmas.Bool.{cases_lt}
 use Rattle.std.proofs.lemmas.List.{length_push, get_or_append_left, get_or_push, take-append-le, take_all}
 use Rattle.std.proofs.lemmas.Option.{slice_get_within, same_Some}
 use Rattle.cse_value.specs.Shape.{ShapeLists}
-use Rattle.cse_value.specs.declared.shape.RecordShape.{RecordShape}
 use Rattle.cse_parts.specs.declared.instruction.Instr.{Instr}
 use Rattle.cse_parts.specs.Image.{Image, Lists, RoutineLists}
 use Rattle.cse_typing.specs.declared.control.Control.{Control}
 use Rattle.cse_typing.specs.declared.refusal.Refusal.{Refusal}
 use Rattle.cse_typing.specs.declared.depth.Depth.{Depth as Cells}
-use Rattle.cse_typing.specs.Depth.{IsDepth, AreDepths}
+use Rattle.cse_typing.specs.Depth.{IsDepth, AreDepths, KeepFew}
 use Rattle.cse_typing.specs.Code.{code_of}
 use Rattle.cse_typing.specs.Skeleton.{skeleton, skeleton_of}
 use Rattle.cse_typing.specs.Bracket.{KeepsRules}
@@ -19,8 +18,9 @@ use Rattle.cse_typing.specs.Signature.{Scene}
 use Rattle.cse_typing.specs.Shapes.{shape_of}
 use Rattle.cse_typing.specs.Checked.{IsSound, FailsRules, FailsCalls, FailsTyping, Fails}
 use Rattle.cse_typing.specs.Typed.{scene_of, AreTypedBelow, IsTypedRoutine, IsOutOfMemory, BreaksRules, MayNotStand, HasNoStack}
+use Rattle.cse_typing.proofs.Few.{none_kept}
 use Rattle.cse_typing.proofs.TypedLaws.{routine_typed, typed_more}
-use Rattle.cse_bounds.specs.declared.limits.TheConstants.{STEP_LIMIT}
+use Rattle.cse_bounds.specs.Limit.{step_limit}
 use Rattle.cse_bounds.specs.Bound.{partial, bounds_below, bound, AreBoundedBelow, PassesLimit, IsTooLong, CallsBelow}
 use Rattle.cse_bounds.specs.Frames.{most_frames, frames_below}
 use Rattle.cse_bounds.proofs.EventLaws.{length-bounds, table_small}
@@ -42,6 +42,7 @@ measured_start s x bounds frames cells a b c = record {
   frames_are = b;
   cells_are = λ r y d there at. let none = ap (λ (l : List Cells). slice_get l r) c in cc;
   cells_of = ap (λ (l : List Cells). length l) c;
+  cells_few = subst KeepFew (sym c) none_kept;
   few = λ r lt. let none = ap (λ (l : List ℕ). length l) b in absurd (omega arith);
 }
 
@@ -68,12 +69,12 @@ few_more frames b next few small pushed r lt =
 
 pub measured_more : (s : ShapeLists) (x : Image) (n : ℕ) (y : RoutineLists) (bounds frames bounds2 frames2 : List ℕ) (cells cells2 : List Cells) (code : List Control) → slice_get x.lists.routines n ≡ Some y → AreMeasured s x n bounds frames cells
     → IsTypedRoutine s x n y → code ≡ skeleton_of x n
-    → bounds2 ≡ bounds ++ partial bounds code (length code) ∷ [] → partial bounds code (length code) ≤ STEP_LIMIT
+    → bounds2 ≡ bounds ++ partial bounds code (length code) ∷ [] → partial bounds code (length code) ≤ step_limit
     → frames2 ≡ frames ++ most_frames frames code (length code) ∷ [] → most_frames frames code (length code) ≤ 64 * (length frames + 1)
-    → AreDepths s x cells2 → length cells2 ≡ n + 1
+    → AreDepths s x cells2 → length cells2 ≡ n + 1 → KeepFew cells2
     → AreMeasured s x (n + 1) bounds2 frames2 cells2
 unfolding bounds_below frames_below
-measured_more s x n y bounds frames bounds2 frames2 cells cells2 code there m here is added small pushed few depths many =
+measured_more s x n y bounds frames bounds2 frames2 cells cells2 code there m here is added small pushed few depths many kept =
     let one : suc n ≡ n + 1 = omega arith in
     let sum : partial bounds code (length code) ≡ bound x n =
     ap (λ (l : List ℕ). partial l code (length code)) m.bounds_are ∙ ap (λ (l : List Control). partial (bounds_below x n) l (length l)) is
@@ -85,11 +86,12 @@ measured_more s x n y bounds frames bounds2 frames2 cells cells2 code there m he
     let table2 : frames2 ≡ frames_below x (suc n) = pushed ∙ ap (λ (l : List ℕ). l ++ most_frames frames code (length code) ∷ []) m.frames_are ∙ ap (λ k. frames_below x n ++ k ∷ []) most in
     record {
       typed = typed_more s x n y there m.typed here;
-      bounded = below_more (λ (k : ℕ). bound x k ≤ STEP_LIMIT) n m.bounded (subst (λ k. k ≤ STEP_LIMIT) sum small);
+      bounded = below_more (λ (k : ℕ). bound x k ≤ step_limit) n m.bounded (subst (λ k. k ≤ step_limit) sum small);
       bounds_are = table ∙ ap (bounds_below x) one;
       frames_are = table2 ∙ ap (frames_below x) one;
       cells_are = depths;
       cells_of = many;
+      cells_few = kept;
       few = few_more frames (most_frames frames code (length code)) frames2 m.few few pushed;
     }
 
@@ -221,15 +223,15 @@ keeps_here s x n y code is here = subst KeepsRules (sym is) here.brackets
 
 pub calls_here : (s : ShapeLists) (x : Image) (n k : ℕ) (y : RoutineLists) (code : List Control) → code ≡ skeleton_of x n → k ≡ n → IsTypedRoutine s x n y → CallsBelow k code
 calls_here s x n k y code is count here p c at =
-    let lt : c < n = calls_below x.lists.records x.lists.routines n y.ambient (code_of x n) here.calls p c (ap (λ (l : List Control). slice_get l p) (sym is) ∙ at) in
+    let lt : c < n = calls_below x.lists x.lists.routines n y.ambient (code_of x n) here.calls p c (ap (λ (l : List Control). slice_get l p) (sym is) ∙ at) in
     omega arith
 
-pub bounds_small : (s : ShapeLists) (x : Image) (n : ℕ) (bounds frames : List ℕ) (cells : List Cells) → AreMeasured s x n bounds frames cells → (r : ℕ) → r < length bounds → get_or bounds r 0 ≤ STEP_LIMIT
+pub bounds_small : (s : ShapeLists) (x : Image) (n : ℕ) (bounds frames : List ℕ) (cells : List Cells) → AreMeasured s x n bounds frames cells → (r : ℕ) → r < length bounds → get_or bounds r 0 ≤ step_limit
 bounds_small s x n bounds frames cells m = table_small x n bounds m.bounds_are m.bounded
 
-pub skeleton_here : (x : Image) (n : ℕ) (code : List Instr) (records : List RecordShape) (seen : List Control) → seen ≡ skeleton records code → code ≡ code_of x n → records ≡ x.lists.records → seen ≡ skeleton_of x n
-skeleton_here x n code records seen is same shapes =
-    is ∙ ap (λ (l : List Instr). skeleton records l) same ∙ ap (λ (l : List RecordShape). skeleton l (code_of x n)) shapes
+pub skeleton_here : (x : Image) (n : ℕ) (code : List Instr) (lists : Lists) (seen : List Control) → seen ≡ skeleton lists code → code ≡ code_of x n → lists ≡ x.lists → seen ≡ skeleton_of x n
+skeleton_here x n code lists seen is same tables =
+    is ∙ ap (λ (l : List Instr). skeleton lists l) same ∙ ap (λ (l : Lists). skeleton l (code_of x n)) tables
 
 pub all_measured : (s : ShapeLists) (x : Image) (n : ℕ) (bounds frames : List ℕ) (cells : List Cells) → AreMeasured s x n bounds frames cells → n ≡ length x.lists.routines → AreMeasured s x (length x.lists.routines) bounds frames cells
 all_measured s x n bounds frames cells m e = subst (λ k. AreMeasured s x k bounds frames cells) e m

@@ -7,7 +7,7 @@ use Rattle.cse_parts.specs.Image.{Image}
 use Rattle.cse_typing.specs.declared.refusal.Refusal.{Refusal}
 use Rattle.cse_typing.specs.Typed.{IsTyped, BreaksRules, MayNotStand, HasNoStack, IsOfOtherShape, HasUnfitEvents, IsOutOfMemory, Refuses}
 use Rattle.cse_typing.proofs.TypedLaws.{never_typed}
-use Rattle.cse_bounds.specs.declared.limits.TheConstants.{STEP_LIMIT}
+use Rattle.cse_bounds.specs.Limit.{step_limit}
 use Rattle.cse_bounds.specs.Bound.{partial, bounds_below, bound}
 use Rattle.cse_typing.specs.Skeleton.{skeleton_of}
 use Rattle.cse_bounds.specs.EventBound.{case_bound, run_bound}
@@ -26,12 +26,12 @@ use Rattle.cse_verify.specs.Verified.{VerifiedProgram, MayRun, IsKept}
 -- ---- what is kept
 
 pub kept_of : (v : VerifiedProgram) (s : ShapeLists) (bounds frames seen_frames : List ℕ) (cells seen_cells : List Cells) (case run : ℕ) (depth : Depth) → s ≡ shape_of v.dictionary
-    → AreMeasured s v.image (length v.image.lists.routines) bounds frames cells → IsTyped s v.image → case ≡ case_bound v.image → case ≤ STEP_LIMIT → run ≡ run_bound v.image
+    → AreMeasured s v.image (length v.image.lists.routines) bounds frames cells → IsTyped s v.image → case ≡ case_bound v.image → case ≤ step_limit → run ≡ run_bound v.image
     → seen_cells ≡ cells → seen_frames ≡ frames → IsGreatest seen_cells seen_frames depth → IsKept v bounds case run depth
 kept_of v s bounds frames seen_frames cells seen_cells case run depth shape m typed case_is small run_is same same2 most = record {
   may_run = record {
     typed = subst (λ (l : ShapeLists). IsTyped l v.image) shape typed;
-    bounded = record { routines = m.bounded; case = subst (λ n. n ≤ STEP_LIMIT) case_is small };
+    bounded = record { routines = m.bounded; case = subst (λ n. n ≤ step_limit) case_is small };
   };
   bounds_are = m.bounds_are;
   case_is = case_is;
@@ -64,7 +64,7 @@ module _ (v shown : VerifiedProgram) (bounds : List ℕ) (case run : ℕ) (depth
       ∙ bounds_at v.image all r (omega arith)
       ∙ ap (λ (w : VerifiedProgram). bound w.image r) is
 
-  pub bound_small : (r n : ℕ) → r < length shown.image.lists.routines → n ≡ get_or bounds r n → n ≤ STEP_LIMIT
+  pub bound_small : (r n : ℕ) → r < length shown.image.lists.routines → n ≡ get_or bounds r n → n ≤ step_limit
   bound_small r n lt read =
       let m = ap (λ (w : VerifiedProgram). length w.image.lists.routines) is in
       let e = bound_read r n lt read in

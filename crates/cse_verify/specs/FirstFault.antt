@@ -6,7 +6,7 @@ use Rattle.cse_parts.specs.Image.{Image}
 use Rattle.cse_typing.specs.declared.refusal.Refusal.{Refusal}
 use Rattle.cse_typing.specs.Shapes.{shape_of}
 use Rattle.cse_typing.specs.Typed.{AreTypedBelow, IsTyped, BreaksRules, MayNotStand, HasNoStack, IsNowhere, IsOfOtherShape, HasUnfitEvents}
-use Rattle.cse_bounds.specs.declared.limits.TheConstants.{STEP_LIMIT}
+use Rattle.cse_bounds.specs.Limit.{step_limit}
 use Rattle.cse_bounds.specs.Bound.{AreBoundedBelow, IsTooLong}
 use Rattle.cse_bounds.specs.EventBound.{case_bound}
 
@@ -33,9 +33,13 @@ pub record IsTooLongCase (s : ShapeLists) (x : Image) (e : Refusal) : Type 0 whe
   pub place : IsNowhere e
   pub typed : IsTyped s x
   pub bounded : AreBoundedBelow x (length x.lists.routines)
-  pub case : STEP_LIMIT < case_bound x
+  pub case : step_limit < case_bound x
 
 abbrev pub IsFirstFault : ShapeLists → Image → Refusal → Type 0
 IsFirstFault s x e =
     IsOfOtherShape s x e
     ⊎ (IsUntypedRoutine s x e ⊎ (IsTooLongRoutine s x e ⊎ (AreUnfitEvents s x e ⊎ IsTooLongCase s x e)))
+
+-- a program has one first reason at most
+abbrev pub FirstReasonIsOne : Type 0
+FirstReasonIsOne = (s : ShapeLists) (x : Image) (e f : Refusal) → IsFirstFault s x e → IsFirstFault s x f → e ≡ f

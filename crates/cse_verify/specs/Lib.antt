@@ -2,3 +2,6 @@ pub mod FirstFault
 pub mod Depths
 pub mod Verified
 pub mod Measured
+pub mod Chain
+pub mod Starts
+pub mod Meaning

@@ -5,7 +5,7 @@ use Rattle.cse_parts.specs.Image.{Image}
 use Rattle.cse_typing.specs.declared.control.Control.{Control}
 use Rattle.cse_typing.specs.declared.refusal.Refusal.{Refusal}
 use Rattle.cse_typing.specs.declared.depth.Depth.{Depth as Cells}
-use Rattle.cse_typing.specs.Depth.{AreDepths, greatest}
+use Rattle.cse_typing.specs.Depth.{AreDepths, KeepFew, greatest}
 use Rattle.cse_typing.specs.Typed.{AreTypedBelow}
 use Rattle.cse_bounds.specs.Bound.{bounds_below, AreBoundedBelow, PassesLimit}
 use Rattle.cse_bounds.specs.Frames.{frames_below, greatest as greatest_number}
@@ -20,6 +20,7 @@ pub record AreMeasured (s : ShapeLists) (x : Image) (n : ℕ) (bounds frames : L
   pub frames_are : frames ≡ frames_below x n
   pub cells_are : AreDepths s x cells
   pub cells_of : length cells ≡ n
+  pub cells_few : KeepFew cells
   pub few : EachIndex frames (λ r. slice_index frames r ≤ 64 * length frames)
 
 -- 67 of a routine, by the bounds of the smaller ones

@@ -11,7 +11,7 @@ use std::test::Fail;
 static LOOPS: [Line; 11] = [
     (Op::LoopOccurrences, 0, 0, 9),
     (Op::Number, 0, 0, 0),
-    (Op::LoopCount, 0, 10, 8),
+    (Op::LoopCount, 0, 0, 8),
     (Op::TotalOccurrences, 0, 0, 0),
     (Op::Number, 0, 0, 1),
     (Op::Compare, 4, 0, 0),
@@ -39,7 +39,7 @@ static GIVES: [Line; 2] = [(Op::Number, 0, 0, 0), (Op::Return, 0, 0, 0)];
 /// A call in a loop: of a smaller routine, and of its own.
 static CALLS: [Line; 6] = [
     (Op::Number, 0, 0, 0),
-    (Op::LoopCount, 0, 3, 4),
+    (Op::LoopCount, 0, 1, 4),
     (Op::Call, 0, 0, 0),
     (Op::Pop, 0, 0, 0),
     (Op::End, 0, 0, 1),
@@ -48,7 +48,7 @@ static CALLS: [Line; 6] = [
 
 static CALLS_ITSELF: [Line; 6] = [
     (Op::Number, 0, 0, 0),
-    (Op::LoopCount, 0, 3, 4),
+    (Op::LoopCount, 0, 1, 4),
     (Op::Call, 0, 0, 1),
     (Op::Pop, 0, 0, 0),
     (Op::End, 0, 0, 1),
@@ -80,9 +80,9 @@ fn counts_the_steps_of_the_application(rt: HostRuntime) -> Result<(), Fail> {
 /// 2^32 - 1 steps.
 static MANY: [Line; 7] = [
     (Op::Number, 0, 0, 0),
-    (Op::LoopCount, 0, 65534, 5),
+    (Op::LoopCount, 0, 2, 5),
     (Op::Number, 0, 0, 0),
-    (Op::LoopCount, 0, 65535, 4),
+    (Op::LoopCount, 0, 3, 4),
     (Op::End, 0, 0, 3),
     (Op::End, 0, 0, 1),
     (Op::Return, 0, 0, 0),
@@ -91,11 +91,11 @@ static MANY: [Line; 7] = [
 /// Calls of it: 2^64 steps, by their weight and its bound.
 static TOO_MANY: [Line; 11] = [
     (Op::Number, 0, 0, 0),
-    (Op::LoopCount, 0, 32768, 9),
+    (Op::LoopCount, 0, 4, 9),
     (Op::Number, 0, 0, 0),
-    (Op::LoopCount, 0, 32768, 8),
+    (Op::LoopCount, 0, 4, 8),
     (Op::Number, 0, 0, 0),
-    (Op::LoopCount, 0, 4, 7),
+    (Op::LoopCount, 0, 5, 7),
     (Op::Call, 0, 0, 0),
     (Op::End, 0, 0, 5),
     (Op::End, 0, 0, 3),
@@ -120,50 +120,50 @@ fn counts_without_limit(rt: HostRuntime) -> Result<(), Fail> {
 /// 10^12 steps, and 10^12 + 1.
 static LONG: [Line; 19] = [
     (Op::Number, 0, 0, 0),
-    (Op::LoopCount, 0, 10000, 8),
+    (Op::LoopCount, 0, 6, 8),
     (Op::Number, 0, 0, 0),
-    (Op::LoopCount, 0, 9999, 7),
+    (Op::LoopCount, 0, 7, 7),
     (Op::Number, 0, 0, 0),
-    (Op::LoopCount, 0, 9997, 6),
+    (Op::LoopCount, 0, 8, 6),
     (Op::End, 0, 0, 5),
     (Op::End, 0, 0, 3),
     (Op::End, 0, 0, 1),
     (Op::Number, 0, 0, 0),
-    (Op::LoopCount, 0, 9996, 14),
+    (Op::LoopCount, 0, 9, 14),
     (Op::Number, 0, 0, 0),
-    (Op::LoopCount, 0, 9997, 13),
+    (Op::LoopCount, 0, 8, 13),
     (Op::End, 0, 0, 12),
     (Op::End, 0, 0, 10),
     (Op::Number, 0, 0, 0),
-    (Op::LoopCount, 0, 9993, 17),
+    (Op::LoopCount, 0, 10, 17),
     (Op::End, 0, 0, 16),
     (Op::Return, 0, 0, 0),
 ];
 
-static TOO_LONG: [Line; 19] = [
+static LONGER: [Line; 19] = [
     (Op::Number, 0, 0, 0),
-    (Op::LoopCount, 0, 10000, 8),
+    (Op::LoopCount, 0, 6, 8),
     (Op::Number, 0, 0, 0),
-    (Op::LoopCount, 0, 9999, 7),
+    (Op::LoopCount, 0, 7, 7),
     (Op::Number, 0, 0, 0),
-    (Op::LoopCount, 0, 9997, 6),
+    (Op::LoopCount, 0, 8, 6),
     (Op::End, 0, 0, 5),
     (Op::End, 0, 0, 3),
     (Op::End, 0, 0, 1),
     (Op::Number, 0, 0, 0),
-    (Op::LoopCount, 0, 9996, 14),
+    (Op::LoopCount, 0, 9, 14),
     (Op::Number, 0, 0, 0),
-    (Op::LoopCount, 0, 9997, 13),
+    (Op::LoopCount, 0, 8, 13),
     (Op::End, 0, 0, 12),
     (Op::End, 0, 0, 10),
     (Op::Number, 0, 0, 0),
-    (Op::LoopCount, 0, 9994, 17),
+    (Op::LoopCount, 0, 11, 17),
     (Op::End, 0, 0, 16),
     (Op::Return, 0, 0, 0),
 ];
 
 #[test]
-fn keeps_to_the_limit(rt: HostRuntime) -> Result<(), Fail> {
+fn sums_long_loops(rt: HostRuntime) -> Result<(), Fail> {
     let alloc = rt.alloc();
     let plan = (Ambient::Run, Gift::Nothing, false, LONG.as_slice());
     let line = told_of(alloc, EMPTY, plan, EventCode::ApplicationPreproc, 0)?;
@@ -171,9 +171,12 @@ fn keeps_to_the_limit(rt: HostRuntime) -> Result<(), Fail> {
         line.as_str(),
         "1000000000000 case 0 run 1000000000000 depth 1 0 0 3"
     );
-    let plan = (Ambient::Run, Gift::Nothing, false, TOO_LONG.as_slice());
+    let plan = (Ambient::Run, Gift::Nothing, false, LONGER.as_slice());
     let line = told_of(alloc, EMPTY, plan, EventCode::ApplicationPreproc, 0)?;
-    assert_eq!(rt; line.as_str(), "refused 67 0 18");
+    assert_eq!(rt;
+        line.as_str(),
+        "1000000000001 case 0 run 1000000000001 depth 1 0 0 3"
+    );
     Ok(())
 }
 
@@ -183,7 +186,55 @@ fn keeps_a_case_to_the_limit(rt: HostRuntime) -> Result<(), Fail> {
     let alloc = rt.alloc();
     let plan = (Ambient::Case, Gift::Nothing, true, LONG.as_slice());
     let line = told_of(alloc, PERSONS, plan, EventCode::ItemPostproc, 3)?;
+    assert_eq!(rt;
+        line.as_str(),
+        "1000000000000 case 30000000000000 run 0 depth 1 0 1 3"
+    );
+    let plan = (Ambient::Case, Gift::Nothing, true, MOST.as_slice());
+    let line = told_of(alloc, PERSONS, plan, EventCode::ItemPostproc, 3)?;
     assert_eq!(rt; line.as_str(), "refused 67 4294967295 4294967295");
+    Ok(())
+}
+
+/// 10^15 steps, and 10^15 + 1.
+static MOST: [Line; 10] = [
+    (Op::Number, 0, 0, 0),
+    (Op::LoopCount, 0, 12, 5),
+    (Op::Number, 0, 0, 0),
+    (Op::LoopCount, 0, 13, 4),
+    (Op::End, 0, 0, 3),
+    (Op::End, 0, 0, 1),
+    (Op::Number, 0, 0, 0),
+    (Op::LoopCount, 0, 14, 8),
+    (Op::End, 0, 0, 7),
+    (Op::Return, 0, 0, 0),
+];
+
+static TOO_LONG: [Line; 10] = [
+    (Op::Number, 0, 0, 0),
+    (Op::LoopCount, 0, 12, 5),
+    (Op::Number, 0, 0, 0),
+    (Op::LoopCount, 0, 13, 4),
+    (Op::End, 0, 0, 3),
+    (Op::End, 0, 0, 1),
+    (Op::Number, 0, 0, 0),
+    (Op::LoopCount, 0, 15, 8),
+    (Op::End, 0, 0, 7),
+    (Op::Return, 0, 0, 0),
+];
+
+#[test]
+fn keeps_to_the_limit_on_steps(rt: HostRuntime) -> Result<(), Fail> {
+    let alloc = rt.alloc();
+    let plan = (Ambient::Run, Gift::Nothing, false, MOST.as_slice());
+    let line = told_of(alloc, EMPTY, plan, EventCode::ApplicationPreproc, 0)?;
+    assert_eq!(rt;
+        line.as_str(),
+        "1000000000000000 case 0 run 1000000000000000 depth 1 0 0 2"
+    );
+    let plan = (Ambient::Run, Gift::Nothing, false, TOO_LONG.as_slice());
+    let line = told_of(alloc, EMPTY, plan, EventCode::ApplicationPreproc, 0)?;
+    assert_eq!(rt; line.as_str(), "refused 67 0 9");
     Ok(())
 }
 
@@ -194,7 +245,7 @@ static JUMPS_NOWHERE: [Line; 1] = [(Op::Jump, 0, 0, 0)];
 fn tells_the_first_reason(rt: HostRuntime) -> Result<(), Fail> {
     let alloc = rt.alloc();
     let line = told_of_two(alloc, Gift::Nothing, &TOO_LONG, &JUMPS_NOWHERE)?;
-    assert_eq!(rt; line.as_str(), "refused 67 0 18");
+    assert_eq!(rt; line.as_str(), "refused 67 0 9");
     let line = told_of_two(alloc, Gift::Nothing, &LONG, &JUMPS_NOWHERE)?;
     assert_eq!(rt; line.as_str(), "refused 65 1 0");
     let plan = (Ambient::Case, Gift::Nothing, true, LISTS.as_slice());

@@ -6,28 +6,35 @@
 //! - `verify`: whether a program may run with a dictionary; a `Verified` value tells how much it may take.
 //! - `check_jumps`: the rules of jumps and brackets alone, without memory.
 //! - `same_shape`: whether a program was made for a dictionary, without memory.
-//! - `code_start`: where the code of a routine lies.
+//! - `code_start`, `code_starts`: where the code of a routine lies.
+//! - `routine_of`: which routine an event runs.
 #![tactic(auto)]
 
 mod code;
 mod depth;
 mod jumps;
+mod laws;
 mod routines;
 mod shape;
 mod verified;
 mod verifying;
 
-pub use code::code_start;
+pub use code::{code_start, code_starts};
 pub use cse_bounds::STEP_LIMIT;
-pub use cse_typing::{NONE, Refusal};
+pub use cse_typing::{NONE, Refusal, routine_of};
 pub use depth::Depth;
 pub use jumps::check_jumps;
+pub use laws::{first_reason_is_one, upgrade_means_the_same};
 pub use shape::same_shape;
 pub use verified::Verified;
 pub use verifying::verify;
 
 #[cfg(test)]
 mod bound_tests;
+#[cfg(test)]
+mod chain_tests;
+#[cfg(test)]
+mod limit_tests;
 #[cfg(test)]
 mod tests;
 #[cfg(test)]

@@ -6,11 +6,12 @@ ghost use Rattle.cse_typing.specs.Shapes.{shape_of};
 ghost use Rattle.cse_typing.specs.Bracket.{KeepsRules};
 ghost use Rattle.cse_typing.specs.Typed.{IsNowhere, IsOutOfMemory};
 ghost use Rattle.cse_bounds.specs.Bound.{partial, CallsBelow};
+ghost use Rattle.cse_bounds.specs.Limit.{step_limit};
 ghost use Rattle.cse_bounds.specs.Frames.{most_frames};
 ghost use Rattle.cse_verify.specs.FirstFault.{IsFirstFault};
 ghost use Rattle.cse_verify.specs.Measured.{AreMeasured, Exceeds};
 
-use cse_bounds::{STEP_LIMIT, bound_of, frames_of};
+use cse_bounds::{bound_of, frames_of};
 use cse_image::{Code, Program};
 use cse_typing::{Depth as Cells, NONE, Refusal, RoutineCode, Surroundings, check_routine};
 use cse_value::shape::Shape;
@@ -54,9 +55,9 @@ fn add_bound<C: Code>(
 ) -> Result<(), Refusal>
     requires keeps { KeepsRules code.now }
     requires calls { CallsBelow (length bounds.old.items) code.now }
-    requires small { EachIndex bounds.old.items (λ r. slice_index bounds.old.items r ≤ STEP_LIMIT) }
+    requires small { EachIndex bounds.old.items (λ r. slice_index bounds.old.items r ≤ step_limit) }
     ensures added { OnOk result (bounds.new.items ≡ bounds.old.items ++ partial bounds.old.items code.now (length code.now) ∷ []) }
-    ensures small { OnOk result (partial bounds.old.items code.now (length code.now) ≤ STEP_LIMIT) }
+    ensures small { OnOk result (partial bounds.old.items code.now (length code.now) ≤ step_limit) }
     ensures refused { IfErr result (λ e. IsOutOfMemory e ⊎ Exceeds bounds.old.items code.now routine e) }
 {
     match bound_of(code, bounds) {
@@ -111,7 +112,7 @@ pub fn check_routines<C: Code>(
             routine,
         };
         let kept = check_routine(alloc, around, code, start, number, &cells)?;
-        let skeleton = RoutineCode::new(code, &tables.records, start, routine.instructions);
+        let skeleton = RoutineCode::new(code, tables, start, routine.instructions);
         add_bound(&mut bounds, &skeleton, number)?;
         add_frames(&mut frames, &skeleton)?;
         append(&mut cells, kept)?;

@@ -42,6 +42,7 @@ fn parts_of(alloc: Global, lines: &[Line]) -> Result<Parts, AllocError> {
         sets: Vec::new(alloc),
         order: Vec::new(alloc),
         constants: Vec::from_slice(alloc, &[1])?,
+        limits: Vec::from_slice(alloc, &[3])?,
         texts,
         globals: Vec::new(alloc),
         arrays: Vec::new(alloc),
@@ -79,7 +80,7 @@ const JUMPS: [(&[Line], (u8, u32, u32)); 4] = [
     (
         &[
             (Op::Number, 0, 0, 0),
-            (Op::LoopCount, 0, 3, 3),
+            (Op::LoopCount, 0, 0, 3),
             (Op::Jump, 0, 0, 3),
             (Op::End, 0, 0, 1),
             (Op::Return, 0, 0, 0),
@@ -89,7 +90,7 @@ const JUMPS: [(&[Line], (u8, u32, u32)); 4] = [
     (
         &[
             (Op::Number, 0, 0, 0),
-            (Op::LoopCount, 0, 3, 2),
+            (Op::LoopCount, 0, 0, 2),
             (Op::End, 0, 0, 0),
             (Op::Return, 0, 0, 0),
         ],
@@ -98,7 +99,7 @@ const JUMPS: [(&[Line], (u8, u32, u32)); 4] = [
     (
         &[
             (Op::Jump, 0, 0, 2),
-            (Op::LoopCount, 0, 3, 3),
+            (Op::LoopCount, 0, 0, 3),
             (Op::Jump, 0, 0, 3),
             (Op::End, 0, 0, 1),
             (Op::Return, 0, 0, 0),

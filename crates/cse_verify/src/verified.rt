@@ -1,15 +1,19 @@
 //! A program that may run with a dictionary, and how much it may take.
 
-ghost use Rattle.std.specs.Prelude.{◌≡◌, ℕ, ◌<◌, ◌≤◌, length};
+ghost use Rattle.std.specs.Prelude.{◌≡◌, ℕ, ◌<◌, ◌≤◌, List, length};
 ghost use Rattle.cse_bounds.specs.Bound.{bound};
+ghost use Rattle.cse_bounds.specs.Limit.{step_limit};
 ghost use Rattle.cse_bounds.specs.EventBound.{case_bound, run_bound};
-ghost use Rattle.cse_bounds.specs.CaseEvents.{case_events, events_bound, KeepsMost};
+ghost use Rattle.cse_bounds.specs.Calls.{StepsKeepToBound, RestFalls, WalksGoOn, WalksStayInside, RestIsBound, OpensKeepToFrames};
+ghost use Rattle.cse_bounds.specs.CaseEvents.{Moment, case_events, events_bound, KeepsMost, KeepsTimes};
 ghost use Rattle.cse_dict.specs.Dictionary.{shape_of};
+ghost use Rattle.cse_verify.specs.Chain.{Calling, IsChain, KeepsToDepth};
 ghost use Rattle.cse_verify.specs.Depths.{IsDepthOf};
+ghost use Rattle.cse_verify.specs.declared.depth.Depth.{Depth};
 ghost use Rattle.cse_verify.specs.Verified.{MayRun, IsKept};
 
 use crate::depth::Depth;
-use cse_bounds::{STEP_LIMIT, events_keep_to_bound};
+use cse_bounds::{events_keep_to_bound, walks_keep_to_bound};
 use cse_dict::Dictionary;
 use cse_image::{Code, Owned, Program};
 use std::marker::Model;
@@ -85,7 +89,7 @@ impl<'a, C: Code> Verified<'a, C> {
     pub fn steps(&self, routine: u32) -> u64
         requires { routine < length self.now.image.lists.routines }
         ensures value { result ≡ bound self.now.image routine }
-        ensures small { result ≤ STEP_LIMIT }
+        ensures small { result ≤ step_limit }
     {
         self.bounds[routine as usize]
     }
@@ -93,7 +97,7 @@ impl<'a, C: Code> Verified<'a, C> {
     /// The most steps that the events of a case take together.
     pub fn case_steps(&self) -> u64
         ensures value { result ≡ case_bound self.now.image }
-        ensures small { result ≤ STEP_LIMIT }
+        ensures small { result ≤ step_limit }
     {
         self.case_steps
     }
@@ -113,10 +117,34 @@ impl<'a, C: Code> Verified<'a, C> {
     }
 
     /// A law: the events of a case by the program's order, with any numbers of occurrences that its
-    /// records may have, take together at most `case_steps`.
+    /// records may have, take together at most `case_steps`; and so do any events of which none comes
+    /// more often than it may in a case.
     pub fn events_keep_to_case(&self)
-        ensures { (occurrences : ℕ → ℕ) → KeepsMost self.now.image occurrences → events_bound self.now.image (case_events self.now.image occurrences) ≤ case_bound self.now.image }
+        ensures listed { (events : List Moment) → KeepsTimes self.now.image events → events_bound self.now.image events ≤ case_bound self.now.image }
+        ensures case { (occurrences : ℕ → ℕ) → KeepsMost self.now.image occurrences → events_bound self.now.image (case_events self.now.image occurrences) ≤ case_bound self.now.image }
     {
         events_keep_to_bound(self.program());
+    }
+
+    /// A law: all calls at one time, of which each but the innermost waits at a call of the one before
+    /// it, keep together no more numbers, texts, ordinals and open brackets than `depth` says. A call
+    /// keeps its locals and its stack; one that waits, the stack without the arguments.
+    pub fn calls_keep_to_depth(&self)
+        ensures { (calls : List Calling) (d : Depth) → IsChain (shape_of self.now.dictionary) self.now.image calls → IsDepthOf (shape_of self.now.dictionary) self.now.image d → KeepsToDepth self.now.image calls d }
+    {
+        let _may_run = self.program();
+    }
+
+    /// A law: the steps that a call of a routine takes are at most `steps` tells, whatever its operands
+    /// decide. What each clause says stands at `walks_keep_to_bound` of `cse_bounds`.
+    pub fn walks_keep_to_steps(&self)
+        ensures steps { StepsKeepToBound self.now.image }
+        ensures falls { RestFalls self.now.image }
+        ensures begins { RestIsBound self.now.image }
+        ensures goes_on { WalksGoOn self.now.image }
+        ensures inside { WalksStayInside self.now.image }
+        ensures frames { OpensKeepToFrames self.now.image }
+    {
+        walks_keep_to_bound(self.program());
     }
 }

@@ -18,8 +18,8 @@ use std::alloc::Global;
 
 /// The verified program, where it may run with the dictionary (own): it has the dictionary's shape; each
 /// routine keeps the rules of jumps and brackets, each instruction may stand in it, one abstract stack
-/// fits each place, and a call of it takes at most 10^12 steps; the order names each record once, each
-/// event fits, and the events of a case take at most 10^12 steps. Else the first reason against it: 68;
+/// fits each place, and a call of it takes at most 10^15 steps; the order names each record once, each
+/// event fits, and the events of a case take at most 10^15 steps. Else the first reason against it: 68;
 /// then by routine, from 0, 65, at the least place 69 or 66, and 67 at the least place at which the sum
 /// of steps passes the limit; then 69, and then 67, with no routine and no place. 90 where memory runs
 /// out. A program that is refused is given up.

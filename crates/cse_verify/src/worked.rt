@@ -136,6 +136,12 @@ fn codes_of(alloc: Global, plans: &[Plan<'_>], events: &[EventEntry]) -> Result<
     Ok((heads, code, events))
 }
 
+/// The limits of counted loops.
+const LIMITS: [u32; 16] = [
+    10, 3, 65534, 65535, 32768, 4, 10000, 9999, 9997, 9996, 9993, 9994, 999999, 999999997,
+    999999995, 999999996,
+];
+
 /// A program for the dictionary.
 pub fn parts_of(
     alloc: Global,
@@ -154,6 +160,7 @@ pub fn parts_of(
         sets,
         order,
         constants,
+        limits: Vec::from_slice(alloc, &LIMITS)?,
         texts: Vec::new(alloc),
         globals: Vec::new(alloc),
         arrays,

@@ -33,7 +33,7 @@ overflow_add-lines g c =
     let inv = c.cases.invariant in
     let s = inv.copying.so_far in
     let next = rw c.in-Ok-Some.field-0-is at (c.in-Ok-Some.ensures.next inv.sound) in
-    omega (arith, s.lines_are, next.lines, c.in-Ok-Some.ensures.few inv.sound, c.lines-lines.ensures)
+    omega (arith, s.lines_are, next.lines, c.in-Ok-Some.ensures.few inv.sound, c.lines-lines.ensures.lines)
 
 pub overflow_add-unseen : goal.overflow_add-unseen
 overflow_add-unseen g c =
@@ -56,6 +56,7 @@ returns-then-gatherer-clause-err g c =
       end = c.next.new.self.end;
       gathers = c.put_to.ensures _ _ inv.copying.text inv.copying.gathers;
       faulty = λ low. absurd (omega arith);
+      all = λ low. absurd (omega arith);
       needed = λ e. absurd (omega arith);
       reading = λ e. absurd (omega arith);
       writing = λ e. c.if-gatherer.true;
@@ -82,7 +83,7 @@ cases-preserved g c =
     record {
       copying = record {
         text = inv.copying.text ++ written_run c.in-Ok-Some.case.run;
-        so_far = rw (c.from-cases.ensures ∙ byte_is _, c.lines-lines.ensures, c.unseen.ensures) more;
+        so_far = rw (c.from-cases.ensures ∙ byte_is _, c.lines-lines.ensures.lines, c.unseen.ensures) more;
         gathers = c.put_to.ensures _ _ inv.copying.text inv.copying.gathers;
       };
       sound = c.in-Ok-Some.ensures.ok;

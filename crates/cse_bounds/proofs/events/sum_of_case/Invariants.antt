@@ -1,7 +1,7 @@
 use Rattle.std.proofs.Common.{◌≡◌, ◌*◌, ◌≤◌, take}
 use Rattle.std.specs.Prelude.{sum_by, slice_index}
 use Rattle.cse_parts.specs.Image.{lists_of}
-use Rattle.cse_bounds.specs.declared.limits.TheConstants.{STEP_LIMIT}
+use Rattle.cse_bounds.specs.Limit.{step_limit}
 use Rattle.cse_bounds.specs.EventBound.{times_in_case}
 use Rattle.cse_bounds.proofs.events.sum_of_case.Given as goal
 
@@ -9,5 +9,5 @@ use Rattle.cse_bounds.proofs.events.sum_of_case.Given as goal
 abbrev pub invariant-events : goal.invariant-events
 invariant-events l = record {
   total_is : l.total ≡ sum_by (λ e. times_in_case (lists_of l.tables) e.code e.index * slice_index l.bounds e.routine) (take l.event-index l.event-items);
-  small : l.total ≤ STEP_LIMIT;
+  small : l.total ≤ step_limit;
 }

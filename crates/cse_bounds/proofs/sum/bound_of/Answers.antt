@@ -1,5 +1,5 @@
 use Rattle.std.proofs.Common.{◌≤◌, sym, ◌∙◌, subst}
-use Rattle.cse_bounds.specs.declared.limits.TheConstants.{STEP_LIMIT}
+use Rattle.cse_bounds.specs.Limit.{step_limit}
 use Rattle.cse_bounds.proofs.WeightLaws.{some_weights_at, top_weight}
 use Rattle.cse_bounds.proofs.SumLaws.{at_start, too_heavy, too_long, at_next}
 use Rattle.cse_bounds.proofs.sum.bound_of.Goals as goal
@@ -10,14 +10,14 @@ places-init g c = at_start _ _ _ c.new-weights.ensures
 pub top-weight-requires : goal.top-weight-requires
 top-weight-requires g c = some_weights_at _ _ _ c.places.invariant.weights_are
 
-pub returns-then-weight-gt-STEP_LIMIT-clause-too_long : goal.returns-then-weight-gt-STEP_LIMIT-clause-too_long
-returns-then-weight-gt-STEP_LIMIT-clause-too_long g c = too_heavy _ _ _ _ _ _ _ c.places.invariant (sym c.at.ensures ∙ c.in-Some.is) c.top-weight.ensures c.if-weight-gt-STEP_LIMIT.true
+pub returns-then-weight-clause-too_long : goal.returns-then-weight-clause-too_long
+returns-then-weight-clause-too_long g c = too_heavy _ _ _ _ _ _ _ c.places.invariant (sym c.at.ensures ∙ c.in-Some.is) c.top-weight.ensures c.if-weight.true
 
 pub returns-then-sum-clause-too_long : goal.returns-then-sum-clause-too_long
 returns-then-sum-clause-too_long g c = too_long _ _ _ _ _ _ _ _ c.places.invariant (sym c.at.ensures ∙ c.in-Some.is) c.top-weight.ensures c.cost_of.ensures.value c.if-sum.true
 
 pub pass-requires-clause-small : goal.pass-requires-clause-small
-pass-requires-clause-small g c = let heavy = top_weight _ _ _ _ c.places.invariant.weights_are c.top-weight.ensures in let small = c.if-weight-gt-STEP_LIMIT.false in subst (λ n. n ≤ STEP_LIMIT) heavy small
+pass-requires-clause-small g c = let heavy = top_weight _ _ _ _ c.places.invariant.weights_are c.top-weight.ensures in let small = c.if-weight.false in subst (λ n. n ≤ step_limit) heavy small
 
 pub places-preserved : goal.places-preserved
 places-preserved g c = at_next _ _ _ _ _ _ _ _ _ c.places.invariant (sym c.at.ensures ∙ c.in-Some.is) c.top-weight.ensures c.cost_of.ensures.value c.if-sum.false c.pass.ensures

@@ -1,5 +1,5 @@
 use Rattle.std.proofs.Common.{◌<◌, ◌≤◌, ◌^◌, arith, rules}
-use Rattle.cse_bounds.specs.declared.limits.TheConstants.{STEP_LIMIT}
+use Rattle.cse_bounds.specs.Limit.{step_limit}
 use Rattle.cse_bounds.proofs.WeightLaws.{small_product, some_weights_at, top_weight, room_for_weight, weights_open, weights_end, weights_plain}
 use Rattle.cse_bounds.proofs.sum.pass.Goals as goal
 
@@ -8,9 +8,9 @@ top-weight-requires g c = some_weights_at _ _ _ c.requires.weights
 
 pub overflow_mul-limit : goal.overflow_mul-limit
 overflow_mul-limit g c =
-    let few : c.in-Open.limit < 2 ^ 16 = omega arith in
+    let few : c.in-Open.limit < 2 ^ 32 = omega arith in
     let heavy = top_weight _ _ _ _ c.requires.weights c.top-weight.ensures in
-    let small : c.top-weight.result ≤ STEP_LIMIT = let s = c.requires.small in omega arith in
+    let small : c.top-weight.result ≤ step_limit = let s = c.requires.small in omega arith in
     let fits = small_product c.in-Open.limit c.top-weight.result few small in
     search rules
 

@@ -5,4 +5,4 @@ use Rattle.cse_image.specs.Reading.{instr_at}
 use Rattle.cse_image.proofs.view.view_code.Given as goal
 
 abbrev pub invariant-loop : goal.invariant-loop
-invariant-loop l = (xs : List Instr) × (each instr_at l.counter l.bytes ≡ Ok (xs, l.rest))
+invariant-loop l = (xs : List Instr) × (each (instr_at l.version) l.counter l.bytes ≡ Ok (xs, l.rest))

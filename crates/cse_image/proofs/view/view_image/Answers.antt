@@ -1,10 +1,11 @@
 use Rattle.std.proofs.Common.{arith}
 use Rattle.cse_parts.specs.Image.{image_with}
+use Rattle.cse_image.proofs.Upgrades.{standing_fits}
 use Rattle.cse_image.proofs.Whole.{reading_found, reading_only, stopped_only}
 use Rattle.cse_image.proofs.view.view_image.Goals as goal
 
 pub with-requires : goal.with-requires
-with-requires c = (reading_found c.args.bytes.now (image_with c.in-Ok.tables c.in-Ok.code) (λ i. omega (arith, c.type_inv.bytes i)) c.in-Ok.ensures).fits
+with-requires c = let x = image_with c.in-Ok.tables c.in-Ok.code in standing_fits x c.args.bytes.now (reading_found c.args.bytes.now x (λ i. omega (arith, c.type_inv.bytes i)) c.in-Ok.ensures)
 
 pub returns-in-Ok-clause-found : goal.returns-in-Ok-clause-found
 returns-in-Ok-clause-found c = rw c.with.ensures (reading_found c.args.bytes.now (image_with c.in-Ok.tables c.in-Ok.code) (λ i. omega (arith, c.type_inv.bytes i)) c.in-Ok.ensures)

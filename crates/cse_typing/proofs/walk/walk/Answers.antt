@@ -1,7 +1,8 @@
 use Rattle.std.proofs.Common.{◌≡◌, refl, List, ap, sym, ◌∙◌, subst, arith, suc, Some, length}
 use Rattle.std.specs.Prelude.{slice_get}
-use Rattle.cse_value.specs.declared.shape.RecordShape.{RecordShape}
 use Rattle.cse_typing.specs.declared.control.Control.{Control}
+use Rattle.cse_typing.specs.declared.piles.Entry.{Entry}
+use Rattle.cse_typing.proofs.Few.{none_few, greater_few, more_few}
 use Rattle.cse_typing.specs.Code.{part}
 use Rattle.cse_typing.specs.Skeleton.{control, skeleton}
 use Rattle.cse_typing.specs.Bracket.{around, KeepsRulesAt, IsNestedBelow}
@@ -18,6 +19,8 @@ places-init g c =
       passed = passed_start (scene_in c.args.around) c.args.number code c.args.around.routine.now.instructions _ _ _ c.new-openers.ensures c.new-piles.ensures c.requires.known
           (sym (length-part c.args.start c.args.around.routine.now.instructions (g.C.Code.list c.args.code.now) c.requires.within));
       deep = deep_start (scene_in c.args.around) c.args.smaller.now code _ refl;
+      stacks = (let none = ap (λ (t : List Entry). length t) c.new-piles.ensures in omega arith);
+      few = none_few _;
     }
 
 pub returns-then-not-may_stand-clause-judges : goal.returns-then-not-may_stand-clause-judges
@@ -40,7 +43,7 @@ returns-then-not-branch-clause-judges g c =
     let place = c.places.place in
     let i = c.at-instr.result in
     let there = part_at c.args.start size list place c.places-test.true ∙ c.at-instr.ensures in
-    let is = c.control_of-control.ensures ∙ ap (λ (l : List RecordShape). control l i) c.deref-in-places.ensures.value in
+    let is = c.control_of-control.ensures in
     let stands = sym c.may_stand.ensures ∙ c.if-not-may_stand.false in
     stops_stack s c.args.number code place i c.places.openers c.places.piles c.places.known c.places.invariant.passed there stands
     (stuck_is s c.args.number code place i c.places.openers c.control_of-control.result c.is_in_loop-in_loop.result c.in_ok-turn.field-0 _ _ c.places.invariant.passed.openers_are is c.is_in_loop-in_loop.ensures c.in_ok-turn.ensures.turn c.if-not-branch.true)
@@ -54,9 +57,9 @@ pass-requires-clause-there g c =
     let place = c.places.place in
     let i = c.at-instr.result in
     let there = part_at c.args.start size list place c.places-test.true ∙ c.at-instr.ensures in
-    let is = c.control_of-control.ensures ∙ ap (λ (l : List RecordShape). control l i) c.deref-in-places.ensures.value in
+    let is = c.control_of-control.ensures in
     let stands = sym c.may_stand.ensures ∙ c.if-not-may_stand.false in
-    let skel = c.new-skeleton.ensures ∙ ap (λ (l : List RecordShape). skeleton l code) c.deref.ensures.value in
+    let skel = c.new-skeleton.ensures in
     subst (λ (k : List Control). slice_get k place ≡ Some c.control_of-control.result) (sym skel) (control_there s c.args.number code place i c.control_of-control.result there is)
 
 pub pass-requires-clause-fine : goal.pass-requires-clause-fine
@@ -68,9 +71,9 @@ pass-requires-clause-fine g c =
     let place = c.places.place in
     let i = c.at-instr.result in
     let there = part_at c.args.start size list place c.places-test.true ∙ c.at-instr.ensures in
-    let is = c.control_of-control.ensures ∙ ap (λ (l : List RecordShape). control l i) c.deref-in-places.ensures.value in
+    let is = c.control_of-control.ensures in
     let stands = sym c.may_stand.ensures ∙ c.if-not-may_stand.false in
-    let skel = c.new-skeleton.ensures ∙ ap (λ (l : List RecordShape). skeleton l code) c.deref.ensures.value in
+    let skel = c.new-skeleton.ensures in
     subst (λ (k : List Control). KeepsRulesAt k place) (sym skel) (keeps_there s c.args.number code place c.control_of-control.result c.requires.brackets (control_there s c.args.number code place i c.control_of-control.result there is))
 
 pub pass-requires-clause-nested : goal.pass-requires-clause-nested
@@ -82,9 +85,9 @@ pass-requires-clause-nested g c =
     let place = c.places.place in
     let i = c.at-instr.result in
     let there = part_at c.args.start size list place c.places-test.true ∙ c.at-instr.ensures in
-    let is = c.control_of-control.ensures ∙ ap (λ (l : List RecordShape). control l i) c.deref-in-places.ensures.value in
+    let is = c.control_of-control.ensures in
     let stands = sym c.may_stand.ensures ∙ c.if-not-may_stand.false in
-    let skel = c.new-skeleton.ensures ∙ ap (λ (l : List RecordShape). skeleton l code) c.deref.ensures.value in
+    let skel = c.new-skeleton.ensures in
     subst (λ (k : List Control). IsNestedBelow k place) (sym skel) (nested_there s c.args.number code place c.control_of-control.result c.requires.brackets (control_there s c.args.number code place i c.control_of-control.result there is))
 
 pub pass-requires-clause-openers : goal.pass-requires-clause-openers
@@ -96,9 +99,9 @@ pass-requires-clause-openers g c =
     let place = c.places.place in
     let i = c.at-instr.result in
     let there = part_at c.args.start size list place c.places-test.true ∙ c.at-instr.ensures in
-    let is = c.control_of-control.ensures ∙ ap (λ (l : List RecordShape). control l i) c.deref-in-places.ensures.value in
+    let is = c.control_of-control.ensures in
     let stands = sym c.may_stand.ensures ∙ c.if-not-may_stand.false in
-    let skel = c.new-skeleton.ensures ∙ ap (λ (l : List RecordShape). skeleton l code) c.deref.ensures.value in
+    let skel = c.new-skeleton.ensures in
     c.places.invariant.passed.openers_are ∙ ap (λ (k : List Control). around k place) (sym skel)
 
 pub places-preserved : goal.places-preserved
@@ -110,15 +113,18 @@ places-preserved g c =
     let place = c.places.place in
     let i = c.at-instr.result in
     let there = part_at c.args.start size list place c.places-test.true ∙ c.at-instr.ensures in
-    let is = c.control_of-control.ensures ∙ ap (λ (l : List RecordShape). control l i) c.deref-in-places.ensures.value in
+    let is = c.control_of-control.ensures in
     let stands = sym c.may_stand.ensures ∙ c.if-not-may_stand.false in
-    let skel = c.new-skeleton.ensures ∙ ap (λ (l : List RecordShape). skeleton l code) c.deref.ensures.value in
+    let skel = c.new-skeleton.ensures in
     record {
       passed = passed_more s c.args.number code place i c.places.openers c.pass.new.openers c.places.piles c.turn.new.piles c.places.known c.turn.new.known c.places.invariant.passed there stands
           (went_is s c.args.number code place i c.places.openers c.control_of-control.result c.is_in_loop-in_loop.result c.in_ok-turn.field-0 _ _ c.places.invariant.passed.openers_are is c.is_in_loop-in_loop.ensures c.in_ok-turn.ensures.turn c.if-not-branch.false)
           c.turn.ensures.within (c.pass.ensures ∙ ap (λ (k : List Control). around k (suc place)) skel);
-      deep = deep_more s c.args.smaller.now code c.args.number place i c.places.openers c.places.piles c.places.known c.expected_at-there.result c.places.most c.in-Some.kept c.greater-most.result c.places.invariant.passed there
-          c.expected_at-there.ensures c.in-Some.ensures c.greater-most.ensures c.places.invariant.deep;
+      deep = deep_more s c.args.smaller.now code c.args.number place i c.places.openers c.places.piles c.places.known c.expected_at-there.result c.places.most c.place_depth-kept.result c.greater-most.result c.places.invariant.passed there
+          c.expected_at-there.ensures c.place_depth-kept.ensures.value c.greater-most.ensures c.places.invariant.deep;
+      stacks = (let before = c.places.invariant.stacks in let one = c.turn.ensures.one in omega arith);
+      few = (let before = c.places.invariant.stacks in let lt = c.places-test.true in
+          greater_few _ _ _ _ c.greater-most.ensures c.places.invariant.few (more_few _ _ _ (omega arith) c.place_depth-kept.ensures.few));
     }
 
 pub returns-clause-judges : goal.returns-clause-judges

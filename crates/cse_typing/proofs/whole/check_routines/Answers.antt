@@ -4,15 +4,32 @@ use Rattle.cse_parts.specs.declared.instruction.Instr.{Instr}
 use Rattle.cse_parts.specs.Image.{lists_of, routine_lists}
 use Rattle.cse_typing.specs.Code.{part}
 use Rattle.cse_typing.proofs.CodeLaws.{routine_at, lies_within, part_is, start_next, routines_are}
+use Rattle.cse_typing.proofs.Few.{none_kept}
+use Rattle.cse_typing.proofs.Fitting.{routine_small}
 use Rattle.cse_typing.proofs.TypedLaws.{routine_typed, typed_more, refuses_here, handed_on}
 use Rattle.cse_typing.proofs.whole.check_routines.Goals as goal
 
-pub check_routine-requires : goal.check_routine-requires
-check_routine-requires g c =
+pub check_routine-requires-clause-within : goal.check_routine-requires-clause-within
+check_routine-requires-clause-within g c =
     let there = routine_at c.args.program.now c.tables-tables.result.now c.deref-routine-items.result.now c.loop-routine.routine-index c.routine-item.result
     c.deref-routine-items.ensures.value c.tables-tables.ensures.lists c.loop-routine-test.true c.routine-item.is in
     let within = lies_within c.args.program.now c.loop-routine.routine-index c.loop-routine.start (routine_lists c.routine-item.result) c.tables-tables.ensures.fits.count there c.loop-routine.invariant.start_is in
-    record { within = omega (arith, within, ap (λ (l : List Instr). length l) c.code-code.ensures) }
+    omega (arith, within, ap (λ (l : List Instr). length l) c.code-code.ensures)
+
+pub check_routine-requires-clause-few : goal.check_routine-requires-clause-few
+check_routine-requires-clause-few g c = λ r d at. none_kept r d at
+
+pub check_routine-requires-clause-locals : goal.check_routine-requires-clause-locals
+check_routine-requires-clause-locals g c =
+    let there = routine_at c.args.program.now c.tables-tables.result.now c.deref-routine-items.result.now c.loop-routine.routine-index c.routine-item.result
+    c.deref-routine-items.ensures.value c.tables-tables.ensures.lists c.loop-routine-test.true c.routine-item.is in
+    (routine_small c.args.program.now c.loop-routine.routine-index (routine_lists c.routine-item.result) c.tables-tables.ensures.fits there).locals
+
+pub check_routine-requires-clause-size : goal.check_routine-requires-clause-size
+check_routine-requires-clause-size g c =
+    let there = routine_at c.args.program.now c.tables-tables.result.now c.deref-routine-items.result.now c.loop-routine.routine-index c.routine-item.result
+    c.deref-routine-items.ensures.value c.tables-tables.ensures.lists c.loop-routine-test.true c.routine-item.is in
+    (routine_small c.args.program.now c.loop-routine.routine-index (routine_lists c.routine-item.result) c.tables-tables.ensures.fits there).size
 
 pub returns-in_err-check_routine-clause-refused : goal.returns-in_err-check_routine-clause-refused
 returns-in_err-check_routine-clause-refused g c =

@@ -2,6 +2,8 @@ use Rattle.std.proofs.Common.{◌≡◌, length, ap, sym, ◌∙◌, arith}
 use Rattle.std.proofs.lemmas.List.{length-map}
 use Rattle.cse_lines.specs.Laid.{laid_line}
 use Rattle.cse_lines.proofs.LaidLaws.{laid_within}
+use Rattle.cse_case.proofs.FieldLaws.{short_field}
+use Rattle.cse_case.proofs.SetLaws.{text_short}
 use Rattle.cse_case.proofs.case.Case.columns_at.Goals as goal
 
 pub line_columns-requires : goal.line_columns-requires
@@ -9,3 +11,13 @@ line_columns-requires c =
     let v = c.self.inside in
     let len : length c.args.self.now.run.lines ≡ length v.lines.items = ap (λ x. length x.run.lines) (sym c.self.view_is) ∙ length-map v.lines.items (laid_line v.columns.items) in
     rw c.deref.ensures.value (laid_within 0 v.columns.items v.lines.items c.args.place c.index-line.result.now c.self.invariant.laid (omega (arith, c.requires.place)) c.index-line.ensures)
+
+pub returns-clause-text : goal.returns-clause-text
+returns-clause-text c = λ text.
+    omega (
+      arith,
+      ap length c.field_of.ensures,
+      short_field c.item.result.now c.line_columns.result.now,
+      ap (λ i. i.len) c.item.ensures.item,
+      text_short c.args.self.now c.args.item c.item.ensures.sound c.requires.item text,
+    )

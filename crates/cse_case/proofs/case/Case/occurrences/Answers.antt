@@ -7,6 +7,7 @@ use Rattle.cse_case.proofs.CaseLaws.{types_laid}
 use Rattle.cse_case.proofs.case.Case.occurrences.Goals as goal
 
 pub returns : goal.returns
+unfolding places_of
 returns c =
     let v = c.self.inside in
     let records = (shape_of v.dictionary.now).records in

@@ -1,8 +1,15 @@
-use Rattle.std.proofs.Common.{ap, ◌∙◌, subst, Ok, Some}
+use Rattle.std.proofs.Common.{◌≡◌, ap, ◌∙◌, subst, None, Ok, Some, arith, rules}
 use Rattle.cse_lines.specs.Reader.{ReaderText}
 use Rattle.cse_case.specs.Reading.{NextCase}
-use Rattle.cse_case.proofs.ReadLaws.{next_case}
+use Rattle.std.proofs.lemmas.Grind.{common_steps}
+use Rattle.cse_case.proofs.ReadLaws.{next_case, run_wide}
 use Rattle.cse_case.proofs.stream.CaseStream.next.Goals as goal
+
+pub case_of-requires-clause-wide : goal.case_of-requires-clause-wide
+case_of-requires-clause-wide g c =
+    let none : c.self.inside.error ≡ None = first_of (search rules, grind (arith, common_steps)) in
+    let next = rw c.in-Ok-Some.field-0-is at (c.in-Ok-Some.ensures.next (c.self.invariant.sound none)) in
+    run_wide _ _ _ _ _ _ _ c.in-Ok-Some.run' next.answers c.self.invariant.same
 
 pub returns-in-Ok-clause-next : goal.returns-in-Ok-clause-next
 returns-in-Ok-clause-next g c = λ none.

@@ -1,0 +1,12 @@
+use Rattle.std.proofs.Common.{rules}
+use Rattle.cse_case.proofs.FitLaws.{some_from, wide_from}
+use Rattle.cse_case.proofs.case.Case.new.Goals as goal
+
+pub invariant_of-result : goal.invariant_of-result
+invariant_of-result c = record {
+  some = some_from c.args.run _ _ c.into_parts-columns.ensures.lines c.requires.some;
+  wide = wide_from _ c.args.run _ _ c.into_parts-columns.ensures.lines c.into_parts-columns.ensures.laid c.requires.wide;
+  laid = c.into_parts-columns.ensures.laid;
+  table = search rules;
+  unseen_are = search rules;
+}

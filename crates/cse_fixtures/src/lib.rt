@@ -1,0 +1,9 @@
+//! What the tests of several crates make: programs, and writers that fail. Only tests use it.
+//!
+//! - `outline`: the sections of a program as slices, so that a test is a table of constants, and the parts
+//!   that they describe.
+//! - `device`: a writer that takes few bytes in a call, fails at a call, or takes none at one.
+#![tactic(auto)]
+
+pub mod device;
+pub mod outline;

@@ -1,0 +1,2 @@
+mod MessageLaws
+mod OrderLaws

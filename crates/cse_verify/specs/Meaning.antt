@@ -1,0 +1,29 @@
+-- When two programs are one for the verifier, whatever the dictionary.
+use Rattle.std.specs.Prelude.{◌≡◌, ◌≤◌, ℕ, ◌↔◌}
+use Rattle.cse_value.specs.Shape.{ShapeLists}
+use Rattle.cse_parts.specs.declared.version.Version.TheVariants as versions
+use Rattle.cse_parts.specs.Image.{Image, RoutineLists}
+use Rattle.cse_parts.specs.Upgrade.{upgrade, as_it_stands}
+use Rattle.cse_image.specs.Spelling.{FitsIn}
+use Rattle.cse_typing.specs.Code.{code_of}
+use Rattle.cse_typing.specs.Skeleton.{skeleton_of}
+use Rattle.cse_typing.specs.Rule.{rule}
+use Rattle.cse_typing.specs.Typing.{Stacks, IsTypingBelow}
+use Rattle.cse_typing.specs.Typed.{scene_of, IsTyped}
+use Rattle.cse_bounds.specs.Bound.{bound}
+use Rattle.cse_bounds.specs.EventBound.{case_bound}
+use Rattle.cse_verify.specs.declared.depth.Depth.{Depth}
+use Rattle.cse_verify.specs.Depths.{IsDepthOf}
+
+pub record MeansSame (x y : Image) : Type 0 where
+  pub skeletons : (r : ℕ) → skeleton_of x r ≡ skeleton_of y r
+  pub typings : (s : ShapeLists) (r n : ℕ) (z : RoutineLists) (t : Stacks)
+      → IsTypingBelow (rule (scene_of s x z) (code_of x r)) (code_of x r) n t ↔ IsTypingBelow (rule (scene_of s y z) (code_of y r)) (code_of y r) n t
+  pub typed : (s : ShapeLists) → IsTyped s x ↔ IsTyped s y
+  pub bounds : (r : ℕ) → bound x r ≡ bound y r
+  pub cases : case_bound x ≡ case_bound y
+  pub depths : (s : ShapeLists) (d : Depth) → IsDepthOf s x d ↔ IsDepthOf s y d
+
+-- the upgrade of a program that fits version 1 is, for the verifier, the program whose code stands as it is
+abbrev pub UpgradeMeansSame : Type 0
+UpgradeMeansSame = (x : Image) → FitsIn versions.One x → MeansSame (upgrade x) (as_it_stands x)
