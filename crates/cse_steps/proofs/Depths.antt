@@ -53,7 +53,7 @@ module _ (v : VerifiedProgram) (sound : IsVerified v) (n : ℕ → ℕ) (has_cas
   kept_one : (c : Call) (y : RoutineLists) (stack kinds : List Kind) (place : ℕ) → IsAt v n has_case c y stack → AllFit n kinds c.cells → kept_by v.image (record { routine = c.routine; place = place; kinds = kinds }) ≡ cells_of c.locals ⊕ cells_of c.cells
   kept_one c y stack kinds place s f =
       let a : locals_at v.image.lists.routines c.routine ≡ cells_of c.locals =
-        ap (λ o. option_map_or (λ (z : RoutineLists). locals_depth z.locals) o no_depth) s.routine ∙ counted n (map local_kind y.locals) c.locals s.locals in
+      ap (λ o. option_map_or (λ (z : RoutineLists). locals_depth z.locals) o no_depth) s.routine ∙ counted n (map local_kind y.locals) c.locals s.locals in
       ap (λ d. d ⊕ count_of kinds) a ∙ ap (λ d. cells_of c.locals ⊕ d) (counted n kinds c.cells f)
 
   open_one : (c : Call) (y : RoutineLists) (stack : List Kind) → IsAt v n has_case c y stack → length (around (skeleton_of v.image c.routine) c.place) ≡ length c.opens
@@ -78,14 +78,21 @@ module _ (v : VerifiedProgram) (sound : IsVerified v) (n : ℕ → ℕ) (has_cas
       let call : Calling = record { routine = c.routine; place = b.at; kinds = w.1 } in
       record {
         chain = call ∷ t.chain;
-        waits = (record {
-          stands = record { routine = w.0; there = s.routine; stacks = s.stacks; typing = s.typing; within = at_low };
-          instr = b.instr; at = b.there; is_call = b.is_call; callee_is = b.callee_is; kinds = b.left;
-        }, t.waits);
+        waits = (
+          record {
+            stands = record { routine = w.0; there = s.routine; stacks = s.stacks; typing = s.typing; within = at_low };
+            instr = b.instr;
+            at = b.there;
+            is_call = b.is_call;
+            callee_is = b.callee_is;
+            kinds = b.left;
+          },
+          t.waits,
+        );
         kept = ap (λ d. d ⊕ kept_in v.image t.chain) (kept_one c w.0 (gift ++ w.1) w.1 b.at s w.3) ∙ ap (λ d. (cells_of c.locals ⊕ cells_of c.cells) ⊕ d) t.kept;
         opened =
-        ap (λ m. m + open_in v.image t.chain) (ap length (sym (around_call c w.0 (gift ++ w.1) w.1 s.stacks callee s b)) ∙ open_one c w.0 (gift ++ w.1) s)
-        ∙ ap (λ m. length c.opens + m) t.opened;
+            ap (λ m. m + open_in v.image t.chain) (ap length (sym (around_call c w.0 (gift ++ w.1) w.1 s.stacks callee s b)) ∙ open_one c w.0 (gift ++ w.1) s)
+            ∙ ap (λ m. length c.opens + m) t.opened;
       }
 
   pub keeps : (s : State) (d : Depth) → CallsFit v n has_case s.calls → ((calls : List Calling) → IsChain (shape_of v.dictionary) v.image calls → KeepsToDepth v.image calls d) → KeepsDepth s d

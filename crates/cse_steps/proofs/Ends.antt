@@ -116,8 +116,15 @@ module _ (v : VerifiedProgram) (sound : IsVerified v) (falls : RestFalls v.image
   pub event_ends : EndsWithin v m case store
   event_ends =
       let t = by_entry (find (is_of m.event) v.image.lists.events) refl in
-      record { steps = t.steps; state = t.state; runs = t.runs; ended = t.ended; within = t.within; each = λ k u e. events_go_well v sound m case store k u fit e;
-        depth = λ k u d e is_depth. keeps v sound (occurrences_in case) (is_some case) u d (events_go_well v sound m case store k u fit e).fits.calls (λ calls is. depth_law calls d is is_depth) }
+      record {
+        steps = t.steps;
+        state = t.state;
+        runs = t.runs;
+        ended = t.ended;
+        within = t.within;
+        each = λ k u e. events_go_well v sound m case store k u fit e;
+        depth = λ k u d e is_depth. keeps v sound (occurrences_in case) (is_some case) u d (events_go_well v sound m case store k u fit e).fits.calls (λ calls is. depth_law calls d is is_depth);
+      }
 
 pub all_keep_rules : (v : VerifiedProgram) → MayRun v → AllKeepRules v.image
 all_keep_rules v may r low =
