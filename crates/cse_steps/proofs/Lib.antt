@@ -12,3 +12,5 @@ pub mod Inner
 pub mod Safety
 pub mod First
 pub mod Runs
+pub mod Depths
+pub mod Ends

@@ -5,5 +5,7 @@ pub mod Operands
 pub mod Step
 pub mod Run
 pub mod Fits
+pub mod Walks
+pub mod Depth
 pub mod Laws
 pub mod Worked

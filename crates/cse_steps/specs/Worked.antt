@@ -18,7 +18,8 @@ use Rattle.cse_steps.specs.Cell.{Cell, Index, Words}
 use Rattle.cse_steps.specs.State.{Open, Call, State}
 use Rattle.cse_steps.specs.Operands.{arguments_taken}
 use Rattle.cse_steps.specs.Step.{current}
-use Rattle.cse_steps.specs.Run.{moment, first, run}
+use Rattle.cse_bounds.specs.CaseEvents.{moment}
+use Rattle.cse_steps.specs.Run.{first, run}
 
 -- a dictionary with one record, of which a case has at most 30
 abbrev pub persons : DictionaryText
@@ -49,6 +50,7 @@ program constants code = record {
       sets = [];
       order = 0 ∷ [];
       constants = constants;
+      limits = 10 ∷ [];
       texts = [];
       globals = [];
       arrays = [];
@@ -80,7 +82,7 @@ places_after steps constants code people = option_map (λ s. map (λ c. (c.place
 -- two loops: each person, and in it ten turns that a break ends where there are more than two persons
 abbrev pub loops : List Instr
 loops =
-    instr ops.LoopOccurrences 0 0 9 ∷ instr ops.Number 0 0 0 ∷ instr ops.LoopCount 0 10 8 ∷ instr ops.TotalOccurrences 0 0 0 ∷ instr ops.Number 0 0 1 ∷ instr ops.Compare 4 0 0
+    instr ops.LoopOccurrences 0 0 9 ∷ instr ops.Number 0 0 0 ∷ instr ops.LoopCount 0 0 8 ∷ instr ops.TotalOccurrences 0 0 0 ∷ instr ops.Number 0 0 1 ∷ instr ops.Compare 4 0 0
     ∷ instr ops.JumpUnless 0 0 8 ∷ instr ops.Break 0 0 8 ∷ instr ops.End 0 0 2 ∷ instr ops.End 0 0 0 ∷ instr ops.Return 0 0 0 ∷ []
 
 -- an index of size 10, or to the last place
@@ -89,7 +91,7 @@ index_of_ten = instr ops.Number 0 0 0 ∷ instr ops.Index 0 10 3 ∷ instr ops.P
 
 -- a return within a loop
 abbrev pub returns_within : List Instr
-returns_within = instr ops.Number 0 0 0 ∷ instr ops.LoopCount 0 10 3 ∷ instr ops.Return 0 0 0 ∷ instr ops.End 0 0 1 ∷ instr ops.Return 0 0 0 ∷ []
+returns_within = instr ops.Number 0 0 0 ∷ instr ops.LoopCount 0 0 3 ∷ instr ops.Return 0 0 0 ∷ instr ops.End 0 0 1 ∷ instr ops.Return 0 0 0 ∷ []
 
 -- a loop that counts within one over occurrences, the second of them
 abbrev pub inner_count : List Open

@@ -1,8 +1,11 @@
 //! Laws of steps and runs.
 
+ghost use Rattle.cse_dict.specs.Sound.{IsSound};
 ghost use Rattle.cse_image.specs.Spelling.{Fits};
-ghost use Rattle.cse_steps.specs.Laws.{EventsGoWell, FirstFits, RunsCompose, StepsAreSafe};
+ghost use Rattle.cse_steps.specs.Laws.{CaseKeepsToBound, EventsEnd, EventsGoWell, FirstFits, RunsCompose, StepsAreSafe};
 
+use cse_bounds::walks_keep_to_bound;
+use cse_dict::Dictionary;
 use cse_image::{Code, Program};
 use cse_verify::Verified;
 
@@ -13,12 +16,20 @@ fn hand_on<C: Code>(program: &Program<C>)
     program.tables();
 }
 
+/// Hands on what a dictionary keeps to.
+fn hand_on_sound(dictionary: &Dictionary)
+    ensures { IsSound dictionary.now }
+{
+    dictionary.shape();
+}
+
 /// Law: a state of a verified program that fits and has not ended has a step, and what follows fits. No
 /// operand lacks or is of another kind, size or record, and whatever an instruction names is there.
 pub fn steps_are_safe<C: Code>(verified: &Verified<'_, C>)
     ensures { StepsAreSafe verified.now }
 {
     hand_on(verified.program());
+    hand_on_sound(verified.dictionary());
 }
 
 /// Law: the first state of an event of a verified program fits, where its case and store fit.
@@ -26,6 +37,7 @@ pub fn first_states_fit<C: Code>(verified: &Verified<'_, C>)
     ensures { FirstFits verified.now }
 {
     hand_on(verified.program());
+    hand_on_sound(verified.dictionary());
 }
 
 /// Law: each state that an event of a verified program comes to fits, and it has ended or a step follows.
@@ -33,6 +45,28 @@ pub fn events_go_well<C: Code>(verified: &Verified<'_, C>)
     ensures { EventsGoWell verified.now }
 {
     hand_on(verified.program());
+    hand_on_sound(verified.dictionary());
+}
+
+/// Law: an event of a verified program runs to its end. From its first state so many steps lead to an
+/// ended state, at most as many as the bound of the event; each state before it fits, has a step, and keeps
+/// to the depth of the program.
+pub fn event_ends<C: Code>(verified: &Verified<'_, C>)
+    ensures { EventsEnd verified.now }
+{
+    hand_on(verified.program());
+    hand_on_sound(verified.dictionary());
+    walks_keep_to_bound(verified.program());
+    verified.calls_keep_to_depth();
+}
+
+/// Law: the events of a case that fits, each with its occurrence, take together at most the steps of the
+/// case's bound.
+pub fn case_keeps_to_bound<C: Code>(verified: &Verified<'_, C>)
+    ensures { CaseKeepsToBound verified.now }
+{
+    verified.program();
+    verified.events_keep_to_case();
 }
 
 /// Law: a run of n and m steps is one of n steps, and one of m steps from where that leads.

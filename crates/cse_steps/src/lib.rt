@@ -8,5 +8,7 @@
 mod laws;
 mod worked;
 
-pub use laws::{events_go_well, first_states_fit, runs_compose, steps_are_safe};
+pub use laws::{
+    case_keeps_to_bound, event_ends, events_go_well, first_states_fit, runs_compose, steps_are_safe,
+};
 pub use worked::worked_rows;

@@ -1,4 +1,5 @@
 use Rattle.std.proofs.Common.{refl}
+use Rattle.cse_case.specs.Case.{places_of}
 use Rattle.cse_case.specs.Seen.{occurrence_places}
 use Rattle.cse_typing.specs.Code.{code_of}
 use Rattle.cse_steps.specs.Operands.{combined, popped}
@@ -7,7 +8,7 @@ use Rattle.cse_steps.specs.Run.{first, run}
 use Rattle.cse_steps.proofs.worked.worked_rows.Goals as goal
 
 pub returns : goal.returns
-unfolding run first acts code_of occurrence_places combined popped
+unfolding run first acts code_of places_of occurrence_places combined popped
 returns c = record {
   three_persons = refl;
   two_persons = refl;
