@@ -245,10 +245,19 @@ fn hello_routines(alloc: Global) -> Result<Vec<Routine>, AllocError> {
     Ok(routines)
 }
 
+/// `HELLO` in version 2 of the format, which has a table of limits.
+fn hello_in_version_2(alloc: Global) -> Result<Vec<u8>, AllocError> {
+    let mut image = Vec::from_slice(alloc, &[67, 83, 69, 66, 2, 0, 0, 0])?;
+    image.extend_from_slice(&[0; 36])?;
+    image.extend_from_slice(&HELLO[40..])?;
+    Ok(image)
+}
+
 #[test]
 fn writes_hello(rt: HostRuntime) -> Result<(), Fail> {
     let image = image_of(rt.alloc(), hello_parts(rt.alloc())?)?;
-    assert_eq!(rt; image.as_slice(), HELLO.as_slice());
+    let wanted = hello_in_version_2(rt.alloc())?;
+    assert_eq!(rt; image.as_slice(), wanted.as_slice());
     Ok(())
 }
 

@@ -1,1 +1,2 @@
 pub mod PassLaws
+mod CheckLaws

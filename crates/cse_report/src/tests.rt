@@ -54,6 +54,7 @@ pub fn program_of(
         sets: Vec::from_slice(alloc, &shape.sets)?,
         order: Vec::new(alloc),
         constants: Vec::new(alloc),
+        limits: Vec::new(alloc),
         texts: Vec::new(alloc),
         globals: Vec::new(alloc),
         arrays: Vec::new(alloc),
