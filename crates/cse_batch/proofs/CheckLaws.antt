@@ -24,6 +24,6 @@ pub verifying_lacks_memory : (s : ShapeLists) (r : Refusal) (p x : Image) (f : C
     → IsOutOfMemory r ⊎ (IsTyped s p → IsBounded p → ⊥) → f ≡ faults.Memory
 unfolding image_or
 verifying_lacks_memory s r p x f is same typed bounded (inl m) = is ∙ ap (λ (n : ℕ). if n == 90 then faults.Memory else faults.Refused r) m.0
-verifying_lacks_memory s r p x f is same typed bounded (inr no) =
+verifying_lacks_memory s r p x f is same typed bounded (inr never) =
     let one : x ≡ p = ap (image_or p) same in
-    absurd (no (subst (IsTyped s) one typed) (subst IsBounded one bounded))
+    absurd (never (subst (IsTyped s) one typed) (subst IsBounded one bounded))
