@@ -68,38 +68,12 @@ const LOOPS: &[Line] = &[
     (Op::Return, 0, 0, 0),
 ];
 
-/// 65534 times 65535 turns of nothing: 4294967295 steps.
-const LONG: &[Line] = &[
-    (Op::Number, 0, 0, 3),
-    (Op::LoopCount, 0, 1, 5),
-    (Op::Number, 0, 0, 3),
-    (Op::LoopCount, 0, 2, 4),
-    (Op::End, 0, 0, 3),
-    (Op::End, 0, 0, 1),
-    (Op::Return, 0, 0, 0),
-];
-
-/// Calls it 2^32 times.
-const LONGER: &[Line] = &[
-    (Op::Number, 0, 0, 3),
-    (Op::LoopCount, 0, 3, 9),
-    (Op::Number, 0, 0, 3),
-    (Op::LoopCount, 0, 3, 8),
-    (Op::Number, 0, 0, 3),
-    (Op::LoopCount, 0, 4, 7),
-    (Op::Call, 0, 0, 0),
-    (Op::End, 0, 0, 5),
-    (Op::End, 0, 0, 3),
-    (Op::End, 0, 0, 1),
-    (Op::Return, 0, 0, 0),
-];
-
 /// A function of a number, and a loop that calls a routine three times.
 const THREE: &[Line] = &[(Op::Number, 0, 0, 2), (Op::Return, 0, 0, 0)];
 
 const CALLS: &[Line] = &[
     (Op::Number, 0, 0, 2),
-    (Op::LoopCount, 0, 5, 4),
+    (Op::LoopCount, 0, 1, 4),
     (Op::Call, 0, 0, 0),
     (Op::Pop, 0, 0, 0),
     (Op::End, 0, 0, 1),
@@ -108,7 +82,7 @@ const CALLS: &[Line] = &[
 
 const CALLS_ITSELF: &[Line] = &[
     (Op::Number, 0, 0, 2),
-    (Op::LoopCount, 0, 5, 4),
+    (Op::LoopCount, 0, 1, 4),
     (Op::Call, 0, 0, 1),
     (Op::Pop, 0, 0, 0),
     (Op::End, 0, 0, 1),
@@ -146,52 +120,29 @@ const DECK: &[Line] = &[
     (Op::Return, 0, 0, 0),
 ];
 
-/// 10^12 steps in all, and 10^12 and some more.
-const MOST: &[Line] = &[
-    (Op::Number, 0, 0, 4),
-    (Op::LoopCount, 0, 6, 8),
-    (Op::Number, 0, 0, 4),
-    (Op::LoopCount, 0, 7, 7),
-    (Op::Number, 0, 0, 4),
-    (Op::LoopCount, 0, 8, 6),
-    (Op::End, 0, 0, 5),
-    (Op::End, 0, 0, 3),
-    (Op::End, 0, 0, 1),
-    (Op::Number, 0, 0, 4),
-    (Op::LoopCount, 0, 9, 14),
-    (Op::Number, 0, 0, 4),
-    (Op::LoopCount, 0, 8, 13),
-    (Op::End, 0, 0, 12),
-    (Op::End, 0, 0, 10),
-    (Op::Number, 0, 0, 4),
-    (Op::LoopCount, 0, 10, 17),
-    (Op::End, 0, 0, 16),
-    (Op::Return, 0, 0, 0),
-];
-
 /// 10^15 steps in all, and one more.
 const GREATEST: &[Line] = &[
     (Op::Number, 0, 0, 4),
-    (Op::LoopCount, 0, 11, 5),
+    (Op::LoopCount, 0, 2, 5),
     (Op::Number, 0, 0, 4),
-    (Op::LoopCount, 0, 12, 4),
+    (Op::LoopCount, 0, 3, 4),
     (Op::End, 0, 0, 3),
     (Op::End, 0, 0, 1),
     (Op::Number, 0, 0, 4),
-    (Op::LoopCount, 0, 13, 8),
+    (Op::LoopCount, 0, 4, 8),
     (Op::End, 0, 0, 7),
     (Op::Return, 0, 0, 0),
 ];
 
 const TOO_MANY: &[Line] = &[
     (Op::Number, 0, 0, 4),
-    (Op::LoopCount, 0, 11, 5),
+    (Op::LoopCount, 0, 2, 5),
     (Op::Number, 0, 0, 4),
-    (Op::LoopCount, 0, 12, 4),
+    (Op::LoopCount, 0, 3, 4),
     (Op::End, 0, 0, 3),
     (Op::End, 0, 0, 1),
     (Op::Number, 0, 0, 4),
-    (Op::LoopCount, 0, 14, 8),
+    (Op::LoopCount, 0, 5, 8),
     (Op::End, 0, 0, 7),
     (Op::Return, 0, 0, 0),
 ];
@@ -205,26 +156,11 @@ const GREETS: &[Line] = &[
     (Op::Return, 0, 0, 0),
 ];
 
-/// A sum of a number and a text; two stacks at one place; an index of size 5 for an array of 4 cells.
+/// A sum of a number and a text.
 const SUM: &[Line] = &[
     (Op::Number, 0, 0, 0),
     (Op::Text, 0, 0, 0),
     (Op::Add, 0, 0, 0),
-    (Op::Pop, 0, 0, 0),
-    (Op::Return, 0, 0, 0),
-];
-
-const CLASH: &[Line] = &[
-    (Op::Number, 0, 0, 0),
-    (Op::JumpUnless, 0, 0, 3),
-    (Op::Text, 0, 0, 0),
-    (Op::Return, 0, 0, 0),
-];
-
-const WIDE: &[Line] = &[
-    (Op::Number, 0, 0, 0),
-    (Op::Index, 0, 5, 4),
-    (Op::LoadCell, 0, 0, 1),
     (Op::Pop, 0, 0, 0),
     (Op::Return, 0, 0, 0),
 ];
@@ -251,15 +187,6 @@ const PROGRAMS: &[Made] = &[
     (
         EMPTY,
         &[
-            (Ambient::Run, Gift::Nothing, false, LONG),
-            (Ambient::Run, Gift::Nothing, false, LONGER),
-        ],
-        &[],
-        "refused 67 routine 1 place 6\n",
-    ),
-    (
-        EMPTY,
-        &[
             (Ambient::Run, Gift::Number, false, THREE),
             (Ambient::Run, Gift::Nothing, false, CALLS),
         ],
@@ -283,21 +210,9 @@ const PROGRAMS: &[Made] = &[
     ),
     (
         EMPTY,
-        &[(Ambient::Run, Gift::Nothing, false, MOST)],
-        RUN,
-        "routine 0 1000000000000 steps\ncase 0 steps\nrun 1000000000000 steps\ndepth 1 0 0 3\naccepted\n",
-    ),
-    (
-        EMPTY,
         &[(Ambient::Run, Gift::Nothing, false, TOO_MANY)],
         RUN,
         "refused 67 routine 0 place 9\n",
-    ),
-    (
-        SAMPLE,
-        &[(Ambient::Case, Gift::Nothing, true, MOST)],
-        AGE,
-        "routine 0 1000000000000 steps\ncase 30000000000000 steps\nrun 0 steps\ndepth 1 0 1 3\naccepted\n",
     ),
     (
         SAMPLE,
@@ -335,31 +250,10 @@ const PROGRAMS: &[Made] = &[
         RUN,
         "refused 66 routine 0 place 2\n",
     ),
-    (
-        EMPTY,
-        &[(Ambient::Run, Gift::Nothing, false, CLASH)],
-        RUN,
-        "refused 66 routine 0 place 3\n",
-    ),
-    (
-        EMPTY,
-        &[(Ambient::Run, Gift::Nothing, false, WIDE)],
-        RUN,
-        "refused 66 routine 0 place 2\n",
-    ),
-    (
-        EMPTY,
-        &[(Ambient::Case, Gift::Nothing, false, LOOPS)],
-        LEVEL,
-        "refused 66 routine 0 place 0\n",
-    ),
 ];
 
 /// The limits of counted loops.
-const LIMITS: [u32; 15] = [
-    10, 65534, 65535, 32768, 4, 3, 10000, 9999, 9997, 9996, 9993, 999999, 999999997, 999999995,
-    999999996,
-];
+const LIMITS: [u32; 6] = [10, 3, 999999, 999999997, 999999995, 999999996];
 
 fn code_of(alloc: Global, routines: &[Part]) -> Result<Vec<Instr>, AllocError> {
     let mut code = Vec::new(alloc);
