@@ -141,7 +141,7 @@ pub struct Parts {
 }
 
 /// All sections but the code.
-#[derive(Debug, Drop)]
+#[derive(Debug)]
 pub struct Tables {
     pub records: Vec<RecordShape>,
     pub items: Vec<ItemShape>,
@@ -155,4 +155,24 @@ pub struct Tables {
     pub messages: Vec<Message>,
     pub routines: Vec<Routine>,
     pub events: Vec<EventEntry>,
+}
+
+// Written out, so that a crate that owns a program calls this drop and does not prove one for each section.
+impl Drop for Tables {
+    fn drop(self) {
+        let Tables {
+            records: _records,
+            items: _items,
+            sets: _sets,
+            order: _order,
+            constants: _constants,
+            limits: _limits,
+            texts: _texts,
+            globals: _globals,
+            arrays: _arrays,
+            messages: _messages,
+            routines: _routines,
+            events: _events,
+        } = self;
+    }
 }
