@@ -1,6 +1,6 @@
 -- What stands at the keys of a section without a fault: each number is there and within its range.
-use Rattle.std.proofs.Common.{◌≡◌, ◌≤◌, ◌<◌, ◌+◌, ◌-◌, ◌∙◌, sym, ap, subst, ℕ, zero, suc, Bool, true, false, List, [], ◌∷◌, ◌++◌, length, replicate, refl, arith, Option, None, Some, codes, ℤ, pos, negsuc, unwrap_or, length-append, inl, inr}
-use Rattle.std.specs.Prelude.{◌⊎◌, if◌then◌else◌, nat_le, nat_lt, ◌==◌, ◌&&◌, is_none}
+use Rattle.std.proofs.Common.{◌≡◌, ◌≤◌, ◌-◌, ◌∙◌, sym, ap, subst, ℕ, zero, suc, Bool, true, false, List, [], ◌∷◌, ◌++◌, length, replicate, refl, arith, Option, None, Some, codes, ℤ, pos, negsuc, unwrap_or, length-append, inl, inr}
+use Rattle.std.specs.Prelude.{◌⊎◌, if◌then◌else◌, nat_le, nat_lt, ◌&&◌, is_none}
 use Rattle.std.specs.Option.{option_and_then, option_map}
 use Rattle.std.proofs.lemmas.Bool.{and_parts, leb-true, ltb-false, ltb-true, le-leb}
 use Rattle.std.proofs.lemmas.List.{length-replicate}

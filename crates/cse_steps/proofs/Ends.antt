@@ -1,9 +1,9 @@
 -- An event of a verified program runs to its end, within its bound.
-use Rattle.std.proofs.Common.{◌≡◌, ℕ, zero, suc, ◌+◌, ◌<◌, ◌≤◌, ◌≢◌, List, [], ◌∷◌, length, map, Option, Some, None, refl, sym, ap, ◌∙◌, subst, arith}
+use Rattle.std.proofs.Common.{◌≡◌, ℕ, zero, suc, ◌+◌, ◌<◌, ◌≤◌, List, [], ◌∷◌, Option, Some, None, refl, sym, ap, ◌∙◌, subst, arith}
 use Rattle.std.specs.Prelude.{slice_get, option_and_then, is_some}
 use Rattle.std.specs.Option.{option_map_or}
 use Rattle.std.proofs.lemmas.List.{length-map}
-use Rattle.std.proofs.lemmas.Option.{same_Some, slice_get_within}
+use Rattle.std.proofs.lemmas.Option.{slice_get_within}
 use Rattle.cse_parts.specs.Image.{RoutineLists}
 use Rattle.cse_case.specs.Case.{CaseText}
 use Rattle.cse_decks.specs.Store.{Kept}
@@ -12,8 +12,8 @@ use Rattle.cse_typing.specs.Handlers.{routine_of}
 use Rattle.cse_typing.specs.Skeleton.{control, skeleton_of, most_occurrences}
 use Rattle.cse_typing.proofs.Around.{around_start}
 use Rattle.cse_bounds.specs.Bound.{bound}
-use Rattle.cse_bounds.specs.CaseEvents.{Moment, case_events, event_bound, events_bound, KeepsMost}
-use Rattle.cse_bounds.specs.Walk.{Standing, begun, walk}
+use Rattle.cse_bounds.specs.CaseEvents.{Moment, case_events, events_bound, KeepsMost}
+use Rattle.cse_bounds.specs.Walk.{begun}
 use Rattle.cse_bounds.specs.Rest.{rest}
 use Rattle.cse_bounds.specs.Calls.{AreCalls, RestFalls, RestIsBound, AllKeepRules, AllCallSmaller}
 use Rattle.cse_bounds.specs.EventBound.{case_bound}
@@ -25,15 +25,15 @@ use Rattle.cse_verify.specs.Chain.{Calling, IsChain, KeepsToDepth}
 use Rattle.cse_verify.specs.Depths.{IsDepthOf}
 use Rattle.cse_steps.proofs.Depths.{keeps}
 use Rattle.cse_verify.specs.Verified.{VerifiedProgram, MayRun}
-use Rattle.cse_steps.specs.State.{Call, World, State}
+use Rattle.cse_steps.specs.State.{Call, State}
 use Rattle.cse_steps.specs.Step.{step, new_call}
 use Rattle.cse_steps.specs.Run.{run, first, first_calls, event_arguments}
 use Rattle.cse_steps.specs.Fits.{IsVerified, FitsState, FitsFirst, occurrences_in}
 use Rattle.cse_steps.proofs.Lists.{is_there}
 use Rattle.cse_steps.specs.Walks.{standings}
-use Rattle.cse_steps.specs.Laws.{GoesWell, EndsWithin, EventsEnd, CaseKeepsToBound}
+use Rattle.cse_steps.specs.Laws.{EndsWithin, EventsEnd, CaseKeepsToBound}
 use Rattle.cse_steps.proofs.Calls.{has_code}
-use Rattle.cse_steps.proofs.Safety.{Follows, safe}
+use Rattle.cse_steps.proofs.Safety.{safe}
 use Rattle.cse_steps.proofs.Runs.{composed, first_is_fit, events_go_well}
 
 -- chains of calls keep to the depth
