@@ -1,5 +1,61 @@
--- The exit statuses of faults: 3 where a device, a file or memory failed, and 1 where something was refused.
-use Rattle.std.specs.Prelude.{ℕ, ◌==◌, ◌||◌, if◌then◌else◌}
+-- The exit status of what a command came to, and the numbers of faults.
+use Rattle.std.specs.Prelude.{ℕ, ◌==◌, ◌||◌, if◌then◌else◌, None, Result, Ok, Err}
+use Rattle.cse_batch.specs.declared.image.CheckFault.TheVariants as checks
+use Rattle.csbatch.specs.declared.fault.Fault.{Fault}
+use Rattle.csbatch.specs.declared.outcome.Asked.{Asked}
+use Rattle.csbatch.specs.declared.outcome.Asked.TheVariants.{Open, Read, Write}
+use Rattle.csbatch.specs.declared.outcome.Done.{Done}
+use Rattle.csbatch.specs.declared.outcome.Done.TheVariants.{Tried, Accepted}
+use Rattle.csbatch.specs.declared.outcome.Stop.{Stop}
+use Rattle.csbatch.specs.declared.outcome.Stop.TheVariants.{Usage, Refused}
+use Rattle.csbatch.specs.declared.run.TryEnd.{TryEnd}
+use Rattle.csbatch.specs.declared.run.TryEnd.TheVariants.{Ended, Trap}
+use Rattle.csbatch.specs.declared.try_image.TryFault.{TryFault}
+use Rattle.csbatch.specs.declared.try_image.TryFault.TheVariants as tries
+use Rattle.csbatch.specs.declared.verify_image.VerifyFault.{VerifyFault}
+use Rattle.csbatch.specs.declared.verify_image.VerifyFault.TheVariants as verifies
 
+-- ---- exit statuses
+
+-- of a fault's number: 3 where a device, a file or memory failed, and 1 where something was refused
 abbrev pub status_of : ℕ → ℕ
 status_of number = if ((number == 70) || (number == 71)) || ((number == 72) || (number == 90)) then 3 else 1
+
+-- of a run: 1 where it is stuck
+abbrev pub status_of_end : TryEnd → ℕ
+status_of_end (Ended steps) = 0
+status_of_end (Trap routine place) = 1
+
+-- of a command
+abbrev pub exit_status : Result Done Stop → ℕ
+exit_status (Ok (Tried end)) = status_of_end end
+exit_status (Ok Accepted) = 0
+exit_status (Err Usage) = 2
+exit_status (Err (Refused fault)) = status_of fault.number
+
+-- ---- the numbers of faults
+
+-- a fault that tells its number alone
+abbrev pub plain_fault : ℕ → Fault
+plain_fault number = record { number = number; line = None; column = None; byte = None; routine = None; place = None }
+
+-- of a call that failed, by what was asked
+abbrev pub number_asked : Asked → ℕ
+number_asked Open = 72
+number_asked Read = 70
+number_asked Write = 71
+
+-- of a fault of `try`
+abbrev pub number_of_try : TryFault → ℕ
+number_of_try (tries.Image e) = e.number
+number_of_try (tries.Refused r) = r.number
+number_of_try tries.Write = 71
+number_of_try tries.Memory = 90
+
+-- of a fault of `verify`
+abbrev pub number_of_verify : VerifyFault → ℕ
+number_of_verify (verifies.Dict e) = e.number
+number_of_verify (verifies.Check (checks.Image e)) = e.number
+number_of_verify (verifies.Check (checks.Refused r)) = r.number
+number_of_verify (verifies.Check checks.Memory) = 90
+number_of_verify verifies.Write = 71

@@ -2,7 +2,7 @@
 
 ghost use Rattle.std.specs.Prelude.{◌≡◌};
 ghost use Rattle.cse_value.specs.Writing.{FailsAtErr};
-ghost use Rattle.csbatch.specs.Ending.{status_of};
+ghost use Rattle.csbatch.specs.Ending.{number_of_try, number_of_verify, plain_fault, status_of};
 
 use crate::printing::write_parts;
 use crate::try_image::TryFault;
@@ -40,7 +40,9 @@ pub struct Fault {
 
 impl Fault {
     /// A fault that tells its number alone.
-    pub fn of_number(number: u8) -> Fault {
+    pub fn of_number(number: u8) -> Fault
+        ensures { result ≡ plain_fault number }
+    {
         Fault {
             number,
             line: None,
@@ -52,7 +54,9 @@ impl Fault {
     }
 
     /// A refusal; a routine and a place that stand for none are not told.
-    pub fn of_refusal(refusal: Refusal) -> Fault {
+    pub fn of_refusal(refusal: Refusal) -> Fault
+        ensures { result.number ≡ refusal.number }
+    {
         Fault {
             routine: told(refusal.routine),
             place: told(refusal.at),
@@ -61,7 +65,9 @@ impl Fault {
     }
 
     /// Bytes that are no image.
-    fn of_image(error: ImageError) -> Fault {
+    fn of_image(error: ImageError) -> Fault
+        ensures { result.number ≡ error.number }
+    {
         Fault {
             byte: Some(error.at as u64),
             ..Fault::of_number(error.number)
@@ -69,7 +75,9 @@ impl Fault {
     }
 
     /// The fault of `verify`; a line 0 is not told.
-    pub fn of_verify(fault: &VerifyFault) -> Fault {
+    pub fn of_verify(fault: &VerifyFault) -> Fault
+        ensures { result.number ≡ number_of_verify fault.now }
+    {
         match fault {
             VerifyFault::Dict(error) => Fault {
                 line: told_line(error.line),
@@ -83,7 +91,9 @@ impl Fault {
     }
 
     /// The fault of `try`.
-    pub fn of_try(fault: &TryFault) -> Fault {
+    pub fn of_try(fault: &TryFault) -> Fault
+        ensures { result.number ≡ number_of_try fault.now }
+    {
         match fault {
             TryFault::Image(error) => Fault::of_image(*error),
             TryFault::Refused(refusal) => Fault::of_refusal(*refusal),

@@ -6,7 +6,7 @@
 //!   its lines.
 //! - `run`, `machine`: the run of an event, and one instruction of it. `operands`, `variables`,
 //!   `arrays`, `starting`, `words`, `cell`, `stack`: the values that it works on.
-//! - `printing`, `fault`: lines for a device.
+//! - `printing`, `fault`: lines for a device. `outcome`: the exit status.
 #![tactic(auto)]
 
 mod arrays;
@@ -14,6 +14,7 @@ mod cell;
 mod fault;
 mod machine;
 mod operands;
+mod outcome;
 mod plan;
 mod printing;
 mod run;
@@ -26,9 +27,9 @@ mod verify_image;
 mod words;
 
 use cse_value::Writes;
-use fault::{Fault, NO_MEMORY, NOT_OPENED, READ_FAILED, WRITE_FAILED, ending, fault_line};
+use fault::{Fault, NO_MEMORY, WRITE_FAILED, fault_line};
+use outcome::{Asked, Done, Stop, exit_status};
 use plan::{Command, PlanFault, plan};
-use run::TryEnd;
 use std::io::{self, BufWriter, ErrorKind, Read, Write};
 use std::process::ExitCode;
 use std::rt::{Env, Files};
@@ -41,6 +42,8 @@ mod code_tests;
 #[cfg(test)]
 mod fault_tests;
 #[cfg(test)]
+mod file_tests;
+#[cfg(test)]
 mod tests;
 #[cfg(test)]
 mod verify_tests;
@@ -51,42 +54,22 @@ const USAGE: &str = "usage: csbatch try IMAGE
   try IMAGE           run the application's preproc of an image, and print its messages and its steps
   verify DICT IMAGE   tell whether an image may run with a dictionary, and how many steps it may take";
 
-/// Why the program ends without having done its work.
-enum Stop {
-    Usage,
-    Refused(Fault),
-}
-
-impl Stop {
-    fn of_number(number: u8) -> Stop {
-        Stop::Refused(Fault::of_number(number))
-    }
-
-    /// The fault of a call that may lack memory, and else fails with this number.
-    fn of_error(error: &io::Error, number: u8) -> Stop {
-        match error.kind() {
-            ErrorKind::OutOfMemory => Stop::of_number(NO_MEMORY),
-            _ => Stop::of_number(number),
-        }
-    }
-}
-
 fn main(rt: HostRuntime) -> ExitCode {
-    match carry_out(&rt) {
-        Ok(status) => ExitCode::from(status),
+    let outcome = carry_out(&rt);
+    match &outcome {
+        Ok(_) => {}
         Err(Stop::Usage) => {
             let _ = rt.eprintln(USAGE);
-            ExitCode::from(2)
         }
         Err(Stop::Refused(fault)) => {
-            let _ = fault_line(&fault, &mut Writes::new(rt.stderr()));
-            ExitCode::from(ending(fault.number))
+            let _ = fault_line(fault, &mut Writes::new(rt.stderr()));
         }
     }
+    ExitCode::from(exit_status(&outcome))
 }
 
-/// Does what the words ask for: the exit status.
-fn carry_out<R: Env + Files + Print + AllocGlobal>(rt: &R) -> Result<u8, Stop> {
+/// Does what the words ask for.
+fn carry_out<R: Env + Files + Print + AllocGlobal>(rt: &R) -> Result<Done, Stop> {
     let given = match words_given(rt) {
         Ok(given) => given,
         Err(error) if error.kind() == ErrorKind::OutOfMemory => {
@@ -102,11 +85,11 @@ fn carry_out<R: Env + Files + Print + AllocGlobal>(rt: &R) -> Result<u8, Stop> {
     do_planned(rt, planned)
 }
 
-/// Does what was planned: the exit status.
+/// Does what was planned.
 fn do_planned<R: Files + Print + AllocGlobal>(
     rt: &R,
     planned: Result<Command<'_>, PlanFault>,
-) -> Result<u8, Stop> {
+) -> Result<Done, Stop> {
     match planned {
         Ok(Command::Try { image }) => try_file(rt, image),
         Ok(Command::Verify { dict, image }) => verify_files(rt, dict, image),
@@ -124,12 +107,12 @@ fn words_given<R: Env + AllocGlobal>(rt: &R) -> io::Result<Vec<String>> {
     Ok(words)
 }
 
-/// `try`: the status of the run, 0 where it ended and 1 where it is stuck.
-fn try_file<R: Files + Print + AllocGlobal>(rt: &R, path: &str) -> Result<u8, Stop> {
+/// `try`, and how the run ended.
+fn try_file<R: Files + Print + AllocGlobal>(rt: &R, path: &str) -> Result<Done, Stop> {
     let image = file_bytes(rt, path)?;
     let buffer = match BufWriter::new(rt.alloc(), io::writer(rt)) {
         Ok(buffer) => buffer,
-        Err(error) => return Err(Stop::of_error(&error, WRITE_FAILED)),
+        Err(error) => return Err(Stop::of_failure(Asked::Write, error.kind())),
     };
     let mut out = Writes::new(buffer);
     let end = match try_to(rt.alloc(), &image, &mut out) {
@@ -137,37 +120,30 @@ fn try_file<R: Files + Print + AllocGlobal>(rt: &R, path: &str) -> Result<u8, St
         Err(fault) => return Err(Stop::Refused(Fault::of_try(&fault))),
     };
     match out.into_inner().flush() {
-        Ok(()) => Ok(status_of(end)),
+        Ok(()) => Ok(Done::Tried(end)),
         Err(_) => Err(Stop::of_number(WRITE_FAILED)),
     }
 }
 
-/// `verify`: the status, 0. The dictionary is read before the image.
+/// `verify`. The dictionary is read before the image.
 fn verify_files<R: Files + Print + AllocGlobal>(
     rt: &R,
     dict: &str,
     image: &str,
-) -> Result<u8, Stop> {
+) -> Result<Done, Stop> {
     let dict = file_bytes(rt, dict)?;
     let image = file_bytes(rt, image)?;
     let buffer = match BufWriter::new(rt.alloc(), io::writer(rt)) {
         Ok(buffer) => buffer,
-        Err(error) => return Err(Stop::of_error(&error, WRITE_FAILED)),
+        Err(error) => return Err(Stop::of_failure(Asked::Write, error.kind())),
     };
     let mut out = Writes::new(buffer);
     if let Err(fault) = verify_to(rt.alloc(), &dict, &image, &mut out) {
         return Err(Stop::Refused(Fault::of_verify(&fault)));
     }
     match out.into_inner().flush() {
-        Ok(()) => Ok(0),
+        Ok(()) => Ok(Done::Accepted),
         Err(_) => Err(Stop::of_number(WRITE_FAILED)),
-    }
-}
-
-fn status_of(end: TryEnd) -> u8 {
-    match end {
-        TryEnd::Ended(_) => 0,
-        TryEnd::Trap { .. } => 1,
     }
 }
 
@@ -175,11 +151,11 @@ fn status_of(end: TryEnd) -> u8 {
 fn file_bytes<R: Files + AllocGlobal>(rt: &R, path: &str) -> Result<Vec<u8>, Stop> {
     let mut file = match fs::open(rt, path) {
         Ok(file) => file,
-        Err(error) => return Err(Stop::of_error(&error, NOT_OPENED)),
+        Err(error) => return Err(Stop::of_failure(Asked::Open, error.kind())),
     };
     let mut bytes = Vec::new(rt.alloc());
     match file.read_to_end(&mut bytes) {
         Ok(_) => Ok(bytes),
-        Err(error) => Err(Stop::of_error(&error, READ_FAILED)),
+        Err(error) => Err(Stop::of_failure(Asked::Read, error.kind())),
     }
 }

@@ -38,7 +38,8 @@ pub enum TryFault {
 ///
 /// Faults, in this order: those of reading the image (60 to 64); 68, with no routine and no place,
 /// where the program has a record, an item or a value set; 65 where a routine breaks the rules of
-/// jumps and brackets; and want of memory or a failed write in place of an answer.
+/// jumps and brackets; and want of memory or a failed write in place of an answer. Up to the run the
+/// time grows with the size of the image.
 pub fn try_to<W: Output>(alloc: Global, image: &[u8], out: &mut W) -> Result<TryEnd, TryFault>
     // What is printed is a run of the machine.
     ensures runs { IfOk result (λ end. (r : Runs image.now end) × Appends (W.contents out.old) (W.contents out.new) (text_of r)) }
@@ -90,8 +91,9 @@ fn ready_program(alloc: Global, image: &[u8]) -> Result<Program<CodeView>, TryFa
             at: NONE,
         }));
     }
-    match check_jumps(&program) {
+    match check_jumps(alloc, &program) {
         Ok(()) => Ok(program),
+        Err(refusal) if refusal.number == 90 => Err(TryFault::Memory),
         Err(refusal) => Err(TryFault::Refused(refusal)),
     }
 }

@@ -1,6 +1,6 @@
 -- The events of a case take at most the steps of the case's bound.
 use Rattle.std.proofs.Common.{◌≡◌, ℕ, zero, suc, ◌+◌, ◌*◌, ◌<◌, ◌≤◌, Bool, true, false, ◌&&◌, cond, eqb, ltb, List, [], ◌∷◌, Option, Some, None, refl, sym, ap, ◌∙◌, ⊎_elim, arith}
-use Rattle.std.specs.Prelude.{slice_get, sum_by, count_by, find}
+use Rattle.std.specs.Prelude.{slice_get, sum_by, count_by, find, option_map}
 use Rattle.std.specs.Option.{option_map_or}
 use Rattle.std.proofs.Math.Nat.{mul-le-mul_left, mul-le-mul_right}
 use Rattle.std.proofs.lemmas.Bool.{cases_eq, eq-eqb, ne_eqb}
@@ -11,11 +11,12 @@ use Rattle.cse_parts.specs.declared.entries.EventCode.{EventCode}
 use Rattle.cse_parts.specs.declared.entries.EventCode.TheVariants as codes
 use Rattle.cse_parts.specs.declared.entries.EventEntry.{EventEntry}
 use Rattle.cse_parts.specs.Image.{Image}
+use Rattle.cse_typing.specs.Handlers.{is_of, routine_of}
 use Rattle.cse_typing.specs.Skeleton.{most_occurrences}
 use Rattle.cse_typing.specs.Order.{NamesEachOnce}
 use Rattle.cse_bounds.specs.Bound.{bound}
 use Rattle.cse_bounds.specs.EventBound.{times_in_case, case_bound}
-use Rattle.cse_bounds.specs.CaseEvents.{event, Moment, moment, item_events, occurrence_events, record_events, records_events, case_events, KeepsMost, is_of, events_bound, KeepsTimes}
+use Rattle.cse_bounds.specs.CaseEvents.{event, Moment, moment, item_events, occurrence_events, record_events, records_events, case_events, KeepsMost, events_bound, KeepsTimes}
 
 abbrev one : Bool → ℕ
 one b = cond b 1 0
@@ -45,9 +46,9 @@ same_sum f g same (x ∷ xs) = omega (arith, sum_by-cons f x xs, sum_by-cons g x
 
 module _ (x : Image) where
   abbrev found_in : List EventEntry → Event → ℕ
-  found_in entries e = option_map_or (λ entry. bound x entry.routine) (find (is_of e) entries) 0
+  found_in entries e = option_map_or (bound x) (routine_of entries e) 0
 
-  found_first : (y : EventEntry) (ys : List EventEntry) (e : Event) (b : Bool) → option_map_or (λ entry. bound x entry.routine) (cond b (Some y) (find (is_of e) ys)) 0 ≤ one b * bound x y.routine + found_in ys e
+  found_first : (y : EventEntry) (ys : List EventEntry) (e : Event) (b : Bool) → option_map_or (bound x) (option_map (λ (entry : EventEntry). entry.routine) (cond b (Some y) (find (is_of e) ys))) 0 ≤ one b * bound x y.routine + found_in ys e
   found_first y ys e true = omega arith
   found_first y ys e false = omega arith
 

@@ -1,5 +1,5 @@
 -- The events of a case, one after the other, and the steps that they may take.
-use Rattle.std.specs.Prelude.{ℕ, zero, suc, ◌≤◌, Bool, ◌&&◌, ◌==◌, if◌then◌else◌, List, [], ◌∷◌, ◌++◌, count_by, find}
+use Rattle.std.specs.Prelude.{ℕ, zero, suc, ◌≤◌, ◌==◌, if◌then◌else◌, List, [], ◌∷◌, ◌++◌, count_by}
 use Rattle.std.specs.List.{sum_by}
 use Rattle.std.specs.Option.{option_map_or}
 use Rattle.cse_value.specs.declared.shape.ItemShape.{ItemShape}
@@ -7,8 +7,8 @@ use Rattle.cse_parts.specs.declared.entries.Event.{Event}
 use Rattle.cse_parts.specs.declared.entries.EventCode.{EventCode}
 use Rattle.cse_parts.specs.declared.entries.EventCode.TheVariants.{LevelPreproc, LevelPostproc, RecordPreproc, RecordPostproc, ItemPreproc, ItemPostproc}
 use Rattle.cse_parts.specs.declared.entries.EventEntry.{EventEntry}
-use Rattle.cse_parts.specs.Codes.{event_code}
 use Rattle.cse_parts.specs.Image.{Image}
+use Rattle.cse_typing.specs.Handlers.{is_of, routine_of}
 use Rattle.cse_typing.specs.Skeleton.{most_occurrences}
 use Rattle.cse_bounds.specs.Bound.{bound}
 use Rattle.cse_bounds.specs.EventBound.{times_in_case}
@@ -56,13 +56,9 @@ KeepsMost x occurrences = (r : ℕ) → occurrences r ≤ most_occurrences x.lis
 
 -- ---- what they may take
 
--- the entry is that of the event
-abbrev pub is_of : Event → EventEntry → Bool
-is_of e entry = (event_code entry.code == event_code e.code) && (entry.index == e.index)
-
 -- the most steps of one event; none, where the program has no routine for it
 abbrev pub event_bound : Image → Event → ℕ
-event_bound x e = option_map_or (λ entry. bound x entry.routine) (find (is_of e) x.lists.events) 0
+event_bound x e = option_map_or (bound x) (routine_of x.lists.events e) 0
 
 -- the most steps of events, one after the other
 abbrev pub events_bound : Image → List Moment → ℕ

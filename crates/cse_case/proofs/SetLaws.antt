@@ -1,9 +1,9 @@
 -- Laws of a case in which an item was set. Proofs of crates above cite the public ones.
-use Rattle.std.proofs.Common.{◌≡◌, ℕ, zero, suc, ◌+◌, ◌-◌, ◌<◌, ◌≤◌, Bool, true, false, cond, eqb, List, [], ◌∷◌, ◌++◌, length, take, drop, get_or, map, Option, None, Some, refl, ap, sym, ◌∙◌, inl, inr, arith, subst}
+use Rattle.std.proofs.Common.{◌≡◌, ℕ, suc, ◌+◌, ◌-◌, ◌<◌, ◌≤◌, Bool, true, false, cond, eqb, List, [], ◌∷◌, ◌++◌, length, take, drop, get_or, map, Option, None, Some, refl, ap, sym, ◌∙◌, inl, inr, arith, subst}
 use Rattle.std.specs.Prelude.{◌⊎◌, filter, slice_get, slice_set, ℤ}
 use Rattle.std.specs.Option.{option_and_then, option_map, option_map_or}
 use Rattle.std.proofs.lemmas.Bool.{cases_eq, cases_lt, eqb-true}
-use Rattle.std.proofs.lemmas.List.{get_or-set_same, get_or-set_other, get_or_append_left, get_or-append-add, get_or-take, get_or-drop, length-map, length-take, length-take-le, length-drop, take_all}
+use Rattle.std.proofs.lemmas.List.{get_or-set_same, get_or-set_other, get_or_append_left, get_or-take, get_or-drop, length-map, length-take-le, length-drop}
 use Rattle.std.proofs.lemmas.Option.{slice_get-get_or, slice_get-map}
 use Rattle.std.proofs.Math.ListN.{length-set}
 use Rattle.std.proofs.Math.Seq.{map-set_same}
@@ -12,24 +12,24 @@ use Rattle.cse_value.specs.declared.shape.ItemShape.{ItemShape}
 use Rattle.cse_value.specs.declared.shape.ItemKind.{ItemKind}
 use Rattle.cse_value.specs.declared.shape.ItemKind.TheVariants.{Opaque, Number, Text}
 use Rattle.cse_value.specs.declared.number.Num.{Num}
-use Rattle.cse_value.specs.Field.{field, fits_code, fits_num, kept, put, put_text}
+use Rattle.cse_value.specs.Field.{field, fits_code, kept, put, put_text}
 use Rattle.cse_value.proofs.FieldLaws.{field-put}
 use Rattle.cse_value.proofs.WidthLaws.{length-put, length-put_text}
 use Rattle.cse_dict.specs.Dictionary.{DictionaryText, ItemText, RecordText, code_at, shape_of, zero_fill_at}
 use Rattle.cse_dict.specs.Sound.{AreApart, IsIdItem, IsSound, IsSoundItem, columns_of_item}
-use Rattle.cse_lines.specs.declared.layout.Span.{Span}
+use Rattle.cse_dict.specs.declared.field.Columns.{Columns}
 use Rattle.cse_lines.specs.Columns.{LineText, no_line}
-use Rattle.cse_lines.specs.Field.{field_at, fields_at, id_spans, ids_of, record_len, span_of, type_span}
+use Rattle.cse_lines.specs.Field.{field_at, fields_at, ids_of, record_len, span_of}
 use Rattle.cse_lines.specs.Run.{line_at, with_columns}
 use Rattle.cse_lines.proofs.LaidLaws.{before, behind, inside, length-with_columns}
 use Rattle.cse_case.specs.Seen.{is_case, occurrence_places, unseen_of}
-use Rattle.cse_case.specs.Field.{HasColumn, HaveNoneInCommon, IsItem, field_of, item_at, no_item}
-use Rattle.cse_case.specs.Case.{CaseText, IsOccurrence, columns_at, items_of, number_at, place_of, places_of, records_of, text_at, types_of, unseen_lines, with_item, with_number, with_text}
+use Rattle.cse_case.specs.Field.{HaveNoneInCommon, field_of, item_at, no_item}
+use Rattle.cse_case.specs.Case.{CaseText, columns_at, items_of, number_at, place_of, places_of, records_of, text_at, types_of, with_item, with_number, with_text}
 use Rattle.cse_case.specs.Fit.{IsFit, line_width}
-use Rattle.cse_case.specs.Writes.{ColumnStays, FitStays, HasSameOccurrences, HasTypeOrNone, IdsAndTypesStay, LeavesColumns, LeavesIdsAndTypes, LeavesOthers, MaySet, OccurrencesStay, OthersStay, ReadsWhatWasSet, column_at}
+use Rattle.cse_case.specs.Writes.{ColumnStays, FitStays, HasSameOccurrences, IdsAndTypesStay, LeavesColumns, LeavesIdsAndTypes, LeavesOthers, MaySet, OccurrencesStay, OthersStay, ReadsWhatWasSet}
 use Rattle.cse_case.proofs.CaseLaws.{with_columns-all}
 use Rattle.cse_case.proofs.FitLaws.{at_most}
-use Rattle.cse_case.proofs.SightLaws.{HasPlace, has_place, occurrence_own, occurrence_there}
+use Rattle.cse_case.proofs.SightLaws.{has_place, occurrence_own, occurrence_there}
 
 -- what an item is, of a sound dictionary
 pub record SoundItem (d : DictionaryText) (n : ℕ) : Type 0 where
@@ -302,9 +302,9 @@ module _ (c : CaseText) (r o : ℕ) (kind : ItemKind) (item : ℕ) (may : MaySet
       fields-onto (line_at (with_item c place item columns).run p).columns (line_at c.run p).columns i.shape (filter (λ x. eqb x.owner 255) (map (λ (j : ItemText). j.shape) is)) (eqb i.shape.owner 255)
       (λ e. keeps_part p i.shape.start i.shape.len (inl (here.0)) (here.1 (eqb-true i.shape.owner 255 e))) (ids-kept named p is (λ x k low at. each x (suc k) (omega arith) at))
 
-  leaves-ids-and-types : (kind ≡ Opaque → ⊥) → HasTypeOrNone c → LeavesIdsAndTypes c (with_item c place item columns)
+  leaves-ids-and-types : (kind ≡ Opaque → ⊥) → LeavesIdsAndTypes c (with_item c place item columns)
   unfolding ids_of
-  leaves-ids-and-types named types =
+  leaves-ids-and-types named =
       let s = sound_item c.dictionary item may.sound may.is_item.there in
       let there = occurrence_there c r o may.occurrence in
       let small = may.sound.small.records in
@@ -313,7 +313,7 @@ module _ (c : CaseText) (r o : ℕ) (kind : ItemKind) (item : ℕ) (may : MaySet
       let off = s.sound.apart (λ e. absurd (omega (arith, length-map c.dictionary.records (λ (x : RecordText). x.shape)))) (λ e. named (sym of_kind ∙ e)) in
       let t = c.dictionary.type_columns in
       let apart : AreApart (record { start = own_item.start; len = own_item.len }) t = subst (λ (x : ItemShape). AreApart (record { start = x.start; len = x.len }) t) (sym s.shape) off.type_apart in
-      let first : 1 ≤ t.start ⊎ (t.len ≡ 0) = elim (cases_lt 0 t.start) [ inl some ↦ inl (omega arith) | inr none ↦ inr (types (omega arith)) ] in
+      let first : 1 ≤ t.start ⊎ (t.len ≡ 0) = elim may.sound.type_columns [ inl none ↦ inr (ap (λ (x : Columns). x.len) none) | inr some ↦ inl some.start ] in
       record {
         ids = λ p. ids-kept named p c.dictionary.items (λ i k low at. (subst (λ (x : ItemText). 1 ≤ x.shape.start) at (may.sound.items k i low).start, keeps_off named i k at low));
         types = λ p. keeps_part p t.start t.len first apart;
@@ -362,9 +362,9 @@ stay-columns c r o item = (
 
 pub stay-ids-and-types : IdsAndTypesStay
 unfolding with_number with_text
-stay-ids-and-types c r o item types = (
-  λ value may. leaves-ids-and-types c r o Number item may (put_number c item value) (number_wide c item value) number_is_named types,
-  λ text may. leaves-ids-and-types c r o Text item may (put_text (item_at (items_of c) item).len text) (text_wide c item text) text_is_named types,
+stay-ids-and-types c r o item = (
+  λ value may. leaves-ids-and-types c r o Number item may (put_number c item value) (number_wide c item value) number_is_named,
+  λ text may. leaves-ids-and-types c r o Text item may (put_text (item_at (items_of c) item).len text) (text_wide c item text) text_is_named,
 )
 
 pub stay-fit : FitStays

@@ -1,5 +1,5 @@
 -- What holds of a reader of cases between calls.
-use Rattle.std.specs.Prelude.{◌≡◌, ◌==◌, List, filter, Option, None}
+use Rattle.std.specs.Prelude.{◌≡◌, ◌≤◌, ◌*◌, ◌^◌, ◌==◌, List, filter, Option, None}
 use Rattle.cse_value.specs.declared.shape.ItemShape.{ItemShape}
 use Rattle.cse_dict.specs.Dictionary.{DictionaryText, shape_of}
 use Rattle.cse_lines.specs.declared.error.DataError.{DataError}
@@ -9,7 +9,9 @@ use Rattle.cse_lines.specs.Reader.{ReaderText}
 abbrev pub id_items_of : DictionaryText → List ItemShape
 id_items_of d = filter (λ item. item.owner == 255) (shape_of d).items
 
--- its runs are read by its dictionary, and a reader without an error has one of runs without an error
+-- Its runs are read by its dictionary, and a reader without an error has one of runs without an error. Its reads are few, and so are its lines.
 pub record IsSound (runs : ReaderText) (dictionary : DictionaryText) (error : Option DataError) : Type 0 where
   pub same : runs.dictionary ≡ dictionary
   pub sound : error ≡ None → runs.error ≡ None
+  pub few_reads : runs.reads ≤ 2 ^ 40
+  pub few_lines : runs.lines ≤ 2 ^ 40 * 65536

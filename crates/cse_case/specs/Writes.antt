@@ -1,5 +1,5 @@
 -- What a write into an item of an occurrence changes, and what it leaves alone.
-use Rattle.std.specs.Prelude.{◌≡◌, ◌<◌, ◌⊎◌, ℕ, true, List, length, map, slice_index_or}
+use Rattle.std.specs.Prelude.{◌≡◌, ◌<◌, ℕ, true, List, length, map, slice_index_or}
 use Rattle.cse_value.specs.declared.shape.ItemShape.{ItemShape}
 use Rattle.cse_value.specs.declared.shape.ItemKind.{ItemKind}
 use Rattle.cse_value.specs.declared.shape.ItemKind.TheVariants.{Number, Text}
@@ -84,11 +84,7 @@ pub record LeavesIdsAndTypes (old new : CaseText) : Type 0 where
   pub ids : (place : ℕ) → ids_of old.dictionary (line_at new.run place).columns ≡ ids_of old.dictionary (line_at old.run place).columns
   pub types : (place : ℕ) → field_at (type_span old.dictionary) (line_at new.run place).columns ≡ field_at (type_span old.dictionary) (line_at old.run place).columns
 
--- a dictionary without a first column of the record type has none
-abbrev pub HasTypeOrNone : CaseText → Type 0
-HasTypeOrNone c = c.dictionary.type_columns.start ≡ 0 → c.dictionary.type_columns.len ≡ 0
-
 abbrev pub IdsAndTypesStay : Type 0
-IdsAndTypesStay = (c : CaseText) (r o item : ℕ) → HasTypeOrNone c
+IdsAndTypesStay = (c : CaseText) (r o item : ℕ)
     → ((value : Num) → MaySet c r o Number item → LeavesIdsAndTypes c (with_number c r o item value))
     × ((text : List ℕ) → MaySet c r o Text item → LeavesIdsAndTypes c (with_text c r o item text))

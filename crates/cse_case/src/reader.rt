@@ -54,16 +54,17 @@ impl<'a, R: Input> CaseReader<'a, R> {
         ensures err { IfErr result (λ error. self.new.stream.error ≡ Some error) }
         ensures again { IfSome self.old.stream.error (λ error. (result ≡ Err error) × (self.new.stream ≡ self.old.stream) × (self.new.input.now ≡ self.old.input.now)) }
         ensures failed { self.old.stream.error ≡ None → IfErr result (λ error. error.number ≡ 70 → (R.has_failed self.new.input.now ≡ true) ⊎ (self.new.stream.reads ≡ 2 ^ 40)) }
-        ensures few_reads { self.old.stream.error ≡ None → self.new.stream.reads ≤ 2 ^ 40 }
-        ensures few { self.old.stream.error ≡ None → self.new.stream.lines ≤ 2 ^ 40 * 65536 }
+        ensures few_reads { self.new.stream.reads ≤ 2 ^ 40 }
+        ensures few { self.new.stream.lines ≤ 2 ^ 40 * 65536 }
         ensures works { OnOk result (R.has_failed self.new.input.now ≡ R.has_failed self.old.input.now) }
     {
         self.stream.next(self.input)
     }
 
-    /// How many reads gave bytes. It takes no memory.
+    /// How many reads gave bytes, 2^40 at most. It takes no memory.
     pub fn reads(&self) -> u64
-        ensures { result ≡ self.now.stream.reads }
+        ensures value { result ≡ self.now.stream.reads }
+        ensures few { result ≤ 2 ^ 40 }
     {
         self.stream.reads()
     }

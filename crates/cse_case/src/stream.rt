@@ -57,9 +57,10 @@ impl<'a> CaseStream<'a> {
         }
     }
 
-    /// How many reads gave bytes.
+    /// How many reads gave bytes, 2^40 at most.
     pub fn reads(&self) -> u64
-        ensures { result ≡ self.now.reads }
+        ensures value { result ≡ self.now.reads }
+        ensures few { result ≤ 2 ^ 40 }
     {
         self.runs.reads()
     }
@@ -86,8 +87,8 @@ impl<'a> CaseStream<'a> {
         ensures again { IfSome self.old.error (λ error. (result ≡ Err error) × (self.new ≡ self.old) × (input.new ≡ input.old)) }
         ensures end { self.new.ended ≡ true → IsAtEnd (R.remaining input.new) }
         ensures failed { self.old.error ≡ None → IfErr result (λ error. error.number ≡ 70 → (R.has_failed input.new ≡ true) ⊎ (self.new.reads ≡ 2 ^ 40)) }
-        ensures few_reads { self.old.error ≡ None → self.new.reads ≤ 2 ^ 40 }
-        ensures few { self.old.error ≡ None → self.new.lines ≤ 2 ^ 40 * 65536 }
+        ensures few_reads { self.new.reads ≤ 2 ^ 40 }
+        ensures few { self.new.lines ≤ 2 ^ 40 * 65536 }
         ensures works { OnOk result (R.has_failed input.new ≡ R.has_failed input.old) }
     {
         if let Some(error) = self.error {

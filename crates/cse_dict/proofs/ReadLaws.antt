@@ -1,8 +1,8 @@
 -- What stands at the keys of a section without a fault: each number is there and within its range.
-use Rattle.std.proofs.Common.{◌≡◌, ◌≤◌, ◌<◌, ◌+◌, ◌-◌, ◌∙◌, sym, ap, subst, ℕ, zero, suc, Bool, true, false, List, [], ◌∷◌, ◌++◌, length, replicate, refl, arith, Option, None, Some, codes, ℤ, pos, negsuc, unwrap_or, length-append}
-use Rattle.std.specs.Prelude.{if◌then◌else◌, nat_le, nat_lt, ◌==◌, ◌&&◌, is_none}
+use Rattle.std.proofs.Common.{◌≡◌, ◌≤◌, ◌-◌, ◌∙◌, sym, ap, subst, ℕ, zero, suc, Bool, true, false, List, [], ◌∷◌, ◌++◌, length, replicate, refl, arith, Option, None, Some, codes, ℤ, pos, negsuc, unwrap_or, length-append, inl, inr}
+use Rattle.std.specs.Prelude.{◌⊎◌, if◌then◌else◌, nat_le, nat_lt, ◌&&◌, is_none}
 use Rattle.std.specs.Option.{option_and_then, option_map}
-use Rattle.std.proofs.lemmas.Bool.{and_parts, leb-true, ltb-false, le-leb}
+use Rattle.std.proofs.lemmas.Bool.{and_parts, leb-true, ltb-false, ltb-true, le-leb}
 use Rattle.std.proofs.lemmas.List.{length-replicate}
 use Rattle.std.proofs.lemmas.Option.{cond_some}
 use Rattle.cse_sections.specs.Sections.{EntryText, SectionText}
@@ -12,6 +12,7 @@ use Rattle.cse_dict.specs.Types.{padded, type_in, type_len_of, type_of, type_tex
 use Rattle.cse_dict.specs.Fields.{columns_from, columns_of, field_from, field_of, type_columns_from, type_columns_of}
 use Rattle.cse_dict.specs.Dictionary.{field_or_none, no_columns, no_field}
 use Rattle.cse_dict.specs.Faults.{columns_faults, fault_if, field_faults, first_faults, form_faults, lacking, number_faults, optional_faults, start_faults, start_faults_by, type_faults, type_faults_at, unreadable}
+use Rattle.cse_dict.specs.Sound.{AreTypeColumns}
 use Rattle.cse_dict.specs.declared.field.Columns.{Columns}
 use Rattle.cse_dict.specs.declared.field.Field.{Field}
 use Rattle.cse_dict.specs.declared.fault.DictError.{DictError}
@@ -107,11 +108,12 @@ field_there s h =
     (λ i. field_from (columns_from (start.is i) (len.is i)) (occurrences.is i) (decimal.is i) (data_type_of s))
     (λ i. columns_from (start.is i) (len.is i)) start.least len.least
 
--- the columns of the record type have the length that its key tells
+-- the columns of the record type have the length that its key tells, and start at 1 at least where there are some
 pub record HasTypeLen (first : SectionText) : Type 0 where
   pub n : ℕ
   pub is : type_len_of first ≡ Some n
   pub columns_len : (unwrap_or (type_columns_of first) no_columns).len ≡ n
+  pub columns : (unwrap_or (type_columns_of first) no_columns ≡ no_columns) ⊎ AreTypeColumns (unwrap_or (type_columns_of first) no_columns)
 
 abbrev type_columns_by : Bool → ℕ → Option ℕ → Option Columns
 type_columns_by b n start = if b then option_map (λ s. record { start = s; len = n }) start else None
@@ -122,6 +124,17 @@ columns_by true first n b h =
     let start = number_there 1 65535 first (codes "RecordTypeStart") h in
     ap (λ o. (unwrap_or (type_columns_by true n o) no_columns).len) start.is
 columns_by false first n b h = let none = ltb-false 0 n b in omega (arith, none)
+
+abbrev HasTypeColumns : Option Columns → Type 0
+HasTypeColumns o = (unwrap_or o no_columns ≡ no_columns) ⊎ AreTypeColumns (unwrap_or o no_columns)
+
+type_columns_there : (b : Bool) (first : SectionText) (n : ℕ) → nat_lt 0 n ≡ b → n ≤ 16 → (if b then number_faults first (codes "RecordTypeStart") 1 65535 else []) ≡ []
+    → HasTypeColumns (type_columns_by b n (number_in 1 65535 (entry_of (codes "RecordTypeStart") first)))
+type_columns_there true first n b few h =
+    let start = number_there 1 65535 first (codes "RecordTypeStart") h in
+    let some = ltb-true 0 n b in
+    subst (λ o. HasTypeColumns (type_columns_by true n o)) (sym start.is) (inr (record { start = start.least; len = omega (arith, some); few = few }))
+type_columns_there false first n b few h = inl refl
 
 pub type_len_there : (first : SectionText) → first_faults first ≡ [] → HasTypeLen first
 unfolding first_faults start_faults type_len_of type_columns_of
@@ -137,6 +150,9 @@ type_len_there first h =
       columns_len =
           ap (λ o. (unwrap_or (type_columns_from o (number_in 1 65535 (entry_of (codes "RecordTypeStart") first))) no_columns).len) len.is
           ∙ columns_by (nat_lt 0 len.n) first len.n refl starts;
+      columns =
+          subst (λ o. HasTypeColumns (type_columns_from o (number_in 1 65535 (entry_of (codes "RecordTypeStart") first)))) (sym len.is)
+          (type_columns_there (nat_lt 0 len.n) first len.n refl len.most starts);
     }
 
 -- a record's type fills the columns of the record type

@@ -355,6 +355,7 @@ module _ (first : SectionText) (rest : List SectionText) where
         records = All-weaker (IsSoundAt type_len.n) (IsSoundRecord d)
             (λ r p. record { most = p.most; few = p.few; len = p.len; type_len = p.type_is ∙ sym type_len.columns_len }) d.records records;
         sets = sets_sound covered (type_len_of first) (length d.items) read (seen_first first) none (omega arith);
+        type_columns = type_len.columns;
         small = small;
       }
   first_sound Level h small = cc

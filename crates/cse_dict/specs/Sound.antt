@@ -4,7 +4,7 @@ use Rattle.cse_value.specs.Number.{fits_i64}
 use Rattle.cse_value.specs.declared.shape.ItemKind.TheVariants.{Opaque, Number, Text}
 use Rattle.cse_sections.specs.Sections.{sections_of}
 use Rattle.cse_sections.specs.Number.{fits_columns}
-use Rattle.cse_dict.specs.Dictionary.{DictionaryText, IsSmall, ItemText, RecordText, SetText, dictionary_of}
+use Rattle.cse_dict.specs.Dictionary.{DictionaryText, IsSmall, ItemText, RecordText, SetText, dictionary_of, no_columns}
 use Rattle.cse_dict.specs.Reading.{text_faults}
 use Rattle.cse_dict.specs.declared.field.Columns.{Columns}
 
@@ -31,6 +31,12 @@ pub record IsSoundCode (i : ItemText) (z : ℤ) : Type 0 where
   pub whole : fits_i64 z ≡ true
   pub fits : fits_columns i.shape.len z ≡ true
 
+-- the columns of a record type: 1 to 16, from column 1 at least on
+pub record AreTypeColumns (c : Columns) : Type 0 where
+  pub start : 1 ≤ c.start
+  pub len : 1 ≤ c.len
+  pub few : c.len ≤ 16
+
 -- An item is an id item, or belongs to a record that is there and ends within it. Start and Len are 1 at least; a number has 15 columns at most,
 -- a text 255. An item of a record that isn't opaque keeps off the record type and the id items.
 pub record IsSoundItem (d : DictionaryText) (i : ItemText) : Type 0 where
@@ -54,10 +60,12 @@ pub record IsSoundRecord (d : DictionaryText) (r : RecordText) : Type 0 where
 abbrev pub IsSoundSet : DictionaryText → SetText → Type 0
 IsSoundSet d s = s.shape.item < length d.items
 
+-- Of its record type a dictionary has columns, or none that start nowhere.
 pub record IsSound (d : DictionaryText) : Type 0 where
   pub items : All (IsSoundItem d) d.items
   pub records : All (IsSoundRecord d) d.records
   pub sets : All (IsSoundSet d) d.sets
+  pub type_columns : (d.type_columns ≡ no_columns) ⊎ AreTypeColumns d.type_columns
   pub small : IsSmall d
 
 -- the law: the dictionary of a text of which no fault holds is sound

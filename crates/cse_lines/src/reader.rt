@@ -80,9 +80,10 @@ impl<'a> RunReader<'a> {
         }
     }
 
-    /// How many reads gave bytes.
+    /// How many reads gave bytes, 2^40 at most.
     pub fn reads(&self) -> u64
-        ensures { result ≡ self.now.reads }
+        ensures value { result ≡ self.now.reads }
+        ensures few { result ≤ 2 ^ 40 }
     {
         self.reads
     }

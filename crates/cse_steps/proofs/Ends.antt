@@ -1,20 +1,19 @@
 -- An event of a verified program runs to its end, within its bound.
-use Rattle.std.proofs.Common.{◌≡◌, ℕ, zero, suc, ◌+◌, ◌<◌, ◌≤◌, ◌≢◌, List, [], ◌∷◌, length, map, Option, Some, None, refl, sym, ap, ◌∙◌, subst, arith}
-use Rattle.std.specs.Prelude.{slice_get, option_map, option_and_then, is_some, find}
+use Rattle.std.proofs.Common.{◌≡◌, ℕ, zero, suc, ◌+◌, ◌<◌, ◌≤◌, List, [], ◌∷◌, Option, Some, None, refl, sym, ap, ◌∙◌, subst, arith}
+use Rattle.std.specs.Prelude.{slice_get, option_and_then, is_some}
 use Rattle.std.specs.Option.{option_map_or}
 use Rattle.std.proofs.lemmas.List.{length-map}
-use Rattle.std.proofs.lemmas.Option.{same_Some, slice_get_within}
-use Rattle.cse_parts.specs.declared.entries.EventEntry.{EventEntry}
+use Rattle.std.proofs.lemmas.Option.{slice_get_within}
 use Rattle.cse_parts.specs.Image.{RoutineLists}
 use Rattle.cse_case.specs.Case.{CaseText}
 use Rattle.cse_decks.specs.Store.{Kept}
 use Rattle.cse_typing.specs.Code.{code_of}
+use Rattle.cse_typing.specs.Handlers.{routine_of}
 use Rattle.cse_typing.specs.Skeleton.{control, skeleton_of, most_occurrences}
 use Rattle.cse_typing.proofs.Around.{around_start}
 use Rattle.cse_bounds.specs.Bound.{bound}
-use Rattle.cse_bounds.specs.CaseEvents.{Moment, case_events, event_bound, events_bound, KeepsMost}
-use Rattle.cse_typing.specs.Handlers.{is_of}
-use Rattle.cse_bounds.specs.Walk.{Standing, begun, walk}
+use Rattle.cse_bounds.specs.CaseEvents.{Moment, case_events, events_bound, KeepsMost}
+use Rattle.cse_bounds.specs.Walk.{begun}
 use Rattle.cse_bounds.specs.Rest.{rest}
 use Rattle.cse_bounds.specs.Calls.{AreCalls, RestFalls, RestIsBound, AllKeepRules, AllCallSmaller}
 use Rattle.cse_bounds.specs.EventBound.{case_bound}
@@ -26,15 +25,15 @@ use Rattle.cse_verify.specs.Chain.{Calling, IsChain, KeepsToDepth}
 use Rattle.cse_verify.specs.Depths.{IsDepthOf}
 use Rattle.cse_steps.proofs.Depths.{keeps}
 use Rattle.cse_verify.specs.Verified.{VerifiedProgram, MayRun}
-use Rattle.cse_steps.specs.State.{Call, World, State}
+use Rattle.cse_steps.specs.State.{Call, State}
 use Rattle.cse_steps.specs.Step.{step, new_call}
 use Rattle.cse_steps.specs.Run.{run, first, first_calls, event_arguments}
 use Rattle.cse_steps.specs.Fits.{IsVerified, FitsState, FitsFirst, occurrences_in}
 use Rattle.cse_steps.proofs.Lists.{is_there}
 use Rattle.cse_steps.specs.Walks.{standings}
-use Rattle.cse_steps.specs.Laws.{GoesWell, EndsWithin, EventsEnd, CaseKeepsToBound}
+use Rattle.cse_steps.specs.Laws.{EndsWithin, EventsEnd, CaseKeepsToBound}
 use Rattle.cse_steps.proofs.Calls.{has_code}
-use Rattle.cse_steps.proofs.Safety.{Follows, safe}
+use Rattle.cse_steps.proofs.Safety.{safe}
 use Rattle.cse_steps.proofs.Runs.{composed, first_is_fit, events_go_well}
 
 -- chains of calls keep to the depth
@@ -94,28 +93,28 @@ module _ (v : VerifiedProgram) (sound : IsVerified v) (falls : RestFalls v.image
   abbrev start : State
   start = first v m case store
 
-  calls_are : (o : Option EventEntry) → find (is_of m.event) v.image.lists.events ≡ o → start.calls ≡ first_calls v.image m.occurrence (option_map (λ entry. entry.routine) o)
+  calls_are : (o : Option ℕ) → routine_of v.image.lists.events m.event ≡ o → start.calls ≡ first_calls v.image m.occurrence o
   unfolding first
-  calls_are o e = ap (λ z. first_calls v.image m.occurrence (option_map (λ (entry : EventEntry). entry.routine) z)) e
+  calls_are o e = ap (first_calls v.image m.occurrence) e
 
   ended_at_once : (most : ℕ) → start.calls ≡ [] → EndsFrom v start most
   ended_at_once most e = record { steps = 0; state = start; runs = no_steps v start; ended = e; within = omega arith }
 
-  by_entry : (o : Option EventEntry) → find (is_of m.event) v.image.lists.events ≡ o → EndsFrom v start (option_map_or (λ entry. bound v.image entry.routine) o 0)
-  by_entry None e = ended_at_once 0 (calls_are None e)
-  by_entry (Some entry) e = by_routine (slice_get v.image.lists.routines entry.routine) refl
+  by_routine : (o : Option ℕ) → routine_of v.image.lists.events m.event ≡ o → EndsFrom v start (option_map_or (bound v.image) o 0)
+  by_routine None e = ended_at_once 0 (calls_are None e)
+  by_routine (Some r) e = by_lists (slice_get v.image.lists.routines r) refl
     where
-      by_routine : (y : Option RoutineLists) → slice_get v.image.lists.routines entry.routine ≡ y → EndsFrom v start (bound v.image entry.routine)
-      by_routine None there =
-          ended_at_once (bound v.image entry.routine) (calls_are (Some entry) e ∙ ap (λ z. option_map_or (λ (y : RoutineLists). new_call entry.routine y (event_arguments y m.occurrence) ∷ []) z []) there)
-      by_routine (Some y) there =
-          routine_ends v sound falls begins case entry.routine y start there
-          (ap standings (calls_are (Some entry) e ∙ ap (λ z. option_map_or (λ (y : RoutineLists). new_call entry.routine y (event_arguments y m.occurrence) ∷ []) z []) there))
+      by_lists : (y : Option RoutineLists) → slice_get v.image.lists.routines r ≡ y → EndsFrom v start (bound v.image r)
+      by_lists None there =
+          ended_at_once (bound v.image r) (calls_are (Some r) e ∙ ap (λ z. option_map_or (λ (y : RoutineLists). new_call r y (event_arguments y m.occurrence) ∷ []) z []) there)
+      by_lists (Some y) there =
+          routine_ends v sound falls begins case r y start there
+          (ap standings (calls_are (Some r) e ∙ ap (λ z. option_map_or (λ (y : RoutineLists). new_call r y (event_arguments y m.occurrence) ∷ []) z []) there))
           (first_is_fit v sound m case store fit)
 
   pub event_ends : EndsWithin v m case store
   event_ends =
-      let t = by_entry (find (is_of m.event) v.image.lists.events) refl in
+      let t = by_routine (routine_of v.image.lists.events m.event) refl in
       record {
         steps = t.steps;
         state = t.state;

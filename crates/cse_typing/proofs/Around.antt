@@ -5,7 +5,7 @@ use Rattle.std.proofs.lemmas.Bool.{cases_lt, cases_eq, and_parts, and_from, ltb-
 use Rattle.std.proofs.lemmas.Option.{same_Some, slice_get_past}
 use Rattle.cse_typing.specs.declared.control.Control.{Control}
 use Rattle.cse_typing.specs.declared.control.Control.TheVariants.{Step, Jump, Branch, Open, End, Break, Call, Return}
-use Rattle.cse_typing.specs.Bracket.{named_end, named_opener, IsBracket, IsAround, names, opens_around, around_below, around, first, innermost, IsNestedBelow, IsNested, IsJump, IsOpener, IsFine}
+use Rattle.cse_typing.specs.Bracket.{named_end, named_opener, IsBracket, IsAround, names, opens_around, around_below, around, first, innermost, IsNestedBelow, IsNested, IsOpener, IsFine}
 
 abbrev pub is_around : List Control → ℕ → ℕ → Bool
 is_around code s p = opens_around code s p (slice_get code s)
@@ -322,15 +322,6 @@ module _ (code : List Control) where
 
 -- the tests of a checker that has the brackets around a place at hand
 module _ (code : List Control) where
-  -- whatever is around p is no later than the innermost
-  no_later : (p s t : ℕ) → innermost code p ≡ Some t → s < p → IsAround code s p → s ≤ t
-  unfolding around
-  no_later p s t top lt a =
-      let r = first_least code p p s (is_around_from code s p a) lt in
-      let e : r.0 ≡ t = same_Some r.0 t (sym r.1 ∙ top) in
-      let l = r.2 in
-      omega arith
-
   pub innermost_around : (p s : ℕ) → innermost code p ≡ Some s → IsAround code s p
   unfolding around
   innermost_around p s top = around_is code s p (below_first code p p s top).0
@@ -361,43 +352,4 @@ module _ (code : List Control) where
       let a = innermost_around p s (sym (ap first is) ∙ top) in
       let k : a.0 ≡ f = same_Some a.0 f (sym a.1.1 ∙ named) in
       let n = o.nested s a.0 a.1 a.2 a.3 in
-      omega arith
-
-  -- a place behind, within the innermost bracket and within none that begins between
-  jump_by : (p c : ℕ) (o : Option ℕ) → innermost code p ≡ o → p < c → ((s : ℕ) → o ≡ Some s → IsAround code s c) → ((s : ℕ) → p ≤ s → s < c → IsAround code s c → ⊥) → innermost code c ≡ o
-  unfolding around around_below
-  jump_by p c None top lt held none =
-      let before : (s : ℕ) → s < p → IsAround code s c → ⊥ =
-      λ s l a.
-      let (f, b, sc, cf) = a in
-      let r = first_least code p p s (is_around_from code s p (f, b, l, omega arith)) l in
-      let k = r.1 in cc
-      in
-      ap first (below_none code c 0 c (omega arith) (λ s z l. not_around code s c (λ a. ⊎_elim (λ (m : s < p). before s m a) (λ (m : p ≤ s). none s m l a) (cases_lt s p))))
-  jump_by p c (Some t) top lt held none =
-      let here = innermost_around p t top in
-      let between : (s : ℕ) → suc t ≤ s → s < p → IsAround code s c → ⊥ =
-      λ s ts l a.
-      let (f, b, sc, cf) = a in
-      let k = no_later p s t top l (f, b, l, omega arith) in
-      omega arith
-      in
-      let tp = here.2 in
-      ap first
-      (below_none code c (suc t) c (omega arith) (λ s z l. not_around code s c (λ a. ⊎_elim (λ (m : s < p). between s z m a) (λ (m : p ≤ s). none s m l a) (cases_lt s p)))
-      ∙ below_here code t c (is_around_from code t c (held t refl)))
-
-  pub jump_from : (p c : ℕ) (openers : List ℕ) → openers ≡ around code p → p < c → c < length code → ((s : ℕ) → first openers ≡ Some s → IsAround code s c) → ((s : ℕ) → p ≤ s → s < c → IsAround code s c → ⊥) → IsJump code p c
-  jump_from p c openers is lt within held none =
-      (lt, within, jump_by p c (innermost code p) refl lt (λ s e. held s (ap first is ∙ e)) none)
-
-  pub jump_held : (p c s : ℕ) (openers : List ℕ) → openers ≡ around code p → IsJump code p c → first openers ≡ Some s → IsAround code s c
-  jump_held p c s openers is jump top = innermost_around c s (jump.2 ∙ sym (ap first is) ∙ top)
-
-  pub jump_none : (p c s : ℕ) → IsJump code p c → p ≤ s → s < c → IsAround code s c → ⊥
-  unfolding around
-  jump_none p c s jump le lt a =
-      let r = first_least code c c s (is_around_from code s c a) lt in
-      let k = innermost_around p r.0 (sym jump.2 ∙ r.1) in
-      let l = k.2 in let m = r.2 in
       omega arith

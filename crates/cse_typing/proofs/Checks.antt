@@ -1,5 +1,5 @@
 -- What a check of the places in order knows at each.
-use Rattle.std.proofs.Common.{◌≡◌, ℕ, suc, ◌+◌, ◌<◌, ◌≤◌, List, [], ◌∷◌, length, drop, Option, Some, None, sym, ap, ◌∙◌, subst, ⊎_elim, arith}
+use Rattle.std.proofs.Common.{◌≡◌, ℕ, suc, ◌+◌, ◌<◌, ◌≤◌, List, [], ◌∷◌, length, drop, Option, Some, None, IfNone, refl, sym, ap, ◌∙◌, subst, ⊎_elim, arith}
 use Rattle.std.specs.Prelude.{slice_get}
 use Rattle.std.proofs.lemmas.Option.{same_Some, slice_get_within}
 use Rattle.std.proofs.lemmas.Bool.{cases_lt}
@@ -29,6 +29,11 @@ named_end_is (Some (Open b c)) s h = cc
 named_end_is (Some (Break c)) s h = cc
 named_end_is (Some (Call c)) s h = cc
 named_end_is (Some Return) s h = cc
+
+-- what holds where no place is told
+pub told_none : (o : Option ℕ) (P : Type 0) → IfNone o P → ((n : ℕ) → o ≡ Some n → ⊥) → P
+told_none None P told never = told
+told_none (Some n) P told never = absurd (never n refl)
 
 -- the openers at hand, and that all places before keep the rules
 pub record IsSoFar (code : List Control) (p : ℕ) (openers : List ℕ) : Type 0 where

@@ -1,6 +1,7 @@
 -- The rules of jumps and brackets of a whole program.
-use Rattle.std.specs.Prelude.{ℕ, ◌<◌, length}
+use Rattle.std.specs.Prelude.{◌≡◌, ℕ, ◌<◌, length}
 use Rattle.cse_parts.specs.Image.{Image}
+use Rattle.cse_typing.specs.declared.refusal.Refusal.{Refusal}
 use Rattle.cse_typing.specs.Skeleton.{skeleton_of}
 use Rattle.cse_typing.specs.Bracket.{KeepsRules, BreaksFirst}
 
@@ -13,3 +14,8 @@ pub record BreaksRulesAt (x : Image) (routine place : ℕ) : Type 0 where
   pub within : routine < length x.lists.routines
   pub at : BreaksFirst (skeleton_of x routine) place
   pub before : (r : ℕ) → r < routine → KeepsRules (skeleton_of x r)
+
+-- 65, at that place
+pub record FailsJumps (x : Image) (e : Refusal) : Type 0 where
+  pub number : e.number ≡ 65
+  pub breaks : BreaksRulesAt x e.routine e.at

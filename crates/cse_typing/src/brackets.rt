@@ -1,8 +1,8 @@
 //! The rules of jumps and brackets in the code of one routine.
 
-ghost use Rattle.std.specs.Prelude.{◌≡◌, ℕ, suc, ◌+◌, ◌<◌, ◌≤◌, ◌↔◌, length, false, Some, slice_get, IsTrue, IfSome, IfNone, IfOk};
+ghost use Rattle.std.specs.Prelude.{◌≡◌, ℕ, suc, ◌+◌, ◌<◌, ◌≤◌, ◌↔◌, length, Some, slice_get, IsTrue, IfSome, IfNone, IfOk};
 ghost use Rattle.cse_typing.specs.Innermost.{innermost_below};
-ghost use Rattle.cse_typing.specs.Bracket.{IsBracket, IsAround, IsNestedBelow, first, around, innermost, IsJump, IsOpener, IsFine, IsFineAt, KeepsRulesAt, KeepsRules, BreaksFirst, named_end, named_opener};
+ghost use Rattle.cse_typing.specs.Bracket.{IsBracket, IsAround, IsNestedBelow, first, around, innermost, IsOpener, IsFine, IsFineAt, KeepsRulesAt, KeepsRules, BreaksFirst, named_end, named_opener};
 
 use crate::control::Control;
 use crate::innermost::{innermost_table, is_told_jump};
@@ -50,29 +50,6 @@ pub fn is_around<C: Code>(code: &RoutineCode<'_, C>, opener: u32, place: u32) ->
     }
 }
 
-/// Whether a bracket that begins at `from` or later is around `to`.
-fn begins_around<C: Code>(code: &RoutineCode<'_, C>, from: u32, to: u32) -> bool
-    ensures yes { IsTrue result → (s : ℕ) × (from ≤ s) × IsAround code.now s to }
-    ensures no { result ≡ false → (s : ℕ) → from ≤ s → s < to → IsAround code.now s to → ⊥ }
-{
-    'between: for opener in from..to {
-        if is_around(code, opener, to) {
-            return true;
-        }
-    }
-    false
-}
-
-/// Whether the innermost bracket, if there is one, is around a place.
-fn stays_inside<C: Code>(code: &RoutineCode<'_, C>, openers: &Openers, place: u32) -> bool
-    ensures { IsTrue result ↔ ((s : ℕ) → first openers.now ≡ Some s → IsAround code.now s place) }
-{
-    match openers.top() {
-        Some(opener) => is_around(code, opener, place),
-        None => true,
-    }
-}
-
 /// Whether an end lies within the innermost bracket, if there is one.
 fn ends_inside<C: Code>(code: &RoutineCode<'_, C>, openers: &Openers, end: u32) -> bool
     ensures { IsTrue result ↔ ((s f : ℕ) → first openers.now ≡ Some s → named_end (slice_get code.now s) ≡ Some f → end ≤ f) }
@@ -83,41 +60,6 @@ fn ends_inside<C: Code>(code: &RoutineCode<'_, C>, openers: &Openers, end: u32) 
             None => true,
         },
         None => true,
-    }
-}
-
-/// Whether a jump from a place to another goes to a later one with the same innermost bracket.
-fn is_jump<C: Code>(code: &RoutineCode<'_, C>, from: u32, to: u32, openers: &Openers) -> bool
-    requires openers { openers.now ≡ around code.now from }
-    ensures { IsTrue result ↔ IsJump code.now from to }
-{
-    if to <= from || to >= code.len() {
-        return false;
-    }
-    if !stays_inside(code, openers, to) {
-        return false;
-    }
-    if begins_around(code, from, to) {
-        return false;
-    }
-    true
-}
-
-/// Whether a jump keeps the rule, by the innermost brackets where they are at hand.
-fn is_known_jump<C: Code>(
-    code: &RoutineCode<'_, C>,
-    from: u32,
-    to: u32,
-    openers: &Openers,
-    table: Option<&[Option<u32>]>,
-) -> bool
-    requires openers { openers.now ≡ around code.now from }
-    requires table { IfSome table (λ t. t.now ≡ innermost_below code.now (length code.now)) }
-    ensures { IsTrue result ↔ IsJump code.now from to }
-{
-    match table {
-        Some(found) => is_told_jump(code, found, from, to),
-        None => is_jump(code, from, to, openers),
     }
 }
 
@@ -150,17 +92,17 @@ fn is_fine<C: Code>(
     place: u32,
     control: Control,
     openers: &Openers,
-    table: Option<&[Option<u32>]>,
+    table: &[Option<u32>],
 ) -> bool
     requires nested { IsNestedBelow code.now place }
     requires openers { openers.now ≡ around code.now place }
-    requires table { IfSome table (λ t. t.now ≡ innermost_below code.now (length code.now)) }
+    requires table { table.now ≡ innermost_below code.now (length code.now) }
     ensures { IsTrue result ↔ IsFine code.now place control }
 {
     match control {
         Control::Step => true,
-        Control::Jump(to) => is_known_jump(code, place, to, openers, table),
-        Control::Branch(to) => is_known_jump(code, place, to, openers, table),
+        Control::Jump(to) => is_told_jump(code, table, place, to),
+        Control::Branch(to) => is_told_jump(code, table, place, to),
         Control::Open(_, end) => is_opener(code, place, end, openers),
         Control::End(opener) => is_bracket(code, opener, place),
         Control::Break(end) => is_break(code, end, place, openers),
@@ -195,10 +137,9 @@ pub fn pass<C: Code>(code: &RoutineCode<'_, C>, place: u32, control: Control, op
     }
 }
 
-/// The least place of a routine's code that breaks a rule. With the innermost brackets at hand this
-/// takes time that grows with the number of places; else a jump takes as many steps as it is long.
-pub fn check_code<C: Code>(code: &RoutineCode<'_, C>, table: Option<&[Option<u32>]>) -> Option<u32>
-    requires { IfSome table (λ t. t.now ≡ innermost_below code.now (length code.now)) }
+/// The least place of a routine's code that breaks a rule, by the innermost bracket around each place.
+fn check_code<C: Code>(code: &RoutineCode<'_, C>, table: &[Option<u32>]) -> Option<u32>
+    requires { table.now ≡ innermost_below code.now (length code.now) }
     ensures all { IfNone result (KeepsRules code.now) }
     ensures first { IfSome result (λ p. BreaksFirst code.now p) }
 {
@@ -228,5 +169,5 @@ pub fn first_break<C: Code>(
     ensures first { IfOk result (λ o. IfSome o (λ p. BreaksFirst code.now p)) }
 {
     let table = innermost_table(alloc, code)?;
-    Ok(check_code(code, Some(&table)))
+    Ok(check_code(code, &table))
 }

@@ -76,7 +76,7 @@ fn numbers_of(told: Result<(), Refusal>) -> (u8, u32, u32) {
 /// What the rules of jumps and brackets say of a routine with this code.
 fn jumps_told(alloc: Global, code: Vec<Instr>) -> Result<(u8, u32, u32), Fail> {
     let program = Program::from_parts(parts_of(alloc, code)?).ok_or("no spelling")?;
-    Ok(numbers_of(check_jumps_and_brackets(&program)))
+    Ok(numbers_of(check_jumps_and_brackets(alloc, &program)))
 }
 
 /// So many loops, one in the other.

@@ -1,22 +1,23 @@
 //! Whether the jumps and brackets of each routine keep their rules.
 
-ghost use Rattle.std.specs.Prelude.{◌≡◌, OnOk, IfErr};
-ghost use Rattle.cse_typing.specs.Rules.{AllKeepRules, BreaksRulesAt};
+ghost use Rattle.std.specs.Prelude.{OnOk, IfErr, ◌⊎◌};
+ghost use Rattle.cse_typing.specs.Rules.{AllKeepRules, FailsJumps};
+ghost use Rattle.cse_typing.specs.Typed.{IsOutOfMemory};
 
 use cse_image::{Code, Program};
 use cse_typing::{Refusal, check_jumps_and_brackets};
+use std::alloc::Global;
 
 /// Whether each routine keeps the rules of jumps and brackets (own). An opener and a later END that
 /// name each other are a bracket, and the places after the opener up to the END are inside it. Each
 /// opener and each END is part of one; an opener's END is inside every bracket around the opener, of
 /// which there are at most 63. A jump leads to a greater place with the same innermost bracket, a
 /// break names the END of its own innermost bracket, and the last instruction is RET. Else 65, at the
-/// least place of the least routine that breaks a rule. Takes no memory; on code with many long jumps
-/// the time is quadratic.
-pub fn check_jumps<C: Code>(program: &Program<C>) -> Result<(), Refusal>
+/// least place of the least routine that breaks a rule; 90 where memory runs out. The time grows with
+/// the number of instructions, whatever the code is; 8 bytes are taken for each place of a routine.
+pub fn check_jumps<C: Code>(alloc: Global, program: &Program<C>) -> Result<(), Refusal>
     ensures keeps { OnOk result (AllKeepRules program.now) }
-    ensures number { IfErr result (λ e. e.number ≡ 65) }
-    ensures breaks { IfErr result (λ e. BreaksRulesAt program.now e.routine e.at) }
+    ensures fails { IfErr result (λ e. IsOutOfMemory e ⊎ FailsJumps program.now e) }
 {
-    check_jumps_and_brackets(program)
+    check_jumps_and_brackets(alloc, program)
 }

@@ -4,7 +4,7 @@
 //! `cse_typing`, and what bounds are in `cse_bounds`, on which it stands.
 //!
 //! - `verify`: whether a program may run with a dictionary; a `Verified` value tells how much it may take.
-//! - `check_jumps`: the rules of jumps and brackets alone, without memory.
+//! - `check_jumps`: the rules of jumps and brackets alone.
 //! - `same_shape`: whether a program was made for a dictionary, without memory.
 //! - `code_start`, `code_starts`: where the code of a routine lies.
 //! - `routine_of`: which routine an event runs.

@@ -57,7 +57,7 @@ fn parts_of(alloc: Global, lines: &[Line]) -> Result<Parts, AllocError> {
 /// routine and the place.
 fn jumps_told(alloc: Global, lines: &[Line]) -> Result<(u8, u32, u32), Fail> {
     let program = Program::from_parts(parts_of(alloc, lines)?).ok_or("no spelling")?;
-    match check_jumps(&program) {
+    match check_jumps(alloc, &program) {
         Ok(()) => Ok((0, 0, 0)),
         Err(refusal) => Ok((refusal.number, refusal.routine, refusal.at)),
     }

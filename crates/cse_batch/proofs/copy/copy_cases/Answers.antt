@@ -33,21 +33,21 @@ overflow_add-lines g c =
     let inv = c.cases.invariant in
     let s = inv.copying.so_far in
     let next = rw c.in-Ok-Some.field-0-is at (c.in-Ok-Some.ensures.next inv.sound) in
-    omega (arith, s.lines_are, next.lines, c.in-Ok-Some.ensures.few inv.sound, c.lines-lines.ensures.lines)
+    omega (arith, s.lines_are, next.lines, c.in-Ok-Some.ensures.few, c.lines-lines.ensures.lines)
 
 pub overflow_add-unseen : goal.overflow_add-unseen
 overflow_add-unseen g c =
     let inv = c.cases.invariant in
     let s = inv.copying.so_far in
     let next = rw c.in-Ok-Some.field-0-is at (c.in-Ok-Some.ensures.next inv.sound) in
-    omega (arith, s.few_unseen, s.lines_are, next.lines, c.in-Ok-Some.ensures.few inv.sound, case_unseen _ _ _ _ _ _ _ _ s _ next, ap length c.unseen.ensures)
+    omega (arith, s.few_unseen, s.lines_are, next.lines, c.in-Ok-Some.ensures.few, case_unseen _ _ _ _ _ _ _ _ s _ next, ap length c.unseen.ensures)
 
 pub returns-then-gatherer-clause-err : goal.returns-then-gatherer-clause-err
 returns-then-gatherer-clause-err g c =
     let inv = c.cases.invariant in
     let s = inv.copying.so_far in
     let next = rw c.in-Ok-Some.field-0-is at (c.in-Ok-Some.ensures.next inv.sound) in
-    let more = SoFar-case _ _ _ _ _ _ _ _ s _ next c.is_case.result c.is_case.ensures (c.in-Ok-Some.ensures.few inv.sound) in
+    let more = SoFar-case _ _ _ _ _ _ _ _ s _ next c.is_case.result c.is_case.ensures (c.in-Ok-Some.ensures.few) in
     record {
       text = inv.copying.text ++ written_run c.in-Ok-Some.case.run;
       rest = held_of c.next.new.self.stream;
@@ -70,7 +70,7 @@ cases-smaller g c =
     let s = inv.copying.so_far in
     let next = rw c.in-Ok-Some.field-0-is at (c.in-Ok-Some.ensures.next inv.sound) in
     let some = case_lines _ _ _ _ _ _ _ _ s _ next in
-    let few = c.in-Ok-Some.ensures.few inv.sound in
+    let few = c.in-Ok-Some.ensures.few in
     let less : 2 ^ 40 * 65536 - c.next.new.self.stream.lines < 2 ^ 40 * 65536 - c.cases.reader.stream.lines = omega (arith, next.lines, some, few) in
     less
 
@@ -79,7 +79,7 @@ cases-preserved g c =
     let inv = c.cases.invariant in
     let s = inv.copying.so_far in
     let next = rw c.in-Ok-Some.field-0-is at (c.in-Ok-Some.ensures.next inv.sound) in
-    let more = SoFar-case _ _ _ _ _ _ _ _ s _ next c.is_case.result c.is_case.ensures (c.in-Ok-Some.ensures.few inv.sound) in
+    let more = SoFar-case _ _ _ _ _ _ _ _ s _ next c.is_case.result c.is_case.ensures (c.in-Ok-Some.ensures.few) in
     record {
       copying = record {
         text = inv.copying.text ++ written_run c.in-Ok-Some.case.run;

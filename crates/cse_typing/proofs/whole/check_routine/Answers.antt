@@ -1,17 +1,13 @@
-use Rattle.std.proofs.Common.{◌≡◌, ℕ, Option, None, Some, IfSome, IfNone, List, Result, Err, refl, ap, ◌∙◌, subst, inl, inr}
+use Rattle.std.proofs.Common.{IfSome, List, Result, Err, refl, ap, ◌∙◌, subst, inl, inr}
 use Rattle.cse_typing.specs.declared.control.Control.{Control}
 use Rattle.cse_typing.specs.Code.{part}
-use Rattle.cse_typing.specs.Skeleton.{skeleton}
 use Rattle.cse_typing.specs.Bracket.{KeepsRules, BreaksFirst}
 use Rattle.cse_typing.specs.Tables.{scene_in}
 use Rattle.cse_typing.specs.declared.depth.Depth.{Depth}
 use Rattle.cse_typing.specs.declared.walk.Fault.{Fault}
 use Rattle.cse_typing.specs.Judged.{Judges, fault_in}
+use Rattle.cse_typing.proofs.Checks.{told_none}
 use Rattle.cse_typing.proofs.whole.check_routine.Goals as goal
-
-told_none : (o : Option ℕ) (P : Type 0) → IfNone o P → ((n : ℕ) → o ≡ Some n → ⊥) → P
-told_none None P told never = told
-told_none (Some n) P told never = absurd (never n refl)
 
 pub returns-in-Some-clause-fails : goal.returns-in-Some-clause-fails
 returns-in-Some-clause-fails g c =
