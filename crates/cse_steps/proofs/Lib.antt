@@ -14,3 +14,6 @@ pub mod First
 pub mod Runs
 pub mod Depths
 pub mod Ends
+pub mod Upgrades
+pub mod SameCase
+pub mod Columns

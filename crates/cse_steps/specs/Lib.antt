@@ -4,7 +4,9 @@ pub mod Tables
 pub mod Operands
 pub mod Step
 pub mod Run
+pub mod Upgraded
 pub mod Fits
+pub mod Columns
 pub mod Walks
 pub mod Depth
 pub mod Laws
