@@ -17,3 +17,4 @@ pub mod Ends
 pub mod Upgrades
 pub mod SameCase
 pub mod Columns
+pub mod Events

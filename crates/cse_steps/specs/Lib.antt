@@ -7,6 +7,7 @@ pub mod Run
 pub mod Upgraded
 pub mod Fits
 pub mod Columns
+pub mod Events
 pub mod Walks
 pub mod Depth
 pub mod Laws

@@ -3,6 +3,7 @@
 ghost use Rattle.cse_dict.specs.Sound.{IsSound};
 ghost use Rattle.cse_image.specs.Spelling.{Fits};
 ghost use Rattle.cse_steps.specs.Columns.{ColumnsStay, EventColumnsStay};
+ghost use Rattle.cse_steps.specs.Events.{CaseColumnsStay, CasesEnd};
 ghost use Rattle.cse_steps.specs.Laws.{CaseKeepsToBound, EventsEnd, EventsGoWell, FirstFits, RunsCompose, StepsAreSafe};
 ghost use Rattle.cse_steps.specs.Upgraded.{UpgradeRunsTheSame};
 
@@ -89,6 +90,26 @@ pub fn columns_stay<C: Code>(verified: &Verified<'_, C>)
 /// Law: the same over a whole event, from the case at its beginning to that at its end.
 pub fn event_columns_stay<C: Code>(verified: &Verified<'_, C>)
     ensures { EventColumnsStay verified.now }
+{
+    hand_on(verified.program());
+    hand_on_sound(verified.dictionary());
+}
+
+/// Law: the events of a case, one after the other and each begun with what the one before left, run to
+/// their ends, in at most as many steps together as the bound of a case.
+pub fn case_ends<C: Code>(verified: &Verified<'_, C>)
+    ensures { CasesEnd verified.now }
+{
+    event_ends(verified);
+    case_keeps_to_bound(verified);
+    hand_on(verified.program());
+    hand_on_sound(verified.dictionary());
+}
+
+/// Law: what the events of a case leave fits again, and its lines are those of the case but for the columns
+/// that a step of an event writes.
+pub fn case_columns_stay<C: Code>(verified: &Verified<'_, C>)
+    ensures { CaseColumnsStay verified.now }
 {
     hand_on(verified.program());
     hand_on_sound(verified.dictionary());
