@@ -18,3 +18,4 @@ pub mod Upgrades
 pub mod SameCase
 pub mod Columns
 pub mod Events
+pub mod Outcomes

@@ -3,7 +3,7 @@
 ghost use Rattle.cse_dict.specs.Sound.{IsSound};
 ghost use Rattle.cse_image.specs.Spelling.{Fits};
 ghost use Rattle.cse_steps.specs.Columns.{ColumnsStay, EventColumnsStay};
-ghost use Rattle.cse_steps.specs.Events.{CaseColumnsStay, CasesEnd};
+ghost use Rattle.cse_steps.specs.Events.{CaseColumnsStay, CasesEnd, OneOutcome};
 ghost use Rattle.cse_steps.specs.Laws.{CaseKeepsToBound, EventsEnd, EventsGoWell, FirstFits, RunsCompose, StepsAreSafe};
 ghost use Rattle.cse_steps.specs.Upgraded.{UpgradeRunsTheSame};
 
@@ -105,6 +105,12 @@ pub fn case_ends<C: Code>(verified: &Verified<'_, C>)
     hand_on(verified.program());
     hand_on_sound(verified.dictionary());
 }
+
+/// Law: events, one after the other, leave one thing at most: after as many steps the same case and store,
+/// with the same reports.
+pub fn one_outcome()
+    ensures { OneOutcome }
+{}
 
 /// Law: what the events of a case leave fits again, and its lines are those of the case but for the columns
 /// that a step of an event writes.
