@@ -12,3 +12,4 @@ pub mod Walks
 pub mod Depth
 pub mod Laws
 pub mod Worked
+pub mod WorkedColumns

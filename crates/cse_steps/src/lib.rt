@@ -13,4 +13,4 @@ pub use laws::{
     event_ends, events_go_well, first_states_fit, one_outcome, runs_compose, steps_are_safe,
     upgrade_runs_the_same,
 };
-pub use worked::worked_rows;
+pub use worked::{worked_columns, worked_rows};
