@@ -1,5 +1,5 @@
 -- Instructions that write no item leave the case as it is.
-use Rattle.std.proofs.Common.{◌≡◌, ℕ, ◌+◌, ◌-◌, zero, suc, Bool, true, false, List, [], ◌∷◌, length, reverse, Option, Some, None, refl}
+use Rattle.std.proofs.Common.{◌≡◌, ℕ, ◌+◌, zero, suc, Bool, true, false, List, [], ◌∷◌, length, reverse, Option, Some, None, refl}
 use Rattle.std.specs.Prelude.{ℤ, pos, slice_get, slice_set, option_map, option_and_then, if◌then◌else◌, nat_lt, ◌&&◌, ◌==◌, not, is_some}
 use Rattle.std.specs.Str.{chars}
 use Rattle.cse_value.specs.declared.number.Num.{Num}
@@ -10,20 +10,18 @@ use Rattle.cse_parts.specs.declared.instruction.Op.{Op}
 use Rattle.cse_parts.specs.declared.instruction.Op.TheVariants as ops
 use Rattle.cse_parts.specs.declared.instruction.Instr.{Instr}
 use Rattle.cse_parts.specs.declared.entries.Local.{Local}
-use Rattle.cse_parts.specs.declared.entries.GlobalVariable.{GlobalVariable}
 use Rattle.cse_parts.specs.Image.{Lists, ArrayLists, MessageLists, RoutineLists}
 use Rattle.cse_parts.specs.Placeholders.{message_kinds}
 use Rattle.cse_parts.specs.Turns.{limit_of}
 use Rattle.cse_dict.specs.Dictionary.{shape_of, row_in, spans_at}
 use Rattle.cse_decks.specs.declared.global.GlobalValue.{GlobalValue}
 use Rattle.cse_decks.specs.Store.{with_global, with_cell, cells_of}
-use Rattle.cse_report.specs.declared.argument.Arg.{Arg}
 use Rattle.cse_case.specs.Case.{CaseText, place_of, number_at, text_at}
 use Rattle.cse_typing.specs.Signature.{id_number, id_text, number_item, text_item, is_record, rows_of}
 use Rattle.cse_verify.specs.Verified.{VerifiedProgram}
 use Rattle.cse_steps.specs.Cell.{Cell, Number, Words, Index, Occurrence}
 use Rattle.cse_steps.specs.State.{Open, Call, World, with_given, in_store}
-use Rattle.cse_steps.specs.Operands.{given, with_number, with_text, with_index, with_occurrence, flag, is_within, is_special, special_value, whole_within, row_within, turns_of, combined, texts_compared, cell_of, kept_by_global, kept_by_local, cell_place, args_onto, popped}
+use Rattle.cse_steps.specs.Operands.{given, with_number, with_text, with_occurrence, flag, is_within, is_special, special_value, whole_within, row_within, turns_of, combined, texts_compared, cell_of, kept_by_global, kept_by_local, cell_place, args_onto, popped}
 use Rattle.cse_steps.specs.Step.{Left, acts, at, on, or_to, two, one, many, read, stored_local, stored_global, loaded_cell, stored_cell, entered, again, turned, ends_at, broken, current, rowed}
 use Rattle.cse_steps.specs.Columns.{is_write}
 

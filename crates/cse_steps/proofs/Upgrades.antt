@@ -1,5 +1,5 @@
 -- A program of version 1 and its upgrade take the same steps.
-use Rattle.std.proofs.Common.{◌≡◌, ℕ, zero, suc, ◌+◌, ◌≤◌, Bool, List, [], ◌∷◌, map, Option, Some, None, refl, sym, ap, ◌∙◌, subst}
+use Rattle.std.proofs.Common.{◌≡◌, ℕ, zero, suc, ◌+◌, ◌≤◌, List, [], ◌∷◌, map, Option, Some, None, refl, sym, ap, ◌∙◌, subst}
 use Rattle.std.specs.Prelude.{slice_get, option_map, option_and_then, if◌then◌else◌, ◌==◌, find}
 use Rattle.std.specs.Option.{option_map_or}
 use Rattle.std.proofs.lemmas.Option.{slice_get-map}
@@ -8,10 +8,8 @@ use Rattle.cse_parts.specs.declared.instruction.Op.TheVariants as ops
 use Rattle.cse_parts.specs.declared.instruction.Instr.{Instr}
 use Rattle.cse_parts.specs.declared.entries.Event.{Event}
 use Rattle.cse_parts.specs.declared.entries.EventEntry.{EventEntry}
-use Rattle.cse_parts.specs.declared.version.Version.TheVariants as versions
 use Rattle.cse_parts.specs.Image.{Image, Lists, RoutineLists}
 use Rattle.cse_parts.specs.Upgrade.{greatest_limit, one_to, zero_below, upgrade_instr, with_limits, upgrade, as_it_stands}
-use Rattle.cse_image.specs.Spelling.{FitsIn}
 use Rattle.cse_dict.specs.Dictionary.{DictionaryText}
 use Rattle.cse_case.specs.Case.{CaseText}
 use Rattle.cse_decks.specs.Store.{Kept}
@@ -27,7 +25,7 @@ use Rattle.cse_steps.specs.State.{Open, Call, World, State, Told}
 use Rattle.cse_steps.specs.Operands.{with_number, turns_of}
 use Rattle.cse_steps.specs.Step.{acts, entered, ends_at, broken, called, stepped, step_of, step}
 use Rattle.cse_steps.specs.Run.{run, first, first_calls, Ends}
-use Rattle.cse_steps.specs.Upgraded.{meant, upgraded, RunTheSame, UpgradeRunsTheSame}
+use Rattle.cse_steps.specs.Upgraded.{meant, upgraded, UpgradeRunsTheSame}
 
 -- the same of each value that is there
 then_same : {X Y : Type 0} (f g : X → Option Y) (o : Option X) → ((x : X) → f x ≡ g x) → option_and_then f o ≡ option_and_then g o

@@ -1,5 +1,5 @@
 -- Worked rows: a small program that writes an item, and the columns that it writes.
-use Rattle.std.specs.Prelude.{◌≡◌, ℕ, pos, true, false, List, [], ◌∷◌, length, map, Option, Some, None, option_map, IfSome}
+use Rattle.std.specs.Prelude.{◌≡◌, ℕ, pos, false, List, [], ◌∷◌, length, map, Option, Some, None, option_map, IfSome}
 use Rattle.cse_value.specs.declared.shape.ItemKind.TheVariants as kinds
 use Rattle.cse_parts.specs.declared.entries.Ambient.TheVariants as ambients
 use Rattle.cse_parts.specs.declared.entries.EventCode.TheVariants.{LevelPreproc}

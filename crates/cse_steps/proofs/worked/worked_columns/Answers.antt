@@ -1,4 +1,4 @@
-use Rattle.std.proofs.Common.{◌≡◌, ℕ, ◌+◌, ◌<◌, ◌≤◌, List, [], ◌∷◌, Option, Some, refl, sym, ap, ◌∙◌, subst, arith}
+use Rattle.std.proofs.Common.{◌≡◌, ℕ, ◌≤◌, List, [], ◌∷◌, Some, refl, sym, ap, ◌∙◌, subst, arith}
 use Rattle.std.specs.Prelude.{slice_get}
 use Rattle.std.proofs.lemmas.Option.{same_Some}
 use Rattle.cse_value.specs.declared.shape.ItemShape.{ItemShape}
@@ -18,7 +18,7 @@ use Rattle.cse_steps.specs.Step.{acts}
 use Rattle.cse_steps.specs.Run.{first, run}
 use Rattle.cse_steps.specs.Columns.{WritesColumn}
 use Rattle.cse_steps.specs.Worked.{instr}
-use Rattle.cse_steps.specs.WorkedColumns.{aged_persons, blanking, two_persons, FourthWrites}
+use Rattle.cse_steps.specs.WorkedColumns.{aged_persons, blanking, two_persons}
 use Rattle.cse_steps.proofs.worked.worked_columns.Goals as goal
 
 abbrev age : ItemShape
