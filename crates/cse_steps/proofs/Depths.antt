@@ -1,33 +1,27 @@
 -- The calls of a state that fits keep to the depth of the program.
-use Rattle.std.proofs.Common.{◌≡◌, ℕ, zero, suc, ◌+◌, ◌<◌, ◌≤◌, Bool, List, [], ◌∷◌, ◌++◌, length, map, drop, Option, Some, None, refl, sym, ap, ◌∙◌, subst, arith}
-use Rattle.std.specs.Prelude.{slice_get, option_map, is_some}
+use Rattle.std.proofs.Common.{◌≡◌, ℕ, ◌+◌, ◌≤◌, Bool, List, [], ◌∷◌, ◌++◌, length, map, Some, refl, sym, ap, ◌∙◌, subst}
+use Rattle.std.specs.Prelude.{slice_get, option_map}
 use Rattle.std.specs.Option.{option_map_or}
 use Rattle.std.proofs.lemmas.List.{length-map}
 use Rattle.std.proofs.lemmas.Option.{slice_get-map, slice_get_within}
-use Rattle.cse_value.specs.Shape.{ShapeLists}
-use Rattle.cse_parts.specs.declared.instruction.Op.TheVariants as ops
-use Rattle.cse_parts.specs.declared.instruction.Instr.{Instr}
-use Rattle.cse_parts.specs.Image.{Image, Lists, RoutineLists}
+use Rattle.cse_parts.specs.Image.{RoutineLists}
 use Rattle.cse_dict.specs.Dictionary.{shape_of}
-use Rattle.cse_case.specs.Case.{CaseText}
-use Rattle.cse_typing.specs.declared.control.Control.{Control}
 use Rattle.cse_typing.specs.declared.control.Control.TheVariants.{Call as Calls, Return}
 use Rattle.cse_typing.specs.declared.depth.Depth.{Depth as Cells}
 use Rattle.cse_typing.specs.declared.kind.Kind.{Kind}
 use Rattle.cse_typing.specs.declared.kind.Kind.TheVariants as sorts
-use Rattle.cse_typing.specs.Bracket.{around, KeepsRules}
+use Rattle.cse_typing.specs.Bracket.{around}
 use Rattle.cse_typing.specs.Code.{code_of}
 use Rattle.cse_typing.specs.Depth.{no_depth, ◌⊕◌, count_of, locals_depth}
 use Rattle.cse_typing.specs.Kinds.{local_kind, gift_kinds}
 use Rattle.cse_typing.specs.Skeleton.{control, control_by, skeleton_of}
 use Rattle.cse_verify.specs.declared.depth.Depth.{Depth}
-use Rattle.cse_verify.specs.Chain.{Calling, Stands, Runs, Waits, AllWait, IsChain, kept_by, kept_in, open_in, locals_at, KeepsToDepth}
-use Rattle.cse_verify.specs.Depths.{IsDepthOf}
+use Rattle.cse_verify.specs.Chain.{Calling, AllWait, IsChain, kept_by, kept_in, open_in, locals_at, KeepsToDepth}
 use Rattle.cse_verify.specs.Verified.{VerifiedProgram}
 use Rattle.cse_steps.specs.Cell.{Cell, Number, Words, Index, Occurrence}
 use Rattle.cse_steps.specs.State.{Call, State}
 use Rattle.cse_steps.specs.Depth.{one_cell, cells_of, kept_now, open_now, KeepsDepth}
-use Rattle.cse_steps.specs.Fits.{IsVerified, FitsKind, AllFit, IsAt, IsBehind, AreWaiting, CallsFit, FitsState, openers_of, occurrences_in}
+use Rattle.cse_steps.specs.Fits.{IsVerified, AllFit, IsAt, IsBehind, AreWaiting, CallsFit}
 use Rattle.cse_steps.proofs.Calls.{typed_routine}
 use Rattle.cse_steps.proofs.Places.{on_lands}
 

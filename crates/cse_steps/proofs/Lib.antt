@@ -14,3 +14,8 @@ pub mod First
 pub mod Runs
 pub mod Depths
 pub mod Ends
+pub mod Upgrades
+pub mod SameCase
+pub mod Columns
+pub mod Events
+pub mod Outcomes

@@ -4,8 +4,12 @@ pub mod Tables
 pub mod Operands
 pub mod Step
 pub mod Run
+pub mod Upgraded
 pub mod Fits
+pub mod Columns
+pub mod Events
 pub mod Walks
 pub mod Depth
 pub mod Laws
 pub mod Worked
+pub mod WorkedColumns

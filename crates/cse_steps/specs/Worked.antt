@@ -9,9 +9,8 @@ use Rattle.cse_parts.specs.declared.entries.LocalKind.TheVariants as locals
 use Rattle.cse_parts.specs.declared.instruction.Instr.{Instr}
 use Rattle.cse_parts.specs.declared.instruction.Op.{Op}
 use Rattle.cse_parts.specs.declared.instruction.Op.TheVariants as ops
-use Rattle.cse_parts.specs.Image.{Image}
 use Rattle.cse_dict.specs.Dictionary.{DictionaryText}
-use Rattle.cse_lines.specs.Columns.{LineText, no_line}
+use Rattle.cse_lines.specs.Columns.{no_line}
 use Rattle.cse_case.specs.Case.{CaseText}
 use Rattle.cse_verify.specs.Verified.{VerifiedProgram}
 use Rattle.cse_steps.specs.Cell.{Cell, Index, Words}
