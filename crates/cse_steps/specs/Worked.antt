@@ -19,6 +19,7 @@ use Rattle.cse_steps.specs.Operands.{arguments_taken}
 use Rattle.cse_steps.specs.Step.{current}
 use Rattle.cse_bounds.specs.CaseEvents.{moment}
 use Rattle.cse_steps.specs.Run.{first, run}
+use Rattle.cse_steps.specs.Events.{Outcome, both}
 
 -- a dictionary with one record, of which a case has at most 30
 abbrev pub persons : DictionaryText
@@ -100,6 +101,10 @@ inner_count = record { opener = 2; left = 4; over = None } ∷ record { opener =
 abbrev pub short_text : List Local
 short_text = record { kind = locals.Text; owner = 0; length = 3 } ∷ []
 
+-- what an event leaves that has given a message without arguments
+abbrev pub left_with : ℕ → ℕ → Outcome
+left_with steps message = record { steps = steps; case = None; store = record { globals = []; arrays = [] }; told = record { given = (message, []) ∷ []; imputed = [] } }
+
 pub record AreWorked : Type 0 where
   pub three_persons : ends_after 26 (pos 10 ∷ pos 2 ∷ []) loops 3 ≡ true
   pub two_persons : ends_after 108 (pos 10 ∷ pos 2 ∷ []) loops 2 ≡ true
@@ -109,3 +114,5 @@ pub record AreWorked : Type 0 where
   pub outer_occurrence : current 0 inner_count ≡ Some 2
   pub text_is_cut : arguments_taken short_text (Words (65 ∷ 66 ∷ 67 ∷ 68 ∷ []) ∷ []) ≡ Some (Words (65 ∷ 66 ∷ 67 ∷ []) ∷ [], [])
   pub text_is_padded : arguments_taken short_text (Words (65 ∷ []) ∷ []) ≡ Some (Words (65 ∷ 32 ∷ 32 ∷ []) ∷ [], [])
+  pub steps_are_added : (both (left_with 2 7) (left_with 3 1)).steps ≡ 5
+  pub reports_in_order : map (λ g. g.0) (both (left_with 2 7) (left_with 3 1)).told.given ≡ 7 ∷ 1 ∷ []

@@ -3,7 +3,7 @@
 ghost use Rattle.cse_dict.specs.Sound.{IsSound};
 ghost use Rattle.cse_image.specs.Spelling.{Fits};
 ghost use Rattle.cse_steps.specs.Columns.{ColumnsStay, EventColumnsStay};
-ghost use Rattle.cse_steps.specs.Events.{CaseColumnsStay, CasesEnd, OneOutcome};
+ghost use Rattle.cse_steps.specs.Events.{CaseColumnsStay, CasesEnd, EventsCompose, HandledCount, OneOutcome};
 ghost use Rattle.cse_steps.specs.Laws.{CaseKeepsToBound, EventsEnd, EventsGoWell, FirstFits, RunsCompose, StepsAreSafe};
 ghost use Rattle.cse_steps.specs.Upgraded.{UpgradeRunsTheSame};
 
@@ -110,6 +110,16 @@ pub fn case_ends<C: Code>(verified: &Verified<'_, C>)
 /// with the same reports.
 pub fn one_outcome()
     ensures { OneOutcome }
+{}
+
+/// Law: events and then others leave what the others leave of what the first ones left.
+pub fn events_compose()
+    ensures { EventsCompose }
+{}
+
+/// Law: an event without a routine changes nothing, so that those with one leave what all of them leave.
+pub fn handled_events_count()
+    ensures { HandledCount }
 {}
 
 /// Law: what the events of a case leave fits again, and its lines are those of the case but for the columns

@@ -10,7 +10,7 @@ mod worked;
 
 pub use laws::{
     case_columns_stay, case_ends, case_keeps_to_bound, columns_stay, event_columns_stay,
-    event_ends, events_go_well, first_states_fit, one_outcome, runs_compose, steps_are_safe,
-    upgrade_runs_the_same,
+    event_ends, events_compose, events_go_well, first_states_fit, handled_events_count,
+    one_outcome, runs_compose, steps_are_safe, upgrade_runs_the_same,
 };
 pub use worked::{worked_columns, worked_rows};

@@ -18,4 +18,6 @@ returns c = record {
   outer_occurrence = refl;
   text_is_cut = refl;
   text_is_padded = refl;
+  steps_are_added = refl;
+  reports_in_order = refl;
 }
