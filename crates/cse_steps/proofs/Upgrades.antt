@@ -1,13 +1,12 @@
 -- A program of version 1 and its upgrade take the same steps.
 use Rattle.std.proofs.Common.{◌≡◌, ℕ, zero, suc, ◌+◌, ◌≤◌, List, [], ◌∷◌, map, Option, Some, None, refl, sym, ap, ◌∙◌, subst}
-use Rattle.std.specs.Prelude.{slice_get, option_map, option_and_then, if◌then◌else◌, ◌==◌, find}
+use Rattle.std.specs.Prelude.{slice_get, option_map, option_and_then, if◌then◌else◌, ◌==◌}
 use Rattle.std.specs.Option.{option_map_or}
 use Rattle.std.proofs.lemmas.Option.{slice_get-map}
 use Rattle.cse_parts.specs.declared.instruction.Op.{Op}
 use Rattle.cse_parts.specs.declared.instruction.Op.TheVariants as ops
 use Rattle.cse_parts.specs.declared.instruction.Instr.{Instr}
 use Rattle.cse_parts.specs.declared.entries.Event.{Event}
-use Rattle.cse_parts.specs.declared.entries.EventEntry.{EventEntry}
 use Rattle.cse_parts.specs.Image.{Image, Lists, RoutineLists}
 use Rattle.cse_parts.specs.Upgrade.{greatest_limit, one_to, zero_below, upgrade_instr, with_limits, upgrade, as_it_stands}
 use Rattle.cse_dict.specs.Dictionary.{DictionaryText}
@@ -18,7 +17,7 @@ use Rattle.cse_typing.specs.Handlers.{routine_of}
 use Rattle.cse_typing.proofs.Twins.{FindsSame, AreTwins, AllTwins, twins_of_routine, code_mapped}
 use Rattle.cse_typing.proofs.Upgrades.{upgrade_twins}
 use Rattle.cse_bounds.specs.Bound.{bound}
-use Rattle.cse_bounds.specs.CaseEvents.{Moment, is_of, event_bound}
+use Rattle.cse_bounds.specs.CaseEvents.{Moment, event_bound}
 use Rattle.cse_verify.specs.Verified.{VerifiedProgram}
 use Rattle.cse_verify.proofs.MeaningLaws.{upgrade_same}
 use Rattle.cse_steps.specs.State.{Open, Call, World, State, Told}
@@ -117,9 +116,9 @@ module _ (f : Instr → Instr) (lists : Lists) (l m : List ℕ) (code : List Ins
       (first_calls_same moment.occurrence (routine_of lists.events moment.event))
 
 -- an event ends as in the other program, whose bounds are the same
-bound_of_entry : (x y : Image) → ((r : ℕ) → bound x r ≡ bound y r) → (o : Option EventEntry) → option_map_or (λ entry. bound x entry.routine) o 0 ≡ option_map_or (λ entry. bound y entry.routine) o 0
-bound_of_entry x y same None = refl
-bound_of_entry x y same (Some entry) = same entry.routine
+bound_of : (x y : Image) → ((r : ℕ) → bound x r ≡ bound y r) → (o : Option ℕ) → option_map_or (bound x) o 0 ≡ option_map_or (bound y) o 0
+bound_of x y same None = refl
+bound_of x y same (Some r) = same r
 
 same_ends : (v w : VerifiedProgram) → ((n : ℕ) (s : State) → run v n s ≡ run w n s) → (moment : Moment) (case : Option CaseText) (store : Kept) (n : ℕ) (case' : Option CaseText) (store' : Kept) (told : Told)
     → first v moment case store ≡ first w moment case store → event_bound v.image moment.event ≡ event_bound w.image moment.event → Ends v moment case store n case' store' told → Ends w moment case store n case' store' told
@@ -138,7 +137,7 @@ upgrade_runs d x fits =
     let all = upgrade_twins x.code fits.code in
     let runs = runs_same upgrade_instr x.lists l m x.code d all in
     let firsts = firsts_same upgrade_instr x.lists l m x.code d in
-    let bounds : (e : Event) → event_bound (upgrade x) e ≡ event_bound (as_it_stands x) e = λ e. bound_of_entry (upgrade x) (as_it_stands x) (upgrade_same x fits).bounds (find (is_of e) x.lists.events) in
+    let bounds : (e : Event) → event_bound (upgrade x) e ≡ event_bound (as_it_stands x) e = λ e. bound_of (upgrade x) (as_it_stands x) (upgrade_same x fits).bounds (routine_of x.lists.events e) in
     record {
       firsts = firsts;
       steps = step_same upgrade_instr x.lists l m x.code d all;
