@@ -1,2 +1,6 @@
-pub mod PassLaws
+pub mod BatchLaws
 mod CheckLaws
+pub mod EndLaws
+pub mod EventLaws
+pub mod HeldLaws
+pub mod PassLaws
