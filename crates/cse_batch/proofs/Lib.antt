@@ -3,4 +3,6 @@ mod CheckLaws
 pub mod EndLaws
 pub mod EventLaws
 pub mod HeldLaws
+pub mod OrderLaws
 pub mod PassLaws
+pub mod SceneLaws

@@ -4,4 +4,6 @@ pub mod Events
 pub mod Laws
 pub mod Pass
 pub mod RunClauses
+pub mod Runs
+pub mod Scene
 pub mod Totals

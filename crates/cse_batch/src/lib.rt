@@ -7,8 +7,11 @@
 #![tactic(auto)]
 
 mod copy;
+mod events;
 mod image;
 mod laws;
+mod machine;
+mod parts;
 mod totals;
 
 pub use copy::pass;
