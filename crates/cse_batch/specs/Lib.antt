@@ -1,5 +1,6 @@
 pub mod Batch
 pub mod Checked
+pub mod Edits
 pub mod Events
 pub mod Laws
 pub mod Pass

@@ -6,6 +6,8 @@
 //! - `laws`: laws of the definition of a batch (`specs/Batch.antt`).
 #![tactic(auto)]
 
+mod application;
+mod cases;
 mod copy;
 mod events;
 mod image;
