@@ -6,4 +6,5 @@ pub mod EventLaws
 pub mod HeldLaws
 pub mod OrderLaws
 pub mod PassLaws
+pub mod RunLaws
 pub mod SceneLaws

@@ -5,6 +5,7 @@ pub mod Events
 pub mod Laws
 pub mod Pass
 pub mod RunClauses
+pub mod RunState
 pub mod Runs
 pub mod Scene
 pub mod Totals

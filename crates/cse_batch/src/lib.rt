@@ -14,6 +14,7 @@ mod image;
 mod laws;
 mod machine;
 mod parts;
+mod run;
 mod totals;
 
 pub use copy::pass;
