@@ -1,5 +1,6 @@
 pub mod BatchLaws
 mod CheckLaws
+pub mod CloseLaws
 pub mod EditLaws
 pub mod EndLaws
 pub mod EventLaws

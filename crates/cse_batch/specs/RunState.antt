@@ -1,9 +1,13 @@
 -- How far a run is, before its outputs are closed.
-use Rattle.std.specs.Prelude.{◌≡◌, ◌≤◌, ◌<◌, ◌^◌, ◌⊎◌, ℕ, Bool, true, List, [], length, Option, None}
+use Rattle.std.specs.Prelude.{◌≡◌, ◌≤◌, ◌<◌, ◌^◌, ◌⊎◌, ℕ, Bool, true, List, [], ◌++◌, length, Option, None}
 use Rattle.std.specs.Io.KnownBytes.{Consumes, IsAtEnd}
 use Rattle.cse_lines.specs.Runs.{given, fault_in}
+use Rattle.cse_dict.specs.Dictionary.{item_names}
 use Rattle.cse_decks.specs.Store.{Kept}
+use Rattle.cse_decks.specs.Deck.{deck_text}
 use Rattle.cse_output.specs.Gathering.{Going, Gathering}
+use Rattle.cse_report.specs.Held.{ending}
+use Rattle.cse_report.specs.Frequency.{frequencies_text}
 use Rattle.cse_report.specs.Unended.{Begins}
 use Rattle.cse_report.specs.declared.reports.Reports.{Reports}
 use Rattle.cse_verify.specs.Verified.{VerifiedProgram}
@@ -57,3 +61,17 @@ pub record Halts (v : VerifiedProgram) (first : Kept) (before after : Option (Li
   pub writing : fault.number ≡ 71 → (out.going.gave_up ≡ true) ⊎ (listing.going.gave_up ≡ true)
   pub other : 70 ≤ fault.number → (fault.number ≡ 70) ⊎ ((fault.number ≡ 71) ⊎ (fault.number ≡ 90))
   pub no_line : 70 ≤ fault.number → fault.line ≡ 0
+
+-- All ran: the written lines are those of the batch over what was read, and what is listed, counted and kept makes up its other texts.
+pub record Ran (v : VerifiedProgram) (first : Kept) (before after : Option (List ℕ)) (store : Kept) (reports : Reports) (out listing : Device) (totals : Totals) : Type 0 where
+  pub bytes : List ℕ
+  pub reads : Consumes before after bytes
+  pub end : IsAtEnd after
+  pub sound : fault_in v.dictionary true true bytes ≡ None
+  pub totals_are : totals ≡ (batch v first bytes true).totals
+  pub written : Has out (batch v first bytes true).out
+  pub listed : List ℕ
+  pub has_listed : Has listing listed
+  pub listing_is : listed ++ ending reports.listing totals.cases totals.lines totals.unseen ≡ (batch v first bytes true).listing
+  pub frequencies_are : frequencies_text (item_names v.dictionary) reports.frequencies ≡ (batch v first bytes true).frequencies
+  pub decks_are : deck_text v.image store ≡ (batch v first bytes true).decks

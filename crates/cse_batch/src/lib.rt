@@ -20,6 +20,8 @@ mod totals;
 pub use copy::pass;
 pub use image::{CheckFault, check_image};
 pub use laws::{applications_end, cases_end, ends_are_final, fronts_stay};
+pub use machine::Runs;
+pub use run::run_by;
 pub use totals::{RunFault, Totals};
 
 #[cfg(test)]
