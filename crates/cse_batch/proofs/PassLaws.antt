@@ -87,6 +87,11 @@ SoFar-none now d r same none unended unread front =
       fault = λ later more h. ap (λ f. fault_in d f later (held_of r ++ more)) (sym first) ∙ (sym (later_by-none (fault_in d (is_front r) later (held_of r ++ more))) ∙ ap (λ n. later_by n (fault_in d (is_front r) later (held_of r ++ more))) (sym front));
     }
 
+pub runs-none : (now : Option (List ℕ)) (d : DictionaryText) (r : ReaderText) (same : r.dictionary ≡ d) (none : held_of r ≡ []) (unended : r.ended ≡ false) (unread : r.reads ≡ 0) (front : r.lines ≡ 0)
+    → (SoFar-none now d r same none unended unread front).runs ≡ []
+unfolding SoFar-none
+runs-none now d r same none unended unread front = refl
+
 -- a run more is counted
 totals_more : (d : DictionaryText) (runs : List (List FileLine)) (run : List FileLine) (case : Bool) (lines unseen : ℕ) → case ≡ is_case_run d run → lines ≡ length run → unseen ≡ unseen_in d run
     → totals_of d (runs ++ run ∷ []) ≡ record { cases = (totals_of d runs).cases + cond case 1 0; lines = (totals_of d runs).lines + lines; unseen = (totals_of d runs).unseen + unseen }
@@ -108,6 +113,12 @@ pub at_most_one : (t : Bool) → cond t 1 0 ≤ 1
 at_most_one true = omega arith
 at_most_one false = omega arith
 
+-- the runs that are given of all that was read
+pub given_so_far : (before now : Option (List ℕ)) (d : DictionaryText) (r : ReaderText) (text : List ℕ) (totals : Totals) (s : SoFar before now d r text totals)
+    → given d true r.ended (text ++ held_of r) ≡ s.runs ++ given d (is_front r) r.ended (held_of r)
+given_so_far before now d r text totals s =
+    ap (given d true r.ended) (sym (append-nil (text ++ held_of r))) ∙ (s.goes_on r.ended [] (λ e. (e, refl)) ∙ ap (λ l. s.runs ++ given d (is_front r) r.ended l) (append-nil (held_of r)))
+
 -- what may follow what was read may follow what was held
 may_follow : (ended ended' later : Bool) (taken more : List ℕ) → (ended ≡ true → (taken ≡ []) × (ended' ≡ true)) → MayFollow ended' later more → MayFollow ended later (taken ++ more)
 may_follow ended ended' later taken more stays h = λ e.
@@ -117,7 +128,7 @@ may_follow ended ended' later taken more stays h = λ e.
 
 module _ (before now after : Option (List ℕ)) (d : DictionaryText) (r r' : ReaderText) (text : List ℕ) (totals : Totals) (s : SoFar before now d r text totals) where
   module _ (c : CaseText) (n : NextCase now after r r' (Ok (Some c))) where
-    gives : GivesCase d (held_of r ++ n.taken) (held_of r') (is_front r) r'.ended (r.lines + 1) c
+    pub gives : GivesCase d (held_of r ++ n.taken) (held_of r') (is_front r) r'.ended (r.lines + 1) c
     gives = subst (λ (x : DictionaryText). GivesCase x (held_of r ++ n.taken) (held_of r') (is_front r) r'.ended (r.lines + 1) c) s.dictionary n.answers
 
     shift : (text ++ held_of r) ++ n.taken ≡ (text ++ written_run c.run) ++ held_of r'
@@ -146,7 +157,7 @@ module _ (before now after : Option (List ℕ)) (d : DictionaryText) (r r' : Rea
         ap (λ (x : DictionaryText). is_case (shape_of x).records (types_of c.run.lines)) dictionary_is
         ∙ ap (λ (x : RunText). is_case (shape_of d).records (types_of x.lines)) gives.run.is
 
-    lines_now : r'.lines ≡ r.lines + length gives.run.lines
+    pub lines_now : r'.lines ≡ r.lines + length gives.run.lines
     lines_now = n.lines ∙ ap (λ k. r.lines + k) run_lines
 
     behind : is_front r' ≡ false
@@ -187,9 +198,30 @@ module _ (before now after : Option (List ℕ)) (d : DictionaryText) (r r' : Rea
               ∙ (ap (λ k. later_by k (fault_in d false later (held_of r' ++ rest))) (sym lines_now) ∙ ap (λ f. later_by r'.lines (fault_in d f later (held_of r' ++ rest))) (sym behind)))))));
         }
 
+    -- its run comes behind the others
+    pub runs-case : (case : Bool) (is : case ≡ is_case (records_of c) (types_of c.run.lines)) (few : r'.lines ≤ 2 ^ 40 * 65536) → (SoFar-case case is few).runs ≡ s.runs ++ gives.run.lines ∷ []
+    unfolding SoFar-case
+    runs-case case is few = refl
+
   module _ (n : NextCase now after r r' (Ok None)) where
     all : (text ++ held_of r) ++ n.taken ≡ text
     all = append_assoc text (held_of r) n.taken ∙ (ap (λ l. text ++ l) n.answers.none ∙ append-nil text)
+
+    -- no other run is given
+    pub given_all : given d true true text ≡ s.runs
+    given_all =
+        ap (given d true true) (sym all)
+        ∙ (s.goes_on true n.taken (λ e. (refl, (n.stays e).0))
+        ∙ (ap (λ l. s.runs ++ given d (is_front r) true l) n.answers.none
+        ∙ (ap (λ l. s.runs ++ l) (nothing_given d (is_front r)) ∙ append-nil s.runs)))
+
+    pub sound_all : fault_in d true true text ≡ None
+    sound_all =
+        ap (fault_in d true true) (sym all)
+        ∙ (s.fault true n.taken (λ e. (refl, (n.stays e).0)) ∙ (ap (λ l. later_by r.lines (fault_in d (is_front r) true l)) n.answers.none ∙ ap (later_by r.lines) (nothing_faulty d (is_front r))))
+
+    pub reads_all : Consumes before after text
+    reads_all = subst (Consumes before after) all (Consumes-trans before now after (text ++ held_of r) n.taken s.reads n.consumes)
 
     -- the end was read
     pub SoFar-end : (start : Option (List ℕ)) (sound : Bool) (g : Going) → Gathering start sound g text → Copied d before after start sound g totals
@@ -206,24 +238,35 @@ module _ (before now after : Option (List ℕ)) (d : DictionaryText) (r r' : Rea
         }
 
   module _ (error : DataError) (n : NextCase now after r r' (Err error)) where
-    is_error : IsError d (held_of r ++ n.taken) (is_front r) r'.ended r.lines error
+    pub is_error : IsError d (held_of r ++ n.taken) (is_front r) r'.ended r.lines error
     is_error = subst (λ (x : DictionaryText). IsError x (held_of r ++ n.taken) (is_front r) r'.ended r.lines error) s.dictionary n.answers
 
     whole : (text ++ held_of r) ++ n.taken ≡ text ++ (held_of r ++ n.taken)
     whole = append_assoc text (held_of r) n.taken
 
-    data_fault : IsFaulty d (held_of r ++ n.taken) (is_front r) r'.ended r.lines error → IsDataFault d r'.ended (text ++ (held_of r ++ n.taken)) (record { number = error.number; line = error.line })
+    pub data_fault : IsFaulty d (held_of r ++ n.taken) (is_front r) r'.ended r.lines error → IsDataFault d r'.ended (text ++ (held_of r ++ n.taken)) (record { number = error.number; line = error.line })
     data_fault f = record {
       place = r.lines + f.place;
       first = ap (fault_in d true r'.ended) (sym whole) ∙ (s.fault r'.ended n.taken (λ e. ((n.stays e).1, (n.stays e).0)) ∙ ap (later_by r.lines) f.fault);
       line = f.line;
     }
 
-    breaks_off : NeedsMore d (held_of r ++ n.taken) (is_front r) r'.ended → BreaksOff d r'.ended (text ++ (held_of r ++ n.taken))
+    pub breaks_off : NeedsMore d (held_of r ++ n.taken) (is_front r) r'.ended → BreaksOff d r'.ended (text ++ (held_of r ++ n.taken))
     breaks_off needs = record {
       unended = needs.unended;
       sound = ap (fault_in d true r'.ended) (sym whole) ∙ (s.fault r'.ended n.taken (λ e. ((n.stays e).1, (n.stays e).0)) ∙ ap (later_by r.lines) needs.sound);
     }
+
+    -- the runs that are given of all that was read
+    pub given_more : given d true r'.ended (text ++ (held_of r ++ n.taken)) ≡ s.runs ++ given d (is_front r) r'.ended (held_of r ++ n.taken)
+    given_more = ap (given d true r'.ended) (sym whole) ∙ s.goes_on r'.ended n.taken (λ e. ((n.stays e).1, (n.stays e).0))
+
+    pub reads_more : Consumes before after (text ++ (held_of r ++ n.taken))
+    reads_more = subst (Consumes before after) whole (Consumes-trans before now after (text ++ held_of r) n.taken s.reads n.consumes)
+
+    pub few_reads : (failed : Bool) → (failed ≡ true) ⊎ (r'.reads ≡ 2 ^ 40) → (failed ≡ true) ⊎ (2 ^ 40 ≤ length (text ++ (held_of r ++ n.taken)))
+    few_reads failed (inl f) = inl f
+    few_reads failed (inr f) = inr (omega (arith, s.counted, n.counted, ap length whole, length-append (text ++ held_of r) n.taken))
 
     -- no run is given of what is held: all that is given was put
     all_put : given d (is_front r) r'.ended (held_of r ++ n.taken) ≡ [] → text ≡ given_bytes d r'.ended (text ++ (held_of r ++ n.taken))

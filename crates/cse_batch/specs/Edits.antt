@@ -1,0 +1,35 @@
+-- What a run of lines comes to, and an event of the application.
+use Rattle.std.specs.Prelude.{◌≡◌, ℕ, Bool, List, [], ◌++◌, length, replicate, Option, Some, None}
+use Rattle.cse_parts.specs.declared.entries.EventCode.{EventCode}
+use Rattle.cse_case.specs.Case.{CaseText}
+use Rattle.cse_bounds.specs.CaseEvents.{moment}
+use Rattle.cse_decks.specs.Store.{Kept}
+use Rattle.cse_output.specs.Gathering.{Going, Gathering}
+use Rattle.cse_report.specs.Held.{begun as no_reports, flushed}
+use Rattle.cse_report.specs.Unended.{unended}
+use Rattle.cse_report.specs.AllReported.{all_reported}
+use Rattle.cse_report.specs.Frequency.{all_imputed}
+use Rattle.cse_report.specs.declared.reports.Reports.{Reports}
+use Rattle.cse_verify.specs.Verified.{VerifiedProgram}
+use Rattle.cse_batch.specs.Events.{after_moment, edited}
+use Rattle.cse_batch.specs.Batch.{Progress, application_reports, case_reports, tables_of, without_case}
+
+-- the case and the store are those after its events, and its lines and messages were reported
+pub record Edits (v : VerifiedProgram) (t : CaseText) (store : Kept) (old : Reports) (t' : CaseText) (store' : Kept) (new : Reports) : Type 0 where
+  pub case : (edited v store t).case ≡ Some t'
+  pub store_is : store' ≡ (edited v store t).store
+  pub listing : new.listing ≡ all_reported old.listing (case_reports t (edited v store t).told)
+  pub frequencies : new.frequencies ≡ all_imputed old.frequencies (edited v store t).told.imputed
+
+-- the same of an event of the application
+pub record Applies (v : VerifiedProgram) (code : EventCode) (store : Kept) (old : Reports) (store' : Kept) (new : Reports) : Type 0 where
+  pub store_is : store' ≡ (after_moment v (without_case store) (moment code 0 0)).store
+  pub listing : new.listing ≡ all_reported old.listing (application_reports (after_moment v (without_case store) (moment code 0 0)).told)
+  pub frequencies : new.frequencies ≡ all_imputed old.frequencies (after_moment v (without_case store) (moment code 0 0)).told.imputed
+
+-- What a batch keeps that has come so far: its store and its tables, and its reports, whose lines were all put before the listing.
+pub record Keeps (v : VerifiedProgram) (p : Progress) (store : Kept) (reports : Reports) (start : Option (List ℕ)) (sound : Bool) (g : Going) : Type 0 where
+  pub store_is : store ≡ p.store
+  pub listing : reports.listing ≡ flushed (all_reported (no_reports v.image.lists.messages) p.reports)
+  pub frequencies : reports.frequencies ≡ tables_of v p.imputed
+  pub list : Gathering start sound g (unended v.image.lists.messages p.reports)

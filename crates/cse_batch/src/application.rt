@@ -1,0 +1,67 @@
+//! The events of the application, which stand around the cases.
+
+ghost use Rattle.std.specs.Prelude.{◌≡◌, ℕ, Bool, List, [], Option, OnOk, OnErr, true};
+ghost use Rattle.cse_output.specs.Gathering.{going, Puts};
+ghost use Rattle.cse_decks.specs.Store.{StoreFits};
+ghost use Rattle.cse_report.specs.Reports.{ReportsFit};
+ghost use Rattle.cse_steps.specs.Fits.{is_of_run};
+ghost use Rattle.cse_batch.specs.Batch.{Progress, after_application};
+ghost use Rattle.cse_batch.specs.Edits.{Applies, Keeps};
+
+use crate::machine::Runs;
+use cse_decks::Store;
+use cse_image::{Code, Event, EventCode};
+use cse_output::Gatherer;
+use cse_report::Reports;
+use cse_steps::event_ends;
+use cse_value::{OutOfMemory, Output};
+use cse_verify::Verified;
+
+/// Runs the preproc or the postproc of the application.
+fn run_application<C: Code, M: Runs>(
+    verified: &Verified<'_, C>,
+    machine: &mut M,
+    store: &mut Store,
+    reports: &mut Reports,
+    code: EventCode,
+) -> Result<(), OutOfMemory>
+    requires machine { M.program machine.old ≡ verified.now }
+    requires of_run { is_of_run code ≡ true }
+    requires store { StoreFits verified.now.image store.old }
+    requires reports { ReportsFit verified.now.image reports.old }
+    ensures same { M.program machine.new ≡ verified.now }
+    ensures applies { OnOk result (Applies verified.now code store.old reports.old store.new reports.new) }
+    ensures store_fits { OnOk result (StoreFits verified.now.image store.new) }
+    ensures reports_fit { ReportsFit verified.now.image reports.new }
+{
+    event_ends(verified);
+    reports.begin_run();
+    machine.run_plain(store, reports, Event { code, index: 0 })?;
+    Ok(())
+}
+
+/// Runs the preproc or the postproc of the application, and puts before the listing what it lists.
+pub(crate) fn apply<C: Code, M: Runs, L: Output>(
+    verified: &Verified<'_, C>,
+    machine: &mut M,
+    store: &mut Store,
+    reports: &mut Reports,
+    code: EventCode,
+    gatherer: &mut Gatherer,
+    listing: &mut L,
+) -> Result<(), OutOfMemory>
+    requires machine { M.program machine.old ≡ verified.now }
+    requires of_run { is_of_run code ≡ true }
+    requires store { StoreFits verified.now.image store.old }
+    requires reports { ReportsFit verified.now.image reports.old }
+    ensures same { M.program machine.new ≡ verified.now }
+    ensures keeps { OnOk result ((p : Progress) (start : Option (List ℕ)) (sound : Bool) → Keeps verified.now p store.old reports.old start sound (going (L.contents listing.old) (L.has_failed listing.old) gatherer.old.waiting.items gatherer.old.gave_up)
+        → Keeps verified.now (after_application verified.now code p) store.new reports.new start sound (going (L.contents listing.new) (L.has_failed listing.new) gatherer.new.waiting.items gatherer.new.gave_up)) }
+    ensures err { OnErr result (Puts (going (L.contents listing.old) (L.has_failed listing.old) gatherer.old.waiting.items gatherer.old.gave_up) (going (L.contents listing.new) (L.has_failed listing.new) gatherer.new.waiting.items gatherer.new.gave_up) []) }
+    ensures store_fits { OnOk result (StoreFits verified.now.image store.new) }
+    ensures reports_fit { ReportsFit verified.now.image reports.new }
+{
+    run_application(verified, machine, store, reports, code)?;
+    reports.listing.put_to(gatherer, listing);
+    Ok(())
+}

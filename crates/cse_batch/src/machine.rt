@@ -1,0 +1,49 @@
+//! What runs the events of a verified program.
+
+ghost use Rattle.std.specs.Prelude.{◌≡◌, Option, Some, None, IfOk, true};
+ghost use Rattle.cse_bounds.specs.CaseEvents.{moment};
+ghost use Rattle.cse_verify.specs.Verified.{VerifiedProgram};
+ghost use Rattle.cse_report.specs.Reports.{ReportsFit};
+ghost use Rattle.cse_steps.specs.Fits.{FitsFirst, is_of_run};
+ghost use Rattle.cse_batch.specs.Runs.{RunsTo};
+
+use cse_case::Case;
+use cse_decks::Store;
+use cse_image::Event;
+use cse_report::Reports;
+use cse_value::OutOfMemory;
+
+/// Runs the events of a program, each to its end. After want of memory an event has not ended.
+pub trait Runs {
+    // The program that it runs.
+    ghost program: { Self → VerifiedProgram };
+
+    /// Runs an event, of an occurrence from 1 where it is an item's and else 0, and tells its steps.
+    fn run_event(
+        &mut self,
+        case: &mut Case<'_>,
+        store: &mut Store,
+        reports: &mut Reports,
+        event: Event,
+        occurrence: u16,
+    ) -> Result<u64, OutOfMemory>
+        requires fits { FitsFirst (program self.old) (moment event.code event.index occurrence) (Some case.old) store.old }
+        requires reports { ReportsFit (program self.old).image reports.old }
+        ensures same { program self.new ≡ program self.old }
+        ensures ended { IfOk result (λ n. RunsTo (program self.old) (moment event.code event.index occurrence) (Some case.old) store.old n (Some case.new) store.new reports.old reports.new) }
+        ensures reports_fit { ReportsFit (program self.old).image reports.new };
+
+    /// Runs an event of the application, which has no case, and tells its steps.
+    fn run_plain(
+        &mut self,
+        store: &mut Store,
+        reports: &mut Reports,
+        event: Event,
+    ) -> Result<u64, OutOfMemory>
+        requires of_run { is_of_run event.code ≡ true }
+        requires fits { FitsFirst (program self.old) (moment event.code event.index 0) None store.old }
+        requires reports { ReportsFit (program self.old).image reports.old }
+        ensures same { program self.new ≡ program self.old }
+        ensures ended { IfOk result (λ n. RunsTo (program self.old) (moment event.code event.index 0) None store.old n None store.new reports.old reports.new) }
+        ensures reports_fit { ReportsFit (program self.old).image reports.new };
+}

@@ -1,0 +1,279 @@
+//! The runs of lines of a data file, one after the other.
+
+ghost use Rattle.std.specs.Prelude.{◌≡◌, [], None, false, IfOk, IfErr, OnOk, length, replicate};
+ghost use Rattle.cse_decks.specs.Store.{StoreFits};
+ghost use Rattle.cse_lines.specs.Reader.{held_of};
+ghost use Rattle.cse_output.specs.Gathering.{going};
+ghost use Rattle.cse_report.specs.Held.{begun as no_reports};
+ghost use Rattle.cse_report.specs.Reports.{ReportsFit};
+ghost use Rattle.cse_batch.specs.RunClauses.{RunStops, RunsWhole, contents, failures};
+ghost use Rattle.cse_batch.specs.RunState.{CasesRan, Halts, Ran, device};
+
+use crate::application::apply;
+use crate::cases::edit;
+use crate::machine::Runs;
+use crate::totals::{RunFault, Totals};
+use cse_case::CaseReader;
+use cse_decks::{Store, save};
+use cse_image::{Code, EventCode};
+use cse_output::Gatherer;
+use cse_report::Reports;
+use cse_value::{Input, Output};
+use cse_verify::Verified;
+use std::alloc::Global;
+
+/// An output has failed.
+const WRITE_FAULT: RunFault = RunFault {
+    number: 71,
+    line: 0,
+};
+
+/// Want of memory.
+const MEMORY_FAULT: RunFault = RunFault {
+    number: 90,
+    line: 0,
+};
+
+/// Runs the application's preproc, and then each run of lines with its events: its lines are put before one
+/// output, and what it lists before the other.
+pub(crate) fn run_cases<C: Code, M: Runs, R: Input, O: Output, L: Output>(
+    verified: &Verified<'_, C>,
+    machine: &mut M,
+    reader: &mut CaseReader<'_, R>,
+    store: &mut Store,
+    reports: &mut Reports,
+    written: &mut Gatherer,
+    out: &mut O,
+    listed: &mut Gatherer,
+    listing: &mut L,
+) -> Result<Totals, RunFault>
+    requires machine { M.program machine.old ≡ verified.now }
+    requires dictionary { reader.old.stream.dictionary ≡ verified.now.dictionary }
+    requires sound { reader.old.stream.error ≡ None }
+    requires start { held_of reader.old.stream ≡ [] }
+    requires open { reader.old.stream.ended ≡ false }
+    requires unread { reader.old.stream.reads ≡ 0 }
+    requires front { reader.old.stream.lines ≡ 0 }
+    requires store { StoreFits verified.now.image store.old }
+    requires reports { ReportsFit verified.now.image reports.old }
+    requires no_reports { reports.old.listing ≡ no_reports verified.now.image.lists.messages }
+    requires no_values { reports.old.frequencies ≡ replicate (length verified.now.image.lists.items) [] }
+    requires none_written { written.old.waiting.items ≡ [] }
+    requires going_written { written.old.gave_up ≡ false }
+    requires none_listed { listed.old.waiting.items ≡ [] }
+    requires going_listed { listed.old.gave_up ≡ false }
+    ensures same_reference { reader.new.input.ghost_name ≡ reader.old.input.ghost_name }
+    ensures same { M.program machine.new ≡ verified.now }
+    ensures ok { IfOk result (λ totals. CasesRan verified.now store.old (R.remaining reader.old.input.now) (R.remaining reader.new.input.now) store.new reports.new
+        (device (O.contents out.old) (O.has_failed out.old) (going (O.contents out.new) (O.has_failed out.new) written.new.waiting.items written.new.gave_up))
+        (device (L.contents listing.old) (L.has_failed listing.old) (going (L.contents listing.new) (L.has_failed listing.new) listed.new.waiting.items listed.new.gave_up)) totals) }
+    ensures err { IfErr result (λ fault. Halts verified.now store.old (R.remaining reader.old.input.now) (R.remaining reader.new.input.now) (R.has_failed reader.new.input.now)
+        (device (O.contents out.old) (O.has_failed out.old) (going (O.contents out.new) (O.has_failed out.new) written.new.waiting.items written.new.gave_up))
+        (device (L.contents listing.old) (L.has_failed listing.old) (going (L.contents listing.new) (L.has_failed listing.new) listed.new.waiting.items listed.new.gave_up)) fault) }
+    ensures store_fits { OnOk result (StoreFits verified.now.image store.new) }
+    ensures reports_fit { ReportsFit verified.now.image reports.new }
+{
+    reports.listing.put_to(listed, listing);
+    let preproc = EventCode::ApplicationPreproc;
+    let Ok(()) = apply(verified, machine, store, reports, preproc, listed, listing) else {
+        return Err(MEMORY_FAULT);
+    };
+    let mut cases = 0u64;
+    let mut lines = 0u64;
+    let mut unseen = 0u64;
+    'runs: loop {
+        match reader.next() {
+            Ok(None) => return Ok(Totals {
+                cases,
+                lines,
+                unseen,
+            }),
+            Ok(Some(mut case)) => {
+                cases += u64::from(case.is_case());
+                lines += case.lines();
+                unseen += case.unseen().len() as u64;
+                let Ok(()) = edit(verified, machine, &mut case, store, reports) else {
+                    return Err(MEMORY_FAULT);
+                };
+                case.put_to(written, out);
+                reports.listing.put_to(listed, listing);
+                if written.gave_up || listed.gave_up {
+                    return Err(WRITE_FAULT);
+                }
+            }
+            Err(error) => return Err(RunFault {
+                number: error.number,
+                line: error.line,
+            }),
+        }
+    }
+}
+
+/// Runs the application's events around the runs of lines.
+fn run_events<C: Code, M: Runs, R: Input, O: Output, L: Output>(
+    verified: &Verified<'_, C>,
+    machine: &mut M,
+    reader: &mut CaseReader<'_, R>,
+    store: &mut Store,
+    reports: &mut Reports,
+    written: &mut Gatherer,
+    out: &mut O,
+    listed: &mut Gatherer,
+    listing: &mut L,
+) -> Result<Totals, RunFault>
+    requires machine { M.program machine.old ≡ verified.now }
+    requires dictionary { reader.old.stream.dictionary ≡ verified.now.dictionary }
+    requires sound { reader.old.stream.error ≡ None }
+    requires start { held_of reader.old.stream ≡ [] }
+    requires open { reader.old.stream.ended ≡ false }
+    requires unread { reader.old.stream.reads ≡ 0 }
+    requires front { reader.old.stream.lines ≡ 0 }
+    requires store { StoreFits verified.now.image store.old }
+    requires reports { ReportsFit verified.now.image reports.old }
+    requires no_reports { reports.old.listing ≡ no_reports verified.now.image.lists.messages }
+    requires no_values { reports.old.frequencies ≡ replicate (length verified.now.image.lists.items) [] }
+    requires none_written { written.old.waiting.items ≡ [] }
+    requires going_written { written.old.gave_up ≡ false }
+    requires none_listed { listed.old.waiting.items ≡ [] }
+    requires going_listed { listed.old.gave_up ≡ false }
+    ensures same_reference { reader.new.input.ghost_name ≡ reader.old.input.ghost_name }
+    ensures same { M.program machine.new ≡ verified.now }
+    ensures ok { IfOk result (λ totals. Ran verified.now store.old (R.remaining reader.old.input.now) (R.remaining reader.new.input.now) store.new reports.new
+        (device (O.contents out.old) (O.has_failed out.old) (going (O.contents out.new) (O.has_failed out.new) written.new.waiting.items written.new.gave_up))
+        (device (L.contents listing.old) (L.has_failed listing.old) (going (L.contents listing.new) (L.has_failed listing.new) listed.new.waiting.items listed.new.gave_up)) totals) }
+    ensures err { IfErr result (λ fault. Halts verified.now store.old (R.remaining reader.old.input.now) (R.remaining reader.new.input.now) (R.has_failed reader.new.input.now)
+        (device (O.contents out.old) (O.has_failed out.old) (going (O.contents out.new) (O.has_failed out.new) written.new.waiting.items written.new.gave_up))
+        (device (L.contents listing.old) (L.has_failed listing.old) (going (L.contents listing.new) (L.has_failed listing.new) listed.new.waiting.items listed.new.gave_up)) fault) }
+    ensures store_fits { OnOk result (StoreFits verified.now.image store.new) }
+    ensures reports_fit { ReportsFit verified.now.image reports.new }
+{
+    let totals = run_cases(
+        verified, machine, reader, store, reports, written, out, listed, listing,
+    )?;
+    let postproc = EventCode::ApplicationPostproc;
+    let Ok(()) = apply(verified, machine, store, reports, postproc, listed, listing) else {
+        return Err(MEMORY_FAULT);
+    };
+    Ok(totals)
+}
+
+/// Runs all that the reader has left, and closes the outputs.
+fn run_reader<C: Code, M: Runs, R: Input, O: Output, L: Output, F: Output, D: Output>(
+    verified: &Verified<'_, C>,
+    machine: &mut M,
+    reader: &mut CaseReader<'_, R>,
+    store: &mut Store,
+    reports: &mut Reports,
+    out: &mut O,
+    listing: &mut L,
+    frequencies: &mut F,
+    decks: &mut D,
+) -> Result<Totals, RunFault>
+    requires machine { M.program machine.old ≡ verified.now }
+    requires dictionary { reader.old.stream.dictionary ≡ verified.now.dictionary }
+    requires sound { reader.old.stream.error ≡ None }
+    requires start { held_of reader.old.stream ≡ [] }
+    requires open { reader.old.stream.ended ≡ false }
+    requires unread { reader.old.stream.reads ≡ 0 }
+    requires front { reader.old.stream.lines ≡ 0 }
+    requires store { StoreFits verified.now.image store.old }
+    requires reports { ReportsFit verified.now.image reports.old }
+    requires no_reports { reports.old.listing ≡ no_reports verified.now.image.lists.messages }
+    requires no_values { reports.old.frequencies ≡ replicate (length verified.now.image.lists.items) [] }
+    ensures same_reference { reader.new.input.ghost_name ≡ reader.old.input.ghost_name }
+    ensures same { M.program machine.new ≡ verified.now }
+    ensures ok { IfOk result (λ totals. RunsWhole verified.now store.old (R.remaining reader.old.input.now) (R.remaining reader.new.input.now)
+        (contents (O.contents out.old) (L.contents listing.old) (F.contents frequencies.old) (D.contents decks.old)) (contents (O.contents out.new) (L.contents listing.new) (F.contents frequencies.new) (D.contents decks.new)) totals) }
+    ensures err { IfErr result (λ fault. RunStops verified.now store.old (R.remaining reader.old.input.now) (R.remaining reader.new.input.now)
+        (contents (O.contents out.old) (L.contents listing.old) (F.contents frequencies.old) (D.contents decks.old)) (contents (O.contents out.new) (L.contents listing.new) (F.contents frequencies.new) (D.contents decks.new))
+        (R.has_failed reader.new.input.now) (failures (O.has_failed out.new) (L.has_failed listing.new) (F.has_failed frequencies.new) (D.has_failed decks.new)) fault) }
+{
+    let mut written = Gatherer::new();
+    let mut listed = Gatherer::new();
+    let totals = match run_events(
+        verified,
+        machine,
+        reader,
+        store,
+        reports,
+        &mut written,
+        out,
+        &mut listed,
+        listing,
+    ) {
+        Ok(totals) => totals,
+        Err(fault) => {
+            let _ = written.finish(out);
+            let _ = listed.finish(listing);
+            return Err(fault);
+        }
+    };
+    let Ok(()) = written.finish(out) else {
+        return Err(WRITE_FAULT);
+    };
+    let Ok(()) = listed.finish(listing) else {
+        return Err(WRITE_FAULT);
+    };
+    let Ok(()) = reports
+        .listing
+        .write_to(totals.cases, totals.lines, totals.unseen, listing)
+    else {
+        return Err(WRITE_FAULT);
+    };
+    let Ok(()) = reports
+        .frequencies
+        .write_to(verified.dictionary(), frequencies)
+    else {
+        return Err(WRITE_FAULT);
+    };
+    let Ok(()) = save(verified.program(), store, decks) else {
+        return Err(WRITE_FAULT);
+    };
+    Ok(totals)
+}
+
+/// The whole run over a data file, by what runs the events of the verified program.
+///
+/// `Ok` comes only where the end of the input was read and no line is faulty; then what was written to each
+/// output is its text in the batch over what was read, and the totals are those of the batch. After a fault
+/// what was written to each is a front of its text; after a fault of the data, and after 70, the written
+/// lines and the listing are whole as far as runs were given, each unless its output has failed. The faults
+/// are those of `DataError`, 71 where an output has failed, and 90.
+pub fn run_by<C: Code, M: Runs, R: Input, O: Output, L: Output, F: Output, D: Output>(
+    alloc: Global,
+    verified: &Verified<'_, C>,
+    machine: &mut M,
+    store: Store,
+    input: &mut R,
+    out: &mut O,
+    listing: &mut L,
+    frequencies: &mut F,
+    decks: &mut D,
+) -> Result<Totals, RunFault>
+    requires machine { M.program machine.old ≡ verified.now }
+    requires fits { StoreFits verified.now.image store }
+    ensures ok { IfOk result (λ totals. RunsWhole verified.now store (R.remaining input.old) (R.remaining input.new)
+        (contents (O.contents out.old) (L.contents listing.old) (F.contents frequencies.old) (D.contents decks.old)) (contents (O.contents out.new) (L.contents listing.new) (F.contents frequencies.new) (D.contents decks.new)) totals) }
+    ensures err { IfErr result (λ fault. RunStops verified.now store (R.remaining input.old) (R.remaining input.new)
+        (contents (O.contents out.old) (L.contents listing.old) (F.contents frequencies.old) (D.contents decks.old)) (contents (O.contents out.new) (L.contents listing.new) (F.contents frequencies.new) (D.contents decks.new))
+        (R.has_failed input.new) (failures (O.has_failed out.new) (L.has_failed listing.new) (F.has_failed frequencies.new) (D.has_failed decks.new)) fault) }
+{
+    let Ok(mut reports) = Reports::new(alloc, verified.program()) else {
+        return Err(MEMORY_FAULT);
+    };
+    let mut kept = store;
+    let mut reader = CaseReader::new(alloc, verified.dictionary(), input);
+    let result = run_reader(
+        verified,
+        machine,
+        &mut reader,
+        &mut kept,
+        &mut reports,
+        out,
+        listing,
+        frequencies,
+        decks,
+    );
+    let _ = reader.close();
+    result
+}
