@@ -1,3 +1,6 @@
 pub mod Fault
 pub mod MessageFile
 pub mod OrderFile
+pub mod Scope
+pub mod Uses
+pub mod WellTyped

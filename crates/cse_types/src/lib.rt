@@ -2,16 +2,19 @@
 //!
 //! - `messages`: a message file.
 //! - `gaps`: blanks and digits at the front of a line.
+//! - `meaning`: what names mean, and where logic stands.
 //! - `order`: an order file.
 //! - `error`: why a text is refused.
 #![tactic(auto)]
 
 mod error;
 mod gaps;
+mod meaning;
 mod messages;
 mod order;
 
 pub use error::TypeError;
+pub use meaning::{Meaning, Routine};
 pub use messages::Messages;
 pub use order::Order;
 
