@@ -1,2 +1,3 @@
 mod MessageLaws
 mod OrderLaws
+pub mod Right

@@ -4,3 +4,4 @@ pub mod OrderFile
 pub mod Scope
 pub mod Uses
 pub mod WellTyped
+pub mod Judge

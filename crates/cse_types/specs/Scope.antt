@@ -1,5 +1,5 @@
 -- What names mean at a place of logic, and which occurrence an item has there.
-use Rattle.std.specs.Prelude.{ℕ, ◌+◌, Bool, true, false, ◌&&◌, ◌||◌, not, ◌==◌, nat_eq, if◌then◌else◌, List, [], ◌∷◌, ◌++◌, length, map, position, slice_get, Option, Some, None}
+use Rattle.std.specs.Prelude.{ℕ, ◌+◌, Bool, true, false, ◌&&◌, ◌||◌, not, ◌==◌, nat_eq, nat_le, if◌then◌else◌, List, [], ◌∷◌, ◌++◌, length, map, position, slice_get, Option, Some, None}
 use Rattle.std.specs.List.{list_any}
 use Rattle.std.specs.Option.{option_map, option_map_or}
 use Rattle.std.specs.Map.{lookup}
@@ -60,7 +60,7 @@ pub record Facts : Type 0 where
   pub needs_case : Bool
   pub assigned : List ℕ
 
--- the loops that are open, from the innermost: the record, where it is a `for`, and the variable
+-- the loops that are open, from the outermost: the record, where it is a `for`, and the variable
 abbrev pub Loops : Type 0
 Loops = List (Option ℕ × Variable)
 
@@ -75,12 +75,14 @@ pub record Scope : Type 0 where
   pub routine : Routine
   pub loops : Loops
 
--- what a name means: a parameter, what the dictionary has, or what is declared
-abbrev pub meant : Scope → Spelling → Option Meaning
+-- what a name means: a parameter, what is declared, or what the dictionary has; a name has at most 32 characters
+unfoldable pub meant : Scope → Spelling → Option Meaning
 meant s name =
+    if nat_le (length name.text) 32 then
     first_of (option_map (λ k. m.Variable (v.Parameter k)) (position (bytes_eq (kept_name name.text)) s.parameters))
-    (first_of (in_dictionary s.dictionary name.text)
-    (lookup (bytes_eq (kept_name name.text)) s.declared))
+    (first_of (lookup (bytes_eq (kept_name name.text)) s.declared)
+    (in_dictionary s.dictionary name.text))
+    else None
 
 -- a function's name in its own body is its result
 abbrev pub own_result : Routine → ℕ → Option Variable
@@ -112,7 +114,7 @@ has_case (r.Procedure o.Application) = false
 has_case _ = true
 
 -- the kind of an item, and the number of its record, 255 for an id item
-abbrev pub kind_and_owner : DictionaryText → ℕ → Option (ItemKind × ℕ)
+unfoldable pub kind_and_owner : DictionaryText → ℕ → Option (ItemKind × ℕ)
 kind_and_owner d item = option_map (λ (x : ItemText). (x.shape.kind, x.shape.owner)) (slice_get d.items item)
 
 abbrev pub is_over : Option ℕ → ℕ → Bool
@@ -134,7 +136,7 @@ most_of d record_number = option_map_or (λ x. x.shape.max_records) (slice_get d
 
 -- the occurrence that an item of the record means without a subscript: that of the innermost `for` over the record, that of the event,
 -- or the only one
-abbrev pub found : Scope → ℕ → Option Found
+unfoldable pub found : Scope → ℕ → Option Found
 found s record_number =
     if is_looped s.loops record_number then Some h.Loop
     else (if is_event_of s.routine record_number then Some h.Event
@@ -160,4 +162,4 @@ are_free loops (g ∷ gs) = is_free loops (v.Global g) && are_free loops gs
 
 -- the scope of a loop's body
 abbrev pub within : Scope → Option ℕ → Variable → Scope
-within s over variable = record s { loops = (over, variable) ∷ s.loops }
+within s over variable = record s { loops = s.loops ++ (over, variable) ∷ [] }

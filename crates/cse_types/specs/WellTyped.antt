@@ -22,7 +22,7 @@ use Rattle.cse_syntax.specs.declared.tree.Operator.{Operator}
 use Rattle.cse_syntax.specs.declared.tree.Operator.TheVariants as op
 use Rattle.cse_syntax.specs.declared.tree.Jump.{Jump}
 use Rattle.cse_syntax.specs.declared.tree.Jump.TheVariants as j
-use Rattle.cse_syntax.specs.Leaf.{number_of, text_of}
+use Rattle.cse_syntax.specs.Leaf.{number_of, text_of, is_within, MOST}
 use Rattle.cse_syntax.specs.Tree as syntax
 use Rattle.cse_syntax.specs.Tree.{Spelling}
 use Rattle.cse_typed.specs.declared.tree.Variable.{Variable}
@@ -70,7 +70,7 @@ whole_set None = None
 whole_set (Some x) = if x.shape.partial then None else Some x.shape.item
 
 -- the kind of the item of a set that is whole
-abbrev pub set_kind : DictionaryText → ℕ → Option ItemKind
+unfoldable pub set_kind : DictionaryText → ℕ → Option ItemKind
 set_kind d set = option_and_then (λ item. option_map (λ x. x.0) (kind_and_owner d item)) (whole_set (slice_get d.sets set))
 
 -- a set of a numeric item (41, 44) that is whole (42)
@@ -94,14 +94,14 @@ AreDeckPicks s (Some (Some dimensions)) picks = ArePicks s dimensions picks
 AreDeckPicks s _ picks = ⊥
 
 -- how many dimensions an array has
-abbrev pub dimensions_of : Scope → ℕ → Option ℕ
+unfoldable pub dimensions_of : Scope → ℕ → Option ℕ
 dimensions_of s array = option_map length (option_and_then (λ x. x) (slice_get s.arrays array))
 
 -- ---- calls
 
 -- a function that has ended (45) may be called with so many arguments (44), where there is a case if it needs one (49), and if it assigns no
 -- variable of an open loop (47)
-abbrev pub may_call : Scope → ℕ → Option (Option Facts) → Bool
+unfoldable pub may_call : Scope → ℕ → Option (Option Facts) → Bool
 may_call s arguments (Some (Some f)) = (f.parameters == arguments) && ((has_case s.routine || not f.needs_case) && are_free s.loops f.assigned)
 may_call s arguments _ = false
 
@@ -120,13 +120,17 @@ is_last no_operation = true
 is_last (operation_and operator x xs) = false
 
 -- `/` is the topmost operator of what stands in `int`
-abbrev pub may_stand : Bool → Operator → Operations → Bool
-may_stand top operator others = not (is_divide operator) || (top && is_last others)
+abbrev pub may_divide : Bool → Operator → Bool → Bool
+may_divide top operator last = not (is_divide operator) || (top && last)
+
+-- the number that digits write, which is at most 9,223,372,036,854,775,807
+unfoldable pub value_of : Spelling → Option ℤ
+value_of digits = if is_within 0 MOST digits.text then Some (pos (number_of digits.text)) else None
 
 -- The number is sound; `top` tells that it stands right inside `int`.
 abbrev mutual
   pub IsNumber : Scope → Bool → Number → Type 0
-  IsNumber s top (Constant digits value) = value ≡ pos (number_of digits.text)
+  IsNumber s top (Constant digits value) = value_of digits ≡ Some value
   IsNumber s top (Special' token value) = Unit {0}
   IsNumber s top (Variable' name variable) = variable_named s name ≡ Some variable                       -- 40, 44
   IsNumber s top (Item name item) = (meant s name ≡ Some (m.Item (item_of item))) × IsPresent s kind.Number item      -- 40; 41, 44, 49
@@ -160,7 +164,7 @@ abbrev mutual
 
   pub AreOperands : Scope → Bool → Operations → Type 0
   AreOperands s top no_operation = Unit {0}
-  AreOperands s top (operation_and operator x xs) = Holds (may_stand top operator xs) × IsNumber s false x × AreOperands s top xs  -- 46
+  AreOperands s top (operation_and operator x xs) = Holds (may_divide top operator (is_last xs)) × IsNumber s false x × AreOperands s top xs  -- 46
 
 -- ---- messages
 

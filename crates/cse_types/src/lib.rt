@@ -9,6 +9,7 @@
 
 mod error;
 mod gaps;
+mod judged;
 mod meaning;
 mod messages;
 mod order;
