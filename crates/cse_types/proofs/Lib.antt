@@ -1,3 +1,5 @@
 mod MessageLaws
 mod OrderLaws
 pub mod Right
+pub mod Complete
+pub mod NameLaws

@@ -5,3 +5,4 @@ pub mod Scope
 pub mod Uses
 pub mod WellTyped
 pub mod Judge
+pub mod Walk

@@ -1,6 +1,6 @@
 -- What names mean at a place of logic, and which occurrence an item has there.
 use Rattle.std.specs.Prelude.{ℕ, ◌+◌, Bool, true, false, ◌&&◌, ◌||◌, not, ◌==◌, nat_eq, nat_le, if◌then◌else◌, List, [], ◌∷◌, ◌++◌, length, map, position, slice_get, Option, Some, None}
-use Rattle.std.specs.List.{list_any}
+use Rattle.std.specs.List.{list_any, list_all}
 use Rattle.std.specs.Option.{option_map, option_map_or}
 use Rattle.std.specs.Map.{lookup}
 use Rattle.std.specs.Str.{bytes_eq}
@@ -75,14 +75,16 @@ pub record Scope : Type 0 where
   pub routine : Routine
   pub loops : Loops
 
--- what a name means: a parameter, what is declared, or what the dictionary has; a name has at most 32 characters
+-- what a text means as a name: a parameter, what is declared, or what the dictionary has
+abbrev pub meant_in : Scope → List ℕ → Option Meaning
+meant_in s text =
+    first_of (option_map (λ k. m.Variable (v.Parameter k)) (position (bytes_eq (kept_name text)) s.parameters))
+    (first_of (lookup (bytes_eq (kept_name text)) s.declared)
+    (in_dictionary s.dictionary text))
+
+-- what a name means; it has at most 32 characters
 unfoldable pub meant : Scope → Spelling → Option Meaning
-meant s name =
-    if nat_le (length name.text) 32 then
-    first_of (option_map (λ k. m.Variable (v.Parameter k)) (position (bytes_eq (kept_name name.text)) s.parameters))
-    (first_of (lookup (bytes_eq (kept_name name.text)) s.declared)
-    (in_dictionary s.dictionary name.text))
-    else None
+meant s name = if nat_le (length name.text) 32 then meant_in s name.text else None
 
 -- a function's name in its own body is its result
 abbrev pub own_result : Routine → ℕ → Option Variable
@@ -123,8 +125,7 @@ is_over (Some x) record_number = x == record_number
 
 -- an open `for` is over the record
 abbrev pub is_looped : Loops → ℕ → Bool
-is_looped [] record_number = false
-is_looped (x ∷ xs) record_number = is_over x.0 record_number || is_looped xs record_number
+is_looped loops record_number = list_any (λ l. is_over l.0 record_number) loops
 
 -- the event is of an item of the record
 abbrev pub is_event_of : Routine → ℕ → Bool
@@ -152,13 +153,11 @@ is_same_variable _ _ = false
 
 -- no open loop is over this variable
 abbrev pub is_free : Loops → Variable → Bool
-is_free [] x = true
-is_free (l ∷ ls) x = not (is_same_variable l.1 x) && is_free ls x
+is_free loops x = not (list_any (λ l. is_same_variable l.1 x) loops)
 
 -- none of these globals is the variable of an open loop
 abbrev pub are_free : Loops → List ℕ → Bool
-are_free loops [] = true
-are_free loops (g ∷ gs) = is_free loops (v.Global g) && are_free loops gs
+are_free loops globals = list_all (λ g. is_free loops (v.Global g)) globals
 
 -- the scope of a loop's body
 abbrev pub within : Scope → Option ℕ → Variable → Scope

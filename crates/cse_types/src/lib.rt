@@ -8,11 +8,14 @@
 #![tactic(auto)]
 
 mod error;
+mod faults;
 mod gaps;
 mod judged;
 mod meaning;
 mod messages;
+mod names;
 mod order;
+mod scope;
 
 pub use error::TypeError;
 pub use meaning::{Meaning, Routine};
