@@ -3,3 +3,4 @@ mod OrderLaws
 pub mod Right
 pub mod Complete
 pub mod NameLaws
+pub mod Walks

@@ -10,6 +10,7 @@
 mod error;
 mod faults;
 mod gaps;
+mod item;
 mod judged;
 mod meaning;
 mod messages;
