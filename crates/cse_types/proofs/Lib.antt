@@ -1,2 +1,6 @@
 mod MessageLaws
 mod OrderLaws
+pub mod Right
+pub mod Complete
+pub mod NameLaws
+pub mod Walks

@@ -1,0 +1,18 @@
+//! Trees of logic in which each name stands beside what it names: what the checker gives, and what the meaning and
+//! the compiler stand on.
+//!
+//! - `tree`: the trees.
+//! - `node`: nodes that hold others.
+//! - `laws`: laws of the definitions.
+#![tactic(auto)]
+
+mod laws;
+mod node;
+mod tree;
+
+pub use laws::tokens_are_counted;
+pub use tree::{
+    Argument, Arm, Array, Body, Counting, Declaration, Dimension, Entry, Field, Found, Function,
+    Limit, Number, Operation, Owner, Pick, Present, Procedure, Statement, Tree, Variable, Which,
+    Whole, Words,
+};

@@ -1,0 +1,268 @@
+//! Trees of logic in which each name stands beside what it names.
+//!
+//! A number and a text are of different types, so that no text stands where a number is wanted. Names are slices of
+//! the source with their tokens, as in the trees of syntax. Globals, arrays, functions and messages are numbered from
+//! 0 in order of the source; items, records and value sets as in the dictionary.
+
+use cse_syntax::{Count, Jump, Lexeme, Literal, Message, Operator, Parameter, Relation, Special};
+
+// ---- what names mean
+
+/// A variable that holds a number.
+#[derive(Clone, Copy, Debug, PartialEq, Eq)]
+pub enum Variable {
+    Global(usize),
+    /// By its place among the parameters, from 0.
+    Parameter(usize),
+    /// The result of the function.
+    Result,
+}
+
+/// Which occurrence an item of a record means where no subscript stands.
+#[derive(Clone, Copy, Debug, PartialEq, Eq)]
+pub enum Found {
+    /// That of the innermost `for` over the record.
+    Loop,
+    /// That of the event, which is of an item of the record.
+    Event,
+    /// The first, since the record has one at most.
+    First,
+}
+
+/// An item of a record.
+#[derive(Clone, Copy, Debug, PartialEq, Eq)]
+pub struct Field {
+    /// The number of its record.
+    pub owner: u8,
+    pub item: u16,
+}
+
+/// An item without a subscript.
+#[derive(Clone, Copy, Debug, PartialEq, Eq)]
+pub enum Present {
+    /// An id item.
+    Id(u16),
+    Here(Field, Found),
+}
+
+/// What picks one index of a hot deck: the row of an item's value in a value set.
+#[derive(Clone, Copy, Debug, PartialEq, Eq)]
+pub struct Pick {
+    pub item: Present,
+    pub set: u16,
+    /// Whether a value without a row picks one more row, the last.
+    pub has_leftover: bool,
+}
+
+// ---- expressions
+
+#[cycle(value)]
+#[derive(Drop)]
+pub enum Number<'a> {
+    /// With the number that the digits write.
+    Literal(Lexeme<'a>, i64),
+    /// With its token.
+    Special(usize, Special),
+    Variable(Lexeme<'a>, Variable),
+    Item(Lexeme<'a>, Present),
+    /// With a subscript.
+    ItemAt(Lexeme<'a>, Field, Box<Number<'a>>),
+    /// A cell of an array, by its subscripts.
+    Cell(Lexeme<'a>, usize, Vec<Number<'a>>),
+    /// A call of a function.
+    Call(Lexeme<'a>, usize, Vec<Number<'a>>),
+    /// In parentheses.
+    Group(Box<Number<'a>>),
+    Int(Box<Number<'a>>),
+    IsSpecial(Box<Number<'a>>),
+    /// The cell of a hot deck.
+    Deck(Lexeme<'a>, usize, Vec<Pick>),
+    TotOcc(Lexeme<'a>, u8),
+    MaxOcc(Lexeme<'a>, u8),
+    CurOcc(Lexeme<'a>, u8, Found),
+    /// Whether an item's value is in a set, with the set's name where one stands there.
+    InSet(Lexeme<'a>, Present, Option<Lexeme<'a>>, u16),
+    Minus(Box<Number<'a>>),
+    Not(Box<Number<'a>>),
+    Compare(Box<Number<'a>>, Relation, Box<Number<'a>>),
+    CompareTexts(Box<Words<'a>>, Relation, Box<Words<'a>>),
+    /// Operands of one level with its operators between them, which group to the left.
+    Chain(Box<Number<'a>>, Vec<Operation<'a>>),
+}
+
+/// A text.
+#[cycle(value)]
+#[derive(Drop)]
+pub enum Words<'a> {
+    /// In quotes.
+    Literal(Lexeme<'a>),
+    Global(Lexeme<'a>, usize),
+    Item(Lexeme<'a>, Present),
+    /// With a subscript.
+    ItemAt(Lexeme<'a>, Field, Box<Number<'a>>),
+    /// In parentheses.
+    Group(Box<Words<'a>>),
+}
+
+/// An operator and the operand after it.
+#[cycle(value)]
+#[derive(Drop)]
+pub struct Operation<'a> {
+    pub operator: Operator,
+    pub operand: Number<'a>,
+}
+
+// ---- statements
+
+/// Which occurrence of an item a value is put into.
+#[derive(Drop)]
+pub enum Which<'a> {
+    Here(Found),
+    At(Number<'a>),
+}
+
+/// A value of a message.
+#[derive(Drop)]
+pub enum Argument<'a> {
+    Number(Number<'a>),
+    Words(Words<'a>),
+}
+
+/// A number with its sign, and what it is.
+#[derive(Clone, Copy, Debug)]
+pub struct Whole<'a> {
+    pub literal: Literal<'a>,
+    pub value: i64,
+}
+
+/// Where a `do` begins and ends.
+#[derive(Clone, Copy, Debug)]
+pub enum Limit<'a> {
+    Literal(Whole<'a>),
+    /// The occurrences of a record, by its number.
+    Count(Count, Lexeme<'a>, u8),
+}
+
+/// The head of a `do varying`.
+#[derive(Clone, Copy, Debug)]
+pub struct Counting<'a> {
+    pub name: Lexeme<'a>,
+    pub variable: Variable,
+    pub from: Limit<'a>,
+    pub again: Lexeme<'a>,
+    pub to: Limit<'a>,
+    pub by: Option<Lexeme<'a>>,
+    /// What each turn adds.
+    pub step: i64,
+}
+
+#[cycle(action)]
+#[derive(Drop)]
+pub enum Statement<'a> {
+    Empty,
+    Set(Lexeme<'a>, Variable, Number<'a>),
+    SetText(Lexeme<'a>, usize, Words<'a>),
+    SetItem(Lexeme<'a>, Field, Which<'a>, Number<'a>),
+    SetTextItem(Lexeme<'a>, Field, Which<'a>, Words<'a>),
+    SetCell(Lexeme<'a>, usize, Vec<Number<'a>>, Number<'a>),
+    /// A call of a function, whose result is given up.
+    Call(Lexeme<'a>, usize, Vec<Number<'a>>),
+    /// The `if` and each `elseif`, in order, and the `else`.
+    If(Arm<'a>, Vec<Arm<'a>>, Option<Vec<Statement<'a>>>),
+    /// Over the occurrences of a record: the variable, the record and the body.
+    For(Lexeme<'a>, Variable, Lexeme<'a>, u8, Vec<Statement<'a>>),
+    Do(Counting<'a>, Vec<Statement<'a>>),
+    /// With its token.
+    Jump(usize, Jump),
+    Impute(Lexeme<'a>, Field, Which<'a>, Number<'a>),
+    PutDeck(Lexeme<'a>, usize, Vec<Pick>, Number<'a>),
+    /// The message, its number among the messages of the source, its values, and whether it is only counted.
+    ErrMsg(Message<'a>, usize, Vec<Argument<'a>>, bool),
+}
+
+/// A condition and the statements that it guards.
+#[cycle(action)]
+#[derive(Drop)]
+pub struct Arm<'a> {
+    pub condition: Number<'a>,
+    pub body: Vec<Statement<'a>>,
+}
+
+// ---- sources
+
+/// The size of an array in one direction: a number, or the rows of a value set, with one more where `(+)` stands.
+#[derive(Clone, Copy, Debug)]
+pub enum Dimension<'a> {
+    Number(Lexeme<'a>, u16),
+    /// The set's name, its number, whether `(+)` stands there, and the size.
+    Set(Lexeme<'a>, u16, bool, u16),
+}
+
+#[derive(Drop)]
+pub struct Array<'a> {
+    pub name: Lexeme<'a>,
+    pub dimensions: Vec<Dimension<'a>>,
+    pub is_saved: bool,
+    /// The first cells at the start; the others are 0.
+    pub cells: Vec<Whole<'a>>,
+}
+
+#[derive(Drop)]
+pub struct Function<'a> {
+    pub name: Lexeme<'a>,
+    pub parameters: Vec<Parameter<'a>>,
+    pub body: Vec<Statement<'a>>,
+    /// Whether it needs a case: it names a record or an item, uses a hot deck, or calls a function that needs one.
+    pub needs_case: bool,
+}
+
+#[derive(Drop)]
+pub enum Declaration<'a> {
+    Numeric(Vec<Lexeme<'a>>),
+    /// The length of the texts, as written and as a number, and their names.
+    Alpha(Lexeme<'a>, u16, Vec<Lexeme<'a>>),
+    Array(Array<'a>),
+    Function(Function<'a>),
+}
+
+/// The statements of a procedure, by the words that stand before them.
+#[derive(Drop)]
+pub enum Body<'a> {
+    Plain(Vec<Statement<'a>>),
+    Preproc(Vec<Statement<'a>>),
+    Both(Vec<Statement<'a>>, Vec<Statement<'a>>),
+    Postproc(Vec<Statement<'a>>),
+}
+
+/// What a procedure belongs to.
+#[derive(Clone, Copy, Debug, PartialEq, Eq)]
+pub enum Owner {
+    Application,
+    Level,
+    Record(u8),
+    Item(Field),
+}
+
+#[derive(Drop)]
+pub struct Procedure<'a> {
+    pub name: Lexeme<'a>,
+    pub owner: Owner,
+    pub body: Body<'a>,
+}
+
+/// A message of the source: its number, 0 for a text that stands in the source, its text, and whether it is only
+/// counted.
+#[derive(Clone, Copy, Debug)]
+pub struct Entry<'a> {
+    pub number: u32,
+    pub text: &'a str,
+    pub is_summary: bool,
+}
+
+/// What stands after `PROC GLOBAL`, if it is there, the other procedures, and the messages of each `errmsg`, in order.
+#[derive(Drop)]
+pub struct Tree<'a> {
+    pub globals: Option<Vec<Declaration<'a>>>,
+    pub procedures: Vec<Procedure<'a>>,
+    pub messages: Vec<Entry<'a>>,
+}

@@ -1,0 +1,14 @@
+use Rattle.std.proofs.Common.{◌≡◌, ◌∙◌, ap, sym, arith, length}
+use Rattle.std.specs.Prelude.{◌||◌, not, true}
+use Rattle.cse_typed.specs.Typed.{number}
+use Rattle.cse_types.specs.Judge.{is_there}
+use Rattle.cse_types.proofs.Walks.{sole_else, or_true}
+use Rattle.cse_types.proofs.item.only_one.Goals as goal
+
+pub returns-then-len-ne1-clause-value : goal.returns-then-len-ne1-clause-value
+returns-then-len-ne1-clause-value c = sym (sole_else number c.args.subscripts.items (λ e. omega (arith, e, c.len.ensures, c.if-len-ne1.true)))
+
+pub returns-then-len-ne1-clause-noted : goal.returns-then-len-ne1-clause-noted
+returns-then-len-ne1-clause-noted c =
+    c.note.ensures ∙ sym (or_true (is_there c.args.faults.now.worst))
+    ∙ ap (λ o. is_there c.args.faults.now.worst || not (is_there o)) (sym (sole_else number c.args.subscripts.items (λ e. omega (arith, e, c.len.ensures, c.if-len-ne1.true))))

@@ -1,0 +1,31 @@
+//! The fault that is told: the one with the least token, and then the least number.
+
+ghost use Rattle.std.specs.Prelude.{◌≡◌, true};
+ghost use Rattle.cse_types.specs.Judge.{is_there};
+
+/// A fault of logic: its number, and the index of its token.
+#[derive(Clone, Copy, Debug, PartialEq, Eq)]
+pub struct Fault {
+    pub number: u8,
+    pub token: usize,
+}
+
+/// The least fault so far.
+#[derive(Clone, Copy, Debug, PartialEq, Eq)]
+pub struct Faults {
+    pub worst: Option<Fault>,
+}
+
+impl Faults {
+    pub fn note(&mut self, number: u8, token: usize)
+        ensures { is_there self.new.worst ≡ true }
+    {
+        let is_less = match self.worst {
+            None => true,
+            Some(worst) => token < worst.token || (token == worst.token && number < worst.number),
+        };
+        if is_less {
+            self.worst = Some(Fault { number, token });
+        }
+    }
+}

@@ -1,0 +1,27 @@
+//! What names mean, and where logic stands.
+
+use cse_typed::{Owner, Variable};
+
+/// What a name means.
+#[derive(Clone, Copy, Debug, PartialEq, Eq)]
+pub enum Meaning {
+    /// A number: a global or a parameter.
+    Variable(Variable),
+    /// A global text.
+    Text(usize),
+    Array(usize),
+    Function(usize),
+    Record(u16),
+    Item(u16),
+    Set(u16),
+    /// The name of the dictionary, which stands for the application's.
+    Application,
+    Level,
+}
+
+/// The routine in which logic stands.
+#[derive(Clone, Copy, Debug, PartialEq, Eq)]
+pub enum Routine {
+    Procedure(Owner),
+    Function(usize),
+}
