@@ -29,6 +29,7 @@ use Rattle.cse_batch.specs.RunClauses.{Contents, Failures, GivesFronts, GivesTex
 use Rattle.cse_batch.specs.RunState.{CasesRan, Device, Halts, Has, Ran}
 use Rattle.cse_batch.proofs.BatchLaws.{batch_whole, fronts_stay}
 use Rattle.cse_batch.proofs.HeldLaws.{listing_held, unended_held}
+use Rattle.cse_batch.proofs.RunLaws.{begun_out}
 use Rattle.cse_batch.proofs.PassLaws.{all_of, front_of, gave_up}
 
 -- ---- after the last run of lines
@@ -98,7 +99,11 @@ halts_last v first before after store reports failed out list g totals c idle =
       ended = true;
       reads = c.reads;
       end = λ e. c.end;
+      runs = runs;
+      more = [];
+      given_are = sym (append-nil runs);
       written = p.out;
+      written_is = refl;
       listed = text;
       has_written = c.written;
       has_listed = subst (λ (l : List ℕ). Gathering list.start list.sound g l) (append-nil text) (idle list.start list.sound text c.keeps.list);
@@ -182,6 +187,12 @@ stops v first before after input_failed out list fault h r r' new new' failed fa
       needed = h.needed;
       out_whole = λ low works. appends_as out.start new h.written all.out (h.out_whole low) (front_of r out.start new h.written a.writes) (all_of r out.start new h.written out.sound failed a.writes a.fails works);
       listing_whole = λ low works. appends_as list.start new' h.listed all.listing (h.listing_whole low) (front_of r' list.start new' h.listed b.writes) (all_of r' list.start new' h.listed list.sound failed' b.writes b.fails works);
+      out_runs = λ works. record {
+        runs = h.runs;
+        more = h.more;
+        given_are = h.given_are;
+        appends = appends_as out.start new h.written (after_runs v (begun v first) h.runs).out h.written_is (front_of r out.start new h.written a.writes) (all_of r out.start new h.written out.sound failed a.writes a.fails works);
+      };
       reading = h.reading;
       writing = λ e. elim (h.writing e) [ inl g ↦ inl (a.gave_up g) | inr g ↦ inr (inl (b.gave_up g)) ];
       other = h.other;
@@ -190,9 +201,16 @@ stops v first before after input_failed out list fault h r r' new new' failed fa
 
 -- ---- an output that failed at the end
 
+-- the lines of a whole batch are those of its runs
+out_whole : (v : VerifiedProgram) (first : Kept) (bytes : List ℕ) → fault_in v.dictionary true true bytes ≡ None → (batch v first bytes true).out ≡ (after_runs v (begun v first) (given v.dictionary true true bytes)).out
+out_whole v first bytes sound =
+    let runs = given v.dictionary true true bytes in
+    let p = after_runs v (begun v first) runs in
+    (is_whole v (after_application v ApplicationPostproc p) (totals_of v.dictionary runs) (batch v first bytes true) (batch_whole v first bytes runs sound refl)).out ∙ application_out v p
+
 pub stops_end : (v : VerifiedProgram) (first : Kept) (before after : Option (List ℕ)) (store : Kept) (reports : Reports) (o l : Device) (totals : Totals) (input_failed : Bool) (old new : Contents) (failed : Failures) (r : Ran v first before after store reports o l totals)
-    → GivesFronts old new (batch v first r.bytes true) → HasFailure failed → RunStops v first before after old new input_failed failed (record { number = 71; line = 0 })
-stops_end v first before after store reports o l totals input_failed old new failed r fronts some = record {
+    → GivesFronts old new (batch v first r.bytes true) → (failed.out ≡ false → Appends old.out new.out (batch v first r.bytes true).out) → HasFailure failed → RunStops v first before after old new input_failed failed (record { number = 71; line = 0 })
+stops_end v first before after store reports o l totals input_failed old new failed r fronts wrote some = record {
   bytes = r.bytes;
   ended = true;
   reads = r.reads;
@@ -202,6 +220,12 @@ stops_end v first before after store reports o l totals input_failed old new fai
   needed = λ q. absurd (omega arith);
   out_whole = λ low. absurd (omega arith);
   listing_whole = λ low. absurd (omega arith);
+  out_runs = λ works. record {
+    runs = given v.dictionary true true r.bytes;
+    more = [];
+    given_are = sym (append-nil (given v.dictionary true true r.bytes));
+    appends = subst (λ (t : List ℕ). Appends old.out new.out t) (out_whole v first r.bytes r.sound) (wrote works);
+  };
   reading = λ q. absurd (omega arith);
   writing = λ q. some;
   other = λ high. inr (inl refl);
@@ -220,6 +244,7 @@ stops_at_once v first before input_failed old failed = record {
   needed = λ q. absurd (omega arith);
   out_whole = λ low. absurd (omega arith);
   listing_whole = λ low. absurd (omega arith);
+  out_runs = λ works. record { runs = []; more = _; given_are = refl; appends = subst (λ (t : List ℕ). Appends old.out old.out t) (sym (begun_out v first)) (Appends-nil old.out) };
   reading = λ q. absurd (omega arith);
   writing = λ q. absurd (omega arith);
   other = λ high. inr (inr refl);

@@ -74,7 +74,7 @@ running v first before now r store reports out listing totals text s p is far =
     let here = subst (λ (q : Progress). IsAsFar v q r store reports out listing) is far in
     record { text = text; so_far = s; keeps = here.keeps; written = here.written; lines = here.lines }
 
-begun_out : (v : VerifiedProgram) (first : Kept) → (begun v first).out ≡ []
+pub begun_out : (v : VerifiedProgram) (first : Kept) → (begun v first).out ≡ []
 unfolding begun after_application
 begun_out v first = refl
 
@@ -186,7 +186,11 @@ module _ (v : VerifiedProgram) (first : Kept) (before now after : Option (List �
           ended = r'.ended;
           reads = reads_more before now after v.dictionary r r' run.text totals run.so_far error n;
           end = end;
+          runs = run.so_far.runs;
+          more = _;
+          given_are = given_more before now after v.dictionary r r' run.text totals run.so_far error n;
           written = at.out;
+          written_is = refl;
           listed = unended v.image.lists.messages at.reports;
           has_written = run.written;
           has_listed = run.keeps.list;
@@ -211,7 +215,11 @@ module _ (v : VerifiedProgram) (first : Kept) (before now after : Option (List �
         ended = r.ended;
         reads = run.so_far.reads;
         end = end;
+        runs = run.so_far.runs;
+        more = _;
+        given_are = given_so_far before now v.dictionary r run.text totals run.so_far;
         written = at.out;
+        written_is = refl;
         listed = unended v.image.lists.messages at.reports;
         has_written = run.written;
         has_listed = run.keeps.list;
@@ -246,7 +254,11 @@ module _ (v : VerifiedProgram) (first : Kept) (before now after : Option (List �
         ended = r'.ended;
         reads = s.reads;
         end = end;
+        runs = run.so_far.runs;
+        more = lines ∷ rest;
+        given_are = is;
         written = at.out;
+        written_is = refl;
         listed = unended v.image.lists.messages at.reports;
         has_written = run.written;
         has_listed = run.keeps.list;
@@ -272,7 +284,11 @@ halts_at_once v first now failed out listing nothing one =
       ended = false;
       reads = Consumes-nil now;
       end = λ e. absurd cc;
+      runs = [];
+      more = _;
+      given_are = refl;
       written = [];
+      written_is = sym (begun_out v first);
       listed = first_line;
       has_written = nothing;
       has_listed = one;

@@ -1,14 +1,15 @@
 -- What a run answers, by the batch over the bytes that it read.
-use Rattle.std.specs.Prelude.{◌≡◌, ◌≤◌, ◌<◌, ◌^◌, ◌⊎◌, ℕ, Bool, true, false, List, length, Option, None}
+use Rattle.std.specs.Prelude.{◌≡◌, ◌≤◌, ◌<◌, ◌^◌, ◌⊎◌, ℕ, Bool, true, false, List, ◌++◌, length, Option, None}
 use Rattle.std.specs.Io.KnownBytes.{Consumes, Appends, IsAtEnd}
 use Rattle.cse_value.specs.Writing.{AppendsFront}
-use Rattle.cse_lines.specs.Runs.{fault_in}
+use Rattle.cse_lines.specs.Line.{FileLine}
+use Rattle.cse_lines.specs.Runs.{given, fault_in}
 use Rattle.cse_verify.specs.Verified.{VerifiedProgram}
 use Rattle.cse_decks.specs.Store.{Kept}
 use Rattle.cse_batch.specs.declared.totals.Totals.{Totals}
 use Rattle.cse_batch.specs.declared.totals.RunFault.{RunFault}
 use Rattle.cse_batch.specs.Pass.{BreaksOff, IsDataFault}
-use Rattle.cse_batch.specs.Batch.{Batch, batch}
+use Rattle.cse_batch.specs.Batch.{Batch, after_runs, batch, begun}
 
 -- the bytes that the four outputs hold, where they are known
 pub record Contents : Type 0 where
@@ -58,9 +59,17 @@ pub record RunsWhole (v : VerifiedProgram) (store : Kept) (before after : Option
   pub texts : GivesTexts old new (batch v store bytes true)
   pub totals_are : totals ≡ (batch v store bytes true).totals
 
+-- The lines of whole runs were written, as their events leave them.
+pub record WritesRuns (v : VerifiedProgram) (store : Kept) (bytes : List ℕ) (ended : Bool) (old new : Option (List ℕ)) : Type 0 where
+  pub runs : List (List FileLine)
+  pub more : List (List FileLine)
+  pub given_are : given v.dictionary true ended bytes ≡ runs ++ more
+  pub appends : Appends old new (after_runs v (begun v store) runs).out
+
 -- Each output was given a front of its text in the batch over what was read. The mark says whether the end of the input was read. A fault below 70 is that
 -- of the first faulty line. 70 comes only where what was read breaks off without a faulty line, and the input has failed or 2^40 bytes were read. After
--- these the written lines and the listing are whole, each unless its output has failed. 71 comes only where an output has failed, and the only other
+-- these the written lines and the listing are whole, each unless its output has failed; and after any fault whole runs were written, unless that
+-- output has failed. 71 comes only where an output has failed, and the only other
 -- fault is 90. From 70 on there is no line.
 pub record RunStops (v : VerifiedProgram) (store : Kept) (before after : Option (List ℕ)) (old new : Contents) (input_failed : Bool) (failed : Failures) (fault : RunFault) : Type 0 where
   pub bytes : List ℕ
@@ -72,6 +81,7 @@ pub record RunStops (v : VerifiedProgram) (store : Kept) (before after : Option 
   pub needed : fault.number ≡ 70 → BreaksOff v.dictionary ended bytes
   pub out_whole : fault.number < 71 → failed.out ≡ false → Appends old.out new.out (batch v store bytes ended).out
   pub listing_whole : fault.number < 71 → failed.listing ≡ false → Appends old.listing new.listing (batch v store bytes ended).listing
+  pub out_runs : failed.out ≡ false → WritesRuns v store bytes ended old.out new.out
   pub reading : fault.number ≡ 70 → (input_failed ≡ true) ⊎ (2 ^ 40 ≤ length bytes)
   pub writing : fault.number ≡ 71 → HasFailure failed
   pub other : 70 ≤ fault.number → (fault.number ≡ 70) ⊎ ((fault.number ≡ 71) ⊎ (fault.number ≡ 90))

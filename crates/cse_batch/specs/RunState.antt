@@ -1,6 +1,7 @@
 -- How far a run is, before its outputs are closed.
 use Rattle.std.specs.Prelude.{◌≡◌, ◌≤◌, ◌<◌, ◌^◌, ◌⊎◌, ℕ, Bool, true, List, [], ◌++◌, length, Option, None}
 use Rattle.std.specs.Io.KnownBytes.{Consumes, IsAtEnd}
+use Rattle.cse_lines.specs.Line.{FileLine}
 use Rattle.cse_lines.specs.Runs.{given, fault_in}
 use Rattle.cse_dict.specs.Dictionary.{item_names}
 use Rattle.cse_decks.specs.Store.{Kept}
@@ -41,13 +42,17 @@ pub record CasesRan (v : VerifiedProgram) (first : Kept) (before after : Option 
   pub keeps : Keeps v (after_runs v (begun v first) (given v.dictionary true true bytes)) store reports listing.start listing.sound listing.going
   pub written : Has out (after_runs v (begun v first) (given v.dictionary true true bytes)).out
 
--- It was stopped: fronts of the texts of the batch over what was read were put, and all of them after a fault of the data, and after 70.
+-- It was stopped: the lines of some runs were put, and fronts of the texts of the batch over what was read, and all of them after a fault of the data, and after 70.
 pub record Halts (v : VerifiedProgram) (first : Kept) (before after : Option (List ℕ)) (input_failed : Bool) (out listing : Device) (fault : RunFault) : Type 0 where
   pub bytes : List ℕ
   pub ended : Bool
   pub reads : Consumes before after bytes
   pub end : ended ≡ true → IsAtEnd after
+  pub runs : List (List FileLine)
+  pub more : List (List FileLine)
+  pub given_are : given v.dictionary true ended bytes ≡ runs ++ more
   pub written : List ℕ
+  pub written_is : written ≡ (after_runs v (begun v first) runs).out
   pub listed : List ℕ
   pub has_written : Has out written
   pub has_listed : Has listing listed

@@ -2,8 +2,11 @@
 //!
 //! - `image`: the program of an image, checked with a dictionary.
 //! - `totals`: what a run counts, and what stops it.
+//! - `run`: the whole run over a data file, to the texts of `specs/Batch.antt`.
+//! - `application`, `cases`, `events`: the application's events, a run of lines, and the events of a case.
+//! - `machine`: what runs an event. `parts`: the parts of a program that a run goes by.
+//! - `laws`: laws of the definition of a batch.
 //! - `copy`: a copy, case by case.
-//! - `laws`: laws of the definition of a batch (`specs/Batch.antt`).
 #![tactic(auto)]
 
 mod application;

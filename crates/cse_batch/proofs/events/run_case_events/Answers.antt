@@ -1,4 +1,4 @@
-use Rattle.std.proofs.Common.{Some, ap}
+use Rattle.std.proofs.Common.{Some}
 use Rattle.cse_bounds.specs.CaseEvents.{records_events}
 use Rattle.cse_steps.specs.Fits.{occurrences_in}
 use Rattle.cse_batch.specs.Scene.{scene}

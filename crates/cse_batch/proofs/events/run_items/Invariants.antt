@@ -1,7 +1,6 @@
-use Rattle.std.proofs.Common.{◌≡◌, ◌+◌, ◌-◌, Some, drop}
-use Rattle.cse_bounds.specs.CaseEvents.{item_events, occurrence_events, records_events}
+use Rattle.std.proofs.Common.{◌≡◌, Some, drop}
+use Rattle.cse_bounds.specs.CaseEvents.{item_events}
 use Rattle.cse_report.specs.Reports.{ReportsFit}
-use Rattle.cse_steps.specs.Fits.{occurrences_in}
 use Rattle.cse_batch.specs.Scene.{GoesOn, scene, scene_after_all}
 use Rattle.cse_batch.proofs.events.run_items.Given as goal
 

@@ -2,7 +2,7 @@ use Rattle.std.proofs.Common.{Some, ap}
 use Rattle.cse_bounds.specs.CaseEvents.{occurrence_events}
 use Rattle.cse_steps.specs.Fits.{occurrences_in}
 use Rattle.cse_batch.specs.Scene.{scene}
-use Rattle.cse_batch.proofs.SceneLaws.{records_same, scene_around}
+use Rattle.cse_batch.proofs.SceneLaws.{scene_around}
 use Rattle.cse_batch.proofs.events.run_record.Goals as goal
 
 pub returns-clause-scene : goal.returns-clause-scene

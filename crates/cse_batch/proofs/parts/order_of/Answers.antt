@@ -1,7 +1,3 @@
-use Rattle.std.proofs.Common.{subst, sym}
-use Rattle.std.specs.Prelude.{List, ℕ, length, ◌<◌}
-use Rattle.std.specs.List.{AllByRecursion}
-use Rattle.cse_dict.specs.Dictionary.{shape_of}
 use Rattle.cse_batch.proofs.OrderLaws.{all_below}
 use Rattle.cse_batch.proofs.parts.order_of.Goals as goal
 

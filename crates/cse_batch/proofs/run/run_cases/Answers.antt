@@ -3,7 +3,7 @@ use Rattle.cse_output.proofs.GatherLaws.{Gathering-none}
 use Rattle.cse_report.specs.Held.{Held}
 use Rattle.cse_report.specs.declared.reports.Reports.{Reports}
 use Rattle.cse_batch.proofs.PassLaws.{byte_is}
-use Rattle.cse_batch.proofs.RunLaws.{Running, halts_at_once, halts_fault, halts_memory, halts_writing, keeps_nothing, one_line, ran_all, running_case, running_none, unbegun}
+use Rattle.cse_batch.proofs.RunLaws.{halts_at_once, halts_fault, halts_memory, halts_writing, keeps_nothing, one_line, ran_all, running_case, running_none, unbegun}
 use Rattle.cse_batch.proofs.run.run_cases.Goals as goal
 use Rattle.cse_batch.proofs.run.run_cases.Goals.{then-written-via-then-written, then-written-via-else-written+then-listed}
 
