@@ -22,10 +22,8 @@ use Rattle.cse_types.specs.declared.meaning.Meaning.{Meaning}
 use Rattle.cse_types.specs.declared.meaning.Meaning.TheVariants as m
 use Rattle.cse_types.specs.Scope.{Scope, Facts, meant, variable_meant, own_result, has_case, kind_and_owner, found}
 use Rattle.cse_types.specs.WellTyped.{Holds, IsField, IsPresent, item_of, whole_set, set_kind, set_meant, IsNumberSet, ArePicks, AreDeckPicks, dimensions_of, may_call, may_divide, is_last, count, value_of, IsNumber, IsWords, AreNumbers, AreOperands}
-use Rattle.cse_types.specs.Judge.{Judged, AsNumber, AsWords, Unknown, as_number, joined, only_if, is_there, present_at, field_at, item_judged, item_at_judged, result_judged, bare, is_count, indexed, present_if, number_present, pick, set_present, picks_for, picks_of, record_of, is_number_kind, number_set, member, expr_count, is_end, judge, judge_all, judge_operations}
-
-
-
+use Rattle.cse_types.specs.Judge.{Judged, AsNumber, AsWords, Unknown, as_number, present_at, field_at, item_judged, item_at_judged, result_judged, bare, is_count, indexed, present_if, number_present, pick, set_present, picks_for, picks_of, record_of, is_number_kind, number_set, member, expr_count, is_end, judge, judge_all, judge_operations}
+use Rattle.cse_types.specs.Walk.{joined, only_if, is_there}
 
 -- ---- items
 
@@ -65,7 +63,7 @@ picks_complete s (Rows name set one_more size ∷ ds) (x ∷ xs) h =
     let a = present_complete s kind.Number x.item h.3 in
     let item = item_of x.item in
     let here : set_present s (whole_set (slice_get s.dictionary.sets set)) ≡ Some x.item =
-        ap (set_present s) h.2 ∙ ap (present_if s item) a.0 ∙ a.1 in
+    ap (set_present s) h.2 ∙ ap (present_if s item) a.0 ∙ a.1 in
     ap (λ o. joined (λ x xs. x ∷ xs) (option_map (pick set one_more) o) (picks_for s ds)) here
     ∙ ap (joined (λ x xs. x ∷ xs) (Some (pick set one_more x.item))) (picks_complete s ds xs h.4)
     ∙ ap (λ n. Some (record { item = x.item; set = n; has_leftover = one_more } ∷ xs)) (sym h.0)

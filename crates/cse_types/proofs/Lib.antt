@@ -4,3 +4,4 @@ pub mod Right
 pub mod Complete
 pub mod NameLaws
 pub mod Walks
+pub mod Sets

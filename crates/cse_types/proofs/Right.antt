@@ -26,7 +26,8 @@ use Rattle.cse_types.specs.declared.meaning.Meaning.{Meaning}
 use Rattle.cse_types.specs.declared.meaning.Meaning.TheVariants as m
 use Rattle.cse_types.specs.Scope.{Scope, Facts, meant, variable_meant, own_result, has_case, kind_and_owner, found}
 use Rattle.cse_types.specs.WellTyped.{Holds, IsField, IsPresent, item_of, whole_set, set_kind, set_meant, IsNumberSet, ArePicks, AreDeckPicks, dimensions_of, may_call, may_divide, is_last, count, value_of, IsNumber, IsWords, AreNumbers, AreOperands}
-use Rattle.cse_types.specs.Judge.{Judged, AsNumber, AsWords, Unknown, as_number, joined, only_if, present_at, field_at, item_judged, sole, item_at_judged, result_judged, bare, is_count, indexed, present_if, number_present, pick, set_present, picks_for, picks_of, deck_of, record_of, current, queried, is_number_kind, number_set, member, grouped, compared, expr_count, is_end, is_allowed, judge, judge_all, judge_operations}
+use Rattle.cse_types.specs.Judge.{Judged, AsNumber, AsWords, Unknown, as_number, present_at, field_at, item_judged, sole, item_at_judged, result_judged, bare, is_count, indexed, present_if, number_present, pick, set_present, picks_for, picks_of, deck_of, record_of, current, queried, is_number_kind, number_set, member, grouped, compared, expr_count, is_end, is_allowed, judge, judge_all, judge_operations}
+use Rattle.cse_types.specs.Walk.{joined, only_if}
 
 -- what is there is so
 abbrev pub For : {A : Type 0} → (A → Type 0) → Option A → Type 0
@@ -72,7 +73,7 @@ number_right s top x Unknown h = tt
 
 -- ---- items
 
-and_holds : (a b : Bool) → (a && b) ≡ true → (a ≡ true) × (b ≡ true)
+pub and_holds : (a b : Bool) → (a && b) ≡ true → (a ≡ true) × (b ≡ true)
 and_holds true b h = (refl, h)
 and_holds false b h = (h, absurd (false≢true h))
 
@@ -120,10 +121,10 @@ item_at_right s top name item xs None ys e h k = tt
 item_at_right s top name item xs (Some (kind.Opaque, owner)) ys e h k = tt
 item_at_right s top name item xs (Some (kind.Number, owner)) ys e h k =
     for_joined (λ x. (x.item ≡ item) × IsField s kind.Number x) (IsSole s xs) (IsTyped s top (syntax.Indexed name xs)) (ItemAt name)
-        (λ x y a b. (ap (syntax.Indexed name) b.0, (e ∙ ap (λ n. Some (m.Item n)) (sym a.0), a.1, b.1))) (field_at s item owner) (sole ys) (field_right s kind.Number item owner h) (sole_right s xs ys k)
+    (λ x y a b. (ap (syntax.Indexed name) b.0, (e ∙ ap (λ n. Some (m.Item n)) (sym a.0), a.1, b.1))) (field_at s item owner) (sole ys) (field_right s kind.Number item owner h) (sole_right s xs ys k)
 item_at_right s top name item xs (Some (kind.Text, owner)) ys e h k =
     for_joined (λ x. (x.item ≡ item) × IsField s kind.Text x) (IsSole s xs) (IsTypedWords s (syntax.Indexed name xs)) (TextItemAt name)
-        (λ x y a b. (ap (syntax.Indexed name) b.0, (e ∙ ap (λ n. Some (m.Item n)) (sym a.0), a.1, b.1))) (field_at s item owner) (sole ys) (field_right s kind.Text item owner h) (sole_right s xs ys k)
+    (λ x y a b. (ap (syntax.Indexed name) b.0, (e ∙ ap (λ n. Some (m.Item n)) (sym a.0), a.1, b.1))) (field_at s item owner) (sole ys) (field_right s kind.Text item owner h) (sole_right s xs ys k)
 
 -- ---- names
 
@@ -157,10 +158,10 @@ indexed_right s top name (Some (m.Variable x)) xs ys e h = tt
 indexed_right s top name (Some (m.Text g)) xs ys e h = tt
 indexed_right s top name (Some (m.Array a)) xs ys e h =
     for_only _ (is_count (expr_count xs) (dimensions_of s a)) _ (λ c. for_map (AreTyped s xs) (IsTyped s top (syntax.Indexed name xs)) (Cell name a)
-        (λ y k. (ap (syntax.Indexed name) k.0, (e, is_count_holds (expr_count xs) (dimensions_of s a) c ∙ ap Some (sym k.1), k.2))) ys h)
+    (λ y k. (ap (syntax.Indexed name) k.0, (e, is_count_holds (expr_count xs) (dimensions_of s a) c ∙ ap Some (sym k.1), k.2))) ys h)
 indexed_right s top name (Some (m.Function k)) xs ys e h =
     for_only _ (may_call s (expr_count xs) (slice_get s.functions k)) _ (λ c. for_map (AreTyped s xs) (IsTyped s top (syntax.Indexed name xs)) (Call name k)
-        (λ y l. (ap (syntax.Indexed name) l.0, (e, ap (λ n. may_call s n (slice_get s.functions k)) l.1 ∙ c, l.2))) ys h)
+    (λ y l. (ap (syntax.Indexed name) l.0, (e, ap (λ n. may_call s n (slice_get s.functions k)) l.1 ∙ c, l.2))) ys h)
 indexed_right s top name (Some (m.Record x)) xs ys e h = tt
 indexed_right s top name (Some (m.Item item)) xs ys e h = item_at_right s top name item xs (kind_and_owner s.dictionary item) ys e refl h
 indexed_right s top name (Some (m.Set x)) xs ys e h = tt
@@ -182,7 +183,7 @@ set_present_right : (s : Scope) (o : Option ℕ) → For (λ x. (o ≡ Some (ite
 set_present_right s None = tt
 set_present_right s (Some item) =
     subst (λ (r : Option Present). For (λ x. (Some item ≡ Some (item_of x)) × IsPresent s kind.Number x) r) (map_same (number_present s item))
-      (for_map (λ x. (item_of x ≡ item) × IsPresent s kind.Number x) (λ x. (Some item ≡ Some (item_of x)) × IsPresent s kind.Number x) (λ x. x) (λ x k. (ap Some (sym k.0), k.1)) (number_present s item) (number_present_right s item))
+    (for_map (λ x. (item_of x ≡ item) × IsPresent s kind.Number x) (λ x. (Some item ≡ Some (item_of x)) × IsPresent s kind.Number x) (λ x. x) (λ x k. (ap Some (sym k.0), k.1)) (number_present s item) (number_present_right s item))
   where
     map_same : (r : Option Present) → option_map (λ x. x) r ≡ r
     map_same None = refl
@@ -194,9 +195,9 @@ picks_right s (Sized digits size ∷ ds) = tt
 picks_right s (Rows name set one_more size ∷ ds) =
     let item = whole_set (slice_get s.dictionary.sets set) in
     for_joined (λ x. (x.set ≡ set) × (x.has_leftover ≡ one_more) × (item ≡ Some (item_of x.item)) × IsPresent s kind.Number x.item) (ArePicks s ds) (ArePicks s (Rows name set one_more size ∷ ds)) (λ x xs. x ∷ xs)
-        (λ x xs a b. (a.0, a.1, a.2, a.3, b)) _ (picks_for s ds)
-        (for_map (λ x. (item ≡ Some (item_of x)) × IsPresent s kind.Number x) _ (pick set one_more) (λ x k. (refl, refl, k.0, k.1)) (set_present s item) (set_present_right s item))
-        (picks_right s ds)
+    (λ x xs a b. (a.0, a.1, a.2, a.3, b)) _ (picks_for s ds)
+    (for_map (λ x. (item ≡ Some (item_of x)) × IsPresent s kind.Number x) _ (pick set one_more) (λ x k. (refl, refl, k.0, k.1)) (set_present s item) (set_present_right s item))
+    (picks_right s ds)
 
 deck_picks_right : (s : Scope) (o : Option (Option (List Dimension))) → For (λ xs. Holds (has_case s.routine) × AreDeckPicks s o xs) (picks_of s o)
 deck_picks_right s (Some (Some ds)) = for_only _ (has_case s.routine) _ (λ c. with_case c (picks_for s ds) (picks_right s ds))
@@ -269,8 +270,8 @@ set_right s None = tt
 member_right : (s : Scope) (top : Bool) (name : Spelling) (set_name : Option Spelling) (o : Option Meaning) → meant s name ≡ o → For (IsTyped s top (syntax.InValueSet name set_name)) (member s name set_name o)
 member_right s top name set_name (Some (m.Item item)) e =
     for_joined (λ x. (item_of x ≡ item) × IsPresent s kind.Number x) (λ k. (set_meant s item set_name ≡ Some (m.Set k)) × IsNumberSet s.dictionary k) _ (λ x k. InSet name x set_name k)
-        (λ x k a b. (refl, (e ∙ ap (λ n. Some (m.Item n)) (sym a.0), a.1, ap (λ n. set_meant s n set_name) a.0 ∙ b.0, b.1)))
-        (number_present s item) (number_set s (set_meant s item set_name)) (number_present_right s item) (set_right s (set_meant s item set_name))
+    (λ x k a b. (refl, (e ∙ ap (λ n. Some (m.Item n)) (sym a.0), a.1, ap (λ n. set_meant s n set_name) a.0 ∙ b.0, b.1)))
+    (number_present s item) (number_set s (set_meant s item set_name)) (number_present_right s item) (set_right s (set_meant s item set_name))
 member_right s top name set_name (Some (m.Variable x)) e = tt
 member_right s top name set_name (Some (m.Text x)) e = tt
 member_right s top name set_name (Some (m.Array x)) e = tt
@@ -291,10 +292,10 @@ grouped_right s top x Unknown h = tt
 compared_right : (s : Scope) (top : Bool) (relation : Relation) (x y : syntax.Expr) (a b : Judged) → Right s false x a → Right s false y b → For (IsTyped s top (syntax.Compare relation x y)) (compared relation a b)
 compared_right s top relation x y (AsNumber a) (AsNumber b) h k =
     for_joined (IsTyped s false x) (IsTyped s false y) (IsTyped s top (syntax.Compare relation x y)) (Compare relation)
-        (λ u v e f. (ap (λ t. syntax.Compare relation t (erase v)) e.0 ∙ ap (syntax.Compare relation x) f.0, (e.1, f.1))) a b h k
+    (λ u v e f. (ap (λ t. syntax.Compare relation t (erase v)) e.0 ∙ ap (syntax.Compare relation x) f.0, (e.1, f.1))) a b h k
 compared_right s top relation x y (AsWords a) (AsWords b) h k =
     for_joined (IsTypedWords s x) (IsTypedWords s y) (IsTyped s top (syntax.Compare relation x y)) (CompareTexts relation)
-        (λ u v e f. (ap (λ t. syntax.Compare relation t (erase_words v)) e.0 ∙ ap (syntax.Compare relation x) f.0, (e.1, f.1))) a b h k
+    (λ u v e f. (ap (λ t. syntax.Compare relation t (erase_words v)) e.0 ∙ ap (syntax.Compare relation x) f.0, (e.1, f.1))) a b h k
 compared_right s top relation x y (AsNumber a) (AsWords b) h k = tt
 compared_right s top relation x y (AsNumber a) Unknown h k = tt
 compared_right s top relation x y (AsWords a) (AsNumber b) h k = tt
@@ -320,18 +321,18 @@ mutual
   judge_right s top (syntax.Compare relation x y) = compared_right s top relation x y (judge s false x) (judge s false y) (judge_right s false x) (judge_right s false y)
   judge_right s top (syntax.Chain x others) =
       for_joined (IsTyped s false x) (AreTypedOperations s top others) _ Chain (λ y ys k l. (ap (λ e. syntax.Chain e (erase_operations ys)) k.0 ∙ ap (syntax.Chain x) l.0, (k.1, l.2)))
-          _ (judge_operations s top others) (number_right s false x (judge s false x) (judge_right s false x)) (operations_right s top others)
+      _ (judge_operations s top others) (number_right s false x (judge s false x) (judge_right s false x)) (operations_right s top others)
 
   all_right : (s : Scope) (xs : syntax.Exprs) → For (AreTyped s xs) (judge_all s xs)
   all_right s syntax.no_expr = (refl, refl, tt)
   all_right s (syntax.expr_and x xs) =
       for_joined (IsTyped s false x) (AreTyped s xs) _ number_and (λ y ys k l. (ap (λ e. syntax.expr_and e (erase_all ys)) k.0 ∙ ap (syntax.expr_and x) l.0, ap (λ n. n + 1) l.1, (k.1, l.2)))
-          _ (judge_all s xs) (number_right s false x (judge s false x) (judge_right s false x)) (all_right s xs)
+      _ (judge_all s xs) (number_right s false x (judge s false x) (judge_right s false x)) (all_right s xs)
 
   operations_right : (s : Scope) (top : Bool) (xs : syntax.Operations) → For (AreTypedOperations s top xs) (judge_operations s top xs)
   operations_right s top syntax.no_operation = (refl, refl, tt)
   operations_right s top (syntax.operation_and operator x xs) =
       for_only _ (is_allowed top operator xs) _ (λ c.
-          for_joined (IsTyped s false x) (AreTypedOperations s top xs) _ (operation_and operator)
-              (λ y ys k l. (ap (λ e. syntax.operation_and operator e (erase_operations ys)) k.0 ∙ ap (syntax.operation_and operator x) l.0, refl, (ap (may_divide top operator) l.1 ∙ c, k.1, l.2)))
-              _ (judge_operations s top xs) (number_right s false x (judge s false x) (judge_right s false x)) (operations_right s top xs))
+      for_joined (IsTyped s false x) (AreTypedOperations s top xs) _ (operation_and operator)
+      (λ y ys k l. (ap (λ e. syntax.operation_and operator e (erase_operations ys)) k.0 ∙ ap (syntax.operation_and operator x) l.0, refl, (ap (may_divide top operator) l.1 ∙ c, k.1, l.2)))
+      _ (judge_operations s top xs) (number_right s false x (judge s false x) (judge_right s false x)) (operations_right s top xs))

@@ -3,8 +3,8 @@ use Rattle.std.specs.Prelude.{Bool, true, false, ◌&&◌, ◌||◌, not}
 use Rattle.std.proofs.Common.{zero, ◌≤◌, ◌<◌, get_or, drop, drop-cons, ◌≡◌, ℕ, suc, ◌+◌, List, [], ◌∷◌, ◌++◌, length, map, Option, Some, None, refl, ap, sym, ◌∙◌, arith, option_map, append_assoc}
 use Rattle.std.proofs.lemmas.Bool.{false≢true}
 use Rattle.cse_typed.specs.Typed.{Number, numbers}
-use Rattle.cse_types.specs.Judge.{joined, only_if, is_there, sole}
-use Rattle.cse_types.specs.Walk.{walk, so_far, found_more}
+use Rattle.cse_types.specs.Judge.{sole}
+use Rattle.cse_types.specs.Walk.{walk, so_far, found_more, joined, only_if, is_there}
 
 pub sole_else : {A : Type 0} (f : A → Number) (xs : List A) → (length xs ≡ 1 → ⊥) → sole (Some (numbers (map f xs))) ≡ None
 sole_else f [] h = refl
@@ -69,3 +69,8 @@ at_end f items i b xs all le inv = end_is b xs all (sym (ap (λ l. so_far b xs (
 pub or_true : (b : Bool) → (b || true) ≡ true
 or_true true = refl
 or_true false = refl
+
+-- a walk that looks at each member alone, over members made of others
+pub walk_made : {A B C : Type 0} (f : B → Option C) (g : A → B) (xs : List A) → walk (λ x rest. f x) (map g xs) ≡ walk (λ x rest. f (g x)) xs
+walk_made f g [] = refl
+walk_made f g (x ∷ xs) = ap (joined (λ y ys. y ∷ ys) (f (g x))) (walk_made f g xs)

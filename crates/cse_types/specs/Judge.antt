@@ -22,6 +22,7 @@ use Rattle.cse_types.specs.declared.judged.Judged.{Judged as RustJudged}
 use Rattle.cse_types.specs.declared.judged.Judged.TheVariants as j
 use Rattle.cse_types.specs.declared.meaning.Meaning.{Meaning}
 use Rattle.cse_types.specs.declared.meaning.Meaning.TheVariants as m
+use Rattle.cse_types.specs.Walk.{is_there, joined, only_if, walk}
 use Rattle.cse_types.specs.Scope.{Scope, meant, own_result, has_case, kind_and_owner, found}
 use Rattle.cse_types.specs.WellTyped.{whole_set, set_kind, set_meant, dimensions_of, may_call, may_divide, value_of}
 
@@ -36,10 +37,6 @@ judged (j.Number x) = AsNumber (option_map number x)
 judged (j.Words x) = AsWords (option_map words x)
 judged j.Unknown = Unknown
 
-abbrev pub is_there : {A : Type 0} → Option A → Bool
-is_there None = false
-is_there (Some x) = true
-
 abbrev pub is_sound : Judged → Bool
 is_sound (AsNumber x) = is_there x
 is_sound (AsWords x) = is_there x
@@ -50,17 +47,6 @@ abbrev pub as_number : Judged → Option Number
 as_number (AsNumber x) = x
 as_number (AsWords x) = None
 as_number Unknown = None
-
--- both, if both are there
-abbrev pub joined : {A B C : Type 0} → (A → B → C) → Option A → Option B → Option C
-joined f (Some x) (Some y) = Some (f x y)
-joined f (Some x) None = None
-joined f None y = None
-
--- if the test holds
-abbrev pub only_if : {A : Type 0} → Bool → Option A → Option A
-only_if true x = x
-only_if false x = None
 
 -- ---- items
 
@@ -141,11 +127,13 @@ abbrev pub set_present : Scope → Option ℕ → Option Present
 set_present s None = None
 set_present s (Some item) = number_present s item
 
+abbrev pub dimension_pick : Scope → Dimension → Option Pick
+dimension_pick s (Sized digits size) = None
+dimension_pick s (Rows name set one_more size) = option_map (pick set one_more) (set_present s (whole_set (slice_get s.dictionary.sets set)))
+
+-- one pick for each dimension
 abbrev pub picks_for : Scope → List Dimension → Option (List Pick)
-picks_for s [] = Some []
-picks_for s (Sized digits size ∷ ds) = None
-picks_for s (Rows name set one_more size ∷ ds) =
-    joined (λ x xs. x ∷ xs) (option_map (pick set one_more) (set_present s (whole_set (slice_get s.dictionary.sets set)))) (picks_for s ds)
+picks_for s ds = walk (λ d rest. dimension_pick s d) ds
 
 abbrev pub picks_of : Scope → Option (Option (List Dimension)) → Option (List Pick)
 picks_of s (Some (Some dimensions)) = only_if (has_case s.routine) (picks_for s dimensions)
@@ -179,8 +167,11 @@ abbrev pub number_set : Scope → Option Meaning → Option ℕ
 number_set s (Some (m.Set k)) = only_if (is_number_kind (set_kind s.dictionary k)) (Some k)
 number_set s _ = None
 
+abbrev pub in_set : Spelling → Option Spelling → Present → ℕ → Number
+in_set name set_name x k = InSet name x set_name k
+
 abbrev pub member : Scope → Spelling → Option Spelling → Option Meaning → Option Number
-member s name set_name (Some (m.Item item)) = joined (λ x k. InSet name x set_name k) (number_present s item) (number_set s (set_meant s item set_name))
+member s name set_name (Some (m.Item item)) = joined (in_set name set_name) (number_present s item) (number_set s (set_meant s item set_name))
 member s name set_name _ = None
 
 -- ---- operators
@@ -211,6 +202,10 @@ is_end (syntax.operation_and operator x xs) = false
 abbrev pub is_allowed : Bool → Operator → syntax.Operations → Bool
 is_allowed top operator others = may_divide top operator (is_end others)
 
+-- one operator, and its operand
+abbrev pub operation_judged : Bool → Operator → Bool → Option Number → Option (Operator × Number)
+operation_judged top operator last x = only_if (may_divide top operator last) (option_map (λ y. (operator, y)) x)
+
 unfoldable mutual
   pub judge : Scope → Bool → syntax.Expr → Judged
   judge s top (syntax.Number digits) = AsNumber (option_map (Constant digits) (value_of digits))
@@ -236,3 +231,6 @@ unfoldable mutual
   judge_operations s top syntax.no_operation = Some no_operation
   judge_operations s top (syntax.operation_and operator x xs) =
       only_if (is_allowed top operator xs) (joined (operation_and operator) (as_number (judge s false x)) (judge_operations s top xs))
+
+abbrev pub judge_operation : Scope → Bool → Operator × syntax.Expr → Bool → Option (Operator × Number)
+judge_operation s top x last = operation_judged top x.0 last (as_number (judge s false x.1))

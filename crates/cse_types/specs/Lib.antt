@@ -4,5 +4,5 @@ pub mod OrderFile
 pub mod Scope
 pub mod Uses
 pub mod WellTyped
-pub mod Judge
 pub mod Walk
+pub mod Judge

@@ -1,6 +1,6 @@
 -- What names mean at a place of logic, and which occurrence an item has there.
 use Rattle.std.specs.Prelude.{ℕ, ◌+◌, Bool, true, false, ◌&&◌, ◌||◌, not, ◌==◌, nat_eq, nat_le, if◌then◌else◌, List, [], ◌∷◌, ◌++◌, length, map, position, slice_get, Option, Some, None}
-use Rattle.std.specs.List.{list_any, list_all}
+use Rattle.std.specs.List.{list_any}
 use Rattle.std.specs.Option.{option_map, option_map_or}
 use Rattle.std.specs.Map.{lookup}
 use Rattle.std.specs.Str.{bytes_eq}
@@ -155,9 +155,17 @@ is_same_variable _ _ = false
 abbrev pub is_free : Loops → Variable → Bool
 is_free loops x = not (list_any (λ l. is_same_variable l.1 x) loops)
 
+abbrev pub has_global : List ℕ → ℕ → Bool
+has_global globals g = list_any (λ x. nat_eq g x) globals
+
+abbrev pub is_among : List ℕ → Variable → Bool
+is_among globals (v.Global g) = has_global globals g
+is_among globals (v.Parameter k) = false
+is_among globals v.Result = false
+
 -- none of these globals is the variable of an open loop
 abbrev pub are_free : Loops → List ℕ → Bool
-are_free loops globals = list_all (λ g. is_free loops (v.Global g)) globals
+are_free loops globals = not (list_any (λ l. is_among globals l.1) loops)
 
 -- the scope of a loop's body
 abbrev pub within : Scope → Option ℕ → Variable → Scope

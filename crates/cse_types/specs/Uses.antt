@@ -8,7 +8,7 @@ use Rattle.cse_typed.specs.Typed.{Quoted, TextGlobal, TextItem, TextItemAt, Text
 use Rattle.cse_typed.specs.Typed.{Which, Here, At, Argument, OfNumber, OfWords, Limit, Fixed, Counted, Counting, Statement, Statements, Arms}
 use Rattle.cse_typed.specs.Typed.{Empty, Set, SetText, SetItem, SetTextItem, SetCell, CallOf, If, For, Do, Jump', Impute, PutDeck, ErrMsg, no_statement, statement_and, no_arm, else_of, arm}
 use Rattle.cse_typed.specs.Typed.{Function}
-use Rattle.cse_types.specs.Scope.{Facts}
+use Rattle.cse_types.specs.Scope.{Facts, has_global}
 
 -- a record or an item is named, or a hot deck is used; a function is called; a global is assigned, or is the variable of a loop
 pub data Use : Type 0 where
@@ -120,7 +120,7 @@ needs_case functions (Assigns g ∷ us) = needs_case functions us
 
 -- one more, unless it is there
 abbrev pub with_global : List ℕ → ℕ → List ℕ
-with_global found g = if list_any (λ x. nat_eq x g) found then found else found ++ g ∷ []
+with_global found g = if has_global found g then found else found ++ g ∷ []
 
 abbrev pub with_globals : List ℕ → List ℕ → List ℕ
 with_globals found [] = found

@@ -1,7 +1,21 @@
 -- A list that is judged from the left: each member with those behind it; all of them, or none where one is unsound.
 use Rattle.std.specs.Prelude.{◌≡◌, ℕ, Bool, true, false, ◌||◌, not, List, [], ◌∷◌, ◌++◌, Option, Some, None, option_map}
 use Rattle.cse_types.specs.declared.faults.Faults.{Faults}
-use Rattle.cse_types.specs.Judge.{joined, only_if, is_there}
+
+abbrev pub is_there : {A : Type 0} → Option A → Bool
+is_there None = false
+is_there (Some x) = true
+
+-- both, if both are there
+abbrev pub joined : {A B C : Type 0} → (A → B → C) → Option A → Option B → Option C
+joined f (Some x) (Some y) = Some (f x y)
+joined f (Some x) None = None
+joined f None y = None
+
+-- if the test holds
+abbrev pub only_if : {A : Type 0} → Bool → Option A → Option A
+only_if true x = x
+only_if false x = None
 
 abbrev pub walk : {A B : Type 0} → (A → List A → Option B) → List A → Option (List B)
 walk f [] = Some []

@@ -69,17 +69,24 @@ abbrev pub whole_set : Option ValueSet → Option ℕ
 whole_set None = None
 whole_set (Some x) = if x.shape.partial then None else Some x.shape.item
 
+abbrev pub kind_of : DictionaryText → Option ℕ → Option ItemKind
+kind_of d None = None
+kind_of d (Some item) = option_map (λ x. x.0) (kind_and_owner d item)
+
 -- the kind of the item of a set that is whole
 unfoldable pub set_kind : DictionaryText → ℕ → Option ItemKind
-set_kind d set = option_and_then (λ item. option_map (λ x. x.0) (kind_and_owner d item)) (whole_set (slice_get d.sets set))
+set_kind d set = kind_of d (whole_set (slice_get d.sets set))
 
 -- a set of a numeric item (41, 44) that is whole (42)
 abbrev pub IsNumberSet : DictionaryText → ℕ → Type 0
 IsNumberSet d set = set_kind d set ≡ Some kind.Number
 
+abbrev pub first_set : DictionaryText → ℕ → Option ℕ
+first_set d item = position (λ (x : ValueSet). nat_eq x.shape.item item) d.sets
+
 -- the set that an item is looked for in: the one that is named, or the item's first
 abbrev pub set_meant : Scope → ℕ → Option Spelling → Option Meaning
-set_meant s item None = option_map m.Set (position (λ (x : ValueSet). nat_eq x.shape.item item) s.dictionary.sets)
+set_meant s item None = option_map m.Set (first_set s.dictionary item)
 set_meant s item (Some name) = meant s name
 
 -- one pick for each dimension, and each dimension a set: the set's item has an occurrence (49)
@@ -101,9 +108,13 @@ dimensions_of s array = option_map length (option_and_then (λ x. x) (slice_get 
 
 -- a function that has ended (45) may be called with so many arguments (44), where there is a case if it needs one (49), and if it assigns no
 -- variable of an open loop (47)
-unfoldable pub may_call : Scope → ℕ → Option (Option Facts) → Bool
-may_call s arguments (Some (Some f)) = (f.parameters == arguments) && ((has_case s.routine || not f.needs_case) && are_free s.loops f.assigned)
-may_call s arguments _ = false
+unfoldable pub suits : Scope → ℕ → Facts → Bool
+suits s arguments f = (f.parameters == arguments) && ((has_case s.routine || not f.needs_case) && are_free s.loops f.assigned)
+
+abbrev pub may_call : Scope → ℕ → Option (Option Facts) → Bool
+may_call s arguments (Some (Some f)) = suits s arguments f
+may_call s arguments (Some None) = false
+may_call s arguments None = false
 
 -- ---- expressions
 
@@ -132,17 +143,17 @@ abbrev mutual
   pub IsNumber : Scope → Bool → Number → Type 0
   IsNumber s top (Constant digits value) = value_of digits ≡ Some value
   IsNumber s top (Special' token value) = Unit {0}
-  IsNumber s top (Variable' name variable) = variable_named s name ≡ Some variable                       -- 40, 44
-  IsNumber s top (Item name item) = (meant s name ≡ Some (m.Item (item_of item))) × IsPresent s kind.Number item      -- 40; 41, 44, 49
+  IsNumber s top (Variable' name variable) = variable_named s name ≡ Some variable  -- 40, 44
+  IsNumber s top (Item name item) = (meant s name ≡ Some (m.Item (item_of item))) × IsPresent s kind.Number item  -- 40; 41, 44, 49
   IsNumber s top (ItemAt name field place) = (meant s name ≡ Some (m.Item field.item)) × IsField s kind.Number field × IsNumber s false place  -- 40; 41, 44, 49
   IsNumber s top (Cell name array subscripts) = (meant s name ≡ Some (m.Array array)) × (dimensions_of s array ≡ Some (count subscripts)) × AreNumbers s subscripts  -- 40; 44
   IsNumber s top (Call name function arguments) = (meant s name ≡ Some (m.Function function)) × Holds (may_call s (count arguments) (slice_get s.functions function)) × AreNumbers s arguments  -- 40; 44, 45, 47, 49
   IsNumber s top (Group x) = IsNumber s false x
-  IsNumber s top (Int x) = IsNumber s true x                                                             -- 46
+  IsNumber s top (Int x) = IsNumber s true x  -- 46
   IsNumber s top (IsSpecial x) = IsNumber s false x
   IsNumber s top (Deck name array picks) = (meant s name ≡ Some (m.Array array)) × Holds (has_case s.routine) × AreDeckPicks s (slice_get s.arrays array) picks  -- 40; 49
-  IsNumber s top (TotOcc name of) = (meant s name ≡ Some (m.Record of)) × Holds (has_case s.routine)    -- 40; 49
-  IsNumber s top (MaxOcc name of) = (meant s name ≡ Some (m.Record of)) × Holds (has_case s.routine)    -- 40; 49
+  IsNumber s top (TotOcc name of) = (meant s name ≡ Some (m.Record of)) × Holds (has_case s.routine)  -- 40; 49
+  IsNumber s top (MaxOcc name of) = (meant s name ≡ Some (m.Record of)) × Holds (has_case s.routine)  -- 40; 49
   IsNumber s top (CurOcc name of how) = (meant s name ≡ Some (m.Record of)) × Holds (has_case s.routine) × (found s of ≡ Some how)  -- 40; 49
   IsNumber s top (InSet name item set_name set) = (meant s name ≡ Some (m.Item (item_of item))) × IsPresent s kind.Number item × (set_meant s (item_of item) set_name ≡ Some (m.Set set)) × IsNumberSet s.dictionary set  -- 40; 41, 44, 49; 40; 41, 42, 44
   IsNumber s top (Minus x) = IsNumber s false x
@@ -153,8 +164,8 @@ abbrev mutual
 
   pub IsWords : Scope → Words → Type 0
   IsWords s (Quoted text) = Unit {0}
-  IsWords s (TextGlobal name variable) = meant s name ≡ Some (m.Text variable)                           -- 40, 44
-  IsWords s (TextItem name item) = (meant s name ≡ Some (m.Item (item_of item))) × IsPresent s kind.Text item         -- 40; 41, 44, 49
+  IsWords s (TextGlobal name variable) = meant s name ≡ Some (m.Text variable)  -- 40, 44
+  IsWords s (TextItem name item) = (meant s name ≡ Some (m.Item (item_of item))) × IsPresent s kind.Text item  -- 40; 41, 44, 49
   IsWords s (TextItemAt name field place) = (meant s name ≡ Some (m.Item field.item)) × IsField s kind.Text field × IsNumber s false place  -- 40; 41, 44, 49
   IsWords s (TextGroup x) = IsWords s x
 
@@ -239,8 +250,8 @@ step_of (Some digits) = pos (number_of digits.text)
 
 abbrev pub IsCounting : Scope → Counting → Type 0
 IsCounting s x =
-    (loop_variable s x.name ≡ Some x.variable)   -- 40
-    × Holds (is_free s.loops x.variable)        -- 47
+    (loop_variable s x.name ≡ Some x.variable)  -- 40
+    × Holds (is_free s.loops x.variable)  -- 47
     × IsLimit s x.start × IsLimit s x.stop × (x.step ≡ step_of x.by)
 
 -- `break` and `next` stand in a loop
@@ -262,7 +273,7 @@ abbrev mutual
   IsStatement s n (If condition body others) = IsNumber s false condition × AreStatements s n body × AreArms s (n + length (messages_of (erase_block body))) others
   IsStatement s n (For name variable record_name of body) = (loop_variable s name ≡ Some variable) × Holds (is_free s.loops variable) × (meant s record_name ≡ Some (m.Record of)) × Holds (has_case s.routine) × AreStatements (within s (Some of) variable) n body  -- 40; 47; 40; 49
   IsStatement s n (Do counting body) = IsCounting s counting × AreStatements (within s None counting.variable) n body
-  IsStatement s n (Jump' token jump) = Holds (may_jump s.loops jump)                                    -- 49
+  IsStatement s n (Jump' token jump) = Holds (may_jump s.loops jump)  -- 49
   IsStatement s n (Impute name f which value) = (meant s name ≡ Some (m.Item f.item)) × IsField s kind.Number f × IsWhich s f which × IsNumber s false value  -- 40; 41, 43, 44, 49; 49
   IsStatement s n (PutDeck name array picks value) = (meant s name ≡ Some (m.Array array)) × Holds (has_case s.routine) × AreDeckPicks s (slice_get s.arrays array) picks × IsNumber s false value  -- 40; 49
   IsStatement s n (ErrMsg message index values summary) = (index ≡ n) × (option_map (λ (x : MessageText). message_kinds x.text) (message_meant s.messages message) ≡ Some (map argument_kind values)) × AreArguments s values  -- 40, 44, 48

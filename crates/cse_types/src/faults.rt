@@ -1,7 +1,7 @@
 //! The fault that is told: the one with the least token, and then the least number.
 
 ghost use Rattle.std.specs.Prelude.{◌≡◌, true};
-ghost use Rattle.cse_types.specs.Judge.{is_there};
+ghost use Rattle.cse_types.specs.Walk.{is_there};
 
 /// A fault of logic: its number, and the index of its token.
 #[derive(Clone, Copy, Debug, PartialEq, Eq)]

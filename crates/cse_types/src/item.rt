@@ -8,8 +8,8 @@ ghost use Rattle.cse_typed.specs.Typed.{number, numbers, words, dimension};
 ghost use Rattle.cse_types.specs.Scope.{kind_and_owner, meant};
 ghost use Rattle.cse_types.specs.WellTyped.{set_kind, set_meant};
 ghost use Rattle.cse_types.specs.Judge as spec;
-ghost use Rattle.cse_types.specs.Judge.{judged, is_there, is_sound, joined, number_present};
-ghost use Rattle.cse_types.specs.Walk.{IsNoted, IsNotedAfter};
+ghost use Rattle.cse_types.specs.Judge.{judged, is_sound, number_present};
+ghost use Rattle.cse_types.specs.Walk.{is_there, joined, IsNoted, IsNotedAfter};
 
 use crate::faults::Faults;
 use crate::judged::Judged;

@@ -2,23 +2,32 @@
 //!
 //! - `messages`: a message file.
 //! - `gaps`: blanks and digits at the front of a line.
-//! - `meaning`: what names mean, and where logic stands.
 //! - `order`: an order file.
 //! - `error`: why a text is refused.
+//! - `meaning`, `names`, `scope`: what names mean, and what is known at a place of logic.
+//! - `faults`: the fault that is told.
+//! - `judged`, `item`, `set`, `deck`, `call`, `list`: what parts of an expression are found to be.
+//! - `laws`: laws of the definitions.
 #![tactic(auto)]
 
+mod call;
+mod deck;
 mod error;
 mod faults;
 mod gaps;
 mod item;
 mod judged;
+mod laws;
+mod list;
 mod meaning;
 mod messages;
 mod names;
 mod order;
 mod scope;
+mod set;
 
 pub use error::TypeError;
+pub use laws::expressions_are_judged;
 pub use meaning::{Meaning, Routine};
 pub use messages::Messages;
 pub use order::Order;

@@ -11,7 +11,7 @@ pub enum Meaning {
     Text(usize),
     Array(usize),
     Function(usize),
-    Record(u16),
+    Record(u8),
     Item(u16),
     Set(u16),
     /// The name of the dictionary, which stands for the application's.

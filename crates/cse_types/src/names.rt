@@ -4,6 +4,7 @@ ghost use Rattle.std.specs.Prelude.{◌≡◌, ℕ, List, map, position};
 ghost use Rattle.std.specs.Map.{lookup};
 ghost use Rattle.std.specs.Str.{bytes_eq};
 ghost use Rattle.cse_types.specs.declared.meaning.Meaning.{Meaning};
+ghost use Rattle.cse_types.specs.Scope.{has_global};
 
 use crate::meaning::Meaning;
 use indexmap::IndexMap;
@@ -48,5 +49,25 @@ impl Parameters {
         ensures { result ≡ position (bytes_eq kept.now) self.now }
     {
         self.table.get_index_of(kept)
+    }
+}
+
+/// Globals, by their numbers, each once.
+#[derive(Drop)]
+pub struct Globals {
+    table: IndexMap<usize, ()>,
+}
+
+impl Model for Globals {
+    ghost Value = { List ℕ };
+
+    ghost view = { λ g. map (λ e. e.0) g.table.entries };
+}
+
+impl Globals {
+    pub fn has(&self, global: usize) -> bool
+        ensures { result ≡ has_global self.now global }
+    {
+        self.table.get(&global).is_some()
     }
 }

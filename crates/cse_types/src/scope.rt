@@ -1,6 +1,6 @@
 //! What is known at a place of logic.
 
-ghost use Rattle.std.specs.Prelude.{◌≡◌, ℕ, List, map, length, nat_eq, slice_get, Some, None};
+ghost use Rattle.std.specs.Prelude.{◌≡◌, ◌<◌, ℕ, List, map, length, nat_eq, slice_get, Some, None};
 ghost use Rattle.std.specs.Option.{option_map, option_map_or, option_and_then};
 ghost use Rattle.std.specs.Str.{bytes_eq};
 ghost use Rattle.cse_dict.specs.Keys.{kept_name};
@@ -12,12 +12,11 @@ ghost use Rattle.cse_types.specs.WellTyped.{whole_set, set_kind, set_meant, dime
 
 use crate::meaning::{Meaning, Routine};
 use crate::messages::Messages;
-use crate::names::{Names, Parameters};
+use crate::names::{Globals, Names, Parameters};
 use cse_dict::Dictionary;
 use cse_syntax::Lexeme;
 use cse_typed::{Dimension, Found, Owner, Variable};
 use cse_value::shape::ItemKind;
-use indexmap::IndexMap;
 use std::marker::Model;
 
 /// What is known of a function that has ended.
@@ -27,13 +26,13 @@ pub struct Facts {
     pub parameters: usize,
     pub needs_case: bool,
     /// The globals that a call of it may assign.
-    pub assigned: IndexMap<usize, ()>,
+    pub assigned: Globals,
 }
 
 impl Model for Facts {
     ghost Value = { spec.Facts };
 
-    ghost view = { λ f. record { parameters = f.parameters; needs_case = f.needs_case; assigned = map (λ e. e.0) f.assigned.entries } };
+    ghost view = { λ f. record { parameters = f.parameters; needs_case = f.needs_case; assigned = f.assigned } };
 }
 
 #[derive(Drop)]
@@ -69,7 +68,7 @@ fn in_dictionary(dictionary: &Dictionary, name: &str, kept: &[u8]) -> Option<Mea
     ensures { result ≡ in_dictionary dictionary.now name.now }
 {
     if let Some(record) = dictionary.find_record(name) {
-        return Some(Meaning::Record(record));
+        return Some(Meaning::Record(record_number(dictionary, record)));
     }
     if let Some(item) = dictionary.find_item(name) {
         return Some(Meaning::Item(item));
@@ -84,6 +83,15 @@ fn in_dictionary(dictionary: &Dictionary, name: &str, kept: &[u8]) -> Option<Mea
         return Some(Meaning::Level);
     }
     None
+}
+
+/// The number of a record in fewer bits: there are at most 200.
+fn record_number(dictionary: &Dictionary, number: u16) -> u8
+    requires { number < length dictionary.now.records }
+    ensures { result ≡ number }
+{
+    let _shape = dictionary.shape();
+    number as u8
 }
 
 fn is_same(kept: &[u8], name: &str) -> bool

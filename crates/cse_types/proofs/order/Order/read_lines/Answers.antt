@@ -1,4 +1,4 @@
-use Rattle.std.proofs.Common.{◌≡◌, ℕ, List, [], length, sym, subst, arith}
+use Rattle.std.proofs.Common.{◌≡◌, ℕ, List, length, sym, subst, arith}
 use Rattle.std.proofs.lemmas.Grind.{common_steps}
 use Rattle.cse_types.proofs.OrderLaws.{Cut, cut_first, cut_on, cut_last, cut_told}
 use Rattle.cse_types.proofs.order.Order.read_lines.Goals as goal
