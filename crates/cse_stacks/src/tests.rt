@@ -1,0 +1,28 @@
+//! What no clause says: how long a resolved instruction is, and that stacks can be made.
+
+use crate::arguments::Arguments;
+use crate::resolved::Resolved;
+use crate::stacks::{Room, Stacks};
+use std::test::Fail;
+use std::mem::size_of;
+
+/// A program of a million instructions is to stay in 16 MB.
+#[test]
+fn a_resolved_instruction_is_short(rt: HostRuntime) {
+    assert_eq!(rt; size_of::<Resolved>(), 16);
+}
+
+#[test]
+fn stacks_are_made(rt: HostRuntime) -> Result<(), Fail> {
+    let room = Room {
+        calls: 3,
+        numbers: 100,
+        texts: 5,
+        ordinals: 10,
+        opens: 4,
+    };
+    let stacks = Stacks::with_room(rt.alloc(), room)?;
+    let arguments = Arguments::new(rt.alloc())?;
+    assert_eq!(rt; (stacks.numbers.height(), arguments.as_slice().len()), (0, 0));
+    Ok(())
+}
