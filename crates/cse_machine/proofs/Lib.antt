@@ -1,0 +1,5 @@
+pub mod Piles
+pub mod Tops
+pub mod Arguments
+pub mod Spot
+pub mod SimulatesNumbers

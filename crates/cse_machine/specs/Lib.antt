@@ -1,0 +1,4 @@
+pub mod Piles
+pub mod Stand
+pub mod Resolve
+pub mod Laws
