@@ -6,3 +6,8 @@ pub mod SimulatesNumbers
 pub mod SimulatesLocals
 pub mod SimulatesTexts
 pub mod SimulatesPlaces
+pub mod SimulatesBrackets
+pub mod SimulatesCase
+pub mod SimulatesMessages
+pub mod SimulatesArrays
+pub mod SimulatesCalls
