@@ -11,3 +11,5 @@ pub mod SimulatesCase
 pub mod SimulatesMessages
 pub mod SimulatesArrays
 pub mod SimulatesCalls
+pub mod Plan
+pub mod Simulates
