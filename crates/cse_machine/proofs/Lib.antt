@@ -13,3 +13,5 @@ pub mod SimulatesArrays
 pub mod SimulatesCalls
 pub mod Plan
 pub mod Simulates
+pub mod Room
+pub mod Loop

@@ -2,3 +2,4 @@ pub mod Piles
 pub mod Stand
 pub mod Resolve
 pub mod Laws
+pub mod Results
