@@ -15,3 +15,4 @@ pub mod Plan
 pub mod Simulates
 pub mod Room
 pub mod Loop
+pub mod Begin
