@@ -1,0 +1,5 @@
+pub mod Piles
+pub mod Stand
+pub mod Resolve
+pub mod Laws
+pub mod Results
