@@ -1,7 +1,6 @@
 -- The texts of batches over more and more runs.
-use Rattle.std.proofs.Common.{◌≡◌, ℕ, ◌+◌, Bool, true, false, List, [], ◌∷◌, ◌++◌, Option, Some, None, refl, sym, ap, ◌∙◌, subst, append_assoc, append-nil}
+use Rattle.std.proofs.Common.{◌≡◌, ℕ, Bool, true, false, List, [], ◌∷◌, ◌++◌, Option, Some, None, refl, sym, ap, ◌∙◌, subst, append_assoc, append-nil}
 use Rattle.std.specs.Prelude.{not, is_some, ◌&&◌}
-use Rattle.cse_value.specs.declared.number.Num.{Num}
 use Rattle.cse_parts.specs.Image.{MessageLists}
 use Rattle.cse_parts.specs.declared.entries.EventCode.{EventCode}
 use Rattle.cse_parts.specs.declared.entries.EventCode.TheVariants.{ApplicationPostproc}
@@ -9,14 +8,13 @@ use Rattle.cse_lines.specs.Line.{FileLine}
 use Rattle.cse_lines.specs.Runs.{given, fault_in}
 use Rattle.cse_verify.specs.Verified.{VerifiedProgram}
 use Rattle.cse_decks.specs.Store.{Kept}
-use Rattle.cse_report.specs.Counts.{capped}
-use Rattle.cse_report.specs.Listing.{Report, counts_of, first_line, lines_from, listing, summary}
+use Rattle.cse_report.specs.Listing.{Report, first_line, lines_from}
 use Rattle.cse_report.specs.Unended.{Begins, unended}
 use Rattle.cse_report.proofs.ToldLaws.{grows}
 use Rattle.cse_batch.specs.declared.totals.Totals.{Totals}
 use Rattle.cse_batch.specs.Totals.{totals_of}
 use Rattle.cse_batch.specs.Batch.{Batch, Progress, after_application, after_run, after_runs, batch, begun, is_whole, stopped, told_after, whole}
-use Rattle.cse_batch.specs.Laws.{FrontsStay, HasFront}
+use Rattle.cse_batch.specs.Laws.{FrontsStay}
 
 -- runs in two parts
 pub runs_later : (v : VerifiedProgram) (p : Progress) (runs more : List (List FileLine)) → after_runs v p (runs ++ more) ≡ after_runs v (after_runs v p runs) more

@@ -1,8 +1,8 @@
 -- The end of a run: the postproc, and the outputs.
-use Rattle.std.proofs.Common.{◌≡◌, ℕ, ◌+◌, ◌^◌, ◌<◌, ◌≤◌, ◌⊎◌, Bool, true, false, List, [], ◌∷◌, ◌++◌, length, Option, None, Some, Ok, Err, Result, refl, ap, sym, ◌∙◌, subst, arith, append_assoc, append-nil, inl, inr}
+use Rattle.std.proofs.Common.{◌≡◌, ℕ, Bool, true, false, List, [], ◌++◌, Option, None, Ok, Err, Result, refl, ap, sym, ◌∙◌, subst, arith, append_assoc, append-nil, inl, inr}
 use Rattle.std.specs.Prelude.{MatchBool}
 use Rattle.std.proofs.lemmas.Bool.{MatchBool-at_false}
-use Rattle.std.specs.Io.KnownBytes.{Appends, Consumes, IsAtEnd}
+use Rattle.std.specs.Io.KnownBytes.{Appends}
 use Rattle.std.proofs.KnownBytes.{Appends-nil, Appends-trans, Consumes-nil}
 use Rattle.cse_value.specs.declared.device.Failed.{Failed}
 use Rattle.cse_value.specs.Writing.{AppendsFront, FailsAtErr, WritesAll}
@@ -14,7 +14,7 @@ use Rattle.cse_decks.specs.Store.{Kept}
 use Rattle.cse_decks.specs.Deck.{deck_text}
 use Rattle.cse_output.specs.Gathering.{Finishes, GaveUp, Gathered, Gathering, Going, Puts}
 use Rattle.cse_report.specs.Held.{Held, begun as no_reports, ending, flushed}
-use Rattle.cse_report.specs.Frequency.{Table, frequencies_text}
+use Rattle.cse_report.specs.Frequency.{frequencies_text}
 use Rattle.cse_report.specs.Listing.{listing}
 use Rattle.cse_report.specs.Unended.{Begins, unended}
 use Rattle.cse_report.specs.AllReported.{all_reported}

@@ -1,5 +1,5 @@
 -- What a run of lines comes to, and an event of the application.
-use Rattle.std.proofs.Common.{◌≡◌, ℕ, Bool, true, false, cond, List, [], ◌∷◌, ◌++◌, length, Option, Some, None, refl, sym, ap, ◌∙◌, subst}
+use Rattle.std.proofs.Common.{◌≡◌, ℕ, Bool, true, List, [], ◌∷◌, ◌++◌, length, Option, Some, None, sym, ap, ◌∙◌, subst}
 use Rattle.std.specs.Prelude.{replicate}
 use Rattle.std.specs.Option.{option_map_or}
 use Rattle.cse_value.specs.declared.number.Num.{Num}
@@ -23,11 +23,11 @@ use Rattle.cse_verify.specs.Verified.{VerifiedProgram}
 use Rattle.cse_steps.specs.State.{Told, World}
 use Rattle.cse_steps.specs.Fits.{FitsFirst, IsThere, is_of_run}
 use Rattle.cse_steps.specs.Laws.{EventsEnd}
-use Rattle.cse_batch.specs.Events.{after_moment, after_moments, edited, events_of}
+use Rattle.cse_batch.specs.Events.{after_moment, edited, events_of}
 use Rattle.cse_batch.specs.Batch.{Progress, after_application, after_run, application_reports, case_reports, next_case, reports_of, tables_of, unseen_reports, without_case}
 use Rattle.cse_batch.specs.Edits.{Applies, Edits, Keeps}
 use Rattle.cse_batch.specs.Runs.{RunsTo}
-use Rattle.cse_batch.specs.Scene.{Scene, scene, scene_after_all, world_of}
+use Rattle.cse_batch.specs.Scene.{Scene, scene, scene_after_all}
 use Rattle.cse_batch.proofs.EndLaws.{fits_application}
 use Rattle.cse_batch.proofs.EventLaws.{ends_are_final}
 use Rattle.cse_batch.proofs.HeldLaws.{all_later, unended_held}

@@ -1,5 +1,5 @@
 -- All events of a batch run to their ends, within the bounds.
-use Rattle.std.proofs.Common.{◌≡◌, ℕ, zero, suc, ◌+◌, ◌*◌, ◌<◌, ◌≤◌, Bool, true, false, ◌&&◌, eqb, cond, List, [], ◌∷◌, ◌++◌, length, Option, Some, None, refl, sym, ap, ◌∙◌, subst, arith}
+use Rattle.std.proofs.Common.{◌≡◌, ℕ, zero, suc, ◌+◌, ◌*◌, ◌≤◌, Bool, true, false, ◌&&◌, eqb, cond, List, [], ◌∷◌, ◌++◌, Option, Some, None, refl, sym, ap, ◌∙◌, subst, arith}
 use Rattle.std.specs.Prelude.{slice_get, sum_by, is_some, find, IfSome}
 use Rattle.std.specs.Option.{option_map_or}
 use Rattle.std.proofs.lemmas.Bool.{eqb-true, false≢true}
@@ -11,19 +11,19 @@ use Rattle.cse_parts.specs.declared.entries.EventCode.TheVariants as codes
 use Rattle.cse_parts.specs.declared.entries.EventEntry.{EventEntry}
 use Rattle.cse_parts.specs.Codes.{event_code}
 use Rattle.cse_parts.specs.Image.{Image}
-use Rattle.cse_case.specs.Case.{CaseText, places_of, records_of, types_of}
+use Rattle.cse_case.specs.Case.{CaseText, records_of, types_of}
 use Rattle.cse_case.specs.Seen.{is_case}
 use Rattle.cse_case.specs.Fit.{IsFit}
 use Rattle.cse_bounds.specs.Bound.{bound}
 use Rattle.cse_bounds.specs.CaseEvents.{Moment, moment, event, item_events, occurrence_events, record_events, records_events, case_events, event_bound, events_bound, is_of}
-use Rattle.cse_bounds.specs.EventBound.{case_bound, run_bound, times_in_run}
+use Rattle.cse_bounds.specs.EventBound.{case_bound, times_in_run}
 use Rattle.cse_decks.specs.Store.{Kept, StoreFits}
 use Rattle.cse_verify.specs.Verified.{VerifiedProgram}
 use Rattle.cse_steps.specs.State.{State, World}
-use Rattle.cse_steps.specs.Run.{run, first}
+use Rattle.cse_steps.specs.Run.{first}
 use Rattle.cse_steps.specs.Fits.{FitsFirst, FitsWorld, IsThere, is_of_run, occurrences_in}
 use Rattle.cse_steps.specs.Laws.{CaseKeepsToBound, EventsEnd}
-use Rattle.cse_batch.specs.Events.{AllEnd, after_moment, all_steps, end_of, events_of, final, steps_of, unedited}
+use Rattle.cse_batch.specs.Events.{AllEnd, after_moment, all_steps, end_of, steps_of, unedited}
 use Rattle.cse_batch.specs.Batch.{without_case}
 use Rattle.cse_batch.specs.Laws.{ApplicationsEnd, CasesEnd}
 use Rattle.cse_batch.proofs.EventLaws.{ended_is_final, ended_takes}

@@ -1,12 +1,12 @@
 -- Events of a batch run to their ends.
-use Rattle.std.proofs.Common.{◌≡◌, ℕ, zero, suc, ◌+◌, ◌<◌, ◌≤◌, List, [], ◌∷◌, ◌++◌, Option, Some, None, length, refl, sym, ap, ◌∙◌, subst, arith}
+use Rattle.std.proofs.Common.{◌≡◌, ℕ, zero, suc, ◌+◌, ◌≤◌, [], Option, Some, None, refl, sym, ap, ◌∙◌, arith}
 use Rattle.std.specs.Prelude.{option_and_then}
 use Rattle.std.specs.Option.{option_map_or}
 use Rattle.std.proofs.lemmas.Option.{same_Some}
 use Rattle.cse_verify.specs.Verified.{VerifiedProgram}
 use Rattle.cse_steps.specs.State.{State}
 use Rattle.cse_steps.specs.Step.{step, step_of}
-use Rattle.cse_steps.specs.Run.{run, first, Ends}
+use Rattle.cse_steps.specs.Run.{run, first}
 use Rattle.cse_steps.proofs.Runs.{composed}
 use Rattle.cse_batch.specs.Events.{final, steps_from}
 use Rattle.cse_batch.specs.Laws.{EndsAreFinal}

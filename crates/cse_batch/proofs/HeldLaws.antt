@@ -1,8 +1,8 @@
 -- Reports that are held while a run goes on.
-use Rattle.std.proofs.Common.{◌≡◌, ℕ, List, [], ◌∷◌, ◌++◌, map, refl, sym, ap, ◌∙◌, append_assoc, append-nil}
+use Rattle.std.proofs.Common.{◌≡◌, ℕ, List, [], ◌∷◌, ◌++◌, refl, sym, ap, ◌∙◌, append_assoc, append-nil}
 use Rattle.cse_parts.specs.Image.{MessageLists}
-use Rattle.cse_report.specs.Listing.{Report, first_line, heading_after, lines_from, lines_of, listing}
-use Rattle.cse_report.specs.Held.{Held, Flushes, Lists, Progress, Step, after_steps, begun, ending, flushed, given, reported, reports_in, stepped, unwritten}
+use Rattle.cse_report.specs.Listing.{Report, heading_after, lines_from, lines_of, listing}
+use Rattle.cse_report.specs.Held.{Held, Flushes, Progress, Step, after_steps, begun, ending, flushed, given, reported, reports_in, stepped, unwritten}
 use Rattle.cse_report.specs.Unended.{unended}
 use Rattle.cse_report.specs.AllReported.{all_reported, as_steps}
 use Rattle.cse_report.proofs.ListingLaws.{gives_the_listing}

@@ -5,7 +5,6 @@ use Rattle.std.specs.Io.KnownBytes.{IsAtEnd}
 use Rattle.std.proofs.KnownBytes.{Consumes-nil}
 use Rattle.std.proofs.lemmas.Bool.{cases_lt}
 use Rattle.cse_parts.specs.declared.entries.EventCode.TheVariants.{ApplicationPreproc}
-use Rattle.cse_dict.specs.Dictionary.{DictionaryText}
 use Rattle.cse_lines.specs.declared.error.DataError.{DataError}
 use Rattle.cse_lines.specs.Line.{FileLine}
 use Rattle.cse_lines.specs.Run.{written_run}
@@ -18,7 +17,7 @@ use Rattle.cse_decks.specs.Store.{Kept}
 use Rattle.cse_output.specs.Gathering.{Going, Gathering, Puts}
 use Rattle.cse_report.specs.Held.{Held, begun as no_reports, flushed}
 use Rattle.cse_report.specs.Listing.{first_line}
-use Rattle.cse_report.specs.Unended.{Begins, unended}
+use Rattle.cse_report.specs.Unended.{unended}
 use Rattle.cse_report.specs.declared.reports.Reports.{Reports}
 use Rattle.cse_verify.specs.Verified.{VerifiedProgram}
 use Rattle.cse_batch.specs.declared.totals.Totals.{Totals}

@@ -1,5 +1,5 @@
 -- What events change, one after the other.
-use Rattle.std.proofs.Common.{◌≡◌, ℕ, zero, suc, ◌+◌, ◌-◌, ◌<◌, get_or, drop, length, Result, Ok, Err, OnOk, arith, List, [], ◌∷◌, ◌++◌, map, Option, Some, None, refl, sym, ap, ◌∙◌, subst}
+use Rattle.std.proofs.Common.{◌≡◌, ℕ, suc, ◌+◌, ◌-◌, ◌<◌, get_or, drop, length, Result, Ok, Err, OnOk, arith, List, [], ◌∷◌, ◌++◌, Option, Some, refl, sym, ap, ◌∙◌, subst}
 use Rattle.std.proofs.lemmas.List.{drop_more, map-append}
 use Rattle.cse_parts.specs.declared.entries.Event.{Event}
 use Rattle.cse_value.specs.declared.shape.ItemShape.{ItemShape}
@@ -13,7 +13,7 @@ use Rattle.cse_report.specs.Frequency.{Table, all_imputed}
 use Rattle.cse_report.specs.declared.reports.Reports.{Reports}
 use Rattle.cse_report.proofs.ToldLaws.{imputes_all}
 use Rattle.cse_verify.specs.Verified.{VerifiedProgram}
-use Rattle.cse_steps.specs.State.{Told, World}
+use Rattle.cse_steps.specs.State.{World}
 use Rattle.cse_steps.specs.Fits.{FitsFirst, FitsWorld, IsThere, occurrences_in}
 use Rattle.cse_steps.specs.Laws.{EventsEnd}
 use Rattle.cse_batch.specs.Events.{after_moment, after_moments, end_of, told_more}

@@ -3,7 +3,7 @@
 -- First the application's preproc. Then each given run of lines in order: its events, if it is a case, and then
 -- its lines as they are written. Then the application's postproc. A faulty line, or data that breaks off, stops
 -- it: there is no postproc and no summary, and neither frequencies nor decks are told.
-use Rattle.std.specs.Prelude.{ℕ, ◌+◌, Bool, true, ◌&&◌, not, is_some, if◌then◌else◌, List, [], ◌∷◌, ◌++◌, length, map, replicate, Option, None}
+use Rattle.std.specs.Prelude.{ℕ, ◌+◌, Bool, true, ◌&&◌, not, is_some, if◌then◌else◌, List, [], ◌∷◌, ◌++◌, length, map, replicate, None}
 use Rattle.std.specs.Option.{option_map_or}
 use Rattle.cse_value.specs.declared.number.Num.{Num}
 use Rattle.cse_parts.specs.declared.entries.EventCode.{EventCode}

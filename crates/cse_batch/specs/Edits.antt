@@ -1,5 +1,5 @@
 -- What a run of lines comes to, and an event of the application.
-use Rattle.std.specs.Prelude.{◌≡◌, ℕ, Bool, List, [], ◌++◌, length, replicate, Option, Some, None}
+use Rattle.std.specs.Prelude.{◌≡◌, ℕ, Bool, List, Option, Some}
 use Rattle.cse_parts.specs.declared.entries.EventCode.{EventCode}
 use Rattle.cse_case.specs.Case.{CaseText}
 use Rattle.cse_bounds.specs.CaseEvents.{moment}

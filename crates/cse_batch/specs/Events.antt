@@ -1,5 +1,5 @@
 -- What the events of a batch come to, one after the other.
-use Rattle.std.specs.Prelude.{◌≡◌, ℕ, zero, suc, ◌+◌, List, [], ◌∷◌, ◌++◌, length, if◌then◌else◌, Option, Some}
+use Rattle.std.specs.Prelude.{◌≡◌, ℕ, zero, suc, ◌+◌, List, [], ◌∷◌, ◌++◌, length, if◌then◌else◌, Some}
 use Rattle.std.specs.Option.{option_map_or}
 use Rattle.cse_case.specs.Case.{CaseText, places_of, records_of, types_of}
 use Rattle.cse_case.specs.Seen.{is_case}

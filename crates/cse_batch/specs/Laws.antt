@@ -1,10 +1,9 @@
 -- What is proved of batches.
-use Rattle.std.specs.Prelude.{◌≡◌, ℕ, ◌+◌, ◌≤◌, Bool, true, List, [], ◌++◌, Option, Some}
+use Rattle.std.specs.Prelude.{◌≡◌, ℕ, ◌+◌, ◌≤◌, Bool, true, List, [], ◌++◌, Option}
 use Rattle.cse_lines.specs.Line.{FileLine}
 use Rattle.cse_lines.specs.Runs.{given}
 use Rattle.cse_case.specs.Case.{CaseText}
 use Rattle.cse_case.specs.Fit.{IsFit}
-use Rattle.cse_parts.specs.declared.entries.EventCode.{EventCode}
 use Rattle.cse_parts.specs.declared.entries.EventCode.TheVariants.{ApplicationPreproc, ApplicationPostproc}
 use Rattle.cse_bounds.specs.CaseEvents.{Moment, moment}
 use Rattle.cse_bounds.specs.EventBound.{case_bound, run_bound}

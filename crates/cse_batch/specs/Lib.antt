@@ -9,3 +9,4 @@ pub mod RunState
 pub mod Runs
 pub mod Scene
 pub mod Totals
+pub mod Worked

@@ -1,5 +1,5 @@
 -- How far a run is, before its outputs are closed.
-use Rattle.std.specs.Prelude.{◌≡◌, ◌≤◌, ◌<◌, ◌^◌, ◌⊎◌, ℕ, Bool, true, List, [], ◌++◌, length, Option, None}
+use Rattle.std.specs.Prelude.{◌≡◌, ◌≤◌, ◌<◌, ◌^◌, ◌⊎◌, ℕ, Bool, true, List, ◌++◌, length, Option, None}
 use Rattle.std.specs.Io.KnownBytes.{Consumes, IsAtEnd}
 use Rattle.cse_lines.specs.Line.{FileLine}
 use Rattle.cse_lines.specs.Runs.{given, fault_in}
@@ -16,7 +16,7 @@ use Rattle.cse_batch.specs.declared.totals.Totals.{Totals}
 use Rattle.cse_batch.specs.declared.totals.RunFault.{RunFault}
 use Rattle.cse_batch.specs.Totals.{totals_of}
 use Rattle.cse_batch.specs.Pass.{BreaksOff, IsDataFault}
-use Rattle.cse_batch.specs.Batch.{Progress, after_runs, batch, begun}
+use Rattle.cse_batch.specs.Batch.{after_runs, batch, begun}
 use Rattle.cse_batch.specs.Edits.{Keeps}
 
 -- where an output stood, whether it had failed, and how far it is

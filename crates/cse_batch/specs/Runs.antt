@@ -1,5 +1,5 @@
 -- What runs the events of a program, for its callers.
-use Rattle.std.specs.Prelude.{◌≡◌, ℕ, List, [], ◌∷◌, Option}
+use Rattle.std.specs.Prelude.{◌≡◌, ℕ, Option}
 use Rattle.cse_case.specs.Case.{CaseText}
 use Rattle.cse_bounds.specs.CaseEvents.{Moment}
 use Rattle.cse_decks.specs.Store.{Kept}

@@ -1,5 +1,5 @@
 -- What events change: the case, what is kept, and the reports as they are held.
-use Rattle.std.specs.Prelude.{◌≡◌, List, [], ◌∷◌, Option, Some}
+use Rattle.std.specs.Prelude.{List, [], ◌∷◌, Option, Some}
 use Rattle.cse_case.specs.Case.{CaseText}
 use Rattle.cse_bounds.specs.CaseEvents.{Moment}
 use Rattle.cse_decks.specs.Store.{Kept}

@@ -19,6 +19,7 @@ mod machine;
 mod parts;
 mod run;
 mod totals;
+mod worked;
 
 pub use copy::pass;
 pub use image::{CheckFault, check_image};
@@ -26,6 +27,7 @@ pub use laws::{applications_end, cases_end, ends_are_final, fronts_stay};
 pub use machine::Runs;
 pub use run::run_by;
 pub use totals::{RunFault, Totals};
+pub use worked::worked_rows;
 
 #[cfg(test)]
 mod tests;
