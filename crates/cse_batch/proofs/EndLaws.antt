@@ -1,6 +1,6 @@
 -- All events of a batch run to their ends, within the bounds.
 use Rattle.std.proofs.Common.{◌≡◌, ℕ, zero, suc, ◌+◌, ◌*◌, ◌≤◌, Bool, true, false, ◌&&◌, eqb, cond, List, [], ◌∷◌, ◌++◌, Option, Some, None, refl, sym, ap, ◌∙◌, subst, arith}
-use Rattle.std.specs.Prelude.{slice_get, sum_by, is_some, find, IfSome}
+use Rattle.std.specs.Prelude.{slice_get, sum_by, is_some, find, option_map, IfSome}
 use Rattle.std.specs.Option.{option_map_or}
 use Rattle.std.proofs.lemmas.Bool.{eqb-true, false≢true}
 use Rattle.std.proofs.lemmas.List.Sums.{sum_by-cons}
@@ -14,8 +14,9 @@ use Rattle.cse_parts.specs.Image.{Image}
 use Rattle.cse_case.specs.Case.{CaseText, records_of, types_of}
 use Rattle.cse_case.specs.Seen.{is_case}
 use Rattle.cse_case.specs.Fit.{IsFit}
+use Rattle.cse_typing.specs.Handlers.{is_of, routine_of}
 use Rattle.cse_bounds.specs.Bound.{bound}
-use Rattle.cse_bounds.specs.CaseEvents.{Moment, moment, event, item_events, occurrence_events, record_events, records_events, case_events, event_bound, events_bound, is_of}
+use Rattle.cse_bounds.specs.CaseEvents.{Moment, moment, event, item_events, occurrence_events, record_events, records_events, case_events, event_bound, events_bound}
 use Rattle.cse_bounds.specs.EventBound.{case_bound, times_in_run}
 use Rattle.cse_decks.specs.Store.{Kept, StoreFits}
 use Rattle.cse_verify.specs.Verified.{VerifiedProgram}
@@ -169,7 +170,7 @@ cases_end v law keeps store t store_fits fit same =
 -- ---- the application
 
 abbrev found : Image → EventCode → List EventEntry → ℕ
-found x code entries = option_map_or (λ (e : EventEntry). bound x e.routine) (find (is_of (event code 0)) entries) 0
+found x code entries = option_map_or (bound x) (routine_of entries (event code 0)) 0
 
 abbrev in_run : Image → EventEntry → ℕ
 in_run x e = times_in_run e.code * bound x e.routine
@@ -187,7 +188,7 @@ one_of codes.RecordPostproc b n pre post = omega arith
 one_of codes.ItemPreproc b n pre post = omega arith
 one_of codes.ItemPostproc b n pre post = omega arith
 
-found_by : (x : Image) (e : EventEntry) (o : Option EventEntry) (b : Bool) → option_map_or (λ (y : EventEntry). bound x y.routine) (cond b (Some e) o) 0 ≡ cond b (bound x e.routine) (option_map_or (λ (y : EventEntry). bound x y.routine) o 0)
+found_by : (x : Image) (e : EventEntry) (o : Option EventEntry) (b : Bool) → option_map_or (bound x) (option_map (λ (y : EventEntry). y.routine) (cond b (Some e) o)) 0 ≡ cond b (bound x e.routine) (option_map_or (bound x) (option_map (λ (y : EventEntry). y.routine) o) 0)
 found_by x e o true = refl
 found_by x e o false = refl
 

@@ -41,7 +41,7 @@ pub returns-in_default-edit-clause-err : goal.returns-in_default-edit-clause-err
 returns-in_default-edit-clause-err g c =
     let inv = c.runs.invariant in
     let next = rw c.in-Ok-Some.field-0-is at (c.in-Ok-Some.ensures.next inv.sound) in
-    halts_memory _ _ _ _ _ _ _ _ _ _ _ _ inv.running _ next _ c.next.new.self.end (c.in-Ok-Some.ensures.few inv.sound)
+    halts_memory _ _ _ _ _ _ _ _ _ _ _ _ inv.running _ next _ c.next.new.self.end c.in-Ok-Some.ensures.few
 
 pub returns-then-written-clause-err : goal.returns-then-written-clause-err
 returns-then-written-clause-err g c =
@@ -49,7 +49,7 @@ returns-then-written-clause-err g c =
     let next = rw c.in-Ok-Some.field-0-is at (c.in-Ok-Some.ensures.next inv.sound) in
     let new : Reports = record { listing = c.put_to-in-Ok-Some-2.new.self; frequencies = c.edit.new.reports.frequencies } in
     let more = running_case _ _ _ _ _ _ _ _ _ _ _ _ inv.running _ next c.edit.new.case c.edit.new.store c.edit.new.reports new _ _ c.is_case.result
-    c.in-Ok-edit.ensures.edits c.put_to-in-Ok-Some.ensures c.put_to-in-Ok-Some-2.ensures.puts c.put_to-in-Ok-Some-2.ensures.held refl c.is_case.ensures (c.in-Ok-Some.ensures.few inv.sound) in
+    c.in-Ok-edit.ensures.edits c.put_to-in-Ok-Some.ensures c.put_to-in-Ok-Some-2.ensures.puts c.put_to-in-Ok-Some-2.ensures.held refl c.is_case.ensures c.in-Ok-Some.ensures.few in
     halts_writing _ _ _ _ (g.R.Input.remaining c.next.new.self.input.now) _ c.next.new.self.stream _ _ _ _ _ more _ c.next.new.self.end
     (elim c.then-written.branch [
       | then-written-via-then-written w ↦ inl w.if-written.true
@@ -62,7 +62,7 @@ runs-preserved g c =
     let next = rw c.in-Ok-Some.field-0-is at (c.in-Ok-Some.ensures.next inv.sound) in
     let new : Reports = record { listing = c.put_to-in-Ok-Some-2.new.self; frequencies = c.edit.new.reports.frequencies } in
     let more = running_case _ _ _ _ _ _ _ _ _ _ _ _ inv.running _ next c.edit.new.case c.edit.new.store c.edit.new.reports new _ _ c.is_case.result
-    c.in-Ok-edit.ensures.edits c.put_to-in-Ok-Some.ensures c.put_to-in-Ok-Some-2.ensures.puts c.put_to-in-Ok-Some-2.ensures.held refl c.is_case.ensures (c.in-Ok-Some.ensures.few inv.sound) in
+    c.in-Ok-edit.ensures.edits c.put_to-in-Ok-Some.ensures c.put_to-in-Ok-Some-2.ensures.puts c.put_to-in-Ok-Some-2.ensures.held refl c.is_case.ensures c.in-Ok-Some.ensures.few in
     record {
       running = rw (c.from-cases.ensures ∙ byte_is _, c.lines-lines.ensures.lines, c.unseen.ensures) more;
       sound = c.in-Ok-Some.ensures.ok;
