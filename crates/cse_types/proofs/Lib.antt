@@ -5,3 +5,4 @@ pub mod Complete
 pub mod NameLaws
 pub mod Walks
 pub mod Sets
+pub mod Expressions

@@ -7,12 +7,14 @@
 //! - `meaning`, `names`, `scope`: what names mean, and what is known at a place of logic.
 //! - `faults`: the fault that is told.
 //! - `judged`, `item`, `set`, `deck`, `call`, `list`: what parts of an expression are found to be.
+//! - `expression`: the walk over expressions.
 //! - `laws`: laws of the definitions.
 #![tactic(auto)]
 
 mod call;
 mod deck;
 mod error;
+mod expression;
 mod faults;
 mod gaps;
 mod item;
