@@ -6,3 +6,5 @@ pub mod NameLaws
 pub mod Walks
 pub mod Sets
 pub mod Expressions
+pub mod StatementsRight
+pub mod StatementsComplete

@@ -29,7 +29,7 @@ mod scope;
 mod set;
 
 pub use error::TypeError;
-pub use laws::expressions_are_judged;
+pub use laws::{expressions_are_judged, statements_are_judged};
 pub use meaning::{Meaning, Routine};
 pub use messages::Messages;
 pub use order::Order;
