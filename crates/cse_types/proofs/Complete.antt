@@ -36,7 +36,7 @@ unfolding present_at
 present_complete s k (p.Id item) h = (h.1, rw h.0 refl)
 present_complete s k (p.Here f how) h = (h.0.1, rw (h.0.0, h.0.2, h.1) refl)
 
-field_complete : (s : Scope) (k : ItemKind) (f : Field) → IsField s k f → field_at s f.item f.owner ≡ Some f
+pub field_complete : (s : Scope) (k : ItemKind) (f : Field) → IsField s k f → field_at s f.item f.owner ≡ Some f
 unfolding field_at
 field_complete s k f h = rw (h.0, h.2) refl
 
@@ -69,7 +69,7 @@ picks_complete s (Rows name set one_more size ∷ ds) (x ∷ xs) h =
     ∙ ap (λ n. Some (record { item = x.item; set = n; has_leftover = one_more } ∷ xs)) (sym h.0)
     ∙ ap (λ b. Some (record { item = x.item; set = x.set; has_leftover = b } ∷ xs)) (sym h.1)
 
-deck_complete : (s : Scope) (o : Option (Option (List Dimension))) (xs : List Pick) → has_case s.routine ≡ true → AreDeckPicks s o xs → picks_of s o ≡ Some xs
+pub deck_complete : (s : Scope) (o : Option (Option (List Dimension))) (xs : List Pick) → has_case s.routine ≡ true → AreDeckPicks s o xs → picks_of s o ≡ Some xs
 deck_complete s (Some (Some ds)) xs c h = rw c (picks_complete s ds xs h)
 deck_complete s (Some None) xs c h = absurd h
 deck_complete s None xs c h = absurd h
@@ -121,7 +121,7 @@ mutual
       rw (h.0, h.1.1, field_complete s kind.Text field h.1, complete s false place h.2) refl
   complete_words s top (TextGroup x) h = rw (complete_words s false x h) refl
 
-  complete_all : (s : Scope) (ys : Numbers) → AreNumbers s ys → (judge_all s (erase_all ys) ≡ Some ys) × (expr_count (erase_all ys) ≡ count ys)
+  pub complete_all : (s : Scope) (ys : Numbers) → AreNumbers s ys → (judge_all s (erase_all ys) ≡ Some ys) × (expr_count (erase_all ys) ≡ count ys)
   complete_all s no_number h = (refl, refl)
   complete_all s (number_and x xs) h =
       let c = complete_all s xs h.1 in

@@ -5,3 +5,6 @@ pub mod Complete
 pub mod NameLaws
 pub mod Walks
 pub mod Sets
+pub mod Expressions
+pub mod StatementsRight
+pub mod StatementsComplete

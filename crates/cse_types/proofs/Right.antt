@@ -60,13 +60,13 @@ Right s top x (AsNumber o) = For (IsTyped s top x) o
 Right s top x (AsWords o) = For (IsTypedWords s x) o
 Right s top x Unknown = Unit {0}
 
-abbrev AreTyped : Scope → syntax.Exprs → Numbers → Type 0
+abbrev pub AreTyped : Scope → syntax.Exprs → Numbers → Type 0
 AreTyped s xs ys = (erase_all ys ≡ xs) × (count ys ≡ expr_count xs) × AreNumbers s ys
 
 abbrev AreTypedOperations : Scope → Bool → syntax.Operations → Operations → Type 0
 AreTypedOperations s top xs ys = (erase_operations ys ≡ xs) × (is_last ys ≡ is_end xs) × AreOperands s top ys
 
-number_right : (s : Scope) (top : Bool) (x : syntax.Expr) (a : Judged) → Right s top x a → For (IsTyped s top x) (as_number a)
+pub number_right : (s : Scope) (top : Bool) (x : syntax.Expr) (a : Judged) → Right s top x a → For (IsTyped s top x) (as_number a)
 number_right s top x (AsNumber o) h = h
 number_right s top x (AsWords o) h = tt
 number_right s top x Unknown h = tt
@@ -77,7 +77,7 @@ pub and_holds : (a b : Bool) → (a && b) ≡ true → (a ≡ true) × (b ≡ tr
 and_holds true b h = (refl, h)
 and_holds false b h = (h, absurd (false≢true h))
 
-not_holds : (a : Bool) → not a ≡ true → a ≡ false
+pub not_holds : (a : Bool) → not a ≡ true → a ≡ false
 not_holds true h = sym h
 not_holds false h = refl
 
@@ -106,10 +106,10 @@ item_right s top name item (Some (kind.Text, owner)) e h =
     for_map (λ x. (item_of x ≡ item) × IsPresent s kind.Text x) (IsTypedWords s (syntax.Bare name)) (TextItem name) (λ x k. (refl, (e ∙ ap (λ n. Some (m.Item n)) (sym k.0), k.1))) _ (present_right s kind.Text item owner h)
 
 -- a single subscript
-abbrev IsSole : Scope → syntax.Exprs → Number → Type 0
+abbrev pub IsSole : Scope → syntax.Exprs → Number → Type 0
 IsSole s xs y = (subscript (erase y) ≡ xs) × IsNumber s false y
 
-sole_right : (s : Scope) (xs : syntax.Exprs) (o : Option Numbers) → For (AreTyped s xs) o → For (IsSole s xs) (sole o)
+pub sole_right : (s : Scope) (xs : syntax.Exprs) (o : Option Numbers) → For (AreTyped s xs) o → For (IsSole s xs) (sole o)
 sole_right s xs None h = tt
 sole_right s xs (Some no_number) h = tt
 sole_right s xs (Some (number_and x no_number)) h = (h.0, h.2.0)
@@ -148,7 +148,7 @@ bare_right s top name (Some (m.Set x)) e = tt
 bare_right s top name (Some m.Application) e = tt
 bare_right s top name (Some m.Level) e = tt
 
-is_count_holds : (n : ℕ) (o : Option ℕ) → is_count n o ≡ true → o ≡ Some n
+pub is_count_holds : (n : ℕ) (o : Option ℕ) → is_count n o ≡ true → o ≡ Some n
 is_count_holds n None h = absurd (false≢true h)
 is_count_holds n (Some k) h = ap Some (eqb-true k n h)
 
@@ -199,7 +199,7 @@ picks_right s (Rows name set one_more size ∷ ds) =
     (for_map (λ x. (item ≡ Some (item_of x)) × IsPresent s kind.Number x) _ (pick set one_more) (λ x k. (refl, refl, k.0, k.1)) (set_present s item) (set_present_right s item))
     (picks_right s ds)
 
-deck_picks_right : (s : Scope) (o : Option (Option (List Dimension))) → For (λ xs. Holds (has_case s.routine) × AreDeckPicks s o xs) (picks_of s o)
+pub deck_picks_right : (s : Scope) (o : Option (Option (List Dimension))) → For (λ xs. Holds (has_case s.routine) × AreDeckPicks s o xs) (picks_of s o)
 deck_picks_right s (Some (Some ds)) = for_only _ (has_case s.routine) _ (λ c. with_case c (picks_for s ds) (picks_right s ds))
   where
     with_case : has_case s.routine ≡ true → (o : Option (List Pick)) → For (ArePicks s ds) o → For (λ xs. Holds (has_case s.routine) × ArePicks s ds xs) o
@@ -220,10 +220,10 @@ deck_right s top name (Some m.Application) e = tt
 deck_right s top name (Some m.Level) e = tt
 deck_right s top name None e = tt
 
-abbrev IsRecord : Scope → Option Meaning → ℕ → Type 0
+abbrev pub IsRecord : Scope → Option Meaning → ℕ → Type 0
 IsRecord s o x = (o ≡ Some (m.Record x)) × Holds (has_case s.routine)
 
-record_right : (s : Scope) (o : Option Meaning) → For (IsRecord s o) (record_of s o)
+pub record_right : (s : Scope) (o : Option Meaning) → For (IsRecord s o) (record_of s o)
 record_right s (Some (m.Record x)) = for_only _ (has_case s.routine) _ (λ c. (refl, c))
 record_right s (Some (m.Variable x)) = tt
 record_right s (Some (m.Text x)) = tt
@@ -323,7 +323,7 @@ mutual
       for_joined (IsTyped s false x) (AreTypedOperations s top others) _ Chain (λ y ys k l. (ap (λ e. syntax.Chain e (erase_operations ys)) k.0 ∙ ap (syntax.Chain x) l.0, (k.1, l.2)))
       _ (judge_operations s top others) (number_right s false x (judge s false x) (judge_right s false x)) (operations_right s top others)
 
-  all_right : (s : Scope) (xs : syntax.Exprs) → For (AreTyped s xs) (judge_all s xs)
+  pub all_right : (s : Scope) (xs : syntax.Exprs) → For (AreTyped s xs) (judge_all s xs)
   all_right s syntax.no_expr = (refl, refl, tt)
   all_right s (syntax.expr_and x xs) =
       for_joined (IsTyped s false x) (AreTyped s xs) _ number_and (λ y ys k l. (ap (λ e. syntax.expr_and e (erase_all ys)) k.0 ∙ ap (syntax.expr_and x) l.0, ap (λ n. n + 1) l.1, (k.1, l.2)))

@@ -1,7 +1,7 @@
 -- Lists that are judged from the left.
-use Rattle.std.specs.Prelude.{Bool, true, false, ◌&&◌, ◌||◌, not}
-use Rattle.std.proofs.Common.{zero, ◌≤◌, ◌<◌, get_or, drop, drop-cons, ◌≡◌, ℕ, suc, ◌+◌, List, [], ◌∷◌, ◌++◌, length, map, Option, Some, None, refl, ap, sym, ◌∙◌, arith, option_map, append_assoc}
-use Rattle.std.proofs.lemmas.Bool.{false≢true}
+use Rattle.std.specs.Prelude.{Bool, true, false, ◌&&◌, ◌||◌, not, ◌==◌}
+use Rattle.std.proofs.Common.{subst, ◌-◌, zero, ◌≤◌, ◌<◌, get_or, drop, drop-cons, ◌≡◌, ℕ, suc, ◌+◌, List, [], ◌∷◌, ◌++◌, length, map, Option, Some, None, refl, ap, sym, ◌∙◌, arith, option_map, append_assoc}
+use Rattle.std.proofs.lemmas.Bool.{false≢true, eqb-true}
 use Rattle.cse_typed.specs.Typed.{Number, numbers}
 use Rattle.cse_types.specs.Judge.{sole}
 use Rattle.cse_types.specs.Walk.{walk, so_far, found_more, joined, only_if, is_there}
@@ -74,3 +74,82 @@ or_true false = refl
 pub walk_made : {A B C : Type 0} (f : B → Option C) (g : A → B) (xs : List A) → walk (λ x rest. f x) (map g xs) ≡ walk (λ x rest. f (g x)) xs
 walk_made f g [] = refl
 walk_made f g (x ∷ xs) = ap (joined (λ y ys. y ∷ ys) (f (g x))) (walk_made f g xs)
+
+pub there_map : {A B : Type 0} (g : A → B) (y : Option A) → is_there (option_map g y) ≡ is_there y
+there_map g None = refl
+there_map g (Some y) = refl
+
+map_more : {A B : Type 0} (g : A → B) (xs : List A) (y : A) → map g (xs ++ y ∷ []) ≡ map g xs ++ g y ∷ []
+map_more g [] y = refl
+map_more g (x ∷ xs) y = ap (λ ys. g x ∷ ys) (map_more g xs y)
+
+map_found : {A B : Type 0} (g : A → B) (xs : List A) (y : Option A) → map g (found_more xs y) ≡ found_more (map g xs) (option_map g y)
+map_found g xs None = refl
+map_found g xs (Some y) = map_more g xs y
+
+-- the invariant of a loop that keeps what is made into members, after one of them
+pub step_made : {A R B : Type 0} (f : A → List A → Option B) (g : R → B) (items : List A) (i : ℕ) (x : A) (b both there : Bool) (xs xs' : List R) (y : Option R) (all : Option (List B))
+    → i < length items → x ≡ get_or items i x → so_far b (map g xs) (walk f (drop i items)) ≡ all → option_map g y ≡ f x (drop (i + 1) items) → xs' ≡ found_more xs y → there ≡ is_there y → both ≡ (b && there)
+    → so_far both (map g xs') (walk f (drop (i + 1) items)) ≡ all
+step_made f g items i x b both there xs xs' y all lt is inv e k h j =
+    ap (λ c. so_far c (map g xs') (walk f (drop (i + 1) items))) j
+    ∙ step_value f items i x b there (map g xs) (map g xs') (option_map g y) all lt is inv e (ap (map g) k ∙ map_found g xs y) (h ∙ sym (there_map g y))
+
+pub step_noted_made : {R B : Type 0} (g : R → B) (new old first b both there : Bool) (y : Option R) (z : Option B) → old ≡ (first || not b) → new ≡ (old || not (is_there z)) → option_map g y ≡ z → there ≡ is_there y → both ≡ (b && there)
+    → new ≡ (first || not both)
+step_noted_made g new old first b both there y z inv e k h j =
+    step_noted new old first b there (is_there z) inv e (h ∙ sym (there_map g y) ∙ ap is_there k) ∙ ap (λ c. first || not c) (sym j)
+
+abbrev pub is_none : {A : Type 0} → List A → Bool
+is_none [] = true
+is_none (x ∷ xs) = false
+
+not_eqb : (m n : ℕ) → (m ≡ n → ⊥) → (m == n) ≡ false
+not_eqb m n h = by (m == n) refl
+  where
+    by : (b : Bool) → (m == n) ≡ b → (m == n) ≡ false
+    by true e = absurd (h (eqb-true m n e))
+    by false e = e
+
+-- nothing is left behind the last
+pub none_left : {A : Type 0} (items : List A) (n left : ℕ) → left + n ≡ length items → (left == 0) ≡ is_none (drop n items)
+none_left [] zero zero h = refl
+none_left [] (suc n) zero h = refl
+none_left [] zero (suc k) h = absurd (omega (arith, h))
+none_left [] (suc n) (suc k) h = absurd (omega (arith, h))
+none_left (x ∷ xs) zero zero h = absurd (omega (arith, h))
+none_left (x ∷ xs) zero (suc k) h = not_eqb (suc k) 0 (λ e. absurd (omega (arith, e)))
+none_left (x ∷ xs) (suc n) left h = none_left xs n left (omega (arith, h))
+
+or_same : (b c : Bool) → ((b || c) || c) ≡ (b || c)
+or_same true c = refl
+or_same false true = refl
+or_same false false = refl
+
+absorbed : {A B C : Type 0} (f : A → B → C) (a : Option A) (b : Option B) (before : Bool) → ((before || not (is_there a)) || not (is_there (joined f a b))) ≡ (before || not (is_there (joined f a b)))
+absorbed f a b true = refl
+absorbed f None b false = refl
+absorbed f (Some x) b false = refl
+
+-- a fault of the first of two parts was noted before
+pub after_part : {A B C : Type 0} (f : A → B → C) (a : Option A) (b : Option B) (before mid final : Bool) → mid ≡ (before || not (is_there a)) → ((mid || not (is_there a)) ≡ mid → final ≡ (mid || not (is_there (joined f a b))))
+    → final ≡ (before || not (is_there (joined f a b)))
+after_part f a b before mid final e h =
+    h (ap (λ m. m || not (is_there a)) e ∙ or_same before (not (is_there a)) ∙ sym e)
+    ∙ ap (λ m. m || not (is_there (joined f a b))) e
+    ∙ absorbed f a b before
+
+pub or_parts : (b x y : Bool) → (((b || x) || y) || (x || y)) ≡ ((b || x) || y)
+or_parts true x y = refl
+or_parts false true y = refl
+or_parts false false true = refl
+or_parts false false false = refl
+
+-- the same, of a part that is made of another
+pub after_made_part : {R A B C : Type 0} (g : R → A) (f : A → B → C) (y : Option R) (a : Option A) (b : Option B) (before mid final : Bool) → option_map g y ≡ a → mid ≡ (before || not (is_there a))
+    → ((mid || not (is_there y)) ≡ mid → final ≡ (mid || not (is_there (joined f (option_map g y) b)))) → final ≡ (before || not (is_there (joined f a b)))
+after_made_part {A = A} g f y a b before mid final u e h =
+    after_part f a b before mid final e (subst (λ (z : Option A). (mid || not (is_there z)) ≡ mid → final ≡ (mid || not (is_there (joined f z b)))) u (λ k. h (ap (λ p. mid || not p) (sym (there_map g y)) ∙ k)))
+
+pub step_left : (l k i n : ℕ) → k ≡ l - 1 → l + i ≡ n → i < n → k + (i + 1) ≡ n
+step_left l k i n e h lt = omega (arith, e, h, lt)

@@ -6,3 +6,4 @@ pub mod Uses
 pub mod WellTyped
 pub mod Walk
 pub mod Judge
+pub mod JudgeStatement

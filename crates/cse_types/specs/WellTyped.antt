@@ -207,6 +207,10 @@ abbrev pub message_meant : List MessageText → syntax.Message → Option Messag
 message_meant messages (syntax.Own text) = Some (record { number = 0; text = text_of text.text })
 message_meant messages (syntax.Numbered digits) = find (λ (x : MessageText). nat_eq (number_of digits.text) x.number) messages
 
+-- the kinds of the values that a message wants
+abbrev pub kinds_of : List MessageText → syntax.Message → Option (List ArgumentKind)
+kinds_of messages message = option_map (λ (x : MessageText). message_kinds x.text) (message_meant messages message)
+
 abbrev pub no_message : MessageText
 no_message = record { number = 0; text = [] }
 
@@ -227,32 +231,33 @@ AreArguments s (x ∷ xs) = IsArgument s x × AreArguments s xs
 
 -- ---- statements
 
--- a place of an item: the occurrence that is meant (49), or a subscript
-abbrev pub IsWhich : Scope → Field → Which → Type 0
-IsWhich s f (Here how) = found s f.owner ≡ Some how
-IsWhich s f (At place) = IsNumber s false place
+-- a place of an item of this record: the occurrence that is meant (49), or a subscript
+abbrev pub IsWhich : Scope → ℕ → Which → Type 0
+IsWhich s owner (Here how) = found s owner ≡ Some how
+IsWhich s owner (At place) = IsNumber s false place
 
-abbrev pub literal_value : syntax.Literal → ℤ
-literal_value x = if x.minus then neg_ℤ (pos (number_of x.digits.text)) else pos (number_of x.digits.text)
+-- the value of a literal with its sign
+abbrev pub signed_value : syntax.Literal → Option ℤ
+signed_value x = option_map (λ value. if x.minus then neg_ℤ value else value) (value_of x.digits)
 
 -- the value is that of the literal
 abbrev pub IsWhole : Whole → Type 0
-IsWhole x = x.value ≡ literal_value x.literal
+IsWhole x = signed_value x.literal ≡ Some x.value
 
 abbrev pub IsLimit : Scope → Limit → Type 0
 IsLimit s (Fixed x) = IsWhole x
 IsLimit s (Counted counted name of) = (meant s name ≡ Some (m.Record of)) × Holds (has_case s.routine)  -- 40; 49
 
 -- what each turn adds
-abbrev pub step_of : Option Spelling → ℤ
-step_of None = pos 1
-step_of (Some digits) = pos (number_of digits.text)
+abbrev pub step_of : Option Spelling → Option ℤ
+step_of None = Some (pos 1)
+step_of (Some digits) = value_of digits
 
 abbrev pub IsCounting : Scope → Counting → Type 0
 IsCounting s x =
     (loop_variable s x.name ≡ Some x.variable)  -- 40
     × Holds (is_free s.loops x.variable)  -- 47
-    × IsLimit s x.start × IsLimit s x.stop × (x.step ≡ step_of x.by)
+    × IsLimit s x.start × IsLimit s x.stop × (step_of x.by ≡ Some x.step)
 
 -- `break` and `next` stand in a loop
 abbrev pub may_jump : Loops → Jump → Bool
@@ -266,17 +271,17 @@ abbrev mutual
   IsStatement s n Empty = Unit {0}
   IsStatement s n (Set name variable value) = (variable_named s name ≡ Some variable) × Holds (is_free s.loops variable) × IsNumber s false value  -- 40, 44; 47
   IsStatement s n (SetText name variable value) = (meant s name ≡ Some (m.Text variable)) × IsWords s value  -- 40, 44
-  IsStatement s n (SetItem name f which value) = (meant s name ≡ Some (m.Item f.item)) × IsField s kind.Number f × IsWhich s f which × IsNumber s false value  -- 40; 41, 43, 44, 49; 49
-  IsStatement s n (SetTextItem name f which value) = (meant s name ≡ Some (m.Item f.item)) × IsField s kind.Text f × IsWhich s f which × IsWords s value  -- 40; 41, 43, 44, 49; 49
+  IsStatement s n (SetItem name f which value) = (meant s name ≡ Some (m.Item f.item)) × IsField s kind.Number f × IsWhich s f.owner which × IsNumber s false value  -- 40; 41, 43, 44, 49; 49
+  IsStatement s n (SetTextItem name f which value) = (meant s name ≡ Some (m.Item f.item)) × IsField s kind.Text f × IsWhich s f.owner which × IsWords s value  -- 40; 41, 43, 44, 49; 49
   IsStatement s n (SetCell name array subscripts value) = (meant s name ≡ Some (m.Array array)) × (dimensions_of s array ≡ Some (count subscripts)) × AreNumbers s subscripts × IsNumber s false value  -- 40; 44
   IsStatement s n (CallOf name function arguments) = (meant s name ≡ Some (m.Function function)) × Holds (may_call s (count arguments) (slice_get s.functions function)) × AreNumbers s arguments  -- 40; 44, 45, 47, 49
   IsStatement s n (If condition body others) = IsNumber s false condition × AreStatements s n body × AreArms s (n + length (messages_of (erase_block body))) others
   IsStatement s n (For name variable record_name of body) = (loop_variable s name ≡ Some variable) × Holds (is_free s.loops variable) × (meant s record_name ≡ Some (m.Record of)) × Holds (has_case s.routine) × AreStatements (within s (Some of) variable) n body  -- 40; 47; 40; 49
   IsStatement s n (Do counting body) = IsCounting s counting × AreStatements (within s None counting.variable) n body
   IsStatement s n (Jump' token jump) = Holds (may_jump s.loops jump)  -- 49
-  IsStatement s n (Impute name f which value) = (meant s name ≡ Some (m.Item f.item)) × IsField s kind.Number f × IsWhich s f which × IsNumber s false value  -- 40; 41, 43, 44, 49; 49
+  IsStatement s n (Impute name f which value) = (meant s name ≡ Some (m.Item f.item)) × IsField s kind.Number f × IsWhich s f.owner which × IsNumber s false value  -- 40; 41, 43, 44, 49; 49
   IsStatement s n (PutDeck name array picks value) = (meant s name ≡ Some (m.Array array)) × Holds (has_case s.routine) × AreDeckPicks s (slice_get s.arrays array) picks × IsNumber s false value  -- 40; 49
-  IsStatement s n (ErrMsg message index values summary) = (index ≡ n) × (option_map (λ (x : MessageText). message_kinds x.text) (message_meant s.messages message) ≡ Some (map argument_kind values)) × AreArguments s values  -- 40, 44, 48
+  IsStatement s n (ErrMsg message index values summary) = (index ≡ n) × (kinds_of s.messages message ≡ Some (map argument_kind values)) × AreArguments s values  -- 40, 44, 48
 
   pub AreStatements : Scope → ℕ → Statements → Type 0
   AreStatements s n no_statement = Unit {0}

@@ -1,12 +1,13 @@
 //! Laws of the definitions, each the contract of a function that does nothing.
 
-ghost use Rattle.std.specs.Prelude.{◌≡◌, Bool, Some};
-ghost use Rattle.cse_syntax.specs.Tree.{Expr};
-ghost use Rattle.cse_typed.specs.Typed.{Number, Words};
-ghost use Rattle.cse_typed.specs.Erase.{erase, erase_words};
+ghost use Rattle.std.specs.Prelude.{◌≡◌, ℕ, Bool, Some};
+ghost use Rattle.cse_syntax.specs.Tree.{Expr, Stmts};
+ghost use Rattle.cse_typed.specs.Typed.{Number, Words, Statements};
+ghost use Rattle.cse_typed.specs.Erase.{erase, erase_words, erase_block};
 ghost use Rattle.cse_types.specs.Scope.{Scope};
-ghost use Rattle.cse_types.specs.WellTyped.{IsNumber, IsWords};
+ghost use Rattle.cse_types.specs.WellTyped.{IsNumber, IsWords, AreStatements};
 ghost use Rattle.cse_types.specs.Judge.{judge, AsNumber, AsWords};
+ghost use Rattle.cse_types.specs.JudgeStatement.{judge_block};
 
 /// An expression is judged to be a number, or a text, exactly where a sound typed tree is made of it, and as that one.
 pub fn expressions_are_judged()
@@ -14,4 +15,10 @@ pub fn expressions_are_judged()
     ensures complete { (s : Scope) (top : Bool) (y : Number) → IsNumber s top y → judge s top (erase y) ≡ AsNumber (Some y) }
     ensures sound_texts { (s : Scope) (top : Bool) (x : Expr) (y : Words) → judge s top x ≡ AsWords (Some y) → (erase_words y ≡ x) × IsWords s y }
     ensures complete_texts { (s : Scope) (top : Bool) (y : Words) → IsWords s y → judge s top (erase_words y) ≡ AsWords (Some y) }
+{}
+
+/// Statements are judged to be sound exactly where sound typed ones are made of them, and as those. So many messages stand before them in the source.
+pub fn statements_are_judged()
+    ensures sound { (s : Scope) (n : ℕ) (x : Stmts) (y : Statements) → judge_block s n x ≡ Some y → (erase_block y ≡ x) × AreStatements s n y }
+    ensures complete { (s : Scope) (n : ℕ) (y : Statements) → AreStatements s n y → judge_block s n (erase_block y) ≡ Some y }
 {}

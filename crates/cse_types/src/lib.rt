@@ -7,12 +7,14 @@
 //! - `meaning`, `names`, `scope`: what names mean, and what is known at a place of logic.
 //! - `faults`: the fault that is told.
 //! - `judged`, `item`, `set`, `deck`, `call`, `list`: what parts of an expression are found to be.
+//! - `expression`: the walk over expressions.
 //! - `laws`: laws of the definitions.
 #![tactic(auto)]
 
 mod call;
 mod deck;
 mod error;
+mod expression;
 mod faults;
 mod gaps;
 mod item;
@@ -27,7 +29,7 @@ mod scope;
 mod set;
 
 pub use error::TypeError;
-pub use laws::expressions_are_judged;
+pub use laws::{expressions_are_judged, statements_are_judged};
 pub use meaning::{Meaning, Routine};
 pub use messages::Messages;
 pub use order::Order;

@@ -1,6 +1,6 @@
 //! Lists that are judged from the left.
 
-ghost use Rattle.std.specs.Prelude.{◌≡◌, ◌&&◌, IfOk, OnOk};
+ghost use Rattle.std.specs.Prelude.{◌≡◌, ◌&&◌, ◌-◌, IfOk, OnOk};
 ghost use Rattle.cse_types.specs.Walk.{is_there, found_more};
 
 use std::alloc::AllocError;
@@ -23,4 +23,10 @@ pub fn both(a: bool, b: bool) -> bool
     ensures { result ≡ (a && b) }
 {
     a && b
+}
+
+pub fn one_less(n: usize) -> usize
+    ensures { result ≡ n - 1 }
+{
+    n.saturating_sub(1)
 }
