@@ -3,3 +3,4 @@ pub mod Stand
 pub mod Resolve
 pub mod Laws
 pub mod Results
+pub mod Ready
