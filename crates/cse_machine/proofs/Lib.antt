@@ -20,3 +20,4 @@ pub mod Memory
 pub mod Outcomes
 pub mod Turning
 pub mod Starting
+pub mod TableLaws

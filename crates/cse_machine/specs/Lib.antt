@@ -4,3 +4,4 @@ pub mod Resolve
 pub mod Laws
 pub mod Results
 pub mod Ready
+pub mod Small
