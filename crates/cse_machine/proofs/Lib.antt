@@ -21,3 +21,5 @@ pub mod Outcomes
 pub mod Turning
 pub mod Starting
 pub mod TableLaws
+pub mod Ranges
+pub mod PlanLaws
