@@ -23,3 +23,4 @@ pub mod Starting
 pub mod TableLaws
 pub mod Ranges
 pub mod PlanLaws
+pub mod Reached
