@@ -8,9 +8,11 @@
 //! - `faults`: the fault that is told.
 //! - `judged`, `item`, `set`, `deck`, `call`, `list`: what parts of an expression are found to be.
 //! - `expression`: the walk over expressions.
+//! - `assign`: what a value is put into, and calls that stand alone.
 //! - `laws`: laws of the definitions.
 #![tactic(auto)]
 
+mod assign;
 mod call;
 mod deck;
 mod error;
