@@ -96,8 +96,11 @@ call_of s name _ n arguments = None
 -- ---- loops
 
 -- the variable and the record of a `for`
+abbrev pub head : Variable → ℕ → Variable × ℕ
+head x k = (x, k)
+
 abbrev pub for_head : Scope → Spelling → Spelling → Option (Variable × ℕ)
-for_head s variable record_name = joined (λ x k. (x, k)) (free_variable s.loops (loop_variable s variable)) (record_of s (meant s record_name))
+for_head s variable record_name = joined head (free_variable s.loops (loop_variable s variable)) (record_of s (meant s record_name))
 
 abbrev pub in_for : Scope → Option (Variable × ℕ) → Scope
 in_for s None = s

@@ -81,7 +81,7 @@ fn result_of<'a>(faults: &mut Faults, name: Lexeme<'a>, own: Option<Variable>) -
 
 /// The number that digits write.
 #[tactic(auto, using(crate::proofs::Expressions::within_most))]
-fn written_number(digits: &str) -> Option<u64>
+pub fn written_number(digits: &str) -> Option<u64>
     ensures value { MatchOption result (is_within 0 MOST digits.now ≡ false) (λ v. (is_within 0 MOST digits.now ≡ true) × (v ≡ leaf.number_of digits.now)) }
     ensures most { IfSome result (λ v. v ≤ 9223372036854775807) }
 {

@@ -9,6 +9,7 @@
 //! - `judged`, `item`, `set`, `deck`, `call`, `list`: what parts of an expression are found to be.
 //! - `expression`: the walk over expressions.
 //! - `assign`: what a value is put into, and calls that stand alone.
+//! - `head`: the heads of loops.
 //! - `laws`: laws of the definitions.
 #![tactic(auto)]
 
@@ -19,6 +20,7 @@ mod error;
 mod expression;
 mod faults;
 mod gaps;
+mod head;
 mod item;
 mod judged;
 mod laws;
