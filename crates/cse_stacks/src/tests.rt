@@ -3,8 +3,8 @@
 use crate::arguments::Arguments;
 use crate::resolved::Resolved;
 use crate::stacks::{Room, Stacks};
-use std::test::Fail;
 use std::mem::size_of;
+use std::test::Fail;
 
 /// A program of a million instructions is to stay in 16 MB.
 #[test]
@@ -23,6 +23,9 @@ fn stacks_are_made(rt: HostRuntime) -> Result<(), Fail> {
     };
     let stacks = Stacks::with_room(rt.alloc(), room)?;
     let arguments = Arguments::new(rt.alloc())?;
-    assert_eq!(rt; (stacks.numbers.height(), arguments.as_slice().len()), (0, 0));
+    assert_eq!(rt;
+        (stacks.numbers.height(), arguments.as_slice().len()),
+        (0, 0)
+    );
     Ok(())
 }
