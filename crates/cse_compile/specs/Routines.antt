@@ -5,7 +5,8 @@ use Rattle.cse_parts.specs.declared.instruction.Op.TheVariants as ops
 use Rattle.cse_typed.specs.Typed.{Statements}
 use Rattle.cse_compile.specs.Wide.{Wide, bare, with_c, undefined}
 use Rattle.cse_compile.specs.Setting.{Setting}
-use Rattle.cse_compile.specs.Statements.{Loop, block_size, block_code, exit_size, exit_code}
+use Rattle.cse_compile.specs.declared.setting.Loop.{Loop}
+use Rattle.cse_compile.specs.Statements.{block_size, block_code, exit_size, exit_code}
 
 -- outside of loops: no statement leads there
 abbrev pub no_loop : Loop

@@ -10,11 +10,13 @@ use Rattle.cse_parts.specs.declared.instruction.Op.TheVariants as ops
 use Rattle.cse_syntax.specs.declared.tree.Count.TheVariants as counts
 use Rattle.cse_syntax.specs.declared.tree.Jump.{Jump}
 use Rattle.cse_syntax.specs.declared.tree.Jump.TheVariants as j
+use Rattle.cse_typed.specs.declared.tree.Variable.{Variable}
 use Rattle.cse_typed.specs.declared.tree.Found.TheVariants as h
-use Rattle.cse_typed.specs.Typed.{Which, Here, At, Argument, OfNumber, OfWords, Limit, Fixed, Counted, Counting, Statement, Statements, Arms}
+use Rattle.cse_typed.specs.Typed.{Number, Which, Here, At, Argument, OfNumber, OfWords, Limit, Fixed, Counted, Counting, Statement, Statements, Arms}
 use Rattle.cse_typed.specs.Typed.{Empty, Set, SetText, SetItem, SetTextItem, SetCell, CallOf, If, For, Do, Jump', Impute, PutDeck, ErrMsg, no_statement, statement_and, no_arm, else_of, arm}
 use Rattle.cse_compile.specs.Wide as w
 use Rattle.cse_compile.specs.Wide.{Wide, bare, with_a, with_b, with_c, jump, undefined, occurrence, value, pops, jump_size, jump_over}
+use Rattle.cse_compile.specs.declared.setting.Loop.{Loop}
 use Rattle.cse_compile.specs.Setting.{Setting, result_local}
 use Rattle.cse_compile.specs.Numbers.{load, store, behind, number_size, number_code, words_size, words_code, numbers_size, numbers_code, indexes_size, indexes_code, picks_size, picks_code, deepest}
 
@@ -145,11 +147,6 @@ exit_code_by (Some result) = with_c ops.LoadLocal result ∷ bare ops.Return ∷
 abbrev pub exit_code : Setting → List Wide
 exit_code s = exit_code_by s.result_at
 
--- the innermost loop around: where its turn ends, and its END
-pub record Loop : Type 0 where
-  pub turn_end : ℕ
-  pub end : ℕ
-
 abbrev pub jump_code_size : Setting → Jump → ℕ
 jump_code_size s j.Break = 1
 jump_code_size s j.Next = 1
@@ -162,9 +159,13 @@ jump_code s l j.Exit = exit_code s
 
 -- ---- how many instructions
 
--- a condition, the statements that it guards, and what stands behind them
+-- a condition, the statements that it guards, and the jump over what stands behind them
+abbrev pub front_size : ℕ → ℕ → ℕ → ℕ
+front_size condition body others = condition + 1 + body + jump_size others
+
+-- with what stands behind them
 abbrev pub guard_size : ℕ → ℕ → ℕ → ℕ
-guard_size condition body others = condition + 1 + body + jump_size others + others
+guard_size condition body others = front_size condition body others + others
 
 unfoldable mutual
   pub statement_size : Setting → Statement → ℕ
@@ -192,15 +193,50 @@ unfoldable mutual
   arms_size s (else_of body) = block_size s body
   arms_size s (arm condition body others) = guard_size (number_size condition) (block_size s body) (arms_size s others)
 
+-- arms, with so many instructions behind them
+abbrev pub all_arms_size : Setting → List (Number × Statements) → ℕ → ℕ
+all_arms_size s [] last = last
+all_arms_size s (x ∷ xs) last = guard_size (number_size x.0) (block_size s x.1) (all_arms_size s xs last)
+
 -- ---- the code
 
--- A condition at q, the statements that it guards, and what stands behind them, with the sizes of these and the end of the `if`: the
--- statements jump over what stands behind them, if it is anything.
+-- A condition at q and the statements that it guards, which jump to the end of the `if` over what stands behind them, if it is anything;
+-- with the sizes of these.
+abbrev pub front_code : ℕ → ℕ → ℕ → ℕ → ℕ → List Wide → List Wide → List Wide
+front_code end q condition body others condition_code body_code =
+    condition_code
+    ++ (with_c ops.JumpUnless (q + front_size condition body others)
+    ∷ (body_code ++ jump_over end others))
+
 abbrev pub guard_code : ℕ → ℕ → ℕ → ℕ → ℕ → List Wide → List Wide → List Wide → List Wide
 guard_code end q condition body others condition_code body_code others_code =
-    condition_code
-    ++ (with_c ops.JumpUnless (q + (condition + 1 + body + jump_size others))
-    ∷ (body_code ++ (jump_over end others ++ others_code)))
+    front_code end q condition body others condition_code body_code ++ others_code
+
+abbrev pub loop_to : ℕ → ℕ → Loop
+loop_to turn_end end = record { turn_end = turn_end; end = end }
+
+-- over the occurrences of a record, with the size of the body; a turn ends at the END
+abbrev pub over_code : Setting → ℕ → Variable → ℕ → ℕ → List Wide → List Wide
+over_code s q variable of body body_code =
+    w.Plain ops.LoopOccurrences of 0 (q + 4 + body)
+    ∷ with_a ops.CurrentOccurrence of
+    ∷ with_a ops.OccurrenceNumber of
+    ∷ store s variable
+    ∷ (body_code ++ with_c ops.End q ∷ [])
+
+-- where the opener of a `do` stands, and where its turn ends
+abbrev pub opener_at : Setting → ℕ → Counting → ℕ
+opener_at s q counting = q + head_size s.records counting
+
+abbrev pub turn_end_at : Setting → ℕ → Counting → ℕ → ℕ
+turn_end_at s q counting body = opener_at s q counting + 1 + body
+
+-- so many turns as the head says
+abbrev pub counted_code : Setting → ℕ → Counting → ℕ → List Wide → List Wide
+counted_code s q counting body body_code =
+    head_code s counting
+    ++ (w.Turns (turn_limit s.records counting) (turn_end_at s q counting body + 4)
+    ∷ (body_code ++ (step_code s counting ++ with_c ops.End (opener_at s q counting) ∷ [])))
 
 unfoldable mutual
   pub statement_code : Setting → Loop → ℕ → Statement → List Wide
@@ -227,19 +263,16 @@ unfoldable mutual
       (arms_size s others)
       (number_code s q condition)
       (block_code s l (q + number_size condition + 1) body)
-      (arms_code s l (q + guard_size (number_size condition) (block_size s body) (arms_size s others)) (q + (number_size condition + 1 + block_size s body + jump_size (arms_size s others))) others)
+      (arms_code s l (q + guard_size (number_size condition) (block_size s body) (arms_size s others)) (q + front_size (number_size condition) (block_size s body) (arms_size s others)) others)
   statement_code s l q (For name variable record_name of body) =
-      w.Plain ops.LoopOccurrences of 0 (q + 4 + block_size s body)
-      ∷ with_a ops.CurrentOccurrence of
-      ∷ with_a ops.OccurrenceNumber of
-      ∷ store s variable
-      ∷ (block_code s (record { turn_end = q + 4 + block_size s body; end = q + 4 + block_size s body }) (q + 4) body
-      ++ with_c ops.End q ∷ [])
+      over_code s q variable of (block_size s body) (block_code s (loop_to (q + 4 + block_size s body) (q + 4 + block_size s body)) (q + 4) body)
   statement_code s l q (Do counting body) =
-      head_code s counting
-      ++ (w.Turns (turn_limit s.records counting) (q + head_size s.records counting + 1 + block_size s body + 4)
-      ∷ (block_code s (record { turn_end = q + head_size s.records counting + 1 + block_size s body; end = q + head_size s.records counting + 1 + block_size s body + 4 }) (q + head_size s.records counting + 1) body
-      ++ (step_code s counting ++ with_c ops.End (q + head_size s.records counting) ∷ [])))
+      counted_code
+      s
+      q
+      counting
+      (block_size s body)
+      (block_code s (loop_to (turn_end_at s q counting (block_size s body)) (turn_end_at s q counting (block_size s body) + 4)) (opener_at s q counting + 1) body)
   statement_code s l q (Jump' token x) = jump_code s l x
   statement_code s l q (Impute name field which x) =
       which_code s field.owner (q + (which_size which + (number_size x + 1))) q which
@@ -267,4 +300,23 @@ unfoldable mutual
       (arms_size s others)
       (number_code s q condition)
       (block_code s l (q + number_size condition + 1) body)
-      (arms_code s l end (q + (number_size condition + 1 + block_size s body + jump_size (arms_size s others))) others)
+      (arms_code s l end (q + front_size (number_size condition) (block_size s body) (arms_size s others)) others)
+
+-- ---- arms without what stands behind them
+
+abbrev pub arm_size : Setting → Number × Statements → ℕ → ℕ
+arm_size s x others = front_size (number_size x.0) (block_size s x.1) others
+
+abbrev pub arm_code : Setting → Loop → ℕ → ℕ → Number × Statements → ℕ → List Wide
+arm_code s l end q x others = front_code end q (number_size x.0) (block_size s x.1) others (number_code s q x.0) (block_code s l (q + number_size x.0 + 1) x.1)
+
+-- one after the other, with so many instructions behind them
+abbrev pub arms_alone_size : Setting → List (Number × Statements) → ℕ → ℕ
+arms_alone_size s [] last = 0
+arms_alone_size s (x ∷ xs) last = arm_size s x (all_arms_size s xs last) + arms_alone_size s xs last
+
+abbrev pub arms_alone_code : Setting → Loop → ℕ → ℕ → List (Number × Statements) → ℕ → List Wide
+arms_alone_code s l end q [] last = []
+arms_alone_code s l end q (x ∷ xs) last =
+    arm_code s l end q x (all_arms_size s xs last)
+    ++ arms_alone_code s l end (q + arm_size s x (all_arms_size s xs last)) xs last

@@ -1,5 +1,5 @@
 -- Instructions with their constants, texts and loop limits by value, where the image has their places in tables.
-use Rattle.std.specs.Prelude.{ℕ, ◌+◌, ℤ, pos, ◌==◌, if◌then◌else◌, List, [], ◌∷◌, ◌++◌, map, replicate}
+use Rattle.std.specs.Prelude.{ℕ, ◌+◌, ℤ, pos, ◌==◌, if◌then◌else◌, List, [], ◌∷◌, ◌++◌, map, min, replicate}
 use Rattle.cse_value.specs.declared.number.Num.{Num}
 use Rattle.cse_value.specs.declared.number.Num.TheVariants.{Whole, NotAppl, Missing, Undef}
 use Rattle.cse_parts.specs.declared.instruction.Op.{Op}
@@ -68,7 +68,7 @@ pops n = replicate n (with_a ops.Pop 2)
 -- ---- a jump over so many instructions: none over nothing
 
 abbrev pub jump_size : ℕ → ℕ
-jump_size n = if n == 0 then 0 else 1
+jump_size n = min n 1
 
 abbrev pub jump_over : ℕ → ℕ → List Wide
 jump_over end n = if n == 0 then [] else jump end ∷ []

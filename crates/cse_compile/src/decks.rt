@@ -71,12 +71,7 @@ impl Emitter<'_> {
 
     /// An index for each pick; from `drops` on they are dropped where one finds no row.
     #[tactic(auto, using(crate::proofs::Lists::deepest_at_most))]
-    pub fn picks(
-        &mut self,
-        drops: usize,
-        place: usize,
-        picks: &[Pick],
-    ) -> Result<usize, AllocError>
+    pub fn picks(&mut self, drops: usize, place: usize, picks: &[Pick]) -> Result<usize, AllocError>
         requires room { place + spec.picks_size picks.now ≤ 1000000 }
         requires within { drops ≤ 2000000 }
         ensures code { OnOk result (self.new ≡ self.old ++ spec.picks_code drops place picks.now) }
@@ -94,12 +89,7 @@ impl Emitter<'_> {
     }
 
     /// The cell that the indexes pick, or `default`.
-    pub fn deck(
-        &mut self,
-        place: usize,
-        array: usize,
-        picks: &[Pick],
-    ) -> Result<usize, AllocError>
+    pub fn deck(&mut self, place: usize, array: usize, picks: &[Pick]) -> Result<usize, AllocError>
         requires room { place + spec.deck_size picks.now ≤ 1000000 }
         ensures code { OnOk result (self.new ≡ self.old ++ spec.deck_code array place picks.now) }
         ensures behind { IfOk result (λ n. n ≡ place + spec.deck_size picks.now) }

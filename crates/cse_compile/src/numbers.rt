@@ -9,7 +9,7 @@ ghost use Rattle.cse_compile.specs.Numbers as spec;
 
 use crate::decks::picks_size;
 use crate::emitter::Emitter;
-use crate::items::{operation_of, relation_number, special_number, UNDEFINED};
+use crate::items::{UNDEFINED, operation_of, relation_number, special_number};
 use crate::setting::Setting;
 use crate::sizes::{behind, indexes_size};
 use crate::wide::Wide;
@@ -39,12 +39,7 @@ impl<'a> Emitter<'a> {
 
     #[cycle(emit)]
     #[tactic(auto, unfolding(crate::specs::Numbers::number_size, crate::specs::Numbers::number_code))]
-    pub fn number(
-        &mut self,
-        s: &Setting,
-        place: usize,
-        x: &Number<'a>,
-    ) -> Result<usize, AllocError>
+    pub fn number(&mut self, s: &Setting, place: usize, x: &Number<'a>) -> Result<usize, AllocError>
         requires room { place + spec.number_size (number x.now) ≤ 1000000 }
         ensures code { OnOk result (self.new ≡ self.old ++ spec.number_code (setting s.now) place (number x.now)) }
         ensures behind { IfOk result (λ n. n ≡ place + spec.number_size (number x.now)) }
@@ -137,12 +132,7 @@ impl<'a> Emitter<'a> {
 
     #[cycle(emit)]
     #[tactic(auto, unfolding(crate::specs::Numbers::words_size, crate::specs::Numbers::words_code))]
-    pub fn words(
-        &mut self,
-        s: &Setting,
-        place: usize,
-        x: &Words<'a>,
-    ) -> Result<usize, AllocError>
+    pub fn words(&mut self, s: &Setting, place: usize, x: &Words<'a>) -> Result<usize, AllocError>
         requires room { place + spec.words_size (words x.now) ≤ 1000000 }
         ensures code { OnOk result (self.new ≡ self.old ++ spec.words_code (setting s.now) place (words x.now)) }
         ensures behind { IfOk result (λ n. n ≡ place + spec.words_size (words x.now)) }

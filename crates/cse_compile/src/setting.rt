@@ -15,6 +15,13 @@ pub struct Setting<'a> {
     pub result_at: Option<usize>,
 }
 
+/// The innermost loop around: where its turn ends, and its `END`.
+#[derive(Clone, Copy, Debug, PartialEq, Eq)]
+pub struct Loop {
+    pub turn_end: usize,
+    pub end: usize,
+}
+
 impl Setting<'_> {
     /// The most occurrences of a record; 0 where there is no such record.
     pub fn most_occurrences(&self, of: u8) -> u16

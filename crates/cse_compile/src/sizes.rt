@@ -2,7 +2,6 @@
 
 ghost use Rattle.std.specs.Prelude.{◌≡◌, ◌+◌, ◌≤◌, min, map, length};
 ghost use Rattle.cse_typed.specs.Typed.{number, words, numbers, operations, operation_tree};
-
 ghost use Rattle.cse_compile.specs.Numbers as spec;
 
 use crate::decks::{deck_size, picks_size};
@@ -55,7 +54,10 @@ pub fn number_size(x: &Number) -> usize
         Number::Literal(_, _) | Number::Special(_, _) | Number::Variable(_, _) => 1,
         Number::Item(_, item) => present_size(*item),
         Number::ItemAt(_, _, place) => plus(number_size(place), 4),
-        Number::Cell(_, _, subscripts) => plus(indexes_size(subscripts), plus(behind(subscripts), 3)),
+        Number::Cell(_, _, subscripts) => plus(
+            indexes_size(subscripts),
+            plus(behind(subscripts), 3),
+        ),
         Number::Call(_, _, arguments) => plus(numbers_size(arguments), 1),
         Number::Group(inner) | Number::Int(inner) => number_size(inner),
         Number::IsSpecial(inner) | Number::Minus(inner) | Number::Not(inner) => {
