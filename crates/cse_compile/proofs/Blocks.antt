@@ -1,7 +1,7 @@
 -- How many instructions blocks and arms have.
-use Rattle.std.proofs.Common.{◌≡◌, ℕ, ◌+◌, List, [], ◌∷◌, map, refl, ap, ◌∙◌, arith}
+use Rattle.std.proofs.Common.{◌≡◌, ℕ, List, [], ◌∷◌, refl, ap, ◌∙◌, arith}
 use Rattle.std.specs.Prelude.{min}
-use Rattle.cse_typed.specs.Typed.{Number, Statements, Arms, no_arm, else_of, arm, arms}
+use Rattle.cse_typed.specs.Typed.{Number, Statements, Arms, arms}
 use Rattle.cse_compile.specs.Setting.{Setting}
 use Rattle.cse_compile.specs.Numbers.{number_size}
 use Rattle.cse_compile.specs.Statements.{guard_size, block_size, arms_size, all_arms_size}

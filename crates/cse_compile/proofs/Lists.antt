@@ -1,9 +1,9 @@
 -- Lists of children, as trees have them.
-use Rattle.std.proofs.Common.{◌≡◌, ◌≤◌, ◌<◌, ℕ, zero, suc, ◌+◌, ◌-◌, Bool, true, false, if◌then◌else◌, List, [], ◌∷◌, ◌++◌, length, map, get_or, take, drop, refl, ap, ◌∙◌, arith, append_assoc}
+use Rattle.std.proofs.Common.{◌≡◌, ◌≤◌, ◌<◌, ℕ, suc, ◌+◌, ◌-◌, Bool, true, false, if◌then◌else◌, List, [], ◌∷◌, ◌++◌, length, map, get_or, take, drop, refl, ap, ◌∙◌, arith, append_assoc}
 use Rattle.std.specs.Prelude.{min}
 use Rattle.std.proofs.lemmas.List.{take_rest}
 use Rattle.cse_typed.specs.declared.tree.Number as rust
-use Rattle.cse_typed.specs.Typed.{Numbers, number, numbers}
+use Rattle.cse_typed.specs.Typed.{number, numbers}
 use Rattle.cse_typed.specs.declared.tree.Pick.{Pick}
 use Rattle.cse_parts.specs.declared.instruction.Op.TheVariants as ops
 use Rattle.cse_compile.specs.Wide.{Wide, with_a, pops}

@@ -1,5 +1,5 @@
 -- The code of expressions, from a place of their routine on. It leaves the value on top of the stack, and goes on behind itself.
-use Rattle.std.specs.Prelude.{ℕ, ◌+◌, ℤ, pos, Bool, true, false, ◌||◌, not, if◌then◌else◌, List, [], ◌∷◌, ◌++◌}
+use Rattle.std.specs.Prelude.{ℕ, ◌+◌, pos, Bool, false, ◌||◌, not, if◌then◌else◌, List, [], ◌∷◌, ◌++◌}
 use Rattle.cse_value.specs.Occurrences.{most_occurrences}
 use Rattle.cse_parts.specs.declared.instruction.Op.{Op}
 use Rattle.cse_parts.specs.declared.instruction.Op.TheVariants as ops
@@ -14,7 +14,6 @@ use Rattle.cse_typed.specs.declared.tree.Variable.{Variable}
 use Rattle.cse_typed.specs.declared.tree.Variable.TheVariants as v
 use Rattle.cse_typed.specs.declared.tree.Found.{Found}
 use Rattle.cse_typed.specs.declared.tree.Found.TheVariants as h
-use Rattle.cse_typed.specs.declared.tree.Field.{Field}
 use Rattle.cse_typed.specs.declared.tree.Present.{Present}
 use Rattle.cse_typed.specs.declared.tree.Present.TheVariants as p
 use Rattle.cse_typed.specs.declared.tree.Pick.{Pick}

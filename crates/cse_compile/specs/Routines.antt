@@ -1,9 +1,8 @@
 -- The code of routines.
 use Rattle.std.specs.Prelude.{ℕ, ◌+◌, List, [], ◌∷◌, ◌++◌, Option, Some, None}
-use Rattle.cse_value.specs.declared.shape.RecordShape.{RecordShape}
 use Rattle.cse_parts.specs.declared.instruction.Op.TheVariants as ops
 use Rattle.cse_typed.specs.Typed.{Statements}
-use Rattle.cse_compile.specs.Wide.{Wide, bare, with_c, undefined}
+use Rattle.cse_compile.specs.Wide.{Wide, with_c, undefined}
 use Rattle.cse_compile.specs.Setting.{Setting}
 use Rattle.cse_compile.specs.declared.setting.Loop.{Loop}
 use Rattle.cse_compile.specs.Statements.{block_size, block_code, exit_size, exit_code}

@@ -1,11 +1,10 @@
 -- The code of statements, from a place of their routine on. Statements begin and end with the empty stack.
-use Rattle.std.specs.Prelude.{ℕ, ◌+◌, ℤ, pos, negsuc, min, max, if◌then◌else◌, List, [], ◌∷◌, ◌++◌, Option, Some, None}
+use Rattle.std.specs.Prelude.{ℕ, ◌+◌, ℤ, pos, min, max, List, [], ◌∷◌, ◌++◌, Option, Some, None}
 use Rattle.cse_value.specs.Occurrences.{most_occurrences}
 use Rattle.cse_value.specs.declared.shape.RecordShape.{RecordShape}
 use Rattle.cse_value.specs.declared.number.Num.{Num}
 use Rattle.cse_value.specs.declared.number.Num.TheVariants.{Whole}
 use Rattle.cse_value.specs.Number.{sum_of, difference_of, quotient_of}
-use Rattle.cse_parts.specs.declared.instruction.Op.{Op}
 use Rattle.cse_parts.specs.declared.instruction.Op.TheVariants as ops
 use Rattle.cse_syntax.specs.declared.tree.Count.TheVariants as counts
 use Rattle.cse_syntax.specs.declared.tree.Jump.{Jump}
@@ -17,7 +16,7 @@ use Rattle.cse_typed.specs.Typed.{Empty, Set, SetText, SetItem, SetTextItem, Set
 use Rattle.cse_compile.specs.Wide as w
 use Rattle.cse_compile.specs.Wide.{Wide, bare, with_a, with_b, with_c, jump, undefined, occurrence, value, pops, jump_size, jump_over}
 use Rattle.cse_compile.specs.declared.setting.Loop.{Loop}
-use Rattle.cse_compile.specs.Setting.{Setting, result_local}
+use Rattle.cse_compile.specs.Setting.{Setting}
 use Rattle.cse_compile.specs.Numbers.{load, store, behind, number_size, number_code, words_size, words_code, numbers_size, numbers_code, indexes_size, indexes_code, picks_size, picks_code, deepest}
 
 -- ---- places

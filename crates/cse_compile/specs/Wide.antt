@@ -1,5 +1,5 @@
 -- Instructions with their constants, texts and loop limits by value, where the image has their places in tables.
-use Rattle.std.specs.Prelude.{ℕ, ◌+◌, ℤ, pos, ◌==◌, if◌then◌else◌, List, [], ◌∷◌, ◌++◌, map, min, replicate}
+use Rattle.std.specs.Prelude.{ℕ, ℤ, ◌==◌, if◌then◌else◌, List, [], ◌∷◌, map, min, replicate}
 use Rattle.cse_value.specs.declared.number.Num.{Num}
 use Rattle.cse_value.specs.declared.number.Num.TheVariants.{Whole, NotAppl, Missing, Undef}
 use Rattle.cse_parts.specs.declared.instruction.Op.{Op}

@@ -1,6 +1,5 @@
 use Rattle.std.proofs.Common.{◌≡◌, ◌+◌, ap, ◌∙◌, arith, map}
-use Rattle.cse_syntax.specs.Tree.{written}
-use Rattle.cse_typed.specs.Typed.{Cell, Call, Chain, number, numbers, operations, operation_tree}
+use Rattle.cse_typed.specs.Typed.{number, numbers, operations, operation_tree}
 use Rattle.cse_typed.proofs.Rows.{cell_is, call_is, chain_is}
 use Rattle.cse_compile.specs.Numbers.{number_size, indexes_size, numbers_size, operations_size, behind}
 use Rattle.cse_compile.proofs.sizes.+size.Goals as goal

@@ -1,4 +1,4 @@
-use Rattle.std.proofs.Common.{◌≡◌, ◌+◌, ◌≤◌, ◌++◌, drop, map}
+use Rattle.std.proofs.Common.{◌≡◌, ◌+◌, ◌++◌, drop, map}
 use Rattle.cse_typed.specs.Typed.{number, numbers, operations, operation_tree}
 use Rattle.cse_compile.specs.Setting.{setting}
 use Rattle.cse_compile.specs.Numbers.{numbers_size, numbers_code, indexes_size, indexes_code, operations_size, operations_code, count}

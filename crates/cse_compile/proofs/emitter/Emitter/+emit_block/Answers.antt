@@ -1,7 +1,7 @@
 use Rattle.std.proofs.Common.{rules, refl, ◌≡◌, ◌<◌, ◌+◌, ◌-◌, ◌==◌, if◌then◌else◌, ◌∷◌, ◌++◌, length, drop, ap, sym, subst, ◌∙◌, arith, map, length-drop}
 use Rattle.std.proofs.lemmas.List.{append-nil, drop_more, length-map}
 use Rattle.cse_typed.specs.declared.tree.Statement.{the_lemmas}
-use Rattle.cse_typed.specs.Typed.{If, number, no_arm, else_of, statement, block, arms, arm_tree, otherwise_tree, counting}
+use Rattle.cse_typed.specs.Typed.{If, no_arm, else_of, statement, block, arms, arm_tree, otherwise_tree, counting}
 use Rattle.cse_typed.proofs.Rows.{if_is, for_is, do_is}
 use Rattle.cse_compile.specs.Setting.{setting}
 use Rattle.cse_compile.specs.Numbers.{number_size}

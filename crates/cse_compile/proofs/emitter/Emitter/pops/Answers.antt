@@ -1,4 +1,4 @@
-use Rattle.std.proofs.Common.{◌≡◌, ◌<◌, ◌-◌, ◌++◌, ◌∷◌, [], ap, sym, ◌∙◌, arith, append_assoc}
+use Rattle.std.proofs.Common.{◌-◌, ◌++◌, ◌∷◌, [], ap, sym, ◌∙◌, arith, append_assoc}
 use Rattle.cse_parts.specs.declared.instruction.Op.TheVariants as ops
 use Rattle.cse_compile.specs.Wide.{with_a, pops}
 use Rattle.cse_compile.proofs.Lists.{pops_less}
