@@ -5,6 +5,7 @@ pub mod LimitLaws
 pub mod ReadLaws
 pub mod ItemLaws
 pub mod SoundLaws
+pub mod FewRows
 pub mod LeastLaws
 pub mod SearchLaws
 pub mod RowLaws

@@ -377,7 +377,7 @@ pub sound_without_fault : SoundWithoutFault
 sound_without_fault bytes h = IsSound-sections (sections_of bytes) (sections_sound bytes h)
 
 -- sections by the first one and those behind it
-sections_split : (ss : List SectionText) (s : SectionText) → 1 ≤ length ss → s ≡ get_or ss 0 s → ss ≡ s ∷ take (length ss - 1) (drop 1 ss)
+pub sections_split : (ss : List SectionText) (s : SectionText) → 1 ≤ length ss → s ≡ get_or ss 0 s → ss ≡ s ∷ take (length ss - 1) (drop 1 ss)
 sections_split [] s long is = absurd (omega (arith, long))
 sections_split (x ∷ xs) s long is = sym (ap (λ y. y ∷ take (length (x ∷ xs) - 1) (drop 1 (x ∷ xs))) is ∙ ap (λ r. x ∷ r) (take_rest (x ∷ xs) 1))
 

@@ -8,4 +8,5 @@ pub mod Faults
 pub mod Dictionary
 pub mod Reading
 pub mod Sound
+pub mod Rows
 pub mod Kept

@@ -8,6 +8,7 @@ ghost use Rattle.cse_dict.specs.Faults.{faults_of, is_level, note_all};
 ghost use Rattle.cse_dict.specs.Fields.{type_columns_of};
 ghost use Rattle.cse_dict.specs.Reading.{IsAnswer, IsNoted, text_faults};
 ghost use Rattle.cse_dict.specs.Kept.{IsKept};
+ghost use Rattle.cse_dict.specs.Rows.{HasFewRows};
 ghost use Rattle.cse_dict.specs.Sound.{IsSound};
 ghost use Rattle.cse_dict.specs.Context.{covered_by, no_context};
 ghost use Rattle.cse_dict.specs.Dictionary.{DictionaryText, IsSmall, dictionary_of, items_from, level_name_of, name_at, no_columns, places_from};
@@ -195,7 +196,15 @@ fn dictionary_with(
     items: Vec<Item>,
     sets: Vec<Set>,
 ) -> Result<Dictionary, AllocError>
-    requires { IsSound (record {
+    requires sound { IsSound (record {
+      name = string_bytes names.0;
+      level_name = string_bytes names.1;
+      type_columns = type_columns;
+      records = records.items;
+      items = items.items;
+      sets = sets.items;
+    }) }
+    requires rows { HasFewRows (record {
       name = string_bytes names.0;
       level_name = string_bytes names.1;
       type_columns = type_columns;
@@ -261,7 +270,8 @@ fn dictionary_behind(
     first: &Section<'_>,
     rest: &[Section<'_>],
 ) -> Result<Dictionary, AllocError>
-    requires { IsSound (dictionary_of (first.now ∷ rest.now)) }
+    requires sound { IsSound (dictionary_of (first.now ∷ rest.now)) }
+    requires rows { HasFewRows (dictionary_of (first.now ∷ rest.now)) }
     ensures { IfOk result (λ d. d ≡ dictionary_of (first.now ∷ rest.now)) }
 {
     let read = &rest[..read_len(rest)];

@@ -3,6 +3,7 @@ ghost use Rattle.std.specs.Prelude.{◌≡◌, ◌<◌, ◌≤◌, length, posit
 ghost use Rattle.std.specs.Option.{option_copied};
 ghost use Rattle.std.specs.Str.{bytes_eq};
 ghost use Rattle.cse_value.specs.Shape.{shape_lists};
+ghost use Rattle.cse_dict.specs.Rows.{HasFewRows};
 ghost use Rattle.cse_dict.specs.Sound.{IsSound};
 ghost use Rattle.cse_dict.specs.Dictionary.{IsSmall, code_at, item_name_at, item_names, number_named, number_of_type, record_name_at, record_names, row_in, rows_at, set_name_at, set_names, shape_of, spans_at, zero_fill_at};
 
@@ -71,6 +72,7 @@ impl Dictionary {
         ensures shape { shape_lists result.now ≡ shape_of self.now }
         ensures small { IsSmall self.now }
         ensures sound { IsSound self.now }
+        ensures rows { HasFewRows self.now }
     {
         &self.shape
     }

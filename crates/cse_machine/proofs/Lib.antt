@@ -16,3 +16,11 @@ pub mod Simulates
 pub mod Room
 pub mod Loop
 pub mod Begin
+pub mod Memory
+pub mod Outcomes
+pub mod Turning
+pub mod Starting
+pub mod TableLaws
+pub mod Ranges
+pub mod PlanLaws
+pub mod Reached

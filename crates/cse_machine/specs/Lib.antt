@@ -3,3 +3,5 @@ pub mod Stand
 pub mod Resolve
 pub mod Laws
 pub mod Results
+pub mod Ready
+pub mod Small
