@@ -9,3 +9,7 @@ pub mod OrderLaws
 pub mod PassLaws
 pub mod RunLaws
 pub mod SceneLaws
+mod UntouchedEvents
+mod UntouchedGiven
+mod UntouchedLines
+mod UntouchedRuns

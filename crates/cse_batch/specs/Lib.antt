@@ -9,4 +9,6 @@ pub mod RunState
 pub mod Runs
 pub mod Scene
 pub mod Totals
+pub mod Untouched
 pub mod Worked
+pub mod WorkedEdit

@@ -5,7 +5,7 @@
 //! - `run`: the whole run over a data file, to the texts of `specs/Batch.antt`.
 //! - `application`, `cases`, `events`: the application's events, a run of lines, and the events of a case.
 //! - `machine`: what runs an event. `parts`: the parts of a program that a run goes by.
-//! - `laws`: laws of the definition of a batch.
+//! - `laws`: laws of the definition of a batch. `untouched`: the law that columns which no edit wrote stay.
 //! - `copy`: a copy, case by case.
 #![tactic(auto)]
 
@@ -19,6 +19,7 @@ mod machine;
 mod parts;
 mod run;
 mod totals;
+mod untouched;
 mod worked;
 
 pub use copy::pass;
@@ -27,6 +28,7 @@ pub use laws::{applications_end, cases_end, ends_are_final, fronts_stay};
 pub use machine::Runs;
 pub use run::run_by;
 pub use totals::{RunFault, Totals};
+pub use untouched::{checks_change_nothing, untouched_columns_stay, worked_edit};
 pub use worked::worked_rows;
 
 #[cfg(test)]
