@@ -137,6 +137,7 @@ const TELLING: Outline<'static> = Outline {
 
 /// A run: the program, the most persons, the decks before it and the data; and its answer, with what is
 /// written, listed and counted, and the decks after it.
+#[derive(Clone, Copy)]
 pub(crate) struct Row {
     pub(crate) program: Outline<'static>,
     pub(crate) most: &'static str,
