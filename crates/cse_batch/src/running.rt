@@ -1,13 +1,11 @@
 //! The runs of lines of a data file, one after the other.
 
-ghost use Rattle.std.specs.Prelude.{◌≡◌, [], None, false, IfOk, IfErr, OnOk, length, replicate};
+ghost use Rattle.std.specs.Prelude.{◌≡◌, IfOk, IfErr, OnOk};
 ghost use Rattle.cse_decks.specs.Store.{StoreFits};
-ghost use Rattle.cse_lines.specs.Reader.{held_of};
 ghost use Rattle.cse_output.specs.Gathering.{going};
-ghost use Rattle.cse_report.specs.Held.{begun as no_reports};
 ghost use Rattle.cse_report.specs.Reports.{ReportsFit};
 ghost use Rattle.cse_batch.specs.RunClauses.{RunStops, RunsWhole, contents, failures};
-ghost use Rattle.cse_batch.specs.RunState.{CasesRan, Halts, Ran, device};
+ghost use Rattle.cse_batch.specs.RunState.{CasesRan, Halts, IsFresh, IsUnread, IsUnreported, Ran, device};
 
 use crate::application::apply;
 use crate::cases::edit;
@@ -16,6 +14,7 @@ use crate::totals::{RunFault, Totals};
 use cse_case::CaseReader;
 use cse_decks::{Store, save};
 use cse_image::{Code, EventCode};
+use cse_machine::Machine;
 use cse_output::Gatherer;
 use cse_report::Reports;
 use cse_value::{Input, Output};
@@ -48,20 +47,12 @@ pub(crate) fn run_cases<C: Code, M: Runs, R: Input, O: Output, L: Output>(
     listing: &mut L,
 ) -> Result<Totals, RunFault>
     requires machine { M.program machine.old ≡ verified.now }
-    requires dictionary { reader.old.stream.dictionary ≡ verified.now.dictionary }
-    requires sound { reader.old.stream.error ≡ None }
-    requires start { held_of reader.old.stream ≡ [] }
-    requires open { reader.old.stream.ended ≡ false }
-    requires unread { reader.old.stream.reads ≡ 0 }
-    requires front { reader.old.stream.lines ≡ 0 }
+    requires reader { IsUnread verified.now reader.old.stream }
     requires store { StoreFits verified.now.image store.old }
     requires reports { ReportsFit verified.now.image reports.old }
-    requires no_reports { reports.old.listing ≡ no_reports verified.now.image.lists.messages }
-    requires no_values { reports.old.frequencies ≡ replicate (length verified.now.image.lists.items) [] }
-    requires none_written { written.old.waiting.items ≡ [] }
-    requires going_written { written.old.gave_up ≡ false }
-    requires none_listed { listed.old.waiting.items ≡ [] }
-    requires going_listed { listed.old.gave_up ≡ false }
+    requires unreported { IsUnreported verified.now reports.old }
+    requires written { IsFresh written.old.waiting.items written.old.gave_up }
+    requires listed { IsFresh listed.old.waiting.items listed.old.gave_up }
     ensures same_reference { reader.new.input.ghost_name ≡ reader.old.input.ghost_name }
     ensures same { M.program machine.new ≡ verified.now }
     ensures ok { IfOk result (λ totals. CasesRan verified.now store.old (R.remaining reader.old.input.now) (R.remaining reader.new.input.now) store.new reports.new
@@ -122,20 +113,12 @@ fn run_events<C: Code, M: Runs, R: Input, O: Output, L: Output>(
     listing: &mut L,
 ) -> Result<Totals, RunFault>
     requires machine { M.program machine.old ≡ verified.now }
-    requires dictionary { reader.old.stream.dictionary ≡ verified.now.dictionary }
-    requires sound { reader.old.stream.error ≡ None }
-    requires start { held_of reader.old.stream ≡ [] }
-    requires open { reader.old.stream.ended ≡ false }
-    requires unread { reader.old.stream.reads ≡ 0 }
-    requires front { reader.old.stream.lines ≡ 0 }
+    requires reader { IsUnread verified.now reader.old.stream }
     requires store { StoreFits verified.now.image store.old }
     requires reports { ReportsFit verified.now.image reports.old }
-    requires no_reports { reports.old.listing ≡ no_reports verified.now.image.lists.messages }
-    requires no_values { reports.old.frequencies ≡ replicate (length verified.now.image.lists.items) [] }
-    requires none_written { written.old.waiting.items ≡ [] }
-    requires going_written { written.old.gave_up ≡ false }
-    requires none_listed { listed.old.waiting.items ≡ [] }
-    requires going_listed { listed.old.gave_up ≡ false }
+    requires unreported { IsUnreported verified.now reports.old }
+    requires written { IsFresh written.old.waiting.items written.old.gave_up }
+    requires listed { IsFresh listed.old.waiting.items listed.old.gave_up }
     ensures same_reference { reader.new.input.ghost_name ≡ reader.old.input.ghost_name }
     ensures same { M.program machine.new ≡ verified.now }
     ensures ok { IfOk result (λ totals. Ran verified.now store.old (R.remaining reader.old.input.now) (R.remaining reader.new.input.now) store.new reports.new
@@ -170,16 +153,10 @@ fn run_reader<C: Code, M: Runs, R: Input, O: Output, L: Output, F: Output, D: Ou
     decks: &mut D,
 ) -> Result<Totals, RunFault>
     requires machine { M.program machine.old ≡ verified.now }
-    requires dictionary { reader.old.stream.dictionary ≡ verified.now.dictionary }
-    requires sound { reader.old.stream.error ≡ None }
-    requires start { held_of reader.old.stream ≡ [] }
-    requires open { reader.old.stream.ended ≡ false }
-    requires unread { reader.old.stream.reads ≡ 0 }
-    requires front { reader.old.stream.lines ≡ 0 }
+    requires reader { IsUnread verified.now reader.old.stream }
     requires store { StoreFits verified.now.image store.old }
     requires reports { ReportsFit verified.now.image reports.old }
-    requires no_reports { reports.old.listing ≡ no_reports verified.now.image.lists.messages }
-    requires no_values { reports.old.frequencies ≡ replicate (length verified.now.image.lists.items) [] }
+    requires unreported { IsUnreported verified.now reports.old }
     ensures same_reference { reader.new.input.ghost_name ≡ reader.old.input.ghost_name }
     ensures same { M.program machine.new ≡ verified.now }
     ensures ok { IfOk result (λ totals. RunsWhole verified.now store.old (R.remaining reader.old.input.now) (R.remaining reader.new.input.now)
@@ -276,4 +253,46 @@ pub fn run_by<C: Code, M: Runs, R: Input, O: Output, L: Output, F: Output, D: Ou
     );
     let _ = reader.close();
     result
+}
+
+/// The whole run of a verified program over a data file: its application's preproc; each run of lines with its
+/// events, if it is a case, and then its lines as they are written; and its postproc. The store is what was
+/// kept of earlier runs.
+///
+/// `Ok` comes only where the end of the input was read and no line is faulty; then what was written to each
+/// output is its text in the batch over what was read, and the totals are those of the batch. After a fault
+/// what was written to each is a front of its text; after a fault of the data, and after 70, the written
+/// lines and the listing are whole as far as runs were given, each unless its output has failed. The faults
+/// are those of `DataError`, 71 where an output has failed, and 90.
+pub fn run<C: Code, R: Input, O: Output, L: Output, F: Output, D: Output>(
+    alloc: Global,
+    verified: &Verified<'_, C>,
+    store: Store,
+    input: &mut R,
+    out: &mut O,
+    listing: &mut L,
+    frequencies: &mut F,
+    decks: &mut D,
+) -> Result<Totals, RunFault>
+    requires fits { StoreFits verified.now.image store }
+    ensures ok { IfOk result (λ totals. RunsWhole verified.now store (R.remaining input.old) (R.remaining input.new)
+        (contents (O.contents out.old) (L.contents listing.old) (F.contents frequencies.old) (D.contents decks.old)) (contents (O.contents out.new) (L.contents listing.new) (F.contents frequencies.new) (D.contents decks.new)) totals) }
+    ensures err { IfErr result (λ fault. RunStops verified.now store (R.remaining input.old) (R.remaining input.new)
+        (contents (O.contents out.old) (L.contents listing.old) (F.contents frequencies.old) (D.contents decks.old)) (contents (O.contents out.new) (L.contents listing.new) (F.contents frequencies.new) (D.contents decks.new))
+        (R.has_failed input.new) (failures (O.has_failed out.new) (L.has_failed listing.new) (F.has_failed frequencies.new) (D.has_failed decks.new)) fault) }
+{
+    let Ok(mut machine) = Machine::new(alloc, verified) else {
+        return Err(MEMORY_FAULT);
+    };
+    run_by(
+        alloc,
+        verified,
+        &mut machine,
+        store,
+        input,
+        out,
+        listing,
+        frequencies,
+        decks,
+    )
 }
