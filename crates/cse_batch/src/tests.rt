@@ -1,6 +1,6 @@
 //! Worked runs, over devices that move few bytes in a call, and devices that fail.
 
-ghost use Rattle.std.specs.Prelude.{IfOk};
+ghost use Rattle.std.specs.Prelude.{◌<◌, IfOk};
 ghost use Rattle.cse_decks.specs.Store.{StoreFits};
 
 use crate::samples::{BACK, FRONT, ROWS, Row};
