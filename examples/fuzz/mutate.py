@@ -120,10 +120,14 @@ ALL = SMALL * 3 + [repeat, repeat, splice, splice, noise]
 
 
 def mutated(random, data, other):
-    """Between one and four changes, most often one."""
-    for _ in range(random.choice((1, 1, 1, 2, 3, 4))):
-        data = random.choice(ALL)(random, data, other)
-    return data
+    """Between one and four changes, most often one; other bytes, but for a rare chance."""
+    for _ in range(4):
+        made = data
+        for _ in range(random.choice((1, 1, 1, 2, 3, 4))):
+            made = random.choice(ALL)(random, made, other)
+        if made != data:
+            break
+    return made
 
 
 def each(data, values):
