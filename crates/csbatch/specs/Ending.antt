@@ -4,12 +4,8 @@ use Rattle.cse_batch.specs.declared.image.CheckFault.TheVariants as checks
 use Rattle.csbatch.specs.declared.fault.Fault.{Fault}
 use Rattle.csbatch.specs.declared.outcome.Asked.{Asked}
 use Rattle.csbatch.specs.declared.outcome.Asked.TheVariants.{Open, Read, Write}
-use Rattle.csbatch.specs.declared.outcome.Done.{Done}
-use Rattle.csbatch.specs.declared.outcome.Done.TheVariants.{Tried, Accepted}
 use Rattle.csbatch.specs.declared.outcome.Stop.{Stop}
 use Rattle.csbatch.specs.declared.outcome.Stop.TheVariants.{Usage, Refused}
-use Rattle.csbatch.specs.declared.run.TryEnd.{TryEnd}
-use Rattle.csbatch.specs.declared.run.TryEnd.TheVariants.{Ended, Trap}
 use Rattle.csbatch.specs.declared.try_image.TryFault.{TryFault}
 use Rattle.csbatch.specs.declared.try_image.TryFault.TheVariants as tries
 use Rattle.csbatch.specs.declared.verify_image.VerifyFault.{VerifyFault}
@@ -21,15 +17,9 @@ use Rattle.csbatch.specs.declared.verify_image.VerifyFault.TheVariants as verifi
 abbrev pub status_of : ℕ → ℕ
 status_of number = if ((number == 70) || (number == 71)) || ((number == 72) || (number == 90)) then 3 else 1
 
--- of a run: 1 where it is stuck
-abbrev pub status_of_end : TryEnd → ℕ
-status_of_end (Ended steps) = 0
-status_of_end (Trap routine place) = 1
-
 -- of a command
-abbrev pub exit_status : Result Done Stop → ℕ
-exit_status (Ok (Tried end)) = status_of_end end
-exit_status (Ok Accepted) = 0
+abbrev pub exit_status : {T : Type 0} → Result T Stop → ℕ
+exit_status (Ok done) = 0
 exit_status (Err Usage) = 2
 exit_status (Err (Refused fault)) = status_of fault.number
 

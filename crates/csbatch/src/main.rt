@@ -4,31 +4,20 @@
 //! - `try_image`: `try`, from the bytes of an image to the messages of its preproc.
 //! - `verify_image`: `verify`, from a dictionary and an image to what is known of the program. `verdict`:
 //!   its lines.
-//! - `run`, `machine`: the run of an event, and one instruction of it. `operands`, `variables`,
-//!   `arrays`, `starting`, `words`, `cell`, `stack`: the values that it works on.
 //! - `printing`, `fault`: lines for a device. `outcome`: the exit status.
 #![tactic(auto)]
 
-mod arrays;
-mod cell;
 mod fault;
-mod machine;
-mod operands;
 mod outcome;
 mod plan;
 mod printing;
-mod run;
-mod stack;
-mod starting;
 mod try_image;
-mod variables;
 mod verdict;
 mod verify_image;
-mod words;
 
 use cse_value::Writes;
 use fault::{Fault, NO_MEMORY, WRITE_FAILED, fault_line};
-use outcome::{Asked, Done, Stop, exit_status};
+use outcome::{Asked, Stop, exit_status};
 use plan::{Command, PlanFault, plan};
 use std::io::{self, BufWriter, ErrorKind, Read, Write};
 use std::process::ExitCode;
@@ -45,6 +34,8 @@ mod fault_tests;
 mod file_tests;
 #[cfg(test)]
 mod tests;
+#[cfg(test)]
+mod try_tests;
 #[cfg(test)]
 mod verify_tests;
 
@@ -69,7 +60,7 @@ fn main(rt: HostRuntime) -> ExitCode {
 }
 
 /// Does what the words ask for.
-fn carry_out<R: Env + Files + Print + AllocGlobal>(rt: &R) -> Result<Done, Stop> {
+fn carry_out<R: Env + Files + Print + AllocGlobal>(rt: &R) -> Result<(), Stop> {
     let given = match words_given(rt) {
         Ok(given) => given,
         Err(error) if error.kind() == ErrorKind::OutOfMemory => {
@@ -89,7 +80,7 @@ fn carry_out<R: Env + Files + Print + AllocGlobal>(rt: &R) -> Result<Done, Stop>
 fn do_planned<R: Files + Print + AllocGlobal>(
     rt: &R,
     planned: Result<Command<'_>, PlanFault>,
-) -> Result<Done, Stop> {
+) -> Result<(), Stop> {
     match planned {
         Ok(Command::Try { image }) => try_file(rt, image),
         Ok(Command::Verify { dict, image }) => verify_files(rt, dict, image),
@@ -107,20 +98,19 @@ fn words_given<R: Env + AllocGlobal>(rt: &R) -> io::Result<Vec<String>> {
     Ok(words)
 }
 
-/// `try`, and how the run ended.
-fn try_file<R: Files + Print + AllocGlobal>(rt: &R, path: &str) -> Result<Done, Stop> {
+/// `try`.
+fn try_file<R: Files + Print + AllocGlobal>(rt: &R, path: &str) -> Result<(), Stop> {
     let image = file_bytes(rt, path)?;
     let buffer = match BufWriter::new(rt.alloc(), io::writer(rt)) {
         Ok(buffer) => buffer,
         Err(error) => return Err(Stop::of_failure(Asked::Write, error.kind())),
     };
     let mut out = Writes::new(buffer);
-    let end = match try_to(rt.alloc(), &image, &mut out) {
-        Ok(end) => end,
-        Err(fault) => return Err(Stop::Refused(Fault::of_try(&fault))),
-    };
+    if let Err(fault) = try_to(rt.alloc(), &image, &mut out) {
+        return Err(Stop::Refused(Fault::of_try(&fault)));
+    }
     match out.into_inner().flush() {
-        Ok(()) => Ok(Done::Tried(end)),
+        Ok(()) => Ok(()),
         Err(_) => Err(Stop::of_number(WRITE_FAILED)),
     }
 }
@@ -130,7 +120,7 @@ fn verify_files<R: Files + Print + AllocGlobal>(
     rt: &R,
     dict: &str,
     image: &str,
-) -> Result<Done, Stop> {
+) -> Result<(), Stop> {
     let dict = file_bytes(rt, dict)?;
     let image = file_bytes(rt, image)?;
     let buffer = match BufWriter::new(rt.alloc(), io::writer(rt)) {
@@ -142,7 +132,7 @@ fn verify_files<R: Files + Print + AllocGlobal>(
         return Err(Stop::Refused(Fault::of_verify(&fault)));
     }
     match out.into_inner().flush() {
-        Ok(()) => Ok(Done::Accepted),
+        Ok(()) => Ok(()),
         Err(_) => Err(Stop::of_number(WRITE_FAILED)),
     }
 }

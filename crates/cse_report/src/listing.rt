@@ -1,6 +1,6 @@
 //! The listing of a run, which is written as it grows.
 
-ghost use Rattle.std.specs.Prelude.{◌≡◌, ◌<◌, ◌≤◌, ◌+◌, ◌++◌, ◌∷◌, [], List, not, OnOk, OnErr, IfOk, IsOk, length, map, slice_get, slice_index, slice_set, replicate, false};
+ghost use Rattle.std.specs.Prelude.{◌≡◌, ◌<◌, ◌≤◌, ◌+◌, ◌++◌, ◌∷◌, [], List, not, OnOk, OnErr, IfOk, IsOk, length, map, slice_get, slice_index, slice_set, replicate, false, ◌^◌, OnSome};
 ghost use Rattle.std.specs.Option.{option_copied};
 ghost use Rattle.std.specs.Bool.{Decides, OnTrue};
 ghost use Rattle.cse_value.specs.Writing.{WritesAll, FailsAtErr};
@@ -128,7 +128,8 @@ fn text_in(lines: &[u8], span: Span) -> &str
 /// The text at the place of this number.
 fn nth_text<'a>(lines: &'a [u8], spans: &[Span], i: usize) -> Option<&'a str>
     requires { AreTexts lines.now spans.now }
-    ensures { option_copied result ≡ slice_get (texts_at lines.now spans.now) i }
+    ensures text { option_copied result ≡ slice_get (texts_at lines.now spans.now) i }
+    ensures small { OnSome result (i + 1 < 2 ^ 64) }
 {
     if i >= spans.len() {
         return None;
@@ -253,7 +254,8 @@ impl Listing {
 
     /// The text of a message held, in order from 0. Takes no memory.
     pub fn text(&self, i: usize) -> Option<&str>
-        ensures { option_copied result ≡ slice_get self.now.texts i }
+        ensures text { option_copied result ≡ slice_get self.now.texts i }
+        ensures small { OnSome result (i + 1 < 2 ^ 64) }
     {
         nth_text(&self.lines, &self.spans, i)
     }

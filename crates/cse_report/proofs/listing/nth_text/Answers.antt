@@ -8,8 +8,8 @@ use Rattle.cse_report.proofs.listing.nth_text.Goals as goal
 pub text_in-requires : goal.text_in-requires
 text_in-requires c = IsText-at c.args.lines.now c.args.spans.now c.args.i (record { start = 0; end = 0 }) c.requires c.if-i-spans.false
 
-pub returns : goal.returns
-returns c =
+pub returns-clause-text : goal.returns-clause-text
+returns-clause-text c =
     let d : Span = record { start = 0; end = 0 } in
     ap Some c.text_in.ensures
     ∙ sym (slice_get-map (text_at c.args.lines.now) c.args.spans.now c.args.i ∙ ap (option_map (text_at c.args.lines.now)) (slice_get-get_or c.args.spans.now c.args.i d c.if-i-spans.false))
