@@ -23,10 +23,10 @@ use Rattle.cse_verify.specs.Verified.{VerifiedProgram}
 use Rattle.cse_steps.specs.State.{Told, World}
 use Rattle.cse_steps.specs.Fits.{FitsFirst, IsThere, is_of_run}
 use Rattle.cse_steps.specs.Laws.{EventsEnd}
+use Rattle.cse_machine.specs.Results.{RunsTo}
 use Rattle.cse_batch.specs.Events.{after_moment, edited, events_of}
 use Rattle.cse_batch.specs.Batch.{Progress, after_application, after_run, application_reports, case_reports, next_case, reports_of, tables_of, unseen_reports, without_case}
 use Rattle.cse_batch.specs.Edits.{Applies, Edits, Keeps}
-use Rattle.cse_batch.specs.Runs.{RunsTo}
 use Rattle.cse_batch.specs.Scene.{Scene, scene, scene_after_all}
 use Rattle.cse_batch.proofs.EndLaws.{fits_application}
 use Rattle.cse_batch.proofs.EventLaws.{ends_are_final}
@@ -67,18 +67,18 @@ application_fits v code store of_run fit = fits_application v code store of_run 
 
 -- a heading, and then its event
 pub applies_of : (v : VerifiedProgram) (code : EventCode) (store store' : Kept) (n : ℕ) (old mid new : Reports) → mid.listing ≡ reported old.listing BeginsRun → mid.frequencies ≡ old.frequencies
-    → RunsTo v (moment code 0 0) None store n None store' mid new → Applies v code store old store' new
+    → RunsTo v (moment code 0 0) None store mid n None store' new → Applies v code store old store' new
 applies_of v code store store' n old mid new listed same r =
     let e = ends_are_final v (without_case store) (moment code 0 0) n None store' r.told r.ends in
     let told : (after_moment v (without_case store) (moment code 0 0)).told ≡ r.told = ap (λ (w : World). w.told) e.world in
     record {
       store_is = sym (ap (λ (w : World). w.store) e.world);
-      listing = r.listing ∙ (ap (λ (h : Held). all_reported h (reports_of r.told)) listed ∙ ap (λ (t : Told). all_reported old.listing (BeginsRun ∷ reports_of t)) (sym told));
-      frequencies = r.frequencies ∙ (ap (λ (x : List Table). all_imputed x r.told.imputed) same ∙ ap (λ (t : Told). all_imputed old.frequencies t.imputed) (sym told));
+      listing = r.tells.listing ∙ (ap (λ (h : Held). all_reported h (reports_of r.told)) listed ∙ ap (λ (t : Told). all_reported old.listing (BeginsRun ∷ reports_of t)) (sym told));
+      frequencies = r.tells.frequencies ∙ (ap (λ (x : List Table). all_imputed x r.told.imputed) same ∙ ap (λ (t : Told). all_imputed old.frequencies t.imputed) (sym told));
     }
 
 -- what it leaves fits
-pub application_stays : (v : VerifiedProgram) (code : EventCode) (store store' : Kept) (n : ℕ) (old new : Reports) → EventsEnd v → FitsFirst v (moment code 0 0) None store → RunsTo v (moment code 0 0) None store n None store' old new
+pub application_stays : (v : VerifiedProgram) (code : EventCode) (store store' : Kept) (n : ℕ) (old new : Reports) → EventsEnd v → FitsFirst v (moment code 0 0) None store → RunsTo v (moment code 0 0) None store old n None store' new
     → StoreFits v.image store'
 application_stays v code store store' n old new law fit r = (ran_fits v (moment code 0 0) None None store store' n old new law fit r).store
 

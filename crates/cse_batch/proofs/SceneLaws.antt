@@ -16,9 +16,9 @@ use Rattle.cse_verify.specs.Verified.{VerifiedProgram}
 use Rattle.cse_steps.specs.State.{World}
 use Rattle.cse_steps.specs.Fits.{FitsFirst, FitsWorld, IsThere, occurrences_in}
 use Rattle.cse_steps.specs.Laws.{EventsEnd}
+use Rattle.cse_machine.specs.Results.{RunsTo}
 use Rattle.cse_batch.specs.Events.{after_moment, after_moments, end_of, told_more}
 use Rattle.cse_batch.specs.Batch.{reports_of}
-use Rattle.cse_batch.specs.Runs.{RunsTo}
 use Rattle.cse_batch.specs.Scene.{GoesOn, Scene, scene, scene_after, scene_after_all, told_to, world_of}
 use Rattle.cse_batch.proofs.EventLaws.{ends_are_final}
 use Rattle.cse_batch.proofs.EndLaws.{fits_then, there_as}
@@ -32,16 +32,16 @@ same_scene case store h h' t t' e f =
     ap (λ (x : Held). record { case = case; store = store; listing = x; frequencies = t }) e ∙ ap (λ (x : List Table). record { case = case; store = store; listing = h'; frequencies = x }) f
 
 -- an event that ran to its end leaves what the definition says
-pub ran_scene : (v : VerifiedProgram) (m : Moment) (case case' : Option CaseText) (store store' : Kept) (n : ℕ) (old new : Reports) → RunsTo v m case store n case' store' old new
+pub ran_scene : (v : VerifiedProgram) (m : Moment) (case case' : Option CaseText) (store store' : Kept) (n : ℕ) (old new : Reports) → RunsTo v m case store old n case' store' new
     → scene case' store' new ≡ scene_after v (scene case store old) m
 unfolding scene_after
 ran_scene v m case case' store store' n old new r =
     let e = ends_are_final v (world_of case store) m n case' store' r.told r.ends in
-    same_scene case' store' new.listing (all_reported old.listing (reports_of r.told)) new.frequencies (all_imputed old.frequencies r.told.imputed) r.listing r.frequencies
+    same_scene case' store' new.listing (all_reported old.listing (reports_of r.told)) new.frequencies (all_imputed old.frequencies r.told.imputed) r.tells.listing r.tells.frequencies
     ∙ ap (told_to (scene case store old)) (sym e.world)
 
 -- and what it leaves fits
-pub ran_fits : (v : VerifiedProgram) (m : Moment) (case case' : Option CaseText) (store store' : Kept) (n : ℕ) (old new : Reports) → EventsEnd v → FitsFirst v m case store → RunsTo v m case store n case' store' old new
+pub ran_fits : (v : VerifiedProgram) (m : Moment) (case case' : Option CaseText) (store store' : Kept) (n : ℕ) (old new : Reports) → EventsEnd v → FitsFirst v m case store → RunsTo v m case store old n case' store' new
     → FitsWorld v case (world_of case' store')
 ran_fits v m case case' store store' n old new law fit r =
     let e = r.ends in

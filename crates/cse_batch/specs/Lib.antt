@@ -6,7 +6,6 @@ pub mod Laws
 pub mod Pass
 pub mod RunClauses
 pub mod RunState
-pub mod Runs
 pub mod Scene
 pub mod Totals
 pub mod Worked

@@ -2,7 +2,7 @@
 //!
 //! - `image`: the program of an image, checked with a dictionary.
 //! - `totals`: what a run counts, and what stops it.
-//! - `run`: the whole run over a data file, to the texts of `specs/Batch.antt`.
+//! - `running`: the whole run over a data file, to the texts of `specs/Batch.antt`.
 //! - `application`, `cases`, `events`: the application's events, a run of lines, and the events of a case.
 //! - `machine`: what runs an event. `parts`: the parts of a program that a run goes by.
 //! - `laws`: laws of the definition of a batch.
@@ -17,7 +17,7 @@ mod image;
 mod laws;
 mod machine;
 mod parts;
-mod run;
+mod running;
 mod totals;
 mod worked;
 
@@ -25,7 +25,7 @@ pub use copy::pass;
 pub use image::{CheckFault, check_image};
 pub use laws::{applications_end, cases_end, ends_are_final, fronts_stay};
 pub use machine::Runs;
-pub use run::run_by;
+pub use running::{run, run_by};
 pub use totals::{RunFault, Totals};
 pub use worked::worked_rows;
 

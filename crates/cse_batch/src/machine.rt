@@ -1,19 +1,21 @@
 //! What runs the events of a verified program.
 
-ghost use Rattle.std.specs.Prelude.{◌≡◌, Option, Some, None, IfOk, true};
+ghost use Rattle.std.specs.Prelude.{◌≡◌, Option, Some, None, IfOk, OnErr, true};
 ghost use Rattle.cse_bounds.specs.CaseEvents.{moment};
 ghost use Rattle.cse_verify.specs.Verified.{VerifiedProgram};
 ghost use Rattle.cse_report.specs.Reports.{ReportsFit};
 ghost use Rattle.cse_steps.specs.Fits.{FitsFirst, is_of_run};
-ghost use Rattle.cse_batch.specs.Runs.{RunsTo};
+ghost use Rattle.cse_machine.specs.Results.{HaltsAt, RunsTo};
 
 use cse_case::Case;
 use cse_decks::Store;
-use cse_image::Event;
+use cse_image::{Code, Event};
+use cse_machine::Machine;
 use cse_report::Reports;
 use cse_value::OutOfMemory;
 
-/// Runs the events of a program, each to its end. After want of memory an event has not ended.
+/// Runs the events of a program, each to its end. After want of memory, which only an imputation and a
+/// message that is listed may meet, an event has not ended.
 pub trait Runs {
     // The program that it runs.
     ghost program: { Self → VerifiedProgram };
@@ -30,7 +32,8 @@ pub trait Runs {
         requires fits { FitsFirst (program self.old) (moment event.code event.index occurrence) (Some case.old) store.old }
         requires reports { ReportsFit (program self.old).image reports.old }
         ensures same { program self.new ≡ program self.old }
-        ensures ended { IfOk result (λ n. RunsTo (program self.old) (moment event.code event.index occurrence) (Some case.old) store.old n (Some case.new) store.new reports.old reports.new) }
+        ensures ended { IfOk result (λ n. RunsTo (program self.old) (moment event.code event.index occurrence) (Some case.old) store.old reports.old n (Some case.new) store.new reports.new) }
+        ensures halted { OnErr result (HaltsAt (program self.old) (moment event.code event.index occurrence) (Some case.old) store.old reports.old (Some case.new) store.new reports.new) }
         ensures reports_fit { ReportsFit (program self.old).image reports.new };
 
     /// Runs an event of the application, which has no case, and tells its steps.
@@ -44,6 +47,31 @@ pub trait Runs {
         requires fits { FitsFirst (program self.old) (moment event.code event.index 0) None store.old }
         requires reports { ReportsFit (program self.old).image reports.old }
         ensures same { program self.new ≡ program self.old }
-        ensures ended { IfOk result (λ n. RunsTo (program self.old) (moment event.code event.index 0) None store.old n None store.new reports.old reports.new) }
+        ensures ended { IfOk result (λ n. RunsTo (program self.old) (moment event.code event.index 0) None store.old reports.old n None store.new reports.new) }
+        ensures halted { OnErr result (HaltsAt (program self.old) (moment event.code event.index 0) None store.old reports.old None store.new reports.new) }
         ensures reports_fit { ReportsFit (program self.old).image reports.new };
+}
+
+impl<C: Code> Runs for Machine<'_, '_, C> {
+    ghost program = { λ m. m };
+
+    fn run_event(
+        &mut self,
+        case: &mut Case<'_>,
+        store: &mut Store,
+        reports: &mut Reports,
+        event: Event,
+        occurrence: u16,
+    ) -> Result<u64, OutOfMemory> {
+        Machine::run_event(self, case, store, reports, event, occurrence)
+    }
+
+    fn run_plain(
+        &mut self,
+        store: &mut Store,
+        reports: &mut Reports,
+        event: Event,
+    ) -> Result<u64, OutOfMemory> {
+        Machine::run_plain(self, store, reports, event)
+    }
 }

@@ -16,6 +16,7 @@ use crate::totals::{RunFault, Totals};
 use cse_case::CaseReader;
 use cse_decks::{Store, save};
 use cse_image::{Code, EventCode};
+use cse_machine::Machine;
 use cse_output::Gatherer;
 use cse_report::Reports;
 use cse_value::{Input, Output};
@@ -276,4 +277,46 @@ pub fn run_by<C: Code, M: Runs, R: Input, O: Output, L: Output, F: Output, D: Ou
     );
     let _ = reader.close();
     result
+}
+
+/// The whole run of a verified program over a data file: its application's preproc; each run of lines with its
+/// events, if it is a case, and then its lines as they are written; and its postproc. The store is what was
+/// kept of earlier runs.
+///
+/// `Ok` comes only where the end of the input was read and no line is faulty; then what was written to each
+/// output is its text in the batch over what was read, and the totals are those of the batch. After a fault
+/// what was written to each is a front of its text; after a fault of the data, and after 70, the written
+/// lines and the listing are whole as far as runs were given, each unless its output has failed. The faults
+/// are those of `DataError`, 71 where an output has failed, and 90.
+pub fn run<C: Code, R: Input, O: Output, L: Output, F: Output, D: Output>(
+    alloc: Global,
+    verified: &Verified<'_, C>,
+    store: Store,
+    input: &mut R,
+    out: &mut O,
+    listing: &mut L,
+    frequencies: &mut F,
+    decks: &mut D,
+) -> Result<Totals, RunFault>
+    requires fits { StoreFits verified.now.image store }
+    ensures ok { IfOk result (λ totals. RunsWhole verified.now store (R.remaining input.old) (R.remaining input.new)
+        (contents (O.contents out.old) (L.contents listing.old) (F.contents frequencies.old) (D.contents decks.old)) (contents (O.contents out.new) (L.contents listing.new) (F.contents frequencies.new) (D.contents decks.new)) totals) }
+    ensures err { IfErr result (λ fault. RunStops verified.now store (R.remaining input.old) (R.remaining input.new)
+        (contents (O.contents out.old) (L.contents listing.old) (F.contents frequencies.old) (D.contents decks.old)) (contents (O.contents out.new) (L.contents listing.new) (F.contents frequencies.new) (D.contents decks.new))
+        (R.has_failed input.new) (failures (O.has_failed out.new) (L.has_failed listing.new) (F.has_failed frequencies.new) (D.has_failed decks.new)) fault) }
+{
+    let Ok(mut machine) = Machine::new(alloc, verified) else {
+        return Err(MEMORY_FAULT);
+    };
+    run_by(
+        alloc,
+        verified,
+        &mut machine,
+        store,
+        input,
+        out,
+        listing,
+        frequencies,
+        decks,
+    )
 }

@@ -1,5 +1,5 @@
 use Rattle.cse_batch.proofs.CloseLaws.{halts_last, ran}
-use Rattle.cse_batch.proofs.run.run_events.Goals as goal
+use Rattle.cse_batch.proofs.running.run_events.Goals as goal
 
 pub returns-clause-ok : goal.returns-clause-ok
 returns-clause-ok g c = ran _ _ _ _ _ _ _ _ _ _ _ _ c.in_ok-totals.ensures.ok c.in-Ok.ensures.keeps

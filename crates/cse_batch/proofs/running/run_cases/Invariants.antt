@@ -4,7 +4,7 @@ use Rattle.cse_output.specs.Gathering.{going}
 use Rattle.cse_report.specs.Reports.{ReportsFit}
 use Rattle.cse_batch.specs.RunState.{device}
 use Rattle.cse_batch.proofs.RunLaws.{Running}
-use Rattle.cse_batch.proofs.run.run_cases.Given as goal
+use Rattle.cse_batch.proofs.running.run_cases.Given as goal
 
 abbrev pub invariant-runs : goal.invariant-runs
 invariant-runs g l = record {

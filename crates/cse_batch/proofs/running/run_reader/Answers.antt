@@ -1,7 +1,7 @@
 use Rattle.std.proofs.Common.{refl, inl, inr, sym, ◌∙◌}
 use Rattle.std.proofs.lemmas.Bool.{false≢true}
 use Rattle.cse_batch.proofs.CloseLaws.{appends_behind, closed, front_all, front_as, front_behind, front_first, front_now, no_front, runs_whole, stops, stops_end}
-use Rattle.cse_batch.proofs.run.run_reader.Goals as goal
+use Rattle.cse_batch.proofs.running.run_reader.Goals as goal
 
 pub returns-in-Err-clause-err : goal.returns-in-Err-clause-err
 returns-in-Err-clause-err g c =

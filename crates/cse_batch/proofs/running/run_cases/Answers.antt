@@ -4,8 +4,8 @@ use Rattle.cse_report.specs.Held.{Held}
 use Rattle.cse_report.specs.declared.reports.Reports.{Reports}
 use Rattle.cse_batch.proofs.PassLaws.{byte_is}
 use Rattle.cse_batch.proofs.RunLaws.{halts_at_once, halts_fault, halts_memory, halts_writing, keeps_nothing, one_line, ran_all, running_case, running_none, unbegun}
-use Rattle.cse_batch.proofs.run.run_cases.Goals as goal
-use Rattle.cse_batch.proofs.run.run_cases.Goals.{then-written-via-then-written, then-written-via-else-written+then-listed}
+use Rattle.cse_batch.proofs.running.run_cases.Goals as goal
+use Rattle.cse_batch.proofs.running.run_cases.Goals.{then-written-via-then-written, then-written-via-else-written+then-listed}
 
 pub returns-in_default-clause-err : goal.returns-in_default-clause-err
 returns-in_default-clause-err g c =
