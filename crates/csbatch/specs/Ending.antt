@@ -1,5 +1,6 @@
 -- The exit status of what a command came to, and the numbers of faults.
 use Rattle.std.specs.Prelude.{ℕ, ◌==◌, ◌||◌, if◌then◌else◌, None, Result, Ok, Err}
+use Rattle.cse_batch.specs.declared.image.CheckFault.{CheckFault}
 use Rattle.cse_batch.specs.declared.image.CheckFault.TheVariants as checks
 use Rattle.csbatch.specs.declared.fault.Fault.{Fault}
 use Rattle.csbatch.specs.declared.outcome.Asked.{Asked}
@@ -42,10 +43,14 @@ number_of_try (tries.Refused r) = r.number
 number_of_try tries.Write = 71
 number_of_try tries.Memory = 90
 
+-- of an image that may not run
+abbrev pub number_of_check : CheckFault → ℕ
+number_of_check (checks.Image e) = e.number
+number_of_check (checks.Refused r) = r.number
+number_of_check checks.Memory = 90
+
 -- of a fault of `verify`
 abbrev pub number_of_verify : VerifyFault → ℕ
 number_of_verify (verifies.Dict e) = e.number
-number_of_verify (verifies.Check (checks.Image e)) = e.number
-number_of_verify (verifies.Check (checks.Refused r)) = r.number
-number_of_verify (verifies.Check checks.Memory) = 90
+number_of_verify (verifies.Check f) = number_of_check f
 number_of_verify verifies.Write = 71

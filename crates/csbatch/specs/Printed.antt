@@ -1,10 +1,13 @@
--- What `try` prints: the text of each listed message on a line, and then how many steps the run took.
+-- What `try` and `run` print.
 use Rattle.std.specs.Prelude.{ℕ, List, [], ◌∷◌, ◌++◌, codes, decimal}
 use Rattle.std.specs.List.{flat_map}
 use Rattle.cse_parts.specs.Image.{MessageLists}
 use Rattle.cse_report.specs.declared.argument.Arg.{Arg}
 use Rattle.cse_report.specs.Listing.{Gives}
 use Rattle.cse_report.specs.Held.{texts_of}
+use Rattle.cse_batch.specs.declared.totals.Totals.{Totals}
+
+-- ---- `try`: the text of each listed message on a line, and then how many steps the run took
 
 -- the texts of the messages that are listed, with their arguments, in order
 abbrev pub listed : List MessageLists → List (ℕ × List Arg) → List (List ℕ)
@@ -21,3 +24,8 @@ steps_line n = decimal n ++ codes " steps\n"
 
 abbrev pub printed : List (List ℕ) → ℕ → List ℕ
 printed texts n = text_lines texts ++ steps_line n
+
+-- ---- `run`: what it counted
+
+abbrev pub totals_line : Totals → List ℕ
+totals_line t = codes "cases " ++ decimal t.cases ++ codes " lines " ++ decimal t.lines ++ codes " unseen " ++ decimal t.unseen ++ codes "\n"

@@ -163,10 +163,7 @@ const ENDS: &[(&[Line], &str)] = &[
     ),
     // A summary message isn't listed; a message takes its arguments; no routine calls itself.
     (&[(Op::Message, 0, 0, 3)], "2 steps\n"),
-    (
-        &[(Op::Message, 0, 0, 4)],
-        "refused 66 routine 0 place 0\n",
-    ),
+    (&[(Op::Message, 0, 0, 4)], "refused 66 routine 0 place 0\n"),
     (
         &[(Op::Number, 0, 0, 2), (Op::Message, 0, 0, 4)],
         "10\n3 steps\n",

@@ -4,25 +4,33 @@
 //! - `try_image`: `try`, from the bytes of an image to the messages of its preproc.
 //! - `verify_image`: `verify`, from a dictionary and an image to what is known of the program. `verdict`:
 //!   its lines.
+//! - `run_image`: `run`, an image over a data file. `gathered`: bytes in memory.
+//! - `files`: the files of the commands.
 //! - `printing`, `fault`: lines for a device. `outcome`: the exit status.
 #![tactic(auto)]
 
 mod fault;
+mod files;
+mod gathered;
 mod outcome;
 mod plan;
 mod printing;
+mod run_image;
 mod try_image;
 mod verdict;
 mod verify_image;
 
 use cse_value::Writes;
 use fault::{Fault, NO_MEMORY, WRITE_FAILED, fault_line};
+use files::file_bytes;
 use outcome::{Asked, Stop, exit_status};
-use plan::{Command, PlanFault, plan};
-use std::io::{self, BufWriter, ErrorKind, Read, Write};
+use plan::{Command, PlanFault, RunPaths, plan};
+use printing::write_totals;
+use run_image::run_files;
+use std::env;
+use std::io::{self, BufWriter, ErrorKind, Write};
 use std::process::ExitCode;
 use std::rt::{Env, Files};
-use std::{env, fs};
 use try_image::try_to;
 use verify_image::verify_to;
 
@@ -33,6 +41,8 @@ mod fault_tests;
 #[cfg(test)]
 mod file_tests;
 #[cfg(test)]
+mod run_tests;
+#[cfg(test)]
 mod tests;
 #[cfg(test)]
 mod try_tests;
@@ -41,9 +51,13 @@ mod verify_tests;
 
 const USAGE: &str = "usage: csbatch try IMAGE
        csbatch verify DICT IMAGE
+       csbatch run DICT IMAGE DATA OUT LIST FREQ [--decks F]
 
   try IMAGE           run the application's preproc of an image, and print its messages and its steps
-  verify DICT IMAGE   tell whether an image may run with a dictionary, and how many steps it may take";
+  verify DICT IMAGE   tell whether an image may run with a dictionary, and how many steps it may take
+  run DICT IMAGE DATA OUT LIST FREQ
+                      run an image over a data file, and write its lines, the listing and the frequencies
+    --decks F         begin with the hot decks of a file, where it is there, and write them to it";
 
 fn main(rt: HostRuntime) -> ExitCode {
     let outcome = carry_out(&rt);
@@ -84,6 +98,7 @@ fn do_planned<R: Files + Print + AllocGlobal>(
     match planned {
         Ok(Command::Try { image }) => try_file(rt, image),
         Ok(Command::Verify { dict, image }) => verify_files(rt, dict, image),
+        Ok(Command::Run(paths)) => run_and_tell(rt, &paths),
         Err(PlanFault::Usage) => Err(Stop::Usage),
         Err(PlanFault::Memory) => Err(Stop::of_number(NO_MEMORY)),
     }
@@ -137,15 +152,12 @@ fn verify_files<R: Files + Print + AllocGlobal>(
     }
 }
 
-/// All bytes of a file: 72 where it can't be opened, 70 where a read fails.
-fn file_bytes<R: Files + AllocGlobal>(rt: &R, path: &str) -> Result<Vec<u8>, Stop> {
-    let mut file = match fs::open(rt, path) {
-        Ok(file) => file,
-        Err(error) => return Err(Stop::of_failure(Asked::Open, error.kind())),
-    };
-    let mut bytes = Vec::new(rt.alloc());
-    match file.read_to_end(&mut bytes) {
-        Ok(_) => Ok(bytes),
-        Err(error) => Err(Stop::of_failure(Asked::Read, error.kind())),
+/// `run`, and what it counted.
+fn run_and_tell<R: Files + Print + AllocGlobal>(rt: &R, paths: &RunPaths<'_>) -> Result<(), Stop> {
+    let totals = run_files(rt, paths)?;
+    let mut out = Writes::new(io::writer(rt));
+    match write_totals(totals, &mut out) {
+        Ok(()) => Ok(()),
+        Err(_) => Err(Stop::of_number(WRITE_FAILED)),
     }
 }

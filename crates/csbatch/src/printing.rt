@@ -1,10 +1,11 @@
-//! Lines for a device: the texts of messages, and how many steps a run took.
+//! Lines for a device: the texts of messages, how many steps an event took, and what a run counted.
 
 ghost use Rattle.std.specs.Prelude.{◌≡◌, [], ◌∷◌};
 ghost use Rattle.std.specs.List.{flat_map};
 ghost use Rattle.cse_value.specs.Writing.{WritesAll, FailsAtErr};
-ghost use Rattle.csbatch.specs.Printed.{text_line, text_lines, steps_line, printed};
+ghost use Rattle.csbatch.specs.Printed.{text_line, text_lines, totals_line, steps_line, printed};
 
+use cse_batch::Totals;
 use cse_report::Listing;
 use cse_value::{Failed, Output, write_all};
 use itoa::Buffer;
@@ -59,4 +60,29 @@ pub fn print<W: Output>(listing: &Listing, steps: u64, out: &mut W) -> Result<()
 {
     write_texts(listing, out)?;
     write_steps(steps, out)
+}
+
+/// Writes what a run counted.
+pub fn write_totals<W: Output>(totals: Totals, out: &mut W) -> Result<(), Failed>
+    ensures bytes { WritesAll result (W.contents out.old) (W.contents out.new) (totals_line totals) }
+    ensures failed { FailsAtErr result (W.has_failed out.old) (W.has_failed out.new) }
+{
+    let mut first = Buffer::new();
+    let mut second = Buffer::new();
+    let mut third = Buffer::new();
+    let cases = first.format(totals.cases).as_bytes();
+    let lines = second.format(totals.lines).as_bytes();
+    let unseen = third.format(totals.unseen).as_bytes();
+    write_parts(
+        &[
+            b"cases ",
+            cases,
+            b" lines ",
+            lines,
+            b" unseen ",
+            unseen,
+            b"\n",
+        ],
+        out,
+    )
 }

@@ -15,7 +15,7 @@ use std::test::Fail;
 pub const EMPTY: &[u8] = b"[Dictionary]\nName=T\n[Level]\nName=L\n";
 
 /// A household with at most 30 persons; of each person sex, relation, age and a weight with a decimal.
-const SAMPLE: &[u8] = b"[Dictionary]\nName=SAMPLE_DICT\nRecordTypeStart=1\nRecordTypeLen=1\n\
+pub const SAMPLE: &[u8] = b"[Dictionary]\nName=SAMPLE_DICT\nRecordTypeStart=1\nRecordTypeLen=1\n\
 [Level]\nName=QUEST\n[IdItems]\n[Item]\nName=HH\nStart=2\nLen=3\nZeroFill=Yes\n\
 [Record]\nName=PERSON\nRecordTypeValue='P'\nRecordLen=12\nMaxRecords=30\n\
 [Item]\nName=SEX\nStart=5\nLen=1\n[ValueSet]\nName=SEX_VS\nValue=1;Male\nValue=2;Female\n\
