@@ -7,7 +7,7 @@ ghost use Rattle.cse_parts.specs.Image.{array_lists};
 ghost use Rattle.cse_decks.specs.Store.{first_global, first_cells};
 
 use crate::cells::ArrayCells;
-use crate::global::{GlobalValue, KeptText};
+use crate::global::GlobalValue;
 use cse_image::{Array, GlobalKind, GlobalVariable};
 use cse_parts::rules::cells_for;
 use cse_value::{Num, TEXT_LEN, Text};
@@ -26,14 +26,14 @@ fn blank_text(length: usize) -> Text
 }
 
 /// What a global starts with.
-fn first_global(alloc: Global, global: GlobalVariable) -> Result<GlobalValue, AllocError>
-    ensures { IfOk result (λ value. value ≡ first_global global) }
+fn first_global(global: GlobalVariable) -> GlobalValue
+    ensures { result ≡ first_global global }
 {
     match global.kind {
-        GlobalKind::Number => Ok(GlobalValue::Number(Num::Whole(0))),
+        GlobalKind::Number => GlobalValue::Number(Num::Whole(0)),
         GlobalKind::Text => {
             let length = usize::from(global.length).min(TEXT_LEN);
-            Ok(GlobalValue::Words(KeptText::new(alloc, blank_text(length))?))
+            GlobalValue::Words(blank_text(length))
         }
     }
 }
@@ -45,11 +45,10 @@ pub fn first_globals(
 ) -> Result<Vec<GlobalValue>, AllocError>
     ensures { IfOk result (λ v. v.items ≡ map first_global globals.now) }
 {
-    let mut values = Vec::new(alloc);
-    for global in globals {
-        values.push(first_global(alloc, *global)?)?;
-    }
-    Ok(values)
+    globals
+        .iter()
+        .map(|global| first_global(*global))
+        .collect(alloc)
 }
 
 /// The declared cells as numbers.
