@@ -7,7 +7,7 @@ ghost use Rattle.cse_parts.specs.Image.{array_lists};
 ghost use Rattle.cse_decks.specs.Store.{first_global, first_cells};
 
 use crate::cells::ArrayCells;
-use crate::global::GlobalValue;
+use crate::global::{GlobalValue, KeptText};
 use cse_image::{Array, GlobalKind, GlobalVariable};
 use cse_parts::rules::cells_for;
 use cse_value::{Num, TEXT_LEN, Text};
@@ -26,14 +26,14 @@ fn blank_text(length: usize) -> Text
 }
 
 /// What a global starts with.
-fn first_global(global: GlobalVariable) -> GlobalValue
-    ensures { result ≡ first_global global }
+fn first_global(alloc: Global, global: GlobalVariable) -> Result<GlobalValue, AllocError>
+    ensures { IfOk result (λ value. value ≡ first_global global) }
 {
     match global.kind {
-        GlobalKind::Number => GlobalValue::Number(Num::Whole(0)),
+        GlobalKind::Number => Ok(GlobalValue::Number(Num::Whole(0))),
         GlobalKind::Text => {
             let length = usize::from(global.length).min(TEXT_LEN);
-            GlobalValue::Words(blank_text(length))
+            Ok(GlobalValue::Words(KeptText::new(alloc, blank_text(length))?))
         }
     }
 }
@@ -45,10 +45,11 @@ pub fn first_globals(
 ) -> Result<Vec<GlobalValue>, AllocError>
     ensures { IfOk result (λ v. v.items ≡ map first_global globals.now) }
 {
-    globals
-        .iter()
-        .map(|global| first_global(*global))
-        .collect(alloc)
+    let mut values = Vec::new(alloc);
+    for global in globals {
+        values.push(first_global(alloc, *global)?)?;
+    }
+    Ok(values)
 }
 
 /// The declared cells as numbers.
