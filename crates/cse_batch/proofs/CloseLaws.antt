@@ -30,7 +30,7 @@ use Rattle.cse_batch.specs.RunState.{CasesRan, Device, Halts, Has, Ran}
 use Rattle.cse_batch.proofs.BatchLaws.{batch_whole, fronts_stay}
 use Rattle.cse_batch.proofs.HeldLaws.{listing_held, unended_held}
 use Rattle.cse_batch.proofs.RunLaws.{begun_out}
-use Rattle.cse_batch.proofs.PassLaws.{all_of, front_of, gave_up}
+use Rattle.cse_batch.proofs.SoFarLaws.{all_of, front_of, gave_up}
 
 -- ---- after the last run of lines
 

@@ -122,12 +122,12 @@ fits_moment v case w m some f there = record {
 }
 
 -- it ends, and what it leaves fits
-record EndsWell (v : VerifiedProgram) (w : World) (m : Moment) : Type 0 where
-  ended : (end_of v w m).calls ≡ []
-  fits : FitsWorld v w.case (end_of v w m).world
-  within : steps_of v w m ≤ event_bound v.image m.event
+pub record EndsWell (v : VerifiedProgram) (w : World) (m : Moment) : Type 0 where
+  pub ended : (end_of v w m).calls ≡ []
+  pub fits : FitsWorld v w.case (end_of v w m).world
+  pub within : steps_of v w m ≤ event_bound v.image m.event
 
-ends_well : (v : VerifiedProgram) → EventsEnd v → (w : World) (m : Moment) → FitsFirst v m w.case w.store → EndsWell v w m
+pub ends_well : (v : VerifiedProgram) → EventsEnd v → (w : World) (m : Moment) → FitsFirst v m w.case w.store → EndsWell v w m
 ends_well v law w m f =
     let e = law m w.case w.store f in
     let is = ended_is_final v e.steps (event_bound v.image m.event) (first v m w.case w.store) e.state e.runs e.ended e.within in
@@ -140,7 +140,7 @@ ends_well v law w m f =
     }
 
 -- what was told before doesn't count
-fits_told : (v : VerifiedProgram) (case : Option CaseText) (w : World) (m : Moment) → FitsWorld v case (end_of v w m).world → FitsWorld v case (after_moment v w m)
+pub fits_told : (v : VerifiedProgram) (case : Option CaseText) (w : World) (m : Moment) → FitsWorld v case (end_of v w m).world → FitsWorld v case (after_moment v w m)
 fits_told v case w m f = record { present = f.present; occurrences = f.occurrences; case_fits = f.case_fits; dictionary = f.dictionary; store = f.store }
 
 all_end : (v : VerifiedProgram) → EventsEnd v → (case : Option CaseText) → is_some case ≡ true → (w : World) (ms : List Moment) → FitsWorld v case w → AllThere v.image (occurrences_in case) ms

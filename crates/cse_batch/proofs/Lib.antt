@@ -1,4 +1,5 @@
 pub mod BatchLaws
+pub mod BoundLaws
 mod CheckLaws
 pub mod CloseLaws
 pub mod EditLaws
@@ -6,6 +7,6 @@ pub mod EndLaws
 pub mod EventLaws
 pub mod HeldLaws
 pub mod OrderLaws
-pub mod PassLaws
 pub mod RunLaws
 pub mod SceneLaws
+pub mod SoFarLaws

@@ -25,10 +25,10 @@ use Rattle.cse_batch.specs.declared.totals.RunFault.{RunFault}
 use Rattle.cse_batch.specs.Totals.{totals_of}
 use Rattle.cse_batch.specs.Batch.{Batch, Progress, after_application, after_run, after_runs, batch, begun, next_case, stopped}
 use Rattle.cse_batch.specs.Edits.{Edits, Keeps}
-use Rattle.cse_batch.specs.RunState.{CasesRan, Device, Halts, Has}
+use Rattle.cse_batch.specs.RunState.{CasesRan, Device, Halts, Has, IsUnread}
 use Rattle.cse_batch.proofs.BatchLaws.{batch_broken, batch_faulty, fronts_stay, runs_later}
 use Rattle.cse_batch.proofs.EditLaws.{keeps_case, out_of_case}
-use Rattle.cse_batch.proofs.PassLaws.{SoFar, SoFar-case, SoFar-none, breaks_off, data_fault, few_reads, given_all, given_more, given_so_far, gives, is_error, lines_now, reads_all, reads_more, runs-case, runs-none, sound_all}
+use Rattle.cse_batch.proofs.SoFarLaws.{SoFar, SoFar-case, SoFar-none, breaks_off, data_fault, few_reads, given_all, given_more, given_so_far, gives, is_error, lines_now, reads_all, reads_more, runs-case, runs-none, sound_all}
 
 -- before the application's preproc
 abbrev pub unbegun : Kept → Progress
@@ -86,14 +86,14 @@ unfolding after_run
 run_lines v p run = refl
 
 -- after the application's preproc
-pub running_none : (v : VerifiedProgram) (first : Kept) (now : Option (List ℕ)) (r : ReaderText) (store : Kept) (reports : Reports) (out listing : Device) → r.dictionary ≡ v.dictionary → held_of r ≡ [] → r.ended ≡ false → r.reads ≡ 0 → r.lines ≡ 0
+pub running_none : (v : VerifiedProgram) (first : Kept) (now : Option (List ℕ)) (r : ReaderText) (store : Kept) (reports : Reports) (out listing : Device) → IsUnread v r
     → Keeps v (after_application v ApplicationPreproc (unbegun first)) store reports listing.start listing.sound listing.going → Has out []
     → Running v first now now r store reports out listing (record { cases = 0; lines = 0; unseen = 0 })
 unfolding begun
-running_none v first now r store reports out listing same none unended unread front keeps nothing =
-    let s = SoFar-none now v.dictionary r same none unended unread front in
-    running v first now now r store reports out listing (record { cases = 0; lines = 0; unseen = 0 }) [] s (begun v first) (ap (after_runs v (begun v first)) (sym (runs-none now v.dictionary r same none unended unread front)))
-    (record { keeps = keeps; written = subst (Has out) (sym (begun_out v first)) nothing; lines = begun_lines v first ∙ sym front })
+running_none v first now r store reports out listing u keeps nothing =
+    let s = SoFar-none now v.dictionary r u.dictionary u.nothing_held u.unended u.unread u.front in
+    running v first now now r store reports out listing (record { cases = 0; lines = 0; unseen = 0 }) [] s (begun v first) (ap (after_runs v (begun v first)) (sym (runs-none now v.dictionary r u.dictionary u.nothing_held u.unended u.unread u.front)))
+    (record { keeps = keeps; written = subst (Has out) (sym (begun_out v first)) nothing; lines = begun_lines v first ∙ sym u.front })
 
 module _ (v : VerifiedProgram) (first : Kept) (before now after : Option (List ℕ)) (r r' : ReaderText) (store : Kept) (reports : Reports) (out listing : Device) (totals : Totals) (run : Running v first before now r store reports out listing totals) where
   abbrev at : Progress

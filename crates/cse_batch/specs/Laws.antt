@@ -1,5 +1,5 @@
 -- What is proved of batches.
-use Rattle.std.specs.Prelude.{◌≡◌, ℕ, ◌+◌, ◌≤◌, Bool, true, List, [], ◌++◌, Option}
+use Rattle.std.specs.Prelude.{◌≡◌, ℕ, ◌+◌, ◌≤◌, Bool, true, List, [], ◌∷◌, ◌++◌, Option}
 use Rattle.cse_lines.specs.Line.{FileLine}
 use Rattle.cse_lines.specs.Runs.{given}
 use Rattle.cse_case.specs.Case.{CaseText}
@@ -13,7 +13,7 @@ use Rattle.cse_verify.specs.Verified.{VerifiedProgram}
 use Rattle.cse_steps.specs.State.{Told, World}
 use Rattle.cse_steps.specs.Run.{Ends}
 use Rattle.cse_batch.specs.Events.{AllEnd, all_steps, end_of, events_of, steps_of, unedited}
-use Rattle.cse_batch.specs.Batch.{Batch, after_runs, batch, begun, without_case}
+use Rattle.cse_batch.specs.Batch.{Batch, Progress, after_run, after_runs, batch, begun, next_case, without_case}
 
 -- An event that ends after n steps ends in the state that a batch goes on from, and takes n steps there.
 pub record IsEndOf (v : VerifiedProgram) (w : World) (m : Moment) (n : ℕ) (case : Option CaseText) (store : Kept) (told : Told) : Type 0 where
@@ -41,6 +41,20 @@ pub record ApplicationEnds (v : VerifiedProgram) (first last : Kept) : Type 0 wh
 
 abbrev pub ApplicationsEnd : VerifiedProgram → Type 0
 ApplicationsEnd v = (first last : Kept) → StoreFits v.image first → StoreFits v.image last → ApplicationEnds v first last
+
+-- of each run of lines of a batch the events, as CaseEnds says
+abbrev pub RunsEnd : VerifiedProgram → Progress → List (List FileLine) → Type 0
+RunsEnd v p [] = Unit {0}
+RunsEnd v p (run ∷ runs) = CaseEnds v p.store (next_case v p run) × RunsEnd v (after_run v p run) runs
+
+-- In a batch over any bytes all events run to their ends: those of each run of lines within the steps of a case, and those of the application within the
+-- steps of a run.
+pub record BatchEnds (v : VerifiedProgram) (store : Kept) (bytes : List ℕ) (ended : Bool) : Type 0 where
+  pub cases : RunsEnd v (begun v store) (given v.dictionary true ended bytes)
+  pub application : ApplicationEnds v store (after_runs v (begun v store) (given v.dictionary true ended bytes)).store
+
+abbrev pub BatchesEnd : VerifiedProgram → Type 0
+BatchesEnd v = (store : Kept) (bytes : List ℕ) (ended : Bool) → StoreFits v.image store → BatchEnds v store bytes ended
 
 -- The texts of a batch over fewer runs are fronts of those over more: the lines that are written, and the listing without its summary.
 pub record HasFront (v : VerifiedProgram) (store : Kept) (runs : List (List FileLine)) (b : Batch) : Type 0 where

@@ -1,9 +1,9 @@
 pub mod Batch
 pub mod Checked
+pub mod DataFaults
 pub mod Edits
 pub mod Events
 pub mod Laws
-pub mod Pass
 pub mod RunClauses
 pub mod RunState
 pub mod Scene

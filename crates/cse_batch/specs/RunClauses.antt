@@ -8,7 +8,7 @@ use Rattle.cse_verify.specs.Verified.{VerifiedProgram}
 use Rattle.cse_decks.specs.Store.{Kept}
 use Rattle.cse_batch.specs.declared.totals.Totals.{Totals}
 use Rattle.cse_batch.specs.declared.totals.RunFault.{RunFault}
-use Rattle.cse_batch.specs.Pass.{BreaksOff, IsDataFault}
+use Rattle.cse_batch.specs.DataFaults.{BreaksOff, IsDataFault}
 use Rattle.cse_batch.specs.Batch.{Batch, after_runs, batch, begun}
 
 -- the bytes that the four outputs hold, where they are known

@@ -1,13 +1,14 @@
 -- How far a run is, before its outputs are closed.
-use Rattle.std.specs.Prelude.{◌≡◌, ◌≤◌, ◌<◌, ◌^◌, ◌⊎◌, ℕ, Bool, true, List, ◌++◌, length, Option, None}
+use Rattle.std.specs.Prelude.{◌≡◌, ◌≤◌, ◌<◌, ◌^◌, ◌⊎◌, ℕ, Bool, true, false, List, [], ◌++◌, length, replicate, Option, None}
 use Rattle.std.specs.Io.KnownBytes.{Consumes, IsAtEnd}
 use Rattle.cse_lines.specs.Line.{FileLine}
 use Rattle.cse_lines.specs.Runs.{given, fault_in}
+use Rattle.cse_lines.specs.Reader.{ReaderText, held_of}
 use Rattle.cse_dict.specs.Dictionary.{item_names}
 use Rattle.cse_decks.specs.Store.{Kept}
 use Rattle.cse_decks.specs.Deck.{deck_text}
 use Rattle.cse_output.specs.Gathering.{Going, Gathering}
-use Rattle.cse_report.specs.Held.{ending}
+use Rattle.cse_report.specs.Held.{begun as no_reports, ending}
 use Rattle.cse_report.specs.Frequency.{frequencies_text}
 use Rattle.cse_report.specs.Unended.{Begins}
 use Rattle.cse_report.specs.declared.reports.Reports.{Reports}
@@ -15,9 +16,28 @@ use Rattle.cse_verify.specs.Verified.{VerifiedProgram}
 use Rattle.cse_batch.specs.declared.totals.Totals.{Totals}
 use Rattle.cse_batch.specs.declared.totals.RunFault.{RunFault}
 use Rattle.cse_batch.specs.Totals.{totals_of}
-use Rattle.cse_batch.specs.Pass.{BreaksOff, IsDataFault}
+use Rattle.cse_batch.specs.DataFaults.{BreaksOff, IsDataFault}
 use Rattle.cse_batch.specs.Batch.{after_runs, batch, begun}
 use Rattle.cse_batch.specs.Edits.{Keeps}
+
+-- a reader of files of the program's dictionary that has read nothing
+pub record IsUnread (v : VerifiedProgram) (r : ReaderText) : Type 0 where
+  pub dictionary : r.dictionary ≡ v.dictionary
+  pub sound : r.error ≡ None
+  pub nothing_held : held_of r ≡ []
+  pub unended : r.ended ≡ false
+  pub unread : r.reads ≡ 0
+  pub front : r.lines ≡ 0
+
+-- nothing was reported
+pub record IsUnreported (v : VerifiedProgram) (reports : Reports) : Type 0 where
+  pub listing : reports.listing ≡ no_reports v.image.lists.messages
+  pub frequencies : reports.frequencies ≡ replicate (length v.image.lists.items) []
+
+-- nothing was put before an output
+pub record IsFresh (waiting : List ℕ) (gave_up : Bool) : Type 0 where
+  pub nothing_waits : waiting ≡ []
+  pub going : gave_up ≡ false
 
 -- where an output stood, whether it had failed, and how far it is
 pub record Device : Type 0 where

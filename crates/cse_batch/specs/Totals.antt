@@ -1,4 +1,4 @@
--- What a pass over a data file counts: the runs that are cases, all lines, and the unseen lines.
+-- What a run over a data file counts: the runs that are cases, all lines, and the unseen lines.
 use Rattle.std.specs.Prelude.{ℕ, Bool, List, length, map, sum_by, count_by}
 use Rattle.cse_dict.specs.Dictionary.{DictionaryText, shape_of}
 use Rattle.cse_lines.specs.Line.{FileLine}

@@ -1,6 +1,6 @@
 //! Laws of the definition of a batch.
 
-ghost use Rattle.cse_batch.specs.Laws.{ApplicationsEnd, CasesEnd, EndsAreFinal, FrontsStay};
+ghost use Rattle.cse_batch.specs.Laws.{ApplicationsEnd, BatchesEnd, CasesEnd, EndsAreFinal, FrontsStay};
 
 use cse_image::Code;
 use cse_steps::{case_keeps_to_bound, event_ends};
@@ -25,6 +25,15 @@ pub fn applications_end<C: Code>(verified: &Verified<'_, C>)
     ensures { ApplicationsEnd verified.now }
 {
     event_ends(verified);
+}
+
+/// Law: in a batch over any bytes, from a store that fits, all events run to their ends: those of each run of
+/// lines take together at most `case_steps`, those of the application at most `run_steps`.
+pub fn batches_end<C: Code>(verified: &Verified<'_, C>)
+    ensures { BatchesEnd verified.now }
+{
+    event_ends(verified);
+    case_keeps_to_bound(verified);
 }
 
 /// Law: what a batch has written and listed after some of its runs stands at the front of its texts.

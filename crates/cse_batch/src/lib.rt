@@ -6,12 +6,10 @@
 //! - `application`, `cases`, `events`: the application's events, a run of lines, and the events of a case.
 //! - `machine`: what runs an event. `parts`: the parts of a program that a run goes by.
 //! - `laws`: laws of the definition of a batch.
-//! - `copy`: a copy, case by case.
 #![tactic(auto)]
 
 mod application;
 mod cases;
-mod copy;
 mod events;
 mod image;
 mod laws;
@@ -21,13 +19,14 @@ mod running;
 mod totals;
 mod worked;
 
-pub use copy::pass;
 pub use image::{CheckFault, check_image};
-pub use laws::{applications_end, cases_end, ends_are_final, fronts_stay};
+pub use laws::{applications_end, batches_end, cases_end, ends_are_final, fronts_stay};
 pub use machine::Runs;
 pub use running::{run, run_by};
 pub use totals::{RunFault, Totals};
 pub use worked::worked_rows;
 
+#[cfg(test)]
+mod samples;
 #[cfg(test)]
 mod tests;

@@ -1,13 +1,11 @@
 //! The runs of lines of a data file, one after the other.
 
-ghost use Rattle.std.specs.Prelude.{◌≡◌, [], None, false, IfOk, IfErr, OnOk, length, replicate};
+ghost use Rattle.std.specs.Prelude.{◌≡◌, IfOk, IfErr, OnOk};
 ghost use Rattle.cse_decks.specs.Store.{StoreFits};
-ghost use Rattle.cse_lines.specs.Reader.{held_of};
 ghost use Rattle.cse_output.specs.Gathering.{going};
-ghost use Rattle.cse_report.specs.Held.{begun as no_reports};
 ghost use Rattle.cse_report.specs.Reports.{ReportsFit};
 ghost use Rattle.cse_batch.specs.RunClauses.{RunStops, RunsWhole, contents, failures};
-ghost use Rattle.cse_batch.specs.RunState.{CasesRan, Halts, Ran, device};
+ghost use Rattle.cse_batch.specs.RunState.{CasesRan, Halts, IsFresh, IsUnread, IsUnreported, Ran, device};
 
 use crate::application::apply;
 use crate::cases::edit;
@@ -49,20 +47,12 @@ pub(crate) fn run_cases<C: Code, M: Runs, R: Input, O: Output, L: Output>(
     listing: &mut L,
 ) -> Result<Totals, RunFault>
     requires machine { M.program machine.old ≡ verified.now }
-    requires dictionary { reader.old.stream.dictionary ≡ verified.now.dictionary }
-    requires sound { reader.old.stream.error ≡ None }
-    requires start { held_of reader.old.stream ≡ [] }
-    requires open { reader.old.stream.ended ≡ false }
-    requires unread { reader.old.stream.reads ≡ 0 }
-    requires front { reader.old.stream.lines ≡ 0 }
+    requires reader { IsUnread verified.now reader.old.stream }
     requires store { StoreFits verified.now.image store.old }
     requires reports { ReportsFit verified.now.image reports.old }
-    requires no_reports { reports.old.listing ≡ no_reports verified.now.image.lists.messages }
-    requires no_values { reports.old.frequencies ≡ replicate (length verified.now.image.lists.items) [] }
-    requires none_written { written.old.waiting.items ≡ [] }
-    requires going_written { written.old.gave_up ≡ false }
-    requires none_listed { listed.old.waiting.items ≡ [] }
-    requires going_listed { listed.old.gave_up ≡ false }
+    requires unreported { IsUnreported verified.now reports.old }
+    requires written { IsFresh written.old.waiting.items written.old.gave_up }
+    requires listed { IsFresh listed.old.waiting.items listed.old.gave_up }
     ensures same_reference { reader.new.input.ghost_name ≡ reader.old.input.ghost_name }
     ensures same { M.program machine.new ≡ verified.now }
     ensures ok { IfOk result (λ totals. CasesRan verified.now store.old (R.remaining reader.old.input.now) (R.remaining reader.new.input.now) store.new reports.new
@@ -123,20 +113,12 @@ fn run_events<C: Code, M: Runs, R: Input, O: Output, L: Output>(
     listing: &mut L,
 ) -> Result<Totals, RunFault>
     requires machine { M.program machine.old ≡ verified.now }
-    requires dictionary { reader.old.stream.dictionary ≡ verified.now.dictionary }
-    requires sound { reader.old.stream.error ≡ None }
-    requires start { held_of reader.old.stream ≡ [] }
-    requires open { reader.old.stream.ended ≡ false }
-    requires unread { reader.old.stream.reads ≡ 0 }
-    requires front { reader.old.stream.lines ≡ 0 }
+    requires reader { IsUnread verified.now reader.old.stream }
     requires store { StoreFits verified.now.image store.old }
     requires reports { ReportsFit verified.now.image reports.old }
-    requires no_reports { reports.old.listing ≡ no_reports verified.now.image.lists.messages }
-    requires no_values { reports.old.frequencies ≡ replicate (length verified.now.image.lists.items) [] }
-    requires none_written { written.old.waiting.items ≡ [] }
-    requires going_written { written.old.gave_up ≡ false }
-    requires none_listed { listed.old.waiting.items ≡ [] }
-    requires going_listed { listed.old.gave_up ≡ false }
+    requires unreported { IsUnreported verified.now reports.old }
+    requires written { IsFresh written.old.waiting.items written.old.gave_up }
+    requires listed { IsFresh listed.old.waiting.items listed.old.gave_up }
     ensures same_reference { reader.new.input.ghost_name ≡ reader.old.input.ghost_name }
     ensures same { M.program machine.new ≡ verified.now }
     ensures ok { IfOk result (λ totals. Ran verified.now store.old (R.remaining reader.old.input.now) (R.remaining reader.new.input.now) store.new reports.new
@@ -171,16 +153,10 @@ fn run_reader<C: Code, M: Runs, R: Input, O: Output, L: Output, F: Output, D: Ou
     decks: &mut D,
 ) -> Result<Totals, RunFault>
     requires machine { M.program machine.old ≡ verified.now }
-    requires dictionary { reader.old.stream.dictionary ≡ verified.now.dictionary }
-    requires sound { reader.old.stream.error ≡ None }
-    requires start { held_of reader.old.stream ≡ [] }
-    requires open { reader.old.stream.ended ≡ false }
-    requires unread { reader.old.stream.reads ≡ 0 }
-    requires front { reader.old.stream.lines ≡ 0 }
+    requires reader { IsUnread verified.now reader.old.stream }
     requires store { StoreFits verified.now.image store.old }
     requires reports { ReportsFit verified.now.image reports.old }
-    requires no_reports { reports.old.listing ≡ no_reports verified.now.image.lists.messages }
-    requires no_values { reports.old.frequencies ≡ replicate (length verified.now.image.lists.items) [] }
+    requires unreported { IsUnreported verified.now reports.old }
     ensures same_reference { reader.new.input.ghost_name ≡ reader.old.input.ghost_name }
     ensures same { M.program machine.new ≡ verified.now }
     ensures ok { IfOk result (λ totals. RunsWhole verified.now store.old (R.remaining reader.old.input.now) (R.remaining reader.new.input.now)

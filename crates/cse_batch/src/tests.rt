@@ -1,264 +1,326 @@
-//! Passes over files in small pieces, and devices that fail.
-ghost use Rattle.std.specs.Prelude.{None};
+//! Worked runs, over devices that move few bytes in a call, and devices that fail.
 
-use crate::{RunFault, Totals, pass};
+ghost use Rattle.std.specs.Prelude.{◌<◌, IfOk};
+ghost use Rattle.cse_decks.specs.Store.{StoreFits};
+
+use crate::samples::{BACK, FRONT, ROWS, Row};
+use crate::{RunFault, Totals, run};
+use cse_decks::{Store, load};
 use cse_dict::Dictionary;
-use cse_value::{Failed, Input, Output, Reads, Writes};
+use cse_fixtures::device::Slow;
+use cse_fixtures::outline::{NOTHING, Outline, add_shape, parts_of};
+use cse_image::Program;
+use cse_value::{Reads, Writes};
+use cse_verify::{Verified, verify};
 use std::alloc::Global;
+use std::io;
 use std::process::Abort;
 use std::test::Fail;
 
-/// A dictionary of persons in households. The most persons stand between the two parts.
-const FRONT: &str =
-    "[Dictionary]\nName=SAMPLE_DICT\nRecordTypeStart=1\nRecordTypeLen=1\n[Level]\nName=QUEST\n[IdItems]\n[Item]\nName=HH\nStart=2\nLen=3\nZeroFill=Yes\n[Record]\nName=PERSON\nRecordTypeValue='P'\nRecordLen=12\nMaxRecords=";
+/// How devices behave: a call moves at most so many bytes, and one of them (0 the reader, 1 to 4 the writers)
+/// fails at one call, or takes none, if it is a writer. Calls are numbered from 1; at 0 it does neither.
+#[derive(Clone, Copy)]
+struct How {
+    at_most: usize,
+    device: usize,
+    fails_at: u64,
+    takes_none: bool,
+}
 
-const BACK: &str =
-    "\n[Item]\nName=SEX\nStart=5\nLen=1\n[Item]\nName=REL\nStart=6\nLen=1\n[Item]\nName=AGE\nStart=7\nLen=3\n[Item]\nName=WEIGHT\nStart=10\nLen=3\nDecimal=1\n";
-
-/// Files that are copied whole: the most persons of a household, the cases, lines and unseen lines that are
-/// counted, and the bytes.
-const ROWS: [(&str, [u64; 3], &str); 12] = [
-    ("30", [2, 3, 0], "P00111 35\r\nP00122\nP002"),
-    ("2", [1, 4, 2], "P00111 35\nP00121 30\nX001\nP00131  5\n"),
-    ("30", [3, 3, 0], "P00111\nP00211\nP00111\n"),
-    ("30", [0, 0, 0], ""),
-    ("30", [0, 1, 1], "\u{feff}"),
-    ("30", [1, 1, 0], "\u{feff}P00111\n"),
-    ("30", [1, 2, 0], "P00111\r35\nP00112 30\n"),
-    ("30", [1, 1, 0], "P0011\u{e9} 3\u{20ac}\n"),
-    ("30", [0, 2, 2], "\n\r\n"),
-    ("30", [1, 1, 0], "P00111 35   \r\n"),
-    ("30", [1, 2, 1], "P00111 35\nX001"),
-    ("30", [1, 1, 0], "P00111 35            \u{1f600} \n"),
-];
-
-/// Gives bytes in small pieces, and fails before byte `breaks`.
+/// A reader of memory, and how it behaves.
 #[derive(Drop)]
 struct Pieces<'a> {
     bytes: &'a [u8],
-    size: usize,
-    breaks: usize,
-    failed: bool,
+    calls: u64,
+    how: How,
 }
 
-impl Input for Pieces<'_> {
-    ghost remaining = { λ s. None };
-
-    ghost has_failed = { λ s. s.failed };
-
-    fn read(&mut self, buf: &mut [u8]) -> Result<usize, Failed> {
-        let n = self
-            .size
-            .min(buf.len())
-            .min(self.bytes.len())
-            .min(self.breaks);
-        if self.failed || self.breaks == 0 {
-            self.failed = true;
-            return Err(Failed);
+impl io::Read for Pieces<'_> {
+    fn read(&mut self, buf: &mut [u8]) -> io::Result<usize> {
+        self.calls = self.calls.saturating_add(1);
+        if self.how.device == 0 && self.calls == self.how.fails_at {
+            return Err(io::Error::from(io::ErrorKind::Interrupted));
         }
+        let n = self.how.at_most.min(buf.len()).min(self.bytes.len());
         buf[..n].copy_from_slice(&self.bytes[..n]);
         self.bytes = &self.bytes[n..];
-        self.breaks -= n;
         Ok(n)
     }
 }
 
-/// Takes bytes in small pieces, and fails after `room`.
-#[derive(Drop)]
-struct Store {
-    bytes: Vec<u8>,
-    size: usize,
-    room: usize,
-    failed: bool,
-}
-
-impl Output for Store {
-    ghost contents = { λ s. None };
-
-    ghost has_failed = { λ s. s.failed };
-
-    fn write(&mut self, bytes: &[u8]) -> Result<usize, Failed> {
-        let n = self.size.min(bytes.len()).min(self.room);
-        if self.failed
-            || (n == 0 && !bytes.is_empty())
-            || self.bytes.extend_from_slice(&bytes[..n]).is_err()
-        {
-            self.failed = true;
-            return Err(Failed);
+/// One of the four writers.
+fn writer(alloc: Global, how: How, device: usize) -> Writes<Slow> {
+    let (fails_at, takes_none_at) = if how.device != device {
+        (0, 0)
+    } else {
+        if how.takes_none {
+            (0, how.fails_at)
+        } else {
+            (how.fails_at, 0)
         }
-        self.room -= n;
-        Ok(n)
-    }
+    };
+    Writes::new(Slow::new(alloc, how.at_most, fails_at, takes_none_at))
 }
 
 /// The dictionary with so many persons at most.
 fn dictionary(alloc: Global, most: &str) -> Result<Dictionary, Fail> {
     let text = format!(in alloc; "{FRONT}{most}{BACK}")?;
     match Dictionary::read(alloc, text.as_bytes()) {
-        Ok(d) => Ok(d),
+        Ok(dictionary) => Ok(dictionary),
         Err(_) => Err("a fault of the dictionary".into()),
     }
 }
 
-/// The bytes that were taken.
-fn bytes_of(store: Store) -> Vec<u8> {
-    let Store {
-        bytes,
-        size: _,
-        room: _,
-        failed: _,
-    } = store;
-    bytes
-}
-
-/// What a pass over pieces of these sizes answers, and what it has written.
-fn passed(
+/// The program of an outline, verified.
+fn verified<'a>(
     alloc: Global,
-    d: &Dictionary,
-    data: &[u8],
-    sizes: (usize, usize),
-    breaks: usize,
-    room: usize,
-) -> (Result<Totals, RunFault>, Vec<u8>) {
-    let mut input = Pieces {
-        bytes: data,
-        size: sizes.0,
-        breaks,
-        failed: false,
-    };
-    let mut output = Store {
-        bytes: Vec::new(alloc),
-        size: sizes.1,
-        room,
-        failed: false,
-    };
-    let answer = pass(alloc, d, &mut input, &mut output);
-    (answer, bytes_of(output))
+    dictionary: &'a Dictionary,
+    outline: &Outline<'_>,
+) -> Result<Verified<'a>, Fail> {
+    let mut parts = parts_of(alloc, outline)?;
+    add_shape(&mut parts, dictionary.shape())?;
+    let program = Program::from_parts(parts).ok_or("no program")?;
+    match verify(alloc, dictionary, program) {
+        Ok(verified) => Ok(verified),
+        Err(_) => Err("a refusal".into()),
+    }
 }
 
-/// A fault of this number at a line.
-fn fault(number: u8, line: u64) -> Result<Totals, RunFault> {
-    Err(RunFault { number, line })
+/// What was kept of an earlier run; a new store, where the text is empty.
+fn store_of(alloc: Global, verified: &Verified<'_>, kept: &str) -> Result<Store, Fail>
+    ensures { IfOk result (λ s. StoreFits verified.now.image s) }
+{
+    if kept.is_empty() {
+        Ok(Store::new(alloc, verified.program())?)
+    } else {
+        Ok(load(alloc, verified.program(), kept.as_bytes())?)
+    }
 }
 
-/// A row at reads and writes of one size.
-fn try_row(
+/// What a run over devices that behave so answers, and the four writers.
+fn ran(
+    alloc: Global,
+    verified: &Verified<'_>,
+    row: &Row,
+    how: How,
+) -> Result<(Result<Totals, RunFault>, [Slow; 4]), Fail> {
+    let store = store_of(alloc, verified, row.kept)?;
+    let mut input = Reads::new(Pieces {
+        bytes: row.data,
+        calls: 0,
+        how,
+    });
+    let mut out = writer(alloc, how, 1);
+    let mut listing = writer(alloc, how, 2);
+    let mut frequencies = writer(alloc, how, 3);
+    let mut decks = writer(alloc, how, 4);
+    let answer = run(
+        alloc,
+        verified,
+        store,
+        &mut input,
+        &mut out,
+        &mut listing,
+        &mut frequencies,
+        &mut decks,
+    );
+    let texts = [
+        out.into_inner(),
+        listing.into_inner(),
+        frequencies.into_inner(),
+        decks.into_inner(),
+    ];
+    Ok((answer, texts))
+}
+
+/// A run answers so, and each writer took the row's text, or a front of it where the answer is another.
+fn check(
     rt: &impl Abort,
     alloc: Global,
-    row: &(&str, [u64; 3], &str),
-    size: usize,
+    verified: &Verified<'_>,
+    row: &Row,
+    how: How,
+    want: Result<Totals, RunFault>,
 ) -> Result<(), Fail> {
-    let (most, [cases, lines, unseen], data) = *row;
-    let d = dictionary(alloc, most)?;
-    let (answer, bytes) = passed(alloc, &d, data.as_bytes(), (size, size), 9999, 9999);
-    let totals = Totals {
-        cases,
-        lines,
-        unseen,
-    };
-    assert_eq!(rt; answer, Ok(totals));
-    assert_eq!(rt; bytes.as_slice(), data.as_bytes());
+    let (answer, writers) = ran(alloc, verified, row, how)?;
+    assert_eq!(rt; answer, want);
+    let is_row = want == row.answer;
+    for k in 0..4 {
+        let text = row.texts[k].as_bytes();
+        assert!(rt; text.starts_with(writers[k].taken()));
+        assert!(rt; !is_row || text.len() == writers[k].taken().len());
+    }
     Ok(())
 }
 
 #[test]
-fn rows_are_copied_however_they_are_cut(rt: HostRuntime) -> Result<(), Fail> {
-    for size in [1, 2, 3, 7, 100_000] {
-        for row in &ROWS {
-            try_row(&rt, rt.alloc(), row, size)?;
+fn rows_come_out_however_they_are_cut(rt: HostRuntime) -> Result<(), Fail> {
+    for row in &ROWS {
+        let dictionary = dictionary(rt.alloc(), row.most)?;
+        let verified = verified(rt.alloc(), &dictionary, &row.program)?;
+        for at_most in [1, 2, 3, 7, 100_000] {
+            let how = How {
+                at_most,
+                device: 0,
+                fails_at: 0,
+                takes_none: false,
+            };
+            check(&rt, rt.alloc(), &verified, row, how, row.answer)?;
         }
     }
     Ok(())
 }
 
-#[test]
-fn bytes_that_are_no_text_are_refused(rt: HostRuntime) -> Result<(), Fail> {
-    let d = dictionary(rt.alloc(), "30")?;
-    for size in [1, 2, 3, 7, 100_000] {
-        let data = b"P00111 35\n\xff\n";
-        let (answer, bytes) = passed(rt.alloc(), &d, data, (size, size), 9999, 9999);
-        assert_eq!(rt; answer, fault(20, 2));
-        assert!(rt; bytes.is_empty());
+/// How many calls a device has in a sound run, where each moves one byte.
+fn calls_of(row: &Row, device: usize) -> u64
+    requires { device < 5 }
+{
+    if device == 0 {
+        (row.data.len() as u64).saturating_add(1)
+    } else {
+        row.texts[device - 1].len() as u64
     }
-    Ok(())
 }
 
-/// So many lines of one household.
-fn household(alloc: Global, lines: u32) -> Result<Vec<u8>, Fail> {
-    let mut data = Vec::new(alloc);
-    for _ in 0..lines {
-        data.extend_from_slice(b"P00111 35\n")?;
-    }
-    Ok(data)
-}
-
-/// What a pass over so many lines of one household answers, and how many bytes were written of them.
-fn pass_household(
+/// A device of a run fails at each of its calls, or takes none.
+fn fails_at_each(
     rt: &impl Abort,
     alloc: Global,
-    d: &Dictionary,
-    lines: u32,
-) -> Result<(Result<Totals, RunFault>, usize), Fail> {
-    let data = household(alloc, lines)?;
-    let (answer, bytes) = passed(alloc, d, &data, (1000, 1000), 999_999, 999_999);
-    assert!(rt; data.starts_with(&bytes));
-    Ok((answer, bytes.len()))
-}
-
-#[test]
-fn a_run_has_ten_thousand_lines_at_most(rt: HostRuntime) -> Result<(), Fail> {
-    let alloc = rt.alloc();
-    let d = dictionary(alloc, "30")?;
-    let totals = Totals {
-        cases: 1,
-        lines: 10_000,
-        unseen: 9970,
-    };
-    assert_eq!(rt;
-        pass_household(&rt, alloc, &d, 10_000)?,
-        (Ok(totals), 100_000)
-    );
-    assert_eq!(rt;
-        pass_household(&rt, alloc, &d, 10_001)?,
-        (fault(22, 10_001), 0)
-    );
-    Ok(())
-}
-
-/// What is counted of `DATA`.
-const TOTALS: Totals = Totals {
-    cases: 3,
-    lines: 5,
-    unseen: 1,
-};
-
-const DATA: &[u8] = b"P00111 35\r\nP00122\nX002\nP00331  5\nP004";
-
-#[test]
-fn a_device_fails_at_each_byte(rt: HostRuntime) -> Result<(), Fail> {
-    let d = dictionary(rt.alloc(), "30")?;
-    for k in 0..DATA.len() {
-        let (answer, bytes) = passed(rt.alloc(), &d, DATA, (1, 1), k, 9999);
-        assert_eq!(rt; answer, fault(70, 0));
-        assert!(rt; DATA.starts_with(&bytes));
-        let (answer, bytes) = passed(rt.alloc(), &d, DATA, (3, 1), 9999, k);
-        assert_eq!(rt; answer, fault(71, 0));
-        assert_eq!(rt; bytes.len(), k);
-        assert!(rt; DATA.starts_with(&bytes));
+    row: &Row,
+    device: usize,
+    takes_none: bool,
+) -> Result<(), Fail>
+    requires { device < 5 }
+{
+    let dictionary = dictionary(alloc, row.most)?;
+    let verified = verified(alloc, &dictionary, &row.program)?;
+    let number = if device == 0 { 70 } else { 71 };
+    let fault = Err(RunFault { number, line: 0 });
+    let calls = calls_of(row, device);
+    for call in 0..calls {
+        let how = How {
+            at_most: 1,
+            device,
+            fails_at: call + 1,
+            takes_none,
+        };
+        check(rt, alloc, &verified, row, how, fault)?;
     }
-    let (answer, bytes) = passed(rt.alloc(), &d, DATA, (3, 1), 9999, DATA.len());
-    assert_eq!(rt; answer, Ok(TOTALS));
-    assert_eq!(rt; bytes.as_slice(), DATA);
     Ok(())
 }
 
 #[test]
-fn memory_is_read_and_written(rt: HostRuntime) -> Result<(), Fail> {
-    let d = dictionary(rt.alloc(), "30")?;
-    let mut input = Reads::new(DATA);
-    let mut output = Writes::new(Vec::new(rt.alloc()));
-    let answer = pass(rt.alloc(), &d, &mut input, &mut output);
-    assert_eq!(rt; answer, Ok(TOTALS));
-    assert_eq!(rt; output.into_inner().as_slice(), DATA);
+fn each_device_fails_at_each_call(rt: HostRuntime) -> Result<(), Fail> {
+    for row in &ROWS {
+        for device in 0..5 {
+            fails_at_each(&rt, rt.alloc(), row, device, device > 2)?;
+        }
+    }
+    Ok(())
+}
+
+/// Data that stops a run without logic, at which call its reader fails, the fault, and what is written.
+const STOPPED: [(&[u8], u64, RunFault, &str); 4] = [
+    (
+        b"P00111 35\n\xff\n",
+        0,
+        RunFault {
+            number: 20,
+            line: 2,
+        },
+        "",
+    ),
+    (
+        b"P00111 35\nP00211\n\xff\n",
+        0,
+        RunFault {
+            number: 20,
+            line: 3,
+        },
+        "P00111 35\n",
+    ),
+    (
+        b"P00111 35\r\nP00122\nP002",
+        2,
+        RunFault {
+            number: 70,
+            line: 0,
+        },
+        "",
+    ),
+    (
+        b"P00111 35\nP00211\nP00311\n",
+        2,
+        RunFault {
+            number: 70,
+            line: 0,
+        },
+        "P00111 35\nP00211\n",
+    ),
+];
+
+#[test]
+fn what_was_given_is_written_before_a_fault(rt: HostRuntime) -> Result<(), Fail> {
+    let dictionary = dictionary(rt.alloc(), "30")?;
+    let verified = verified(rt.alloc(), &dictionary, &NOTHING)?;
+    for (data, fails_at, fault, out) in STOPPED {
+        let row = Row {
+            program: NOTHING,
+            most: "30",
+            kept: "",
+            data,
+            answer: Err(fault),
+            texts: [out, "CSEB LISTING 1\n", "", ""],
+        };
+        let how = How {
+            at_most: 100,
+            device: 0,
+            fails_at,
+            takes_none: false,
+        };
+        check(&rt, rt.alloc(), &verified, &row, how, row.answer)?;
+    }
+    Ok(())
+}
+
+/// Files that are copied whole: what is counted, and the bytes.
+const COPIED: [([u64; 3], &str); 8] = [
+    ([0, 1, 1], "\u{feff}"),
+    ([1, 1, 0], "\u{feff}P00111\n"),
+    ([1, 2, 0], "P00111\r35\nP00112 30\n"),
+    ([1, 1, 0], "P0011\u{e9} 3\u{20ac}\n"),
+    ([0, 2, 2], "\n\r\n"),
+    ([1, 1, 0], "P00111 35   \r\n"),
+    ([1, 2, 1], "P00111 35\nX001"),
+    ([1, 1, 0], "P00111 35            \u{1f600} \n"),
+];
+
+#[test]
+fn files_are_copied_byte_for_byte(rt: HostRuntime) -> Result<(), Fail> {
+    let dictionary = dictionary(rt.alloc(), "30")?;
+    let verified = verified(rt.alloc(), &dictionary, &NOTHING)?;
+    for ([cases, lines, unseen], data) in COPIED {
+        let row = Row {
+            program: NOTHING,
+            most: "30",
+            kept: "",
+            data: data.as_bytes(),
+            answer: Ok(Totals {
+                cases,
+                lines,
+                unseen,
+            }),
+            texts: [data, "", "", ""],
+        };
+        let how = How {
+            at_most: 3,
+            device: 0,
+            fails_at: 0,
+            takes_none: false,
+        };
+        let (answer, writers) = ran(rt.alloc(), &verified, &row, how)?;
+        assert_eq!(rt; answer, row.answer);
+        assert_eq!(rt; writers[0].taken(), row.data);
+    }
     Ok(())
 }

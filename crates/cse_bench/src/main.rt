@@ -1,11 +1,12 @@
 //! Times of what runs often: fields of 3, 8 and 15 columns, an image of 1,000,000 instructions, hot decks of
-//! 1,000,000 cells, 1,000,000 messages, and a file of 3,000,000 lines. They are taken where a word is given.
+//! 1,000,000 cells, 1,000,000 messages, and runs over 1,000,000 cases. They are taken where a word is given.
 #![tactic(auto)]
 
 mod cases;
 mod decks;
 mod fields;
 mod images;
+mod programs;
 mod reports;
 
 use std::{env, io};

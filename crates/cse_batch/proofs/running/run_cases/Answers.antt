@@ -2,7 +2,7 @@ use Rattle.std.proofs.Common.{◌∙◌, ap, length, refl, inl, inr}
 use Rattle.cse_output.proofs.GatherLaws.{Gathering-none}
 use Rattle.cse_report.specs.Held.{Held}
 use Rattle.cse_report.specs.declared.reports.Reports.{Reports}
-use Rattle.cse_batch.proofs.PassLaws.{byte_is}
+use Rattle.cse_batch.proofs.SoFarLaws.{byte_is}
 use Rattle.cse_batch.proofs.RunLaws.{halts_at_once, halts_fault, halts_memory, halts_writing, keeps_nothing, one_line, ran_all, running_case, running_none, unbegun}
 use Rattle.cse_batch.proofs.running.run_cases.Goals as goal
 use Rattle.cse_batch.proofs.running.run_cases.Goals.{then-written-via-then-written, then-written-via-else-written+then-listed}
@@ -10,21 +10,21 @@ use Rattle.cse_batch.proofs.running.run_cases.Goals.{then-written-via-then-writt
 pub returns-in_default-clause-err : goal.returns-in_default-clause-err
 returns-in_default-clause-err g c =
     let v = c.args.verified.now in
-    let nothing = Gathering-none (g.O.Output.contents c.args.out.now) (g.O.Output.has_failed c.args.out.now) c.args.written.now.waiting.items c.args.written.now.gave_up c.requires.none_written c.requires.going_written in
-    let none = Gathering-none (g.L.Output.contents c.args.listing.now) (g.L.Output.has_failed c.args.listing.now) c.args.listed.now.waiting.items c.args.listed.now.gave_up c.requires.none_listed c.requires.going_listed in
-    halts_at_once v c.args.store.now _ _ _ _ nothing (one_line v c.args.reports.now _ _ _ _ _ c.requires.no_reports none c.put_to.ensures.puts c.in_default.ensures.err)
+    let nothing = Gathering-none (g.O.Output.contents c.args.out.now) (g.O.Output.has_failed c.args.out.now) c.args.written.now.waiting.items c.args.written.now.gave_up c.requires.written.nothing_waits c.requires.written.going in
+    let none = Gathering-none (g.L.Output.contents c.args.listing.now) (g.L.Output.has_failed c.args.listing.now) c.args.listed.now.waiting.items c.args.listed.now.gave_up c.requires.listed.nothing_waits c.requires.listed.going in
+    halts_at_once v c.args.store.now _ _ _ _ nothing (one_line v c.args.reports.now _ _ _ _ _ c.requires.unreported.listing none c.put_to.ensures.puts c.in_default.ensures.err)
 
 pub runs-init : goal.runs-init
 runs-init g c =
     let v = c.args.verified.now in
     let first = c.args.store.now in
-    let nothing = Gathering-none (g.O.Output.contents c.args.out.now) (g.O.Output.has_failed c.args.out.now) c.args.written.now.waiting.items c.args.written.now.gave_up c.requires.none_written c.requires.going_written in
-    let none = Gathering-none (g.L.Output.contents c.args.listing.now) (g.L.Output.has_failed c.args.listing.now) c.args.listed.now.waiting.items c.args.listed.now.gave_up c.requires.none_listed c.requires.going_listed in
+    let nothing = Gathering-none (g.O.Output.contents c.args.out.now) (g.O.Output.has_failed c.args.out.now) c.args.written.now.waiting.items c.args.written.now.gave_up c.requires.written.nothing_waits c.requires.written.going in
+    let none = Gathering-none (g.L.Output.contents c.args.listing.now) (g.L.Output.has_failed c.args.listing.now) c.args.listed.now.waiting.items c.args.listed.now.gave_up c.requires.listed.nothing_waits c.requires.listed.going in
     let reports : Reports = record { listing = c.put_to.new.self; frequencies = c.args.reports.now.frequencies } in
-    let begins = keeps_nothing v first c.args.reports.now reports _ _ _ _ c.requires.no_reports c.requires.no_values none c.put_to.ensures.puts c.put_to.ensures.held refl in
+    let begins = keeps_nothing v first c.args.reports.now reports _ _ _ _ c.requires.unreported.listing c.requires.unreported.frequencies none c.put_to.ensures.puts c.put_to.ensures.held refl in
     record {
-      running = running_none v first _ _ _ _ _ _ c.requires.dictionary c.requires.start c.requires.open c.requires.unread c.requires.front (c.in-Ok.ensures.keeps (unbegun first) _ _ begins) nothing;
-      sound = c.requires.sound;
+      running = running_none v first _ _ _ _ _ _ c.requires.reader (c.in-Ok.ensures.keeps (unbegun first) _ _ begins) nothing;
+      sound = c.requires.reader.sound;
       same = refl;
       machine = c.in-Ok.ensures.same;
       store_fits = c.in-Ok.ensures.store_fits;

@@ -1,7 +1,7 @@
 //! A plain Rust program that does the work of a copy case by case, to compare times with those that
 //! `cse_bench` prints: 3,000,000 short lines in memory, three to a household.
 //!
-//!     rustc -O pass.rs && ./pass
+//!     rustc -O copy.rs && ./copy
 //!
 //! Each line is decoded to characters and padded to its record's length; lines with equal id columns
 //! (2 to 7) are gathered; each line of a gathered run is encoded again without trailing blanks past
@@ -10,7 +10,7 @@
 use std::io::{self, BufRead, BufReader, BufWriter, Write};
 use std::time::Instant;
 
-const RECORD_LENGTH: usize = 11;
+const RECORD_LENGTH: usize = 12;
 const IDS: std::ops::Range<usize> = 1..7;
 
 struct Line {
@@ -118,8 +118,8 @@ fn copy(input: &[u8], output: &mut Vec<u8>) -> io::Result<(usize, usize)> {
 
 fn main() -> io::Result<()> {
     let mut input = Vec::new();
-    for place in 0..3_000_000 {
-        writeln!(input, "P{:06}1 35", place / 3)?;
+    for i in 0..1_000_000 {
+        write!(input, "P{i:06}11 35\nP{i:06}22 33\nP{i:06}13\n")?;
     }
     for _ in 0..3 {
         let mut output = Vec::new();

@@ -1,4 +1,4 @@
--- What a pass knows, case by case.
+-- What is known of a data file, run of lines by run of lines.
 use Rattle.std.proofs.Common.{◌≡◌, ℕ, ◌+◌, ◌*◌, ◌^◌, ◌<◌, ◌≤◌, ◌⊎◌, Bool, true, false, List, [], ◌∷◌, ◌++◌, length, Option, None, Some, Ok, Err, Result, cond, refl, ap, sym, ◌∙◌, subst, arith, append_assoc, append-nil, length-append, add_assoc, zero-add, inl, inr}
 use Rattle.std.specs.Prelude.{sum_by, count_by}
 use Rattle.std.specs.Io.KnownBytes.{Consumes, IsAtEnd}
@@ -6,15 +6,12 @@ use Rattle.std.proofs.KnownBytes.{Consumes-trans, Consumes-nil}
 use Rattle.std.proofs.lemmas.List.{length-map}
 use Rattle.std.proofs.lemmas.List.Sums.{sum_by-append}
 use Rattle.std.proofs.lemmas.Bool.{cases_lt, eq-eqb, false≢true, ne_eqb}
-use Rattle.std.proofs.lemmas.Grind.{flat_map-append}
-use Rattle.std.specs.List.{flat_map}
 use Rattle.cse_dict.specs.Dictionary.{DictionaryText, shape_of}
 use Rattle.cse_lines.specs.declared.error.DataError.{DataError}
 use Rattle.cse_lines.specs.Line.{FileLine, lines_in}
 use Rattle.cse_lines.specs.Columns.{line_text}
 use Rattle.cse_lines.specs.Run.{RunText, written_run}
 use Rattle.cse_lines.specs.Runs.{given, given_of, fault_in, later_by, MayFollow}
-use Rattle.cse_lines.specs.Gathering.{bytes_of}
 use Rattle.cse_lines.specs.Reader.{ReaderText, IsError, IsFaulty, NeedsMore, held_of, is_front}
 use mir.Val.{bool_byte}
 use Rattle.std.proofs.lemmas.Bool.{MatchBool-at_true}
@@ -28,15 +25,14 @@ use Rattle.cse_case.proofs.CaseLaws.{length-unseen_of, unseen_below}
 use Rattle.cse_batch.specs.declared.totals.Totals.{Totals}
 use Rattle.cse_batch.specs.declared.totals.RunFault.{RunFault}
 use Rattle.cse_batch.specs.Totals.{is_case_run, unseen_in, totals_of}
-use Rattle.cse_batch.specs.Pass.{BreaksOff, Copied, IsDataFault, Stopped, Stops, given_bytes}
+use Rattle.cse_batch.specs.DataFaults.{BreaksOff, IsDataFault}
 
--- the cases so far: their bytes, and that the rest is given of what is held and may follow
+-- the runs so far: their bytes, and that the rest is given of what is held and may follow
 pub record SoFar (before now : Option (List ℕ)) (d : DictionaryText) (r : ReaderText) (text : List ℕ) (totals : Totals) : Type 0 where
   pub runs : List (List FileLine)
   pub dictionary : r.dictionary ≡ d
   pub reads : Consumes before now (text ++ held_of r)
   pub counted : r.reads ≤ length (text ++ held_of r)
-  pub text_is : text ≡ flat_map bytes_of runs
   pub totals_are : totals ≡ totals_of d runs
   pub lines_are : totals.lines ≡ r.lines
   pub few_cases : totals.cases ≤ totals.lines
@@ -44,12 +40,6 @@ pub record SoFar (before now : Option (List ℕ)) (d : DictionaryText) (r : Read
   pub few : r.lines ≤ 2 ^ 40 * 65536
   pub goes_on : (later : Bool) (more : List ℕ) → MayFollow r.ended later more → given d true later ((text ++ held_of r) ++ more) ≡ runs ++ given d (is_front r) later (held_of r ++ more)
   pub fault : (later : Bool) (more : List ℕ) → MayFollow r.ended later more → fault_in d true later ((text ++ held_of r) ++ more) ≡ later_by r.lines (fault_in d (is_front r) later (held_of r ++ more))
-
--- the cases so far, gathered before the output
-pub record Copying (before now start : Option (List ℕ)) (sound : Bool) (d : DictionaryText) (r : ReaderText) (g : Going) (totals : Totals) : Type 0 where
-  pub text : List ℕ
-  pub so_far : SoFar before now d r text totals
-  pub gathers : Gathering start sound g text
 
 later_by-none : (f : Option (ℕ × ℕ)) → later_by 0 f ≡ f
 later_by-none None = refl
@@ -77,7 +67,6 @@ SoFar-none now d r same none unended unread front =
       dictionary = same;
       reads = rw none (Consumes-nil now);
       counted = omega arith;
-      text_is = refl;
       totals_are = refl;
       lines_are = sym front;
       few_cases = omega arith;
@@ -109,7 +98,7 @@ pub byte_is : (t : Bool) → bool_byte t ≡ cond t 1 0
 byte_is true = refl
 byte_is false = refl
 
-pub at_most_one : (t : Bool) → cond t 1 0 ≤ 1
+at_most_one : (t : Bool) → cond t 1 0 ≤ 1
 at_most_one true = omega arith
 at_most_one false = omega arith
 
@@ -137,10 +126,10 @@ module _ (before now after : Option (List ℕ)) (d : DictionaryText) (r r' : Rea
     run_lines : length c.run.lines ≡ length gives.run.lines
     run_lines = ap (λ (x : RunText). length x.lines) gives.run.is ∙ length-map gives.run.lines (line_text d)
 
-    pub case_lines : 0 < length c.run.lines
+    case_lines : 0 < length c.run.lines
     case_lines = omega (arith, run_lines, gives.run.some)
 
-    pub case_unseen : length (unseen_lines c) ≤ length c.run.lines
+    case_unseen : length (unseen_lines c) ≤ length c.run.lines
     case_unseen = omega (arith, unseen_below (records_of c) c.run.first_line (types_of c.run.lines), length-map c.run.lines (λ l. l.record_number))
 
     dictionary_is : c.dictionary ≡ d
@@ -174,7 +163,6 @@ module _ (before now after : Option (List ℕ)) (d : DictionaryText) (r r' : Rea
           dictionary = n.dictionary ∙ s.dictionary;
           reads = subst (Consumes before after) shift (Consumes-trans before now after (text ++ held_of r) n.taken s.reads n.consumes);
           counted = omega (arith, s.counted, n.counted, ap length shift, length-append (text ++ held_of r) n.taken);
-          text_is = ap (λ l. l ++ written_run c.run) s.text_is ∙ (ap (λ l. flat_map bytes_of s.runs ++ l) (gives.run.written ∙ sym (append-nil (bytes_of gives.run.lines))) ∙ sym (flat_map-append bytes_of s.runs (gives.run.lines ∷ [])));
           totals_are = ap (λ (t : Totals). record { cases = t.cases + cond case 1 0; lines = t.lines + length c.run.lines; unseen = t.unseen + length (unseen_lines c) }) s.totals_are ∙ sym more;
           lines_are = omega (arith, s.lines_are, lines_now, run_lines);
           few_cases = omega (arith, s.few_cases, case_lines, one);
@@ -223,20 +211,6 @@ module _ (before now after : Option (List ℕ)) (d : DictionaryText) (r r' : Rea
     pub reads_all : Consumes before after text
     reads_all = subst (Consumes before after) all (Consumes-trans before now after (text ++ held_of r) n.taken s.reads n.consumes)
 
-    -- the end was read
-    pub SoFar-end : (start : Option (List ℕ)) (sound : Bool) (g : Going) → Gathering start sound g text → Copied d before after start sound g totals
-    SoFar-end start sound g gathers =
-        let follow : MayFollow r.ended true n.taken = λ e. (refl, (n.stays e).0) in
-        record {
-          bytes = text;
-          reads = subst (Consumes before after) all (Consumes-trans before now after (text ++ held_of r) n.taken s.reads n.consumes);
-          end = n.answers.end;
-          gathers = gathers;
-          none = ap (fault_in d true true) (sym all) ∙ (s.fault true n.taken follow ∙ (ap (λ l. later_by r.lines (fault_in d (is_front r) true l)) n.answers.none ∙ ap (later_by r.lines) (nothing_faulty d (is_front r))));
-          totals_are = s.totals_are ∙ ap (totals_of d) (sym (ap (given d true true) (sym all) ∙ (s.goes_on true n.taken follow ∙ (ap (λ l. s.runs ++ given d (is_front r) true l) n.answers.none
-              ∙ (ap (λ l. s.runs ++ l) (nothing_given d (is_front r)) ∙ append-nil s.runs)))));
-        }
-
   module _ (error : DataError) (n : NextCase now after r r' (Err error)) where
     pub is_error : IsError d (held_of r ++ n.taken) (is_front r) r'.ended r.lines error
     is_error = subst (λ (x : DictionaryText). IsError x (held_of r ++ n.taken) (is_front r) r'.ended r.lines error) s.dictionary n.answers
@@ -268,38 +242,6 @@ module _ (before now after : Option (List ℕ)) (d : DictionaryText) (r r' : Rea
     few_reads failed (inl f) = inl f
     few_reads failed (inr f) = inr (omega (arith, s.counted, n.counted, ap length whole, length-append (text ++ held_of r) n.taken))
 
-    -- no run is given of what is held: all that is given was put
-    all_put : given d (is_front r) r'.ended (held_of r ++ n.taken) ≡ [] → text ≡ given_bytes d r'.ended (text ++ (held_of r ++ n.taken))
-    all_put none =
-        s.text_is ∙ (ap (flat_map bytes_of) (sym (append-nil s.runs)) ∙ (ap (λ l. flat_map bytes_of (s.runs ++ l)) (sym none)
-        ∙ (ap (flat_map bytes_of) (sym (s.goes_on r'.ended n.taken (λ e. ((n.stays e).1, (n.stays e).0)))) ∙ ap (given_bytes d r'.ended) whole)))
-
-    -- an error was answered
-    pub SoFar-error : (start : Option (List ℕ)) (sound failed : Bool) (g : Going) → (r'.ended ≡ true → IsAtEnd after) → Gathering start sound g text
-        → (error.number ≡ 70 → (failed ≡ true) ⊎ (r'.reads ≡ 2 ^ 40))
-        → Stopped d before after start sound g failed (record { number = error.number; line = error.line })
-    SoFar-error start sound failed g end gathers reading = record {
-      text = text;
-      rest = held_of r ++ n.taken;
-      ended = r'.ended;
-      reads = subst (Consumes before after) whole (Consumes-trans before now after (text ++ held_of r) n.taken s.reads n.consumes);
-      end = end;
-      gathers = gathers;
-      faulty = λ low. data_fault (is_error.faulty low);
-      all = λ low. elim (cases_lt error.number 70) [
-        | inl below ↦ all_put (is_error.faulty below).none
-        | inr high ↦ all_put (is_error.needed (omega arith)).none
-      ];
-      needed = λ e. breaks_off (is_error.needed e);
-      reading = λ e. elim (reading e) [
-        | inl f ↦ inl f
-        | inr f ↦ inr (omega (arith, s.counted, n.counted, ap length whole, length-append (text ++ held_of r) n.taken))
-      ];
-      writing = λ e. elim (is_error.number (omega arith)) [ inl f ↦ absurd (omega arith) | inr f ↦ absurd (omega arith) ];
-      other = λ high. elim (is_error.number high) [ inl f ↦ inl f | inr f ↦ inr (inr f) ];
-      no_line = is_error.line;
-    }
-
 -- all of the text was written, or a front of it
 pub front_of : (r : Result (Unit {0}) Failed) (a b : Option (List ℕ)) (text : List ℕ) → WritesAll r a b text → AppendsFront a b text
 front_of (Ok x) a b text w = record { written = text; rest = []; is = sym (append-nil text); appends = w }
@@ -311,49 +253,6 @@ unfolding front_of
 all_of (Ok x) a b text sound failed w f e = refl
 all_of (Err x) a b text sound failed w f e = absurd (false≢true (sym e ∙ f))
 
--- what was gathered was written, or a front of it
-pub Stops-front : (d : DictionaryText) (before after start has : Option (List ℕ)) (sound input_failed output_failed : Bool) (g : Going) (fault : RunFault) → (s : Stopped d before after start sound g input_failed fault)
-    → (front : AppendsFront start has s.text) → (fault.number < 71 → output_failed ≡ false → front.rest ≡ []) → (fault.number ≡ 71 → output_failed ≡ true)
-    → Stops d before after start has input_failed output_failed fault
-Stops-front d before after start has sound input_failed output_failed g fault s front none writing =
-    let is : s.text ++ s.rest ≡ front.written ++ (front.rest ++ s.rest) = ap (λ l. l ++ s.rest) front.is ∙ append_assoc front.written front.rest s.rest in
-    record {
-      written = front.written;
-      rest = front.rest ++ s.rest;
-      ended = s.ended;
-      reads = subst (Consumes before after) is s.reads;
-      end = s.end;
-      writes = front.appends;
-      faulty = λ low. subst (λ (l : List ℕ). IsDataFault d s.ended l fault) is (s.faulty low);
-      all = λ low works.
-          let whole : s.text ≡ front.written = front.is ∙ (ap (λ l. front.written ++ l) (none low works) ∙ append-nil front.written) in
-          sym whole ∙ (s.all low ∙ ap (given_bytes d s.ended) is);
-      needed = λ e. subst (BreaksOff d s.ended) is (s.needed e);
-      reading = λ e. elim (s.reading e) [ inl f ↦ inl f | inr f ↦ inr (omega (arith, ap length is)) ];
-      writing = writing;
-      other = s.other;
-      no_line = s.no_line;
-    }
-
 -- once it was given up, a front was written and the device has failed
 pub gave_up : (start : Option (List ℕ)) (sound : Bool) (g : Going) (text : List ℕ) → g.gave_up ≡ true → Gathering start sound g text → GaveUp start g text
 gave_up start sound g text e h = MatchBool-at_true (GaveUp start g text) (Gathered start sound g text) e h
-
--- a write that failed after all was gathered
-pub Stops-end : (d : DictionaryText) (before after start has : Option (List ℕ)) (sound input_failed output_failed : Bool) (g : Going) (totals : Totals) → (s : Copied d before after start sound g totals)
-    → AppendsFront start has s.bytes → output_failed ≡ true → Stops d before after start has input_failed output_failed (record { number = 71; line = 0 })
-Stops-end d before after start has sound input_failed output_failed g totals s front failed = record {
-  written = front.written;
-  rest = front.rest;
-  ended = true;
-  reads = subst (Consumes before after) front.is s.reads;
-  end = λ e. s.end;
-  writes = front.appends;
-  faulty = λ low. absurd (omega arith);
-  all = λ low. absurd (omega arith);
-  needed = λ e. absurd (omega arith);
-  reading = λ e. absurd (omega arith);
-  writing = λ e. failed;
-  other = λ high. inr (inl refl);
-  no_line = λ high. refl;
-}
