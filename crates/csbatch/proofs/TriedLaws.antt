@@ -2,6 +2,7 @@
 use Rattle.std.proofs.Common.{◌≡◌, ℕ, List, [], ◌∷◌, ◌++◌, Option, None, refl, sym, ap, ◌∙◌, subst, append_assoc, append-nil}
 use Rattle.std.specs.Prelude.{map}
 use Rattle.std.specs.List.{flat_map}
+use Rattle.std.proofs.lemmas.Bool.{false≢true}
 use Rattle.std.proofs.lemmas.List.Concat.{flat_map-cons}
 use Rattle.cse_parts.specs.Image.{Image}
 use Rattle.cse_dict.specs.Dictionary.{DictionaryText, shape_of}
@@ -29,7 +30,7 @@ all_texts h (g ∷ given) =
 
 -- the application's preproc may begin
 pub preproc_fits : (v : VerifiedProgram) (store : Kept) → StoreFits v.image store → FitsFirst v preproc None store
-preproc_fits v store fits = record { present = λ (); there = tt; case_fits = tt; dictionary = tt; store_fits = fits }
+preproc_fits v store fits = record { present = λ e. absurd (false≢true (sym e)); there = tt; case_fits = tt; dictionary = tt; store_fits = fits }
 
 -- it went so
 pub goes_so : (v : VerifiedProgram) (first after : Kept) (before told : Reports) (n : ℕ) → first ≡ first_kept v.image → before.listing ≡ begun v.image.lists.messages
