@@ -1,8 +1,4 @@
-pub mod FitLaws
 pub mod PrintLaws
-pub mod RunLaws
-pub mod StartLaws
-pub mod TextLaws
-pub mod TurnLaws
+pub mod TriedLaws
 pub mod VerdictLaws
 pub mod VettedLaws

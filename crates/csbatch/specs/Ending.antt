@@ -1,15 +1,12 @@
 -- The exit status of what a command came to, and the numbers of faults.
 use Rattle.std.specs.Prelude.{ℕ, ◌==◌, ◌||◌, if◌then◌else◌, None, Result, Ok, Err}
+use Rattle.cse_batch.specs.declared.image.CheckFault.{CheckFault}
 use Rattle.cse_batch.specs.declared.image.CheckFault.TheVariants as checks
 use Rattle.csbatch.specs.declared.fault.Fault.{Fault}
 use Rattle.csbatch.specs.declared.outcome.Asked.{Asked}
 use Rattle.csbatch.specs.declared.outcome.Asked.TheVariants.{Open, Read, Write}
-use Rattle.csbatch.specs.declared.outcome.Done.{Done}
-use Rattle.csbatch.specs.declared.outcome.Done.TheVariants.{Tried, Accepted}
 use Rattle.csbatch.specs.declared.outcome.Stop.{Stop}
 use Rattle.csbatch.specs.declared.outcome.Stop.TheVariants.{Usage, Refused}
-use Rattle.csbatch.specs.declared.run.TryEnd.{TryEnd}
-use Rattle.csbatch.specs.declared.run.TryEnd.TheVariants.{Ended, Trap}
 use Rattle.csbatch.specs.declared.try_image.TryFault.{TryFault}
 use Rattle.csbatch.specs.declared.try_image.TryFault.TheVariants as tries
 use Rattle.csbatch.specs.declared.verify_image.VerifyFault.{VerifyFault}
@@ -21,15 +18,9 @@ use Rattle.csbatch.specs.declared.verify_image.VerifyFault.TheVariants as verifi
 abbrev pub status_of : ℕ → ℕ
 status_of number = if ((number == 70) || (number == 71)) || ((number == 72) || (number == 90)) then 3 else 1
 
--- of a run: 1 where it is stuck
-abbrev pub status_of_end : TryEnd → ℕ
-status_of_end (Ended steps) = 0
-status_of_end (Trap routine place) = 1
-
 -- of a command
-abbrev pub exit_status : Result Done Stop → ℕ
-exit_status (Ok (Tried end)) = status_of_end end
-exit_status (Ok Accepted) = 0
+abbrev pub exit_status : {T : Type 0} → Result T Stop → ℕ
+exit_status (Ok done) = 0
 exit_status (Err Usage) = 2
 exit_status (Err (Refused fault)) = status_of fault.number
 
@@ -52,10 +43,14 @@ number_of_try (tries.Refused r) = r.number
 number_of_try tries.Write = 71
 number_of_try tries.Memory = 90
 
+-- of an image that may not run
+abbrev pub number_of_check : CheckFault → ℕ
+number_of_check (checks.Image e) = e.number
+number_of_check (checks.Refused r) = r.number
+number_of_check checks.Memory = 90
+
 -- of a fault of `verify`
 abbrev pub number_of_verify : VerifyFault → ℕ
 number_of_verify (verifies.Dict e) = e.number
-number_of_verify (verifies.Check (checks.Image e)) = e.number
-number_of_verify (verifies.Check (checks.Refused r)) = r.number
-number_of_verify (verifies.Check checks.Memory) = 90
+number_of_verify (verifies.Check f) = number_of_check f
 number_of_verify verifies.Write = 71

@@ -1,11 +1,5 @@
 pub mod Ending
-pub mod Machine
 pub mod Printed
-pub mod Run
-pub mod State
-pub mod Step
 pub mod Tried
-pub mod Values
-pub mod Variables
 pub mod Verdict
 pub mod Vetted

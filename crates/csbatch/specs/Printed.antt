@@ -1,40 +1,31 @@
--- What `try` prints: the text of each listed message on a line, and then how the run ended.
-use Rattle.std.specs.Prelude.{ℕ, List, [], ◌∷◌, ◌++◌, Option, Some, None, slice_get, codes, decimal}
-use Rattle.std.specs.List.{flat_map, filter_map}
-use Rattle.std.specs.Option.{option_map_or}
-use Rattle.cse_parts.specs.declared.placeholders.Piece.{Piece}
-use Rattle.cse_parts.specs.declared.placeholders.Piece.TheVariants as pieces
-use Rattle.cse_parts.specs.Placeholders.{pieces_of}
+-- What `try` and `run` print.
+use Rattle.std.specs.Prelude.{ℕ, List, [], ◌∷◌, ◌++◌, codes, decimal}
+use Rattle.std.specs.List.{flat_map}
 use Rattle.cse_parts.specs.Image.{MessageLists}
-use Rattle.csbatch.specs.declared.run.TryEnd.{TryEnd}
-use Rattle.csbatch.specs.declared.run.TryEnd.TheVariants.{Ended, Trap}
+use Rattle.cse_report.specs.declared.argument.Arg.{Arg}
+use Rattle.cse_report.specs.Listing.{Gives}
+use Rattle.cse_report.specs.Held.{texts_of}
+use Rattle.cse_batch.specs.declared.totals.Totals.{Totals}
 
-abbrev pub plain_byte : Piece → Option ℕ
-plain_byte (pieces.Plain c) = Some c
-plain_byte (pieces.Number width zeros) = None
-plain_byte pieces.Text = None
+-- ---- `try`: the text of each listed message on a line, and then how many steps the run took
 
-abbrev pub plain_bytes : List Piece → List ℕ
-plain_bytes ps = filter_map plain_byte ps
+-- the texts of the messages that are listed, with their arguments, in order
+abbrev pub listed : List MessageLists → List (ℕ × List Arg) → List (List ℕ)
+listed messages given = flat_map (λ g. texts_of messages (Gives g.0 g.1)) given
 
--- the text of a message that takes no argument: %% stands for %
-unfoldable pub message_text : List ℕ → List ℕ
-message_text text = plain_bytes (pieces_of text)
+abbrev pub text_line : List ℕ → List ℕ
+text_line text = text ++ 10 ∷ []
 
--- the text of a message as the program has it
-abbrev pub text_at : List MessageLists → ℕ → List ℕ
-text_at messages m = option_map_or (λ x. x.text) (slice_get messages m) []
+abbrev pub text_lines : List (List ℕ) → List ℕ
+text_lines texts = flat_map text_line texts
 
--- the text of a message of the program, on a line
-abbrev pub message_line : List MessageLists → ℕ → List ℕ
-message_line messages m = message_text (text_at messages m) ++ 10 ∷ []
+abbrev pub steps_line : ℕ → List ℕ
+steps_line n = decimal n ++ codes " steps\n"
 
-abbrev pub message_lines : List MessageLists → List ℕ → List ℕ
-message_lines messages listed = flat_map (message_line messages) listed
+abbrev pub printed : List (List ℕ) → ℕ → List ℕ
+printed texts n = text_lines texts ++ steps_line n
 
-abbrev pub end_line : TryEnd → List ℕ
-end_line (Ended n) = decimal n ++ codes " steps\n"
-end_line (Trap routine place) = codes "trap routine " ++ decimal routine ++ codes " place " ++ decimal place ++ codes "\n"
+-- ---- `run`: what it counted
 
-abbrev pub printed : List MessageLists → List ℕ → TryEnd → List ℕ
-printed messages listed end = message_lines messages listed ++ end_line end
+abbrev pub totals_line : Totals → List ℕ
+totals_line t = codes "cases " ++ decimal t.cases ++ codes " lines " ++ decimal t.lines ++ codes " unseen " ++ decimal t.unseen ++ codes "\n"

@@ -20,14 +20,14 @@ const ENDS: &[(&[Line], &str)] = &[
             (Op::Add, 0, 0, 0),
             (Op::Pop, 0, 0, 0),
         ],
-        "no\ntrap routine 0 place 3\n",
+        "refused 66 routine 0 place 3\n",
     ),
     // Return with a cell on the stack, and Pop without one or of another kind.
-    (&[(Op::Number, 0, 0, 0)], "trap routine 0 place 1\n"),
-    (&[(Op::Pop, 0, 0, 0)], "trap routine 0 place 0\n"),
+    (&[(Op::Number, 0, 0, 0)], "refused 66 routine 0 place 1\n"),
+    (&[(Op::Pop, 0, 0, 0)], "refused 66 routine 0 place 0\n"),
     (
         &[(Op::Number, 0, 0, 0), (Op::Pop, 1, 0, 0)],
-        "trap routine 0 place 1\n",
+        "refused 66 routine 0 place 1\n",
     ),
     (&[(Op::Text, 0, 0, 0), (Op::Pop, 1, 0, 0)], "3 steps\n"),
     // A condition that holds goes on, and one that fails jumps.
@@ -67,13 +67,22 @@ const ENDS: &[(&[Line], &str)] = &[
         ],
         "3 steps\n",
     ),
+    (
+        &[
+            (Op::Number, 0, 0, 3),
+            (Op::Index, 0, 10, 4),
+            (Op::Message, 0, 0, 0),
+            (Op::Pop, 2, 0, 0),
+        ],
+        "3 steps\n",
+    ),
     // The array's first cell is 7: 7 - 10 is below 0.
     (
         &[
             (Op::Number, 0, 0, 1),
-            (Op::Index, 0, 2, 10),
+            (Op::Index, 0, 2, 13),
             (Op::Number, 0, 0, 1),
-            (Op::Index, 0, 2, 10),
+            (Op::Index, 0, 2, 12),
             (Op::LoadCell, 0, 0, 0),
             (Op::Number, 0, 0, 2),
             (Op::Subtract, 0, 0, 0),
@@ -81,10 +90,12 @@ const ENDS: &[(&[Line], &str)] = &[
             (Op::Compare, 2, 0, 0),
             (Op::JumpUnless, 0, 0, 11),
             (Op::Message, 0, 0, 0),
+            (Op::Jump, 0, 0, 13),
+            (Op::Pop, 2, 0, 0),
         ],
-        "yes\n12 steps\n",
+        "yes\n13 steps\n",
     ),
-    // An index of another size finds no cell.
+    // An index of another size names no cell.
     (
         &[
             (Op::Number, 0, 0, 1),
@@ -93,26 +104,30 @@ const ENDS: &[(&[Line], &str)] = &[
             (Op::Index, 0, 3, 5),
             (Op::LoadCell, 0, 0, 0),
         ],
-        "trap routine 0 place 4\n",
+        "refused 66 routine 0 place 4\n",
     ),
     // A cell keeps the number that is put there.
     (
         &[
             (Op::Number, 0, 0, 1),
-            (Op::Index, 0, 2, 13),
+            (Op::Index, 0, 2, 17),
             (Op::Number, 0, 0, 1),
-            (Op::Index, 0, 2, 13),
+            (Op::Index, 0, 2, 16),
             (Op::Number, 0, 0, 2),
             (Op::StoreCell, 0, 0, 0),
             (Op::Number, 0, 0, 1),
-            (Op::Index, 0, 2, 13),
+            (Op::Index, 0, 2, 17),
             (Op::Number, 0, 0, 1),
-            (Op::Index, 0, 2, 13),
+            (Op::Index, 0, 2, 16),
             (Op::LoadCell, 0, 0, 0),
-            (Op::JumpUnless, 0, 0, 13),
+            (Op::Number, 0, 0, 2),
+            (Op::Compare, 0, 0, 0),
+            (Op::JumpUnless, 0, 0, 15),
             (Op::Message, 0, 0, 0),
+            (Op::Jump, 0, 0, 17),
+            (Op::Pop, 2, 0, 0),
         ],
-        "yes\n14 steps\n",
+        "yes\n17 steps\n",
     ),
     // `A` and `A ` are the same text; a text is padded where it is stored.
     (
@@ -130,11 +145,11 @@ const ENDS: &[(&[Line], &str)] = &[
     // A number is no text of a global, and a text none of a local.
     (
         &[(Op::Number, 0, 0, 0), (Op::StoreGlobal, 0, 0, 1)],
-        "trap routine 0 place 1\n",
+        "refused 66 routine 0 place 1\n",
     ),
     (
         &[(Op::Text, 0, 0, 0), (Op::StoreLocal, 0, 0, 0)],
-        "trap routine 0 place 1\n",
+        "refused 66 routine 0 place 1\n",
     ),
     (
         &[
@@ -146,18 +161,22 @@ const ENDS: &[(&[Line], &str)] = &[
         ],
         "100%\n6 steps\n",
     ),
-    // A summary message isn't listed; a message with an argument and a call have no step yet.
+    // A summary message isn't listed; a message takes its arguments; no routine calls itself.
     (&[(Op::Message, 0, 0, 3)], "2 steps\n"),
-    (&[(Op::Message, 0, 0, 4)], "trap routine 0 place 0\n"),
-    (&[(Op::Call, 0, 0, 0)], "trap routine 0 place 0\n"),
-    // A bracket keeps the rules, and has no step yet; one without its end breaks them.
+    (&[(Op::Message, 0, 0, 4)], "refused 66 routine 0 place 0\n"),
+    (
+        &[(Op::Number, 0, 0, 2), (Op::Message, 0, 0, 4)],
+        "10\n3 steps\n",
+    ),
+    (&[(Op::Call, 0, 0, 0)], "refused 69 routine 0 place 0\n"),
+    // A bracket without turns, and one without its end.
     (
         &[
             (Op::Number, 0, 0, 0),
             (Op::LoopCount, 0, 0, 2),
             (Op::End, 0, 0, 1),
         ],
-        "trap routine 0 place 1\n",
+        "3 steps\n",
     ),
     (
         &[
@@ -196,5 +215,32 @@ fn runs_code(rt: HostRuntime) -> Result<(), Fail> {
         let text = printed_returning(rt.alloc(), front)?;
         assert_eq!(rt; text.as_str(), *want);
     }
+    Ok(())
+}
+
+/// Brackets, each within the one before and with one turn.
+fn nested(alloc: Global, depth: u32) -> Result<Vec<Instr>, Fail> {
+    let mut code = Vec::new(alloc);
+    for i in 0..depth {
+        code.push(instr(Op::Number, 0, 0, 1))?;
+        let end = depth.saturating_mul(3).saturating_sub(i + 1);
+        code.push(instr(Op::LoopCount, 0, 0, end))?;
+    }
+    for i in 0..depth {
+        let opener = (depth - i).saturating_mul(2).saturating_sub(1);
+        code.push(instr(Op::End, 0, 0, opener))?;
+    }
+    code.push(instr(Op::Return, 0, 0, 0))?;
+    Ok(code)
+}
+
+#[test]
+fn runs_nested_brackets(rt: HostRuntime) -> Result<(), Fail> {
+    let deep = nested(rt.alloc(), 64)?;
+    let text = printed(rt.alloc(), parts_of(rt.alloc(), &deep)?)?;
+    assert_eq!(rt; text.as_str(), "193 steps\n");
+    let deeper = nested(rt.alloc(), 65)?;
+    let text = printed(rt.alloc(), parts_of(rt.alloc(), &deeper)?)?;
+    assert_eq!(rt; text.as_str(), "refused 65 routine 0 place 129\n");
     Ok(())
 }

@@ -2,12 +2,14 @@
 
 ghost use Rattle.std.specs.Prelude.{◌≡◌};
 ghost use Rattle.cse_value.specs.Writing.{FailsAtErr};
-ghost use Rattle.csbatch.specs.Ending.{number_of_try, number_of_verify, plain_fault, status_of};
+ghost use Rattle.csbatch.specs.Ending.{number_of_check, number_of_try, number_of_verify, plain_fault, status_of};
 
 use crate::printing::write_parts;
 use crate::try_image::TryFault;
 use crate::verify_image::VerifyFault;
-use cse_batch::CheckFault;
+use cse_batch::{CheckFault, RunFault};
+use cse_decks::DeckError;
+use cse_dict::DictError;
 use cse_image::ImageError;
 use cse_value::{Failed, Output};
 use cse_verify::{NONE, Refusal};
@@ -74,18 +76,55 @@ impl Fault {
         }
     }
 
-    /// The fault of `verify`; a line 0 is not told.
+    /// A fault at a line; a line 0 is not told.
+    fn at_line(number: u8, line: u64) -> Fault
+        ensures { result.number ≡ number }
+    {
+        Fault {
+            line: told_line(line),
+            ..Fault::of_number(number)
+        }
+    }
+
+    /// A text that is no dictionary.
+    pub fn of_dictionary(error: DictError) -> Fault
+        ensures { result.number ≡ error.number }
+    {
+        Fault::at_line(error.number, error.line)
+    }
+
+    /// An image that may not run.
+    pub fn of_check(fault: CheckFault) -> Fault
+        ensures { result.number ≡ number_of_check fault }
+    {
+        match fault {
+            CheckFault::Image(error) => Fault::of_image(error),
+            CheckFault::Refused(refusal) => Fault::of_refusal(refusal),
+            CheckFault::Memory => Fault::of_number(NO_MEMORY),
+        }
+    }
+
+    /// A deck file that can't be loaded.
+    pub fn of_decks(error: DeckError) -> Fault
+        ensures { result.number ≡ error.number }
+    {
+        Fault::at_line(error.number, error.line)
+    }
+
+    /// What stopped a run.
+    pub fn of_run(fault: RunFault) -> Fault
+        ensures { result.number ≡ fault.number }
+    {
+        Fault::at_line(fault.number, fault.line)
+    }
+
+    /// The fault of `verify`.
     pub fn of_verify(fault: &VerifyFault) -> Fault
         ensures { result.number ≡ number_of_verify fault.now }
     {
         match fault {
-            VerifyFault::Dict(error) => Fault {
-                line: told_line(error.line),
-                ..Fault::of_number(error.number)
-            },
-            VerifyFault::Check(CheckFault::Image(error)) => Fault::of_image(*error),
-            VerifyFault::Check(CheckFault::Refused(refusal)) => Fault::of_refusal(*refusal),
-            VerifyFault::Check(CheckFault::Memory) => Fault::of_number(NO_MEMORY),
+            VerifyFault::Dict(error) => Fault::of_dictionary(*error),
+            VerifyFault::Check(fault) => Fault::of_check(*fault),
             VerifyFault::Write => Fault::of_number(WRITE_FAILED),
         }
     }

@@ -1,7 +1,7 @@
 //! Statuses and lines of faults, and words of command lines.
 
 use crate::fault::{Fault, NO_MEMORY, ending, fault_line};
-use crate::plan::{Command, PlanFault, plan};
+use crate::plan::{Command, PlanFault, RunPaths, plan};
 use cse_value::Writes;
 use std::test::Fail;
 
@@ -77,11 +77,25 @@ const WRONG: &[&[&str]] = &[
     &["try", "--help"],
     &["--version"],
     &["run"],
+    &["run", "d", "i", "a", "o", "l"],
+    &["run", "d", "i", "a", "o", "l", "f", "g"],
+    &["run", "d", "i", "a", "o", "l", "f", "--decks"],
     &["verify"],
     &["verify", "a", "b", "c"],
     &["verify", "--decks", "d", "a", "b"],
     &["verify", "a"],
 ];
+
+/// The files of a run.
+const FILES: RunPaths<'static> = RunPaths {
+    dict: "d",
+    image: "i",
+    data: "a",
+    out: "o",
+    list: "l",
+    freq: "f",
+    decks: None,
+};
 
 /// Words and what they ask for.
 const RIGHT: &[(&[&str], Command<'static>)] = &[
@@ -103,6 +117,14 @@ const RIGHT: &[(&[&str], Command<'static>)] = &[
     (&["try", "-"], Command::Try { image: "-" }),
     (&["try", ""], Command::Try { image: "" }),
     (&["try", "--", "-x"], Command::Try { image: "-x" }),
+    (&["run", "d", "i", "a", "o", "l", "f"], Command::Run(FILES)),
+    (
+        &["run", "d", "i", "a", "o", "l", "f", "--decks", "k"],
+        Command::Run(RunPaths {
+            decks: Some("k"),
+            ..FILES
+        }),
+    ),
 ];
 
 #[test]

@@ -4,36 +4,33 @@
 //! - `try_image`: `try`, from the bytes of an image to the messages of its preproc.
 //! - `verify_image`: `verify`, from a dictionary and an image to what is known of the program. `verdict`:
 //!   its lines.
-//! - `run`, `machine`: the run of an event, and one instruction of it. `operands`, `variables`,
-//!   `arrays`, `starting`, `words`, `cell`, `stack`: the values that it works on.
+//! - `run_image`: `run`, an image over a data file. `gathered`: bytes in memory.
+//! - `files`: the files of the commands.
 //! - `printing`, `fault`: lines for a device. `outcome`: the exit status.
 #![tactic(auto)]
 
-mod arrays;
-mod cell;
 mod fault;
-mod machine;
-mod operands;
+mod files;
+mod gathered;
 mod outcome;
 mod plan;
 mod printing;
-mod run;
-mod stack;
-mod starting;
+mod run_image;
 mod try_image;
-mod variables;
 mod verdict;
 mod verify_image;
-mod words;
 
 use cse_value::Writes;
 use fault::{Fault, NO_MEMORY, WRITE_FAILED, fault_line};
-use outcome::{Asked, Done, Stop, exit_status};
-use plan::{Command, PlanFault, plan};
-use std::io::{self, BufWriter, ErrorKind, Read, Write};
+use files::file_bytes;
+use outcome::{Asked, Stop, exit_status};
+use plan::{Command, PlanFault, RunPaths, plan};
+use printing::write_totals;
+use run_image::run_files;
+use std::env;
+use std::io::{self, BufWriter, ErrorKind, Write};
 use std::process::ExitCode;
 use std::rt::{Env, Files};
-use std::{env, fs};
 use try_image::try_to;
 use verify_image::verify_to;
 
@@ -44,15 +41,23 @@ mod fault_tests;
 #[cfg(test)]
 mod file_tests;
 #[cfg(test)]
+mod run_tests;
+#[cfg(test)]
 mod tests;
+#[cfg(test)]
+mod try_tests;
 #[cfg(test)]
 mod verify_tests;
 
 const USAGE: &str = "usage: csbatch try IMAGE
        csbatch verify DICT IMAGE
+       csbatch run DICT IMAGE DATA OUT LIST FREQ [--decks F]
 
   try IMAGE           run the application's preproc of an image, and print its messages and its steps
-  verify DICT IMAGE   tell whether an image may run with a dictionary, and how many steps it may take";
+  verify DICT IMAGE   tell whether an image may run with a dictionary, and how many steps it may take
+  run DICT IMAGE DATA OUT LIST FREQ
+                      run an image over a data file, and write its lines, the listing and the frequencies
+    --decks F         begin with the hot decks of a file, where it is there, and write them to it";
 
 fn main(rt: HostRuntime) -> ExitCode {
     let outcome = carry_out(&rt);
@@ -69,7 +74,7 @@ fn main(rt: HostRuntime) -> ExitCode {
 }
 
 /// Does what the words ask for.
-fn carry_out<R: Env + Files + Print + AllocGlobal>(rt: &R) -> Result<Done, Stop> {
+fn carry_out<R: Env + Files + Print + AllocGlobal>(rt: &R) -> Result<(), Stop> {
     let given = match words_given(rt) {
         Ok(given) => given,
         Err(error) if error.kind() == ErrorKind::OutOfMemory => {
@@ -89,10 +94,11 @@ fn carry_out<R: Env + Files + Print + AllocGlobal>(rt: &R) -> Result<Done, Stop>
 fn do_planned<R: Files + Print + AllocGlobal>(
     rt: &R,
     planned: Result<Command<'_>, PlanFault>,
-) -> Result<Done, Stop> {
+) -> Result<(), Stop> {
     match planned {
         Ok(Command::Try { image }) => try_file(rt, image),
         Ok(Command::Verify { dict, image }) => verify_files(rt, dict, image),
+        Ok(Command::Run(paths)) => run_and_tell(rt, &paths),
         Err(PlanFault::Usage) => Err(Stop::Usage),
         Err(PlanFault::Memory) => Err(Stop::of_number(NO_MEMORY)),
     }
@@ -107,20 +113,19 @@ fn words_given<R: Env + AllocGlobal>(rt: &R) -> io::Result<Vec<String>> {
     Ok(words)
 }
 
-/// `try`, and how the run ended.
-fn try_file<R: Files + Print + AllocGlobal>(rt: &R, path: &str) -> Result<Done, Stop> {
+/// `try`.
+fn try_file<R: Files + Print + AllocGlobal>(rt: &R, path: &str) -> Result<(), Stop> {
     let image = file_bytes(rt, path)?;
     let buffer = match BufWriter::new(rt.alloc(), io::writer(rt)) {
         Ok(buffer) => buffer,
         Err(error) => return Err(Stop::of_failure(Asked::Write, error.kind())),
     };
     let mut out = Writes::new(buffer);
-    let end = match try_to(rt.alloc(), &image, &mut out) {
-        Ok(end) => end,
-        Err(fault) => return Err(Stop::Refused(Fault::of_try(&fault))),
-    };
+    if let Err(fault) = try_to(rt.alloc(), &image, &mut out) {
+        return Err(Stop::Refused(Fault::of_try(&fault)));
+    }
     match out.into_inner().flush() {
-        Ok(()) => Ok(Done::Tried(end)),
+        Ok(()) => Ok(()),
         Err(_) => Err(Stop::of_number(WRITE_FAILED)),
     }
 }
@@ -130,7 +135,7 @@ fn verify_files<R: Files + Print + AllocGlobal>(
     rt: &R,
     dict: &str,
     image: &str,
-) -> Result<Done, Stop> {
+) -> Result<(), Stop> {
     let dict = file_bytes(rt, dict)?;
     let image = file_bytes(rt, image)?;
     let buffer = match BufWriter::new(rt.alloc(), io::writer(rt)) {
@@ -142,20 +147,17 @@ fn verify_files<R: Files + Print + AllocGlobal>(
         return Err(Stop::Refused(Fault::of_verify(&fault)));
     }
     match out.into_inner().flush() {
-        Ok(()) => Ok(Done::Accepted),
+        Ok(()) => Ok(()),
         Err(_) => Err(Stop::of_number(WRITE_FAILED)),
     }
 }
 
-/// All bytes of a file: 72 where it can't be opened, 70 where a read fails.
-fn file_bytes<R: Files + AllocGlobal>(rt: &R, path: &str) -> Result<Vec<u8>, Stop> {
-    let mut file = match fs::open(rt, path) {
-        Ok(file) => file,
-        Err(error) => return Err(Stop::of_failure(Asked::Open, error.kind())),
-    };
-    let mut bytes = Vec::new(rt.alloc());
-    match file.read_to_end(&mut bytes) {
-        Ok(_) => Ok(bytes),
-        Err(error) => Err(Stop::of_failure(Asked::Read, error.kind())),
+/// `run`, and what it counted.
+fn run_and_tell<R: Files + Print + AllocGlobal>(rt: &R, paths: &RunPaths<'_>) -> Result<(), Stop> {
+    let totals = run_files(rt, paths)?;
+    let mut out = Writes::new(io::writer(rt));
+    match write_totals(totals, &mut out) {
+        Ok(()) => Ok(()),
+        Err(_) => Err(Stop::of_number(WRITE_FAILED)),
     }
 }

@@ -2,20 +2,10 @@
 
 ghost use Rattle.std.specs.Prelude.{◌≡◌, ◌≢◌};
 ghost use Rattle.std.specs.declared.io.ErrorKind.TheVariants.{OutOfMemory};
-ghost use Rattle.csbatch.specs.Ending.{exit_status, number_asked, plain_fault, status_of_end};
+ghost use Rattle.csbatch.specs.Ending.{exit_status, number_asked, plain_fault};
 
 use crate::fault::{Fault, NO_MEMORY, NOT_OPENED, READ_FAILED, WRITE_FAILED, ending};
-use crate::run::TryEnd;
 use std::io::ErrorKind;
-
-/// What a command has done.
-#[derive(Clone, Copy, Debug, PartialEq, Eq)]
-pub enum Done {
-    /// `try` ran the preproc of an image to this end.
-    Tried(TryEnd),
-    /// `verify` accepted an image.
-    Accepted,
-}
 
 /// Why a command has not done its work.
 #[derive(Clone, Copy, Debug, PartialEq, Eq)]
@@ -66,24 +56,13 @@ fn number_asked(asked: Asked) -> u8
     }
 }
 
-/// The exit status of a run: 0 where it ended, and 1 where it is stuck.
-fn status_of_end(end: TryEnd) -> u8
-    ensures { result ≡ status_of_end end }
-{
-    match end {
-        TryEnd::Ended(_) => 0,
-        TryEnd::Trap { .. } => 1,
-    }
-}
-
-/// The exit status of a command: 0 where its work is done, 1 where a run is stuck; 2 for words that are no
-/// command; and else that of the fault's number.
-pub fn exit_status(outcome: &Result<Done, Stop>) -> u8
+/// The exit status of a command: 0 where its work is done; 2 for words that are no command; and else that of
+/// the fault's number.
+pub fn exit_status(outcome: &Result<(), Stop>) -> u8
     ensures { result ≡ exit_status outcome.now }
 {
     match outcome {
-        Ok(Done::Tried(end)) => status_of_end(*end),
-        Ok(Done::Accepted) => 0,
+        Ok(()) => 0,
         Err(Stop::Usage) => 2,
         Err(Stop::Refused(fault)) => ending(fault.number),
     }

@@ -11,6 +11,21 @@ pub enum Command<'a> {
     Try { image: &'a str },
     /// `csbatch verify DICT IMAGE`: tell whether an image may run with a dictionary.
     Verify { dict: &'a str, image: &'a str },
+    /// `csbatch run DICT IMAGE DATA OUT LIST FREQ [--decks F]`: run an image over a data file.
+    Run(RunPaths<'a>),
+}
+
+/// The files of `run`.
+#[derive(Clone, Copy, Debug, PartialEq, Eq)]
+pub struct RunPaths<'a> {
+    pub dict: &'a str,
+    pub image: &'a str,
+    pub data: &'a str,
+    pub out: &'a str,
+    pub list: &'a str,
+    pub freq: &'a str,
+    /// The hot decks that are kept between runs.
+    pub decks: Option<&'a str>,
 }
 
 /// Why there is no command.
@@ -49,6 +64,7 @@ fn command_of<'a>(matches: &ArgMatches<'a>) -> Result<Command<'a>, PlanFault> {
     match matches.subcommand() {
         Some(("try", matches)) => try_of(matches),
         Some(("verify", matches)) => verify_of(matches),
+        Some(("run", matches)) => run_of(matches),
         _ => Err(PlanFault::Usage),
     }
 }
@@ -59,13 +75,14 @@ fn matches_of<'a>(alloc: Global, words: &'a [&'a str]) -> Result<ArgMatches<'a>,
     Ok(program.try_get_matches_from(words)?)
 }
 
-/// The words of both commands.
+/// The words of all commands.
 fn program_words<'a>(alloc: Global) -> Result<Clap<'a>, AllocError> {
     let words = try_words(alloc)?;
     let program = Clap::new(alloc, "csbatch")
         .no_binary_name(true)
         .subcommand(words)?;
-    program.subcommand(verify_words(alloc)?)
+    let program = program.subcommand(verify_words(alloc)?)?;
+    program.subcommand(run_words(alloc)?)
 }
 
 /// A path that has to be given.
@@ -85,6 +102,22 @@ fn verify_words<'a>(alloc: Global) -> Result<Clap<'a>, AllocError> {
         .arg(path(alloc, "IMAGE"))
 }
 
+/// `run DICT IMAGE DATA OUT LIST FREQ [--decks F]`.
+fn run_words<'a>(alloc: Global) -> Result<Clap<'a>, AllocError> {
+    let read = Clap::new(alloc, "run")
+        .arg(path(alloc, "DICT"))?
+        .arg(path(alloc, "IMAGE"))?
+        .arg(path(alloc, "DATA"))?;
+    let written = read
+        .arg(path(alloc, "OUT"))?
+        .arg(path(alloc, "LIST"))?
+        .arg(path(alloc, "FREQ"))?;
+    let decks = Arg::new(alloc, "decks")
+        .long("decks")
+        .action(ArgAction::Set);
+    written.arg(decks)
+}
+
 fn try_of<'a>(matches: &ArgMatches<'a>) -> Result<Command<'a>, PlanFault> {
     match matches.get_str("IMAGE") {
         Some(image) => Ok(Command::Try { image }),
@@ -97,4 +130,17 @@ fn verify_of<'a>(matches: &ArgMatches<'a>) -> Result<Command<'a>, PlanFault> {
         (Some(dict), Some(image)) => Ok(Command::Verify { dict, image }),
         _ => Err(PlanFault::Usage),
     }
+}
+
+fn run_of<'a>(matches: &ArgMatches<'a>) -> Result<Command<'a>, PlanFault> {
+    let given = |name: &str| matches.get_str(name).ok_or(PlanFault::Usage);
+    Ok(Command::Run(RunPaths {
+        dict: given("DICT")?,
+        image: given("IMAGE")?,
+        data: given("DATA")?,
+        out: given("OUT")?,
+        list: given("LIST")?,
+        freq: given("FREQ")?,
+        decks: matches.get_str("decks"),
+    }))
 }

@@ -1,14 +1,12 @@
-//! Lines for a device: messages that take no argument, and how a run ended.
+//! Lines for a device: the texts of messages, how many steps an event took, and what a run counted.
 
-ghost use Rattle.std.specs.Prelude.{◌≡◌, [], ◌∷◌, map};
+ghost use Rattle.std.specs.Prelude.{◌≡◌, [], ◌∷◌};
 ghost use Rattle.std.specs.List.{flat_map};
 ghost use Rattle.cse_value.specs.Writing.{WritesAll, FailsAtErr};
-ghost use Rattle.cse_parts.specs.Image.{message_lists};
-ghost use Rattle.csbatch.specs.Printed.{plain_bytes, message_text, text_at, message_line, message_lines, end_line, printed};
+ghost use Rattle.csbatch.specs.Printed.{text_line, text_lines, totals_line, steps_line, printed};
 
-use crate::run::TryEnd;
-use cse_image::Message;
-use cse_parts::placeholders::{Piece, Pieces};
+use cse_batch::Totals;
+use cse_report::Listing;
 use cse_value::{Failed, Output, write_all};
 use itoa::Buffer;
 
@@ -23,93 +21,68 @@ pub fn write_parts<W: Output>(parts: &[&[u8]], out: &mut W) -> Result<(), Failed
     Ok(())
 }
 
-/// Writes the text of a message that takes no argument.
-#[tactic(auto, unfolding(crate::specs::Printed::message_text))]
-fn write_text<W: Output>(text: &[u8], out: &mut W) -> Result<(), Failed>
-    ensures bytes { WritesAll result (W.contents out.old) (W.contents out.new) (message_text text.now) }
+/// Writes a text on a line.
+fn write_text<W: Output>(text: &str, out: &mut W) -> Result<(), Failed>
+    ensures bytes { WritesAll result (W.contents out.old) (W.contents out.new) (text_line text.now) }
     ensures failed { FailsAtErr result (W.has_failed out.old) (W.has_failed out.new) }
 {
-    for piece in Pieces::new(text) {
-        write_piece(piece, out)?;
-    }
-    Ok(())
-}
-
-/// Writes a piece that stands for itself.
-fn write_piece<W: Output>(piece: Piece, out: &mut W) -> Result<(), Failed>
-    ensures bytes { WritesAll result (W.contents out.old) (W.contents out.new) (plain_bytes (piece ∷ [])) }
-    ensures failed { FailsAtErr result (W.has_failed out.old) (W.has_failed out.new) }
-{
-    match piece {
-        Piece::Plain(byte) => write_all(out, &[byte]),
-        _ => Ok(()),
-    }
-}
-
-/// Writes the text of a message on a line.
-fn write_message<W: Output>(messages: &[Message], index: u32, out: &mut W) -> Result<(), Failed>
-    ensures bytes { WritesAll result (W.contents out.old) (W.contents out.new) (message_line (map message_lists messages.now) index) }
-    ensures failed { FailsAtErr result (W.has_failed out.old) (W.has_failed out.new) }
-{
-    write_text(text_at(messages, index), out)?;
+    write_all(out, text.as_bytes())?;
     write_all(out, b"\n")
 }
 
-/// The text of a message as the program has it.
-fn text_at(messages: &[Message], index: u32) -> &[u8]
-    ensures { result.now ≡ text_at (map message_lists messages.now) index }
-{
-    match messages.get(index as usize) {
-        Some(message) => message.text.as_bytes(),
-        None => b"",
-    }
-}
-
-/// Writes each listed message on a line.
-fn write_messages<W: Output>(
-    messages: &[Message],
-    listed: &[u32],
-    out: &mut W,
-) -> Result<(), Failed>
-    ensures bytes { WritesAll result (W.contents out.old) (W.contents out.new) (message_lines (map message_lists messages.now) listed.now) }
+/// Writes the texts of the messages that are held, each on a line.
+fn write_texts<W: Output>(listing: &Listing, out: &mut W) -> Result<(), Failed>
+    ensures bytes { WritesAll result (W.contents out.old) (W.contents out.new) (text_lines listing.now.texts) }
     ensures failed { FailsAtErr result (W.has_failed out.old) (W.has_failed out.new) }
 {
-    for index in listed {
-        write_message(messages, *index, out)?;
+    let mut number = 0;
+    'texts: while let Some(text) = listing.text(number) {
+        write_text(text, out)?;
+        number += 1;
     }
     Ok(())
 }
 
-/// Writes how a run ended.
-fn write_end<W: Output>(end: TryEnd, out: &mut W) -> Result<(), Failed>
-    ensures bytes { WritesAll result (W.contents out.old) (W.contents out.new) (end_line end) }
+/// Writes how many steps a run took.
+fn write_steps<W: Output>(steps: u64, out: &mut W) -> Result<(), Failed>
+    ensures bytes { WritesAll result (W.contents out.old) (W.contents out.new) (steps_line steps) }
+    ensures failed { FailsAtErr result (W.has_failed out.old) (W.has_failed out.new) }
+{
+    let mut buffer = Buffer::new();
+    let steps = buffer.format(steps).as_bytes();
+    write_parts(&[steps, b" steps\n"], out)
+}
+
+/// Writes the texts of the messages that are held, and how many steps the run took.
+pub fn print<W: Output>(listing: &Listing, steps: u64, out: &mut W) -> Result<(), Failed>
+    ensures bytes { WritesAll result (W.contents out.old) (W.contents out.new) (printed listing.now.texts steps) }
+    ensures failed { FailsAtErr result (W.has_failed out.old) (W.has_failed out.new) }
+{
+    write_texts(listing, out)?;
+    write_steps(steps, out)
+}
+
+/// Writes what a run counted.
+pub fn write_totals<W: Output>(totals: Totals, out: &mut W) -> Result<(), Failed>
+    ensures bytes { WritesAll result (W.contents out.old) (W.contents out.new) (totals_line totals) }
     ensures failed { FailsAtErr result (W.has_failed out.old) (W.has_failed out.new) }
 {
     let mut first = Buffer::new();
     let mut second = Buffer::new();
-    match end {
-        TryEnd::Ended(steps) => {
-            let steps = first.format(steps).as_bytes();
-            write_parts(&[steps, b" steps\n"], out)
-        }
-        TryEnd::Trap { routine, at } => {
-            let routine = first.format(routine).as_bytes();
-            let place = second.format(at).as_bytes();
-            write_parts(&[b"trap routine ", routine, b" place ", place, b"\n"], out)
-        }
-    }
-}
-
-/// Writes the listed messages, and how the run ended.
-pub fn print<W: Output>(
-    messages: &[Message],
-    listed: &[u32],
-    end: TryEnd,
-    out: &mut W,
-) -> Result<(), Failed>
-    ensures bytes { WritesAll result (W.contents out.old) (W.contents out.new) (printed (map message_lists messages.now) listed.now end) }
-    ensures failed { FailsAtErr result (W.has_failed out.old) (W.has_failed out.new) }
-{
-    write_messages(messages, listed, out)?;
-    write_end(end, out)
+    let mut third = Buffer::new();
+    let cases = first.format(totals.cases).as_bytes();
+    let lines = second.format(totals.lines).as_bytes();
+    let unseen = third.format(totals.unseen).as_bytes();
+    write_parts(
+        &[
+            b"cases ",
+            cases,
+            b" lines ",
+            lines,
+            b" unseen ",
+            unseen,
+            b"\n",
+        ],
+        out,
+    )
 }

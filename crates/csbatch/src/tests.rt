@@ -1,7 +1,6 @@
 //! Worked images and what `try` prints of them.
 
 use crate::fault::{Fault, fault_line};
-use crate::run::TryEnd;
 use crate::try_image::{TryFault, try_to};
 use cse_image::{
     Ambient, Array, EventCode, EventEntry, Gift, GlobalKind, GlobalVariable, Instr, Local,
@@ -25,9 +24,9 @@ const HELLO: [u8; 94] = [
     40, 0, 0, 0, 0, 0, 0, 0, // Return
 ];
 
-/// Parts of a program whose preproc is this code, with the constants 0, 1, 10, the texts `A` and
+/// Parts of a program whose preproc is this code, with the constants 0, 1, 10, 11, the texts `A` and
 /// `A `, a number and a text of three characters as globals and as locals, an array of four cells that
-/// begins with 7, and the messages `yes`, `no` and `100%%`.
+/// begins with 7, and the messages `yes`, `no`, `100%%`, one that is counted, and `%d`.
 pub fn parts_of(alloc: Global, code: &[Instr]) -> Result<Parts, AllocError> {
     parts_with(alloc, Ambient::Run, Gift::Nothing, 0, code)
 }
@@ -45,7 +44,7 @@ fn parts_with(
         items: Vec::new(alloc),
         sets: Vec::new(alloc),
         order: Vec::new(alloc),
-        constants: Vec::from_slice(alloc, &[0, 1, 10])?,
+        constants: Vec::from_slice(alloc, &[0, 1, 10, 11])?,
         limits: Vec::from_slice(alloc, &[1])?,
         texts: texts_of(alloc)?,
         globals: globals_of(alloc)?,
@@ -175,7 +174,7 @@ fn printed_both(alloc: Global, front: &[u8], rest: &[u8]) -> Result<String, Fail
     printed_of(alloc, &image)
 }
 
-fn printed_of(alloc: Global, image: &[u8]) -> Result<String, Fail> {
+pub fn printed_of(alloc: Global, image: &[u8]) -> Result<String, Fail> {
     let mut out = Writes::new(Vec::new(alloc));
     let result = try_to(alloc, image, &mut out);
     let mut bytes: Vec<u8> = out.into_inner();
@@ -288,15 +287,20 @@ fn refuses_programs(rt: HostRuntime) -> Result<(), Fail> {
     Ok(())
 }
 
-/// Events whose routine isn't there, wants a case, or gives something.
+/// Events whose routine isn't there, wants a case, or gives something that it doesn't have.
 const EVENTS: &[(Ambient, Gift, u32, &str)] = &[
-    (Ambient::Run, Gift::Nothing, 7, "trap routine 7 place 0\n"),
-    (Ambient::Case, Gift::Nothing, 0, "trap routine 0 place 0\n"),
-    (Ambient::Run, Gift::Number, 0, "trap routine 0 place 0\n"),
+    (Ambient::Run, Gift::Nothing, 7, "refused 69\n"),
+    (Ambient::Case, Gift::Nothing, 0, "refused 69\n"),
+    (
+        Ambient::Run,
+        Gift::Number,
+        0,
+        "refused 66 routine 0 place 1\n",
+    ),
 ];
 
 #[test]
-fn traps_at_events(rt: HostRuntime) -> Result<(), Fail> {
+fn refuses_events(rt: HostRuntime) -> Result<(), Fail> {
     let alloc = rt.alloc();
     for (ambient, gives, routine, want) in EVENTS {
         let parts = parts_with(alloc, *ambient, *gives, *routine, &says_yes())?;
@@ -347,8 +351,8 @@ fn tells_failed_writes(rt: HostRuntime) -> Result<(), Fail> {
             } = out.into_inner();
             let text = b"Hi\n2 steps\n".as_slice();
             match result {
-                Ok(end) => {
-                    assert_eq!(rt; end, TryEnd::Ended(2));
+                Ok(steps) => {
+                    assert_eq!(rt; steps, 2);
                     assert_eq!(rt; taken.as_slice(), text);
                 }
                 Err(TryFault::Write) => {

@@ -12,10 +12,10 @@ use std::alloc::{AllocError, Global};
 use std::test::Fail;
 
 /// The dictionary with neither records nor items.
-const EMPTY: &[u8] = b"[Dictionary]\nName=T\n[Level]\nName=L\n";
+pub const EMPTY: &[u8] = b"[Dictionary]\nName=T\n[Level]\nName=L\n";
 
 /// A household with at most 30 persons; of each person sex, relation, age and a weight with a decimal.
-const SAMPLE: &[u8] = b"[Dictionary]\nName=SAMPLE_DICT\nRecordTypeStart=1\nRecordTypeLen=1\n\
+pub const SAMPLE: &[u8] = b"[Dictionary]\nName=SAMPLE_DICT\nRecordTypeStart=1\nRecordTypeLen=1\n\
 [Level]\nName=QUEST\n[IdItems]\n[Item]\nName=HH\nStart=2\nLen=3\nZeroFill=Yes\n\
 [Record]\nName=PERSON\nRecordTypeValue='P'\nRecordLen=12\nMaxRecords=30\n\
 [Item]\nName=SEX\nStart=5\nLen=1\n[ValueSet]\nName=SEX_VS\nValue=1;Male\nValue=2;Female\n\
@@ -36,17 +36,17 @@ const SHORTER: &[u8] = b"[Dictionary]\nName=SAMPLE_DICT\nRecordTypeStart=1\nReco
 const TWO_LEVELS: &[u8] = b"[Dictionary]\nName=D\n[Level]\nName=A\n[Level]\nName=B\n";
 
 /// An instruction: its opcode and its fields a, b and c.
-type Line = (Op, u8, u16, u32);
+pub type Line = (Op, u8, u16, u32);
 
 /// A routine: its ambient, its gift, whether it takes an occurrence of record 0, its code.
-type Part = (Ambient, Gift, bool, &'static [Line]);
+pub type Part = (Ambient, Gift, bool, &'static [Line]);
 
 /// An event: its code, its index, its routine.
-type When = (EventCode, u16, u32);
+pub type When = (EventCode, u16, u32);
 
 /// A program with the constants 10, 2, 3, 1 and 0, a text and two arrays: its dictionary, its routines,
 /// its events, and what `verify` prints.
-type Made = (
+pub type Made = (
     &'static [u8],
     &'static [Part],
     &'static [When],
@@ -69,9 +69,9 @@ const LOOPS: &[Line] = &[
 ];
 
 /// A function of a number, and a loop that calls a routine three times.
-const THREE: &[Line] = &[(Op::Number, 0, 0, 2), (Op::Return, 0, 0, 0)];
+pub const THREE: &[Line] = &[(Op::Number, 0, 0, 2), (Op::Return, 0, 0, 0)];
 
-const CALLS: &[Line] = &[
+pub const CALLS: &[Line] = &[
     (Op::Number, 0, 0, 2),
     (Op::LoopCount, 0, 1, 4),
     (Op::Call, 0, 0, 0),
@@ -80,7 +80,7 @@ const CALLS: &[Line] = &[
     (Op::Return, 0, 0, 0),
 ];
 
-const CALLS_ITSELF: &[Line] = &[
+pub const CALLS_ITSELF: &[Line] = &[
     (Op::Number, 0, 0, 2),
     (Op::LoopCount, 0, 1, 4),
     (Op::Call, 0, 0, 1),
@@ -121,7 +121,7 @@ const DECK: &[Line] = &[
 ];
 
 /// 10^15 steps in all, and one more.
-const GREATEST: &[Line] = &[
+pub const GREATEST: &[Line] = &[
     (Op::Number, 0, 0, 4),
     (Op::LoopCount, 0, 2, 5),
     (Op::Number, 0, 0, 4),
@@ -148,16 +148,16 @@ const TOO_MANY: &[Line] = &[
 ];
 
 /// A routine that gives a text, and one that lists it.
-const YOU: &[Line] = &[(Op::Text, 0, 0, 0), (Op::Return, 0, 0, 0)];
+pub const YOU: &[Line] = &[(Op::Text, 0, 0, 0), (Op::Return, 0, 0, 0)];
 
-const GREETS: &[Line] = &[
+pub const GREETS: &[Line] = &[
     (Op::Call, 0, 0, 0),
     (Op::Message, 0, 0, 0),
     (Op::Return, 0, 0, 0),
 ];
 
 /// A sum of a number and a text.
-const SUM: &[Line] = &[
+pub const SUM: &[Line] = &[
     (Op::Number, 0, 0, 0),
     (Op::Text, 0, 0, 0),
     (Op::Add, 0, 0, 0),
@@ -165,16 +165,16 @@ const SUM: &[Line] = &[
     (Op::Return, 0, 0, 0),
 ];
 
-const RUN: &[When] = &[(EventCode::ApplicationPreproc, 0, 0)];
+pub const RUN: &[When] = &[(EventCode::ApplicationPreproc, 0, 0)];
 
-const RUN_SECOND: &[When] = &[(EventCode::ApplicationPreproc, 0, 1)];
+pub const RUN_SECOND: &[When] = &[(EventCode::ApplicationPreproc, 0, 1)];
 
 const LEVEL: &[When] = &[(EventCode::LevelPreproc, 0, 0)];
 
 const AGE: &[When] = &[(EventCode::ItemPostproc, 3, 0)];
 
 /// A program with a loop in a loop.
-const FIRST: Made = (
+pub const FIRST: Made = (
     SAMPLE,
     &[(Ambient::Case, Gift::Nothing, false, LOOPS)],
     LEVEL,
@@ -253,7 +253,9 @@ const PROGRAMS: &[Made] = &[
 ];
 
 /// The limits of counted loops.
-const LIMITS: [u32; 6] = [10, 3, 999999, 999999997, 999999995, 999999996];
+const LIMITS: [u32; 11] = [
+    10, 3, 999999, 999999997, 999999995, 999999996, 10000, 9999, 9997, 9996, 9993,
+];
 
 fn code_of(alloc: Global, routines: &[Part]) -> Result<Vec<Instr>, AllocError> {
     let mut code = Vec::new(alloc);
@@ -350,7 +352,7 @@ fn parts_of(alloc: Global, dict: &Dictionary, made: &Made) -> Result<Parts, Allo
         order.push(0)?;
     }
     let mut texts = Vec::new(alloc);
-    texts.push(String::from_str(alloc, "A")?)?;
+    texts.push(String::from_str(alloc, "you")?)?;
     Ok(Parts {
         records: Vec::from_slice(alloc, &shape.records)?,
         items: Vec::from_slice(alloc, &shape.items)?,
@@ -368,7 +370,7 @@ fn parts_of(alloc: Global, dict: &Dictionary, made: &Made) -> Result<Parts, Allo
     })
 }
 
-fn image_of(alloc: Global, made: &Made) -> Result<Vec<u8>, Fail> {
+pub fn image_of(alloc: Global, made: &Made) -> Result<Vec<u8>, Fail> {
     match Dictionary::read(alloc, made.0) {
         Ok(dict) => image_with(alloc, &dict, made),
         Err(_) => Err("no dictionary".into()),

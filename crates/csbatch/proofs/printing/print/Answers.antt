@@ -1,16 +1,13 @@
-use Rattle.std.specs.Prelude.{map}
 use Rattle.std.proofs.lemmas.Result.{err_from_is_err_and}
 use Rattle.cse_value.proofs.WriteLaws.{AppendsFront-more, WritesAll-after}
-use Rattle.cse_parts.specs.Image.{message_lists}
-use Rattle.csbatch.specs.Printed.{message_lines, end_line}
+use Rattle.csbatch.specs.Printed.{steps_line, text_lines}
 use Rattle.csbatch.proofs.printing.print.Goals as goal
 
-pub returns-in_err-write_messages-clause-bytes : goal.returns-in_err-write_messages-clause-bytes
-returns-in_err-write_messages-clause-bytes g c =
+pub returns-in_err-write_texts-clause-bytes : goal.returns-in_err-write_texts-clause-bytes
+returns-in_err-write_texts-clause-bytes g c =
     let p = err_from_is_err_and c.from_residual.result c.from_residual.ensures.1 in
-    rw (p.1) (AppendsFront-more _ _ (message_lines (map message_lists c.args.messages.now) c.args.listed.now) (end_line c.args.end) c.in_err-write_messages.ensures.bytes)
+    rw (p.1) (AppendsFront-more _ _ (text_lines c.args.listing.now.texts) (steps_line c.args.steps) c.in_err-write_texts.ensures.bytes)
 
 pub returns-clause-bytes : goal.returns-clause-bytes
 returns-clause-bytes g c =
-    WritesAll-after c.write_end.result _ _ _ (message_lines (map message_lists c.args.messages.now) c.args.listed.now) (end_line c.args.end)
-    c.in_ok-write_messages.ensures.bytes c.write_end.ensures.bytes
+    WritesAll-after c.write_steps.result _ _ _ (text_lines c.args.listing.now.texts) (steps_line c.args.steps) c.in_ok-write_texts.ensures.bytes c.write_steps.ensures.bytes

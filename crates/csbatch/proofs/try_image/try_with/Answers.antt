@@ -1,0 +1,8 @@
+use Rattle.csbatch.proofs.TriedLaws.{runs_so}
+use Rattle.csbatch.proofs.try_image.try_with.Goals as goal
+
+pub returns-in-Ok-print-clause-runs : goal.returns-in-Ok-print-clause-runs
+returns-in-Ok-print-clause-runs g c = (
+  runs_so c.args.image.now c.args.dictionary.now c.in-Ok.verified c.in-Ok-run_preproc.steps c.in-Ok-run_preproc.reports.listing.texts c.requires.empty c.in-Ok.ensures.dictionary c.in-Ok.ensures.accepted c.in-Ok-run_preproc.ensures,
+  c.in-Ok-print.ensures.bytes,
+)

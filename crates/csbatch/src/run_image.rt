@@ -1,0 +1,115 @@
+//! `run`: an image over a data file, from the files of its words to those of its outputs.
+
+ghost use Rattle.std.specs.Prelude.{IfOk};
+ghost use Rattle.cse_decks.specs.Store.{StoreFits};
+
+use crate::fault::{Fault, NO_MEMORY};
+use crate::files::{bytes_where_there, created, file_bytes, opened, write_file};
+use crate::gathered::Gathered;
+use crate::outcome::Stop;
+use crate::plan::RunPaths;
+use cse_batch::{Totals, check_image, run};
+use cse_decks::{Store, load};
+use cse_dict::Dictionary;
+use cse_image::{Code, Program};
+use cse_value::{Reads, Writes};
+use cse_verify::Verified;
+use std::alloc::Global;
+use std::rt::Files;
+
+/// Runs an image over a data file, and tells what it counted.
+///
+/// The dictionary, the image and the deck file, if it is named and there, are read and checked one after the
+/// other; then the data file and the outputs are opened, in the order of the words. The deck file is written after
+/// a run without fault. Faults are those of the dictionary (10 to 18), the image (60 to 69), the deck file (50 to
+/// 53) and the data (20 to 22); 70 to 72 of files and devices; and want of memory (90).
+pub fn run_files<R: Files + AllocGlobal>(rt: &R, paths: &RunPaths<'_>) -> Result<Totals, Stop> {
+    let text = file_bytes(rt, paths.dict)?;
+    match Dictionary::read(rt.alloc(), &text) {
+        Ok(dictionary) => run_with(rt, &dictionary, paths),
+        Err(error) => Err(Stop::Refused(Fault::of_dictionary(error))),
+    }
+}
+
+/// The same with the dictionary.
+fn run_with<R: Files + AllocGlobal>(
+    rt: &R,
+    dictionary: &Dictionary,
+    paths: &RunPaths<'_>,
+) -> Result<Totals, Stop> {
+    let image = file_bytes(rt, paths.image)?;
+    match check_image(rt.alloc(), dictionary, &image) {
+        Ok(verified) => run_verified(rt, &verified, paths),
+        Err(fault) => Err(Stop::Refused(Fault::of_check(fault))),
+    }
+}
+
+/// The same with the program.
+fn run_verified<R: Files + AllocGlobal, C: Code>(
+    rt: &R,
+    verified: &Verified<'_, C>,
+    paths: &RunPaths<'_>,
+) -> Result<Totals, Stop> {
+    let Some(path) = paths.decks else {
+        let store = store_of(rt.alloc(), verified.program(), None)?;
+        let (totals, _) = run_over(rt, verified, store, paths)?;
+        return Ok(totals);
+    };
+    let text = bytes_where_there(rt, path)?;
+    let store = store_of(rt.alloc(), verified.program(), text.as_deref())?;
+    let (totals, decks) = run_over(rt, verified, store, paths)?;
+    write_file(rt, path, decks.bytes())?;
+    Ok(totals)
+}
+
+/// The store with the cells of a deck text, or a new one.
+pub fn store_of<C: Code>(
+    alloc: Global,
+    program: &Program<C>,
+    text: Option<&[u8]>,
+) -> Result<Store, Stop>
+    ensures { IfOk result (λ s. StoreFits program.now s) }
+{
+    let Some(text) = text else {
+        return match Store::new(alloc, program) {
+            Ok(store) => Ok(store),
+            Err(_) => Err(Stop::of_number(NO_MEMORY)),
+        };
+    };
+    match load(alloc, program, text) {
+        Ok(store) => Ok(store),
+        Err(error) => Err(Stop::Refused(Fault::of_decks(error))),
+    }
+}
+
+/// Runs the program over the data file to the files of the outputs, and gathers the deck text.
+fn run_over<R: Files + AllocGlobal, C: Code>(
+    rt: &R,
+    verified: &Verified<'_, C>,
+    store: Store,
+    paths: &RunPaths<'_>,
+) -> Result<(Totals, Gathered), Stop>
+    requires { StoreFits verified.now.image store }
+{
+    let mut input = Reads::new(opened(rt, paths.data)?);
+    let mut out = Writes::new(created(rt, paths.out)?);
+    let mut listing = Writes::new(created(rt, paths.list)?);
+    let mut frequencies = Writes::new(created(rt, paths.freq)?);
+    let mut decks = Gathered::new(rt.alloc());
+    let ran = run(
+        rt.alloc(),
+        verified,
+        store,
+        &mut input,
+        &mut out,
+        &mut listing,
+        &mut frequencies,
+        &mut decks,
+    );
+    match ran {
+        Ok(totals) => Ok((totals, decks)),
+        // The deck text is gathered in memory, so that its device fails where memory lacks.
+        Err(_) if decks.has_failed() => Err(Stop::of_number(NO_MEMORY)),
+        Err(fault) => Err(Stop::Refused(Fault::of_run(fault))),
+    }
+}
