@@ -30,6 +30,13 @@ impl<'a> Emitter<'a> {
         }
     }
 
+    /// The code so far.
+    pub fn code(&self) -> &[Wide<'a>]
+        ensures { all_wide result.now ≡ self.now }
+    {
+        &self.code
+    }
+
     /// One more instruction.
     pub fn put(&mut self, instruction: Wide<'a>) -> Result<(), AllocError>
         ensures { OnOk result (self.new ≡ self.old ++ wide instruction.entry ∷ []) }

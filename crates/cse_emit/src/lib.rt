@@ -24,3 +24,8 @@ mod setting;
 mod sizes;
 mod statements;
 mod wide;
+
+pub use emitter::Emitter;
+pub use routines::routine_size;
+pub use setting::{Loop, Setting};
+pub use wide::Wide;
