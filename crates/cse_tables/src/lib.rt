@@ -7,6 +7,7 @@
 #![tactic(auto)]
 
 mod arrays;
+mod events;
 
 mod globals;
 mod messages;
@@ -14,6 +15,7 @@ mod order;
 mod outlines;
 
 pub use arrays::arrays_of;
+pub use events::{EventTable, event_table};
 
 pub use globals::globals_of;
 pub use messages::messages_of;
