@@ -58,8 +58,8 @@ all_and p q (x ∷ xs) i (y ∷ ys) w m h s = (stands_still p q x y m h.0, all_a
 all_and p q [] i (y ∷ ys) w m h s = absurd h
 all_and p q (x ∷ xs) i [] w m h s = absurd h
 
-pub stands_more : (p q : PoolLists) (is js : List Instr) (ws : List rust.Wide) (k : ℕ) (w : rust.Wide) (x : Instr) → IsMore p q → AllStand p is (map wide (take k ws)) → k < length ws → w ≡ get_or ws k w → Stands q x (wide w) → js ≡ is ++ x ∷ [] → AllStand q js (map wide (take (k + 1) ws))
-stands_more p q is js ws k w x m h lt same_w s e =
-    let more : take (k + 1) ws ≡ take k ws ++ w ∷ [] = subst (λ (y : rust.Wide). take (k + 1) ws ≡ take k ws ++ y ∷ []) (sym same_w) (take_more ws k w lt) in
+pub stands_more : (p q : PoolLists) (is js : List Instr) (ws : List rust.Wide) (k : ℕ) (w d : rust.Wide) (x : Instr) → IsMore p q → AllStand p is (map wide (take k ws)) → k < length ws → w ≡ get_or ws k d → Stands q x (wide w) → js ≡ is ++ x ∷ [] → AllStand q js (map wide (take (k + 1) ws))
+stands_more p q is js ws k w d x m h lt same_w s e =
+    let more : take (k + 1) ws ≡ take k ws ++ w ∷ [] = subst (λ (y : rust.Wide). take (k + 1) ws ≡ take k ws ++ y ∷ []) (sym same_w) (take_more ws k d lt) in
     subst (λ (ys : List Instr). AllStand q ys (map wide (take (k + 1) ws))) (sym e)
     (subst (λ (ys : List Wide). AllStand q (is ++ x ∷ []) ys) (sym (ap (map wide) more ∙ map_push wide (take k ws) w)) (all_and p q is x (map wide (take k ws)) (wide w) m h s))
