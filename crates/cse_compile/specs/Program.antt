@@ -4,6 +4,7 @@ use Rattle.std.specs.Prelude.{◌≡◌, ℕ, List, [], ◌∷◌, ◌++◌, len
 use Rattle.std.specs.List.{flat_map}
 use Rattle.cse_value.specs.declared.shape.RecordShape.{RecordShape}
 use Rattle.cse_parts.specs.declared.instruction.Instr.{Instr}
+use Rattle.cse_parts.specs.declared.entries.EventEntry.{EventEntry}
 use Rattle.cse_parts.specs.Image.{Image, Lists, ArrayLists, RoutineLists}
 use Rattle.cse_dict.specs.Dictionary.{DictionaryText, shape_of}
 use Rattle.cse_typed.specs.Typed.{Declaration, Tree}
@@ -55,6 +56,9 @@ outlines t = functions_in (declarations t) ++ map (λ x. x.outline) (handlers t)
 abbrev pub sizes : Tree → List (List ℕ)
 sizes t = map (λ (x : ArrayLists). x.dimensions) (arrays_in (declarations t))
 
+abbrev pub events : DictionaryText → Tree → List EventEntry
+events d t = entries_in (table_from [] (length (functions_in (declarations t))) (handlers t)) (length (shape_of d).records) (length (shape_of d).items)
+
 abbrev pub pools_of : Lists → PoolLists
 pools_of x = record { constants = x.constants; limits = x.limits; texts = x.texts }
 
@@ -69,5 +73,5 @@ pub record IsProgramOf (d : DictionaryText) (named : List ℕ) (t : Tree) (x : I
   pub arrays : x.lists.arrays ≡ arrays_in (declarations t)
   pub messages : x.lists.messages ≡ map message_of t.messages
   pub routines : x.lists.routines ≡ map (entry_of (shape_of d).records (sizes t)) (outlines t)
-  pub events : x.lists.events ≡ entries_in (table_from [] (length (functions_in (declarations t))) (handlers t)) (length (shape_of d).records) (length (shape_of d).items)
+  pub events : x.lists.events ≡ events d t
   pub code : AllStand (pools_of x.lists) x.code (all_code (shape_of d).records (sizes t) (outlines t))
