@@ -1,0 +1,3 @@
+pub mod Fault
+pub mod Stands
+pub mod Program
