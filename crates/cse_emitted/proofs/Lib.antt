@@ -1,0 +1,11 @@
+pub mod At
+pub mod Spans
+pub mod Counts
+pub mod WideRule
+pub mod Parts
+pub mod Stacks
+pub mod Lengths
+pub mod Plain
+pub mod Rules
+pub mod Begins
+pub mod Piles

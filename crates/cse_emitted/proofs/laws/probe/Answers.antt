@@ -1,0 +1,15 @@
+use Rattle.std.proofs.Common.{refl}
+use Rattle.cse_emitted.proofs.Parts.{bare_jump}
+use Rattle.cse_emitted.specs.Stands.{AllStand}
+use Rattle.cse_emitted.proofs.Begins.{number_start}
+use Rattle.cse_emitted.proofs.Piles.{indexes_piled}
+use Rattle.cse_emitted.proofs.Rules.{ruled}
+use Rattle.cse_emitted.proofs.Lengths.{number_length}
+use Rattle.cse_emitted.proofs.Plain.{number_plain}
+use Rattle.cse_emitted.specs.Fit.{BlockFits}
+use Rattle.cse_emitted.specs.Steps.{routine_steps}
+use Rattle.cse_emitted.proofs.Stacks.{number_stacks}
+use Rattle.cse_emitted.proofs.laws.probe.Goals as goal
+
+pub returns : goal.returns
+returns c = λ n. refl

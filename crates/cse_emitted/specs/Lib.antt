@@ -1,0 +1,3 @@
+pub mod Stands
+pub mod Fit
+pub mod Steps

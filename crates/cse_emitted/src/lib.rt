@@ -1,0 +1,4 @@
+//! The code of typed trees is typed.
+#![tactic(auto)]
+
+pub mod laws;
