@@ -9,3 +9,5 @@ pub mod Plain
 pub mod Rules
 pub mod Begins
 pub mod Piles
+pub mod Chains
+pub mod Expressions

@@ -1,6 +1,8 @@
 use Rattle.std.proofs.Common.{refl}
 use Rattle.cse_emitted.proofs.Parts.{bare_jump}
 use Rattle.cse_emitted.specs.Stands.{AllStand}
+use Rattle.cse_emitted.proofs.Expressions.{number_part}
+use Rattle.cse_emitted.proofs.Chains.{item_part}
 use Rattle.cse_emitted.proofs.Begins.{number_start}
 use Rattle.cse_emitted.proofs.Piles.{indexes_piled}
 use Rattle.cse_emitted.proofs.Rules.{ruled}
