@@ -39,7 +39,7 @@ pub present_begins : (st : Stack) (kind : Kind) (x : Present) → Begins st (pre
 present_begins st kind (p.Id item) = begins_self st _
 present_begins st kind (p.Here field found) = here_begins st kind field.owner found
 
-picks_begin : (s : Spot) (st : Stack) (xs : List Pick) (rest : List Stack) → Begins (picks_after s st xs) rest → Begins st (picks_stacks s st xs ++ rest)
+pub picks_begin : (s : Spot) (st : Stack) (xs : List Pick) (rest : List Stack) → Begins (picks_after s st xs) rest → Begins st (picks_stacks s st xs ++ rest)
 picks_begin s st [] rest f = f
 picks_begin s st (x ∷ xs) rest f = begins_front st (picks_stacks s st (x ∷ xs)) rest (begins_front st (present_stacks st k.Number x.item) ((k.Number ∷ st) ∷ picks_stacks s (pick_index s x ∷ st) xs) (present_begins st k.Number x.item))
 

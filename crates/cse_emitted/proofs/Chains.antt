@@ -104,18 +104,20 @@ module _ (s : Spot) (ws : List Wide) (all : List Stack) (bounds : List ℕ) wher
         to q _ (q + 4) 4 4 z4 refl (join q (q + 1) _ 1 3 a (join (q + 1) (q + 1 + 1) _ 1 2 b (join (q + 1 + 1) (q + 1 + 1 + 1) _ 1 1 d f)))
 
     -- the indexes are dropped, one after the other
-    pub pops_part : (l : List Stack) (st : Stack) (q : ℕ) → Descends l st → HasAt ws q (pops (length l)) → HasAt all q (l ++ st ∷ []) → Part q (q + length l) (length l)
+    next_at : (l : List Stack) (st : Stack) (q : ℕ) → HasAt all q l → t (q + length l) ≡ st → t q ≡ next_of l st
+    next_at [] st q h e = moved (q + 0) q st (omega arith) e
+    next_at (a ∷ l) st q h e = stack_is all q a h.0
+
+    pub pops_part : (l : List Stack) (st : Stack) (q : ℕ) → Descends l st → HasAt ws q (pops (length l)) → HasAt all q l → t (q + length l) ≡ st → Part q (q + length l) (length l)
     unfolding control_by
-    pops_part [] st q d h s' = to q q (q + 0) 0 0 (omega arith) refl (none q)
-    pops_part (a ∷ l) st q d h s' =
+    pops_part [] st q d h s' e = to q q (q + 0) 0 0 (omega arith) refl (none q)
+    pops_part (a ∷ l) st q d h s' e =
+        let z : q + length (a ∷ l) ≡ q + 1 + length l = omega arith in
+        let e' = moved _ (q + 1 + length l) st z e in
         let s0 : t q ≡ k.Index d.0 ∷ next_of l st = stack_is all q a s'.0 ∙ d.1 in
-        let one = step q (with_a ops.Pop 2) (k.Index d.0 ∷ next_of l st) (next_of l st) h.0 s0 (pop_rule s ws q d.0 (next_of l st)) (next_at l st (q + 1) s'.1) refl in
-        let rest = pops_part l st (q + 1) d.2 h.1 s'.1 in
+        let one = step q (with_a ops.Pop 2) (k.Index d.0 ∷ next_of l st) (next_of l st) h.0 s0 (pop_rule s ws q d.0 (next_of l st)) (next_at l st (q + 1) s'.1 e') refl in
+        let rest = pops_part l st (q + 1) d.2 h.1 s'.1 e' in
         to q (q + 1 + length l) (q + length (a ∷ l)) (1 + length l) (length (a ∷ l)) (omega arith) (omega arith) (join q (q + 1) (q + 1 + length l) 1 (length l) one rest)
-      where
-      next_at : (l : List Stack) (st : Stack) (q : ℕ) → HasAt all q (l ++ st ∷ []) → t q ≡ next_of l st
-      next_at [] st q h = stack_is all q st h.0
-      next_at (a ∷ l) st q h = stack_is all q a h.0
 
     -- a value is loaded by indexes; where a later one fails, the earlier ones are dropped, and the value is `default`
     pub tail_part : (q n end : ℕ) (i : Wide) (st after : Stack) (l : List Stack) → length l ≡ n → Descends l st → lo ≤ q → q + (n + 3) ≤ hi → end ≡ q + (n + 3) → wide_rule s.scene ws q i after ≡ Some ((q + 1, k.Number ∷ st) ∷ []) → wide_control s.scene.lists i ≡ c.Step → HasAt ws q (i ∷ jump end ∷ (pops n ++ undefined ∷ [])) → HasAt all q (after ∷ (k.Number ∷ st) ∷ (l ++ st ∷ [])) → Led s.scene ws all bounds (q + 1 + 1) → t (q + (n + 3)) ≡ k.Number ∷ st → Part q (q + (n + 3)) (n + 3)
@@ -132,7 +134,7 @@ module _ (s : Spot) (ws : List Wide) (all : List Stack) (bounds : List ℕ) wher
         let z : v + 1 ≡ q + (n + 3) = omega (arith, len) in
         let a : Part q (q + 1) 1 = step q i after (k.Number ∷ st) h.0 s0 rule s1 ctl in
         let b : Part (q + 1) u 1 = part_jump s.scene ws all bounds (q + 1) end (k.Number ∷ st) h.1.0 s1 (moved _ _ _ (sym ends) e) led (jumps (q + 1) end (omega arith) (omega (arith, ends)) (omega (arith, ends))) in
-        let f : Part u v (length l) = pops_part l st u d (has_front ws u (pops (length l)) (undefined ∷ []) hp) s'.1.1 in
+        let f : Part u v (length l) = pops_part l st u d (has_front ws u (pops (length l)) (undefined ∷ []) hp) (has_front all u l (st ∷ []) s'.1.1) sv in
         let g : Part v (v + 1) 1 = step v undefined st (k.Number ∷ st) hu.0 sv refl (moved _ _ _ (sym z) e) refl in
         to q (v + 1) _ (1 + (1 + (length l + 1))) _ z (omega (arith, len)) (join q (q + 1) (v + 1) 1 _ a (join (q + 1) u (v + 1) 1 _ b (join u v (v + 1) (length l) 1 f g)))
 

@@ -82,19 +82,17 @@ module _ (s : Spot) (ws : List Wide) (all : List Stack) (bounds : List ℕ) wher
   -- where a failing index leads
   abbrev pub LeftAt : ℕ → ℕ → Stack → ℕ → Numbers → Type 0
   LeftAt array j st drops no_number = Unit {0}
-  LeftAt array j st drops (number_and x xs) = HasAt all drops (left_behind s array j st xs ++ st ∷ [])
+  LeftAt array j st drops (number_and x xs) = HasAt all drops (left_behind s array j st xs) × (t s ws all bounds (drops + count xs) ≡ st)
 
   left_next : (array j : ℕ) (st : Stack) (drops : ℕ) (x : Number) (xs : Numbers) → LeftAt array j st drops (number_and x xs) → LeftAt array (j + 1) (cell_index s array j ∷ st) drops xs
   left_next array j st drops x no_number h = tt
-  left_next array j st drops x (number_and y ys) h = has_front all drops (left_behind s array j st (number_and y ys)) (st ∷ []) h
+  left_next array j st drops x (number_and y ys) h =
+      let l = left_behind s array (j + 1) (cell_index s array j ∷ st) ys in
+      (has_front all drops l _ h.0, stack_is all (drops + count ys) _ (has_back all drops (count ys) l _ (left_behind_length s array (j + 1) (cell_index s array j ∷ st) ys) h.0).0)
 
-  pub left_start : (array : ℕ) (st : Stack) (drops : ℕ) (xs : Numbers) → HasAt all drops (indexes_left s array 0 st xs ++ st ∷ []) → LeftAt array 0 st drops xs
-  left_start array st drops no_number h = tt
-  left_start array st drops (number_and x xs) h = h
-
-  fail_stack : (array j : ℕ) (st : Stack) (drops : ℕ) (x : Number) (xs : Numbers) → LeftAt array j st drops (number_and x xs) → t s ws all bounds (drops + count xs) ≡ st
-  fail_stack array j st drops x xs h =
-      stack_is all (drops + count xs) st (has_back all drops (count xs) (left_behind s array j st xs) (st ∷ []) (left_behind_length s array j st xs) h).0
+  pub left_start : (array : ℕ) (st : Stack) (drops : ℕ) (xs : Numbers) → HasAt all drops (indexes_left s array 0 st xs) → t s ws all bounds (drops + behind xs) ≡ st → LeftAt array 0 st drops xs
+  left_start array st drops no_number h e = tt
+  left_start array st drops (number_and x xs) h e = (h, e)
 
   pub cell_below : (array : ℕ) (st : Stack) (xs : Numbers) (f : IsArray s array (count xs)) → below (indexes_of f.0) (indexes_after s array 0 st xs) ≡ Some st
   cell_below array st xs f = ap (below (indexes_of f.0)) (indexes_piled s array 0 st xs [] f.0.dimensions refl f.2 f.3) ∙ below_piled (map k.Index f.0.dimensions) st
@@ -142,17 +140,15 @@ module _ (s : Spot) (ws : List Wide) (all : List Stack) (bounds : List ℕ) wher
 
     -- where a failing pick leads
     abbrev pub PicksLeftAt : Stack → ℕ → List Pick → Type 0
-    PicksLeftAt st drops xs = can_fail xs ≡ true → HasAt all drops (picks_left s st xs ++ st ∷ [])
+    PicksLeftAt st drops xs = can_fail xs ≡ true → HasAt all drops (picks_left s st xs) × (T (drops + deepest xs) ≡ st)
 
     picks_next : (st : Stack) (drops : ℕ) (x : Pick) (xs : List Pick) → PicksLeftAt st drops (x ∷ xs) → PicksLeftAt (pick_index s x ∷ st) drops xs
     picks_next st drops x xs f e =
-        let g = f (or_right (not x.has_leftover) (can_fail xs) e) in
-        let z : picks_left s st (x ∷ xs) ≡ picks_left s (pick_index s x ∷ st) xs ++ (pick_index s x ∷ st) ∷ [] = ap (λ b. if b then picks_left s (pick_index s x ∷ st) xs ++ (pick_index s x ∷ st) ∷ [] else []) e in
-        subst (HasAt all drops) z (has_front all drops (picks_left s st (x ∷ xs)) (st ∷ []) g)
-
-    pick_fails : (st : Stack) (drops : ℕ) (xs : List Pick) → PicksLeftAt st drops xs → can_fail xs ≡ true → T (drops + deepest xs) ≡ st
-    pick_fails st drops xs f e =
-        stack_is all (drops + deepest xs) st (has_back all drops (deepest xs) (picks_left s st xs) (st ∷ []) (picks_left_length s st xs) (f e)).0
+        let g = (f (or_right (not x.has_leftover) (can_fail xs) e)).0 in
+        let l = picks_left s (pick_index s x ∷ st) xs in
+        let z : picks_left s st (x ∷ xs) ≡ l ++ (pick_index s x ∷ st) ∷ [] = ap (λ b. if b then l ++ (pick_index s x ∷ st) ∷ [] else []) e in
+        let g' = subst (HasAt all drops) z g in
+        (has_front all drops l _ g', stack_is all (drops + deepest xs) _ (has_back all drops (deepest xs) l _ (picks_left_length s (pick_index s x ∷ st) xs) g').0)
 
     deepest_less : (x : Pick) (xs : List Pick) → deepest xs ≤ deepest (x ∷ xs)
     deepest_less x xs = ⊎_elim
@@ -184,7 +180,7 @@ module _ (s : Spot) (ws : List Wide) (all : List Stack) (bounds : List ℕ) wher
         let fails : x.has_leftover ≡ false → (q < drops + deepest (x ∷ xs)) × (drops + deepest (x ∷ xs) ≤ hi) × (T (drops + deepest (x ∷ xs)) ≡ st) = λ b.
             let can : can_fail (x ∷ xs) ≡ true = ap (λ b. not b || can_fail xs) b in
             let least = d' can in
-            (omega arith, least, pick_fails st drops (x ∷ xs) left can) in
+            (omega arith, least, (left can).1) in
         let b = row_part x x.has_leftover q (drops + deepest (x ∷ xs)) f.1.0 st refl f.1.1 (omega arith) fails h'.0 tq t1 in
         let more = deepest_less x xs in
         let c' = picks_part xs ys drops (q + 1) (pick_index s x ∷ st) f.2 (omega arith) (omega arith) (omega arith) (λ can. let k = d' (or_right (not x.has_leftover) (can_fail xs) can) in omega arith) h'.1 s''.1 (picks_next st drops x xs left) e' in
@@ -225,7 +221,8 @@ module _ (s : Spot) (ws : List Wide) (all : List Stack) (bounds : List ℕ) wher
         let z : p + (n + deck_size picks) ≡ q + (m + 3) = omega (arith, size) in
         let e' = moved s ws all bounds _ (q + (m + 3)) _ z e in
         let y : q + 1 + 1 ≡ drops = omega arith in
-        let left : PicksLeftAt st drops picks = λ can. subst (λ n. HasAt all n (picks_left s st picks ++ st ∷ [])) y s''.1.1 in
+        let lefts = subst (λ n. HasAt all n (picks_left s st picks ++ st ∷ [])) y s''.1.1 in
+        let left : PicksLeftAt st drops picks = λ can. (has_front all drops (picks_left s st picks) _ lefts, stack_is all (drops + m) _ (has_back all drops m (picks_left s st picks) _ (picks_left_length s st picks) lefts).0) in
         let a = picks_part picks f.0.dimensions drops p st f.2 l (omega (arith, size)) (omega arith) (λ can. omega (arith, size)) hp sp left (stack_is all q _ s''.0) in
         let led = led_place s.scene ws all bounds drops (q + 1 + 1) (sym y) (picks_led picks f.0.dimensions drops p st f.2 (omega arith) hp sp can) in
         let b = tail_part s ws all bounds lo hi bare' inside q m (q + m + 3) (with_c ops.LoadCell array) st (picks_after s st picks) (picks_left s st picks) (picks_left_length s st picks) (descends_picks st picks) (omega arith) (omega (arith, size)) (omega arith) (load_cell_rule s ws q array f.0 st (picks_after s st picks) f.1 (deck_below array st picks f)) refl h' s'' led e' in
@@ -265,11 +262,11 @@ module _ (s : Spot) (ws : List Wide) (all : List Stack) (bounds : List ℕ) wher
         let s'' = has_back all p n (number_stacks s st x) _ (number_stacks_length s st x) s' in
         indexes_led ys y array drops (j + 1) (q + 1) (cell_index s array j ∷ st) (omega arith) h'.1 s''.1
 
-    some_led : (xs : Numbers) (array drops p : ℕ) (st : Stack) → 1 ≤ count xs → p + indexes_size xs ≤ drops → HasAt ws p (indexes_code s.setting array drops 0 p xs) → HasAt all p (indexes_stacks s array 0 st xs) → Led s.scene ws all bounds drops
+    pub some_led : (xs : Numbers) (array drops p : ℕ) (st : Stack) → 1 ≤ count xs → p + indexes_size xs ≤ drops → HasAt ws p (indexes_code s.setting array drops 0 p xs) → HasAt all p (indexes_stacks s array 0 st xs) → Led s.scene ws all bounds drops
     some_led no_number array drops p st some d h s' = absurd (omega arith)
     some_led (number_and x xs) array drops p st some d h s' = indexes_led xs x array drops 0 p st d h s'
 
-    count_behind : (xs : Numbers) → count xs ≤ behind xs + 1
+    pub count_behind : (xs : Numbers) → count xs ≤ behind xs + 1
     count_behind no_number = omega arith
     count_behind (number_and x xs) = omega arith
 
@@ -304,7 +301,8 @@ module _ (s : Spot) (ws : List Wide) (all : List Stack) (bounds : List ℕ) wher
           let z : p + (n + (m + 3)) ≡ q + (m + 3) = omega arith in
           let e' = moved s ws all bounds _ (q + (m + 3)) _ z e in
           let y : q + 1 + 1 ≡ drops = omega arith in
-          let left = left_start array st drops xs (subst (λ n. HasAt all n (indexes_left s array 0 st xs ++ st ∷ [])) y s''.1.1) in
+          let lefts = subst (λ n. HasAt all n (indexes_left s array 0 st xs ++ st ∷ [])) y s''.1.1 in
+          let left = left_start array st drops xs (has_front all drops (indexes_left s array 0 st xs) _ lefts) (stack_is all (drops + m) _ (has_back all drops m (indexes_left s array 0 st xs) _ (indexes_left_length s array 0 st xs) lefts).0) in
           let few = count_behind xs in
           let a = indexes_part xs f.1 array drops 0 p st l (omega arith) (omega arith) (omega arith) hi' si left (stack_is all q _ s''.0) in
           let led = led_place s.scene ws all bounds drops (q + 1 + 1) (sym y) (some_led xs array drops p st f.0.4 (omega arith) hi' si) in
@@ -413,7 +411,7 @@ module _ (s : Spot) (ws : List Wide) (all : List Stack) (bounds : List ℕ) wher
           let i = cell_index s array j in
           let tq = stack_is all q _ s''.0 in
           let t1 = indexes_start s all array (j + 1) (q + 1) (i ∷ st) xs s''.1 e' in
-          let tf = fail_stack array j st drops x xs left in
+          let tf = left.1 in
           let a = number_part x f.0 p st l (omega arith) (has_front ws p (number_code s.setting p x) _ h) (has_front all p (number_stacks s st x) _ s') tq in
           let b : P q (q + 1) 1 = part_branch s.scene ws all bounds q (drops + count xs) (w.Plain ops.Index 0 (size_at s.setting array j) (drops + count xs)) (k.Number ∷ st) st (i ∷ st) h'.0 tq refl tf t1 refl (jumps s ws all bounds lo hi bare' inside q (drops + count xs) (omega arith) (omega arith) (omega arith)) in
           let g = indexes_part xs f.1 array drops (j + 1) (q + 1) (i ∷ st) (omega arith) (omega arith) (omega arith) (omega arith) h'.1 s''.1 (left_next array j st drops x xs left) e' in

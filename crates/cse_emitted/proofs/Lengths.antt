@@ -25,7 +25,7 @@ pub two : {A : Type 0} (a b : List A) (m n : ℕ) → length a ≡ m → length 
 two a b m n e f = omega (arith, length-append a b, e, f)
 
 -- with one more in front of the second
-three : {A : Type 0} (a b : List A) (x : A) (m n : ℕ) → length a ≡ m → length b ≡ n → length (a ++ (x ∷ b)) ≡ m + (n + 1)
+pub three : {A : Type 0} (a b : List A) (x : A) (m n : ℕ) → length a ≡ m → length b ≡ n → length (a ++ (x ∷ b)) ≡ m + (n + 1)
 three a b x m n e f = omega (arith, length-append a (x ∷ b), e, f)
 
 if_length : {A : Type 0} (b : Bool) (x y : List A) (m n : ℕ) → length x ≡ m → length y ≡ n → length (if b then x else y) ≡ (if b then m else n)

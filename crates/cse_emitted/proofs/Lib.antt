@@ -11,3 +11,9 @@ pub mod Begins
 pub mod Piles
 pub mod Chains
 pub mod Expressions
+pub mod StatementStacks
+pub mod Blocks
+pub mod Seals
+pub mod Simple
+pub mod Loops
+pub mod Statements

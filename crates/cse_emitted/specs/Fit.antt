@@ -199,6 +199,16 @@ abbrev pub JumpFits : Bool → Jump → Type 0
 JumpFits inside j.Exit = Unit {0}
 JumpFits inside _ = inside ≡ true
 
+-- what the routine gives at its end: a procedure nothing, a function the local of its result
+abbrev pub IsExit : Spot → Option ℕ → Type 0
+IsExit s None = s.scene.routine.gives ≡ gifts.Nothing
+IsExit s (Some result) = (s.scene.routine.gives ≡ gifts.Number) × (local_at s.scene.routine result ≡ Some kind.Number)
+
+-- the code was made for this routine and these records
+pub record IsSettled (s : Spot) : Type 0 where
+  pub exit : IsExit s s.setting.result_at
+  pub records : s.setting.records ≡ s.scene.lists.records
+
 -- with room for so many loops, one within the other; `inside` tells whether a loop is around
 abbrev mutual
   pub StatementFits : Spot → ℕ → Bool → Statement → Type 0

@@ -1,6 +1,12 @@
 use Rattle.std.proofs.Common.{refl}
 use Rattle.cse_emitted.proofs.Parts.{bare_jump}
 use Rattle.cse_emitted.specs.Stands.{AllStand}
+use Rattle.cse_emitted.proofs.Statements.{block_part}
+use Rattle.cse_emitted.proofs.Loops.{count_part}
+use Rattle.cse_emitted.proofs.Simple.{message_part}
+use Rattle.cse_emitted.proofs.Seals.{block_sealed}
+use Rattle.cse_emitted.proofs.Blocks.{simple_plain}
+use Rattle.cse_emitted.proofs.StatementStacks.{arms_start}
 use Rattle.cse_emitted.proofs.Expressions.{number_part}
 use Rattle.cse_emitted.proofs.Chains.{item_part}
 use Rattle.cse_emitted.proofs.Begins.{number_start}
