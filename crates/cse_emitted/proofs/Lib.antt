@@ -17,3 +17,5 @@ pub mod Seals
 pub mod Simple
 pub mod Loops
 pub mod Statements
+pub mod Transport
+pub mod Whole

@@ -1,0 +1,11 @@
+use Rattle.cse_emitted.proofs.Whole.{brackets_keep_rules, code_is_typed, steps_are_counted}
+use Rattle.cse_emitted.proofs.laws.code_is_typed.Goals as goal
+
+pub returns-clause-brackets : goal.returns-clause-brackets
+returns-clause-brackets c = brackets_keep_rules
+
+pub returns-clause-typing : goal.returns-clause-typing
+returns-clause-typing c = code_is_typed
+
+pub returns-clause-steps : goal.returns-clause-steps
+returns-clause-steps c = steps_are_counted
