@@ -19,3 +19,4 @@ pub mod Loops
 pub mod Statements
 pub mod Transport
 pub mod Whole
+pub mod Standing

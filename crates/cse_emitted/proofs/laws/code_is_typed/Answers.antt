@@ -1,3 +1,4 @@
+use Rattle.cse_emitted.proofs.Standing.{routine_may}
 use Rattle.cse_emitted.proofs.Whole.{brackets_keep_rules, code_is_typed, steps_are_counted}
 use Rattle.cse_emitted.proofs.laws.code_is_typed.Goals as goal
 
