@@ -1,6 +1,6 @@
 -- The code of statements is as long as its size; which of it has no brackets.
-use Rattle.std.proofs.Common.{◌≡◌, ℕ, ◌+◌, ℤ, Bool, true, false, List, [], ◌∷◌, ◌++◌, length, Option, Some, None, refl, sym, ap, ◌∙◌, subst, inl, inr, ⊎_elim, arith, length-append}
-use Rattle.std.specs.Prelude.{◌==◌, ◌≤◌, if◌then◌else◌, ◌⊎◌}
+use Rattle.std.proofs.Common.{◌≡◌, ℕ, ◌+◌, ℤ, Bool, true, false, List, [], ◌∷◌, ◌++◌, length, Option, Some, None, refl, arith}
+use Rattle.std.specs.Prelude.{◌==◌, if◌then◌else◌}
 use Rattle.cse_value.specs.declared.shape.RecordShape.{RecordShape}
 use Rattle.cse_value.specs.declared.number.Num.{Num}
 use Rattle.cse_value.specs.declared.number.Num.TheVariants as num
@@ -10,18 +10,17 @@ use Rattle.cse_syntax.specs.declared.tree.Count.TheVariants as counts
 use Rattle.cse_syntax.specs.declared.tree.Jump.{Jump}
 use Rattle.cse_syntax.specs.declared.tree.Jump.TheVariants as j
 use Rattle.cse_typing.specs.Skeleton.{control_by}
-use Rattle.cse_typed.specs.declared.tree.Variable.{Variable}
 use Rattle.cse_typed.specs.declared.tree.Found.TheVariants as h
-use Rattle.cse_typed.specs.Typed.{Number, Which, Here, At, Argument, OfNumber, OfWords, Limit, Fixed, Counted, Counting, Statement, Statements, Arms}
+use Rattle.cse_typed.specs.Typed.{Which, Here, At, Argument, OfNumber, OfWords, Limit, Fixed, Counted, Counting, Statement, Statements, Arms}
 use Rattle.cse_typed.specs.Typed.{Empty, Set, SetText, SetItem, SetTextItem, SetCell, CallOf, If, For, Do, Jump', Impute, PutDeck, ErrMsg, no_statement, statement_and, no_arm, else_of, arm}
 use Rattle.cse_emit.specs.Wide as w
 use Rattle.cse_emit.specs.Wide.{Wide, bare, with_a, with_c, jump, value, pops, jump_size, jump_over}
 use Rattle.cse_emit.specs.Setting.{Setting}
 use Rattle.cse_emit.specs.declared.setting.Loop.{Loop}
-use Rattle.cse_emit.specs.Numbers.{store, behind, deepest, number_size, words_size, numbers_size, indexes_size, picks_size, number_code, words_code, numbers_code, indexes_code, picks_code}
-use Rattle.cse_emit.specs.Statements.{known, limit_code, which_size, which_code, drops_size, drops_code, argument_size, argument_code, arguments_size, arguments_code, turns_size_by, turns_code_by, turn_limit, head_size, head_code, step_code, exit_size_by, exit_code_by, jump_code_size, jump_code, front_size, front_code, guard_size, guard_code, loop_to, over_code, opener_at, turn_end_at, counted_code, statement_size, block_size, arms_size, statement_code, block_code, arms_code}
+use Rattle.cse_emit.specs.Numbers.{behind, deepest}
+use Rattle.cse_emit.specs.Statements.{known, limit_code, which_size, which_code, drops_size, drops_code, argument_size, argument_code, arguments_size, arguments_code, turns_size_by, turns_code_by, turn_limit, head_size, head_code, step_code, exit_size_by, exit_code_by, jump_code_size, jump_code, front_size, front_code, loop_to, opener_at, turn_end_at, statement_size, block_size, arms_size, statement_code, block_code, arms_code}
 use Rattle.cse_emitted.proofs.Lengths.{two, three, number_length, words_length, numbers_length, indexes_length, picks_length, pops_length}
-use Rattle.cse_emitted.proofs.StatementStacks.{jump_by, jump_length}
+use Rattle.cse_emitted.proofs.StatementStacks.{jump_length}
 use Rattle.cse_emitted.proofs.Parts.{is_plain}
 use Rattle.cse_emitted.proofs.Plain.{ArePlain, plain_two, plain_more, plain_self, number_plain, words_plain, numbers_plain, indexes_plain, picks_plain, pops_plain, load_plain, store_plain}
 

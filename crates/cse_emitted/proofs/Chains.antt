@@ -1,6 +1,6 @@
 -- Stretches of the code of expressions: they have no brackets, so that each jump forward in them is fine.
-use Rattle.std.proofs.Common.{◌≡◌, ℕ, suc, ◌+◌, ◌<◌, ◌≤◌, Bool, true, false, List, [], ◌∷◌, ◌++◌, length, Option, Some, None, refl, sym, ap, ◌∙◌, subst, inl, inr, arith}
-use Rattle.std.specs.Prelude.{slice_get, slice_index, pos, ◌==◌}
+use Rattle.std.proofs.Common.{◌≡◌, ℕ, ◌+◌, ◌<◌, ◌≤◌, true, List, [], ◌∷◌, ◌++◌, length, Some, refl, sym, ap, ◌∙◌, subst, arith}
+use Rattle.std.specs.Prelude.{slice_get, pos, ◌==◌}
 use Rattle.cse_emitted.proofs.Lengths.{pops_length}
 use Rattle.std.specs.List.{list_any}
 use Rattle.cse_parts.specs.declared.instruction.Op.TheVariants as ops
@@ -10,8 +10,7 @@ use Rattle.cse_typing.specs.declared.control.Control.{Control}
 use Rattle.cse_typing.specs.declared.control.Control.TheVariants as c
 use Rattle.cse_typing.specs.Bracket.{IsJump}
 use Rattle.cse_typing.specs.Skeleton.{control_by}
-use Rattle.cse_typing.specs.Signature.{Scene, is_record, local_at, signature_by}
-use Rattle.cse_typing.specs.Rule.{Edge}
+use Rattle.cse_typing.specs.Signature.{Scene, is_record, signature_by}
 use Rattle.cse_typed.specs.declared.tree.Found.{Found}
 use Rattle.cse_typed.specs.declared.tree.Found.TheVariants as h
 use Rattle.cse_typed.specs.declared.tree.Present.{Present}

@@ -1,35 +1,33 @@
 -- The code of expressions is typed: it leaves its value.
-use Rattle.std.proofs.Common.{◌≡◌, ℕ, suc, ◌+◌, ◌<◌, ◌≤◌, Bool, true, false, List, [], ◌∷◌, ◌++◌, length, map, Option, Some, None, refl, sym, ap, ◌∙◌, subst, inl, inr, arith, ⊎_elim}
-use Rattle.std.specs.Prelude.{slice_get, slice_index, pos, ◌==◌, not, ◌||◌, reverse, unwrap_or, if◌then◌else◌}
+use Rattle.std.proofs.Common.{◌≡◌, ℕ, ◌+◌, ◌<◌, ◌≤◌, Bool, true, false, List, [], ◌∷◌, ◌++◌, length, map, Some, refl, sym, ap, ◌∙◌, subst, arith, ⊎_elim}
+use Rattle.std.specs.Prelude.{slice_get, ◌==◌, not, ◌||◌, reverse, unwrap_or, if◌then◌else◌}
 use Rattle.std.specs.List.{list_any}
 use Rattle.std.proofs.lemmas.Bool.{cases_Bool, false≢true}
 use Rattle.cse_parts.specs.declared.instruction.Op.TheVariants as ops
 use Rattle.cse_syntax.specs.declared.tree.Operator.{Operator}
 use Rattle.cse_syntax.specs.declared.tree.Operator.TheVariants as operators
-use Rattle.cse_typing.specs.declared.kind.Kind.{Kind}
 use Rattle.cse_typing.specs.declared.kind.Kind.TheVariants as k
 use Rattle.cse_typing.specs.declared.control.Control.TheVariants as c
 use Rattle.cse_typing.specs.Kinds.{below}
 use Rattle.cse_typing.specs.Skeleton.{control_by}
-use Rattle.cse_typing.specs.Signature.{Scene, signature_by, indexes_of, parameters_of, rows_of}
-use Rattle.cse_typed.specs.declared.tree.Found.{Found}
+use Rattle.cse_typing.specs.Signature.{signature_by, indexes_of, parameters_of, rows_of}
 use Rattle.cse_typed.specs.declared.tree.Pick.{Pick}
 use Rattle.cse_typed.specs.Typed.{Number, Words, Numbers, Operations, Constant, Special', Variable', Item, ItemAt, Cell, Call, Group, Int, IsSpecial, Deck, TotOcc, MaxOcc, CurOcc, InSet, Minus, Not, Compare, CompareTexts, Chain}
 use Rattle.cse_typed.specs.Typed.{Quoted, TextGlobal, TextItem, TextItemAt, TextGroup, no_number, number_and, no_operation, operation_and}
 use Rattle.cse_emit.specs.Wide as w
 use Rattle.cse_emit.specs.Wide.{Wide, bare, with_a, with_b, with_c, jump, undefined, occurrence, pops}
 use Rattle.cse_emit.specs.Setting.{size_at}
-use Rattle.cse_emit.specs.Numbers.{load, special_number, relation_number, operation_of, guarded, here_size, present_size, number_of_item, can_fail, deepest, row, picks_size, picks_code, deck_size, deck_code, count, behind, number_size, words_size, numbers_size, indexes_size, operations_size, number_code, words_code, numbers_code, indexes_code, operations_code}
+use Rattle.cse_emit.specs.Numbers.{load, special_number, relation_number, operation_of, present_size, number_of_item, can_fail, deepest, row, picks_size, picks_code, deck_size, deck_code, count, behind, number_size, words_size, numbers_size, indexes_size, operations_size, number_code, words_code, numbers_code, indexes_code, operations_code}
 use Rattle.cse_emitted.specs.Fit.{Spot, IsArray, IsDeck, ArePicks, IsFunction, row_count, numbers_kinds, NumberFits, WordsFit, NumbersFit, OperationsFit}
 use Rattle.cse_emitted.specs.Steps.{number_calls, words_calls, numbers_calls, operations_calls}
 use Rattle.cse_emitted.proofs.At.{HasAt, has_front, has_back}
-use Rattle.cse_emitted.proofs.WideRule.{Stack, wide_control, wide_skeleton, wide_rule, wide_in_loop}
-use Rattle.cse_emitted.proofs.Stacks.{guarded_stacks, present_stacks, pick_index, picks_stacks, picks_after, picks_left, deck_stacks, cell_index, indexes_after, left_behind, indexes_left, numbers_after, number_stacks, words_stacks, numbers_stacks, indexes_stacks, operations_stacks}
-use Rattle.cse_emitted.proofs.Lengths.{item_length, number_length, words_length, numbers_length, indexes_length, operations_length, picks_length, present_stacks_length, number_stacks_length, words_stacks_length, numbers_stacks_length, indexes_stacks_length, operations_stacks_length, picks_stacks_length, picks_left_length, left_behind_length, indexes_left_length}
+use Rattle.cse_emitted.proofs.WideRule.{Stack, wide_control, wide_rule, wide_in_loop}
+use Rattle.cse_emitted.proofs.Stacks.{present_stacks, pick_index, picks_stacks, picks_after, picks_left, deck_stacks, cell_index, indexes_after, left_behind, indexes_left, numbers_after, number_stacks, words_stacks, numbers_stacks, indexes_stacks, operations_stacks}
+use Rattle.cse_emitted.proofs.Lengths.{item_length, number_length, words_length, numbers_length, indexes_length, picks_length, present_stacks_length, number_stacks_length, words_stacks_length, numbers_stacks_length, indexes_stacks_length, picks_stacks_length, picks_left_length, left_behind_length, indexes_left_length}
 use Rattle.cse_emitted.proofs.Begins.{number_start, words_start, numbers_start, indexes_start, picks_start, operations_start}
 use Rattle.cse_emitted.proofs.Piles.{below_piled, numbers_piled, picks_piled, indexes_piled}
-use Rattle.cse_emitted.proofs.Rules.{piled, load_rule, load_steps, load_global, total_rule, number_rule, set_rule, item_number_rule, item_text_rule, row_rule, leftover_rule, load_cell_rule, call_rule}
-use Rattle.cse_emitted.proofs.Parts.{stack_at, stack_is, IsBare, IsPart, Led, part_call, part_branch, led_branch, led_place}
+use Rattle.cse_emitted.proofs.Rules.{load_rule, load_steps, load_global, total_rule, number_rule, set_rule, item_number_rule, item_text_rule, row_rule, leftover_rule, load_cell_rule, call_rule}
+use Rattle.cse_emitted.proofs.Parts.{stack_is, IsBare, Led, part_call, part_branch, led_branch, led_place}
 use Rattle.cse_emitted.proofs.Chains.{Descends, descends_behind, sk, t, Part, join, none, to, step, moved, then_step, jumps, guarded_part, tail_part, here_part, item_part, text_item_part}
 
 module _ (s : Spot) (ws : List Wide) (all : List Stack) (bounds : List ℕ) where
@@ -152,17 +150,17 @@ module _ (s : Spot) (ws : List Wide) (all : List Stack) (bounds : List ℕ) wher
 
     deepest_less : (x : Pick) (xs : List Pick) → deepest xs ≤ deepest (x ∷ xs)
     deepest_less x xs = ⊎_elim
-      (λ (e : can_fail xs ≡ true). let k : deepest (x ∷ xs) ≡ deepest xs + 1 = ap (λ b. if b then deepest xs + 1 else 0) e in omega arith)
-      (λ (e : can_fail xs ≡ false). let k = no_depth xs e in omega arith)
-      (cases_Bool (can_fail xs))
+        (λ (e : can_fail xs ≡ true). let k : deepest (x ∷ xs) ≡ deepest xs + 1 = ap (λ b. if b then deepest xs + 1 else 0) e in omega arith)
+        (λ (e : can_fail xs ≡ false). let k = no_depth xs e in omega arith)
+        (cases_Bool (can_fail xs))
       where
-      no_depth : (xs : List Pick) → can_fail xs ≡ false → deepest xs ≡ 0
-      no_depth [] e = refl
-      no_depth (y ∷ ys) e = ap (λ b. if b then deepest ys + 1 else 0) (or_none (not y.has_leftover) (can_fail ys) e)
-        where
-        or_none : (a b : Bool) → (a || b) ≡ false → b ≡ false
-        or_none true b h = absurd (false≢true (sym h))
-        or_none false b h = h
+        no_depth : (xs : List Pick) → can_fail xs ≡ false → deepest xs ≡ 0
+        no_depth [] e = refl
+        no_depth (y ∷ ys) e = ap (λ b. if b then deepest ys + 1 else 0) (or_none (not y.has_leftover) (can_fail ys) e)
+          where
+            or_none : (a b : Bool) → (a || b) ≡ false → b ≡ false
+            or_none true b h = absurd (false≢true (sym h))
+            or_none false b h = h
 
     pub picks_part : (xs : List Pick) (ds : List ℕ) (drops p : ℕ) (st : Stack) → ArePicks s ds xs → lo ≤ p → p + picks_size xs ≤ hi → p + picks_size xs ≤ drops → (can_fail xs ≡ true → drops + deepest xs ≤ hi) → HasAt ws p (picks_code drops p xs) → HasAt all p (picks_stacks s st xs) → PicksLeftAt st drops xs → T (p + picks_size xs) ≡ picks_after s st xs → P p (p + picks_size xs) (picks_size xs)
     picks_part [] ds drops p st f l r d d' h s' left e = to s ws all bounds p p (p + 0) 0 0 (omega arith) refl (none s ws all bounds p)
@@ -178,9 +176,9 @@ module _ (s : Spot) (ws : List Wide) (all : List Stack) (bounds : List ℕ) wher
         let t1 = picks_start s all (q + 1) (pick_index s x ∷ st) xs s''.1 e' in
         let a = item_part s ws all bounds lo hi bare' inside looped x.item p st f.0 l (omega arith) (has_front ws p (number_of_item p x.item) _ h) (has_front all p (present_stacks st k.Number x.item) _ s') tq in
         let fails : x.has_leftover ≡ false → (q < drops + deepest (x ∷ xs)) × (drops + deepest (x ∷ xs) ≤ hi) × (T (drops + deepest (x ∷ xs)) ≡ st) = λ b.
-            let can : can_fail (x ∷ xs) ≡ true = ap (λ b. not b || can_fail xs) b in
-            let least = d' can in
-            (omega arith, least, (left can).1) in
+        let can : can_fail (x ∷ xs) ≡ true = ap (λ b. not b || can_fail xs) b in
+        let least = d' can in
+        (omega arith, least, (left can).1) in
         let b = row_part x x.has_leftover q (drops + deepest (x ∷ xs)) f.1.0 st refl f.1.1 (omega arith) fails h'.0 tq t1 in
         let more = deepest_less x xs in
         let c' = picks_part xs ys drops (q + 1) (pick_index s x ∷ st) f.2 (omega arith) (omega arith) (omega arith) (λ can. let k = d' (or_right (not x.has_leftover) (can_fail xs) can) in omega arith) h'.1 s''.1 (picks_next st drops x xs left) e' in

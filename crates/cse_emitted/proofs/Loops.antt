@@ -1,9 +1,7 @@
 -- Loops, conditions and exits: what a part of code is made of where statements stand in it.
-use Rattle.std.proofs.Common.{◌≡◌, ℕ, zero, suc, ◌+◌, ◌*◌, ◌<◌, ◌≤◌, ℤ, Bool, true, false, List, [], ◌∷◌, ◌++◌, length, Option, Some, None, refl, sym, ap, ◌∙◌, subst, inl, inr, arith, ⊎_elim}
-use Rattle.std.specs.Prelude.{slice_get, pos, ◌==◌, ◌||◌, if◌then◌else◌}
+use Rattle.std.proofs.Common.{◌≡◌, ℕ, ◌+◌, ◌*◌, ◌<◌, ◌≤◌, ℤ, Bool, true, false, List, [], ◌∷◌, length, Option, Some, None, refl, sym, ap, ◌∙◌, subst, inl, arith, ⊎_elim}
+use Rattle.std.specs.Prelude.{slice_get, ◌==◌, ◌||◌, if◌then◌else◌}
 use Rattle.std.specs.List.{list_any}
-use Rattle.std.proofs.lemmas.Bool.{cases_Bool, false≢true, eq-eqb}
-use Rattle.cse_value.specs.declared.shape.RecordShape.{RecordShape}
 use Rattle.cse_value.specs.declared.number.Num.{Num}
 use Rattle.cse_value.specs.declared.number.Num.TheVariants as num
 use Rattle.cse_parts.specs.declared.entries.Gift.TheVariants as gifts
@@ -12,26 +10,24 @@ use Rattle.cse_syntax.specs.declared.tree.Count.TheVariants as counts
 use Rattle.cse_typing.specs.declared.kind.Kind.TheVariants as k
 use Rattle.cse_typing.specs.declared.control.Control.{Control}
 use Rattle.cse_typing.specs.declared.control.Control.TheVariants as c
-use Rattle.cse_typing.specs.Bracket.{IsBracket, IsFine, around, first}
+use Rattle.cse_typing.specs.Bracket.{IsBracket, IsFine, around}
 use Rattle.cse_typing.specs.Kinds.{gift_kinds}
 use Rattle.cse_typing.specs.Skeleton.{control_by}
 use Rattle.cse_typing.specs.Signature.{◌⇒◌, given, signature_by, loops_by, is_record}
-use Rattle.cse_typed.specs.Typed.{Number, Which, Here, At, Argument, OfNumber, OfWords, Limit, Fixed, Counted, Counting, Statement, Statements, Arms}
-use Rattle.cse_typed.specs.Typed.{Empty, Set, SetText, SetItem, SetTextItem, SetCell, CallOf, If, For, Do, Jump', Impute, PutDeck, ErrMsg, no_statement, statement_and, no_arm, else_of, arm}
+use Rattle.cse_typed.specs.Typed.{Limit, Fixed, Counted, Counting}
 use Rattle.cse_emit.specs.Wide as w
 use Rattle.cse_emit.specs.Wide.{Wide, bare, with_a, with_c, jump, jump_size, jump_over, value}
 use Rattle.cse_emit.specs.Numbers.{load, store}
 use Rattle.cse_emit.specs.Statements.{known, limit_code, turns, turns_size_by, turns_code_by, head_size, head_code, step_code, exit_size_by, exit_code_by, front_size, guard_size}
-use Rattle.cse_emitted.specs.Fit.{Spot, IsRecord, IsNumberVariable, IsExit, LimitFits, CountingFits, over}
-use Rattle.cse_emitted.proofs.At.{HasAt, has_front, has_back}
-use Rattle.cse_emitted.proofs.Spans.{Span, joined, single, IsSealed, sealed_join, sealed_one, sealed_around, jump_fine, loop_sealed, opener_fine}
+use Rattle.cse_emitted.specs.Fit.{Spot, IsExit, LimitFits, CountingFits, over}
+use Rattle.cse_emitted.proofs.At.{HasAt}
+use Rattle.cse_emitted.proofs.Spans.{joined, single, IsSealed, sealed_join, sealed_one, sealed_around, jump_fine, loop_sealed, opener_fine}
 use Rattle.cse_emitted.proofs.Counts.{counts_loop}
-use Rattle.cse_emitted.proofs.WideRule.{Stack, wide_control, wide_skeleton, wide_rule, wide_loops, wide_in_loop}
+use Rattle.cse_emitted.proofs.WideRule.{Stack, wide_control, wide_rule, wide_loops, wide_in_loop}
 use Rattle.cse_emitted.proofs.StatementStacks.{N, NN, turns_stacks_by, head_stacks, step_stacks, exit_stacks_by, jump_by}
 use Rattle.cse_emitted.proofs.Rules.{ruled, load_local, total_rule, load_rule, load_steps, store_rule, store_steps}
-use Rattle.cse_emitted.proofs.Parts.{stack_is, IsBare, IsPart, Led, Fine, Neat, part_one, part_branch, part_jump, fine_one, neat_one, control_at, bare_sealed}
+use Rattle.cse_emitted.proofs.Parts.{stack_is, IsBare, Led, Fine, Neat, part_one, part_branch, part_jump, fine_one, neat_one, control_at, bare_sealed}
 use Rattle.cse_emitted.proofs.Chains.{sk, t, Part, join, none, to, step, moved}
-use Rattle.cse_emitted.proofs.Seals.{opened}
 
 module _ (s : Spot) (ws : List Wide) (all : List Stack) (bounds : List ℕ) where
   abbrev K : List Control
@@ -95,17 +91,17 @@ module _ (s : Spot) (ws : List Wide) (all : List Stack) (bounds : List ℕ) wher
   jumps_part : (u k' end rest_steps : ℕ) → end ≡ u + jump_size k' + k' → end < length K → T u ≡ [] → T (u + jump_size k') ≡ [] → T end ≡ [] → HasAt ws u (jump_over end k') → P (u + jump_size k') end rest_steps → P u (u + jump_size k') (jump_size k')
   unfolding control_by
   jumps_part u k' end rest_steps e lt tu tv te h others = ⊎_elim
-    (λ (x : (k' ≡ 0) × (k' == 0 ≡ true)). let z = x.0 in to s ws all bounds u u (u + jump_size k') 0 (jump_size k') (omega arith) (omega arith) (none s ws all bounds u))
-    (λ (x : (1 ≤ k') × (k' == 0 ≡ false)).
-    let some = x.0 in
-    let h' = subst (HasAt ws u) (ap (λ b. if b then [] else jump end ∷ []) x.1) h in
-    let z : u + jump_size k' ≡ u + 1 = omega arith in
-    let one : IsSealed K u (u + 1) = sealed_one K u (c.Jump end) (control_at s.scene ws all bounds u (jump end) h'.0) refl refl in
-    let rest = subst (λ v. IsSealed K v end) z others.sealed in
-    let sealed = sealed_join K u (u + 1) end (omega arith) (omega arith) one rest in
-    let j = part_jump s.scene ws all bounds u end [] h'.0 tu te (inl (moved s ws all bounds _ _ [] z tv)) (jump_fine K u end (omega arith) lt sealed) in
-    to s ws all bounds u (u + 1) (u + jump_size k') 1 (jump_size k') (sym z) (omega arith) j)
-    (jump_by k')
+      (λ (x : (k' ≡ 0) × (k' == 0 ≡ true)). let z = x.0 in to s ws all bounds u u (u + jump_size k') 0 (jump_size k') (omega arith) (omega arith) (none s ws all bounds u))
+      (λ (x : (1 ≤ k') × (k' == 0 ≡ false)).
+      let some = x.0 in
+      let h' = subst (HasAt ws u) (ap (λ b. if b then [] else jump end ∷ []) x.1) h in
+      let z : u + jump_size k' ≡ u + 1 = omega arith in
+      let one : IsSealed K u (u + 1) = sealed_one K u (c.Jump end) (control_at s.scene ws all bounds u (jump end) h'.0) refl refl in
+      let rest = subst (λ v. IsSealed K v end) z others.sealed in
+      let sealed = sealed_join K u (u + 1) end (omega arith) (omega arith) one rest in
+      let j = part_jump s.scene ws all bounds u end [] h'.0 tu te (inl (moved s ws all bounds _ _ [] z tv)) (jump_fine K u end (omega arith) lt sealed) in
+      to s ws all bounds u (u + 1) (u + jump_size k') 1 (jump_size k') (sym z) (omega arith) j)
+      (jump_by k')
 
   -- a condition, what it guards, a jump, and what stands behind
   pub guard_part : (p m n k' end mc nb rest_steps : ℕ) → end ≡ p + guard_size m n k' → end < length K → P p (p + m) mc → T (p + m) ≡ N → slice_get ws (p + m) ≡ Some (with_c ops.JumpUnless (p + front_size m n k')) → T (p + m + 1) ≡ [] → P (p + m + 1) (p + m + 1 + n) nb → T (p + m + 1 + n) ≡ [] → HasAt ws (p + m + 1 + n) (jump_over end k') → T (p + front_size m n k') ≡ [] → P (p + front_size m n k') (p + front_size m n k' + k') rest_steps → T end ≡ [] → P p (p + guard_size m n k') (mc + (1 + (nb + (jump_size k' + rest_steps))))
@@ -237,10 +233,10 @@ module _ (s : Spot) (ws : List Wide) (all : List Stack) (bounds : List ℕ) wher
       let c3 = turns_part x a b q f.1 f.2 h.1.1 s'.1.1 (moved s ws all bounds _ _ N z e) in
       to s ws all bounds p (q + n) _ (1 + (1 + n)) _ (sym z) (omega arith) (join s ws all bounds p (p + 1) (q + n) 1 _ c1 (join s ws all bounds (p + 1) q (q + n) 1 n c2 c3))
     where
-    turns_first : (a b : Option ℤ) (q : ℕ) → HasAt all q (turns_stacks_by a b) → T q ≡ []
-    turns_first (Some a) (Some b) q h = stack_is all q [] h.0
-    turns_first (Some a) None q h = stack_is all q [] h.0
-    turns_first None b q h = stack_is all q [] h.0
+      turns_first : (a b : Option ℤ) (q : ℕ) → HasAt all q (turns_stacks_by a b) → T q ≡ []
+      turns_first (Some a) (Some b) q h = stack_is all q [] h.0
+      turns_first (Some a) None q h = stack_is all q [] h.0
+      turns_first None b q h = stack_is all q [] h.0
 
   -- the end of a turn: the variable is counted on
   pub count_part : (x : Counting) (p : ℕ) → CountingFits s x → HasAt ws p (step_code s.setting x) → HasAt all p step_stacks → T (p + 4) ≡ [] → P p (p + 4) 4

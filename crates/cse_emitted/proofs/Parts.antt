@@ -1,21 +1,18 @@
 -- All that is shown of a stretch of code: that it follows its rules, where it leads, its brackets, and its steps.
-use Rattle.std.proofs.Common.{◌≡◌, ℕ, suc, ◌+◌, ◌<◌, ◌≤◌, Bool, true, false, List, [], ◌∷◌, ◌++◌, length, Option, Some, None, refl, sym, ap, ◌∙◌, subst, inl, inr, arith, ◌*◌}
-use Rattle.std.specs.Prelude.{slice_get, slice_index, option_map, unwrap_or, ◌⊎◌, replicate}
+use Rattle.std.proofs.Common.{◌≡◌, ℕ, ◌+◌, ◌<◌, ◌≤◌, Bool, true, false, List, [], ◌∷◌, length, Some, None, refl, sym, ap, ◌∙◌, subst, inl, inr, arith}
+use Rattle.std.specs.Prelude.{slice_get, slice_index, option_map, unwrap_or, ◌⊎◌}
 use Rattle.std.specs.List.{list_all}
 use Rattle.std.proofs.lemmas.Bool.{and_parts, false≢true}
 use Rattle.std.proofs.lemmas.Option.{slice_get-map, same_Some}
 use Rattle.cse_parts.specs.Image.{Lists}
-use Rattle.cse_parts.specs.declared.instruction.Op.TheVariants as ops
-use Rattle.cse_typing.specs.declared.kind.Kind.TheVariants as kind
 use Rattle.cse_typing.specs.declared.control.Control.{Control}
 use Rattle.cse_typing.specs.declared.control.Control.TheVariants as c
-use Rattle.cse_typing.specs.Bracket.{named_end, named_opener, IsBracket, around, first, IsFine, IsJump}
+use Rattle.cse_typing.specs.Bracket.{named_end, named_opener, IsFine, IsJump}
 use Rattle.cse_typing.specs.Skeleton.{control_by}
 use Rattle.cse_typing.specs.Signature.{Scene, signature_by}
 use Rattle.cse_typing.specs.Rule.{Edge}
 use Rattle.cse_typing.specs.Typing.{AgreesBelow, LeadsTo}
 use Rattle.cse_bounds.specs.Bound.{cost}
-use Rattle.cse_emit.specs.Wide as w
 use Rattle.cse_emit.specs.Wide.{Wide, jump}
 use Rattle.cse_emitted.proofs.At.{HasAt}
 use Rattle.cse_emitted.proofs.Counts.{Counts, counts_join, counts_one, counts_none}

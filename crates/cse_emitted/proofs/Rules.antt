@@ -1,24 +1,23 @@
 -- Where each instruction of expressions and statements leads.
-use Rattle.std.proofs.Common.{◌≡◌, ℕ, suc, ◌+◌, ◌<◌, ◌≤◌, Bool, true, false, List, [], ◌∷◌, ◌++◌, length, map, Option, Some, None, refl, sym, ap, ◌∙◌, subst, arith}
-use Rattle.std.specs.Prelude.{slice_get, nat_eq, reverse, take, ◌==◌, ◌&&◌, if◌then◌else◌, option_and_then}
+use Rattle.std.proofs.Common.{◌≡◌, ℕ, ◌+◌, true, List, [], ◌∷◌, ◌++◌, Option, Some, None, refl, ap, ◌∙◌}
+use Rattle.std.specs.Prelude.{slice_get, nat_eq, if◌then◌else◌, option_and_then}
 use Rattle.std.proofs.lemmas.Bool.{eq-eqb, and_from}
 use Rattle.cse_value.specs.declared.shape.ItemShape.{ItemShape}
 use Rattle.cse_parts.specs.Image.{ArrayLists, MessageLists, RoutineLists}
-use Rattle.cse_parts.specs.Placeholders.{message_kinds}
 use Rattle.cse_parts.specs.declared.entries.Gift.TheVariants as gifts
 use Rattle.cse_parts.specs.declared.instruction.Op.TheVariants as ops
 use Rattle.cse_typing.specs.declared.kind.Kind.{Kind}
 use Rattle.cse_typing.specs.declared.kind.Kind.TheVariants as k
 use Rattle.cse_typing.specs.declared.control.Control.TheVariants as c
-use Rattle.cse_typing.specs.Kinds.{same_kind, below, top_of, gift_kinds, local_kind, argument_kind}
+use Rattle.cse_typing.specs.Kinds.{same_kind, below, top_of, gift_kinds}
 use Rattle.cse_typing.specs.Skeleton.{control_by}
-use Rattle.cse_typing.specs.Signature.{Scene, Signature, ◌⇒◌, given, signature_by, is_record, rows_of, id_number, id_text, number_item, text_item, global_at, local_at, stored_at, storable, indexes_of, parameters_of, arguments_of}
+use Rattle.cse_typing.specs.Signature.{Scene, Signature, ◌⇒◌, given, signature_by, is_record, rows_of, id_number, id_text, number_item, text_item, global_at, local_at, storable, indexes_of, parameters_of, arguments_of}
 use Rattle.cse_typing.specs.Rule.{Edge, exits}
 use Rattle.cse_typed.specs.declared.tree.Variable.{Variable}
 use Rattle.cse_typed.specs.declared.tree.Variable.TheVariants as v
 use Rattle.cse_emit.specs.Wide as w
 use Rattle.cse_emit.specs.Wide.{Wide, with_a, with_b, with_c, occurrence}
-use Rattle.cse_emit.specs.Setting.{Setting, result_local}
+use Rattle.cse_emit.specs.Setting.{result_local}
 use Rattle.cse_emit.specs.Numbers.{load, store}
 use Rattle.cse_emitted.specs.Fit.{Spot, IsNumberVariable, IsEntry}
 use Rattle.cse_emitted.proofs.WideRule.{Stack, wide_control, wide_signature, wide_rule, wide_in_loop, field_a}

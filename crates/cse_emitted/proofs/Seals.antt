@@ -1,20 +1,19 @@
 -- The code of statements is sealed: its brackets begin and end in it.
-use Rattle.std.proofs.Common.{◌≡◌, ℕ, ◌+◌, ◌<◌, true, List, [], ◌∷◌, ◌++◌, length, Some, None, refl, sym, ap, ◌∙◌, subst, arith}
+use Rattle.std.proofs.Common.{◌≡◌, ℕ, ◌+◌, ◌<◌, true, List, [], ◌∷◌, ◌++◌, length, Some, refl, ap, ◌∙◌, subst, arith}
 use Rattle.std.specs.Prelude.{slice_get}
 use Rattle.cse_parts.specs.declared.instruction.Op.TheVariants as ops
 use Rattle.cse_typing.specs.declared.control.Control.{Control}
 use Rattle.cse_typing.specs.Bracket.{named_end, named_opener, IsBracket}
 use Rattle.cse_typing.specs.Skeleton.{control_by}
 use Rattle.cse_typing.specs.Signature.{Scene}
-use Rattle.cse_typed.specs.declared.tree.Variable.{Variable}
-use Rattle.cse_typed.specs.Typed.{Number, Which, Here, At, Argument, OfNumber, OfWords, Limit, Fixed, Counted, Counting, Statement, Statements, Arms}
+use Rattle.cse_typed.specs.Typed.{Statement, Statements, Arms}
 use Rattle.cse_typed.specs.Typed.{Empty, Set, SetText, SetItem, SetTextItem, SetCell, CallOf, If, For, Do, Jump', Impute, PutDeck, ErrMsg, no_statement, statement_and, no_arm, else_of, arm}
 use Rattle.cse_emit.specs.Wide as w
 use Rattle.cse_emit.specs.Wide.{Wide, with_a, with_c, jump, jump_over, jump_size}
 use Rattle.cse_emit.specs.Setting.{Setting}
 use Rattle.cse_emit.specs.declared.setting.Loop.{Loop}
 use Rattle.cse_emit.specs.Numbers.{store, number_size, number_code}
-use Rattle.cse_emit.specs.Statements.{head_size, head_code, turn_limit, step_code, front_size, front_code, loop_to, opener_at, turn_end_at, statement_size, block_size, arms_size, statement_code, block_code, arms_code}
+use Rattle.cse_emit.specs.Statements.{head_size, head_code, turn_limit, step_code, front_size, front_code, loop_to, statement_size, block_size, arms_size, statement_code, block_code, arms_code}
 use Rattle.cse_emitted.proofs.At.{HasAt, has_front, has_back}
 use Rattle.cse_emitted.proofs.WideRule.{Stack, wide_control, wide_skeleton}
 use Rattle.cse_emitted.proofs.Spans.{IsSealed, sealed_join, sealed_none, loop_sealed}
@@ -22,7 +21,7 @@ use Rattle.cse_emitted.proofs.Parts.{is_plain, IsBare, bare_code, bare_sealed, c
 use Rattle.cse_emitted.proofs.Plain.{ArePlain, plain_more, plain_self, number_plain, store_plain}
 use Rattle.cse_emitted.proofs.Lengths.{number_length}
 use Rattle.cse_emitted.proofs.StatementStacks.{jump_length}
-use Rattle.cse_emitted.proofs.Blocks.{IsSimple, simple_plain, head_plain, step_plain, jump_over_plain, head_length, front_length, statement_length, block_length, arms_length}
+use Rattle.cse_emitted.proofs.Blocks.{IsSimple, simple_plain, head_plain, step_plain, jump_over_plain, head_length, front_length, statement_length, block_length}
 
 module _ (sc : Scene) (ws : List Wide) (all : List Stack) (bounds : List ℕ) where
   abbrev sk : List Control

@@ -1,6 +1,6 @@
 -- The code of statements that hold no others is typed, part by part.
-use Rattle.std.proofs.Common.{◌≡◌, ℕ, suc, ◌+◌, ◌<◌, ◌≤◌, Bool, true, false, List, [], ◌∷◌, ◌++◌, length, map, Option, Some, None, refl, sym, ap, ◌∙◌, subst, inl, inr, arith, ⊎_elim}
-use Rattle.std.specs.Prelude.{slice_get, slice_index, pos, ◌==◌, not, ◌||◌, reverse, if◌then◌else◌}
+use Rattle.std.proofs.Common.{◌≡◌, ℕ, ◌+◌, ◌<◌, ◌≤◌, Bool, true, false, List, [], ◌∷◌, ◌++◌, length, map, Some, refl, sym, ap, ◌∙◌, subst, arith, ⊎_elim}
+use Rattle.std.specs.Prelude.{slice_index, pos, ◌==◌, not, ◌||◌, reverse, if◌then◌else◌}
 use Rattle.std.proofs.lemmas.Bool.{cases_Bool}
 use Rattle.std.specs.List.{list_any}
 use Rattle.cse_parts.specs.declared.instruction.Op.TheVariants as ops
@@ -15,20 +15,20 @@ use Rattle.cse_typed.specs.declared.tree.Pick.{Pick}
 use Rattle.cse_typed.specs.Typed.{Number, Numbers, Which, Here, At, Argument, OfNumber, OfWords}
 use Rattle.cse_emit.specs.Wide as w
 use Rattle.cse_emit.specs.Wide.{Wide, bare, with_a, with_b, with_c, jump, jump_size, jump_over, occurrence, pops}
-use Rattle.cse_emit.specs.Numbers.{can_fail, deepest, picks_size, picks_code, behind, count, number_size, words_size, numbers_size, indexes_size, number_code, words_code, numbers_code, indexes_code}
+use Rattle.cse_emit.specs.Numbers.{can_fail, deepest, picks_size, picks_code, behind, count, number_size, numbers_size, indexes_size, number_code, numbers_code, indexes_code}
 use Rattle.cse_emit.specs.Statements.{which_size, which_code, drops_size, drops_code, argument_size, argument_code, arguments_size, arguments_code}
 use Rattle.cse_emitted.specs.Fit.{Spot, IsRecord, IsArray, IsDeck, IsFunction, IsMessage, kind_of, WhichFits, ArgumentFits, ArgumentsFit, NumberFits, NumbersFit}
 use Rattle.cse_emitted.specs.Steps.{number_calls, numbers_calls, which_calls, argument_calls, arguments_calls}
 use Rattle.cse_emitted.proofs.At.{HasAt, has_front, has_back}
 use Rattle.cse_emitted.proofs.WideRule.{Stack, wide_control, wide_rule, wide_in_loop}
 use Rattle.cse_emitted.proofs.Stacks.{picks_stacks, picks_after, picks_left, indexes_after, indexes_left, numbers_after, number_stacks, numbers_stacks, indexes_stacks}
-use Rattle.cse_emitted.proofs.StatementStacks.{N, which_stacks, drops_stacks, argument_stacks, arguments_stacks, arguments_after, jump_by, which_stacks_length, argument_stacks_length, arguments_stacks_length, which_begins, arguments_begin}
+use Rattle.cse_emitted.proofs.StatementStacks.{N, which_stacks, drops_stacks, argument_stacks, arguments_stacks, arguments_after, jump_by, which_stacks_length, argument_stacks_length, arguments_stacks_length}
 use Rattle.cse_emitted.proofs.Lengths.{number_length, numbers_length, indexes_length, picks_length, number_stacks_length, numbers_stacks_length, indexes_stacks_length, picks_stacks_length, picks_left_length, indexes_left_length}
 use Rattle.cse_emitted.proofs.Blocks.{which_length, argument_length, arguments_length}
 use Rattle.cse_emitted.proofs.Begins.{Begins, begins_at, number_start, words_start}
 use Rattle.cse_emitted.proofs.Piles.{below_piled}
 use Rattle.cse_emitted.proofs.Rules.{piled, load_local, current_rule, occurrence_rule, store_cell_rule, call_rule, message_rule}
-use Rattle.cse_emitted.proofs.Parts.{stack_at, stack_is, IsBare, Led, part_branch, part_jump, part_call, led_place}
+use Rattle.cse_emitted.proofs.Parts.{stack_is, IsBare, Led, part_branch, part_jump, part_call, led_place}
 use Rattle.cse_emitted.proofs.Chains.{Descends, sk, t, Part, join, none, to, step, moved, then_step, jumps, pops_part}
 use Rattle.cse_emitted.proofs.Expressions.{cell_below, deck_below, call_below, descends_indexes, descends_picks, left_start, some_led, count_behind, picks_led, picks_part, PicksLeftAt, indexes_part, number_part, words_part, numbers_part}
 
@@ -42,13 +42,13 @@ module _ (s : Spot) (ws : List Wide) (all : List Stack) (bounds : List ℕ) wher
   deep_fails : (xs : List Pick) → 1 ≤ deepest xs → can_fail xs ≡ true
   deep_fails [] h = absurd (omega arith)
   deep_fails (x ∷ xs) h = ⊎_elim
-    (λ (e : can_fail xs ≡ true). or_right (not x.has_leftover) (can_fail xs) e)
-    (λ (e : can_fail xs ≡ false). let z : deepest (x ∷ xs) ≡ 0 = ap (λ b. if b then deepest xs + 1 else 0) e in absurd (omega arith))
-    (cases_Bool (can_fail xs))
+      (λ (e : can_fail xs ≡ true). or_right (not x.has_leftover) (can_fail xs) e)
+      (λ (e : can_fail xs ≡ false). let z : deepest (x ∷ xs) ≡ 0 = ap (λ b. if b then deepest xs + 1 else 0) e in absurd (omega arith))
+      (cases_Bool (can_fail xs))
     where
-    or_right : (a b : Bool) → b ≡ true → (a || b) ≡ true
-    or_right true b h = refl
-    or_right false b h = h
+      or_right : (a b : Bool) → b ≡ true → (a || b) ≡ true
+      or_right true b h = refl
+      or_right false b h = h
 
   arguments_piled : (st : Stack) (xs : List Argument) → arguments_after st xs ≡ piled (map kind_of xs) st
   arguments_piled st [] = refl
@@ -63,9 +63,9 @@ module _ (s : Spot) (ws : List Wide) (all : List Stack) (bounds : List ℕ) wher
   argument_start p st [] h e = moved s ws all bounds (p + 0) p st (omega arith) e
   argument_start p st (x ∷ xs) h e = first x (has_front all p (argument_stacks s st x) _ h)
     where
-    first : (x : Argument) → HasAt all p (argument_stacks s st x) → T p ≡ st
-    first (OfNumber x) h = number_start s all p st x h
-    first (OfWords x) h = words_start s all p st x h
+      first : (x : Argument) → HasAt all p (argument_stacks s st x) → T p ≡ st
+      first (OfNumber x) h = number_start s all p st x h
+      first (OfWords x) h = words_start s all p st x h
 
   drops_left : (l : List Stack) (n q : ℕ) → length l ≡ n → HasAt all q (drops_stacks l) → HasAt all (q + jump_size n) l
   drops_left [] n q e h = tt
@@ -76,7 +76,6 @@ module _ (s : Spot) (ws : List Wide) (all : List Stack) (bounds : List ℕ) wher
   drops_start (a ∷ l) n q e h end = stack_is all q [] h.0
 
   module _ (lo hi : ℕ) (bare' : IsBare s.scene ws all bounds lo hi) (inside : hi < length (sk s ws all bounds)) (looped : (q of : ℕ) → lo ≤ q → q < hi → list_any (λ o. o == of) s.loops ≡ true → wide_in_loop s.scene.lists ws q of ≡ true) where
-
     -- ---- the place of an item
 
     pub which_part : (which : Which) (of p fail : ℕ) → IsRecord s of → WhichFits s of which → lo ≤ p → p + which_size which ≤ fail → fail ≤ hi → HasAt ws p (which_code s.setting of fail p which) → HasAt all p (which_stacks s of which) → T (p + which_size which) ≡ k.Occurrence of ∷ [] → T fail ≡ [] → P p (p + which_size which) (which_size which + which_calls bounds which)
@@ -125,9 +124,9 @@ module _ (s : Spot) (ws : List Wide) (all : List Stack) (bounds : List ℕ) wher
         let end = q + drops_size n in
         let some : 1 ≤ n = omega (arith, e) in
         let over = ⊎_elim
-          (λ (x : (n ≡ 0) × (n == 0 ≡ true)). let y = x.0 in absurd (omega arith))
-          (λ (x : (1 ≤ n) × (n == 0 ≡ false)). ap (λ b. if b then [] else jump end ∷ []) x.1)
-          (jump_by n) in
+        (λ (x : (n ≡ 0) × (n == 0 ≡ true)). let y = x.0 in absurd (omega arith))
+        (λ (x : (1 ≤ n) × (n == 0 ≡ false)). ap (λ b. if b then [] else jump end ∷ []) x.1)
+        (jump_by n) in
         let h' : HasAt ws q (jump end ∷ pops n) = subst (λ j. HasAt ws q (j ++ pops n)) over h in
         let hp = subst (λ n. HasAt ws (q + 1) (pops n)) (sym e) h'.1 in
         let z : end ≡ q + 1 + length (a ∷ l) = omega (arith, e) in

@@ -1,11 +1,11 @@
 -- Each instruction of the code of a tree that fits may stand in its routine: calls go to smaller routines, and what needs a case stands in
 -- routines of a case.
-use Rattle.std.proofs.Common.{◌≡◌, ℕ, ◌+◌, ℤ, Bool, true, false, ◌&&◌, List, [], ◌∷◌, ◌++◌, Option, Some, None, refl, sym, ap, ◌∙◌, subst, arith}
-use Rattle.std.specs.Prelude.{zero, suc, not, ◌==◌, ◌||◌, if◌then◌else◌}
+use Rattle.std.proofs.Common.{◌≡◌, ℕ, ◌+◌, ℤ, Bool, true, false, ◌&&◌, ◌<◌, ◌≤◌, List, [], ◌∷◌, ◌++◌, length, Option, Some, None, refl, sym, ap, ◌∙◌, subst, ⊎_elim, arith}
+use Rattle.std.specs.Prelude.{slice_get, zero, suc, not, ◌==◌, if◌then◌else◌}
 use Rattle.std.specs.List.{list_all}
-use Rattle.std.proofs.lemmas.Bool.{and_from}
+use Rattle.std.proofs.lemmas.Bool.{and_from, and_parts, cases_eq}
+use Rattle.std.proofs.lemmas.Option.{same_Some, slice_get_within}
 use Rattle.std.proofs.lemmas.List.Folds.{list_all-append}
-use Rattle.cse_value.specs.declared.shape.RecordShape.{RecordShape}
 use Rattle.cse_value.specs.declared.number.Num.{Num}
 use Rattle.cse_value.specs.declared.number.Num.TheVariants as num
 use Rattle.cse_parts.specs.declared.instruction.Op.{Op}
@@ -15,7 +15,8 @@ use Rattle.cse_syntax.specs.declared.tree.Operator.TheVariants as operators
 use Rattle.cse_syntax.specs.declared.tree.Count.TheVariants as counts
 use Rattle.cse_syntax.specs.declared.tree.Jump.{Jump}
 use Rattle.cse_syntax.specs.declared.tree.Jump.TheVariants as j
-use Rattle.cse_typing.specs.Calls.{needs_case, calls_well}
+use Rattle.cse_parts.specs.declared.instruction.Instr.{Instr}
+use Rattle.cse_typing.specs.Calls.{needs_case, calls_well, may_stand}
 use Rattle.cse_typing.specs.Order.{is_run}
 use Rattle.cse_typed.specs.declared.tree.Variable.{Variable}
 use Rattle.cse_typed.specs.declared.tree.Variable.TheVariants as v
@@ -31,9 +32,13 @@ use Rattle.cse_typed.specs.Typed.{Empty, Set, SetText, SetItem, SetTextItem, Set
 use Rattle.cse_emit.specs.Wide as w
 use Rattle.cse_emit.specs.Wide.{Wide, bare, with_a, with_b, with_c, pops, undefined, jump, jump_over, value}
 use Rattle.cse_emit.specs.declared.setting.Loop.{Loop}
-use Rattle.cse_emit.specs.Numbers.{load, store, operation_of, guarded, here_code, present_size, number_of_item, text_of_item, can_fail, deepest, row, picks_size, picks_code, deck_code, behind, number_size, words_size, numbers_size, indexes_size, number_code, words_code, numbers_code, indexes_code, operations_code}
-use Rattle.cse_emit.specs.Statements.{known, limit_code, which_size, which_code, drops_size, drops_code, argument_size, argument_code, arguments_code, turns_code_by, head_size, head_code, step_code, exit_code_by, jump_code, front_size, front_code, loop_to, opener_at, turn_end_at, statement_size, block_size, arms_size, statement_code, block_code, arms_code}
+use Rattle.cse_emit.specs.Numbers.{load, store, operation_of, guarded, here_code, present_size, number_of_item, text_of_item, can_fail, deepest, row, picks_size, picks_code, deck_code, behind, number_size, words_size, indexes_size, number_code, words_code, numbers_code, indexes_code, operations_code}
+use Rattle.cse_emit.specs.Statements.{limit_code, which_code, drops_size, drops_code, argument_size, argument_code, arguments_code, turns_code_by, head_code, step_code, exit_code_by, jump_code, front_code, loop_to, opener_at, turn_end_at, statement_size, block_size, arms_size, statement_code, block_code, arms_code}
 use Rattle.cse_emit.specs.Routines.{no_loop, entry_size_by, entry_code_by, routine_code}
+use Rattle.cse_emitted.specs.Stands.{Stands}
+use Rattle.cse_emitted.specs.Emitted.{InstructionsMayStand}
+use Rattle.cse_emitted.proofs.At.{HasAt, has_self}
+use Rattle.cse_emitted.proofs.Transport.{each_stands}
 use Rattle.cse_emitted.specs.Fit.{Spot, HasCase, IsRecord, IsNumberPresent, IsTextPresent, IsFunction, ArePicks, WhichFits, ArgumentFits, ArgumentsFit, LimitFits, CountingFits, Within, over, NumberFits, WordsFit, NumbersFit, OperationsFit, StatementFits, BlockFits, ArmsFit}
 
 abbrev pub op_of : Wide → Op
@@ -328,3 +333,28 @@ entry_may s (Some r) = may_more s _ _ (undefined_may s) (may_one s _ (free s _ r
 pub routine_may : (s : Spot) (body : Statements) → BlockFits s 64 false body → AllMay s (routine_code s.setting body)
 unfolding routine_code
 routine_may s body f = may_two s _ _ (entry_may s s.setting.result_at) (may_two s _ _ (block_may body s 64 false no_loop (entry_size_by s.setting.result_at) f) (exit_may s s.setting.result_at))
+
+-- ---- of the instructions that stand for the code
+
+instr_may : (s : Spot) (i : Instr) (y : Wide) → Stands s.scene.lists i y → wide_stands s y ≡ true → may_stand s.scene.lists.routines s.number s.scene.routine.ambient i ≡ true
+unfolding calls_well
+instr_may s i (w.Constant z) f e = ap (λ o. not (is_run s.scene.routine.ambient && needs_case o) && calls_well s.scene.lists.routines s.number (is_run s.scene.routine.ambient) o i.c) f.0 ∙ e
+instr_may s i (w.Chars text) f e = ap (λ o. not (is_run s.scene.routine.ambient && needs_case o) && calls_well s.scene.lists.routines s.number (is_run s.scene.routine.ambient) o i.c) f.0 ∙ e
+instr_may s i (w.Turns limit end) f e = ap (λ o. not (is_run s.scene.routine.ambient && needs_case o) && calls_well s.scene.lists.routines s.number (is_run s.scene.routine.ambient) o i.c) f.0 ∙ e
+instr_may s i (w.Plain op a b d) f e = ap (may_stand s.scene.lists.routines s.number s.scene.routine.ambient) f ∙ e
+
+each_passes : (test : Wide → Bool) (ws l : List Wide) (p : ℕ) → HasAt ws p l → list_all test l ≡ true → (q : ℕ) (y : Wide) → p ≤ q → q < p + length l → slice_get ws q ≡ Some y → test y ≡ true
+each_passes test ws [] p h e q y le lt at = absurd (omega arith)
+each_passes test ws (x ∷ xs) p h e q y le lt at =
+    let k = and_parts (test x) (list_all test xs) e in
+    ⊎_elim
+    (λ (z : p ≡ q). let same : x ≡ y = same_Some x y (sym h.0 ∙ subst (λ n. slice_get ws n ≡ Some y) (sym z) at) in subst (λ y. test y ≡ true) same k.0)
+    (λ (z : p ≡ q → ⊥). each_passes test ws xs (p + 1) h.1 k.1 q y (omega arith) (omega arith) at)
+    (cases_eq p q)
+
+pub instructions_may_stand : InstructionsMayStand
+instructions_may_stand s body code h q i lt at =
+    let ws = routine_code s.setting body in
+    let b = each_stands s.scene code ws h.stands q i lt at in
+    let within = slice_get_within ws q b.0 b.1 in
+    instr_may s i b.0 b.2 (each_passes (wide_stands s) ws ws 0 (has_self ws) (routine_may s body h.fits).by q b.0 (omega arith) (omega (arith, within)) b.1)

@@ -1,19 +1,17 @@
 -- The stacks that stand before the instructions of statements: a statement begins and ends with the empty one.
-use Rattle.std.proofs.Common.{◌≡◌, ℕ, zero, suc, ◌+◌, ℤ, Bool, true, false, List, [], ◌∷◌, ◌++◌, length, Option, Some, None, refl, sym, ap, ◌∙◌, subst, inl, inr, ⊎_elim, arith, length-append}
+use Rattle.std.proofs.Common.{◌≡◌, ℕ, ◌+◌, ℤ, true, false, List, [], ◌∷◌, ◌++◌, length, Option, Some, None, refl, sym, ap, ◌∙◌, subst, inl, inr, ⊎_elim, arith}
 use Rattle.std.specs.Prelude.{◌==◌, ◌≤◌, if◌then◌else◌, ◌⊎◌}
 use Rattle.std.proofs.lemmas.Bool.{cases_Bool, cases_eq, eqb-true, eq-eqb, false≢true}
-use Rattle.cse_typing.specs.declared.kind.Kind.{Kind}
 use Rattle.cse_typing.specs.declared.kind.Kind.TheVariants as k
 use Rattle.cse_syntax.specs.declared.tree.Jump.{Jump}
 use Rattle.cse_syntax.specs.declared.tree.Jump.TheVariants as j
-use Rattle.cse_typed.specs.declared.tree.Found.{Found}
 use Rattle.cse_typed.specs.declared.tree.Found.TheVariants as h
 use Rattle.cse_typed.specs.Typed.{Number}
-use Rattle.cse_typed.specs.Typed.{Which, Here, At, Argument, OfNumber, OfWords, Limit, Fixed, Counted, Counting, Statement, Statements, Arms}
+use Rattle.cse_typed.specs.Typed.{Which, Here, At, Argument, OfNumber, OfWords, Counting, Statement, Statements, Arms}
 use Rattle.cse_typed.specs.Typed.{Empty, Set, SetText, SetItem, SetTextItem, SetCell, CallOf, If, For, Do, Jump', Impute, PutDeck, ErrMsg, no_statement, statement_and, no_arm, else_of, arm}
-use Rattle.cse_emit.specs.Wide.{Wide, jump_size}
-use Rattle.cse_emit.specs.Numbers.{behind, deepest, number_size}
-use Rattle.cse_emit.specs.Statements.{known, which_size, drops_size, argument_size, arguments_size, turns_size_by, head_size, exit_size_by, jump_code_size, front_size, guard_size, statement_size, block_size, arms_size}
+use Rattle.cse_emit.specs.Wide.{jump_size}
+use Rattle.cse_emit.specs.Numbers.{behind, deepest}
+use Rattle.cse_emit.specs.Statements.{known, which_size, drops_size, argument_size, arguments_size, turns_size_by, head_size, exit_size_by, jump_code_size, front_size, statement_size, block_size, arms_size}
 use Rattle.cse_emitted.specs.Fit.{Spot, over, kind_of}
 use Rattle.cse_emitted.proofs.At.{HasAt, has_front, has_back}
 use Rattle.cse_emitted.proofs.WideRule.{Stack}
@@ -145,15 +143,15 @@ jump_code_stacks_length s j.Exit = exit_stacks_length s.setting.result_at
 -- a jump over nothing is left out
 pub jump_by : (n : ℕ) → ((n ≡ 0) × (n == 0 ≡ true)) ⊎ ((1 ≤ n) × (n == 0 ≡ false))
 jump_by n = ⊎_elim
-  (λ (e : n == 0 ≡ true). inl (eqb-true n 0 e, e))
-  (λ (e : n == 0 ≡ false). inr (⊎_elim (λ (z : n ≡ 0). absurd (false≢true (sym e ∙ eq-eqb n 0 z))) (λ (z : n ≡ 0 → ⊥). omega arith) (cases_eq n 0), e))
-  (cases_Bool (n == 0))
+    (λ (e : n == 0 ≡ true). inl (eqb-true n 0 e, e))
+    (λ (e : n == 0 ≡ false). inr (⊎_elim (λ (z : n ≡ 0). absurd (false≢true (sym e ∙ eq-eqb n 0 z))) (λ (z : n ≡ 0 → ⊥). omega arith) (cases_eq n 0), e))
+    (cases_Bool (n == 0))
 
 pub jump_length : {A : Type 0} (x : A) (n : ℕ) → length (if n == 0 then [] else x ∷ []) ≡ jump_size n
 jump_length x n = ⊎_elim
-  (λ (e : (n ≡ 0) × (n == 0 ≡ true)). let k = ap (λ b. length (if b then [] else x ∷ [])) e.1 in let z = e.0 in omega (arith, k))
-  (λ (e : (1 ≤ n) × (n == 0 ≡ false)). let k = ap (λ b. length (if b then [] else x ∷ [])) e.1 in let z = e.0 in omega (arith, k))
-  (jump_by n)
+    (λ (e : (n ≡ 0) × (n == 0 ≡ true)). let k = ap (λ b. length (if b then [] else x ∷ [])) e.1 in let z = e.0 in omega (arith, k))
+    (λ (e : (1 ≤ n) × (n == 0 ≡ false)). let k = ap (λ b. length (if b then [] else x ∷ [])) e.1 in let z = e.0 in omega (arith, k))
+    (jump_by n)
 
 jump_stacks_length : (n : ℕ) → length (jump_stacks n) ≡ jump_size n
 jump_stacks_length n = jump_length [] n
@@ -216,9 +214,9 @@ jump_begins s j.Break = begins_self [] _
 jump_begins s j.Next = begins_self [] _
 jump_begins s j.Exit = exit_begins s.setting.result_at
   where
-  exit_begins : (o : Option ℕ) → Begins [] (exit_stacks_by o)
-  exit_begins None = begins_self [] _
-  exit_begins (Some r) = begins_self [] _
+    exit_begins : (o : Option ℕ) → Begins [] (exit_stacks_by o)
+    exit_begins None = begins_self [] _
+    exit_begins (Some r) = begins_self [] _
 
 front_begins : (s : Spot) (x : Number) (n : ℕ) (b rest : List Stack) → Begins [] (front_stacks n (number_stacks s [] x) b ++ rest)
 front_begins s x n b rest = begins_front [] (front_stacks n (number_stacks s [] x) b) rest (begins_front [] (number_stacks s [] x) (N ∷ (b ++ jump_stacks n)) (number_begins s [] x))

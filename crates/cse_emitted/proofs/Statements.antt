@@ -1,6 +1,6 @@
 -- The code of statements is typed, and its brackets keep the rules.
-use Rattle.std.proofs.Common.{◌≡◌, ℕ, zero, suc, ◌+◌, ◌*◌, ◌<◌, ◌≤◌, Bool, true, false, List, [], ◌∷◌, ◌++◌, length, Option, Some, None, refl, sym, ap, ◌∙◌, subst, inl, inr, arith, ⊎_elim}
-use Rattle.std.specs.Prelude.{slice_get, ◌==◌, ◌||◌, if◌then◌else◌}
+use Rattle.std.proofs.Common.{◌≡◌, ℕ, zero, suc, ◌+◌, ◌*◌, ◌<◌, ◌≤◌, Bool, true, false, List, [], ◌∷◌, ◌++◌, length, Some, refl, sym, ap, ◌∙◌, subst, inl, arith, ⊎_elim}
+use Rattle.std.specs.Prelude.{◌==◌, ◌||◌, if◌then◌else◌}
 use Rattle.std.specs.List.{list_any}
 use Rattle.std.proofs.lemmas.Bool.{eq-eqb}
 use Rattle.cse_value.specs.Occurrences.{most_occurrences}
@@ -9,28 +9,26 @@ use Rattle.cse_syntax.specs.declared.tree.Jump.{Jump}
 use Rattle.cse_syntax.specs.declared.tree.Jump.TheVariants as j
 use Rattle.cse_typing.specs.declared.kind.Kind.TheVariants as k
 use Rattle.cse_typing.specs.declared.control.Control.{Control}
-use Rattle.cse_typing.specs.declared.control.Control.TheVariants as c
 use Rattle.cse_typing.specs.Bracket.{IsBracket, around, first}
 use Rattle.cse_typing.specs.Skeleton.{control_by}
-use Rattle.cse_typing.specs.Signature.{signature_by, loops_by}
-use Rattle.cse_typed.specs.declared.tree.Variable.{Variable}
-use Rattle.cse_typed.specs.Typed.{Number, Which, Here, At, Argument, OfNumber, OfWords, Limit, Fixed, Counted, Counting, Statement, Statements, Arms}
+use Rattle.cse_typing.specs.Signature.{signature_by}
+use Rattle.cse_typed.specs.Typed.{Number, Statement, Statements, Arms}
 use Rattle.cse_typed.specs.Typed.{Empty, Set, SetText, SetItem, SetTextItem, SetCell, CallOf, If, For, Do, Jump', Impute, PutDeck, ErrMsg, no_statement, statement_and, no_arm, else_of, arm}
 use Rattle.cse_emit.specs.Wide as w
 use Rattle.cse_emit.specs.Wide.{Wide, with_a, with_c, jump, jump_size, jump_over}
 use Rattle.cse_emit.specs.declared.setting.Loop.{Loop}
 use Rattle.cse_emit.specs.Numbers.{store, number_size, words_size, number_code, words_code}
-use Rattle.cse_emit.specs.Statements.{which_size, head_size, head_code, turn_limit, step_code, front_size, front_code, guard_size, guard_code, loop_to, opener_at, turn_end_at, jump_code, jump_code_size, statement_size, block_size, arms_size, statement_code, block_code, arms_code}
+use Rattle.cse_emit.specs.Statements.{which_size, head_size, head_code, turn_limit, step_code, front_size, front_code, guard_size, guard_code, loop_to, jump_code, jump_code_size, statement_size, block_size, arms_size, statement_code, block_code, arms_code}
 use Rattle.cse_emitted.specs.Fit.{Spot, NumberFits, IsSettled, JumpFits, Within, over, StatementFits, BlockFits, ArmsFit}
 use Rattle.cse_emitted.specs.Steps.{number_calls, statement_steps, block_steps, arms_steps}
 use Rattle.cse_emitted.proofs.At.{HasAt, has_front, has_back}
-use Rattle.cse_emitted.proofs.Spans.{IsSealed, sealed_join, sealed_around, around_inside, jump_fine}
-use Rattle.cse_emitted.proofs.WideRule.{Stack, wide_control, wide_rule, wide_in_loop, wide_loops}
+use Rattle.cse_emitted.proofs.Spans.{IsSealed, sealed_join, sealed_around, around_inside}
+use Rattle.cse_emitted.proofs.WideRule.{Stack}
 use Rattle.cse_emitted.proofs.Stacks.{number_stacks, words_stacks}
-use Rattle.cse_emitted.proofs.StatementStacks.{N, head_stacks, step_stacks, jump_code_stacks, jump_stacks, front_stacks, front_stacks_length, head_stacks_length, statement_stacks, block_stacks, arms_stacks, statement_stacks_length, block_stacks_length, arms_stacks_length, block_start, arms_start, jump_by}
+use Rattle.cse_emitted.proofs.StatementStacks.{N, head_stacks, step_stacks, jump_code_stacks, jump_stacks, front_stacks, front_stacks_length, head_stacks_length, statement_stacks, block_stacks, arms_stacks, statement_stacks_length, block_stacks_length, block_start, arms_start, jump_by}
 use Rattle.cse_emitted.proofs.Lengths.{number_length, words_length, number_stacks_length, words_stacks_length}
 use Rattle.cse_emitted.proofs.Begins.{number_begins, words_begin}
-use Rattle.cse_emitted.proofs.Blocks.{IsSimple, simple_plain, head_length, front_length, statement_length, block_length, arms_length}
+use Rattle.cse_emitted.proofs.Blocks.{IsSimple, simple_plain, head_length, front_length, statement_length, block_length}
 use Rattle.cse_emitted.proofs.Plain.{plain_more, plain_self, number_plain, store_plain}
 use Rattle.cse_emitted.proofs.Rules.{store_rule, store_steps, store_global, current_rule, number_rule, put_number_rule, put_text_rule, impute_rule}
 use Rattle.cse_emitted.proofs.Parts.{stack_is, IsBare, bare_sealed, part_one, part_jump}
@@ -131,11 +129,11 @@ module _ (ws : List Wide) (all : List Stack) (bounds : List ℕ) where
       let po = others_claim v (omega (arith, e)) (record { settled = b.settled; around_it = av; looped = b.looped; few = b.few; breaks = breaks_before s inside l os (v + k') (p + size) (omega arith) b.breaks; within = omega arith; behind = tve }) ho so in
       guard_part s ws all bounds p m n k' end _ nb no' e (omega (arith, e)) pc tq h1.0 t1 pb tu hj tv po te
     where
-    jump_first : (u k' : ℕ) → HasAt all u (jump_stacks k') → T s (u + jump_size k') ≡ [] → T s u ≡ []
-    jump_first u k' h e = ⊎_elim
-      (λ (x : (k' ≡ 0) × (k' == 0 ≡ true)). let z = x.0 in moved s ws all bounds (u + jump_size k') u [] (omega arith) e)
-      (λ (x : (1 ≤ k') × (k' == 0 ≡ false)). let h' = subst (HasAt all u) (ap (λ b. if b then [] else [] ∷ []) x.1) h in stack_is all u [] h'.0)
-      (jump_by k')
+      jump_first : (u k' : ℕ) → HasAt all u (jump_stacks k') → T s (u + jump_size k') ≡ [] → T s u ≡ []
+      jump_first u k' h e = ⊎_elim
+          (λ (x : (k' ≡ 0) × (k' == 0 ≡ true)). let z = x.0 in moved s ws all bounds (u + jump_size k') u [] (omega arith) e)
+          (λ (x : (1 ≤ k') × (k' == 0 ≡ false)). let h' = subst (HasAt all u) (ap (λ b. if b then [] else [] ∷ []) x.1) h in stack_is all u [] h'.0)
+          (jump_by k')
 
   -- a `for` over a record is around its body
   self_looped : (of : ℕ) (loops : List ℕ) → list_any (λ o. o == of) (of ∷ loops) ≡ true
@@ -225,7 +223,7 @@ module _ (ws : List Wide) (all : List Stack) (bounds : List ℕ) where
         let few = b.few in
         let lengths : length (around (K s) p) ≡ length os = ap length b.around_it in
         let inner : P s (p + 4) e (block_steps bounds s.setting body) = with_room room (λ m. BlockFits o m true body) (P s (p + 4) e (block_steps bounds s.setting body)) f.2
-          (λ m same fits. block_part body o m true lp (p ∷ os) (p + 4) fits (record { settled = record { exit = b.settled.exit; records = b.settled.records }; around_it = a4; looped = more; few = omega arith; breaks = λ e'. (p, refl, br, tend, ae, te, omega arith, omega arith); within = omega arith; behind = te }) hb sb) in
+        (λ m same fits. block_part body o m true lp (p ∷ os) (p + 4) fits (record { settled = record { exit = b.settled.exit; records = b.settled.records }; around_it = a4; looped = more; few = omega arith; breaks = λ e'. (p, refl, br, tend, ae, te, omega arith, omega arith); within = omega arith; behind = te }) hb sb) in
         let room_left : length (around (K s) p) ≤ 63 = with_room room (λ m. BlockFits o m true body) (length (around (K s) p) ≤ 63) f.2 (λ m same fits. omega arith) in
         let whole = loop_part s ws all bounds p e (most_occurrences s.scene.lists.records of) (3 + block_steps bounds s.setting body) i [] (omega arith) h.0 refl (each_rule s ws all bounds p of e f.0.1) h2.0 (stack_is all p _ s'.0) t1 te tend room_left br (join s ws all bounds p1 (p + 4) e 3 _ starts inner) in
         to s ws all bounds p (e + 1) _ _ _ (sym zz) (ap (λ r. 1 + most_occurrences r of * (3 + block_steps bounds s.setting body + 1)) (sym b.settled.records)) whole
@@ -266,7 +264,7 @@ module _ (ws : List Wide) (all : List Stack) (bounds : List ℕ) where
         let few = b.few in
         let lengths : length (around (K s) o) ≡ length os = ap length ao in
         let inner : P s (o + 1) u (block_steps bounds s.setting body) = with_room room (λ m. BlockFits s m true body) (P s (o + 1) u (block_steps bounds s.setting body)) f.1
-          (λ m same fits. block_part body s m true lp (o ∷ os) (o + 1) fits (record { settled = b.settled; around_it = a1; looped = looped_more s ws all bounds os o b.looped; few = omega arith; breaks = λ e'. (o, refl, br, tend, au, tu, omega arith, omega arith); within = omega arith; behind = tu }) hb sb) in
+        (λ m same fits. block_part body s m true lp (o ∷ os) (o + 1) fits (record { settled = b.settled; around_it = a1; looped = looped_more s ws all bounds os o b.looped; few = omega arith; breaks = λ e'. (o, refl, br, tend, au, tu, omega arith, omega arith); within = omega arith; behind = tu }) hb sb) in
         let room_left : length (around (K s) o) ≤ 63 = with_room room (λ m. BlockFits s m true body) (length (around (K s) o) ≤ 63) f.1 (λ m same fits. omega arith) in
         let counts = count_part s ws all bounds counting u f.0 hstep sstep te in
         let whole = loop_part s ws all bounds o e limit (block_steps bounds s.setting body + 4) i N (omega arith) h1.0 refl refl h3.0 to' t1 te tend room_left br (join s ws all bounds (o + 1) u e _ 4 inner counts) in

@@ -1,6 +1,6 @@
 -- What holds of wide code holds of the instructions that stand for it.
-use Rattle.std.proofs.Common.{◌≡◌, ℕ, suc, ◌+◌, ◌<◌, ◌≤◌, Bool, true, false, List, [], ◌∷◌, ◌++◌, length, map, Option, Some, None, refl, sym, ap, ◌∙◌, subst, inl, inr, ⊎_elim, arith}
-use Rattle.std.specs.Prelude.{slice_get, nat_lt, ◌||◌, ◌⊎◌, option_and_then}
+use Rattle.std.proofs.Common.{◌≡◌, ℕ, suc, ◌+◌, ◌<◌, ◌≤◌, Bool, List, [], ◌∷◌, ◌++◌, length, Option, Some, refl, sym, ap, ◌∙◌, subst, ⊎_elim, arith}
+use Rattle.std.specs.Prelude.{slice_get, ◌||◌, option_and_then}
 use Rattle.std.specs.List.{list_any}
 use Rattle.std.specs.Option.{option_map_or}
 use Rattle.std.proofs.lemmas.Bool.{cases_lt, cases_eq, lt-ltb}
@@ -11,19 +11,18 @@ use Rattle.cse_parts.specs.declared.instruction.Instr.{Instr}
 use Rattle.cse_parts.specs.Image.{Lists}
 use Rattle.cse_typing.specs.declared.kind.Kind.{Kind}
 use Rattle.cse_typing.specs.declared.kind.Kind.TheVariants as k
-use Rattle.cse_typing.specs.declared.control.Control.{Control}
 use Rattle.cse_typing.specs.declared.control.Control.TheVariants as c
 use Rattle.cse_typing.specs.Bracket.{around, KeepsRules}
 use Rattle.cse_typing.specs.Kinds.{below, top_of}
-use Rattle.cse_typing.specs.Skeleton.{control_by, control, skeleton, most_turns}
+use Rattle.cse_typing.specs.Skeleton.{control_by, control, skeleton}
 use Rattle.cse_typing.specs.Signature.{Scene, Signature, ◌⇒◌, given, signature_by, loops_by, loops_over, is_in_loop}
-use Rattle.cse_typing.specs.Rule.{Edge, exits, rule}
-use Rattle.cse_typing.specs.Typing.{AgreesBelow, FollowsRule, IsLedTo, IsTypingBelow, IsTypedCode}
+use Rattle.cse_typing.specs.Rule.{exits, rule}
+use Rattle.cse_typing.specs.Typing.{AgreesBelow, FollowsRule, IsLedTo, IsTypedCode}
 use Rattle.cse_emit.specs.Wide as w
 use Rattle.cse_emit.specs.Wide.{Wide, bare}
 use Rattle.cse_emitted.specs.Stands.{Stands, AllStand}
 use Rattle.cse_emitted.proofs.At.{HasAt, has_self}
-use Rattle.cse_emitted.proofs.WideRule.{Stack, wide_control, wide_skeleton, wide_loops, wide_in_loop, wide_signature, wide_rule, field_a, Follows, IsLedBy}
+use Rattle.cse_emitted.proofs.WideRule.{Stack, wide_control, wide_skeleton, wide_loops, wide_in_loop, wide_signature, wide_rule, field_a, IsLedBy}
 use Rattle.cse_emitted.proofs.Parts.{stack_at, IsPart, control_at}
 
 control_stands : (x : Lists) (i : Instr) (y : Wide) → Stands x i y → control x i ≡ wide_control x y
@@ -67,9 +66,9 @@ both_from x code wides [] [] p h f g q le lt = absurd (omega arith)
 both_from x code wides [] (y ∷ ys) p h f g q le lt = absurd h
 both_from x code wides (i ∷ is) [] p h f g q le lt = absurd h
 both_from x code wides (i ∷ is) (y ∷ ys) p h f g q le lt = ⊎_elim
-  (λ (e : p ≡ q). subst (BothAt x code wides) e (record { instr = i; wide = y; there = f.0; said = g.0; stands = h.0 }))
-  (λ (e : p ≡ q → ⊥). both_from x code wides is ys (p + 1) h.1 f.1 g.1 q (omega arith) (omega arith))
-  (cases_eq p q)
+    (λ (e : p ≡ q). subst (BothAt x code wides) e (record { instr = i; wide = y; there = f.0; said = g.0; stands = h.0 }))
+    (λ (e : p ≡ q → ⊥). both_from x code wides is ys (p + 1) h.1 f.1 g.1 q (omega arith) (omega arith))
+    (cases_eq p q)
 
 any_same : (f g : ℕ → Bool) (l : List ℕ) → ((o : ℕ) → f o ≡ g o) → list_any f l ≡ list_any g l
 any_same f g [] e = refl
@@ -79,6 +78,13 @@ module _ (s : Scene) (code : List Instr) (ws : List Wide) (h : AllStand s.lists 
   both : (q : ℕ) → q < length code → BothAt s.lists code ws q
   both q lt = both_from s.lists code ws code ws 0 h (has_self code) (has_self ws) q (omega arith) (omega arith)
 
+  -- each instruction stands for a wide one
+  pub each_stands : (q : ℕ) (i : Instr) → q < length code → slice_get code q ≡ Some i → (y : Wide) × (slice_get ws q ≡ Some y) × Stands s.lists i y
+  each_stands q i lt at =
+      let b = both q lt in
+      let e : b.instr ≡ i = same_Some b.instr i (sym b.there ∙ at) in
+      (b.wide, b.said, subst (λ i. Stands s.lists i b.wide) e b.stands)
+
   len : length code ≡ length ws
   len = same_length s.lists code ws h
 
@@ -87,9 +93,9 @@ module _ (s : Scene) (code : List Instr) (ws : List Wide) (h : AllStand s.lists 
 
   loops_at : (a o : ℕ) → loops_over a (slice_get code o) ≡ wide_loops a (slice_get ws o)
   loops_at a o = ⊎_elim
-    (λ (lt : o < length code). let b = both o lt in ap (loops_over a) b.there ∙ loops_stand s.lists a b.instr b.wide b.stands ∙ sym (ap (wide_loops a) b.said))
-    (λ (le : length code ≤ o). ap (loops_over a) (slice_get_past code o le) ∙ sym (ap (wide_loops a) (slice_get_past ws o (omega (arith, len)))))
-    (cases_lt o (length code))
+      (λ (lt : o < length code). let b = both o lt in ap (loops_over a) b.there ∙ loops_stand s.lists a b.instr b.wide b.stands ∙ sym (ap (wide_loops a) b.said))
+      (λ (le : length code ≤ o). ap (loops_over a) (slice_get_past code o le) ∙ sym (ap (wide_loops a) (slice_get_past ws o (omega (arith, len)))))
+      (cases_lt o (length code))
 
   in_loop_same : (q a : ℕ) → is_in_loop s.lists code q a ≡ wide_in_loop s.lists ws q a
   in_loop_same q a =

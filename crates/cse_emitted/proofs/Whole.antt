@@ -1,5 +1,5 @@
 -- Whole routines are typed, and their steps are counted.
-use Rattle.std.proofs.Common.{◌≡◌, ℕ, ◌+◌, ◌*◌, ◌≤◌, Bool, true, false, List, [], ◌∷◌, ◌++◌, length, Option, Some, None, refl, sym, ap, ◌∙◌, subst, arith, length-append}
+use Rattle.std.proofs.Common.{◌≡◌, ℕ, ◌+◌, ◌*◌, ◌≤◌, false, List, [], ◌∷◌, ◌++◌, length, Option, Some, None, refl, sym, ap, ◌∙◌, subst, arith, length-append}
 use Rattle.std.specs.Prelude.{slice_get, ◌==◌, unwrap_or}
 use Rattle.std.specs.List.{list_any}
 use Rattle.std.proofs.lemmas.Bool.{false≢true}
@@ -7,7 +7,6 @@ use Rattle.std.proofs.lemmas.List.{length-map}
 use Rattle.std.proofs.lemmas.Option.{slice_get_past}
 use Rattle.cse_parts.specs.declared.instruction.Op.TheVariants as ops
 use Rattle.cse_parts.specs.declared.instruction.Instr.{Instr}
-use Rattle.cse_typing.specs.declared.kind.Kind.TheVariants as k
 use Rattle.cse_typing.specs.declared.control.Control.{Control}
 use Rattle.cse_typing.specs.Bracket.{around, KeepsRules}
 use Rattle.cse_typing.specs.Skeleton.{control_by, skeleton}
@@ -24,14 +23,14 @@ use Rattle.cse_emit.specs.Routines.{no_loop, entry_size_by, entry_code_by, routi
 use Rattle.cse_emitted.specs.Stands.{AllStand}
 use Rattle.cse_emitted.specs.Fit.{Spot, IsExit, IsSettled, BlockFits}
 use Rattle.cse_emitted.specs.Steps.{block_steps, routine_steps}
-use Rattle.cse_emitted.specs.Emitted.{IsRoutine, BracketsKeepRules, CodeIsTyped, StepsAreCounted}
+use Rattle.cse_emitted.specs.Emitted.{BracketsKeepRules, CodeIsTyped, StepsAreCounted}
 use Rattle.cse_emitted.proofs.At.{HasAt, has_front, has_back, has_self}
 use Rattle.cse_emitted.proofs.Spans.{sealed_around}
-use Rattle.cse_emitted.proofs.WideRule.{Stack, wide_control, wide_skeleton, wide_loops}
+use Rattle.cse_emitted.proofs.WideRule.{Stack, wide_control, wide_skeleton}
 use Rattle.cse_emitted.proofs.StatementStacks.{N, exit_stacks_by, block_stacks, block_stacks_length, block_start}
 use Rattle.cse_emitted.proofs.Blocks.{block_length}
 use Rattle.cse_emitted.proofs.Rules.{store_local}
-use Rattle.cse_emitted.proofs.Parts.{stack_at, stack_is, IsPart}
+use Rattle.cse_emitted.proofs.Parts.{stack_at, stack_is}
 use Rattle.cse_emitted.proofs.Chains.{Part, join, none, to, step, moved}
 use Rattle.cse_emitted.proofs.Loops.{exit_part}
 use Rattle.cse_emitted.proofs.Statements.{block_part}
@@ -145,9 +144,9 @@ module _ (s : Spot) (body : Statements) (r : Option ℕ) (bounds : List ℕ) whe
         let steps : entry_size_by r + (block_steps bounds s.setting body + exit_size_by r) ≡ routine_steps bounds s.setting body = ap (λ o. entry_size_by o + (block_steps bounds s.setting body + exit_size_by o)) (sym same) in
         to s wides all bounds 0 (n + m + exit_size_by r) (length wides) _ _ z steps (join s wides all bounds 0 n _ _ _ a (join s wides all bounds n (n + m) _ _ _ b c))
       where
-      some_exit : (o : Option ℕ) → 1 ≤ exit_size_by o
-      some_exit None = omega arith
-      some_exit (Some x) = omega arith
+        some_exit : (o : Option ℕ) → 1 ≤ exit_size_by o
+        some_exit None = omega arith
+        some_exit (Some x) = omega arith
 
     start_is : (o : Option ℕ) → HasAt all 0 (entry_stacks_by o) → stack_at all (entry_size_by o) ≡ [] → stack_at all 0 ≡ []
     start_is None h e = e

@@ -1,5 +1,5 @@
 -- What wide instructions mean for places and stacks: as the instructions that stand for them.
-use Rattle.std.specs.Prelude.{◌≡◌, ℕ, ◌<◌, Bool, true, false, List, [], ◌∷◌, ◌++◌, length, map, Option, None, Some, slice_get, option_and_then}
+use Rattle.std.specs.Prelude.{◌≡◌, ℕ, ◌<◌, Bool, false, List, [], ◌∷◌, ◌++◌, length, map, Option, Some, slice_get, option_and_then}
 use Rattle.std.specs.List.{list_any}
 use Rattle.cse_parts.specs.Image.{Lists}
 use Rattle.cse_typing.specs.declared.kind.Kind.{Kind}

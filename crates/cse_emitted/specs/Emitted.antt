@@ -5,6 +5,7 @@ use Rattle.cse_typing.specs.Skeleton.{skeleton}
 use Rattle.cse_typing.specs.Bracket.{KeepsRules}
 use Rattle.cse_typing.specs.Rule.{rule}
 use Rattle.cse_typing.specs.Typing.{IsTypedCode}
+use Rattle.cse_typing.specs.Calls.{AllMayStand}
 use Rattle.cse_bounds.specs.Bound.{partial}
 use Rattle.cse_typed.specs.Typed.{Statements}
 use Rattle.cse_emit.specs.Routines.{routine_code}
@@ -22,6 +23,12 @@ pub record IsRoutine (s : Spot) (body : Statements) (code : List Instr) : Type 0
 
 abbrev pub BracketsKeepRules : Type 0
 BracketsKeepRules = (s : Spot) (body : Statements) (code : List Instr) → IsRoutine s body code → KeepsRules (skeleton s.scene.lists code)
+
+-- calls go to smaller routines, and what needs a case stands in routines of a case
+abbrev pub InstructionsMayStand : Type 0
+InstructionsMayStand =
+    (s : Spot) (body : Statements) (code : List Instr) → IsRoutine s body code
+    → AllMayStand s.scene.lists.routines s.number s.scene.routine.ambient code
 
 abbrev pub CodeIsTyped : Type 0
 CodeIsTyped = (s : Spot) (body : Statements) (code : List Instr) → IsRoutine s body code → IsTypedCode (rule s.scene code) code

@@ -1,5 +1,5 @@
 -- Which instructions of an image stand for which wide ones: the same, but that a constant, a text and a loop's limit stand in tables.
-use Rattle.std.specs.Prelude.{◌≡◌, ℕ, List, [], ◌∷◌, Some, slice_get}
+use Rattle.std.specs.Prelude.{◌≡◌, List, [], ◌∷◌, Some, slice_get}
 use Rattle.cse_parts.specs.declared.instruction.Op.TheVariants as ops
 use Rattle.cse_parts.specs.declared.instruction.Instr.{Instr}
 use Rattle.cse_parts.specs.Image.{Lists}

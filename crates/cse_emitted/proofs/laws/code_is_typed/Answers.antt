@@ -1,4 +1,4 @@
-use Rattle.cse_emitted.proofs.Standing.{routine_may}
+use Rattle.cse_emitted.proofs.Standing.{instructions_may_stand}
 use Rattle.cse_emitted.proofs.Whole.{brackets_keep_rules, code_is_typed, steps_are_counted}
 use Rattle.cse_emitted.proofs.laws.code_is_typed.Goals as goal
 
@@ -10,3 +10,6 @@ returns-clause-typing c = code_is_typed
 
 pub returns-clause-steps : goal.returns-clause-steps
 returns-clause-steps c = steps_are_counted
+
+pub returns-clause-calls : goal.returns-clause-calls
+returns-clause-calls c = instructions_may_stand
