@@ -15,7 +15,8 @@ use Rattle.cse_typing.specs.Rule.{rule}
 use Rattle.cse_typing.specs.Typing.{IsTypedCode}
 use Rattle.cse_typing.proofs.Around.{around_start}
 use Rattle.cse_bounds.specs.Weight.{product, weight}
-use Rattle.cse_bounds.specs.Bound.{partial}
+use Rattle.cse_typing.specs.Code.{code_of}
+use Rattle.cse_bounds.specs.Bound.{partial, bounds_below}
 use Rattle.cse_typed.specs.Typed.{Statements}
 use Rattle.cse_emit.specs.Wide.{Wide, bare, with_c, undefined}
 use Rattle.cse_emit.specs.Statements.{block_size, block_code, exit_size_by, exit_code_by}
@@ -23,7 +24,7 @@ use Rattle.cse_emit.specs.Routines.{no_loop, entry_size_by, entry_code_by, routi
 use Rattle.cse_emitted.specs.Stands.{AllStand}
 use Rattle.cse_emitted.specs.Fit.{Spot, IsExit, IsSettled, BlockFits}
 use Rattle.cse_emitted.specs.Steps.{block_steps, routine_steps}
-use Rattle.cse_emitted.specs.Emitted.{BracketsKeepRules, CodeIsTyped, StepsAreCounted}
+use Rattle.cse_emitted.specs.Emitted.{BracketsKeepRules, CodeIsTyped, StepsAreCounted, spot_of, RoutineIsTyped, RoutineIsCounted}
 use Rattle.cse_emitted.proofs.At.{HasAt, has_front, has_back, has_self}
 use Rattle.cse_emitted.proofs.Spans.{sealed_around}
 use Rattle.cse_emitted.proofs.WideRule.{Stack, wide_control, wide_skeleton}
@@ -34,6 +35,7 @@ use Rattle.cse_emitted.proofs.Parts.{stack_at, stack_is}
 use Rattle.cse_emitted.proofs.Chains.{Part, join, none, to, step, moved}
 use Rattle.cse_emitted.proofs.Loops.{exit_part}
 use Rattle.cse_emitted.proofs.Statements.{block_part}
+use Rattle.cse_emitted.proofs.Standing.{instructions_may_stand}
 use Rattle.cse_emitted.proofs.Transport.{skeletons, keeps, typed}
 
 abbrev entry_stacks_by : Option ℕ → List Stack
@@ -185,3 +187,15 @@ code_is_typed s body code h = typing_of s body s.setting.result_at [] h.settled 
 pub steps_are_counted : StepsAreCounted
 unfolding routine_code
 steps_are_counted bounds s body code h = steps_of s body s.setting.result_at bounds h.settled refl h.outside h.fits code h.stands
+
+pub routine_is_typed : RoutineIsTyped
+routine_is_typed shape x r y setting body h =
+    let s = spot_of shape x r y setting in
+    record {
+      brackets = brackets_keep_rules s body (code_of x r) h;
+      calls = instructions_may_stand s body (code_of x r) h;
+      typing = code_is_typed s body (code_of x r) h;
+    }
+
+pub routine_is_counted : RoutineIsCounted
+routine_is_counted shape x r y setting body h = steps_are_counted (bounds_below x r) (spot_of shape x r y setting) body (code_of x r) h
