@@ -24,10 +24,7 @@ fn add_times(
     Ok(())
 }
 
-fn add_globals(
-    globals: &mut Vec<GlobalVariable>,
-    declared: &Declaration,
-) -> Result<(), AllocError>
+fn add_globals(globals: &mut Vec<GlobalVariable>, declared: &Declaration) -> Result<(), AllocError>
     ensures { OnOk result (globals.new.items ≡ globals.old.items ++ globals_of (declaration declared.now)) }
 {
     match declared {

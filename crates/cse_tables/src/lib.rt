@@ -8,7 +8,6 @@
 
 mod arrays;
 mod events;
-
 mod globals;
 mod messages;
 mod order;
@@ -16,7 +15,6 @@ mod outlines;
 
 pub use arrays::arrays_of;
 pub use events::{EventTable, event_table};
-
 pub use globals::globals_of;
 pub use messages::messages_of;
 pub use order::edit_order;

@@ -53,8 +53,7 @@ new_right test found [] h = (tt, IsDistinct-from_count nat_list_eq_equiv [] refl
 new_right test found (x ∷ xs) h =
     let a = and_holds (test x && not (list_any (bytes_eq x) found)) (are_new test (found ++ x ∷ []) xs) h in
     let b = and_holds (test x) (not (list_any (bytes_eq x) found)) a.0 in
-    let c = new_right test (found ++ x ∷ []) xs a.1 in
-    (
+    let c = new_right test (found ++ x ∷ []) xs a.1 in (
       (b.0, c.0),
       IsDistinct-cons bytes_eq x xs (all_so (λ y. list_any (bytes_eq y) (found ++ x ∷ []) ≡ false) (λ y. bytes_eq x y ≡ false) (λ y k. flips x y ∙ (before found x y k).1) xs c.2) c.1,
       (not_holds (list_any (bytes_eq x) found) b.1, all_so (λ y. list_any (bytes_eq y) (found ++ x ∷ []) ≡ false) (λ y. list_any (bytes_eq y) found ≡ false) (λ y k. (before found x y k).0) xs c.2),

@@ -66,16 +66,14 @@ declarations_complete s n (Alpha digits size names ∷ ys) h =
     let c = declarations_complete s n ys h.1 in
     (rw h.0 (ap (joined (λ y ys. y ∷ ys) (Some (Alpha digits size names))) c.0), c.1)
 declarations_complete s n (Array' x ∷ ys) h =
-    let c = declarations_complete s n ys h.2 in
-    (
+    let c = declarations_complete s n ys h.2 in (
       ap (λ z. joined (λ y ys. y ∷ ys) (option_map Array' z) (declarations_judged s n (map erase_declaration ys))) (array_complete s x h.0 h.1) ∙ ap (joined (λ y ys. y ∷ ys) (Some (Array' x))) c.0,
       c.1,
     )
 declarations_complete s n (Function' f ∷ ys) h =
     let e = function_complete s n f h.0 in
     let k = n + length (messages_of (erase_block f.body)) in
-    let c = declarations_complete (with_function s f) k ys h.1 in
-    (
+    let c = declarations_complete (with_function s f) k ys h.1 in (
       ap (λ z. joined (λ y ys. y ∷ ys) (option_map Function' z) (declarations_judged (behind_function s z) k (map erase_declaration ys))) e ∙ ap (joined (λ y ys. y ∷ ys) (Some (Function' f))) c.0,
       ap (λ z. behind_all (behind_function s z) k (map erase_declaration ys)) e ∙ c.1,
     )
@@ -120,9 +118,9 @@ module _ (d : DictionaryText) (messages : List MessageText) (t : Tree) (h : IsWe
       let tds = typed_declarations t.globals in
       let names = names_scope d messages (erase_tree t) in
       ap (start_of d messages (erase_tree t)) (
-        ap (arrays_judged names) (all_erased t.globals)
-        ∙ sym (arrays_alone names (arrays_in tds) [] (map erase_declaration tds))
-        ∙ arrays_complete (first_scope d messages t) 0 tds h.declarations
+      ap (arrays_judged names) (all_erased t.globals)
+      ∙ sym (arrays_alone names (arrays_in tds) [] (map erase_declaration tds))
+      ∙ arrays_complete (first_scope d messages t) 0 tds h.declarations
       )
 
   names_are_new : are_new (is_free d) [] (names_of (declared_in (erase_tree t))) ≡ true
@@ -147,9 +145,9 @@ module _ (d : DictionaryText) (messages : List MessageText) (t : Tree) (h : IsWe
       let first = first_scope d messages t in
       let c = globals_complete first t.globals h.declarations in
       rw (names_are_new, owners_are_new) (
-        ap (λ s. joined (tree_of messages x) (globals_judged s x.globals) (procedures_judged (behind_all s 0 ds) k x.procedures)) scope_is
-        ∙ ap (λ z. joined (tree_of messages x) z (procedures_judged (behind_all first 0 ds) k x.procedures)) c.0
-        ∙ ap (λ s. joined (tree_of messages x) (Some t.globals) (procedures_judged s k x.procedures)) c.1
-        ∙ ap (joined (tree_of messages x) (Some t.globals)) (procedures_complete (with_functions first (typed_declarations t.globals)) k t.procedures h.procedures)
-        ∙ ap (λ z. Some (record { globals = t.globals; procedures = t.procedures; messages = z })) (sym h.messages_are)
+      ap (λ s. joined (tree_of messages x) (globals_judged s x.globals) (procedures_judged (behind_all s 0 ds) k x.procedures)) scope_is
+      ∙ ap (λ z. joined (tree_of messages x) z (procedures_judged (behind_all first 0 ds) k x.procedures)) c.0
+      ∙ ap (λ s. joined (tree_of messages x) (Some t.globals) (procedures_judged s k x.procedures)) c.1
+      ∙ ap (joined (tree_of messages x) (Some t.globals)) (procedures_complete (with_functions first (typed_declarations t.globals)) k t.procedures h.procedures)
+      ∙ ap (λ z. Some (record { globals = t.globals; procedures = t.procedures; messages = z })) (sym h.messages_are)
       )

@@ -114,12 +114,15 @@ function_right : (s : Scope) (n : ℕ) (name : Spelling) (ps : List syntax.Param
 function_right s n name ps body = for_only _ (are_new (is_new s.dictionary s.declared) [] (parameter_names ps)) _ (λ c.
     let d = new_right (is_new s.dictionary s.declared) [] (parameter_names ps) c in
     for_map (AreTypedStatements (function_scope s (length s.functions) ps) n body) (IsMadeOf s n name ps body) (function_of s name ps)
-    (λ y k. ((refl, refl, k.0), record {
-      parameters_new = all_so (λ x. is_new s.dictionary s.declared x ≡ true) (IsNew s.dictionary s.declared) (is_new_right s.dictionary s.declared) (parameter_names ps) d.0;
-      parameters_once = d.1;
-      body = k.1;
-      needs = refl;
-    }))
+    (λ y k. (
+      (refl, refl, k.0),
+      record {
+        parameters_new = all_so (λ x. is_new s.dictionary s.declared x ≡ true) (IsNew s.dictionary s.declared) (is_new_right s.dictionary s.declared) (parameter_names ps) d.0;
+        parameters_once = d.1;
+        body = k.1;
+        needs = refl;
+      },
+    ))
     (judge_block (function_scope s (length s.functions) ps) n body) (block_right (function_scope s (length s.functions) ps) n body))
 
 -- ---- declarations
@@ -253,9 +256,9 @@ module _ (d : DictionaryText) (messages : List MessageText) (x : syntax.Tree) wh
       let owners = new_right (λ name. true) [] (owner_names x.procedures) once in
       let same : erase_tree t ≡ x = ap (λ z. record { globals = z; procedures = map erase_procedure ps }) a.0 ∙ ap (λ z. record { globals = x.globals; procedures = z }) b.0 in
       let arrays : arrays_judged (names_scope d messages x) (all_declarations x.globals) ≡ arrays_in (typed_declarations ys) =
-          sym (arrays_alone (names_scope d messages x) (arrays_judged (names_scope d messages x) (all_declarations x.globals)) [] (all_declarations x.globals)) ∙ a.3 in
+      sym (arrays_alone (names_scope d messages x) (arrays_judged (names_scope d messages x) (all_declarations x.globals)) [] (all_declarations x.globals)) ∙ a.3 in
       let scope : start_scope d messages x ≡ first_scope d messages t =
-          ap (start_of d messages x) arrays ∙ ap (λ z. start_of d messages z (arrays_in (typed_declarations ys))) (sym same) in
+      ap (start_of d messages x) arrays ∙ ap (λ z. start_of d messages z (arrays_in (typed_declarations ys))) (sym same) in
       record {
         erased = same;
         well = record {
