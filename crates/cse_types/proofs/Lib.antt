@@ -8,6 +8,3 @@ pub mod Sets
 pub mod Expressions
 pub mod StatementsRight
 pub mod StatementsComplete
-pub mod NewNames
-pub mod TreeRight
-pub mod TreeComplete

@@ -7,4 +7,3 @@ pub mod WellTyped
 pub mod Walk
 pub mod Judge
 pub mod JudgeStatement
-pub mod JudgeTree
