@@ -43,7 +43,7 @@ goes_so v first after before told n is empty ran = record {
 }
 
 -- with the empty dictionary
-pub runs_so : (bytes : List ℕ) (d : DictionaryText) (v : VerifiedProgram) (n : ℕ) (texts : List (List ℕ)) → IsReadAs empty_text d → v.dictionary ≡ d → IsAccepted (shape_of d) bytes v.image
+abbrev pub runs_so : (bytes : List ℕ) (d : DictionaryText) (v : VerifiedProgram) (n : ℕ) (texts : List (List ℕ)) → IsReadAs empty_text d → v.dictionary ≡ d → IsAccepted (shape_of d) bytes v.image
     → Goes v n texts → Runs bytes n
 runs_so bytes d v n texts read same accepted goes =
     let is : v ≡ tried v.image = ap (λ (w : DictionaryText). let x : VerifiedProgram = record { dictionary = w; image = v.image } in x) (same ∙ read.is) in
