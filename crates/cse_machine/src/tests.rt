@@ -1,6 +1,6 @@
 //! Worked programs of cases, and how many steps their events take in one case after the other.
 
-ghost use Rattle.std.specs.Prelude.{◌≡◌, None, Some, OnOk};
+ghost use Rattle.std.specs.Prelude.{◌≡◌, None, Some, IsSome, slice_get};
 ghost use Rattle.std.specs.Bool.{OnTrue};
 ghost use Rattle.cse_decks.specs.Store.{StoreFits};
 ghost use Rattle.cse_report.specs.Reports.{ReportsFit};
@@ -15,6 +15,7 @@ use cse_fixtures::outline::{
 };
 use cse_image::{Ambient, Code, Event, EventCode, EventEntry, Gift, Local, LocalKind, Op, Program};
 use cse_report::Reports;
+use cse_value::shape::ItemShape;
 use cse_value::{Input, Reads};
 use cse_verify::{Verified, verify};
 use std::alloc::Global;
@@ -154,6 +155,13 @@ const ROWS: [(Outline<'static>, Event, u16, &str, [u64; 2]); 3] = [
     ),
 ];
 
+/// An item by its number.
+fn item_at(items: &[ItemShape], index: u16) -> Option<ItemShape>
+    ensures { result ≡ slice_get items.now index }
+{
+    items.get(index as usize).copied()
+}
+
 /// Whether the occurrence that an event wants is there.
 fn is_there<C: Code>(
     verified: &Verified<'_, C>,
@@ -163,18 +171,17 @@ fn is_there<C: Code>(
 ) -> bool
     ensures { OnTrue result (IsThere verified.now.image (occurrences_in (Some case.now)) event.code event.index occurrence) }
 {
-    match event.code {
-        EventCode::ItemPreproc | EventCode::ItemPostproc => {
-            match verified.program().items().get(event.index as usize) {
-                Some(item) => case.has_occurrence(u16::from(item.owner), occurrence),
-                None => false,
-            }
-        }
-        _ => true,
+    if event.code == EventCode::LevelPreproc {
+        return true;
     }
+    let items = verified.program().items();
+    let Some(item) = item_at(items, event.index) else {
+        return false;
+    };
+    case.has_occurrence(u16::from(item.owner), occurrence)
 }
 
-/// The steps of an event in the next case.
+/// The steps of an event in the next case; 0 where it can't run.
 fn next_steps<C: Code, R: Input>(
     verified: &Verified<'_, C>,
     machine: &mut Machine<'_, '_, C>,
@@ -183,7 +190,7 @@ fn next_steps<C: Code, R: Input>(
     reader: &mut CaseReader<'_, R>,
     event: Event,
     occurrence: u16,
-) -> Result<u64, Fail>
+) -> Option<u64>
     requires machine { machine.old ≡ verified.now }
     requires store { StoreFits verified.now.image store.old }
     requires reports { ReportsFit verified.now.image reports.old }
@@ -192,18 +199,69 @@ fn next_steps<C: Code, R: Input>(
     ensures machine { machine.new ≡ verified.now }
     ensures store { StoreFits verified.now.image store.new }
     ensures reports { ReportsFit verified.now.image reports.new }
-    ensures dictionary { OnOk result (reader.new.stream.dictionary ≡ verified.now.dictionary) }
-    ensures sound { OnOk result (reader.new.stream.error ≡ None) }
+    ensures dictionary { IsSome result → reader.new.stream.dictionary ≡ verified.now.dictionary }
+    ensures sound { IsSome result → reader.new.stream.error ≡ None }
 {
-    let mut case = match reader.next() {
-        Ok(Some(case)) => case,
-        Ok(None) => return Err("no case".into()),
-        Err(_) => return Err("a fault of the data".into()),
+    let Ok(Some(mut case)) = reader.next() else {
+        return None;
     };
     if !is_there(verified, &case, event, occurrence) {
-        return Err("no such occurrence".into());
+        return None;
     }
-    Ok(machine.run_event(&mut case, store, reports, event, occurrence)?)
+    machine
+        .run_event(&mut case, store, reports, event, occurrence)
+        .ok()
+}
+
+/// The steps of an event in the next two cases.
+fn two_steps<C: Code, R: Input>(
+    verified: &Verified<'_, C>,
+    machine: &mut Machine<'_, '_, C>,
+    store: &mut Store,
+    reports: &mut Reports,
+    reader: &mut CaseReader<'_, R>,
+    event: Event,
+    occurrence: u16,
+) -> Option<[u64; 2]>
+    requires machine { machine.old ≡ verified.now }
+    requires store { StoreFits verified.now.image store.old }
+    requires reports { ReportsFit verified.now.image reports.old }
+    requires dictionary { reader.old.stream.dictionary ≡ verified.now.dictionary }
+    requires sound { reader.old.stream.error ≡ None }
+{
+    let first = next_steps(verified, machine, store, reports, reader, event, occurrence)?;
+    let second = next_steps(verified, machine, store, reports, reader, event, occurrence)?;
+    Some([first, second])
+}
+
+/// The steps of an event in two cases, by a machine.
+fn steps_by<C: Code>(
+    alloc: Global,
+    verified: &Verified<'_, C>,
+    machine: &mut Machine<'_, '_, C>,
+    event: Event,
+    occurrence: u16,
+    text: &str,
+) -> Option<[u64; 2]>
+    requires machine { machine.old ≡ verified.now }
+{
+    let Ok(mut store) = Store::new(alloc, verified.program()) else {
+        return None;
+    };
+    let Ok(mut reports) = Reports::new(alloc, verified.program()) else {
+        return None;
+    };
+    let mut input = Reads::new(text.as_bytes());
+    let mut reader = CaseReader::new(alloc, verified.dictionary(), &mut input);
+    two_steps(
+        verified,
+        machine,
+        &mut store,
+        &mut reports,
+        &mut reader,
+        event,
+        occurrence,
+    )
 }
 
 /// The steps of an event in two cases.
@@ -213,31 +271,11 @@ fn both_steps<C: Code>(
     event: Event,
     occurrence: u16,
     text: &str,
-) -> Result<[u64; 2], Fail> {
-    let mut machine = Machine::new(alloc, verified)?;
-    let mut store = Store::new(alloc, verified.program())?;
-    let mut reports = Reports::new(alloc, verified.program())?;
-    let mut input = Reads::new(text.as_bytes());
-    let mut reader = CaseReader::new(alloc, verified.dictionary(), &mut input);
-    let first = next_steps(
-        verified,
-        &mut machine,
-        &mut store,
-        &mut reports,
-        &mut reader,
-        event,
-        occurrence,
-    )?;
-    let second = next_steps(
-        verified,
-        &mut machine,
-        &mut store,
-        &mut reports,
-        &mut reader,
-        event,
-        occurrence,
-    )?;
-    Ok([first, second])
+) -> Option<[u64; 2]> {
+    let Ok(mut machine) = Machine::new(alloc, verified) else {
+        return None;
+    };
+    steps_by(alloc, verified, &mut machine, event, occurrence, text)
 }
 
 /// A program of the outline, for the persons.
@@ -262,7 +300,7 @@ fn events_take_steps(rt: HostRuntime) -> Result<(), Fail> {
         let Ok(verified) = verify(alloc, &dictionary, program) else {
             return Err("a program that may not run".into());
         };
-        let steps = both_steps(alloc, &verified, *event, *occurrence, text)?;
+        let steps = both_steps(alloc, &verified, *event, *occurrence, text).ok_or("no steps")?;
         assert_eq!(rt; steps, *want);
     }
     Ok(())
