@@ -33,19 +33,19 @@ key_other k x y h =
 
 found_put : (k : ℕ × ℕ) (v : ℕ) (table : Table) → lookup (is_key k) (insert_entry is_key table k v) ≡ Some v
 found_put k v [] = rw (key_self k) refl
-found_put k v (e ∷ es) = by (is_key k e.0) refl
+found_put k v (e ∷ es) = by (is_key k e.0) refl (found_put k v es)
   where
-    by : (b : Bool) → is_key k e.0 ≡ b → lookup (is_key k) (if b then (e.0, v) ∷ es else e ∷ insert_entry is_key es k v) ≡ Some v
-    by true h = rw h refl
-    by false h = rw h (found_put k v es)
+    by : (b : Bool) → is_key k e.0 ≡ b → lookup (is_key k) (insert_entry is_key es k v) ≡ Some v → lookup (is_key k) (if b then (e.0, v) ∷ es else e ∷ insert_entry is_key es k v) ≡ Some v
+    by true h ih = rw h refl
+    by false h ih = rw h ih
 
 other_put : (k x : ℕ × ℕ) (v : ℕ) (table : Table) → is_key k x ≡ false → lookup (is_key k) (insert_entry is_key table x v) ≡ lookup (is_key k) table
 other_put k x v [] h = rw h refl
-other_put k x v (e ∷ es) h = by (is_key x e.0) refl
+other_put k x v (e ∷ es) h = by (is_key x e.0) refl (other_put k x v es h)
   where
-    by : (b : Bool) → is_key x e.0 ≡ b → lookup (is_key k) (if b then (e.0, v) ∷ es else e ∷ insert_entry is_key es x v) ≡ lookup (is_key k) (e ∷ es)
-    by true same = let none : is_key k e.0 ≡ false = key_other k x e.0 same ∙ h in rw none refl
-    by false same = ap (λ o. cond (is_key k e.0) (Some e.1) o) (other_put k x v es h)
+    by : (b : Bool) → is_key x e.0 ≡ b → lookup (is_key k) (insert_entry is_key es x v) ≡ lookup (is_key k) es → lookup (is_key k) (if b then (e.0, v) ∷ es else e ∷ insert_entry is_key es x v) ≡ lookup (is_key k) (e ∷ es)
+    by true same ih = let none : is_key k e.0 ≡ false = key_other k x e.0 same ∙ h in rw none refl
+    by false same ih = ap (λ o. cond (is_key k e.0) (Some e.1) o) ih
 
 -- ---- handlers
 

@@ -58,7 +58,7 @@ at_most_one k (w.Plain op a b c) = omega arith
 
 pops_none : (k : Table) (n : ℕ) → entries k (pops n) ≡ 0
 pops_none k zero = refl
-pops_none k (suc n) = pops_none k n
+pops_none k (suc n) = let ih = pops_none k n in omega (arith, ih)
 
 jump_none : (k : Table) (end n : ℕ) → entries k (jump_over end n) ≡ 0
 jump_none k end zero = refl
@@ -120,7 +120,9 @@ picks_entries k drops q (x ∷ xs) =
 
 deck_none : (k : Table) (array q : ℕ) (xs : List Pick) → entries k (deck_code array q xs) ≡ 0
 deck_none k array q xs =
-    either_none k (can_fail xs) (with_c ops.LoadCell array ∷ jump (q + deepest xs + 3) ∷ (pops (deepest xs) ++ undefined ∷ [])) (with_c ops.LoadCell array ∷ []) (pops_and k (deepest xs) undefined) refl
+    let tail = pops_and k (deepest xs) undefined in
+    let all : entries k (with_c ops.LoadCell array ∷ jump (q + deepest xs + 3) ∷ (pops (deepest xs) ++ undefined ∷ [])) ≡ 0 = omega (arith, tail) in
+    either_none k (can_fail xs) (with_c ops.LoadCell array ∷ jump (q + deepest xs + 3) ∷ (pops (deepest xs) ++ undefined ∷ [])) (with_c ops.LoadCell array ∷ []) all refl
 
 -- ---- expressions
 
@@ -128,8 +130,8 @@ mutual
   unfolding number_code words_code numbers_code indexes_code operations_code
 
   pub number_entries : (k : Table) (s : Setting) (q : ℕ) (x : Number) → NumberIsFew x → entries k (number_code s q x) ≤ expr_tokens (erase x)
-  number_entries k s q (Constant digits value) f = omega (arith, one_entry k)
-  number_entries k s q (Special' token value) f = omega arith
+  number_entries k s q (Constant digits z) f = omega (arith, one_entry k)
+  number_entries k s q (Special' token special) f = omega arith
   number_entries k s q (Variable' name variable) f = omega (arith, load_none k s variable)
   number_entries k s q (Item name item) f = item_entries k q item
   number_entries k s q (ItemAt name field x) f =

@@ -46,7 +46,8 @@ deepest_short : (xs : List Pick) → deepest xs ≤ length xs
 deepest_short [] = omega arith
 deepest_short (x ∷ xs) =
     let ih = deepest_short xs in
-    either_short (can_fail xs) (deepest xs + 1) 0 (length xs + 1) (omega (arith, ih)) (omega arith)
+    let e = either_short (can_fail xs) (deepest xs + 1) 0 (length xs + 1) (omega (arith, ih)) (omega arith) in
+    omega (arith, e)
 
 deck_short : (xs : List Pick) → deck_size xs ≤ length xs + 3
 deck_short xs =
