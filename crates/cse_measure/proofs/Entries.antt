@@ -60,9 +60,12 @@ pops_none : (k : Table) (n : ℕ) → entries k (pops n) ≡ 0
 pops_none k zero = refl
 pops_none k (suc n) = let ih = pops_none k n in omega (arith, ih)
 
+either_none : (k : Table) (b : Bool) (x y : List Wide) → entries k x ≡ 0 → entries k y ≡ 0 → entries k (if b then x else y) ≡ 0
+either_none k true x y e f = e
+either_none k false x y e f = f
+
 jump_none : (k : Table) (end n : ℕ) → entries k (jump_over end n) ≡ 0
-jump_none k end zero = refl
-jump_none k end (suc n) = refl
+jump_none k end n = either_none k (n == 0) [] (jump end ∷ []) refl refl
 
 -- pops, and an instruction behind them
 pops_and : (k : Table) (n : ℕ) (i : Wide) → entries k (pops n ++ i ∷ []) ≡ named k i
@@ -70,10 +73,6 @@ pops_and k n i = omega (arith, both k (pops n) (i ∷ []), pops_none k n)
 
 drops_none : (k : Table) (q n : ℕ) → entries k (drops_code q n) ≡ 0
 drops_none k q n = omega (arith, both k (jump_over (q + drops_size n) n) (pops n), jump_none k (q + drops_size n) n, pops_none k n)
-
-either_none : (k : Table) (b : Bool) (x y : List Wide) → entries k x ≡ 0 → entries k y ≡ 0 → entries k (if b then x else y) ≡ 0
-either_none k true x y e f = e
-either_none k false x y e f = f
 
 load_none : (k : Table) (s : Setting) (x : Variable) → named k (load s x) ≡ 0
 load_none k s (v.Global g) = refl
@@ -365,8 +364,8 @@ mutual
         arith,
         guard_entries k end q (number_size condition) (block_size s body) (arms_size s others) (number_code s q condition) (block_code s l (q + number_size condition + 1) body) (arms_code s l end next others),
         number_entries k s q condition f.0,
-        block_entries k s l (q + number_size condition + 1) body f.1.0,
-        arms_entries k s l end next others f.1.1,
+        block_entries k s l (q + number_size condition + 1) body f.1,
+        arms_entries k s l end next others f.2,
       )
   statement_entries k s l q (For name variable record_name of body) f =
       let loop = loop_to (q + 4 + block_size s body) (q + 4 + block_size s body) in
@@ -417,8 +416,8 @@ mutual
         arith,
         guard_entries k end q (number_size condition) (block_size s body) (arms_size s others) (number_code s q condition) (block_code s l (q + number_size condition + 1) body) (arms_code s l end next others),
         number_entries k s q condition f.0,
-        block_entries k s l (q + number_size condition + 1) body f.1.0,
-        arms_entries k s l end next others f.1.1,
+        block_entries k s l (q + number_size condition + 1) body f.1,
+        arms_entries k s l end next others f.2,
       )
 
 -- ---- routines

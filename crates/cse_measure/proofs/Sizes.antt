@@ -163,7 +163,7 @@ mutual
   statement_short s (SetCell name array xs x) f = omega (arith, subscripts_short xs f.0, one_jump (behind xs), number_short x f.1)
   statement_short s (CallOf name function xs) f = omega (arith, numbers_short xs f)
   statement_short s (If condition body others) f =
-      omega (arith, number_short condition f.0, block_short s body f.1.0, one_jump (arms_size s others), arms_short s others f.1.1)
+      omega (arith, number_short condition f.0, block_short s body f.1, one_jump (arms_size s others), arms_short s others f.2)
   statement_short s (For name variable record_name of body) f = omega (arith, block_short s body f)
   statement_short s (Do counting body) f = omega (arith, head_short s.records counting, block_short s body f)
   statement_short s (Jump' token x) f = omega (arith, jump_short s x)
@@ -180,7 +180,7 @@ mutual
   arms_short s no_arm f = omega arith
   arms_short s (else_of body) f = omega (arith, block_short s body f)
   arms_short s (arm condition body others) f =
-      omega (arith, number_short condition f.0, block_short s body f.1.0, one_jump (arms_size s others), arms_short s others f.1.1)
+      omega (arith, number_short condition f.0, block_short s body f.1, one_jump (arms_size s others), arms_short s others f.2)
 
 -- ---- routines
 
