@@ -1,11 +1,8 @@
 -- A code names at most as many entries of a table as its tree has tokens.
-use Rattle.std.proofs.Common.{◌≡◌, ◌≤◌, ℕ, zero, suc, ◌+◌, ◌*◌, ℤ, Bool, true, false, List, [], ◌∷◌, ◌++◌, length, Option, Some, None, refl, arith}
-use Rattle.std.specs.Prelude.{if◌then◌else◌, ◌==◌, replicate}
+use Rattle.std.proofs.Common.{◌≡◌, ◌≤◌, ℕ, zero, suc, ◌+◌, ℤ, Bool, true, false, List, [], ◌∷◌, ◌++◌, length, Option, Some, None, refl, arith}
+use Rattle.std.specs.Prelude.{if◌then◌else◌, ◌==◌}
 use Rattle.cse_value.specs.declared.shape.RecordShape.{RecordShape}
-use Rattle.cse_value.specs.declared.number.Num.{Num}
-use Rattle.cse_value.specs.declared.number.Num.TheVariants as num
 use Rattle.cse_parts.specs.declared.instruction.Op.TheVariants as ops
-use Rattle.cse_syntax.specs.declared.tree.Count.TheVariants as counts
 use Rattle.cse_syntax.specs.declared.tree.Jump.{Jump}
 use Rattle.cse_syntax.specs.declared.tree.Jump.TheVariants as j
 use Rattle.cse_typed.specs.declared.tree.Variable.{Variable}
@@ -17,19 +14,19 @@ use Rattle.cse_typed.specs.declared.tree.Present.TheVariants as p
 use Rattle.cse_typed.specs.declared.tree.Pick.{Pick}
 use Rattle.cse_typed.specs.Typed.{Number, Words, Numbers, Operations, Constant, Special', Variable', Item, ItemAt, Cell, Call, Group, Int, IsSpecial, Deck, TotOcc, MaxOcc, CurOcc, InSet, Minus, Not, Compare, CompareTexts, Chain}
 use Rattle.cse_typed.specs.Typed.{Quoted, TextGlobal, TextItem, TextItemAt, TextGroup, no_number, number_and, no_operation, operation_and}
-use Rattle.cse_typed.specs.Typed.{Which, Here, At, Argument, OfNumber, OfWords, Limit, Fixed, Counted, Counting, Statement, Statements, Arms}
+use Rattle.cse_typed.specs.Typed.{Which, Here, At, Argument, OfNumber, OfWords, Counting, Statement, Statements, Arms}
 use Rattle.cse_typed.specs.Typed.{Empty, Set, SetText, SetItem, SetTextItem, SetCell, CallOf, If, For, Do, Jump', Impute, PutDeck, ErrMsg, no_statement, statement_and, no_arm, else_of, arm}
-use Rattle.cse_typed.specs.Erase.{erase, erase_words, erase_all, erase_operations, erase_which, erase_argument, erase_arguments, erase_counting, erase_statement, erase_block, erase_arms}
-use Rattle.cse_typed.specs.Tokens.{two_tokens, expr_tokens, exprs_tokens, others_tokens, operations_tokens, subscripts_tokens, counting_tokens, stmt_tokens, stmts_tokens, arms_tokens}
+use Rattle.cse_typed.specs.Erase.{erase, erase_words, erase_all, erase_operations, erase_which, erase_argument, erase_arguments, erase_statement, erase_block, erase_arms}
+use Rattle.cse_typed.specs.Tokens.{expr_tokens, exprs_tokens, others_tokens, operations_tokens, subscripts_tokens, stmt_tokens, stmts_tokens, arms_tokens}
 use Rattle.cse_emit.specs.Wide as w
 use Rattle.cse_emit.specs.Wide.{Wide, bare, with_a, with_b, with_c, jump, undefined, occurrence, value, pops, jump_size, jump_over}
 use Rattle.cse_emit.specs.declared.setting.Loop.{Loop}
 use Rattle.cse_emit.specs.Setting.{Setting, size_at}
-use Rattle.cse_emit.specs.Numbers.{relation_number, operation_of, load, store, here_code, present_size, number_of_item, text_of_item, guarded, can_fail, deepest, row, picks_size, picks_code, deck_code, count, behind, number_size, words_size, numbers_size, indexes_size, number_code, words_code, numbers_code, indexes_code, operations_code}
-use Rattle.cse_emit.specs.Statements.{known, limit_code, turns, which_size, which_code, drops_size, drops_code, argument_size, argument_code, arguments_size, arguments_code, turns_code_by, turn_limit, head_size, head_code, step_code, exit_code_by, exit_code, jump_code, guard_size, front_size, front_code, guard_code, over_code, counted_code, loop_to, opener_at, turn_end_at, statement_size, block_size, arms_size, statement_code, block_code, arms_code}
+use Rattle.cse_emit.specs.Numbers.{relation_number, operation_of, load, store, here_code, present_size, number_of_item, text_of_item, guarded, can_fail, deepest, row, picks_size, picks_code, deck_code, count, behind, number_size, words_size, indexes_size, number_code, words_code, numbers_code, indexes_code, operations_code}
+use Rattle.cse_emit.specs.Statements.{known, limit_code, turns, which_size, which_code, drops_size, drops_code, argument_size, argument_code, arguments_code, turns_code_by, turn_limit, head_code, step_code, exit_code_by, exit_code, jump_code, guard_size, front_size, front_code, guard_code, over_code, counted_code, loop_to, opener_at, turn_end_at, statement_size, block_size, arms_size, statement_code, block_code, arms_code}
 use Rattle.cse_emit.specs.Routines.{no_loop, entry_size_by, entry_code_by, routine_code}
-use Rattle.cse_measure.specs.Few.{FewPicks, NumberIsFew, WordsAreFew, NumbersAreFew, OperationsAreFew, WhichIsFew, ArgumentIsFew, ArgumentsAreFew, StatementIsFew, BlockIsFew, ArmsAreFew}
-use Rattle.cse_measure.specs.Entries.{Table, Constants, Limits, Texts, a_constant, a_limit, a_text, named, entries}
+use Rattle.cse_measure.specs.Few.{NumberIsFew, WordsAreFew, NumbersAreFew, OperationsAreFew, WhichIsFew, ArgumentIsFew, ArgumentsAreFew, StatementIsFew, BlockIsFew, ArmsAreFew}
+use Rattle.cse_measure.specs.Entries.{Table, Constants, Limits, Texts, a_constant, a_text, named, entries}
 use Rattle.cse_measure.specs.Measure.{tokens}
 
 -- ---- lists of instructions

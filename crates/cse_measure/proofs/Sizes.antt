@@ -1,5 +1,5 @@
 -- The code is at most 16 times as long as its tokens. An expression leaves room for 11 more.
-use Rattle.std.proofs.Common.{◌≡◌, ◌≤◌, ℕ, ◌+◌, ◌*◌, ℤ, Bool, true, false, List, [], ◌∷◌, length, Option, Some, None, refl, arith}
+use Rattle.std.proofs.Common.{◌≤◌, ℕ, ◌+◌, ◌*◌, ℤ, Bool, true, false, List, [], ◌∷◌, length, Option, Some, None, arith}
 use Rattle.std.specs.Prelude.{if◌then◌else◌}
 use Rattle.cse_value.specs.declared.shape.RecordShape.{RecordShape}
 use Rattle.cse_syntax.specs.declared.tree.Jump.{Jump}
@@ -13,14 +13,14 @@ use Rattle.cse_typed.specs.Typed.{Number, Words, Numbers, Operations, Constant, 
 use Rattle.cse_typed.specs.Typed.{Quoted, TextGlobal, TextItem, TextItemAt, TextGroup, no_number, number_and, no_operation, operation_and}
 use Rattle.cse_typed.specs.Typed.{Which, Here, At, Argument, OfNumber, OfWords, Counting, Statement, Statements, Arms}
 use Rattle.cse_typed.specs.Typed.{Empty, Set, SetText, SetItem, SetTextItem, SetCell, CallOf, If, For, Do, Jump', Impute, PutDeck, ErrMsg, no_statement, statement_and, no_arm, else_of, arm}
-use Rattle.cse_typed.specs.Erase.{erase, erase_words, erase_all, erase_operations, erase_which, erase_argument, erase_arguments, erase_counting, erase_statement, erase_block, erase_arms}
-use Rattle.cse_typed.specs.Tokens.{two_tokens, expr_tokens, exprs_tokens, others_tokens, operations_tokens, subscripts_tokens, counting_tokens, stmt_tokens, stmts_tokens, arms_tokens}
+use Rattle.cse_typed.specs.Erase.{erase, erase_words, erase_all, erase_operations, erase_which, erase_argument, erase_arguments, erase_statement, erase_block, erase_arms}
+use Rattle.cse_typed.specs.Tokens.{expr_tokens, exprs_tokens, others_tokens, operations_tokens, subscripts_tokens, stmt_tokens, stmts_tokens, arms_tokens}
 use Rattle.cse_emit.specs.Wide.{jump_size}
 use Rattle.cse_emit.specs.Setting.{Setting}
 use Rattle.cse_emit.specs.Numbers.{here_size, present_size, can_fail, deepest, picks_size, deck_size, count, behind, number_size, words_size, numbers_size, indexes_size, operations_size}
-use Rattle.cse_emit.specs.Statements.{known, which_size, drops_size, argument_size, arguments_size, turns_size_by, head_size, exit_size_by, exit_size, jump_code_size, guard_size, statement_size, block_size, arms_size}
+use Rattle.cse_emit.specs.Statements.{known, which_size, argument_size, arguments_size, turns_size_by, head_size, exit_size_by, jump_code_size, statement_size, block_size, arms_size}
 use Rattle.cse_emit.specs.Routines.{entry_size_by, routine_size}
-use Rattle.cse_measure.specs.Few.{FewPicks, NumberIsFew, WordsAreFew, NumbersAreFew, OperationsAreFew, WhichIsFew, ArgumentIsFew, ArgumentsAreFew, StatementIsFew, BlockIsFew, ArmsAreFew}
+use Rattle.cse_measure.specs.Few.{NumberIsFew, WordsAreFew, NumbersAreFew, OperationsAreFew, WhichIsFew, ArgumentIsFew, ArgumentsAreFew, StatementIsFew, BlockIsFew, ArmsAreFew}
 use Rattle.cse_measure.specs.Measure.{tokens}
 
 -- ---- items and hot decks

@@ -1,18 +1,16 @@
 -- The code of all routines is at most 16 times as long as the tokens of their source, and names at most as many entries.
-use Rattle.std.proofs.Common.{◌≡◌, ◌≤◌, ℕ, ◌+◌, ◌*◌, Bool, true, false, List, [], ◌∷◌, ◌++◌, length, map, Option, Some, None, refl, sym, subst, arith, length-append}
+use Rattle.std.proofs.Common.{◌≡◌, ◌≤◌, ℕ, ◌+◌, ◌*◌, Bool, true, false, List, [], ◌∷◌, ◌++◌, length, map, Option, Some, None, refl, arith, length-append}
 use Rattle.std.specs.Prelude.{if◌then◌else◌}
 use Rattle.std.specs.Option.{option_map}
 use Rattle.cse_typed.specs.declared.tree.Owner.{Owner}
 use Rattle.cse_typed.specs.Typed.{Statements, Declaration, Numeric, Alpha, Array', Function', Body, Plain, Preproc, Both, Postproc, Procedure, Tree}
-use Rattle.cse_typed.specs.Erase.{erase_block, erase_declaration, erase_body, erase_procedure, erase_tree}
-use Rattle.cse_typed.specs.Tokens.{stmts_tokens, all_tokens, declaration_tokens, body_tokens, procedure_tokens, globals_tokens, tree_tokens}
-use Rattle.cse_emit.specs.Wide.{Wide}
+use Rattle.cse_typed.specs.Erase.{erase_declaration, erase_body, erase_procedure}
+use Rattle.cse_typed.specs.Tokens.{all_tokens, declaration_tokens, body_tokens, procedure_tokens, globals_tokens}
 use Rattle.cse_emit.specs.Setting.{Setting}
 use Rattle.cse_emit.specs.Statements.{exit_size_by, exit_code_by}
 use Rattle.cse_emit.specs.Routines.{no_loop, entry_size_by, entry_code_by, routine_size, routine_code}
 use Rattle.cse_emitted.proofs.Lengths.{two}
 use Rattle.cse_emitted.proofs.Blocks.{block_length}
-use Rattle.cse_measure.specs.Few.{BlockIsFew}
 use Rattle.cse_measure.specs.Entries.{Table, entries}
 use Rattle.cse_measure.specs.Measure.{tokens}
 use Rattle.cse_measure.proofs.Sizes.{routine_short}
