@@ -7,6 +7,7 @@ use Rattle.cse_parts.specs.declared.instruction.Instr.{Instr}
 use Rattle.cse_parts.specs.declared.entries.EventEntry.{EventEntry}
 use Rattle.cse_parts.specs.Image.{Image, Lists, ArrayLists, RoutineLists}
 use Rattle.cse_dict.specs.Dictionary.{DictionaryText, shape_of}
+use Rattle.cse_typing.specs.Shapes as shapes
 use Rattle.cse_typed.specs.Typed.{Declaration, Tree}
 use Rattle.cse_pools.specs.Pools.{PoolLists}
 use Rattle.cse_tables.specs.Tables.{globals_in, arrays_in, message_of}
@@ -64,10 +65,11 @@ pools_of x = record { constants = x.constants; limits = x.limits; texts = x.text
 
 -- ---- the program
 
--- The program has the tables of the source, in its order and no others: globals, arrays (name, dimensions, `save`, starting cells) and
+-- The program has the dictionary's shape, and the tables of the source, in its order and no others: globals, arrays (name, dimensions, `save`, starting cells) and
 -- messages; the named records come first in its edit order; function k is routine k, and then come the routines of the procedures'
 -- parts, in order of the source, each with its event. Its instructions stand for the code of these routines, one after the other.
 pub record IsProgramOf (d : DictionaryText) (named : List ℕ) (t : Tree) (x : Image) : Type 0 where
+  pub shape : shape_of d ≡ shapes.shape_of x
   pub order : x.lists.order ≡ edit_order (length (shape_of d).records) named
   pub globals : x.lists.globals ≡ globals_in (declarations t)
   pub arrays : x.lists.arrays ≡ arrays_in (declarations t)

@@ -1,12 +1,13 @@
 //! The code of all routines.
 
-ghost use Rattle.std.specs.Prelude.{◌≡◌, ◌++◌, ◌∷◌, [], map, OnOk, IfOk};
+ghost use Rattle.std.specs.Prelude.{◌≡◌, ◌++◌, ◌∷◌, [], map, OnOk, IfOk, IfErr};
 ghost use Rattle.cse_parts.specs.Image.{routine_lists};
 ghost use Rattle.cse_emit.specs.Setting.{setting as setting_view, sizes_of};
 ghost use Rattle.cse_emit.specs.Routines as routines_spec;
 ghost use Rattle.cse_typed.specs.Typed.{block};
 ghost use Rattle.cse_tables.specs.Outline as outline_spec;
 ghost use Rattle.cse_compile.specs.Program as spec;
+ghost use Rattle.cse_compile.specs.Fault.{IsLimit};
 
 use crate::error::{BEYOND, CompileError, WANT_OF_MEMORY};
 use cse_emit::{Emitter, Setting, routine_size};
@@ -21,7 +22,8 @@ const MOST: usize = 1_000_000;
 
 /// A number of parameters as a field of a routine.
 fn field_of(count: usize) -> Result<u8, CompileError>
-    ensures { IfOk result (λ n. n ≡ count) }
+    ensures ok { IfOk result (λ n. n ≡ count) }
+    ensures err { IfErr result IsLimit }
 {
     match u8::try_from(count) {
         Ok(count) => Ok(count),
@@ -37,6 +39,7 @@ fn emit<'a>(
 ) -> Result<u32, CompileError>
     ensures code { OnOk result (emitter.new ≡ emitter.old ++ routines_spec.routine_code (setting_view setting.now) (block body.now.items)) }
     ensures size { IfOk result (λ n. n ≡ routines_spec.routine_size (setting_view setting.now) (block body.now.items)) }
+    ensures err { IfErr result IsLimit }
 {
     if routine_size(setting, body) > MOST {
         return Err(BEYOND);
@@ -49,7 +52,8 @@ fn emit<'a>(
 
 /// A routine with so many instructions.
 fn routine_of(alloc: Global, sort: Sort, instructions: u32) -> Result<Routine, CompileError>
-    ensures { IfOk result (λ r. routine_lists r ≡ outline_spec.routine_of sort instructions) }
+    ensures ok { IfOk result (λ r. routine_lists r ≡ outline_spec.routine_of sort instructions) }
+    ensures err { IfErr result IsLimit }
 {
     let parameters = field_of(sort.parameters())?;
     match sort.locals(alloc) {
@@ -74,6 +78,7 @@ fn coded<'a>(
 ) -> Result<Routine, CompileError>
     ensures code { OnOk result (emitter.new ≡ emitter.old ++ spec.code_of records.now (map sizes_of arrays.now) (outline_spec.outline written.entry)) }
     ensures entry { IfOk result (λ r. routine_lists r ≡ spec.entry_of records.now (map sizes_of arrays.now) (outline_spec.outline written.entry)) }
+    ensures err { IfErr result IsLimit }
 {
     let setting = Setting {
         records,
@@ -86,7 +91,8 @@ fn coded<'a>(
 }
 
 fn keep(routines: &mut Vec<Routine>, routine: Routine) -> Result<(), CompileError>
-    ensures { OnOk result (routines.new.items ≡ routines.old.items ++ routine ∷ []) }
+    ensures ok { OnOk result (routines.new.items ≡ routines.old.items ++ routine ∷ []) }
+    ensures err { IfErr result IsLimit }
 {
     match routines.push(routine) {
         Ok(()) => Ok(()),
@@ -104,6 +110,7 @@ pub fn code_all<'a>(
 ) -> Result<Vec<Routine>, CompileError>
     ensures code { OnOk result (emitter.new ≡ emitter.old ++ spec.all_code records.now (map sizes_of arrays.now) (map outline_spec.outline outlines.now)) }
     ensures entries { IfOk result (λ v. map routine_lists v.items ≡ map (spec.entry_of records.now (map sizes_of arrays.now)) (map outline_spec.outline outlines.now)) }
+    ensures err { IfErr result IsLimit }
 {
     let mut routines = Vec::new(alloc);
     'all: for written in outlines {

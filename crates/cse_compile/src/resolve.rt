@@ -1,11 +1,12 @@
 //! From instructions with constants, texts and limits by value to those of an image.
 
-ghost use Rattle.std.specs.Prelude.{◌≡◌, MatchOption, true, IfOk, OnOk};
+ghost use Rattle.std.specs.Prelude.{◌≡◌, MatchOption, true, IfOk, OnOk, IfErr};
 ghost use Rattle.std.specs.Bool.{Decides};
 ghost use Rattle.cse_syntax.specs.Leaf.{text_of};
 ghost use Rattle.cse_image.specs.Spelling.{TextFits};
 ghost use Rattle.cse_emit.specs.Wide as w;
 ghost use Rattle.cse_compile.specs.Stands.{Stands, AllStand, IsMore};
+ghost use Rattle.cse_compile.specs.Fault.{IsLimit};
 
 use crate::error::{BEYOND, CompileError, WANT_OF_MEMORY};
 use cse_emit::Wide;
@@ -14,7 +15,9 @@ use cse_parts::texts::{is_plain_text, is_short_text};
 use cse_pools::{PoolError, Pools};
 use std::alloc::Global;
 
-fn pool_error(error: PoolError) -> CompileError {
+fn pool_error(error: PoolError) -> CompileError
+    ensures { IsLimit result }
+{
     match error {
         PoolError::Full => BEYOND,
         PoolError::Memory => WANT_OF_MEMORY,
@@ -23,7 +26,8 @@ fn pool_error(error: PoolError) -> CompileError {
 
 /// A place as a field of an instruction.
 fn field_of(c: usize) -> Result<u32, CompileError>
-    ensures { IfOk result (λ n. n ≡ c) }
+    ensures ok { IfOk result (λ n. n ≡ c) }
+    ensures err { IfErr result IsLimit }
 {
     match u32::try_from(c) {
         Ok(c) => Ok(c),
@@ -55,6 +59,7 @@ fn inside(text: &str) -> Option<&str>
 fn constant(pools: &mut Pools, value: i64) -> Result<Instr, CompileError>
     ensures stands { IfOk result (λ i. Stands pools.new i (w.Constant value)) }
     ensures more { OnOk result (IsMore pools.old pools.new) }
+    ensures err { IfErr result IsLimit }
 {
     match pools.constant(value) {
         Ok(c) => Ok(Instr {
@@ -71,6 +76,7 @@ fn constant(pools: &mut Pools, value: i64) -> Result<Instr, CompileError>
 fn text<'a>(pools: &mut Pools<'a>, value: &'a str) -> Result<Instr, CompileError>
     ensures stands { IfOk result (λ i. Stands pools.new i (w.Chars value.now)) }
     ensures more { OnOk result (IsMore pools.old pools.new) }
+    ensures err { IfErr result IsLimit }
 {
     if !text_fits(value) {
         return Err(BEYOND);
@@ -89,6 +95,7 @@ fn text<'a>(pools: &mut Pools<'a>, value: &'a str) -> Result<Instr, CompileError
 fn quoted<'a>(pools: &mut Pools<'a>, value: &'a str) -> Result<Instr, CompileError>
     ensures stands { IfOk result (λ i. Stands pools.new i (w.Chars (text_of value.now))) }
     ensures more { OnOk result (IsMore pools.old pools.new) }
+    ensures err { IfErr result IsLimit }
 {
     match inside(value) {
         Some(inner) => text(pools, inner),
@@ -100,6 +107,7 @@ fn quoted<'a>(pools: &mut Pools<'a>, value: &'a str) -> Result<Instr, CompileErr
 fn turns(pools: &mut Pools, limit: u32, end: usize) -> Result<Instr, CompileError>
     ensures stands { IfOk result (λ i. Stands pools.new i (w.Turns limit end)) }
     ensures more { OnOk result (IsMore pools.old pools.new) }
+    ensures err { IfErr result IsLimit }
 {
     if limit == 0 {
         return Err(BEYOND);
@@ -117,7 +125,8 @@ fn turns(pools: &mut Pools, limit: u32, end: usize) -> Result<Instr, CompileErro
 }
 
 fn plain(op: Op, a: u8, b: u16, c: usize) -> Result<Instr, CompileError>
-    ensures { IfOk result (λ i. i ≡ record { op = op; a = a; b = b; c = c }) }
+    ensures ok { IfOk result (λ i. i ≡ record { op = op; a = a; b = b; c = c }) }
+    ensures err { IfErr result IsLimit }
 {
     let c = field_of(c)?;
     Ok(Instr { op, a, b, c })
@@ -128,6 +137,7 @@ fn plain(op: Op, a: u8, b: u16, c: usize) -> Result<Instr, CompileError>
 pub fn instruction<'a>(pools: &mut Pools<'a>, written: Wide<'a>) -> Result<Instr, CompileError>
     ensures stands { IfOk result (λ i. Stands pools.new i (w.wide written.entry)) }
     ensures more { OnOk result (IsMore pools.old pools.new) }
+    ensures err { IfErr result IsLimit }
 {
     match written {
         Wide::Constant(value) => constant(pools, value),
@@ -144,7 +154,8 @@ pub fn resolve<'a>(
     pools: &mut Pools<'a>,
     code: &[Wide<'a>],
 ) -> Result<Vec<Instr>, CompileError>
-    ensures { IfOk result (λ v. AllStand pools.new v.items (w.all_wide code.now)) }
+    ensures ok { IfOk result (λ v. AllStand pools.new v.items (w.all_wide code.now)) }
+    ensures err { IfErr result IsLimit }
 {
     let mut resolved = Vec::new(alloc);
     'all: for written in code {
