@@ -1,6 +1,6 @@
 -- A routine takes at most the steps that its tokens cost.
 use Rattle.std.proofs.Common.{◌≡◌, ◌≤◌, ℕ, zero, suc, ◌+◌, ◌*◌, Bool, true, false, List, [], ◌∷◌, ◌++◌, length, Option, Some, None, refl, sym, ap, ◌∙◌, subst, arith}
-use Rattle.std.specs.Prelude.{slice_get, slice_index, max, min, ℤ, pos, neg_suc}
+use Rattle.std.specs.Prelude.{slice_get, slice_index, max, min, ℤ, pos, negsuc}
 use Rattle.std.proofs.Math.Nat.{le-max_left, mul-le-mul_left, mul-le-mul_right}
 use Rattle.cse_value.specs.declared.number.Num.{Num}
 use Rattle.cse_value.specs.declared.number.Num.TheVariants as num
@@ -78,7 +78,7 @@ module _ (bounds costs : List ℕ) (le : (k : ℕ) → slice_index bounds k ≤ 
 
 as_limit_some : (x : Num) → 1 ≤ as_limit x
 as_limit_some (num.Whole (pos n)) = le-max_left 1 (min n 4294967295)
-as_limit_some (num.Whole (neg_suc n)) = omega arith
+as_limit_some (num.Whole (negsuc n)) = omega arith
 as_limit_some num.NotAppl = omega arith
 as_limit_some num.Missing = omega arith
 as_limit_some num.Undef = omega arith

@@ -367,7 +367,10 @@ module _ (d : DictionaryText) (messages : List MessageText) (named : List ℕ) (
         (subst (λ n. Said n (procedure_messages (erase_tree t).procedures)) e (back 0 ms (procedure_messages (erase_tree t).procedures) all_said))
 
   all_fit : AllFrom Fits 0 (outlines t)
-  all_fit = all_both Fits 0 (functions_in (declarations t)) (map (λ (x : Handler). x.outline) (handlers t)) first_fit last_fit
+  all_fit =
+      let n = length (functions_in (declarations t)) in
+      let e : n ≡ 0 + n = omega arith in
+      all_both Fits 0 (functions_in (declarations t)) (map (λ (x : Handler). x.outline) (handlers t)) first_fit (subst (λ k. AllHandlers Fits k (handlers_in t.procedures)) e last_fit)
 
   pub statements_fit : (k : ℕ) (o : Outline) → slice_get (outlines t) k ≡ Some o → Fits k o
-  statements_fit k o e = one_of Fits 0 (outlines t) k o all_fit e
+  statements_fit k o e = let n : 0 + k ≡ k = omega arith in subst (λ k. Fits k o) n (one_of Fits 0 (outlines t) k o all_fit e)

@@ -1,5 +1,5 @@
 use Rattle.cse_checked_code.proofs.Bounds.{bounds_are_costs}
 use Rattle.cse_checked_code.proofs.laws.bounds_are_costs.Goals as goal
 
-pub returns-clause-cost : goal.returns-clause-cost
-returns-clause-cost c = bounds_are_costs
+pub returns : goal.returns
+returns c = record { cost = bounds_are_costs }
