@@ -52,14 +52,16 @@ most_some d sound of e = by (slice_get_cases d.records of).1
   where
     lt : of < length d.records
     lt = let n = length-map d.records (λ (x : RecordText). x.shape) in let a = ltb-true of (length (shape_of d).records) e in omega (arith, a, n)
+
     found : (x : RecordText) → slice_get d.records of ≡ Some x → 1 ≤ most_occurrences (shape_of d).records of
     found x at =
         let f : IsSoundRecord d x = subst (IsSoundRecord d) (get_or_from_slice_get d.records of x x at) (All-get_or (IsSoundRecord d) d.records of x lt sound.records) in
         let g : most_occurrences (shape_of d).records of ≡ x.shape.max_records =
-            ap (λ o. option_map_or (λ (x : RecordShape). x.max_records) o 0) (slice_get-map (λ (x : RecordText). x.shape) d.records of ∙ ap (option_map (λ (x : RecordText). x.shape)) at)
+        ap (λ o. option_map_or (λ (x : RecordShape). x.max_records) o 0) (slice_get-map (λ (x : RecordText). x.shape) d.records of ∙ ap (option_map (λ (x : RecordText). x.shape)) at)
         in
         let m = f.most in
         omega (arith, g, m)
+
     by : ((x : RecordText) × (of < length d.records) × (slice_get d.records of ≡ Some x) × (get_or d.records of x ≡ x)) ⊎ ((length d.records ≤ of) × (slice_get d.records of ≡ None)) → 1 ≤ most_occurrences (shape_of d).records of
     by (inl h) = found h.0 h.2
     by (inr h) = let a = lt in let b = h.0 in absurd (omega (arith, a, b))

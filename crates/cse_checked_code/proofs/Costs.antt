@@ -145,14 +145,14 @@ module _ (bounds costs : List ℕ) (le : (k : ℕ) → slice_index bounds k ≤ 
         omega (arith, a, c, d, e, g)
     statement_cheap s room b (For name variable record_name of body) m f =
         inside room (λ n. BlockFits (over s of) n true body) _ f.2 (λ n g.
-            let a = block_cheap (over s of) n true body (small_over s of m) g in
-            let c = loop_cheap (most_occurrences s.setting.records of) 0 (3 + block_steps bounds s.setting body) (16 * 7 + block_cost costs s.setting body) (m.most of f.0.1) (omega (arith, a)) in
-            omega (arith, c))
+        let a = block_cheap (over s of) n true body (small_over s of m) g in
+        let c = loop_cheap (most_occurrences s.setting.records of) 0 (3 + block_steps bounds s.setting body) (16 * 7 + block_cost costs s.setting body) (m.most of f.0.1) (omega (arith, a)) in
+        omega (arith, c))
     statement_cheap s room b (Do counting body) m f =
         inside room (λ n. BlockFits s n true body) _ f.1 (λ n g.
-            let a = block_cheap s n true body m g in
-            let h = head_small (known s.setting.records counting.start) (known s.setting.records counting.stop) in
-            loop_cheap (turn_limit s.setting.records counting) (head_size s.setting.records counting) (block_steps bounds s.setting body + 4) (16 * (3 + counting_tokens (erase_counting counting)) + block_cost costs s.setting body) (as_limit_some _) (omega (arith, a, h)))
+        let a = block_cheap s n true body m g in
+        let h = head_small (known s.setting.records counting.start) (known s.setting.records counting.stop) in
+        loop_cheap (turn_limit s.setting.records counting) (head_size s.setting.records counting) (block_steps bounds s.setting body + 4) (16 * (3 + counting_tokens (erase_counting counting)) + block_cost costs s.setting body) (as_limit_some _) (omega (arith, a, h)))
     statement_cheap s room b (Jump' token x) m f = let a = jump_code_small s.setting x in omega (arith, a)
     statement_cheap s room b (Impute name field which x) m f =
         let a = which_small s m field.owner which f.1 in

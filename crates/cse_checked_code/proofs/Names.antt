@@ -62,13 +62,13 @@ declared_mean s g a f [] h = tt
 declared_mean s g a f (Numeric names ∷ ds) h =
     let here = replicate (length names) number_global in
     all_append s (numbered_from (λ n. m.Variable (v.Global n)) g names) _
-      (numbers_mean s g names (has_front s.scene.lists.globals g here (globals_in ds) h))
-      (declared_mean s (g + length names) a f ds (has_back s.scene.lists.globals g (length names) here (globals_in ds) (length-replicate (length names) number_global) h))
+    (numbers_mean s g names (has_front s.scene.lists.globals g here (globals_in ds) h))
+    (declared_mean s (g + length names) a f ds (has_back s.scene.lists.globals g (length names) here (globals_in ds) (length-replicate (length names) number_global) h))
 declared_mean s g a f (Alpha digits size names ∷ ds) h =
     let here = replicate (length names) (text_global size) in
     all_append s (numbered_from m.Text g names) _
-      (texts_mean s g size names (has_front s.scene.lists.globals g here (globals_in ds) h))
-      (declared_mean s (g + length names) a f ds (has_back s.scene.lists.globals g (length names) here (globals_in ds) (length-replicate (length names) (text_global size)) h))
+    (texts_mean s g size names (has_front s.scene.lists.globals g here (globals_in ds) h))
+    (declared_mean s (g + length names) a f ds (has_back s.scene.lists.globals g (length names) here (globals_in ds) (length-replicate (length names) (text_global size)) h))
 declared_mean s g a f (Array' array ∷ ds) h = (tt, declared_mean s g (a + 1) f ds h)
 declared_mean s g a f (Function' function ∷ ds) h = (tt, declared_mean s g a (f + 1) ds h)
 
@@ -100,12 +100,15 @@ module _ (c : Scope) (s : Spot) (shape : s.scene.shape ≡ shape_of c.dictionary
       last true b e = subst (MeaningFits s) (same_Some m.Application y e) tt
       last false true e = subst (MeaningFits s) (same_Some m.Level y e) tt
       last false false e = absurd (none-some y e)
+
       sets : (o : Option ℕ) (a b : Bool) → first_of (option_map m.Set o) (if a then Some m.Application else (if b then Some m.Level else None)) ≡ Some y → MeaningFits s y
       sets None a b e = last a b e
       sets (Some k) a b e = subst (MeaningFits s) (same_Some (m.Set k) y e) tt
+
       items : (o q : Option ℕ) (a b : Bool) → first_of (option_map m.Item o) (first_of (option_map m.Set q) (if a then Some m.Application else (if b then Some m.Level else None))) ≡ Some y → MeaningFits s y
       items None q a b e = sets q a b e
       items (Some k) q a b e = subst (MeaningFits s) (same_Some (m.Item k) y e) tt
+
       records : (o : Option ℕ) → ((k : ℕ) → o ≡ Some k → is_record s.scene.shape k ≡ true) → first_of (option_map m.Record o) (first_of (option_map m.Item (number_named text (item_names c.dictionary))) (first_of (option_map m.Set (number_named text (set_names c.dictionary))) (if bytes_eq (kept_name text) c.dictionary.name then Some m.Application else (if bytes_eq (kept_name text) c.dictionary.level_name then Some m.Level else None)))) ≡ Some y → MeaningFits s y
       records None f e = items (number_named text (item_names c.dictionary)) (number_named text (set_names c.dictionary)) (bytes_eq (kept_name text) c.dictionary.name) (bytes_eq (kept_name text) c.dictionary.level_name) e
       records (Some k) f e = subst (MeaningFits s) (same_Some (m.Record k) y e) (f k refl)

@@ -55,7 +55,7 @@ routine_length : (s : Setting) (body : Statements) → length (routine_code s bo
 unfolding routine_code routine_size
 routine_length s body =
     two (entry_code_by s.result_at) (block_code s no_loop (entry_size_by s.result_at) body ++ exit_code s) (entry_size_by s.result_at) (block_size s body + exit_size s) (entry_length s.result_at)
-      (two (block_code s no_loop (entry_size_by s.result_at) body) (exit_code s) (block_size s body) (exit_size s) (block_length s no_loop (entry_size_by s.result_at) body) (exit_length s.result_at))
+    (two (block_code s no_loop (entry_size_by s.result_at) body) (exit_code s) (block_size s body) (exit_size s) (block_length s no_loop (entry_size_by s.result_at) body) (exit_length s.result_at))
 
 module _ (x : Lists) (records : List RecordShape) (arrays : List (List ℕ)) where
   abbrev size : Outline → ℕ
@@ -74,11 +74,11 @@ module _ (x : Lists) (records : List RecordShape) (arrays : List (List ℕ)) whe
       let c = cut x is (wide_code records arrays y) (all_code records arrays os) h in
       let behind = part_stands os (drop (length (wide_code records arrays y)) is) c.1 r o e in
       let n : length (wide_code records arrays y) + before r os ≡ before (suc r) (y ∷ os) =
-          ap (λ n. n + before r os) (routine_length (setting_for records arrays y) y.body)
-          ∙ sym (sum_by-cons (λ (z : RoutineLists). z.instructions) (entry_of records arrays y) (take r (map (entry_of records arrays) os)))
+      ap (λ n. n + before r os) (routine_length (setting_for records arrays y) y.body)
+      ∙ sym (sum_by-cons (λ (z : RoutineLists). z.instructions) (entry_of records arrays y) (take r (map (entry_of records arrays) os)))
       in
       let same : drop (before r os) (drop (length (wide_code records arrays y)) is) ≡ drop (before (suc r) (y ∷ os)) is =
-          drop-drop (before r os) (length (wide_code records arrays y)) is ∙ ap (λ n. drop n is) n
+      drop-drop (before r os) (length (wide_code records arrays y)) is ∙ ap (λ n. drop n is) n
       in
       subst (λ l. AllStand x (take (size o) l) (wide_code records arrays o)) same behind
 
@@ -89,9 +89,9 @@ routine_stands x records arrays os e h r o there =
     let entry = entry_of records arrays in
     let all = part_stands x.lists records arrays os x.code (all_stand_there x.lists x.code (all_code records arrays os) h) r o there in
     let n : size_of x.lists.routines r ≡ routine_size (setting_for records arrays o) o.body =
-        ap (λ l. option_map_or (λ (y : RoutineLists). y.instructions) (slice_get l r) 0) e
-        ∙ ap (λ o. option_map_or (λ (y : RoutineLists). y.instructions) o 0) (slice_get-map entry os r ∙ ap (option_map entry) there)
+    ap (λ l. option_map_or (λ (y : RoutineLists). y.instructions) (slice_get l r) 0) e
+    ∙ ap (λ o. option_map_or (λ (y : RoutineLists). y.instructions) o 0) (slice_get-map entry os r ∙ ap (option_map entry) there)
     in
     let m : start_of x.lists.routines r ≡ start_of (map entry os) r = ap (λ l. start_of l r) e in
     subst (λ n. AllStand x.lists (take n (drop (start_of x.lists.routines r) x.code)) (wide_code records arrays o)) (sym n)
-      (subst (λ m. AllStand x.lists (take (routine_size (setting_for records arrays o) o.body) (drop m x.code)) (wide_code records arrays o)) (sym m) all)
+    (subst (λ m. AllStand x.lists (take (routine_size (setting_for records arrays o) o.body) (drop m x.code)) (wide_code records arrays o)) (sym m) all)

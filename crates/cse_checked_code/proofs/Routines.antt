@@ -231,17 +231,18 @@ module _ (d : DictionaryText) (messages : List MessageText) (named : List ℕ) (
       let count = length f.parameters in
       let names = length-map f.parameters (λ (p : syntax.Parameter). kept_name p.name.text) in
       block_fits c (spot k o) 64 64 n false f.body
-        (agrees_of fs os rest known all k (omega arith) o (r.Function (length fs)) (parameter_names f.parameters)
-          (λ j lt. ap (option_map local_kind) (number_there count j (number_local ∷ []) (omega (arith, lt, names))))
-          (own_of (length fs) k f)
-          (λ of e. absurd (false≢true e)))
-        (no_loops c (spot k o) refl) (omega arith) b g.body
-        (λ case e. ap (λ n. is_run (ambient_of (sorts.Function count n))) (g.needs ∙ e))
-        m
+      (agrees_of fs os rest known all k (omega arith) o (r.Function (length fs)) (parameter_names f.parameters)
+      (λ j lt. ap (option_map local_kind) (number_there count j (number_local ∷ []) (omega (arith, lt, names))))
+      (own_of (length fs) k f)
+      (λ of e. absurd (false≢true e)))
+      (no_loops c (spot k o) refl) (omega arith) b g.body
+      (λ case e. ap (λ n. is_run (ambient_of (sorts.Function count n))) (g.needs ∙ e))
+      m
     where
       own_by : (p : ℕ) (f : Function) (b : Bool) (y : Variable) → (if b then Some v.Result else None) ≡ Some y → variable_kind (spot p (outline_of f)) y ≡ Some kind.Number
       own_by p f true y e = subst (λ y. variable_kind (spot p (outline_of f)) y ≡ Some kind.Number) (same_Some v.Result y e) (ap (option_map local_kind) (result_there (length f.parameters)))
       own_by p f false y e = absurd (none-some y e)
+
       own_of : (p q : ℕ) (f : Function) (g : ℕ) (y : Variable) → own_result (r.Function p) g ≡ Some y → variable_kind (spot q (outline_of f)) y ≡ Some kind.Number
       own_of p q f g y e = own_by q f (p == g) y e
 
@@ -255,11 +256,10 @@ module _ (d : DictionaryText) (messages : List MessageText) (named : List ℕ) (
       let here = messages_of (erase_block f.body) in
       let behind = declared_messages (map erase_declaration ds) in
       let more = one_more fs os (facts_of fs f) o known (ap (sorts.Function (length f.parameters)) g.0.needs) in
-      let e : length (os ++ o ∷ []) ≡ length os + 1 = omega (arith, length-append os (o ∷ [])) in
-      (
+      let e : length (os ++ o ∷ []) ≡ length os + 1 = omega (arith, length-append os (o ∷ [])) in (
         function_fit fs os (o ∷ (functions_in ds ++ hs)) n f known all g.0 b.0.2 (front n here behind m),
         subst (λ n. AllFrom Fits n (functions_in ds)) e
-          (functions_fit (fs ++ Some (facts_of fs f) ∷ []) (os ++ o ∷ []) hs (n + length here) ds more (all ∙ sym (append_assoc os (o ∷ []) (functions_in ds ++ hs))) g.1 b.1 (back n here behind m)),
+            (functions_fit (fs ++ Some (facts_of fs f) ∷ []) (os ++ o ∷ []) hs (n + length here) ds more (all ∙ sym (append_assoc os (o ∷ []) (functions_in ds ++ hs))) g.1 b.1 (back n here behind m)),
       )
 
   all_functions : List (Option Facts) → List Declaration → List (Option Facts)
@@ -296,19 +296,20 @@ module _ (d : DictionaryText) (messages : List MessageText) (named : List ℕ) (
         let c = w.procedure_scope (scope fs) owner in
         let o : Outline = record { sort = sorts.Procedure owner; body = body } in
         block_fits c (spot k o) 64 64 n false body
-          (agrees_of fs os rest known all k le o (r.Procedure owner) []
-            (λ j lt. absurd (omega (arith, lt)))
-            (λ f y e. absurd (none-some y e))
-            (event_there owner))
-          (no_loops c (spot k o) refl) (omega arith) b g
-          (λ case e. case_there owner case)
-          m
+        (agrees_of fs os rest known all k le o (r.Procedure owner) []
+        (λ j lt. absurd (omega (arith, lt)))
+        (λ f y e. absurd (none-some y e))
+        (event_there owner))
+        (no_loops c (spot k o) refl) (omega arith) b g
+        (λ case e. case_there owner case)
+        m
       where
         event_there : (owner : Owner) (of : ℕ) → is_event_of (r.Procedure owner) of ≡ true → option_map local_kind (slice_get (locals_of (sorts.Procedure owner)) 0) ≡ Some (kind.Occurrence of)
         event_there owners.Application of e = absurd (false≢true e)
         event_there owners.Level of e = absurd (false≢true e)
         event_there (owners.Record y) of e = absurd (false≢true e)
         event_there (owners.Item f) of e = ap (λ n. Some (kind.Occurrence n)) (eqb-true f.owner of e)
+
         case_there : (owner : Owner) → has_case (r.Procedure owner) ≡ true → is_run (ambient_of (sorts.Procedure owner)) ≡ false
         case_there owners.Application e = absurd (false≢true e)
         case_there owners.Level e = refl
@@ -329,8 +330,8 @@ module _ (d : DictionaryText) (messages : List MessageText) (named : List ℕ) (
         let ms = messages_of (erase_block xs) in
         let bs = messages_of (erase_block ys) in
         handlers_both Fits k (handler_of owner false xs) (handler_of owner true ys)
-          (part_fit k n owner false xs le g.0 b.0 (front n ms bs m))
-          (λ j le'. part_fit j (n + length ms) owner true ys (omega (arith, le, le')) g.1 b.1 (back n ms bs m))
+        (part_fit k n owner false xs le g.0 b.0 (front n ms bs m))
+        (λ j le'. part_fit j (n + length ms) owner true ys (omega (arith, le, le')) g.1 b.1 (back n ms bs m))
     body_fit k n owner (Postproc xs) le g b m = part_fit k n owner true xs le g b m
 
     procedures_fit : (k n : ℕ) (ps : List Procedure) → length os ≤ k → AreProcedures (scope fs) n ps → Each (IsProcedure 64) (map erase_procedure ps) → Said n (procedure_messages (map erase_procedure ps)) → AllHandlers Fits k (handlers_in ps)
@@ -339,8 +340,8 @@ module _ (d : DictionaryText) (messages : List MessageText) (named : List ℕ) (
         let ms = body_messages (erase_body y.body) in
         let bs = procedure_messages (map erase_procedure ps) in
         handlers_both Fits k (handlers_of_body y.owner y.body) (handlers_in ps)
-          (body_fit k n y.owner y.body le g.1 b.0.1 (front n ms bs m))
-          (λ j le'. procedures_fit j (n + length ms) ps (omega (arith, le, le')) g.2 b.1 (back n ms bs m))
+        (body_fit k n y.owner y.body le g.1 b.0.1 (front n ms bs m))
+        (λ j le'. procedures_fit j (n + length ms) ps (omega (arith, le, le')) g.2 b.1 (back n ms bs m))
 
   -- ---- all
 
@@ -350,7 +351,7 @@ module _ (d : DictionaryText) (messages : List MessageText) (named : List ℕ) (
       let ms = declared_messages (all_declarations (erase_tree t).globals) in
       let said = front 0 ms (procedure_messages (erase_tree t).procedures) all_said in
       functions_fit [] [] (map (λ (x : Handler). x.outline) (handlers t)) 0 ds tt refl declared (each_declaration t.globals grammar.0)
-        (subst (λ l. Said 0 (declared_messages l)) (same_erased t.globals) said)
+      (subst (λ l. Said 0 (declared_messages l)) (same_erased t.globals) said)
 
   last_fit : AllHandlers Fits (length (functions_in (declarations t))) (handlers_in t.procedures)
   last_fit =
@@ -359,12 +360,12 @@ module _ (d : DictionaryText) (messages : List MessageText) (named : List ℕ) (
       let fs = all_functions [] ds in
       let e : 0 + length ms ≡ length ms = omega arith in
       let there : AreProcedures (scope fs) (length ms) t.procedures =
-          subst (λ c. AreProcedures c (length ms) t.procedures) (with_all [] ds)
-            (subst (λ ds. AreProcedures (with_functions (scope []) ds) (length ms) t.procedures) (same_declarations t.globals) h.typed.well.procedures)
+      subst (λ c. AreProcedures c (length ms) t.procedures) (with_all [] ds)
+      (subst (λ ds. AreProcedures (with_functions (scope []) ds) (length ms) t.procedures) (same_declarations t.globals) h.typed.well.procedures)
       in
       procedures_fit fs (functions_in ds) (map (λ (x : Handler). x.outline) (handlers t)) (known_all [] [] 0 ds tt declared) refl
-        (length (functions_in ds)) (length ms) t.procedures (omega arith) there grammar.1
-        (subst (λ n. Said n (procedure_messages (erase_tree t).procedures)) e (back 0 ms (procedure_messages (erase_tree t).procedures) all_said))
+      (length (functions_in ds)) (length ms) t.procedures (omega arith) there grammar.1
+      (subst (λ n. Said n (procedure_messages (erase_tree t).procedures)) e (back 0 ms (procedure_messages (erase_tree t).procedures) all_said))
 
   all_fit : AllFrom Fits 0 (outlines t)
   all_fit =

@@ -103,7 +103,6 @@ module _ (c : Scope) (s : Spot) (inside : Bool) (a : Agrees c s) (l : InLoops c 
   message_fits : (n index : ℕ) (message : syntax.Message) (xs : List Argument) (summary : Bool) → index ≡ n → kinds_of c.messages message ≡ Some (map argument_kind xs) → SaidAt c s n ((message, summary) ∷ []) → IsMessage s index xs
   message_fits n index message xs summary e h f = (said c (message, summary), ap (slice_get s.scene.lists.messages) e ∙ f.0, meant_kinds c.messages message summary xs h)
 
-
 mutual
   pub statement_fits : (c : Scope) (s : Spot) (room r n : ℕ) (inside : Bool) (x : Statement) → Agrees c s → InLoops c s inside → r ≤ room → IsStmt (erase_statement x) r → IsStatement c n x → Cased c s (uses_of x) → SaidAt c s n (messages_in (erase_statement x)) → StatementFits s room inside x
   statement_fits c s room r n inside Empty a l le g h k m = tt
@@ -118,16 +117,14 @@ mutual
   statement_fits c s room r n inside (SetCell name array xs x) a l le g h k m = (array_fits c s a l.looped array xs h.1, numbers_fit c s a l.looped xs h.2 (cased_left c s (uses_all xs) (uses x) k), number_fits c s a l.looped false x h.3 (cased_right c s (uses_all xs) (uses x) k))
   statement_fits c s room r n inside (CallOf name function xs) a l le g h k m = (function_fits c s a l.looped function xs (uses_all xs) h.1 k, numbers_fit c s a l.looped xs h.2 (cased_call c s function (uses_all xs) k))
   statement_fits c s room r n inside (If condition body others) a l le g h k m =
-      let k' = cased_right c s (uses condition) (uses_block body ++ uses_arms others) k in
-      (
+      let k' = cased_right c s (uses condition) (uses_block body ++ uses_arms others) k in (
         number_fits c s a l.looped false condition h.0 (cased_left c s (uses condition) (uses_block body ++ uses_arms others) k),
         less room r (AreStmts (erase_block body)) (BlockFits s room inside body) le g.1 (λ q le' g'.
             block_fits c s room q n inside body a l le' g' h.1 (cased_left c s (uses_block body) (uses_arms others) k') (said_front c s n (messages_of (erase_block body)) (messages_behind (erase_arms others)) m)),
         arms_fit c s room r (n + length (messages_of (erase_block body))) inside others a l le g.2 h.2 (cased_right c s (uses_block body) (uses_arms others) k') (said_back c s n (messages_of (erase_block body)) (messages_behind (erase_arms others)) m),
       )
   statement_fits c s room r n inside (For name variable record_name of body) a l le g h k m =
-      let k' = cased_tail c s (assigns variable ++ uses_block body) k in
-      (
+      let k' = cased_tail c s (assigns variable ++ uses_block body) k in (
         (cased_here c s (assigns variable ++ uses_block body) k h.3, record_fits c s a l.looped record_name of h.2),
         loop_variable_fits c s a name variable h.0,
         under room r (AreStmts (erase_block body)) (λ q. BlockFits (over s of) q true body) le g.2 (λ room' q le' g'.
@@ -135,8 +132,7 @@ mutual
       )
   statement_fits c s room r n inside (Do x body) a l le g h k m =
       let k1 = cased_right c s (assigns x.variable) (uses_limit x.start ++ (uses_limit x.stop ++ uses_block body)) k in
-      let k2 = cased_right c s (uses_limit x.start) (uses_limit x.stop ++ uses_block body) k1 in
-      (
+      let k2 = cased_right c s (uses_limit x.start) (uses_limit x.stop ++ uses_block body) k1 in (
         (loop_variable_fits c s a x.name x.variable h.0.0, limit_fits c s inside a l x.start h.0.2 (cased_left c s (uses_limit x.start) (uses_limit x.stop ++ uses_block body) k1), limit_fits c s inside a l x.stop h.0.3 (cased_left c s (uses_limit x.stop) (uses_block body) k2)),
         under room r (AreStmts (erase_block body)) (λ q. BlockFits s q true body) le g.1 (λ room' q le' g'.
             block_fits (within c None x.variable) s room' q n true body (agrees_in_do c s x.variable a) (loops_in_do c s inside x.variable l) le' g' h.1 (cased_right c s (uses_limit x.stop) (uses_block body) k2) m),
@@ -159,8 +155,7 @@ mutual
   arms_fit c s room r n inside no_arm a l le g h k m = tt
   arms_fit c s room r n inside (else_of body) a l le g h k m = less room r (AreStmts (erase_block body)) (BlockFits s room inside body) le g (λ q le' g'. block_fits c s room q n inside body a l le' g' h k m)
   arms_fit c s room r n inside (arm condition body others) a l le g h k m =
-      let k' = cased_right c s (uses condition) (uses_block body ++ uses_arms others) k in
-      (
+      let k' = cased_right c s (uses condition) (uses_block body ++ uses_arms others) k in (
         number_fits c s a l.looped false condition h.0 (cased_left c s (uses condition) (uses_block body ++ uses_arms others) k),
         less room r (AreStmts (erase_block body)) (BlockFits s room inside body) le g.1 (λ q le' g'.
             block_fits c s room q n inside body a l le' g' h.1 (cased_left c s (uses_block body) (uses_arms others) k') (said_front c s n (messages_of (erase_block body)) (messages_behind (erase_arms others)) m)),

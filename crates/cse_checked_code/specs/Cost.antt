@@ -19,7 +19,6 @@ use Rattle.cse_emit.specs.Statements.{turn_limit}
 use Rattle.cse_emitted.specs.Steps.{number_calls, words_calls, numbers_calls, which_calls, arguments_calls}
 use Rattle.cse_checked_code.specs.Checked.{IsCompiled}
 
-
 -- the costs of the functions that a statement calls, that has no statements within
 abbrev pub calls_of : List ℕ → Statement → ℕ
 calls_of costs Empty = 0
