@@ -7,7 +7,7 @@ use Rattle.cse_syntax.specs.Tree as syntax
 use Rattle.cse_syntax.specs.Tree.{Spelling, stmt, arm_tree}
 use Rattle.cse_typed.specs.declared.tree.Variable.{Variable}
 use Rattle.cse_typed.specs.Typed as typed
-use Rattle.cse_typed.specs.Typed.{Number, Statement, Statements, Arms, Counting, If, Do, statement_and, statements, arms, arm, no_arm}
+use Rattle.cse_typed.specs.Typed.{Number, Statement, Statements, Arms, Counting, If, Do, statement_and, statements, arms, arm, no_arm, else_of}
 use Rattle.cse_types.specs.Scope.{Scope}
 use Rattle.cse_types.specs.WellTyped.{messages_in, messages_of, messages_behind}
 use Rattle.cse_types.specs.Judge.{as_number, judge}
@@ -74,7 +74,7 @@ arm_grouped (Some a) (Some b) (Some e) None = refl
 arm_grouped (Some a) (Some b) (Some e) (Some l) = refl
 
 if_grouped : (a : Option Number) (b : Option Statements) (r : Option Arms)
-    → joined if_of a (joined (λ b o. (b, o)) b r) ≡ joined (λ x rest. If x.0 x.1 rest) (joined guarded a b) r
+    → joined if_of a (joined (λ b o. (b, o)) b r) ≡ joined (λ (x : Number × Statements) (rest : Arms). If x.0 x.1 rest) (joined guarded a b) r
 if_grouped None b r = refl
 if_grouped (Some a) None r = refl
 if_grouped (Some a) (Some b) None = refl
@@ -100,6 +100,12 @@ arms_judged s n (x ∷ xs) last =
     ∙ arm_grouped a b e (judge_arms s (k + length (messages_each xs)) last)
     ∙ ap (λ m. joined arms (joined (λ y ys. y ∷ ys) (joined guarded a b) e) (judge_arms s m last)) more
 
+pub chosen_noted : (first : Option (Number × Statements)) (others : Option (List (Number × Statements))) (last : Option Arms) (before one two three : Bool)
+    → one ≡ (before || not (is_there first)) → two ≡ (one || not (is_there others)) → three ≡ (two || not (is_there last))
+    → three ≡ (before || not (is_there (chosen first others last)))
+chosen_noted first others last before one two three a b c =
+    both_noted (λ (x : Number × Statements) (rest : Arms). If x.0 x.1 rest) first (joined arms others last) before one three a (both_noted arms others last one two three b c)
+
 module _ (s : Scope) (x : syntax.Expr × syntax.Stmts) (xs : List (syntax.Expr × syntax.Stmts)) (last : syntax.Arms) where
   pub choice_judged : (n k m : ℕ) → k ≡ n + length (messages_of x.1) → m ≡ k + length (messages_each xs)
       → chosen (judge_arm s n x) (judge_each s k xs) (judge_arms s m last) ≡ judge_statement s n (syntax.If x.0 x.1 (syntax.arms xs last))
@@ -109,14 +115,13 @@ module _ (s : Scope) (x : syntax.Expr × syntax.Stmts) (xs : List (syntax.Expr �
       let b = judge_block s n x.1 in
       let first = judge_arm s n x in
       ap (λ o. chosen first (judge_each s k xs) (judge_arms s o last)) m_is
-      ∙ ap (joined (λ x rest. If x.0 x.1 rest) first) (sym (arms_judged s k xs last))
-      ∙ ap (λ o. joined (λ x rest. If x.0 x.1 rest) first (judge_arms s o (syntax.arms xs last))) k_is
+      ∙ ap (joined (λ (x : Number × Statements) (rest : Arms). If x.0 x.1 rest) first) (sym (arms_judged s k xs last))
+      ∙ ap (λ o. joined (λ (x : Number × Statements) (rest : Arms). If x.0 x.1 rest) first (judge_arms s o (syntax.arms xs last))) k_is
       ∙ sym (if_grouped a b (judge_arms s (n + length (messages_of x.1)) (syntax.arms xs last)))
 
-  pub choice_told : {M : Type 0} (f : syntax.Message × Bool → M) (old first others new : List (syntax.Message × Bool))
-      → first ≡ old ++ messages_of x.1 → others ≡ first ++ messages_each xs → new ≡ others ++ messages_behind last
+  pub choice_told : (old first others new : List (syntax.Message × Bool)) → first ≡ old ++ messages_of x.1 → others ≡ first ++ messages_each xs → new ≡ others ++ messages_behind last
       → new ≡ old ++ messages_in (syntax.If x.0 x.1 (syntax.arms xs last))
-  choice_told f old first others new first_is others_are new_is =
+  choice_told old first others new first_is others_are new_is =
       new_is
       ∙ ap (λ ms. ms ++ messages_behind last) others_are
       ∙ append_assoc first (messages_each xs) (messages_behind last)
@@ -124,11 +129,33 @@ module _ (s : Scope) (x : syntax.Expr × syntax.Stmts) (xs : List (syntax.Expr �
       ∙ ap (λ ms. ms ++ messages_behind (syntax.arms xs last)) first_is
       ∙ append_assoc old (messages_of x.1) (messages_behind (syntax.arms xs last))
 
-pub chosen_noted : (first : Option (Number × Statements)) (others : Option (List (Number × Statements))) (last : Option Arms) (before one two three : Bool)
-    → one ≡ (before || not (is_there first)) → two ≡ (one || not (is_there others)) → three ≡ (two || not (is_there last))
-    → three ≡ (before || not (is_there (chosen first others last)))
-chosen_noted first others last before one two three a b c =
-    both_noted (λ x rest. If x.0 x.1 rest) first (joined arms others last) before one three a (both_noted arms others last one two three b c)
+  pub choice_value : (n k m : ℕ) (s1 : Scope) (f : Option (Number × Statements)) (e : Option (List (Number × Statements))) (l : Option Arms) (result : Option Statement)
+      → k ≡ n + length (messages_of x.1) → m ≡ k + length (messages_each xs) → s1 ≡ s
+      → f ≡ judge_arm s n x → e ≡ judge_each s1 k xs → l ≡ judge_arms s m last → result ≡ chosen f e l
+      → result ≡ judge_statement s n (syntax.If x.0 x.1 (syntax.arms xs last))
+  choice_value n k m s1 f e l result k_is m_is s_is f_is e_is l_is r_is =
+      r_is
+      ∙ ap (λ o. chosen o e l) f_is
+      ∙ ap (λ o. chosen (judge_arm s n x) o l) (e_is ∙ ap (λ z. judge_each z k xs) s_is)
+      ∙ ap (chosen (judge_arm s n x) (judge_each s k xs)) l_is
+      ∙ choice_judged n k m k_is m_is
+
+  pub choice_noted : (n k m : ℕ) (s1 : Scope) (before one two three : Bool)
+      → k ≡ n + length (messages_of x.1) → m ≡ k + length (messages_each xs) → s1 ≡ s
+      → one ≡ (before || not (is_there (judge_arm s n x))) → two ≡ (one || not (is_there (judge_each s1 k xs))) → three ≡ (two || not (is_there (judge_arms s m last)))
+      → three ≡ (before || not (is_there (judge_statement s n (syntax.If x.0 x.1 (syntax.arms xs last)))))
+  choice_noted n k m s1 before one two three k_is m_is s_is a b c =
+      chosen_noted (judge_arm s n x) (judge_each s k xs) (judge_arms s m last) before one two three a (b ∙ ap (λ z. one || not (is_there (judge_each z k xs))) s_is) c
+      ∙ ap (λ o. before || not (is_there o)) (choice_judged n k m k_is m_is)
+
+-- what stands behind the arms
+pub none_judged : (s : Scope) (m : ℕ) → Some no_arm ≡ judge_arms s m syntax.no_arm
+unfolding judge_arms
+none_judged s m = refl
+
+pub else_judged : (s : Scope) (m : ℕ) (body : syntax.Stmts) → option_map else_of (judge_block s m body) ≡ judge_arms s m (syntax.else_of body)
+unfolding judge_arms
+else_judged s m body = refl
 
 -- ---- loops
 
@@ -142,9 +169,21 @@ module _ (s : Scope) (n : ℕ) (variable record_name : Spelling) (body : syntax.
       ap (joined (for_of variable record_name) h) inner_is
       ∙ ap (λ o. joined (for_of variable record_name) o (judge_block (opened s (option_map for_loop o)) n body)) h_is
 
+  pub for_noted : (before mid final : Bool) → mid ≡ (before || not (is_there (for_head s variable record_name))) → final ≡ (mid || not (is_there (judge_block (opened s l) n body)))
+      → final ≡ (before || not (is_there (judge_statement s n (syntax.For variable record_name body))))
+  for_noted before mid final a b =
+      both_noted (for_of variable record_name) h (judge_block (opened s l) n body) before mid final (a ∙ ap (λ o. before || not (is_there o)) (sym h_is)) b
+      ∙ ap (λ o. before || not (is_there o)) for_judged
+
 module _ (s : Scope) (n : ℕ) (x : syntax.Counting) (body : syntax.Stmts) (h : Option Counting) (l : Option (Option ℕ × Variable)) (h_is : h ≡ counting_judged s x) (l_is : l ≡ option_map do_loop h) where
   pub do_judged : joined Do h (judge_block (opened s l) n body) ≡ judge_statement s n (syntax.Do x body)
   unfolding judge_statement
   do_judged =
       ap (λ o. joined Do h (judge_block (opened s o) n body)) l_is
       ∙ ap (λ o. joined Do o (judge_block (opened s (option_map do_loop o)) n body)) h_is
+
+  pub do_noted : (before mid final : Bool) → mid ≡ (before || not (is_there (counting_judged s x))) → final ≡ (mid || not (is_there (judge_block (opened s l) n body)))
+      → final ≡ (before || not (is_there (judge_statement s n (syntax.Do x body))))
+  do_noted before mid final a b =
+      both_noted Do h (judge_block (opened s l) n body) before mid final (a ∙ ap (λ o. before || not (is_there o)) (sym h_is)) b
+      ∙ ap (λ o. before || not (is_there o)) do_judged

@@ -11,3 +11,5 @@ pub mod StatementsComplete
 pub mod Counted
 pub mod Blocks
 pub mod Numbers
+pub mod Actions
+pub mod Arguments

@@ -433,7 +433,8 @@ pub fn put_deck<'a>(
 {
     match scope.meant(name) {
         Some(Meaning::Array(array)) => {
-            let picks = picks(alloc, scope, faults, name.token.saturating_sub(2), array)?;
+            let tokens = (name.token, name.token.saturating_sub(2));
+            let picks = picks(alloc, scope, faults, tokens, array)?;
             Ok(put(name, array, picks, value))
         }
         _ => {
