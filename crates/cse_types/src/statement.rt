@@ -124,6 +124,7 @@ fn do_of<'a>(
 }
 
 /// A message, which is one more of the source, sound or not.
+#[tactic(auto, unfolding(crate::specs::JudgeStatement::judge_statement))]
 fn one_message<'a>(
     alloc: Global,
     scope: &Scope<'_>,
