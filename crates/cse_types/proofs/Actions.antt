@@ -1,11 +1,13 @@
 -- Where a statement that holds expressions is sound, they are.
 use Rattle.std.specs.Prelude.{Bool, true, false, ◌&&◌, ◌||◌, not, ◌==◌, if◌then◌else◌}
-use Rattle.std.proofs.Common.{◌≡◌, ℕ, ◌+◌, List, Option, Some, None, refl, ap, sym, ◌∙◌, subst, arith, option_map}
+use Rattle.std.proofs.Common.{◌≡◌, ℕ, ◌+◌, List, length, map, Option, Some, None, refl, ap, sym, ◌∙◌, subst, arith, option_map}
+use Rattle.std.proofs.lemmas.List.{length-map}
 use Rattle.std.proofs.lemmas.Bool.{eqb-true, false≢true}
 use Rattle.cse_value.specs.declared.shape.ItemKind.{ItemKind}
 use Rattle.cse_value.specs.declared.shape.ItemKind.TheVariants as kind
 use Rattle.cse_syntax.specs.Tree as syntax
-use Rattle.cse_syntax.specs.Tree.{Spelling}
+use Rattle.cse_syntax.specs.declared.tree.Expression.{Expression}
+use Rattle.cse_syntax.specs.Tree.{Spelling, expr, exprs}
 use Rattle.cse_typed.specs.declared.tree.Variable.{Variable}
 use Rattle.cse_typed.specs.declared.tree.Found.{Found}
 use Rattle.cse_typed.specs.Typed.{Number, Words, Numbers, Set, SetText, SetCell, CallOf, PutDeck, Statement, Here, At}
@@ -16,7 +18,8 @@ use Rattle.cse_types.specs.WellTyped.{dimensions_of, may_call}
 use Rattle.cse_types.specs.Judge.{Judged, AsNumber, AsWords, Unknown, is_sound, as_number, field_at, sole, is_count, picks_of, expr_count, judge_all}
 use Rattle.cse_types.specs.JudgeStatement.{as_words, free_variable, place_at, set_item, set_text_item, impute_item, assign_variable, assign_item, assign, impute_number, impute, put_deck, call_of}
 use Rattle.cse_types.specs.Walk.{is_there, joined, only_if}
-use Rattle.cse_types.proofs.Walks.{there_map, or_parts, or_true, or_same}
+use Rattle.cse_types.proofs.Walks.{there_map, or_parts, or_same}
+use Rattle.cse_types.proofs.Expressions.{count_is}
 
 -- ---- faults that were noted of parts
 
@@ -157,9 +160,16 @@ deck_there s name (Some m.Level) w h = absurd (false≢true h)
 
 -- ---- the statements
 
+pub values_count : (n : ℕ) (items : List Expression) → n ≡ length items → n ≡ expr_count (exprs (map expr items))
+values_count n items e = e ∙ sym (count_is (map expr items) ∙ length-map items expr)
+
 module _ (s : Scope) (name : Spelling) (o : Option Meaning) (xs : syntax.Exprs) where
   abbrev AssignNoted : Bool → Bool → ℕ → Option Numbers → Judged → Type 0
   AssignNoted last final n z v = (last || (not (is_there z) || not (is_sound v))) ≡ last → final ≡ (last || not (is_there (assign s name o n z v)))
+
+  pub assigned_value : (n : ℕ) (z : Option Numbers) (v' v : Judged) (r : Option Statement) → n ≡ expr_count xs → z ≡ judge_all s xs → v' ≡ v → r ≡ assign s name o n z v' → r ≡ assign s name o (expr_count xs) (judge_all s xs) v
+  assigned_value n z v' v r e1 e2 e3 h =
+      h ∙ ap (λ k. assign s name o k z v') e1 ∙ ap (λ k. assign s name o (expr_count xs) k v') e2 ∙ ap (assign s name o (expr_count xs) (judge_all s xs)) e3
 
   pub assigned_noted : {R : Type 0} (g : R → Numbers) (n : ℕ) (y : Option R) (v' v : Judged) (before mid last final : Bool) → n ≡ expr_count xs → option_map g y ≡ judge_all s xs → v' ≡ v
       → mid ≡ (before || not (is_there (judge_all s xs))) → last ≡ (mid || not (is_sound v))
@@ -173,6 +183,10 @@ module _ (s : Scope) (name : Spelling) (o : Option Meaning) (xs : syntax.Exprs) 
   abbrev ImputeNoted : Bool → Bool → ℕ → Option Numbers → Option Number → Type 0
   ImputeNoted last final n z w = (last || (not (is_there z) || not (is_there w))) ≡ last → final ≡ (last || not (is_there (impute s name o n z w)))
 
+  pub imputed_value : (n : ℕ) (z : Option Numbers) (w' w : Option Number) (r : Option Statement) → n ≡ expr_count xs → z ≡ judge_all s xs → w' ≡ w → r ≡ impute s name o n z w' → r ≡ impute s name o (expr_count xs) (judge_all s xs) w
+  imputed_value n z w' w r e1 e2 e3 h =
+      h ∙ ap (λ k. impute s name o k z w') e1 ∙ ap (λ k. impute s name o (expr_count xs) k w') e2 ∙ ap (impute s name o (expr_count xs) (judge_all s xs)) e3
+
   pub imputed_noted : {R Q : Type 0} (g : R → Numbers) (q : Q → Number) (n : ℕ) (y : Option R) (x : Option Q) (w : Option Number) (before mid last final : Bool) → n ≡ expr_count xs → option_map g y ≡ judge_all s xs → option_map q x ≡ w
       → mid ≡ (before || not (is_there (judge_all s xs))) → last ≡ (mid || not (is_there w))
       → ((last || (not (is_there y) || not (is_there x))) ≡ last → final ≡ (last || not (is_there (impute s name o n (option_map g y) (option_map q x)))))
@@ -184,6 +198,9 @@ module _ (s : Scope) (name : Spelling) (o : Option Meaning) (xs : syntax.Exprs) 
 
   abbrev CallNoted : Bool → Bool → ℕ → Option Numbers → Type 0
   CallNoted last final n z = (last || not (is_there z)) ≡ last → final ≡ (last || not (is_there (call_of s name o n z)))
+
+  pub called_value : (n : ℕ) (z : Option Numbers) (r : Option Statement) → n ≡ expr_count xs → z ≡ judge_all s xs → r ≡ call_of s name o n z → r ≡ call_of s name o (expr_count xs) (judge_all s xs)
+  called_value n z r e1 e2 h = h ∙ ap (λ k. call_of s name o k z) e1 ∙ ap (call_of s name o (expr_count xs)) e2
 
   pub called_noted : {R : Type 0} (g : R → Numbers) (n : ℕ) (y : Option R) (before last final : Bool) → n ≡ expr_count xs → option_map g y ≡ judge_all s xs
       → last ≡ (before || not (is_there (judge_all s xs)))

@@ -9,9 +9,9 @@ use Rattle.cse_typed.specs.declared.tree.Variable.{Variable}
 use Rattle.cse_typed.specs.Typed as typed
 use Rattle.cse_typed.specs.Typed.{Number, Statement, Statements, Arms, Counting, If, Do, statement_and, statements, arms, arm, no_arm, else_of}
 use Rattle.cse_types.specs.Scope.{Scope}
-use Rattle.cse_types.specs.WellTyped.{messages_in, messages_of, messages_behind}
+use Rattle.cse_types.specs.WellTyped.{messages_in, messages_of, messages_behind, kinds_of}
 use Rattle.cse_types.specs.Judge.{as_number, judge}
-use Rattle.cse_types.specs.JudgeStatement.{if_of, arm_of, judge_statement, judge_block, judge_arms, guarded, judge_arm, judge_each, messages_each, chosen, opened, for_loop, do_loop, for_head, for_of, counting_judged}
+use Rattle.cse_types.specs.JudgeStatement.{err_msg, if_of, arm_of, judge_statement, judge_block, judge_arms, guarded, judge_arm, judge_each, messages_each, chosen, opened, for_loop, do_loop, for_head, for_of, counting_judged}
 use Rattle.cse_types.specs.Walk.{joined, is_there}
 use Rattle.cse_types.proofs.Counted.{walk_from, gathered, both_noted}
 
@@ -147,6 +147,11 @@ module _ (s : Scope) (x : syntax.Expr × syntax.Stmts) (xs : List (syntax.Expr �
   choice_noted n k m s1 before one two three k_is m_is s_is a b c =
       chosen_noted (judge_arm s n x) (judge_each s k xs) (judge_arms s m last) before one two three a (b ∙ ap (λ z. one || not (is_there (judge_each z k xs))) s_is) c
       ∙ ap (λ o. before || not (is_there o)) (choice_judged n k m k_is m_is)
+
+-- a message
+pub message_judged : (s : Scope) (n k : ℕ) (message : syntax.Message) (values : syntax.Exprs) (summary : Bool) → k ≡ n → err_msg s (kinds_of s.messages message) message k summary values ≡ judge_statement s n (syntax.ErrMsg message values summary)
+unfolding judge_statement
+message_judged s n k message values summary e = ap (λ i. err_msg s (kinds_of s.messages message) message i summary values) e
 
 -- what stands behind the arms
 pub none_judged : (s : Scope) (m : ℕ) → Some no_arm ≡ judge_arms s m syntax.no_arm

@@ -14,9 +14,12 @@ and_no false = refl
 past_range : (n : ℕ) → nat_le n MOST ≡ false → nat_le n 999999999 ≡ false
 past_range n h = grind (arith, nat_tests, h)
 
+zero_le : (n : ℕ) → nat_le 0 n ≡ true
+zero_le n = grind (arith, nat_tests)
+
 not_within : (b : Bool) (n : ℕ) → (b && (nat_le 0 n && nat_le n MOST)) ≡ false → (b && (nat_le 1 n && nat_le n 999999999)) ≡ false
 not_within false n h = refl
-not_within true n h = ap (λ v. nat_le 1 n && v) (past_range n h) ∙ and_no (nat_le 1 n)
+not_within true n h = ap (λ v. nat_le 1 n && v) (past_range n (sym (ap (λ v. v && nat_le n MOST) (zero_le n)) ∙ h)) ∙ and_no (nat_le 1 n)
 
 pub no_number_is : (d : List ℕ) → is_within 0 MOST d ≡ false → None ≡ message_number d
 unfolding is_within

@@ -9,7 +9,7 @@ ghost use Rattle.cse_typed.specs.Typed as typed;
 ghost use Rattle.cse_typed.specs.Typed.{argument, number, statement, words};
 ghost use Rattle.cse_types.specs.MessageFile.{MessageText};
 ghost use Rattle.cse_types.specs.WellTyped.{kinds_of, message_meant, message_number, numbered};
-ghost use Rattle.cse_types.specs.Judge.{judge};
+ghost use Rattle.cse_types.specs.Judge.{expr_count, judge};
 ghost use Rattle.cse_types.specs.JudgeStatement as spec;
 ghost use Rattle.cse_types.specs.JudgeStatement.{as_argument, as_words, judge_arguments, ranged};
 ghost use Rattle.cse_types.specs.Walk.{is_there, IsNoted};
@@ -120,6 +120,7 @@ fn of_words<'a>(x: Option<Words<'a>>) -> Option<Argument<'a>>
 }
 
 /// A value for a placeholder of this kind.
+#[tactic(auto, using(crate::proofs::Walks::there_map))]
 fn one_argument<'a>(
     alloc: Global,
     scope: &Scope<'_>,
@@ -183,7 +184,15 @@ fn message_of<'a>(
     }
 }
 
+/// Whether as many values stand there as the text has placeholders.
+fn has_values(text: &[u8], values: &Vec<Expression<'_>>) -> bool
+    ensures { result ≡ (length (message_kinds text.now) == expr_count (exprs (map expr values.now.items))) }
+{
+    count_placeholders(text) == values.len()
+}
+
 /// A message of this text, with its values.
+#[tactic(auto, using(crate::proofs::Walks::there_map))]
 fn filled<'a>(
     alloc: Global,
     scope: &Scope<'_>,
@@ -197,7 +206,7 @@ fn filled<'a>(
     ensures value { IfOk result (λ r. option_map statement r ≡ spec.err_msg scope.now (Some (message_kinds text.now)) (message said.entry) index is_summary (exprs (map expr values.now.items))) }
     ensures noted { OnOk result (IsNoted faults.old faults.new (is_there (spec.err_msg scope.now (Some (message_kinds text.now)) (message said.entry) index is_summary (exprs (map expr values.now.items))))) }
 {
-    if count_placeholders(text) != values.len() {
+    if !has_values(text, values) {
         faults.note(48, said.token());
         return Ok(None);
     }

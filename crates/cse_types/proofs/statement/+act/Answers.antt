@@ -7,11 +7,12 @@ use Rattle.cse_syntax.specs.Tree.{written, stmt, arm_tree as parsed_arm}
 use Rattle.cse_syntax.proofs.Rows.{if_is, for_is, do_is}
 use Rattle.cse_typed.specs.Typed.{statement, statements, arm_tree, counting, Do, else_of}
 use Rattle.cse_types.specs.WellTyped.{messages_in, messages_of}
-use Rattle.cse_types.specs.JudgeStatement.{judge_statement, judge_block, messages_each, for_of}
+use Rattle.cse_types.specs.Judge.{as_number, judge}
+use Rattle.cse_types.specs.JudgeStatement.{judge_statement, judge_block, messages_each, for_of, guarded, opened}
 use Rattle.cse_types.specs.Told.{told_of}
 use Rattle.cse_types.specs.Walk.{is_there, joined}
 use Rattle.cse_types.proofs.Walks.{step_noted_made, there_map, append_none}
-use Rattle.cse_types.proofs.Counted.{walk_from, from_step, from_end, told_step, told_end, told_count, or_false}
+use Rattle.cse_types.proofs.Counted.{walk_from, from_step, from_end, told_step, told_end, told_count, or_false, both_noted, on_ok}
 use Rattle.cse_types.proofs.Blocks.{statement_at, messages_at, count_at, block_walked, block_gathered, arm_at, arm_messages, arm_count, arms_walked, arms_gathered, choice_value, choice_noted, choice_told, none_judged, else_judged, for_judged, for_noted, do_judged, do_noted}
 use Rattle.cse_types.proofs.statement.+act.Goals as goal
 
@@ -272,3 +273,47 @@ statement-returns-in_ok-last-in-Some-clause-told t c =
     let same = ap stmt c.in-If.is ∙ if_is first c.in-If.others c.in-If.otherwise ∙ ap (λ o. syntax.If (syntax.expr first.condition) (syntax.block first.body.items) (syntax.arms xs (syntax.otherwise_tree o))) c.in-Some.is in
     choice_told c.args.scope.now (parsed_arm first) xs (syntax.else_of body) _ _ _ _ c.in_ok-start-in-If.ensures.told c.in_ok-middle-in-If.ensures.told c.in_ok-last-in-Some.ensures.told
     ∙ ap (λ y. map told_of c.args.told.now.items ++ messages_in y) (sym same)
+
+-- ---- statements that hold no others
+
+pub statement-returns-in-Empty-clause-told : goal.statement-returns-in-Empty-clause-told
+statement-returns-in-Empty-clause-told t c = sym (append_none (map told_of c.args.told.now.items)) ∙ ap (λ y. map told_of c.args.told.now.items ++ messages_in (stmt y)) (sym c.in-Empty.is)
+
+pub statement-returns-in-Assign-clause-told : goal.statement-returns-in-Assign-clause-told
+statement-returns-in-Assign-clause-told t c = on_ok c.assignment.result _ (sym (append_none (map told_of c.args.told.now.items)) ∙ ap (λ y. map told_of c.args.told.now.items ++ messages_in (stmt y)) (sym c.in-Assign.is))
+
+pub statement-returns-in-Call-clause-told : goal.statement-returns-in-Call-clause-told
+statement-returns-in-Call-clause-told t c = on_ok c.alone.result _ (sym (append_none (map told_of c.args.told.now.items)) ∙ ap (λ y. map told_of c.args.told.now.items ++ messages_in (stmt y)) (sym c.in-Call.is))
+
+pub statement-returns-in-Jump-clause-told : goal.statement-returns-in-Jump-clause-told
+statement-returns-in-Jump-clause-told t c = sym (append_none (map told_of c.args.told.now.items)) ∙ ap (λ y. map told_of c.args.told.now.items ++ messages_in (stmt y)) (sym c.in-Jump.is)
+
+pub statement-returns-in-Impute-clause-told : goal.statement-returns-in-Impute-clause-told
+statement-returns-in-Impute-clause-told t c = on_ok c.imputation.result _ (sym (append_none (map told_of c.args.told.now.items)) ∙ ap (λ y. map told_of c.args.told.now.items ++ messages_in (stmt y)) (sym c.in-Impute.is))
+
+pub statement-returns-in-PutDeck-clause-told : goal.statement-returns-in-PutDeck-clause-told
+statement-returns-in-PutDeck-clause-told t c = on_ok c.deck_value.result _ (sym (append_none (map told_of c.args.told.now.items)) ∙ ap (λ y. map told_of c.args.told.now.items ++ messages_in (stmt y)) (sym c.in-PutDeck.is))
+
+-- ---- an arm, and the body of a loop
+
+pub arm-returns-clause-noted : goal.arm-returns-clause-noted
+arm-returns-clause-noted t c =
+    let s = c.args.scope.now in
+    let x = parsed_arm c.args.x.now in
+    both_noted guarded (as_number (judge s false x.0)) (judge_block s (length c.args.told.now.items) x.1) _ _ _ c.in_ok-condition.ensures.noted c.in_ok-body.ensures.noted
+
+pub body_of-returns-in_ok-inner-in-Some-clause-value : goal.body_of-returns-in_ok-inner-in-Some-clause-value
+body_of-returns-in_ok-inner-in-Some-clause-value t c =
+    let n = length c.args.told.now.items in
+    let b = syntax.block c.args.body.now.items in
+    c.in_ok-inner-in-Some.ensures.value ∙ ap (λ z. judge_block z n b) c.in_ok-begin-in-Some.ensures ∙ ap (λ o. judge_block (opened c.args.scope.now o) n b) (sym c.in-Some.is)
+
+pub body_of-returns-in_ok-inner-in-Some-clause-noted : goal.body_of-returns-in_ok-inner-in-Some-clause-noted
+body_of-returns-in_ok-inner-in-Some-clause-noted t c =
+    let n = length c.args.told.now.items in
+    let b = syntax.block c.args.body.now.items in
+    c.in_ok-inner-in-Some.ensures.noted
+    ∙ ap (λ o. is_there c.args.faults.now.worst || not (is_there o)) (ap (λ z. judge_block z n b) c.in_ok-begin-in-Some.ensures ∙ ap (λ o. judge_block (opened c.args.scope.now o) n b) (sym c.in-Some.is))
+
+pub body_of-returns-in_ok-inner-in-Some-clause-same : goal.body_of-returns-in_ok-inner-in-Some-clause-same
+body_of-returns-in_ok-inner-in-Some-clause-same t c = c.end.ensures c.args.scope.now c.in-Some.turns (c.in_ok-inner-in-Some.ensures.same ∙ c.in_ok-begin-in-Some.ensures)
