@@ -2,22 +2,15 @@
 use Rattle.std.specs.Prelude.{Bool, true, false, ◌&&◌, MatchOption}
 use Rattle.std.proofs.Common.{◌≡◌, ℕ, ◌+◌, ◌<◌, ◌≤◌, get_or, drop, List, [], ◌∷◌, length, map, Option, Some, None, refl, ap, sym, ◌∙◌, option_map}
 use Rattle.cse_parts.specs.declared.placeholders.ArgumentKind.{ArgumentKind}
-use Rattle.cse_parts.specs.Placeholders.{message_kinds}
 use Rattle.cse_syntax.specs.declared.tree.Expression.{Expression}
 use Rattle.cse_syntax.specs.Tree.{expr, exprs}
 use Rattle.cse_typed.specs.declared.tree.Argument as rust
 use Rattle.cse_typed.specs.Typed.{Argument, argument}
 use Rattle.cse_types.specs.Scope.{Scope}
-use Rattle.cse_types.specs.MessageFile.{MessageText}
 use Rattle.cse_types.specs.Judge.{judge}
 use Rattle.cse_types.specs.JudgeStatement.{as_argument, first_kind, other_kinds, judge_arguments}
 use Rattle.cse_types.specs.Walk.{so_far, found_more, joined, is_there}
 use Rattle.cse_types.proofs.Walks.{drop_is, past, map_found, there_map, turn_is, end_is}
-
--- the kinds of the text that is meant
-pub kinds_are : (o : Option MessageText) (t : Option (List ℕ)) → t ≡ option_map (λ (x : MessageText). x.text) o → option_map message_kinds t ≡ option_map (λ (x : MessageText). message_kinds x.text) o
-kinds_are None t h = ap (option_map message_kinds) h
-kinds_are (Some x) t h = ap (option_map message_kinds) h
 
 pub kinds_next : (ks others : List ArgumentKind) (k : Option ArgumentKind) → MatchOption k ((ks ≡ []) × (others ≡ [])) (λ x. ks ≡ x ∷ others) → (k ≡ first_kind ks) × (others ≡ other_kinds ks)
 kinds_next ks others None h = (sym (ap first_kind h.0), h.1 ∙ sym (ap other_kinds h.0))

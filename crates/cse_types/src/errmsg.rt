@@ -120,7 +120,6 @@ fn of_words<'a>(x: Option<Words<'a>>) -> Option<Argument<'a>>
 }
 
 /// A value for a placeholder of this kind.
-#[tactic(auto, using(crate::proofs::Walks::there_map))]
 fn one_argument<'a>(
     alloc: Global,
     scope: &Scope<'_>,

@@ -1,5 +1,5 @@
 use Rattle.std.proofs.Common.{◌≡◌, ap, ◌∙◌, refl, sym, subst, map, drop, ◌+◌, ◌<◌, ◌≤◌, length, get_or, List}
-use Rattle.std.specs.Prelude.{◌||◌, ◌++◌, not, option_map}
+use Rattle.std.specs.Prelude.{◌||◌, ◌++◌, not, false, option_map}
 use Rattle.cse_syntax.specs.declared.tree.Statement as rusts
 use Rattle.cse_syntax.specs.declared.tree.Arm as rustarm
 use Rattle.cse_syntax.specs.Tree as syntax
