@@ -33,7 +33,15 @@ pub fn assignment<'a>(
     let count = place.subscripts.len();
     let subscripts = all_values(alloc, scope, faults, &place.subscripts)?;
     let found = expression(alloc, scope, faults, false, x)?;
-    Ok(assign(scope, faults, place.name, count, subscripts, found, x.token()))
+    Ok(assign(
+        scope,
+        faults,
+        place.name,
+        count,
+        subscripts,
+        found,
+        x.token(),
+    ))
 }
 
 /// An imputation.

@@ -24,9 +24,7 @@ use crate::meaning::Meaning;
 use crate::operator::{chained, compared, grouped, int, is_special, minus, negated};
 use crate::scope::{Scope, own_result};
 use crate::set::member;
-use cse_syntax::{
-    Expression, Function, Lexeme, Operation as Parsed, Operator, number_of,
-};
+use cse_syntax::{Expression, Function, Lexeme, Operation as Parsed, Operator, number_of};
 use cse_typed::{Number, Operation, Variable, Words};
 use std::alloc::{AllocError, Global};
 

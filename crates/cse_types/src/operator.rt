@@ -41,7 +41,10 @@ pub fn int<'a>(alloc: Global, x: Option<Number<'a>>) -> Result<Option<Number<'a>
     }
 }
 
-pub fn is_special<'a>(alloc: Global, x: Option<Number<'a>>) -> Result<Option<Number<'a>>, AllocError>
+pub fn is_special<'a>(
+    alloc: Global,
+    x: Option<Number<'a>>,
+) -> Result<Option<Number<'a>>, AllocError>
     ensures { IfOk result (λ r. option_map number r ≡ option_map typed.IsSpecial (option_map number x.entry)) }
 {
     match x {

@@ -108,10 +108,7 @@ fn for_of<'a>(
     }
 }
 
-fn do_of<'a>(
-    head: Option<Counting<'a>>,
-    body: Option<Vec<Statement<'a>>>,
-) -> Option<Statement<'a>>
+fn do_of<'a>(head: Option<Counting<'a>>, body: Option<Vec<Statement<'a>>>) -> Option<Statement<'a>>
     ensures { option_map statement result ≡ joined typed.Do (option_map counting head.entry) (option_map (λ v. typed.block v.items) body.entry) }
 {
     match head {
@@ -138,7 +135,15 @@ fn one_message<'a>(
     ensures noted { OnOk result (IsNoted faults.old faults.new (is_there (judge_statement scope.now (length told.old.items) (syntax.ErrMsg (syntax.message message.entry) (syntax.exprs (map syntax.expr values.now.items)) is_summary)))) }
     ensures told { OnOk result (map told_of told.new.items ≡ map told_of told.old.items ++ (syntax.message message.entry, is_summary) ∷ []) }
 {
-    let found = err_msg(alloc, scope, faults, message, told.len(), is_summary, values)?;
+    let found = err_msg(
+        alloc,
+        scope,
+        faults,
+        message,
+        told.len(),
+        is_summary,
+        values,
+    )?;
     told.push(Told {
         message,
         is_summary,
