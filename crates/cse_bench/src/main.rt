@@ -1,5 +1,5 @@
 //! Times of what runs often: fields of 3, 8 and 15 columns, an image of 1,000,000 instructions, hot decks of
-//! 1,000,000 cells, 1,000,000 messages, and runs over 1,000,000 cases. They are taken where a word is given.
+//! 1,000,000 cells, 1,000,000 messages, steps, and runs over 1,000,000 cases. They are taken where a word is given.
 #![tactic(auto)]
 
 mod cases;
@@ -8,6 +8,8 @@ mod fields;
 mod images;
 mod programs;
 mod reports;
+mod step_programs;
+mod steps;
 
 use std::{env, io};
 
@@ -21,5 +23,6 @@ fn main(rt: HostRuntime) -> io::Result<()> {
     images::bench(rt.alloc(), &rt)?;
     decks::bench(rt.alloc(), &rt)?;
     reports::bench(rt.alloc(), &rt)?;
+    steps::bench(rt.alloc(), &rt)?;
     cases::bench(rt.alloc(), &rt)
 }
