@@ -1,10 +1,8 @@
 -- The run of a preproc, by what the calls of `try` answer.
-use Rattle.std.proofs.Common.{◌≡◌, ℕ, List, [], ◌∷◌, ◌++◌, Option, None, refl, sym, ap, ◌∙◌, subst, append_assoc, append-nil}
+use Rattle.std.proofs.Common.{◌≡◌, ℕ, List, [], ◌∷◌, ◌++◌, None, sym, ap, ◌∙◌, subst, append_assoc, append-nil}
 use Rattle.std.specs.Prelude.{map}
-use Rattle.std.specs.List.{flat_map}
 use Rattle.std.proofs.lemmas.Bool.{false≢true}
 use Rattle.std.proofs.lemmas.List.Concat.{flat_map-cons}
-use Rattle.cse_parts.specs.Image.{Image}
 use Rattle.cse_dict.specs.Dictionary.{DictionaryText, shape_of}
 use Rattle.cse_verify.specs.Verified.{VerifiedProgram}
 use Rattle.cse_decks.specs.Store.{Kept, StoreFits, first_kept}
@@ -43,7 +41,7 @@ goes_so v first after before told n is empty ran = record {
 }
 
 -- with the empty dictionary
-pub runs_so : (bytes : List ℕ) (d : DictionaryText) (v : VerifiedProgram) (n : ℕ) (texts : List (List ℕ)) → IsReadAs empty_text d → v.dictionary ≡ d → IsAccepted (shape_of d) bytes v.image
+abbrev pub runs_so : (bytes : List ℕ) (d : DictionaryText) (v : VerifiedProgram) (n : ℕ) (texts : List (List ℕ)) → IsReadAs empty_text d → v.dictionary ≡ d → IsAccepted (shape_of d) bytes v.image
     → Goes v n texts → Runs bytes n
 runs_so bytes d v n texts read same accepted goes =
     let is : v ≡ tried v.image = ap (λ (w : DictionaryText). let x : VerifiedProgram = record { dictionary = w; image = v.image } in x) (same ∙ read.is) in

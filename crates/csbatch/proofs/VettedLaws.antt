@@ -1,6 +1,5 @@
 -- A dictionary and a program that may run with it, by what the calls of `verify` answer.
 use Rattle.std.proofs.Common.{◌≡◌, ℕ, List, ◌∙◌, subst}
-use Rattle.cse_parts.specs.Image.{Image}
 use Rattle.cse_dict.specs.Dictionary.{DictionaryText, shape_of}
 use Rattle.cse_verify.specs.declared.depth.Depth.{Depth}
 use Rattle.cse_verify.specs.Depths.{IsDepthOf}

@@ -1,6 +1,6 @@
 //! A device that gathers bytes in memory.
 
-ghost use Rattle.std.specs.Prelude.{◌≡◌, Some, false};
+ghost use Rattle.std.specs.Prelude.{◌≡◌, Some, false, []};
 
 use cse_value::{Failed, Output};
 use std::alloc::Global;
@@ -15,7 +15,8 @@ pub struct Gathered {
 impl Gathered {
     /// No bytes.
     pub fn new(alloc: Global) -> Gathered
-        ensures { result.failed ≡ false }
+        ensures none { result.bytes.items ≡ [] }
+        ensures sound { result.failed ≡ false }
     {
         Gathered {
             bytes: Vec::new(alloc),

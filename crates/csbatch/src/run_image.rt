@@ -1,7 +1,9 @@
 //! `run`: an image over a data file, from the files of its words to those of its outputs.
 
-ghost use Rattle.std.specs.Prelude.{IfOk};
-ghost use Rattle.cse_decks.specs.Store.{StoreFits};
+ghost use Rattle.std.specs.Prelude.{◌≡◌, [], Some, IfOk, IfSome, IfNone};
+ghost use Rattle.cse_decks.specs.Store.{StoreFits, first_kept};
+ghost use Rattle.cse_decks.specs.DeckText.{IsDeckText};
+ghost use Rattle.cse_batch.specs.RunClauses.{RunsWhole, contents};
 
 use crate::fault::{Fault, NO_MEMORY};
 use crate::files::{bytes_where_there, created, file_bytes, opened, write_file};
@@ -12,7 +14,7 @@ use cse_batch::{Totals, check_image, run};
 use cse_decks::{Store, load};
 use cse_dict::Dictionary;
 use cse_image::{Code, Program};
-use cse_value::{Reads, Writes};
+use cse_value::{Input, Output, Reads, Writes};
 use cse_verify::Verified;
 use std::alloc::Global;
 use std::rt::Files;
@@ -68,7 +70,9 @@ pub fn store_of<C: Code>(
     program: &Program<C>,
     text: Option<&[u8]>,
 ) -> Result<Store, Stop>
-    ensures { IfOk result (λ s. StoreFits program.now s) }
+    ensures fits { IfOk result (λ s. StoreFits program.now s) }
+    ensures first { IfNone text.entry (IfOk result (λ s. s ≡ first_kept program.now)) }
+    ensures loaded { IfSome text.entry (λ t. IfOk result (λ s. IsDeckText program.now t.now s)) }
 {
     let Some(text) = text else {
         return match Store::new(alloc, program) {
@@ -95,8 +99,7 @@ fn run_over<R: Files + AllocGlobal, C: Code>(
     let mut out = Writes::new(created(rt, paths.out)?);
     let mut listing = Writes::new(created(rt, paths.list)?);
     let mut frequencies = Writes::new(created(rt, paths.freq)?);
-    let mut decks = Gathered::new(rt.alloc());
-    let ran = run(
+    run_on(
         rt.alloc(),
         verified,
         store,
@@ -104,11 +107,38 @@ fn run_over<R: Files + AllocGlobal, C: Code>(
         &mut out,
         &mut listing,
         &mut frequencies,
+    )
+}
+
+/// Runs the program over the bytes of a device to those of three, and gathers the deck text. A deck text that
+/// memory has no place for is want of memory (90).
+pub fn run_on<C: Code, R: Input, O: Output, L: Output, F: Output>(
+    alloc: Global,
+    verified: &Verified<'_, C>,
+    store: Store,
+    input: &mut R,
+    out: &mut O,
+    listing: &mut L,
+    frequencies: &mut F,
+) -> Result<(Totals, Gathered), Stop>
+    requires { StoreFits verified.now.image store }
+    // The texts, the gathered one too, are those of the batch over all bytes of the input.
+    ensures { IfOk result (λ ran. RunsWhole verified.now store (R.remaining input.old) (R.remaining input.new)
+        (contents (O.contents out.old) (L.contents listing.old) (F.contents frequencies.old) (Some [])) (contents (O.contents out.new) (L.contents listing.new) (F.contents frequencies.new) (Some ran.1.bytes.items)) ran.0) }
+{
+    let mut decks = Gathered::new(alloc);
+    let ran = run(
+        alloc,
+        verified,
+        store,
+        input,
+        out,
+        listing,
+        frequencies,
         &mut decks,
     );
     match ran {
         Ok(totals) => Ok((totals, decks)),
-        // The deck text is gathered in memory, so that its device fails where memory lacks.
         Err(_) if decks.has_failed() => Err(Stop::of_number(NO_MEMORY)),
         Err(fault) => Err(Stop::Refused(Fault::of_run(fault))),
     }

@@ -8,3 +8,8 @@ pub mod Sets
 pub mod Expressions
 pub mod StatementsRight
 pub mod StatementsComplete
+pub mod Counted
+pub mod Blocks
+pub mod Numbers
+pub mod Actions
+pub mod Arguments

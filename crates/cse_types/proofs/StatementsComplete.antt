@@ -1,5 +1,5 @@
 -- Each sound statement is judged to be itself.
-use Rattle.std.proofs.Common.{◌≡◌, ℕ, ◌+◌, Bool, true, false, List, [], ◌∷◌, length, map, Option, Some, None, refl, sym, ap, ◌∙◌}
+use Rattle.std.proofs.Common.{◌≡◌, ℕ, ◌+◌, Bool, true, false, List, [], ◌∷◌, length, map, Option, Some, None, refl, sym, ap, ◌∙◌, arith}
 use Rattle.std.specs.Prelude.{◌==◌, ◌&&◌, not, option_map, slice_get}
 use Rattle.std.proofs.lemmas.Bool.{eq-eqb}
 use Rattle.std.proofs.lemmas.Option.{none-some}
@@ -17,7 +17,7 @@ use Rattle.cse_types.specs.declared.meaning.Meaning.TheVariants as m
 use Rattle.cse_types.specs.Scope.{Scope, meant, variable_meant, found, is_free}
 use Rattle.cse_types.specs.WellTyped.{IsField, IsWhich, count, IsLimit, IsCounting, IsWhole, IsArgument, AreArguments, argument_kind, IsStatement, AreStatements, AreArms}
 use Rattle.cse_types.specs.Judge.{Judged, AsNumber, AsWords, Unknown, as_number, expr_count, judge, judge_all}
-use Rattle.cse_types.specs.JudgeStatement.{which_at, place_at, assign_variable, assign, free_variable, whole_judged, limit_judged, counting_judged, judge_arguments, is_of, are_of, judge_statement, judge_block, judge_arms}
+use Rattle.cse_types.specs.JudgeStatement.{which_at, place_at, assign_variable, assign, free_variable, whole_judged, limit_judged, counting_judged, judge_arguments, judge_statement, judge_block, judge_arms}
 use Rattle.cse_types.specs.Walk.{joined, only_if}
 use Rattle.cse_types.proofs.Complete.{field_complete, deck_complete, complete, complete_words, complete_all}
 
@@ -48,15 +48,15 @@ limit_complete s (Counted count name of) h = rw (h.0, h.1) refl
 counting_complete : (s : Scope) (x : Counting) → IsCounting s x → counting_judged s (erase_counting x) ≡ Some x
 counting_complete s x h = rw (h.0, h.1, limit_complete s x.start h.2, limit_complete s x.stop h.3, h.4) refl
 
-arguments_complete : (s : Scope) (xs : List Argument) → AreArguments s xs → judge_arguments s (erase_arguments xs) ≡ Some xs
+arguments_complete : (s : Scope) (xs : List Argument) → AreArguments s xs → judge_arguments s (map argument_kind xs) (erase_arguments xs) ≡ Some xs
 arguments_complete s [] h = refl
 arguments_complete s (OfNumber x ∷ xs) h = rw (complete s false x h.0, arguments_complete s xs h.1) refl
 arguments_complete s (OfWords x ∷ xs) h = rw (complete_words s false x h.0, arguments_complete s xs h.1) refl
 
-kinds_complete : (xs : List Argument) → are_of (map argument_kind xs) xs ≡ true
-kinds_complete [] = refl
-kinds_complete (OfNumber x ∷ xs) = kinds_complete xs
-kinds_complete (OfWords x ∷ xs) = kinds_complete xs
+as_many : (xs : List Argument) → length (map argument_kind xs) ≡ expr_count (erase_arguments xs)
+as_many [] = refl
+as_many (OfNumber x ∷ xs) = let e = as_many xs in omega (arith, e)
+as_many (OfWords x ∷ xs) = let e = as_many xs in omega (arith, e)
 
 mutual
   unfolding judge_statement judge_block judge_arms judge_all
@@ -89,7 +89,8 @@ mutual
   statement_complete s n (PutDeck name array picks value) h =
       rw (h.0, deck_complete s (slice_get s.arrays array) picks h.1 h.2, complete s false value h.3) refl
   statement_complete s n (ErrMsg message index values summary) h =
-      rw (h.1, arguments_complete s values h.2, kinds_complete values) (ap (λ i. Some (ErrMsg message i values summary)) (sym h.0))
+      let e = eq-eqb (length (map argument_kind values)) (expr_count (erase_arguments values)) (as_many values) in
+      rw (h.1, e, arguments_complete s values h.2) (ap (λ i. Some (ErrMsg message i values summary)) (sym h.0))
 
   pub block_complete : (s : Scope) (n : ℕ) (ys : Statements) → AreStatements s n ys → judge_block s n (erase_block ys) ≡ Some ys
   block_complete s n no_statement h = refl

@@ -20,7 +20,7 @@ use Rattle.cse_types.specs.declared.meaning.Meaning.TheVariants as m
 use Rattle.cse_types.specs.Scope.{Scope, Loops, meant, variable_named, variable_meant, own_result, loop_variable, has_case, kind_and_owner, found, is_free, within}
 use Rattle.cse_types.specs.WellTyped.{Holds, IsField, IsWhich, AreDeckPicks, dimensions_of, may_call, count, IsNumber, IsWords, AreNumbers, IsArgument, AreArguments, argument_kind, messages_in, messages_of, kinds_of, IsWhole, signed_value, IsLimit, step_of, IsCounting, may_jump, IsStatement, AreStatements, AreArms}
 use Rattle.cse_types.specs.Judge.{Judged, AsNumber, AsWords, Unknown, as_number, field_at, sole, is_count, picks_of, record_of, expr_count, judge, judge_all}
-use Rattle.cse_types.specs.JudgeStatement.{as_words, free_variable, which_at, place_at, set_item, set_text_item, impute_item, assign_variable, assign_item, assign, impute_number, impute, put_deck, call_of, for_head, in_for, for_of, whole_judged, limit_judged, counting_of, counting_judged, in_do, as_argument, judge_arguments, is_of, are_of, message_of, err_msg, if_of, arm_of, judge_statement, judge_block, judge_arms}
+use Rattle.cse_types.specs.JudgeStatement.{as_words, free_variable, which_at, place_at, set_item, set_text_item, impute_item, assign_variable, assign_item, assign, impute_number, impute, put_deck, call_of, for_head, in_for, for_of, whole_judged, limit_judged, counting_of, counting_judged, in_do, as_argument, judge_arguments, message_of, err_msg, if_of, arm_of, judge_statement, judge_block, judge_arms}
 use Rattle.cse_types.specs.Walk.{joined, only_if}
 use Rattle.cse_types.proofs.Right.{For, for_map, for_joined, for_only, IsTyped, IsTypedWords, Right, AreTyped, IsSole, sole_right, number_right, and_holds, not_holds, is_count_holds, deck_picks_right, IsRecord, record_right, judge_right, all_right}
 
@@ -217,42 +217,35 @@ do_right s n x body None ys h k = tt
 
 -- ---- messages
 
-abbrev AreTypedArguments : Scope → syntax.Exprs → List Argument → Type 0
-AreTypedArguments s xs ys = (erase_arguments ys ≡ xs) × AreArguments s ys
+-- values of these kinds
+abbrev AreTypedArguments : Scope → List ArgumentKind → syntax.Exprs → List Argument → Type 0
+AreTypedArguments s ks xs ys = (erase_arguments ys ≡ xs) × (ks ≡ map argument_kind ys) × AreArguments s ys
 
-argument_right : (s : Scope) (x : syntax.Expr) (xs : syntax.Exprs) (a : Judged) (ys : Option (List Argument)) → Right s false x a → For (AreTypedArguments s xs) ys → For (AreTypedArguments s (syntax.expr_and x xs)) (joined (λ y ys. y ∷ ys) (as_argument a) ys)
-argument_right s x xs (AsNumber (Some y)) (Some ys) h k = (ap (λ e. syntax.expr_and e (erase_arguments ys)) h.0 ∙ ap (syntax.expr_and x) k.0, (h.1, k.1))
-argument_right s x xs (AsNumber (Some y)) None h k = tt
-argument_right s x xs (AsNumber None) ys h k = tt
-argument_right s x xs (AsWords (Some y)) (Some ys) h k = (ap (λ e. syntax.expr_and e (erase_arguments ys)) h.0 ∙ ap (syntax.expr_and x) k.0, (h.1, k.1))
-argument_right s x xs (AsWords (Some y)) None h k = tt
-argument_right s x xs (AsWords None) ys h k = tt
-argument_right s x xs Unknown ys h k = tt
+argument_right : (s : Scope) (k : ArgumentKind) (ks : List ArgumentKind) (x : syntax.Expr) (xs : syntax.Exprs) (a : Judged) (ys : Option (List Argument)) → Right s false x a → For (AreTypedArguments s ks xs) ys
+    → For (AreTypedArguments s (k ∷ ks) (syntax.expr_and x xs)) (joined (λ y ys. y ∷ ys) (as_argument (Some k) a) ys)
+argument_right s argument.Number ks x xs (AsNumber (Some y)) (Some ys) h j = (ap (λ e. syntax.expr_and e (erase_arguments ys)) h.0 ∙ ap (syntax.expr_and x) j.0, ap (λ i. argument.Number ∷ i) j.1, (h.1, j.2))
+argument_right s argument.Number ks x xs (AsNumber (Some y)) None h j = tt
+argument_right s argument.Number ks x xs (AsNumber None) ys h j = tt
+argument_right s argument.Number ks x xs (AsWords o) ys h j = tt
+argument_right s argument.Number ks x xs Unknown ys h j = tt
+argument_right s argument.Text ks x xs (AsWords (Some y)) (Some ys) h j = (ap (λ e. syntax.expr_and e (erase_arguments ys)) h.0 ∙ ap (syntax.expr_and x) j.0, ap (λ i. argument.Text ∷ i) j.1, (h.1, j.2))
+argument_right s argument.Text ks x xs (AsWords (Some y)) None h j = tt
+argument_right s argument.Text ks x xs (AsWords None) ys h j = tt
+argument_right s argument.Text ks x xs (AsNumber o) ys h j = tt
+argument_right s argument.Text ks x xs Unknown ys h j = tt
 
-arguments_right : (s : Scope) (xs : syntax.Exprs) → For (AreTypedArguments s xs) (judge_arguments s xs)
-arguments_right s syntax.no_expr = (refl, tt)
-arguments_right s (syntax.expr_and x xs) = argument_right s x xs (judge s false x) (judge_arguments s xs) (judge_right s false x) (arguments_right s xs)
+arguments_right : (s : Scope) (ks : List ArgumentKind) (xs : syntax.Exprs) → length ks ≡ expr_count xs → For (AreTypedArguments s ks xs) (judge_arguments s ks xs)
+arguments_right s [] syntax.no_expr e = (refl, refl, tt)
+arguments_right s (k ∷ ks) syntax.no_expr e = absurd (omega (arith, e))
+arguments_right s [] (syntax.expr_and x xs) e = absurd (omega (arith, e))
+arguments_right s (k ∷ ks) (syntax.expr_and x xs) e = argument_right s k ks x xs (judge s false x) (judge_arguments s ks xs) (judge_right s false x) (arguments_right s ks xs (omega (arith, e)))
 
-kind_holds : (k : ArgumentKind) (x : Argument) → is_of k x ≡ true → k ≡ argument_kind x
-kind_holds argument.Number (OfNumber x) h = refl
-kind_holds argument.Number (OfWords x) h = absurd (false≢true h)
-kind_holds argument.Text (OfNumber x) h = absurd (false≢true h)
-kind_holds argument.Text (OfWords x) h = refl
-
-kinds_hold : (ks : List ArgumentKind) (xs : List Argument) → are_of ks xs ≡ true → ks ≡ map argument_kind xs
-kinds_hold [] [] h = refl
-kinds_hold [] (x ∷ xs) h = absurd (false≢true h)
-kinds_hold (k ∷ ks) [] h = absurd (false≢true h)
-kinds_hold (k ∷ ks) (x ∷ xs) h =
-    let d = and_holds (is_of k x) (are_of ks xs) h in
-    ap (λ i. i ∷ ks) (kind_holds k x d.0) ∙ ap (λ i. argument_kind x ∷ i) (kinds_hold ks xs d.1)
-
-message_right : (s : Scope) (n : ℕ) (message : syntax.Message) (xs : syntax.Exprs) (summary : Bool) (o : Option (List ArgumentKind)) (ys : Option (List Argument)) → kinds_of s.messages message ≡ o → For (AreTypedArguments s xs) ys
-    → For (IsTypedStatement s n (syntax.ErrMsg message xs summary)) (err_msg o message n summary ys)
-message_right s n message xs summary None ys e h = tt
-message_right s n message xs summary (Some ks) None e h = tt
-message_right s n message xs summary (Some ks) (Some ys) e h = for_only _ (are_of ks ys) _ (λ c.
-    (ap (λ z. syntax.ErrMsg message z summary) h.0, (refl, e ∙ ap Some (kinds_hold ks ys c), h.1)))
+message_right : (s : Scope) (n : ℕ) (message : syntax.Message) (xs : syntax.Exprs) (summary : Bool) (o : Option (List ArgumentKind)) → kinds_of s.messages message ≡ o
+    → For (IsTypedStatement s n (syntax.ErrMsg message xs summary)) (err_msg s o message n summary xs)
+message_right s n message xs summary None e = tt
+message_right s n message xs summary (Some ks) e = for_only _ (length ks == expr_count xs) _ (λ c.
+    for_map (AreTypedArguments s ks xs) _ (message_of message n summary) (λ ys h. (ap (λ z. syntax.ErrMsg message z summary) h.0, (refl, e ∙ ap Some h.1, h.2)))
+    (judge_arguments s ks xs) (arguments_right s ks xs (eqb-true (length ks) (expr_count xs) c)))
 
 -- ---- statements
 
@@ -286,7 +279,7 @@ mutual
   statement_right s n (syntax.Jump' token jump) = for_only _ (may_jump s.loops jump) _ (λ c. (refl, c))
   statement_right s n (syntax.Impute name subscripts value) = impute_right s n name subscripts value (judge_all s subscripts) (judge s false value) (all_right s subscripts) (judge_right s false value) (meant s name) refl
   statement_right s n (syntax.PutDeck deck value) = put_right s n deck value (as_number (judge s false value)) (meant s deck) refl (number_right s false value (judge s false value) (judge_right s false value))
-  statement_right s n (syntax.ErrMsg message values summary) = message_right s n message values summary (kinds_of s.messages message) (judge_arguments s values) refl (arguments_right s values)
+  statement_right s n (syntax.ErrMsg message values summary) = message_right s n message values summary (kinds_of s.messages message) refl
 
   pub block_right : (s : Scope) (n : ℕ) (xs : syntax.Stmts) → For (AreTypedStatements s n xs) (judge_block s n xs)
   block_right s n syntax.no_stmt = (refl, tt)

@@ -26,7 +26,7 @@ flags_are true b y = refl
 flags_are false true y = refl
 flags_are false false y = refl
 
-drop_is : {A : Type 0} (items : List A) (i : ℕ) (x : A) → i < length items → x ≡ get_or items i x → drop i items ≡ x ∷ drop (i + 1) items
+pub drop_is : {A : Type 0} (items : List A) (i : ℕ) (x : A) → i < length items → x ≡ get_or items i x → drop i items ≡ x ∷ drop (i + 1) items
 drop_is items i x lt is =
     let one : suc i ≡ i + 1 = omega arith in
     drop-cons items i x lt ∙ ap (λ y. y ∷ drop (suc i) items) (sym is) ∙ ap (λ n. x ∷ drop n items) one
@@ -47,17 +47,17 @@ step_value f items i x b there xs xs' y all lt is inv e g h =
 pub step_noted : (new old first b there : Bool) (y : Bool) → old ≡ (first || not b) → new ≡ (old || not y) → there ≡ y → new ≡ (first || not (b && there))
 step_noted new old first b there y inv e h = e ∙ ap (λ o. o || not y) inv ∙ flags_are first b y ∙ ap (λ k. first || not (b && k)) (sym h)
 
-past : {A : Type 0} → (xs : List A) (i : ℕ) → length xs ≤ i → drop i xs ≡ []
+pub past : {A : Type 0} → (xs : List A) (i : ℕ) → length xs ≤ i → drop i xs ≡ []
 past [] zero le = refl
 past [] (suc i) le = refl
 past (x ∷ xs) zero le = absurd (omega arith)
 past (x ∷ xs) (suc i) le = past xs i (omega arith)
 
-append_none : {B : Type 0} (xs : List B) → xs ++ [] ≡ xs
+pub append_none : {B : Type 0} (xs : List B) → xs ++ [] ≡ xs
 append_none [] = refl
 append_none (x ∷ xs) = ap (λ ys. x ∷ ys) (append_none xs)
 
-end_is : {B : Type 0} (b : Bool) (xs : List B) (o : Option (List B)) → so_far b xs (Some []) ≡ o → (b ≡ true → o ≡ Some xs) × (b ≡ false → o ≡ None) × (is_there o ≡ b)
+pub end_is : {B : Type 0} (b : Bool) (xs : List B) (o : Option (List B)) → so_far b xs (Some []) ≡ o → (b ≡ true → o ≡ Some xs) × (b ≡ false → o ≡ None) × (is_there o ≡ b)
 end_is true xs o e = (λ t. sym e ∙ ap Some (append_none xs), λ t. absurd (false≢true (sym t)), ap is_there (sym e))
 end_is false xs o e = (λ t. absurd (false≢true t), λ t. sym e, ap is_there (sym e))
 
@@ -79,11 +79,11 @@ pub there_map : {A B : Type 0} (g : A → B) (y : Option A) → is_there (option
 there_map g None = refl
 there_map g (Some y) = refl
 
-map_more : {A B : Type 0} (g : A → B) (xs : List A) (y : A) → map g (xs ++ y ∷ []) ≡ map g xs ++ g y ∷ []
+pub map_more : {A B : Type 0} (g : A → B) (xs : List A) (y : A) → map g (xs ++ y ∷ []) ≡ map g xs ++ g y ∷ []
 map_more g [] y = refl
 map_more g (x ∷ xs) y = ap (λ ys. g x ∷ ys) (map_more g xs y)
 
-map_found : {A B : Type 0} (g : A → B) (xs : List A) (y : Option A) → map g (found_more xs y) ≡ found_more (map g xs) (option_map g y)
+pub map_found : {A B : Type 0} (g : A → B) (xs : List A) (y : Option A) → map g (found_more xs y) ≡ found_more (map g xs) (option_map g y)
 map_found g xs None = refl
 map_found g xs (Some y) = map_more g xs y
 
@@ -121,12 +121,12 @@ none_left (x ∷ xs) zero zero h = absurd (omega (arith, h))
 none_left (x ∷ xs) zero (suc k) h = not_eqb (suc k) 0 (λ e. absurd (omega (arith, e)))
 none_left (x ∷ xs) (suc n) left h = none_left xs n left (omega (arith, h))
 
-or_same : (b c : Bool) → ((b || c) || c) ≡ (b || c)
+pub or_same : (b c : Bool) → ((b || c) || c) ≡ (b || c)
 or_same true c = refl
 or_same false true = refl
 or_same false false = refl
 
-absorbed : {A B C : Type 0} (f : A → B → C) (a : Option A) (b : Option B) (before : Bool) → ((before || not (is_there a)) || not (is_there (joined f a b))) ≡ (before || not (is_there (joined f a b)))
+pub absorbed : {A B C : Type 0} (f : A → B → C) (a : Option A) (b : Option B) (before : Bool) → ((before || not (is_there a)) || not (is_there (joined f a b))) ≡ (before || not (is_there (joined f a b)))
 absorbed f a b true = refl
 absorbed f None b false = refl
 absorbed f (Some x) b false = refl

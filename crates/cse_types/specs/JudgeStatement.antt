@@ -1,5 +1,5 @@
 -- What a statement of syntax is as a typed one, and where it is none: the tool that the checker follows.
-use Rattle.std.specs.Prelude.{ℕ, ◌+◌, ℤ, Bool, true, false, ◌&&◌, ◌==◌, if◌then◌else◌, List, [], ◌∷◌, length, slice_get, Option, Some, None}
+use Rattle.std.specs.Prelude.{ℕ, ◌+◌, ℤ, Bool, true, false, ◌&&◌, ◌==◌, if◌then◌else◌, nat_le, List, [], ◌∷◌, ◌++◌, length, slice_get, Option, Some, None}
 use Rattle.std.specs.Option.{option_map}
 use Rattle.cse_value.specs.declared.shape.ItemKind.{ItemKind}
 use Rattle.cse_value.specs.declared.shape.ItemKind.TheVariants as kind
@@ -12,8 +12,10 @@ use Rattle.cse_typed.specs.declared.tree.Variable.{Variable}
 use Rattle.cse_typed.specs.declared.tree.Field.{Field}
 use Rattle.cse_typed.specs.declared.tree.Found.{Found}
 use Rattle.cse_typed.specs.declared.tree.Pick.{Pick}
-use Rattle.cse_typed.specs.Typed.{Number, Words, Numbers, no_number, number_and, Which, Here, At, Argument, OfNumber, OfWords, Whole, Limit, Fixed, Counted, Counting, Statement, Statements, Arms}
-use Rattle.cse_typed.specs.Typed.{Empty, Set, SetText, SetItem, SetTextItem, SetCell, CallOf, If, For, Do, Jump', Impute, PutDeck, ErrMsg, no_statement, statement_and, no_arm, else_of, arm}
+use Rattle.cse_typed.specs.declared.tree.Which as rustwhich
+use Rattle.cse_typed.specs.declared.tree.Limit as rustlimit
+use Rattle.cse_typed.specs.Typed.{which, limit, Number, Words, Numbers, no_number, number_and, Which, Here, At, Argument, OfNumber, OfWords, Whole, Limit, Fixed, Counted, Counting, Statement, Statements, Arms}
+use Rattle.cse_typed.specs.Typed.{Empty, Set, SetText, SetItem, SetTextItem, SetCell, CallOf, If, For, Do, Jump', Impute, PutDeck, ErrMsg, no_statement, statement_and, no_arm, else_of, arm, arms}
 use Rattle.cse_types.specs.declared.meaning.Meaning.{Meaning}
 use Rattle.cse_types.specs.declared.meaning.Meaning.TheVariants as m
 use Rattle.cse_types.specs.Scope.{Scope, Loops, meant, own_result, loop_variable, kind_and_owner, found, is_free, within}
@@ -41,6 +43,9 @@ which_at n how subscripts = if n == 0 then option_map Here how else option_map A
 -- a place of an item of a record; so many subscripts stand behind it
 abbrev pub place_at : Scope → ℕ → ℕ → ℕ → Option Numbers → Option (Field × Which)
 place_at s n item owner subscripts = joined (λ f w. (f, w)) (field_at s item owner) (which_at n (found s owner) subscripts)
+
+abbrev pub placed : Field × rustwhich.Which → Field × Which
+placed p = (p.0, which p.1)
 
 abbrev pub set_item : Spelling → Field × Which → Number → Statement
 set_item name place value = SetItem name place.0 place.1 value
@@ -91,13 +96,27 @@ call_of s name _ n arguments = None
 
 -- ---- loops
 
+-- the scope of a loop's body, if its head is sound
+abbrev pub opened : Scope → Option (Option ℕ × Variable) → Scope
+opened s None = s
+opened s (Some l) = within s l.0 l.1
+
+-- the loop of a `for`, and that of a `do`
+abbrev pub for_loop : Variable × ℕ → Option ℕ × Variable
+for_loop x = (Some x.1, x.0)
+
+abbrev pub do_loop : Counting → Option ℕ × Variable
+do_loop x = (None, x.variable)
+
 -- the variable and the record of a `for`
+abbrev pub head : Variable → ℕ → Variable × ℕ
+head x k = (x, k)
+
 abbrev pub for_head : Scope → Spelling → Spelling → Option (Variable × ℕ)
-for_head s variable record_name = joined (λ x k. (x, k)) (free_variable s.loops (loop_variable s variable)) (record_of s (meant s record_name))
+for_head s variable record_name = joined head (free_variable s.loops (loop_variable s variable)) (record_of s (meant s record_name))
 
 abbrev pub in_for : Scope → Option (Variable × ℕ) → Scope
-in_for s None = s
-in_for s (Some x) = within s (Some x.1) x.0
+in_for s x = opened s (option_map for_loop x)
 
 abbrev pub for_of : Spelling → Spelling → Variable × ℕ → Statements → Statement
 for_of variable record_name x body = For variable x.0 record_name x.1 body
@@ -109,51 +128,59 @@ abbrev pub limit_judged : Scope → syntax.Limit → Option Limit
 limit_judged s (syntax.Fixed x) = option_map Fixed (whole_judged x)
 limit_judged s (syntax.Counted count name) = option_map (Counted count name) (record_of s (meant s name))
 
+abbrev pub limits_of : rustlimit.Limit × rustlimit.Limit → Limit × Limit
+limits_of x = (limit x.0, limit x.1)
+
+abbrev pub limit_pair : Limit → Limit → Limit × Limit
+limit_pair x y = (x, y)
+
+abbrev pub with_step : Variable → ℤ → Variable × ℤ
+with_step x step = (x, step)
+
 abbrev pub counting_of : syntax.Counting → Variable × ℤ → Limit × Limit → Counting
 counting_of x v limits = record { name = x.variable; variable = v.0; start = limits.0; again = x.again; stop = limits.1; by = x.by; step = v.1 }
 
 abbrev pub counting_judged : Scope → syntax.Counting → Option Counting
 counting_judged s x =
     joined (counting_of x)
-    (joined (λ v step. (v, step)) (free_variable s.loops (loop_variable s x.variable)) (step_of x.by))
-    (joined (λ y z. (y, z)) (limit_judged s x.start) (limit_judged s x.stop))
+    (joined with_step (free_variable s.loops (loop_variable s x.variable)) (step_of x.by))
+    (joined limit_pair (limit_judged s x.start) (limit_judged s x.stop))
 
 abbrev pub in_do : Scope → Option Counting → Scope
-in_do s None = s
-in_do s (Some x) = within s None x.variable
+in_do s x = opened s (option_map do_loop x)
 
 -- ---- messages
 
-abbrev pub as_argument : Judged → Option Argument
-as_argument (AsNumber x) = option_map OfNumber x
-as_argument (AsWords x) = option_map OfWords x
-as_argument Unknown = None
-
-abbrev pub judge_arguments : Scope → syntax.Exprs → Option (List Argument)
-judge_arguments s syntax.no_expr = Some []
-judge_arguments s (syntax.expr_and x xs) = joined (λ y ys. y ∷ ys) (as_argument (judge s false x)) (judge_arguments s xs)
+-- a number that a message may have
+abbrev pub ranged : ℕ → Option ℕ
+ranged n = if nat_le 1 n && nat_le n 999999999 then Some n else None
 
 -- a value of this kind
-abbrev pub is_of : ArgumentKind → Argument → Bool
-is_of a.Number (OfNumber x) = true
-is_of a.Number (OfWords x) = false
-is_of a.Text (OfNumber x) = false
-is_of a.Text (OfWords x) = true
+abbrev pub as_argument : Option ArgumentKind → Judged → Option Argument
+as_argument (Some a.Number) x = option_map OfNumber (as_number x)
+as_argument (Some a.Text) x = option_map OfWords (as_words x)
+as_argument None x = None
 
--- a value for each placeholder, of its kind
-abbrev pub are_of : List ArgumentKind → List Argument → Bool
-are_of [] [] = true
-are_of [] (x ∷ xs) = false
-are_of (k ∷ ks) [] = false
-are_of (k ∷ ks) (x ∷ xs) = is_of k x && are_of ks xs
+abbrev pub first_kind : List ArgumentKind → Option ArgumentKind
+first_kind [] = None
+first_kind (k ∷ ks) = Some k
+
+abbrev pub other_kinds : List ArgumentKind → List ArgumentKind
+other_kinds [] = []
+other_kinds (k ∷ ks) = ks
+
+-- a value of each kind
+abbrev pub judge_arguments : Scope → List ArgumentKind → syntax.Exprs → Option (List Argument)
+judge_arguments s kinds syntax.no_expr = Some []
+judge_arguments s kinds (syntax.expr_and x xs) = joined (λ y ys. y ∷ ys) (as_argument (first_kind kinds) (judge s false x)) (judge_arguments s (other_kinds kinds) xs)
 
 abbrev pub message_of : syntax.Message → ℕ → Bool → List Argument → Statement
 message_of message index summary values = ErrMsg message index values summary
 
-abbrev pub err_msg : Option (List ArgumentKind) → syntax.Message → ℕ → Bool → Option (List Argument) → Option Statement
-err_msg (Some kinds) message index summary (Some values) = only_if (are_of kinds values) (Some (message_of message index summary values))
-err_msg (Some kinds) message index summary None = None
-err_msg None message index summary values = None
+-- a message that has values of these kinds, as many as stand there
+abbrev pub err_msg : Scope → Option (List ArgumentKind) → syntax.Message → ℕ → Bool → syntax.Exprs → Option Statement
+err_msg s None message index summary values = None
+err_msg s (Some kinds) message index summary values = only_if (length kinds == expr_count values) (option_map (message_of message index summary) (judge_arguments s kinds values))
 
 -- ---- statements
 
@@ -177,7 +204,7 @@ unfoldable mutual
   judge_statement s n (syntax.Jump' token jump) = only_if (may_jump s.loops jump) (Some (Jump' token jump))
   judge_statement s n (syntax.Impute name subscripts value) = impute s name (meant s name) (expr_count subscripts) (judge_all s subscripts) (as_number (judge s false value))
   judge_statement s n (syntax.PutDeck deck value) = put_deck s deck (meant s deck) (as_number (judge s false value))
-  judge_statement s n (syntax.ErrMsg message values summary) = err_msg (kinds_of s.messages message) message n summary (judge_arguments s values)
+  judge_statement s n (syntax.ErrMsg message values summary) = err_msg s (kinds_of s.messages message) message n summary values
 
   pub judge_block : Scope → ℕ → syntax.Stmts → Option Statements
   judge_block s n syntax.no_stmt = Some no_statement
@@ -188,3 +215,25 @@ unfoldable mutual
   judge_arms s n (syntax.else_of body) = option_map else_of (judge_block s n body)
   judge_arms s n (syntax.arm condition body others) =
       joined arm_of (as_number (judge s false condition)) (joined (λ b o. (b, o)) (judge_block s n body) (judge_arms s (n + length (messages_of body)) others))
+
+-- ---- arms
+
+abbrev pub guarded : Number → Statements → Number × Statements
+guarded condition body = (condition, body)
+
+-- a condition and the statements that it guards
+abbrev pub judge_arm : Scope → ℕ → syntax.Expr × syntax.Stmts → Option (Number × Statements)
+judge_arm s n x = joined guarded (as_number (judge s false x.0)) (judge_block s n x.1)
+
+-- one after the other
+abbrev pub judge_each : Scope → ℕ → List (syntax.Expr × syntax.Stmts) → Option (List (Number × Statements))
+judge_each s n [] = Some []
+judge_each s n (x ∷ xs) = joined (λ y ys. y ∷ ys) (judge_arm s n x) (judge_each s (n + length (messages_of x.1)) xs)
+
+abbrev pub messages_each : List (syntax.Expr × syntax.Stmts) → List (syntax.Message × Bool)
+messages_each [] = []
+messages_each (x ∷ xs) = messages_of x.1 ++ messages_each xs
+
+-- an `if` of its first arm, the others, and what stands behind them
+abbrev pub chosen : Option (Number × Statements) → Option (List (Number × Statements)) → Option Arms → Option Statement
+chosen first others last = joined (λ x rest. If x.0 x.1 rest) first (joined arms others last)

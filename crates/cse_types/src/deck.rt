@@ -52,11 +52,11 @@ fn picked(set: u16, has_leftover: bool, item: Option<Present>) -> Option<Pick>
     }
 }
 
-/// What picks an index of a hot deck in one direction.
+/// What picks an index of a hot deck in one direction. The tokens are those of its name and of the word before it.
 fn pick(
     scope: &Scope<'_>,
     faults: &mut Faults,
-    token: usize,
+    tokens: (usize, usize),
     direction: &Dimension<'_>,
 ) -> Option<Pick>
     ensures value { result ≡ spec.dimension_pick scope.now (dimension direction.now) }
@@ -64,11 +64,11 @@ fn pick(
 {
     match direction {
         Dimension::Number(_, _) => {
-            faults.note(40, token);
+            faults.note(40, tokens.0);
             None
         }
         Dimension::Set(_, set, has_leftover, _) => {
-            let present = set_present(scope, faults, token, whole_set(scope.dictionary, *set));
+            let present = set_present(scope, faults, tokens.1, whole_set(scope.dictionary, *set));
             picked(*set, *has_leftover, present)
         }
     }
@@ -79,7 +79,7 @@ fn all_picks(
     alloc: Global,
     scope: &Scope<'_>,
     faults: &mut Faults,
-    token: usize,
+    tokens: (usize, usize),
     directions: &Vec<Dimension<'_>>,
 ) -> Result<Option<Vec<Pick>>, AllocError>
     ensures value { IfOk result (λ r. option_map (λ v. v.items) r ≡ spec.picks_for scope.now (map dimension directions.now.items)) }
@@ -88,19 +88,20 @@ fn all_picks(
     let mut found = Vec::new(alloc);
     let mut is_sound = true;
     'all: for x in directions {
-        let next = pick(scope, faults, token, x);
+        let next = pick(scope, faults, tokens, x);
         let is_there = keep(&mut found, next)?;
         is_sound = both(is_sound, is_there);
     }
     if is_sound { Ok(Some(found)) } else { Ok(None) }
 }
 
-/// What picks a cell of this array, if it is a hot deck: else 40 at its name, and 49 at this token.
+/// What picks a cell of this array, if it is a hot deck: else 40 at its name, and 49 at the word before it. These are
+/// the tokens.
 pub fn picks(
     alloc: Global,
     scope: &Scope<'_>,
     faults: &mut Faults,
-    token: usize,
+    tokens: (usize, usize),
     array: usize,
 ) -> Result<Option<Vec<Pick>>, AllocError>
     ensures value { IfOk result (λ r. option_map (λ v. v.items) r ≡ spec.picks_of scope.now (slice_get scope.now.arrays array)) }
@@ -108,7 +109,7 @@ pub fn picks(
 {
     match scope.arrays.get(array) {
         None => {
-            faults.note(40, token);
+            faults.note(40, tokens.0);
             Ok(None)
         }
         Some(directions) => match directions {
@@ -119,9 +120,9 @@ pub fn picks(
             }
             Some(directions) => {
                 if has_case(scope.routine) {
-                    all_picks(alloc, scope, faults, token, directions)
+                    all_picks(alloc, scope, faults, tokens, directions)
                 } else {
-                    faults.note(49, token);
+                    faults.note(49, tokens.1);
                     Ok(None)
                 }
             }
@@ -150,7 +151,7 @@ fn deck_of<'a>(
 {
     match scope.meant(name) {
         Some(Meaning::Array(array)) => {
-            let picks = picks(alloc, scope, faults, token, array)?;
+            let picks = picks(alloc, scope, faults, (name.token, token), array)?;
             Ok(deck(name, array, picks))
         }
         _ => {

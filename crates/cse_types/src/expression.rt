@@ -9,23 +9,22 @@ ghost use Rattle.cse_syntax.specs.Tree.{written, expr, exprs, operations as oper
 ghost use Rattle.cse_typed.specs.Typed as typed;
 ghost use Rattle.cse_typed.specs.Typed.{number, numbers, words, operations, operation_tree};
 ghost use Rattle.cse_types.specs.Scope.{meant};
-ghost use Rattle.cse_types.specs.WellTyped.{dimensions_of, may_call, value_of, may_divide};
+ghost use Rattle.cse_types.specs.WellTyped.{may_call, value_of, may_divide};
 ghost use Rattle.cse_types.specs.Judge as spec;
 ghost use Rattle.cse_types.specs.Judge.{judged, judge, judge_all, judge_operations, as_number, is_sound, indexed, queried, bare, compared};
 ghost use Rattle.cse_types.specs.Walk.{is_there, joined, only_if, found_more, IsNoted, IsNotedAfter};
 
-use crate::call::{call, cell, dimensions_of, may_call};
+use crate::call::{call, cell, has_dimensions, may_call};
 use crate::deck::queried;
 use crate::faults::Faults;
 use crate::item::{item, item_at};
 use crate::judged::Judged;
 use crate::list::{both, keep, one_less};
 use crate::meaning::Meaning;
+use crate::operator::{chained, compared, grouped, int, is_special, minus, negated};
 use crate::scope::{Scope, own_result};
 use crate::set::member;
-use cse_syntax::{
-    Expression, Function, Lexeme, Operation as Parsed, Operator, Relation, number_of,
-};
+use cse_syntax::{Expression, Function, Lexeme, Operation as Parsed, Operator, number_of};
 use cse_typed::{Number, Operation, Variable, Words};
 use std::alloc::{AllocError, Global};
 
@@ -81,7 +80,7 @@ fn result_of<'a>(faults: &mut Faults, name: Lexeme<'a>, own: Option<Variable>) -
 
 /// The number that digits write.
 #[tactic(auto, using(crate::proofs::Expressions::within_most))]
-fn written_number(digits: &str) -> Option<u64>
+pub fn written_number(digits: &str) -> Option<u64>
     ensures value { MatchOption result (is_within 0 MOST digits.now ≡ false) (λ v. (is_within 0 MOST digits.now ≡ true) × (v ≡ leaf.number_of digits.now)) }
     ensures most { IfSome result (λ v. v ≤ 9223372036854775807) }
 {
@@ -100,161 +99,6 @@ fn literal<'a>(faults: &mut Faults, digits: Lexeme<'a>) -> Option<Number<'a>>
             None
         }
         Some(value) => Some(Number::Literal(digits, value as i64)),
-    }
-}
-
-fn minus<'a>(alloc: Global, x: Option<Number<'a>>) -> Result<Option<Number<'a>>, AllocError>
-    ensures { IfOk result (λ r. option_map number r ≡ option_map typed.Minus (option_map number x.entry)) }
-{
-    match x {
-        None => Ok(None),
-        Some(x) => Ok(Some(Number::Minus(Box::new(alloc, x)?))),
-    }
-}
-
-fn negated<'a>(alloc: Global, x: Option<Number<'a>>) -> Result<Option<Number<'a>>, AllocError>
-    ensures { IfOk result (λ r. option_map number r ≡ option_map typed.Not (option_map number x.entry)) }
-{
-    match x {
-        None => Ok(None),
-        Some(x) => Ok(Some(Number::Not(Box::new(alloc, x)?))),
-    }
-}
-
-fn int<'a>(alloc: Global, x: Option<Number<'a>>) -> Result<Option<Number<'a>>, AllocError>
-    ensures { IfOk result (λ r. option_map number r ≡ option_map typed.Int (option_map number x.entry)) }
-{
-    match x {
-        None => Ok(None),
-        Some(x) => Ok(Some(Number::Int(Box::new(alloc, x)?))),
-    }
-}
-
-fn is_special<'a>(alloc: Global, x: Option<Number<'a>>) -> Result<Option<Number<'a>>, AllocError>
-    ensures { IfOk result (λ r. option_map number r ≡ option_map typed.IsSpecial (option_map number x.entry)) }
-{
-    match x {
-        None => Ok(None),
-        Some(x) => Ok(Some(Number::IsSpecial(Box::new(alloc, x)?))),
-    }
-}
-
-fn number_group<'a>(alloc: Global, x: Option<Number<'a>>) -> Result<Option<Number<'a>>, AllocError>
-    ensures { IfOk result (λ r. option_map number r ≡ option_map typed.Group (option_map number x.entry)) }
-{
-    match x {
-        None => Ok(None),
-        Some(x) => Ok(Some(Number::Group(Box::new(alloc, x)?))),
-    }
-}
-
-fn text_group<'a>(alloc: Global, x: Option<Words<'a>>) -> Result<Option<Words<'a>>, AllocError>
-    ensures { IfOk result (λ r. option_map words r ≡ option_map typed.TextGroup (option_map words x.entry)) }
-{
-    match x {
-        None => Ok(None),
-        Some(x) => Ok(Some(Words::Group(Box::new(alloc, x)?))),
-    }
-}
-
-fn grouped<'a>(alloc: Global, x: Judged<'a>) -> Result<Judged<'a>, AllocError>
-    ensures { IfOk result (λ r. judged r ≡ spec.grouped (judged x.entry)) }
-{
-    match x {
-        Judged::Number(x) => Ok(Judged::Number(number_group(alloc, x)?)),
-        Judged::Words(x) => Ok(Judged::Words(text_group(alloc, x)?)),
-        Judged::Unknown => Ok(Judged::Unknown),
-    }
-}
-
-fn compared_numbers<'a>(
-    alloc: Global,
-    relation: Relation,
-    x: Option<Number<'a>>,
-    y: Option<Number<'a>>,
-) -> Result<Option<Number<'a>>, AllocError>
-    ensures { IfOk result (λ r. option_map number r ≡ joined (typed.Compare relation) (option_map number x.entry) (option_map number y.entry)) }
-{
-    match x {
-        None => Ok(None),
-        Some(x) => match y {
-            None => Ok(None),
-            Some(y) => Ok(Some(Number::Compare(
-                Box::new(alloc, x)?,
-                relation,
-                Box::new(alloc, y)?,
-            ))),
-        },
-    }
-}
-
-fn compared_texts<'a>(
-    alloc: Global,
-    relation: Relation,
-    x: Option<Words<'a>>,
-    y: Option<Words<'a>>,
-) -> Result<Option<Number<'a>>, AllocError>
-    ensures { IfOk result (λ r. option_map number r ≡ joined (typed.CompareTexts relation) (option_map words x.entry) (option_map words y.entry)) }
-{
-    match x {
-        None => Ok(None),
-        Some(x) => match y {
-            None => Ok(None),
-            Some(y) => Ok(Some(Number::CompareTexts(
-                Box::new(alloc, x)?,
-                relation,
-                Box::new(alloc, y)?,
-            ))),
-        },
-    }
-}
-
-/// Two values of one kind; else the fault 44 at the text, which begins at one of these tokens.
-fn compared<'a>(
-    alloc: Global,
-    faults: &mut Faults,
-    relation: Relation,
-    x: Judged<'a>,
-    y: Judged<'a>,
-    tokens: (usize, usize),
-) -> Result<Option<Number<'a>>, AllocError>
-    ensures value { IfOk result (λ r. option_map number r ≡ compared relation (judged x.entry) (judged y.entry)) }
-    ensures noted { OnOk result ((is_there faults.old.worst || (not (is_sound (judged x.entry)) || not (is_sound (judged y.entry)))) ≡ is_there faults.old.worst → IsNoted faults.old faults.new (is_there (compared relation (judged x.entry) (judged y.entry)))) }
-{
-    match x {
-        Judged::Unknown => Ok(None),
-        Judged::Number(x) => match y {
-            Judged::Unknown => Ok(None),
-            Judged::Number(y) => compared_numbers(alloc, relation, x, y),
-            Judged::Words(_) => {
-                faults.note(44, tokens.1);
-                Ok(None)
-            }
-        },
-        Judged::Words(x) => match y {
-            Judged::Unknown => Ok(None),
-            Judged::Number(_) => {
-                faults.note(44, tokens.0);
-                Ok(None)
-            }
-            Judged::Words(y) => compared_texts(alloc, relation, x, y),
-        },
-    }
-}
-
-fn chained<'a>(
-    alloc: Global,
-    first: Option<Number<'a>>,
-    others: Option<Vec<Operation<'a>>>,
-) -> Result<Option<Number<'a>>, AllocError>
-    ensures { IfOk result (λ r. option_map number r ≡ joined typed.Chain (option_map number first.entry) (option_map (λ v. operations (map operation_tree v.items)) others.entry)) }
-{
-    match first {
-        None => Ok(None),
-        Some(first) => match others {
-            None => Ok(None),
-            Some(others) => Ok(Some(Number::chain(Box::new(alloc, first)?, others))),
-        },
     }
 }
 
@@ -301,34 +145,6 @@ fn named_with<'a>(
             Meaning::Application => Ok(unknown(faults, name.token)),
             Meaning::Level => Ok(unknown(faults, name.token)),
         },
-    }
-}
-
-/// Whether an array has so many dimensions, or the fault 44.
-fn has_dimensions(
-    scope: &Scope<'_>,
-    faults: &mut Faults,
-    token: usize,
-    count: usize,
-    array: usize,
-) -> bool
-    ensures value { result ≡ spec.is_count count (dimensions_of scope.now array) }
-    ensures noted { IsNoted faults.old faults.new (spec.is_count count (dimensions_of scope.now array)) }
-{
-    match dimensions_of(scope, array) {
-        None => {
-            // The fault of its declaration counts.
-            faults.note(44, usize::MAX);
-            false
-        }
-        Some(dimensions) => {
-            if dimensions == count {
-                true
-            } else {
-                faults.note(44, token);
-                false
-            }
-        }
     }
 }
 

@@ -7,16 +7,25 @@
 //! - `meaning`, `names`, `scope`: what names mean, and what is known at a place of logic.
 //! - `faults`: the fault that is told.
 //! - `judged`, `item`, `set`, `deck`, `call`, `list`: what parts of an expression are found to be.
+//! - `operator`: what operators make of their operands.
 //! - `expression`: the walk over expressions.
+//! - `place`, `assign`: what a value is put into, and calls that stand alone.
+//! - `head`: the heads of loops, and literals.
+//! - `told`, `errmsg`: the messages of a source.
+//! - `action`, `statement`: the walk over statements.
 //! - `laws`: laws of the definitions.
 #![tactic(auto)]
 
+mod action;
+mod assign;
 mod call;
 mod deck;
+mod errmsg;
 mod error;
 mod expression;
 mod faults;
 mod gaps;
+mod head;
 mod item;
 mod judged;
 mod laws;
@@ -24,9 +33,13 @@ mod list;
 mod meaning;
 mod messages;
 mod names;
+mod operator;
 mod order;
+mod place;
 mod scope;
 mod set;
+mod statement;
+mod told;
 
 pub use error::TypeError;
 pub use laws::{expressions_are_judged, statements_are_judged};

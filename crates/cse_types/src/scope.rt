@@ -1,13 +1,14 @@
 //! What is known at a place of logic.
 
-ghost use Rattle.std.specs.Prelude.{◌≡◌, ◌<◌, ℕ, List, map, length, nat_eq, slice_get, Some, None};
+ghost use Rattle.std.specs.Prelude.{◌≡◌, ◌<◌, ℕ, List, map, length, nat_eq, slice_get, Option, Some, None, OnOk};
 ghost use Rattle.std.specs.Option.{option_map, option_map_or, option_and_then};
 ghost use Rattle.std.specs.Str.{bytes_eq};
 ghost use Rattle.cse_dict.specs.Keys.{kept_name};
 ghost use Rattle.cse_syntax.specs.Tree.{written};
 ghost use Rattle.cse_typed.specs.Typed.{dimension};
+ghost use Rattle.cse_typed.specs.declared.tree.Variable.{Variable};
 ghost use Rattle.cse_types.specs.Scope as spec;
-ghost use Rattle.cse_types.specs.Scope.{in_dictionary, is_looped, kind_and_owner, meant, most_of, found, has_case, own_result, is_event_of};
+ghost use Rattle.cse_types.specs.Scope.{in_dictionary, is_looped, kind_and_owner, meant, most_of, found, has_case, own_result, is_event_of, within};
 ghost use Rattle.cse_types.specs.WellTyped.{whole_set, set_kind, set_meant, dimensions_of, may_call};
 
 use crate::meaning::{Meaning, Routine};
@@ -17,6 +18,7 @@ use cse_dict::Dictionary;
 use cse_syntax::Lexeme;
 use cse_typed::{Dimension, Found, Owner, Variable};
 use cse_value::shape::ItemKind;
+use std::alloc::AllocError;
 use std::marker::Model;
 
 /// What is known of a function that has ended.
@@ -223,5 +225,20 @@ impl<'a> Scope<'a> {
             return Some(Found::First);
         }
         None
+    }
+
+    /// A loop begins: the record, where it is a `for`, and the variable.
+    pub fn begin(&mut self, turns: (Option<u16>, Variable)) -> Result<(), AllocError>
+        ensures { OnOk result (self.new ≡ within self.old turns.0 turns.1) }
+    {
+        self.loops.push(turns)?;
+        Ok(())
+    }
+
+    /// The innermost loop ends.
+    pub fn end(&mut self)
+        ensures { (s : spec.Scope) (l : Option ℕ × Variable) → self.old ≡ within s l.0 l.1 → self.new ≡ s }
+    {
+        self.loops.pop();
     }
 }

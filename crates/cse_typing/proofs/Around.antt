@@ -78,14 +78,14 @@ same_tests false true f g = g refl
 same_tests false false f g = refl
 
 module _ (code : List Control) where
-  same_around : (s p q : ℕ) → (IsAround code s p → IsAround code s q) → (IsAround code s q → IsAround code s p) → is_around code s p ≡ is_around code s q
+  pub same_around : (s p q : ℕ) → (IsAround code s p → IsAround code s q) → (IsAround code s q → IsAround code s p) → is_around code s p ≡ is_around code s q
   same_around s p q f g =
       same_tests _ _ (λ h. is_around_from code s q (f (around_is code s p h))) (λ h. is_around_from code s p (g (around_is code s q h)))
 
-  not_around : (s p : ℕ) → (IsAround code s p → ⊥) → is_around code s p ≡ false
+  pub not_around : (s p : ℕ) → (IsAround code s p → ⊥) → is_around code s p ≡ false
   not_around s p f = false_from_ne_true _ (λ h. f (around_is code s p h))
 
-  below_same : (k p q : ℕ) → ((s : ℕ) → s < k → is_around code s p ≡ is_around code s q) → around_below code p k ≡ around_below code q k
+  pub below_same : (k p q : ℕ) → ((s : ℕ) → s < k → is_around code s p ≡ is_around code s q) → around_below code p k ≡ around_below code q k
   unfolding around_below
   below_same zero p q h = refl
   below_same (suc s) p q h =
@@ -93,7 +93,7 @@ module _ (code : List Control) where
       let ih = below_same s p q (λ t l. h t (omega arith)) in
       cc
 
-  below_none : (k j p : ℕ) → j ≤ k → ((s : ℕ) → j ≤ s → s < k → is_around code s p ≡ false) → around_below code p k ≡ around_below code p j
+  pub below_none : (k j p : ℕ) → j ≤ k → ((s : ℕ) → j ≤ s → s < k → is_around code s p ≡ false) → around_below code p k ≡ around_below code p j
   unfolding around_below
   below_none zero j p le h = let e : 0 ≡ j = omega arith in ap (around_below code p) e
   below_none (suc k) j p le h =
@@ -104,7 +104,7 @@ module _ (code : List Control) where
       cond-false _ _ _ (h k l (omega arith)) ∙ ih)
       (cases_lt k j)
 
-  below_here : (s p : ℕ) → is_around code s p ≡ true → around_below code p (suc s) ≡ s ∷ around_below code p s
+  pub below_here : (s p : ℕ) → is_around code s p ≡ true → around_below code p (suc s) ≡ s ∷ around_below code p s
   unfolding around_below
   below_here s p h = cond-true _ _ _ h
 
@@ -124,10 +124,10 @@ module _ (code : List Control) where
       (cases_Bool (is_around code k p))
 
 -- two brackets with one end, or one opener, are one
-same_opener : (code : List Control) (s t e : ℕ) → IsBracket code s e → IsBracket code t e → s ≡ t
+pub same_opener : (code : List Control) (s t e : ℕ) → IsBracket code s e → IsBracket code t e → s ≡ t
 same_opener code s t e a b = same_Some s t (sym a.2 ∙ b.2)
 
-same_end : (code : List Control) (s e f : ℕ) → IsBracket code s e → IsBracket code s f → e ≡ f
+pub same_end : (code : List Control) (s e f : ℕ) → IsBracket code s e → IsBracket code s f → e ≡ f
 same_end code s e f a b = same_Some e f (sym a.1 ∙ b.1)
 
 pub ends_within : (code : List Control) (s e : ℕ) → IsBracket code s e → e < length code

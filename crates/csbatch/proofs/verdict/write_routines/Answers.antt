@@ -1,6 +1,6 @@
-use Rattle.std.proofs.Common.{◌≡◌, ◌<◌, ◌∙◌, ap, arith, refl, length}
+use Rattle.std.proofs.Common.{◌∙◌, ap, arith, refl, length}
 use Rattle.std.proofs.lemmas.Result.{err_from_is_err_and}
-use Rattle.cse_parts.specs.Image.{Image, Lists}
+use Rattle.cse_parts.specs.Image.{Image}
 use Rattle.cse_typing.proofs.CodeLaws.{routines_are}
 use Rattle.csbatch.proofs.VerdictLaws.{no_lines, line_more, line_front}
 use Rattle.csbatch.proofs.verdict.write_routines.Goals as goal

@@ -1,0 +1,11 @@
+pub mod Agrees
+pub mod Numbers
+pub mod Statements
+pub mod Names
+pub mod Tables
+pub mod Routines
+pub mod Parts
+pub mod Whole
+pub mod Sizes
+pub mod Costs
+pub mod Bounds

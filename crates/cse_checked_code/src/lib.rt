@@ -1,0 +1,9 @@
+//! The program of a sound source is typed, routine by routine.
+//!
+//! `specs/Checked.antt` says what is known of a source and its program, and has the laws; `specs/Cost.antt` says what the
+//! routines of a source cost.
+#![tactic(auto)]
+
+mod laws;
+
+pub use laws::{bounds_are_costs, code_of_a_source_is_typed};

@@ -1,0 +1,5 @@
+pub mod Stands
+pub mod Joined
+pub mod Refused
+pub mod Limits
+pub mod NumberLaws

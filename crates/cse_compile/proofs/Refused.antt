@@ -1,0 +1,96 @@
+-- Why a program of a sound source is refused.
+use Rattle.std.proofs.Common.{◌≡◌, ℕ, Bool, true, false, List, refl, sym, subst, ap, ◌∙◌, ⊎_elim, inl, inr, arith}
+use Rattle.std.specs.Prelude.{◌⊎◌, ◌||◌, nat_eq, IsTrue, Result, IfErr}
+use Rattle.std.proofs.lemmas.Result.{IfErr-weaker}
+use Rattle.cse_value.specs.Shape.{ShapeLists}
+use Rattle.cse_parts.specs.Image.{Image}
+use Rattle.cse_image.specs.Spelling.{Fits}
+use Rattle.cse_dict.specs.Dictionary.{DictionaryText, shape_of}
+use Rattle.cse_typing.specs.declared.refusal.Refusal.{Refusal}
+use Rattle.cse_typing.specs.Typed.{IsTyped, IsOutOfMemory, BreaksRules, MayNotStand, HasNoStack, IsOfOtherShape, Refuses}
+use Rattle.cse_typing.proofs.TypedLaws.{never_typed}
+use Rattle.cse_bounds.specs.Bounded.{IsBounded}
+use Rattle.cse_verify.specs.FirstFault.{IsUntypedRoutine, IsTooLongRoutine, AreUnfitEvents, IsTooLongCase, IsFirstFault}
+use Rattle.cse_typed.specs.Typed.{Tree}
+use Rattle.cse_compile.specs.declared.error.CompileError.{CompileError}
+use Rattle.cse_compile.specs.Fault.{IsLimit, IsReason}
+use Rattle.cse_compile.specs.Program.{IsProgramOf}
+use Rattle.cse_compile.specs.Compiled.{IsSound, MayTakeLong, IsRefused}
+
+-- ---- numbers
+
+is_reason : ℕ → Bool
+is_reason n = nat_eq n 64 || (nat_eq n 67 || nat_eq n 90)
+
+by_67 : (e : CompileError) → e.number ≡ 67 → IsReason e
+by_67 e h = subst (λ n. IsTrue (nat_eq n 64 || (nat_eq n 67 || nat_eq n 90))) (sym h) refl
+
+by_90 : (e : CompileError) → e.number ≡ 90 → IsReason e
+by_90 e h = subst (λ n. IsTrue (nat_eq n 64 || (nat_eq n 67 || nat_eq n 90))) (sym h) refl
+
+one_more : (a b c : Bool) → IsTrue (a || c) → IsTrue (a || (b || c))
+one_more true b c h = refl
+one_more false true c h = refl
+one_more false false c h = h
+
+limit_reason : (e : CompileError) → IsLimit e → IsReason e
+limit_reason e h = one_more (nat_eq e.number 64) (nat_eq e.number 67) (nat_eq e.number 90) h
+
+differ : IsTrue false → ⊥
+differ h = cc
+
+limit_never : (e : CompileError) → IsLimit e → e.number ≡ 67 → ⊥
+limit_never e h is = differ (subst (λ n. IsTrue (nat_eq n 64 || nat_eq n 90)) is h)
+
+-- ---- the verifier's refusals
+
+untyped : (s : ShapeLists) (x : Image) (r : Refusal) → BreaksRules s x r ⊎ (MayNotStand s x r ⊎ HasNoStack s x r) → Refuses s x r
+untyped s x r why =
+    ⊎_elim (λ (b : BreaksRules s x r). inr (inl b))
+    (λ rest. ⊎_elim (λ (b : MayNotStand s x r). inr (inr (inl b))) (λ (b : HasNoStack s x r). inr (inr (inr (inl b)))) rest) why
+
+too_long : (s : ShapeLists) (x : Image) (r : Refusal) → IsFirstFault s x r → IsTyped s x → r.number ≡ 67
+too_long s x r why typed =
+    ⊎_elim (λ (b : IsOfOtherShape s x r). absurd (never_typed s x r (inl b) typed))
+    (λ a. ⊎_elim (λ (b : IsUntypedRoutine s x r). absurd (never_typed s x r (untyped s x r b.reason) typed))
+    (λ c. ⊎_elim (λ (b : IsTooLongRoutine s x r). b.reason.number)
+    (λ d. ⊎_elim (λ (b : AreUnfitEvents s x r). absurd (never_typed s x r (inr (inr (inr (inr b.reason)))) typed))
+    (λ (b : IsTooLongCase s x r). b.number) d) c) a) why
+
+not_both : (n : ℕ) → n ≡ 90 → n ≡ 67 → ⊥
+not_both n e f = omega (arith, e, f)
+
+pub refused : (s : ShapeLists) (x : Image) (r : Refusal) (e : CompileError) → e.number ≡ r.number → IsOutOfMemory r ⊎ IsFirstFault s x r → IsOutOfMemory r ⊎ (IsTyped s x → IsBounded x → ⊥) → Fits x → IsRefused s x e
+refused s x r e same first never fits typed = (
+  ⊎_elim (λ (m : IsOutOfMemory r). by_90 e (same ∙ m.0)) (λ (why : IsFirstFault s x r). by_67 e (same ∙ too_long s x r why (typed fits))) first,
+  λ is bounded. ⊎_elim (λ (m : IsOutOfMemory r). not_both e.number (same ∙ m.0) is) (λ (f : IsTyped s x → IsBounded x → ⊥). f (typed fits) bounded) never,
+)
+
+-- no spelling: 64
+pub no_spelling : (s : ShapeLists) (x : Image) (e : CompileError) → IsLimit e → IsRefused s x e
+no_spelling s x e h typed = (limit_reason e h, λ is bounded. limit_never e h is)
+
+-- ---- the compiler's
+
+pub sound_others : (d : DictionaryText) (named : List ℕ) (t : Tree) (x : Image) (e : CompileError) → IsProgramOf d named t x → IsRefused (shape_of d) x e → IsSound d named t → IsReason e
+sound_others d named t x e h r sound = (r (sound x h)).0
+
+pub sound_cost : (d : DictionaryText) (named : List ℕ) (t : Tree) (x : Image) (e : CompileError) → IsProgramOf d named t x → IsRefused (shape_of d) x e → IsSound d named t → e.number ≡ 67 → MayTakeLong d named t
+sound_cost d named t x e h r sound is = (x, h, (r (sound x h)).1 is)
+
+pub limit_others : (e : CompileError) → IsLimit e → IsReason e
+limit_others e h = limit_reason e h
+
+pub limit_cost : (d : DictionaryText) (named : List ℕ) (t : Tree) (e : CompileError) → IsLimit e → e.number ≡ 67 → MayTakeLong d named t
+limit_cost d named t e h is = absurd (limit_never e h is)
+
+-- ---- of results
+
+pub err_refused : {T : Type 0} (s : ShapeLists) (x y : Image) (r : Result T CompileError) → x ≡ y → Fits x → IfErr r (λ e. Fits x → IsRefused s x e) → IfErr r (IsRefused s y)
+err_refused s x y r same fits h = IfErr-weaker r (λ e. Fits x → IsRefused s x e) (IsRefused s y) (λ e k. subst (λ (z : Image). IsRefused s z e) same (k fits)) h
+
+pub err_others : {T : Type 0} (d : DictionaryText) (named : List ℕ) (t : Tree) (x : Image) (r : Result T CompileError) → IsProgramOf d named t x → IfErr r (IsRefused (shape_of d) x) → IsSound d named t → IfErr r IsReason
+err_others d named t x r p h sound = IfErr-weaker r (IsRefused (shape_of d) x) IsReason (λ e k. sound_others d named t x e p k sound) h
+
+pub err_cost : {T : Type 0} (d : DictionaryText) (named : List ℕ) (t : Tree) (x : Image) (r : Result T CompileError) → IsProgramOf d named t x → IfErr r (IsRefused (shape_of d) x) → IsSound d named t → IfErr r (λ e. e.number ≡ 67 → MayTakeLong d named t)
+err_cost d named t x r p h sound = IfErr-weaker r (IsRefused (shape_of d) x) (λ e. e.number ≡ 67 → MayTakeLong d named t) (λ e k is. sound_cost d named t x e p k sound is) h

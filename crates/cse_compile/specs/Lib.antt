@@ -1,0 +1,7 @@
+pub mod Fault
+pub mod Stands
+pub mod Program
+pub mod Pooled
+pub mod Joined
+pub mod Compiled
+pub mod Numbers

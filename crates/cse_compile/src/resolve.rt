@@ -1,0 +1,169 @@
+//! From instructions with constants, texts and limits by value to those of an image.
+
+ghost use Rattle.std.specs.Prelude.{◌≡◌, MatchOption, true, IfOk, OnOk, IfErr};
+ghost use Rattle.std.specs.Bool.{Decides};
+ghost use Rattle.cse_syntax.specs.Leaf.{text_of};
+ghost use Rattle.cse_image.specs.Spelling.{TextFits};
+ghost use Rattle.cse_emit.specs.Wide as w;
+ghost use Rattle.cse_compile.specs.Stands.{Stands, AllStand, IsMore};
+ghost use Rattle.cse_compile.specs.Fault.{IsLimit};
+
+use crate::error::{BEYOND, CompileError, WANT_OF_MEMORY};
+use cse_emit::Wide;
+use cse_parts::instruction::{Instr, Op};
+use cse_parts::texts::{is_plain_text, is_short_text};
+use cse_pools::{PoolError, Pools};
+use std::alloc::Global;
+
+fn pool_error(error: PoolError) -> CompileError
+    ensures { IsLimit result }
+{
+    match error {
+        PoolError::Full => BEYOND,
+        PoolError::Memory => WANT_OF_MEMORY,
+    }
+}
+
+/// A place as a field of an instruction.
+fn field_of(c: usize) -> Result<u32, CompileError>
+    ensures ok { IfOk result (λ n. n ≡ c) }
+    ensures err { IfErr result IsLimit }
+{
+    match u32::try_from(c) {
+        Ok(c) => Ok(c),
+        Err(_) => Err(BEYOND),
+    }
+}
+
+/// An image may have this text.
+fn text_fits(text: &str) -> bool
+    ensures { Decides result (TextFits text.now) }
+{
+    text.len() < 65536 && is_plain_text(text) && is_short_text(text)
+}
+
+/// What stands between the quotes of a text.
+fn inside(text: &str) -> Option<&str>
+    ensures { MatchOption result (Unit {0}) (λ t. t.now ≡ text_of text.now) }
+{
+    match text.as_bytes() {
+        [] => Some(""),
+        [_, rest @ ..] => match str::from_utf8(&rest[..rest.len().saturating_sub(1)]) {
+            Ok(text) => Some(text),
+            Err(_) => None,
+        },
+    }
+}
+
+#[tactic(auto, using(crate::proofs::Stands::more_constant))]
+fn constant(pools: &mut Pools, value: i64) -> Result<Instr, CompileError>
+    ensures stands { IfOk result (λ i. Stands pools.new i (w.Constant value)) }
+    ensures more { OnOk result (IsMore pools.old pools.new) }
+    ensures err { IfErr result IsLimit }
+{
+    match pools.constant(value) {
+        Ok(c) => Ok(Instr {
+            op: Op::Number,
+            a: 0,
+            b: 0,
+            c,
+        }),
+        Err(error) => Err(pool_error(error)),
+    }
+}
+
+#[tactic(auto, using(crate::proofs::Stands::more_text))]
+fn text<'a>(pools: &mut Pools<'a>, value: &'a str) -> Result<Instr, CompileError>
+    ensures stands { IfOk result (λ i. Stands pools.new i (w.Chars value.now)) }
+    ensures more { OnOk result (IsMore pools.old pools.new) }
+    ensures err { IfErr result IsLimit }
+{
+    if !text_fits(value) {
+        return Err(BEYOND);
+    }
+    match pools.text(value) {
+        Ok(c) => Ok(Instr {
+            op: Op::Text,
+            a: 0,
+            b: 0,
+            c,
+        }),
+        Err(error) => Err(pool_error(error)),
+    }
+}
+
+fn quoted<'a>(pools: &mut Pools<'a>, value: &'a str) -> Result<Instr, CompileError>
+    ensures stands { IfOk result (λ i. Stands pools.new i (w.Chars (text_of value.now))) }
+    ensures more { OnOk result (IsMore pools.old pools.new) }
+    ensures err { IfErr result IsLimit }
+{
+    match inside(value) {
+        Some(inner) => text(pools, inner),
+        None => Err(BEYOND),
+    }
+}
+
+#[tactic(auto, using(crate::proofs::Stands::more_limit))]
+fn turns(pools: &mut Pools, limit: u32, end: usize) -> Result<Instr, CompileError>
+    ensures stands { IfOk result (λ i. Stands pools.new i (w.Turns limit end)) }
+    ensures more { OnOk result (IsMore pools.old pools.new) }
+    ensures err { IfErr result IsLimit }
+{
+    if limit == 0 {
+        return Err(BEYOND);
+    }
+    let c = field_of(end)?;
+    match pools.limit(limit) {
+        Ok(b) => Ok(Instr {
+            op: Op::LoopCount,
+            a: 0,
+            b,
+            c,
+        }),
+        Err(error) => Err(pool_error(error)),
+    }
+}
+
+fn plain(op: Op, a: u8, b: u16, c: usize) -> Result<Instr, CompileError>
+    ensures ok { IfOk result (λ i. i ≡ record { op = op; a = a; b = b; c = c }) }
+    ensures err { IfErr result IsLimit }
+{
+    let c = field_of(c)?;
+    Ok(Instr { op, a, b, c })
+}
+
+/// The instruction that stands for a wide one; its entry is added to the tables where it isn't there.
+#[tactic(auto, using(crate::proofs::Stands::more_none))]
+pub fn instruction<'a>(pools: &mut Pools<'a>, written: Wide<'a>) -> Result<Instr, CompileError>
+    ensures stands { IfOk result (λ i. Stands pools.new i (w.wide written.entry)) }
+    ensures more { OnOk result (IsMore pools.old pools.new) }
+    ensures err { IfErr result IsLimit }
+{
+    match written {
+        Wide::Constant(value) => constant(pools, value),
+        Wide::Quoted(value) => quoted(pools, value),
+        Wide::Blank => text(pools, ""),
+        Wide::Turns(limit, end) => turns(pools, limit, end),
+        Wide::Plain(op, a, b, c) => plain(op, a, b, c),
+    }
+}
+
+/// The instructions that stand for wide ones, by the tables.
+pub fn resolve<'a>(
+    alloc: Global,
+    pools: &mut Pools<'a>,
+    code: &[Wide<'a>],
+) -> Result<Vec<Instr>, CompileError>
+    ensures ok { IfOk result (λ v. AllStand pools.new v.items (w.all_wide code.now)) }
+    ensures err { IfErr result IsLimit }
+{
+    let mut resolved = Vec::new(alloc);
+    'all: for written in code {
+        let instr = instruction(pools, *written)?;
+        match resolved.push(instr) {
+            Ok(()) => {}
+            Err(_) => return Err(WANT_OF_MEMORY),
+        }
+    }
+    Ok(resolved)
+}

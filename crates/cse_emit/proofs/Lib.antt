@@ -1,0 +1,4 @@
+pub mod Lists
+pub mod Codes
+pub mod Blocks
+pub mod Arms

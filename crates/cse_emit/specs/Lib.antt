@@ -1,0 +1,5 @@
+pub mod Wide
+pub mod Setting
+pub mod Numbers
+pub mod Statements
+pub mod Routines

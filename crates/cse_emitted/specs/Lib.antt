@@ -1,0 +1,4 @@
+pub mod Stands
+pub mod Fit
+pub mod Steps
+pub mod Emitted

@@ -1,0 +1,4 @@
+pub mod Few
+pub mod Entries
+pub mod Measure
+pub mod Totals

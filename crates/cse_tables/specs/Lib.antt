@@ -1,0 +1,4 @@
+pub mod Tables
+pub mod Order
+pub mod Outline
+pub mod Events
