@@ -8,3 +8,6 @@ pub mod Sets
 pub mod Expressions
 pub mod StatementsRight
 pub mod StatementsComplete
+pub mod NewNames
+pub mod TreeRight
+pub mod TreeComplete

@@ -12,7 +12,8 @@ use Rattle.cse_typed.specs.declared.tree.Variable.{Variable}
 use Rattle.cse_typed.specs.declared.tree.Field.{Field}
 use Rattle.cse_typed.specs.declared.tree.Found.{Found}
 use Rattle.cse_typed.specs.declared.tree.Pick.{Pick}
-use Rattle.cse_typed.specs.Typed.{Number, Words, Numbers, no_number, number_and, Which, Here, At, Argument, OfNumber, OfWords, Whole, Limit, Fixed, Counted, Counting, Statement, Statements, Arms}
+use Rattle.cse_typed.specs.declared.tree.Which as rustwhich
+use Rattle.cse_typed.specs.Typed.{which, Number, Words, Numbers, no_number, number_and, Which, Here, At, Argument, OfNumber, OfWords, Whole, Limit, Fixed, Counted, Counting, Statement, Statements, Arms}
 use Rattle.cse_typed.specs.Typed.{Empty, Set, SetText, SetItem, SetTextItem, SetCell, CallOf, If, For, Do, Jump', Impute, PutDeck, ErrMsg, no_statement, statement_and, no_arm, else_of, arm}
 use Rattle.cse_types.specs.declared.meaning.Meaning.{Meaning}
 use Rattle.cse_types.specs.declared.meaning.Meaning.TheVariants as m
@@ -41,6 +42,9 @@ which_at n how subscripts = if n == 0 then option_map Here how else option_map A
 -- a place of an item of a record; so many subscripts stand behind it
 abbrev pub place_at : Scope → ℕ → ℕ → ℕ → Option Numbers → Option (Field × Which)
 place_at s n item owner subscripts = joined (λ f w. (f, w)) (field_at s item owner) (which_at n (found s owner) subscripts)
+
+abbrev pub placed : Field × rustwhich.Which → Field × Which
+placed p = (p.0, which p.1)
 
 abbrev pub set_item : Spelling → Field × Which → Number → Statement
 set_item name place value = SetItem name place.0 place.1 value
@@ -92,8 +96,11 @@ call_of s name _ n arguments = None
 -- ---- loops
 
 -- the variable and the record of a `for`
+abbrev pub head : Variable → ℕ → Variable × ℕ
+head x k = (x, k)
+
 abbrev pub for_head : Scope → Spelling → Spelling → Option (Variable × ℕ)
-for_head s variable record_name = joined (λ x k. (x, k)) (free_variable s.loops (loop_variable s variable)) (record_of s (meant s record_name))
+for_head s variable record_name = joined head (free_variable s.loops (loop_variable s variable)) (record_of s (meant s record_name))
 
 abbrev pub in_for : Scope → Option (Variable × ℕ) → Scope
 in_for s None = s

@@ -7,3 +7,4 @@ pub mod WellTyped
 pub mod Walk
 pub mod Judge
 pub mod JudgeStatement
+pub mod JudgeTree

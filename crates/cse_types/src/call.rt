@@ -66,6 +66,34 @@ pub fn dimensions_of(scope: &Scope<'_>, array: usize) -> Option<usize>
     }
 }
 
+/// Whether an array has so many dimensions, or the fault 44.
+pub fn has_dimensions(
+    scope: &Scope<'_>,
+    faults: &mut Faults,
+    token: usize,
+    count: usize,
+    array: usize,
+) -> bool
+    ensures value { result ≡ spec.is_count count (well.dimensions_of scope.now array) }
+    ensures noted { IsNoted faults.old faults.new (spec.is_count count (well.dimensions_of scope.now array)) }
+{
+    match dimensions_of(scope, array) {
+        None => {
+            // The fault of its declaration counts.
+            faults.note(44, usize::MAX);
+            false
+        }
+        Some(dimensions) => {
+            if dimensions == count {
+                true
+            } else {
+                faults.note(44, token);
+                false
+            }
+        }
+    }
+}
+
 /// A cell of an array.
 pub fn cell<'a>(
     name: Lexeme<'a>,

@@ -9,12 +9,12 @@ ghost use Rattle.cse_syntax.specs.Tree.{written, expr, exprs, operations as oper
 ghost use Rattle.cse_typed.specs.Typed as typed;
 ghost use Rattle.cse_typed.specs.Typed.{number, numbers, words, operations, operation_tree};
 ghost use Rattle.cse_types.specs.Scope.{meant};
-ghost use Rattle.cse_types.specs.WellTyped.{dimensions_of, may_call, value_of, may_divide};
+ghost use Rattle.cse_types.specs.WellTyped.{may_call, value_of, may_divide};
 ghost use Rattle.cse_types.specs.Judge as spec;
 ghost use Rattle.cse_types.specs.Judge.{judged, judge, judge_all, judge_operations, as_number, is_sound, indexed, queried, bare, compared};
 ghost use Rattle.cse_types.specs.Walk.{is_there, joined, only_if, found_more, IsNoted, IsNotedAfter};
 
-use crate::call::{call, cell, dimensions_of, may_call};
+use crate::call::{call, cell, has_dimensions, may_call};
 use crate::deck::queried;
 use crate::faults::Faults;
 use crate::item::{item, item_at};
@@ -81,7 +81,7 @@ fn result_of<'a>(faults: &mut Faults, name: Lexeme<'a>, own: Option<Variable>) -
 
 /// The number that digits write.
 #[tactic(auto, using(crate::proofs::Expressions::within_most))]
-fn written_number(digits: &str) -> Option<u64>
+pub fn written_number(digits: &str) -> Option<u64>
     ensures value { MatchOption result (is_within 0 MOST digits.now ≡ false) (λ v. (is_within 0 MOST digits.now ≡ true) × (v ≡ leaf.number_of digits.now)) }
     ensures most { IfSome result (λ v. v ≤ 9223372036854775807) }
 {
@@ -301,34 +301,6 @@ fn named_with<'a>(
             Meaning::Application => Ok(unknown(faults, name.token)),
             Meaning::Level => Ok(unknown(faults, name.token)),
         },
-    }
-}
-
-/// Whether an array has so many dimensions, or the fault 44.
-fn has_dimensions(
-    scope: &Scope<'_>,
-    faults: &mut Faults,
-    token: usize,
-    count: usize,
-    array: usize,
-) -> bool
-    ensures value { result ≡ spec.is_count count (dimensions_of scope.now array) }
-    ensures noted { IsNoted faults.old faults.new (spec.is_count count (dimensions_of scope.now array)) }
-{
-    match dimensions_of(scope, array) {
-        None => {
-            // The fault of its declaration counts.
-            faults.note(44, usize::MAX);
-            false
-        }
-        Some(dimensions) => {
-            if dimensions == count {
-                true
-            } else {
-                faults.note(44, token);
-                false
-            }
-        }
     }
 }
 

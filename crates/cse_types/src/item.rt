@@ -155,7 +155,7 @@ fn text_item_at<'a>(
 }
 
 /// The only subscript, or the fault 44.
-fn sole<'a>(
+pub fn sole<'a>(
     faults: &mut Faults,
     token: usize,
     subscripts: Option<Vec<Number<'a>>>,

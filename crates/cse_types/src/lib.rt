@@ -8,15 +8,19 @@
 //! - `faults`: the fault that is told.
 //! - `judged`, `item`, `set`, `deck`, `call`, `list`: what parts of an expression are found to be.
 //! - `expression`: the walk over expressions.
+//! - `assign`: what a value is put into, and calls that stand alone.
+//! - `head`: the heads of loops.
 //! - `laws`: laws of the definitions.
 #![tactic(auto)]
 
+mod assign;
 mod call;
 mod deck;
 mod error;
 mod expression;
 mod faults;
 mod gaps;
+mod head;
 mod item;
 mod judged;
 mod laws;
@@ -29,7 +33,7 @@ mod scope;
 mod set;
 
 pub use error::TypeError;
-pub use laws::{expressions_are_judged, statements_are_judged};
+pub use laws::{expressions_are_judged, sources_are_judged, statements_are_judged};
 pub use meaning::{Meaning, Routine};
 pub use messages::Messages;
 pub use order::Order;
