@@ -11,3 +11,5 @@ pub mod StatementsComplete
 pub mod NewNames
 pub mod TreeRight
 pub mod TreeComplete
+pub mod Gathering
+pub mod Sizes

@@ -74,3 +74,7 @@ none_there (Some x) h = absurd (false≢true h)
 
 pub not_there : {A : Type 0} (o : Option A) → o ≡ None → not (is_there o) ≡ true
 not_there o h = rw h refl
+
+pub gone : {A : Type 0} (o : Option A) → is_there o ≡ false → o ≡ None
+gone None h = refl
+gone (Some x) h = absurd (false≢true (sym h))

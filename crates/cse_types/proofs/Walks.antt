@@ -26,7 +26,7 @@ flags_are true b y = refl
 flags_are false true y = refl
 flags_are false false y = refl
 
-drop_is : {A : Type 0} (items : List A) (i : ℕ) (x : A) → i < length items → x ≡ get_or items i x → drop i items ≡ x ∷ drop (i + 1) items
+pub drop_is : {A : Type 0} (items : List A) (i : ℕ) (x : A) → i < length items → x ≡ get_or items i x → drop i items ≡ x ∷ drop (i + 1) items
 drop_is items i x lt is =
     let one : suc i ≡ i + 1 = omega arith in
     drop-cons items i x lt ∙ ap (λ y. y ∷ drop (suc i) items) (sym is) ∙ ap (λ n. x ∷ drop n items) one
@@ -47,7 +47,7 @@ step_value f items i x b there xs xs' y all lt is inv e g h =
 pub step_noted : (new old first b there : Bool) (y : Bool) → old ≡ (first || not b) → new ≡ (old || not y) → there ≡ y → new ≡ (first || not (b && there))
 step_noted new old first b there y inv e h = e ∙ ap (λ o. o || not y) inv ∙ flags_are first b y ∙ ap (λ k. first || not (b && k)) (sym h)
 
-past : {A : Type 0} → (xs : List A) (i : ℕ) → length xs ≤ i → drop i xs ≡ []
+pub past : {A : Type 0} → (xs : List A) (i : ℕ) → length xs ≤ i → drop i xs ≡ []
 past [] zero le = refl
 past [] (suc i) le = refl
 past (x ∷ xs) zero le = absurd (omega arith)
@@ -79,7 +79,7 @@ pub there_map : {A B : Type 0} (g : A → B) (y : Option A) → is_there (option
 there_map g None = refl
 there_map g (Some y) = refl
 
-map_more : {A B : Type 0} (g : A → B) (xs : List A) (y : A) → map g (xs ++ y ∷ []) ≡ map g xs ++ g y ∷ []
+pub map_more : {A B : Type 0} (g : A → B) (xs : List A) (y : A) → map g (xs ++ y ∷ []) ≡ map g xs ++ g y ∷ []
 map_more g [] y = refl
 map_more g (x ∷ xs) y = ap (λ ys. g x ∷ ys) (map_more g xs y)
 

@@ -8,3 +8,4 @@ pub mod Walk
 pub mod Judge
 pub mod JudgeStatement
 pub mod JudgeTree
+pub mod Gather

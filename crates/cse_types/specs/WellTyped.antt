@@ -6,7 +6,7 @@
 --   48 placeholders and arguments differ in number     49 a wrong place
 --
 -- Kinds are those of the types: a number and a text are of different types, so that most of 44 is in the tree itself.
-use Rattle.std.specs.Prelude.{◌≡◌, ◌≤◌, ℕ, ◌+◌, ℤ, pos, neg_ℤ, Bool, true, false, ◌&&◌, ◌||◌, not, ◌==◌, nat_eq, if◌then◌else◌, List, [], ◌∷◌, ◌++◌, length, map, find, position, slice_get, unwrap_or, Option, Some, None}
+use Rattle.std.specs.Prelude.{◌≡◌, ◌≤◌, ℕ, ◌+◌, ℤ, pos, neg_ℤ, Bool, true, false, ◌&&◌, ◌||◌, not, ◌==◌, nat_eq, nat_le, if◌then◌else◌, List, [], ◌∷◌, ◌++◌, length, map, find, position, slice_get, unwrap_or, Option, Some, None}
 use Rattle.std.specs.List.{AllByRecursion, IsDistinct}
 use Rattle.std.specs.Option.{option_map, option_map_or, option_and_then}
 use Rattle.std.specs.Map.{lookup}
@@ -304,8 +304,15 @@ rows_of None = None
 rows_of (Some x) = if x.shape.rows == 0 then None else Some x.shape.rows
 
 -- the size that digits write: from 1 to the most
-unfoldable pub size_of : ℕ → Spelling → Option ℕ
-size_of most digits = if is_within 1 most digits.text then Some (number_of digits.text) else None
+unfoldable pub size_in : ℕ → List ℕ → Option ℕ
+size_in most digits = if is_within 1 most digits then Some (number_of digits) else None
+
+-- the same, where it is known that they are digits, and what they write
+abbrev pub size_fit : ℕ → ℕ → Option ℕ
+size_fit most n = if nat_le 1 n && nat_le n most then Some n else None
+
+abbrev pub size_of : ℕ → Spelling → Option ℕ
+size_of most digits = size_in most digits.text
 
 -- a number, or a whole set of a numeric item (40; 41, 42, 44) with rows (49)
 abbrev pub IsDimension : Scope → Dimension → Type 0

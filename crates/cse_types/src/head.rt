@@ -59,7 +59,7 @@ pub fn for_head(
 
 /// A literal with its value.
 #[tactic(auto, unfolding(crate::specs::WellTyped::value_of))]
-fn whole<'a>(faults: &mut Faults, x: Literal<'a>) -> Option<Whole<'a>>
+pub fn whole<'a>(faults: &mut Faults, x: Literal<'a>) -> Option<Whole<'a>>
     ensures value { option_map typed.whole result ≡ spec.whole_judged (syntax.literal x.entry) }
     ensures noted { IsNoted faults.old faults.new (is_there (spec.whole_judged (syntax.literal x.entry))) }
 {

@@ -13,10 +13,12 @@
 //! - `laws`: laws of the definitions.
 #![tactic(auto)]
 
+mod array;
 mod assign;
 mod call;
 mod deck;
 mod error;
+mod facts;
 mod expression;
 mod faults;
 mod gaps;

@@ -123,7 +123,7 @@ fn set_meant(scope: &Scope<'_>, item: u16, set_name: Option<Lexeme<'_>>) -> Opti
     }
 }
 
-fn number_set(
+pub fn number_set(
     scope: &Scope<'_>,
     faults: &mut Faults,
     token: usize,
