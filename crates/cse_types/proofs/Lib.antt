@@ -13,3 +13,7 @@ pub mod TreeRight
 pub mod TreeComplete
 pub mod Gathering
 pub mod Sizes
+pub mod FreshLaws
+pub mod FunctionLaws
+pub mod SetRows
+pub mod DeclarationLaws

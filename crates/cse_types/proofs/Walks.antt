@@ -53,7 +53,7 @@ past [] (suc i) le = refl
 past (x ∷ xs) zero le = absurd (omega arith)
 past (x ∷ xs) (suc i) le = past xs i (omega arith)
 
-append_none : {B : Type 0} (xs : List B) → xs ++ [] ≡ xs
+pub append_none : {B : Type 0} (xs : List B) → xs ++ [] ≡ xs
 append_none [] = refl
 append_none (x ∷ xs) = ap (λ ys. x ∷ ys) (append_none xs)
 

@@ -109,6 +109,13 @@ behind s n (syntax.Alpha digits names) = s
 behind s n (syntax.Array' x) = s
 behind s n (syntax.Function' name parameters body) = behind_function s (function_judged s n name parameters body)
 
+-- the messages of a declaration
+abbrev pub messages_with : syntax.Declaration → List (syntax.Message × Bool)
+messages_with (syntax.Numeric names) = []
+messages_with (syntax.Alpha digits names) = []
+messages_with (syntax.Array' x) = []
+messages_with (syntax.Function' name parameters body) = messages_of body
+
 -- how many messages stand behind a declaration, where so many stand before it
 abbrev pub messages_past : ℕ → syntax.Declaration → ℕ
 messages_past n (syntax.Numeric names) = n

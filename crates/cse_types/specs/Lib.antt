@@ -9,3 +9,5 @@ pub mod Judge
 pub mod JudgeStatement
 pub mod JudgeTree
 pub mod Gather
+pub mod Fresh
+pub mod Told

@@ -1,12 +1,13 @@
 //! Arrays: their sizes, and the cells at the start.
 
-ghost use Rattle.std.specs.Prelude.{◌≡◌, ◌<◌, ◌≤◌, length, map, slice_get, Some, None, IfOk, OnOk, IfSome};
+ghost use Rattle.std.specs.Prelude.{◌≡◌, ◌+◌, ◌<◌, ◌≤◌, length, map, slice_get, Some, None, IfOk, OnOk, IfSome};
 ghost use Rattle.std.specs.Option.{option_map};
 ghost use Rattle.cse_syntax.specs.Tree as syntax;
 ghost use Rattle.cse_syntax.specs.Tree.{written};
 ghost use Rattle.cse_typed.specs.Typed as typed;
 ghost use Rattle.cse_types.specs.Scope.{meant};
 ghost use Rattle.cse_types.specs.WellTyped as well;
+ghost use Rattle.cse_types.specs.JudgeStatement.{whole_judged};
 ghost use Rattle.cse_types.specs.JudgeTree as spec;
 ghost use Rattle.cse_types.specs.Walk.{is_there, joined, IsNoted, IsNotedAfter};
 
@@ -75,8 +76,26 @@ fn set_rows(
     }
 }
 
+#[tactic(auto, using(crate::proofs::SetRows::few_rows))]
 fn rows_with(dictionary: &Dictionary, set: u16, one_more: bool) -> Option<u16>
     ensures { result ≡ option_map (λ rows. rows + well.one_if one_more) (well.rows_of (slice_get dictionary.now.sets set)) }
+{
+    // A dictionary's sets have at most 65,534 rows.
+    let _shape = dictionary.shape();
+    match rows_of(dictionary, set) {
+        None => None,
+        Some(rows) => {
+            if one_more {
+                Some(rows + 1)
+            } else {
+                Some(rows)
+            }
+        }
+    }
+}
+
+fn rows_of(dictionary: &Dictionary, set: u16) -> Option<u16>
+    ensures { result ≡ well.rows_of (slice_get dictionary.now.sets set) }
 {
     match dictionary.shape().sets.get(set as usize) {
         None => None,
@@ -84,8 +103,7 @@ fn rows_with(dictionary: &Dictionary, set: u16, one_more: bool) -> Option<u16>
             if found.rows == 0 {
                 None
             } else {
-                let more = if one_more { 1 } else { 0 };
-                Some(found.rows + more)
+                Some(found.rows)
             }
         }
     }
@@ -114,12 +132,12 @@ fn set_dimension<'a>(
 fn dimension<'a>(
     scope: &Scope<'_>,
     faults: &mut Faults,
-    x: ParsedDimension<'a>,
+    x: &ParsedDimension<'a>,
 ) -> Option<Dimension<'a>>
-    ensures value { option_map typed.dimension result ≡ spec.dimension_judged scope.now (syntax.dimension x.entry) }
-    ensures noted { IsNoted faults.old faults.new (is_there (spec.dimension_judged scope.now (syntax.dimension x.entry))) }
+    ensures value { option_map typed.dimension result ≡ spec.dimension_judged scope.now (syntax.dimension x.now) }
+    ensures noted { IsNoted faults.old faults.new (is_there (spec.dimension_judged scope.now (syntax.dimension x.now))) }
 {
-    match x {
+    match *x {
         ParsedDimension::Number(digits) => match size_of(faults, 65_535, digits) {
             None => None,
             Some(size) => Some(Dimension::Number(digits, size)),
@@ -144,11 +162,19 @@ pub fn dimensions<'a>(
     let mut found = Vec::new(alloc);
     let mut is_sound = true;
     'all: for x in all {
-        let next = dimension(scope, faults, *x);
+        let next = dimension(scope, faults, x);
         let is_there = keep(&mut found, next)?;
         is_sound = both(is_sound, is_there);
     }
     if is_sound { Ok(Some(found)) } else { Ok(None) }
+}
+
+/// A cell at the start.
+fn cell<'a>(faults: &mut Faults, x: &Literal<'a>) -> Option<Whole<'a>>
+    ensures value { option_map typed.whole result ≡ whole_judged (syntax.literal x.now) }
+    ensures noted { IsNoted faults.old faults.new (is_there (whole_judged (syntax.literal x.now))) }
+{
+    whole(faults, *x)
 }
 
 /// The cells at the start, or none where one isn't sound.
@@ -163,7 +189,7 @@ fn cells<'a>(
     let mut found = Vec::new(alloc);
     let mut is_sound = true;
     'all: for x in all {
-        let next = whole(faults, *x);
+        let next = cell(faults, x);
         let is_there = keep(&mut found, next)?;
         is_sound = both(is_sound, is_there);
     }
