@@ -16,7 +16,7 @@ pub no_more : {A : Type 0} (xs : List A) → xs ++ [] ≡ xs
 no_more xs = append_none xs
 
 length_more : {A : Type 0} (xs ys : List A) → length (xs ++ ys) ≡ length xs + length ys
-length_more [] ys = refl
+length_more [] ys = omega arith
 length_more (x ∷ xs) ys = omega (arith, length_more xs ys)
 
 pub told_count : (ts ts' : List Told) (more : List (syntax.Message × Bool)) → map told_of ts' ≡ map told_of ts ++ more → length ts' ≡ length ts + length more

@@ -58,16 +58,20 @@ are_fresh test s (x ∷ xs) = by (is_fresh test s.names x) refl (λ z. are_fresh
   where
     by : (b : Bool) → is_fresh test s.names x ≡ b → ((z : Fresh) → AreFresh test z xs) → AreFresh test s (x ∷ xs)
     by true e ih =
-        let rest = ih (record { names = s.names ++ x ∷ []; is_sound = s.is_sound }) in
+        let z : Fresh = record { names = s.names ++ x ∷ []; is_sound = s.is_sound } in
+        let step : with_fresh test s x ≡ z = ap (λ b. if b then z else record { names = s.names; is_sound = false }) e in
+        let rest = ih z in
         record {
-          sound = rw e rest.sound;
-          names = rw e (λ h. rest.names h ∙ append_assoc s.names (x ∷ []) xs);
+          sound = ap (λ (y : Fresh). (all_after (with_fresh test) y xs).is_sound) step ∙ rest.sound ∙ ap (λ b. s.is_sound && (b && are_new test (s.names ++ x ∷ []) xs)) (sym e);
+          names = λ h. ap (λ (y : Fresh). (all_after (with_fresh test) y xs).names) step ∙ rest.names (sym (ap (λ (y : Fresh). (all_after (with_fresh test) y xs).is_sound) step) ∙ h) ∙ append_assoc s.names (x ∷ []) xs;
         }
     by false e ih =
-        let rest = ih (record { names = s.names; is_sound = false }) in
+        let z : Fresh = record { names = s.names; is_sound = false } in
+        let step : with_fresh test s x ≡ z = ap (λ b. if b then record { names = s.names ++ x ∷ []; is_sound = s.is_sound } else z) e in
+        let rest = ih z in
         record {
-          sound = rw e (rest.sound ∙ sym (and_false s.is_sound));
-          names = rw e (λ h. absurd (false≢true (sym rest.sound ∙ h)));
+          sound = ap (λ (y : Fresh). (all_after (with_fresh test) y xs).is_sound) step ∙ rest.sound ∙ sym (and_false s.is_sound) ∙ ap (λ b. s.is_sound && (b && are_new test (s.names ++ x ∷ []) xs)) (sym e);
+          names = λ h. absurd (false≢true (sym rest.sound ∙ sym (ap (λ (y : Fresh). (all_after (with_fresh test) y xs).is_sound) step) ∙ h));
         }
 
 pub fresh_sound : (test : List ℕ → Bool) (xs : List (List ℕ)) → (fresh_names test xs).is_sound ≡ are_new test [] xs

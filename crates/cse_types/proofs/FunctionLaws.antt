@@ -1,6 +1,6 @@
 -- A function, judged in the scope that its parameters make.
 use Rattle.std.proofs.Common.{◌≡◌, ℕ, Bool, true, false, List, [], ◌∷◌, ◌++◌, length, map, Option, Some, None, refl, sym, ap, ◌∙◌}
-use Rattle.std.specs.Prelude.{◌||◌, not, option_map}
+use Rattle.std.specs.Prelude.{◌||◌, not, option_map, Result, Ok, Err, OnOk}
 use Rattle.cse_syntax.specs.Tree as syntax
 use Rattle.cse_syntax.specs.Tree.{Spelling}
 use Rattle.cse_typed.specs.Typed.{Statements, Function}
@@ -40,3 +40,11 @@ pub function_noted : (s : Scope) (n : ℕ) (name : Spelling) (ps : List syntax.P
 function_noted s n name ps body first mid last h k =
     k ∙ ap (λ m. m || not (is_there (judged s n name ps body))) h ∙ noted_both (function_of s name ps) first (fresh s n name ps body).is_sound (judged s n name ps body)
     ∙ ap (λ o. first || not (is_there o)) (function_is s n name ps body)
+
+pub with_facts : {A B : Type 0} (g : A → Function) (h : Function → B) (o : Option A) → option_map (λ p. h (g p)) o ≡ option_map h (option_map g o)
+with_facts g h None = refl
+with_facts g h (Some p) = refl
+
+pub where_ok : {A E : Type 0} (r : Result A E) (P : Type 0) → P → OnOk r P
+where_ok (Ok x) P p = p
+where_ok (Err e) P p = tt

@@ -17,3 +17,4 @@ pub mod FreshLaws
 pub mod FunctionLaws
 pub mod SetRows
 pub mod DeclarationLaws
+pub mod ProcedureLaws

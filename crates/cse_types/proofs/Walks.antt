@@ -83,7 +83,7 @@ pub map_more : {A B : Type 0} (g : A → B) (xs : List A) (y : A) → map g (xs 
 map_more g [] y = refl
 map_more g (x ∷ xs) y = ap (λ ys. g x ∷ ys) (map_more g xs y)
 
-map_found : {A B : Type 0} (g : A → B) (xs : List A) (y : Option A) → map g (found_more xs y) ≡ found_more (map g xs) (option_map g y)
+pub map_found : {A B : Type 0} (g : A → B) (xs : List A) (y : Option A) → map g (found_more xs y) ≡ found_more (map g xs) (option_map g y)
 map_found g xs None = refl
 map_found g xs (Some y) = map_more g xs y
 

@@ -352,10 +352,13 @@ AreDeclared s n (Function' f ∷ ds) = IsFunction s n f × AreDeclared (with_fun
 -- ---- procedures
 
 -- what a procedure of this name belongs to: an item's is that of an item of a record that isn't opaque
+abbrev pub owner_in : ℕ → ℕ → Option Owner
+owner_in item owner = if owner == 255 then None else Some (o.Item (record { owner = owner; item = item }))
+
 abbrev pub item_owner : ℕ → Option (ItemKind × ℕ) → Option Owner
 item_owner item None = None
 item_owner item (Some (kind.Opaque, owner)) = None
-item_owner item (Some (k, owner)) = if owner == 255 then None else Some (o.Item (record { owner = owner; item = item }))
+item_owner item (Some (k, owner)) = owner_in item owner
 
 abbrev pub owner_meant : DictionaryText → Option Meaning → Option Owner
 owner_meant d (Some m.Application) = Some o.Application

@@ -34,6 +34,7 @@ mod meaning;
 mod messages;
 mod names;
 mod order;
+mod procedure;
 mod scope;
 mod set;
 mod statement;

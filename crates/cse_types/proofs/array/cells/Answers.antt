@@ -36,15 +36,3 @@ returns-clause-noted c =
     let le : length items ≤ c.all.x-index = subst (λ (xs : List Literal). length xs ≤ c.all.x-index) c.deref-x-items.ensures.value c.all-test.false in
     let e = at_end (λ (x : Literal) (rest : List Literal). whole_judged (syntax.literal x)) items c.all.x-index c.all.is_sound (map typed.whole c.all.found.items) _ le c.all.invariant.value in
     c.all.invariant.noted ∙ ap (λ b. is_there c.args.faults.now.worst || not b) (sym (ap is_there (walk_made (λ c. whole_judged c) syntax.literal items) ∙ e.2))
-
-pub all-preserved : goal.all-preserved
-all-preserved c =
-    let items = c.args.all.now.items in
-    let x = c.cell-arg-1.result in
-    let whole = c.deref-x-items.ensures.value in
-    let lt : c.all.x-index < length items = subst (λ (xs : List Literal). c.all.x-index < length xs) whole c.all-test.true in
-    let is : x ≡ get_or items c.all.x-index x = subst (λ (xs : List Literal). x ≡ get_or xs c.all.x-index x) whole c.cell-arg-1.is in
-    record {
-      value = step_made (λ (x : Literal) (rest : List Literal). whole_judged (syntax.literal x)) typed.whole items c.all.x-index x c.all.is_sound _ c.in_ok-is_there.is_there c.all.found.items _ c.cell-next.result _ lt is c.all.invariant.value c.cell-next.ensures.value c.in_ok-is_there.ensures.found c.in_ok-is_there.ensures.there c.both-is_sound.ensures;
-      noted = step_noted_made typed.whole _ _ _ c.all.is_sound _ c.in_ok-is_there.is_there c.cell-next.result _ c.all.invariant.noted c.cell-next.ensures.noted c.cell-next.ensures.value c.in_ok-is_there.ensures.there c.both-is_sound.ensures;
-    }

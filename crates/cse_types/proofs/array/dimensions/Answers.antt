@@ -39,16 +39,3 @@ returns-clause-noted c =
     let le : length items ≤ c.all.x-index = subst (λ (xs : List Dimension). length xs ≤ c.all.x-index) c.deref-x-items.ensures.value c.all-test.false in
     let e = at_end (λ (x : Dimension) (rest : List Dimension). spec.dimension_judged s (syntax.dimension x)) items c.all.x-index c.all.is_sound (map typed.dimension c.all.found.items) _ le c.all.invariant.value in
     c.all.invariant.noted ∙ ap (λ b. is_there c.args.faults.now.worst || not b) (sym (ap is_there (walk_made (λ d. spec.dimension_judged s d) syntax.dimension items) ∙ e.2))
-
-pub all-preserved : goal.all-preserved
-all-preserved c =
-    let s = c.args.scope.now in
-    let items = c.args.all.now.items in
-    let x = c.dimension-arg-1.result in
-    let whole = c.deref-x-items.ensures.value in
-    let lt : c.all.x-index < length items = subst (λ (xs : List Dimension). c.all.x-index < length xs) whole c.all-test.true in
-    let is : x ≡ get_or items c.all.x-index x = subst (λ (xs : List Dimension). x ≡ get_or xs c.all.x-index x) whole c.dimension-arg-1.is in
-    record {
-      value = step_made (λ (x : Dimension) (rest : List Dimension). spec.dimension_judged s (syntax.dimension x)) typed.dimension items c.all.x-index x c.all.is_sound _ c.in_ok-is_there.is_there c.all.found.items _ c.dimension-next.result _ lt is c.all.invariant.value c.dimension-next.ensures.value c.in_ok-is_there.ensures.found c.in_ok-is_there.ensures.there c.both-is_sound.ensures;
-      noted = step_noted_made typed.dimension _ _ _ c.all.is_sound _ c.in_ok-is_there.is_there c.dimension-next.result _ c.all.invariant.noted c.dimension-next.ensures.noted c.dimension-next.ensures.value c.in_ok-is_there.ensures.there c.both-is_sound.ensures;
-    }

@@ -26,3 +26,71 @@ all-preserved c =
       noted = step_noted_made typed.declaration _ _ _ c.all.is_sound _ c.in_ok-is_there.is_there c.in_ok-next.next _ c.all.invariant.noted e.noted e.value c.in_ok-is_there.ensures.there c.both-is_sound.ensures;
       told = told_turn items c.all.x-index x lt is c.all.told.items _ _ e.told c.all.invariant.told;
     }
+
+pub returns-then-is_sound-clause-value : goal.returns-then-is_sound-clause-value
+returns-then-is_sound-clause-value c =
+    let items = c.args.all.now.items in
+    let le : length items ≤ c.all.x-index = subst (λ (xs : List Declaration). length xs ≤ c.all.x-index) c.deref-x-items.ensures.value c.all-test.false in
+    let none = ap (map syntax.declaration) (past items c.all.x-index le) in
+    let n = length c.all.told.items in
+    let e = made_end typed.declaration c.all.is_sound c.all.found.items _ _ (ap (spec.declarations_judged c.all.scope n) none) c.all.invariant.value in
+    sym (e.0 c.if-is_sound.true)
+
+pub returns-then-is_sound-clause-noted : goal.returns-then-is_sound-clause-noted
+returns-then-is_sound-clause-noted c =
+    let items = c.args.all.now.items in
+    let le : length items ≤ c.all.x-index = subst (λ (xs : List Declaration). length xs ≤ c.all.x-index) c.deref-x-items.ensures.value c.all-test.false in
+    let none = ap (map syntax.declaration) (past items c.all.x-index le) in
+    let n = length c.all.told.items in
+    let e = made_end typed.declaration c.all.is_sound c.all.found.items _ _ (ap (spec.declarations_judged c.all.scope n) none) c.all.invariant.value in
+    c.all.invariant.noted ∙ ap (λ b. is_there c.args.faults.now.worst || not b) (sym e.2)
+
+pub returns-then-is_sound-clause-told : goal.returns-then-is_sound-clause-told
+returns-then-is_sound-clause-told c =
+    let items = c.args.all.now.items in
+    let le : length items ≤ c.all.x-index = subst (λ (xs : List Declaration). length xs ≤ c.all.x-index) c.deref-x-items.ensures.value c.all-test.false in
+    let none = ap (map syntax.declaration) (past items c.all.x-index le) in
+    let n = length c.all.told.items in
+    sym (no_more (map told_of c.all.told.items)) ∙ ap (λ ds. map told_of c.all.told.items ++ declared_messages ds) (sym none) ∙ c.all.invariant.told
+
+pub returns-then-is_sound-clause-behind : goal.returns-then-is_sound-clause-behind
+returns-then-is_sound-clause-behind c =
+    let items = c.args.all.now.items in
+    let le : length items ≤ c.all.x-index = subst (λ (xs : List Declaration). length xs ≤ c.all.x-index) c.deref-x-items.ensures.value c.all-test.false in
+    let none = ap (map syntax.declaration) (past items c.all.x-index le) in
+    let n = length c.all.told.items in
+    sym (ap (spec.behind_all c.all.scope n) none) ∙ c.all.invariant.behind
+
+pub returns-clause-value : goal.returns-clause-value
+returns-clause-value c =
+    let items = c.args.all.now.items in
+    let le : length items ≤ c.all.x-index = subst (λ (xs : List Declaration). length xs ≤ c.all.x-index) c.deref-x-items.ensures.value c.all-test.false in
+    let none = ap (map syntax.declaration) (past items c.all.x-index le) in
+    let n = length c.all.told.items in
+    let e = made_end typed.declaration c.all.is_sound c.all.found.items _ _ (ap (spec.declarations_judged c.all.scope n) none) c.all.invariant.value in
+    sym (e.1 c.if-is_sound.false)
+
+pub returns-clause-noted : goal.returns-clause-noted
+returns-clause-noted c =
+    let items = c.args.all.now.items in
+    let le : length items ≤ c.all.x-index = subst (λ (xs : List Declaration). length xs ≤ c.all.x-index) c.deref-x-items.ensures.value c.all-test.false in
+    let none = ap (map syntax.declaration) (past items c.all.x-index le) in
+    let n = length c.all.told.items in
+    let e = made_end typed.declaration c.all.is_sound c.all.found.items _ _ (ap (spec.declarations_judged c.all.scope n) none) c.all.invariant.value in
+    c.all.invariant.noted ∙ ap (λ b. is_there c.args.faults.now.worst || not b) (sym e.2)
+
+pub returns-clause-told : goal.returns-clause-told
+returns-clause-told c =
+    let items = c.args.all.now.items in
+    let le : length items ≤ c.all.x-index = subst (λ (xs : List Declaration). length xs ≤ c.all.x-index) c.deref-x-items.ensures.value c.all-test.false in
+    let none = ap (map syntax.declaration) (past items c.all.x-index le) in
+    let n = length c.all.told.items in
+    sym (no_more (map told_of c.all.told.items)) ∙ ap (λ ds. map told_of c.all.told.items ++ declared_messages ds) (sym none) ∙ c.all.invariant.told
+
+pub returns-clause-behind : goal.returns-clause-behind
+returns-clause-behind c =
+    let items = c.args.all.now.items in
+    let le : length items ≤ c.all.x-index = subst (λ (xs : List Declaration). length xs ≤ c.all.x-index) c.deref-x-items.ensures.value c.all-test.false in
+    let none = ap (map syntax.declaration) (past items c.all.x-index le) in
+    let n = length c.all.told.items in
+    sym (ap (spec.behind_all c.all.scope n) none) ∙ c.all.invariant.behind
