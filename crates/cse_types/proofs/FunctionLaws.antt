@@ -14,10 +14,10 @@ use Rattle.cse_types.specs.Walk.{is_there, only_if}
 use Rattle.cse_types.proofs.FreshLaws.{fresh_sound, fresh_are}
 
 module _ (s : Scope) (n : ℕ) (name : Spelling) (ps : List syntax.Parameter) (body : syntax.Stmts) where
-  pub fresh : Fresh
+  abbrev pub fresh : Fresh
   fresh = fresh_names (is_new s.dictionary s.declared) (parameter_names ps)
 
-  pub judged : Option Statements
+  abbrev pub judged : Option Statements
   judged = judge_block (body_scope s fresh.names) n body
 
   same_judged : (b : Bool) → fresh.is_sound ≡ b → only_if b (option_map (function_of s name ps) judged) ≡ only_if b (option_map (function_of s name ps) (judge_block (body_scope s (parameter_names ps)) n body))
