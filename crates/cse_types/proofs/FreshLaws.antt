@@ -108,3 +108,7 @@ fresh_noted test s s' x first old new e inv h = by (is_fresh test s.names x) ref
         or_true : (b : Bool) → (b || true) ≡ true
         or_true true = refl
         or_true false = refl
+
+pub parameter_turn : (test : List ℕ → Bool) (items : List Parameter) (i : ℕ) (x : Parameter) (s s' total : Fresh) → i < length items → x ≡ get_or items i x → all_after (with_parameter test) s (drop i items) ≡ total → s' ≡ with_fresh test s (kept_name x.name.text.now)
+    → all_after (with_parameter test) s' (drop (i + 1) items) ≡ total
+parameter_turn test items i x s s' total lt is inv e = after_turn (with_parameter test) items i x lt is s s' total inv e

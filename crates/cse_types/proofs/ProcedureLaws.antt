@@ -36,7 +36,7 @@ module _ (items : List rust.Procedure) (i : ℕ) (x : rust.Procedure) (lt : i < 
 
 -- a fault was noted unless both parts are there
 pub noted_joined : {A B C : Type 0} (g : A → B → C) (a : Option A) (b : Option B) (first mid last : Bool) → mid ≡ (first || not (is_there a)) → last ≡ (mid || not (is_there b)) → last ≡ (first || not (is_there (joined g a b)))
-noted_joined g a b first mid last h k = k ∙ ap (λ m. m || not (is_there b)) h ∙ by a b first
+noted_joined {A = A} {B = B} g a b first mid last h k = k ∙ ap (λ m. m || not (is_there b)) h ∙ by a b first
   where
     by : (a : Option A) (b : Option B) (first : Bool) → ((first || not (is_there a)) || not (is_there b)) ≡ (first || not (is_there (joined g a b)))
     by a b true = refl

@@ -50,7 +50,7 @@ fn parameter(
 }
 
 /// The names of parameters: each is new.
-#[tactic(auto, using(crate::proofs::FreshLaws::after_turn, crate::proofs::FreshLaws::fresh_noted))]
+#[tactic(auto, using(crate::proofs::FreshLaws::parameter_turn, crate::proofs::FreshLaws::fresh_noted))]
 fn parameters(
     alloc: Global,
     scope: &Scope<'_>,
