@@ -1,5 +1,5 @@
 -- Names that are taken one after the other: whether all were new, and that they are the names then.
-use Rattle.std.proofs.Common.{◌≡◌, ℕ, ◌+◌, ◌<◌, ◌≤◌, Bool, true, false, List, [], ◌∷◌, ◌++◌, length, map, drop, get_or, Option, Some, None, refl, sym, ap, ◌∙◌, append_assoc}
+use Rattle.std.proofs.Common.{◌≡◌, ℕ, ◌+◌, ◌<◌, ◌≤◌, Bool, true, false, List, [], ◌∷◌, ◌++◌, length, map, drop, get_or, Option, Some, None, refl, sym, ap, ◌∙◌, append_assoc, arith, suc, drop-cons}
 use Rattle.std.specs.Prelude.{◌&&◌, ◌||◌, not, if◌then◌else◌, nat_le, option_map}
 use Rattle.std.specs.List.{list_any}
 use Rattle.std.specs.Str.{bytes_eq}
@@ -112,3 +112,10 @@ fresh_noted test s s' x first old new e inv h = by (is_fresh test s.names x) ref
 pub parameter_turn : (test : List ℕ → Bool) (items : List Parameter) (i : ℕ) (x : Parameter) (s s' total : Fresh) → i < length items → x ≡ get_or items i x → all_after (with_parameter test) s (drop i items) ≡ total → s' ≡ with_fresh test s (kept_name x.name.text.now)
     → all_after (with_parameter test) s' (drop (i + 1) items) ≡ total
 parameter_turn test items i x s s' total lt is inv e = after_turn (with_parameter test) items i x lt is s s' total inv e
+
+pub parameter_at : (test : List ℕ → Bool) (items : List Parameter) (i : ℕ) (d : Parameter) (s s' total : Fresh) → i < length items → all_after (with_parameter test) s (drop i items) ≡ total → s' ≡ with_fresh test s (kept_name (get_or items i d).name.text.now)
+    → all_after (with_parameter test) s' (drop (i + 1) items) ≡ total
+parameter_at test items i d s s' total lt inv e =
+    let one : suc i ≡ i + 1 = omega arith in
+    let next : drop i items ≡ get_or items i d ∷ drop (i + 1) items = drop-cons items i d lt ∙ ap (λ n. get_or items i d ∷ drop n items) one in
+    ap (λ z. all_after (with_parameter test) z (drop (i + 1) items)) e ∙ ap (all_after (with_parameter test) s) (sym next) ∙ inv
