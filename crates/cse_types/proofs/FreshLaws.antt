@@ -39,6 +39,14 @@ after_turn step items i x lt is s s' total inv e =
 pub after_end : {S A : Type 0} (step : S → A → S) (items : List A) (i : ℕ) → length items ≤ i → (s total : S) → all_after step s (drop i items) ≡ total → s ≡ total
 after_end step items i le s total inv = ap (all_after step s) (sym (past items i le)) ∙ inv
 
+-- the same, where the member is copied
+pub after_at : {S A : Type 0} (step : S → A → S) (items : List A) (i : ℕ) (d : A) (s s' total : S) → i < length items → all_after step s (drop i items) ≡ total → s' ≡ step s (get_or items i d)
+    → all_after step s' (drop (i + 1) items) ≡ total
+after_at step items i d s s' total lt inv e =
+    let one : suc i ≡ i + 1 = omega arith in
+    let next : drop i items ≡ get_or items i d ∷ drop (i + 1) items = drop-cons items i d lt ∙ ap (λ n. get_or items i d ∷ drop n items) one in
+    ap (λ z. all_after step z (drop (i + 1) items)) e ∙ ap (all_after step s) (sym next) ∙ inv
+
 -- what is known behind names
 record AreFresh (test : List ℕ → Bool) (s : Fresh) (xs : List (List ℕ)) : Type 0 where
   sound : (all_after (with_fresh test) s xs).is_sound ≡ (s.is_sound && are_new test s.names xs)

@@ -18,3 +18,10 @@ pub mod FunctionLaws
 pub mod SetRows
 pub mod DeclarationLaws
 pub mod ProcedureLaws
+pub mod Numbers
+pub mod TableLaws
+pub mod OwnerLaws
+pub mod ArrayLaws
+pub mod EntryLaws
+pub mod SaidLaws
+pub mod CheckLaws

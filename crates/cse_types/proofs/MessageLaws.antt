@@ -1,6 +1,7 @@
 -- Messages as the entries of a map.
 use Rattle.std.proofs.Common.{◌≡◌, ◌∙◌, ℕ, Bool, true, false, cond, List, [], ◌∷◌, ◌++◌, map, refl, sym, ap, Option, Some, is_some}
-use Rattle.std.specs.Prelude.{if◌then◌else◌, nat_eq, ◌||◌}
+use Rattle.std.specs.Prelude.{if◌then◌else◌, find, nat_eq, ◌||◌, option_map}
+use Rattle.std.proofs.lemmas.Bool.{eqb-true}
 use Rattle.std.specs.List.{list_any}
 use Rattle.std.specs.Map.{lookup, keys_of}
 use Rattle.cse_types.specs.MessageFile.{MessageText, with_message}
@@ -38,3 +39,13 @@ module _ (found : List MessageText) (m : MessageText) where
 pub told_more : {X : Type 0} (f : X → List ℕ) (es : List (ℕ × X)) (n : ℕ) (x : X) → told f (es ++ (n, x) ∷ []) ≡ told f es ++ made n (f x) ∷ []
 told_more f [] n x = refl
 told_more f (e ∷ es) n x = ap (λ ms. message f e ∷ ms) (told_more f es n x)
+
+-- the first message of a number
+pub find_told : {X : Type 0} (f : X → List ℕ) (n : ℕ) (es : List (ℕ × X)) → find (λ (x : MessageText). nat_eq n x.number) (told f es) ≡ option_map (λ x. made n (f x)) (lookup (nat_eq n) es)
+find_told f n [] = refl
+find_told f n (e ∷ es) = by (find_told f n es) (nat_eq n e.0) refl
+  where
+    by : find (λ (x : MessageText). nat_eq n x.number) (told f es) ≡ option_map (λ x. made n (f x)) (lookup (nat_eq n) es) → (v : Bool) → nat_eq n e.0 ≡ v
+        → find (λ (x : MessageText). nat_eq n x.number) (message f e ∷ told f es) ≡ option_map (λ x. made n (f x)) (lookup (nat_eq n) (e ∷ es))
+    by rest true is = rw is (ap (λ k. Some (made k (f e.1))) (sym (eqb-true n e.0 is)))
+    by rest false is = rw is rest

@@ -1,5 +1,5 @@
 -- What a statement of syntax is as a typed one, and where it is none: the tool that the checker follows.
-use Rattle.std.specs.Prelude.{ℕ, ◌+◌, ℤ, Bool, true, false, ◌&&◌, ◌==◌, if◌then◌else◌, List, [], ◌∷◌, length, slice_get, Option, Some, None}
+use Rattle.std.specs.Prelude.{ℕ, ◌+◌, ℤ, Bool, true, false, ◌&&◌, ◌==◌, if◌then◌else◌, nat_le, List, [], ◌∷◌, length, slice_get, Option, Some, None}
 use Rattle.std.specs.Option.{option_map}
 use Rattle.cse_value.specs.declared.shape.ItemKind.{ItemKind}
 use Rattle.cse_value.specs.declared.shape.ItemKind.TheVariants as kind
@@ -130,6 +130,10 @@ in_do s None = s
 in_do s (Some x) = within s None x.variable
 
 -- ---- messages
+
+-- a number that a message may have
+abbrev pub ranged : ℕ → Option ℕ
+ranged n = if nat_le 1 n && nat_le n 999999999 then Some n else None
 
 abbrev pub as_argument : Judged → Option Argument
 as_argument (AsNumber x) = option_map OfNumber x

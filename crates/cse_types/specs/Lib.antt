@@ -11,3 +11,7 @@ pub mod JudgeTree
 pub mod Gather
 pub mod Fresh
 pub mod Told
+pub mod Table
+pub mod Entries
+pub mod Checked
+pub mod Parts

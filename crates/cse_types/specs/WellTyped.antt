@@ -202,10 +202,18 @@ abbrev mutual
   messages_behind (syntax.else_of body) = messages_of body
   messages_behind (syntax.arm condition body others) = messages_of body ++ messages_behind others
 
+-- the number of a message that digits write, from 1 to 999,999,999
+abbrev pub message_number : List ℕ → Option ℕ
+message_number digits = if is_within 1 999999999 digits then Some (number_of digits) else None
+
+abbrev pub numbered : List MessageText → Option ℕ → Option MessageText
+numbered messages None = None
+numbered messages (Some n) = find (λ (x : MessageText). nat_eq n x.number) messages
+
 -- the number and the text of a message: 0 for a text of its own; none for an unknown number
 abbrev pub message_meant : List MessageText → syntax.Message → Option MessageText
 message_meant messages (syntax.Own text) = Some (record { number = 0; text = text_of text.text })
-message_meant messages (syntax.Numbered digits) = find (λ (x : MessageText). nat_eq (number_of digits.text) x.number) messages
+message_meant messages (syntax.Numbered digits) = numbered messages (message_number digits.text)
 
 -- the kinds of the values that a message wants
 abbrev pub kinds_of : List MessageText → syntax.Message → Option (List ArgumentKind)

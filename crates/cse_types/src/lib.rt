@@ -14,13 +14,16 @@
 #![tactic(auto)]
 
 mod array;
+mod arrays;
 mod assign;
 mod call;
+mod check;
 mod deck;
 mod declaration;
+mod entries;
 mod error;
-mod facts;
 mod expression;
+mod facts;
 mod faults;
 mod gaps;
 mod fresh;
@@ -34,12 +37,16 @@ mod meaning;
 mod messages;
 mod names;
 mod order;
+mod owners;
+mod parts;
 mod procedure;
 mod scope;
 mod set;
 mod statement;
+mod table;
 mod told;
 
+pub use check::{Typed, check};
 pub use error::TypeError;
 pub use laws::{expressions_are_judged, sources_are_judged, statements_are_judged};
 pub use meaning::{Meaning, Routine};

@@ -1,7 +1,7 @@
 //! A message file: lines `number text`, among empty lines and comments (own; CSPro Users Guide, message
 //! files).
 
-ghost use Rattle.std.specs.Prelude.{◌≡◌, ◌<◌, ◌≤◌, List, nat_eq, length, map, position, slice_get, Some, true, false, OnOk, MatchOption};
+ghost use Rattle.std.specs.Prelude.{◌≡◌, ◌<◌, ◌≤◌, List, nat_eq, find, length, map, position, slice_get, Some, true, false, OnOk, MatchOption};
 ghost use Rattle.std.specs.Option.{option_map};
 ghost use Rattle.std.specs.String.{string_bytes};
 ghost use Rattle.cse_sections.specs.Sections.{lines_of};
@@ -168,6 +168,16 @@ impl Messages {
         ensures { result ≡ position (nat_eq number) (map (λ (m : MessageText). m.number) self.now) }
     {
         self.table.get_index_of(&number)
+    }
+
+    /// The text of the message of this number.
+    pub fn get(&self, number: u32) -> Option<&str>
+        ensures { option_map (λ t. record { number = number; text = t.now }) result ≡ find (λ (m : MessageText). nat_eq number m.number) self.now }
+    {
+        match self.table.get(&number) {
+            None => None,
+            Some(text) => Some(text.as_str()),
+        }
     }
 
     /// The number of the message at a place.

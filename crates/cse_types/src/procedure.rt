@@ -1,6 +1,6 @@
 //! Procedures, one after the other.
 
-ghost use Rattle.std.specs.Prelude.{◌≡◌, ◌++◌, ◌==◌, if◌then◌else◌, map, length, Some, None, IfOk, OnOk};
+ghost use Rattle.std.specs.Prelude.{◌≡◌, ◌≤◌, ◌++◌, ◌==◌, if◌then◌else◌, map, length, Some, None, IfOk, OnOk};
 ghost use Rattle.std.specs.Option.{option_map};
 ghost use Rattle.cse_syntax.specs.Tree as syntax;
 ghost use Rattle.cse_syntax.specs.Tree.{written};
@@ -10,7 +10,7 @@ ghost use Rattle.cse_types.specs.WellTyped as well;
 ghost use Rattle.cse_types.specs.WellTyped.{body_messages, procedure_messages, procedure_scope};
 ghost use Rattle.cse_types.specs.JudgeTree as spec;
 ghost use Rattle.cse_types.specs.Told.{told_of};
-ghost use Rattle.cse_types.specs.Walk.{is_there, joined, IsNoted};
+ghost use Rattle.cse_types.specs.Walk.{is_there, joined, found_more, IsNoted};
 
 use crate::faults::Faults;
 use crate::list::{both, keep};
@@ -64,7 +64,10 @@ fn owner_meant(dictionary: &Dictionary, meaning: Option<Meaning>) -> Option<Owne
 }
 
 /// The fault of a name that no procedure can have: 41 of an opaque item, 49 of an id item, else 40.
-fn owner_fault(dictionary: &Dictionary, meaning: Option<Meaning>) -> u8 {
+fn owner_fault(dictionary: &Dictionary, meaning: Option<Meaning>) -> u8
+    ensures least { 40 ≤ result }
+    ensures most { result ≤ 49 }
+{
     match meaning {
         Some(Meaning::Item(item)) => match kind_and_owner(dictionary, item) {
             Some((ItemKind::Opaque, _)) => 41,
@@ -247,6 +250,26 @@ fn procedure<'a>(
     }
 }
 
+/// One procedure more, and whether it is sound.
+#[tactic(auto, using(crate::proofs::ProcedureLaws::kept_made, crate::proofs::ProcedureLaws::made_there))]
+fn one_more<'a>(
+    alloc: Global,
+    scope: &mut Scope<'_>,
+    faults: &mut Faults,
+    told: &mut Vec<Told<'a>>,
+    found: &mut Vec<Procedure<'a>>,
+    x: &Parsed<'a>,
+) -> Result<bool, AllocError>
+    ensures found { OnOk result (map typed.procedure found.new.items ≡ found_more (map typed.procedure found.old.items) (spec.procedure_judged scope.old (length told.old.items) (syntax.procedure x.now))) }
+    ensures there { IfOk result (λ b. b ≡ is_there (spec.procedure_judged scope.old (length told.old.items) (syntax.procedure x.now))) }
+    ensures noted { OnOk result (IsNoted faults.old faults.new (is_there (spec.procedure_judged scope.old (length told.old.items) (syntax.procedure x.now)))) }
+    ensures told { OnOk result (map told_of told.new.items ≡ map told_of told.old.items ++ body_messages (syntax.body_tree x.now.body)) }
+    ensures same { OnOk result (scope.new ≡ scope.old) }
+{
+    let next = procedure(alloc, scope, faults, told, x)?;
+    keep(found, next)
+}
+
 /// Procedures, or none where one isn't sound.
 pub fn procedures<'a>(
     alloc: Global,
@@ -263,8 +286,7 @@ pub fn procedures<'a>(
     let mut found = Vec::new(alloc);
     let mut is_sound = true;
     'all: for x in all {
-        let next = procedure(alloc, scope, faults, told, x)?;
-        let is_there = keep(&mut found, next)?;
+        let is_there = one_more(alloc, scope, faults, told, &mut found, x)?;
         is_sound = both(is_sound, is_there);
     }
     if is_sound { Ok(Some(found)) } else { Ok(None) }

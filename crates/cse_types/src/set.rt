@@ -51,7 +51,10 @@ fn set_kind(dictionary: &Dictionary, set: u16) -> Option<ItemKind>
 }
 
 /// The number of the fault of a set that isn't whole: 41 where it is an opaque item's.
-fn partial_fault(dictionary: &Dictionary, set: u16) -> u8 {
+fn partial_fault(dictionary: &Dictionary, set: u16) -> u8
+    ensures least { 40 ≤ result }
+    ensures most { result ≤ 49 }
+{
     let Some(set) = dictionary.shape().sets.get(set as usize) else {
         return 42;
     };

@@ -7,9 +7,9 @@ use Rattle.cse_types.specs.WellTyped.{procedure_messages}
 use Rattle.cse_types.specs.JudgeTree as spec
 use Rattle.cse_types.specs.Told.{told_of}
 use Rattle.cse_types.specs.Walk.{is_there}
-use Rattle.cse_types.proofs.Walks.{past, step_noted_made}
-use Rattle.cse_types.proofs.DeclarationLaws.{no_more, made_turn, made_end}
-use Rattle.cse_types.proofs.ProcedureLaws.{procedures_head, procedures_told}
+use Rattle.cse_types.proofs.Walks.{past}
+use Rattle.cse_types.proofs.DeclarationLaws.{no_more, made_end}
+use Rattle.cse_types.proofs.ProcedureLaws.{procedures_head, procedures_told, judged_turn, judged_noted}
 use Rattle.cse_types.proofs.procedure.procedures.Goals as goal
 
 pub all-preserved : goal.all-preserved
@@ -19,12 +19,12 @@ all-preserved c =
     let whole = c.deref-x-items.ensures.value in
     let lt : c.all.x-index < length items = subst (λ (xs : List Procedure). c.all.x-index < length xs) whole c.all-test.true in
     let is : x ≡ get_or items c.all.x-index x = subst (λ (xs : List Procedure). x ≡ get_or xs c.all.x-index x) whole c.x-item.is in
-    let e = c.in_ok-next.ensures in
+    let e = c.in_ok-is_there.ensures in
     record {
-      value = made_turn typed.procedure c.all.is_sound _ c.in_ok-is_there.is_there c.all.found.items _ c.in_ok-next.next _ _ _ _ c.all.invariant.value
-          (procedures_head items c.all.x-index x lt is c.all.scope _ c.all.told.items _ e.same e.told) e.value c.in_ok-is_there.ensures.found c.in_ok-is_there.ensures.there c.both-is_sound.ensures;
+      value = judged_turn typed.procedure c.all.is_sound _ c.in_ok-is_there.is_there c.all.found.items _ _ _ _ _ c.all.invariant.value
+          (procedures_head items c.all.x-index x lt is c.all.scope _ c.all.told.items _ e.same e.told) e.found e.there c.both-is_sound.ensures;
       same = e.same ∙ c.all.invariant.same;
-      noted = step_noted_made typed.procedure _ _ _ c.all.is_sound _ c.in_ok-is_there.is_there c.in_ok-next.next _ c.all.invariant.noted e.noted e.value c.in_ok-is_there.ensures.there c.both-is_sound.ensures;
+      noted = judged_noted _ _ _ c.all.is_sound _ c.in_ok-is_there.is_there _ c.all.invariant.noted e.noted e.there c.both-is_sound.ensures;
       told = procedures_told items c.all.x-index x lt is c.all.told.items _ _ e.told c.all.invariant.told;
     }
 

@@ -1,0 +1,145 @@
+//! Sources that are checked: each name stands beside what it names, and each rule of 40 to 49 is kept.
+
+ghost use Rattle.std.specs.Prelude.{◌≡◌, ◌≤◌, ◌⊎◌, false, true, IfOk, IfErr};
+ghost use Rattle.cse_syntax.specs.Tree as syntax;
+ghost use Rattle.cse_syntax.specs.Place as place;
+ghost use Rattle.cse_typed.specs.Typed as typed;
+ghost use Rattle.cse_typed.specs.Typed.{Tree};
+ghost use Rattle.cse_types.specs.Checked.{IsAnswer, IsChecked, IsOrderOf, Checked};
+ghost use Rattle.cse_types.specs.Fault.{out_of_memory};
+ghost use Rattle.cse_types.specs.WellTyped.{IsTypedAs};
+
+use crate::error::TypeError;
+use crate::faults::{Fault, Faults};
+use crate::messages::Messages;
+use crate::order::Order;
+use crate::parts::judged;
+use cse_dict::Dictionary;
+use cse_syntax::Source;
+use cse_typed::Tree;
+use std::alloc::Global;
+use std::marker::Model;
+
+/// A source that was checked: its typed tree, and what it was made for. [`check`] alone makes one.
+#[derive(Drop)]
+pub struct Typed<'a> {
+    dictionary: &'a Dictionary,
+    messages: &'a Messages,
+    order: &'a Order,
+    tree: Tree<'a>,
+}
+
+impl<'a> Model for Typed<'a> {
+    ghost Value = { Checked };
+
+    ghost view = { λ t. record { dictionary = t.dictionary.now; messages = t.messages.now; order = t.order.now; typed = typed.tree t.tree } };
+
+    ghost invariant = { λ t. IsChecked (record { dictionary = t.dictionary.now; messages = t.messages.now; order = t.order.now; typed = typed.tree t.tree }) };
+}
+
+impl<'a> Typed<'a> {
+    /// The dictionary that it was made for.
+    pub fn dictionary(&self) -> &Dictionary
+        ensures { result.now ≡ self.now.dictionary }
+    {
+        self.dictionary
+    }
+
+    /// The messages of the message file.
+    pub fn messages(&self) -> &Messages
+        ensures { result.now ≡ self.now.messages }
+    {
+        self.messages
+    }
+
+    /// The records of the order file.
+    pub fn order(&self) -> &Order
+        ensures { result.now ≡ self.now.order }
+    {
+        self.order
+    }
+
+    /// The typed tree, in which each rule of 40 to 49 is kept.
+    pub fn tree(&self) -> &Tree<'a>
+        ensures tree { typed.tree result.now ≡ self.now.typed }
+        ensures checked { IsChecked self.now }
+    {
+        &self.tree
+    }
+}
+
+/// Want of memory has no place.
+fn memory() -> TypeError
+    ensures { result ≡ out_of_memory }
+{
+    TypeError {
+        number: 90,
+        line: 0,
+        column: 0,
+    }
+}
+
+/// A fault with its line and column.
+fn located(source: &Source<'_>, fault: Fault) -> TypeError
+    ensures least { 40 ≤ result.number }
+    ensures most { result.number ≤ 49 }
+    ensures line { result.line ≡ place.cut (place.line_of source.now.text.now (place.start_of source.now.text.now source.now.tokens.items fault.token)) }
+    ensures column { result.column ≡ place.cut (place.column_of source.now.text.now (place.start_of source.now.text.now source.now.tokens.items fault.token)) }
+{
+    let at = source.position(fault.token);
+    TypeError {
+        number: fault.number,
+        line: u64::from(at.line),
+        column: u64::from(at.column),
+    }
+}
+
+/// What was found, for whom it was made.
+fn checked<'a>(
+    dictionary: &'a Dictionary,
+    messages: &'a Messages,
+    order: &'a Order,
+    tree: Tree<'a>,
+) -> Typed<'a>
+    requires { IsChecked (record { dictionary = dictionary.now; messages = messages.now; order = order.now; typed = typed.tree tree.entry }) }
+    ensures { result ≡ record { dictionary = dictionary.now; messages = messages.now; order = order.now; typed = typed.tree tree.entry } }
+{
+    Typed {
+        dictionary,
+        messages,
+        order,
+        tree,
+    }
+}
+
+/// The typed tree of a source, for a dictionary, the messages of a message file and the records of an order file.
+///
+/// A source that keeps each rule has one typed tree, and that is the answer. Else the fault with the least token, and of
+/// these the one with the least number (40 to 49, see [`TypeError`]), with its line and column; or want of memory (90).
+pub fn check<'a>(
+    alloc: Global,
+    dictionary: &'a Dictionary,
+    source: &Source<'a>,
+    messages: &'a Messages,
+    order: &'a Order,
+) -> Result<Typed<'a>, TypeError>
+    requires { IsOrderOf dictionary.now order.now }
+    // The tree is that of the source, and keeps each rule.
+    ensures typed { IfOk result (λ t. IsTypedAs dictionary.now messages.now (syntax.tree source.now.tree) t.typed) }
+    ensures made_for { IfOk result (λ t. (t.dictionary ≡ dictionary.now) × (t.messages ≡ messages.now) × (t.order ≡ order.now)) }
+    // Where there is such a tree, it is the answer, unless memory runs out.
+    ensures only { (t : Tree) → IsTypedAs dictionary.now messages.now (syntax.tree source.now.tree) t → IsAnswer result t }
+    ensures cause { IfErr result (λ e. ((40 ≤ e.number) × (e.number ≤ 49)) ⊎ (e ≡ out_of_memory)) }
+{
+    let mut faults = Faults { worst: None };
+    let Ok(found) = judged(alloc, dictionary, messages, &mut faults, &source.tree) else {
+        return Err(memory());
+    };
+    match faults.worst {
+        Some(fault) => Err(located(source, fault)),
+        None => match found {
+            Some(tree) => Ok(checked(dictionary, messages, order, tree)),
+            None => unreachable!(),
+        },
+    }
+}
