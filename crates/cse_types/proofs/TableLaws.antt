@@ -20,6 +20,7 @@ use Rattle.cse_types.specs.Fresh.{all_after}
 use Rattle.cse_types.specs.Table.{with_name, with_global, with_declaration, global_meaning, no_table, table_of}
 use Rattle.cse_types.specs.Walk.{is_there}
 use Rattle.cse_types.proofs.NameLaws.{has_named}
+use Rattle.cse_types.proofs.Right.{and_holds, not_holds}
 use Rattle.cse_types.proofs.Walks.{map_more, append_none}
 
 abbrev Pair : Type 0
@@ -172,6 +173,11 @@ module _ (d : DictionaryText) where
   pub table_names : (ds : List syntax.Declaration) → (table_of d ds).is_sound ≡ true → (table_of d ds).names ≡ declared_from 0 0 0 ds
   table_names ds h =
       ap (λ (c : Core). c.0) (core_is no_table ds) ∙ (are_sound ([], true) (declared_from 0 0 0 ds)).names (sym (ap (λ (c : Core). c.1) (core_is no_table ds)) ∙ h)
+
+-- ---- one name
+
+pub new_gone : (d : DictionaryText) (names : List Pair) (name : List ℕ) (b : Bool) → b ≡ true → b ≡ is_new d names name → is_there (lookup (bytes_eq name) names) ≡ false
+new_gone d names name b h e = not_holds (is_there (lookup (bytes_eq name) names)) (and_holds (is_free d name) (not (is_there (lookup (bytes_eq name) names))) (sym e ∙ h)).1
 
 -- ---- loops
 

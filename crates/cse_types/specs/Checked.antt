@@ -12,7 +12,7 @@ use Rattle.cse_types.specs.declared.meaning.Meaning.{Meaning}
 use Rattle.cse_types.specs.declared.meaning.Routine.TheVariants as r
 use Rattle.cse_types.specs.Fault.{out_of_memory}
 use Rattle.cse_types.specs.MessageFile.{MessageText}
-use Rattle.cse_types.specs.OrderFile.{IsOrder}
+use Rattle.cse_types.specs.OrderFile.{IsOrderOf}
 use Rattle.cse_types.specs.Scope.{Scope}
 use Rattle.cse_types.specs.WellTyped.{IsWell, all_declarations, declared_messages, entry_of, tree_messages}
 use Rattle.cse_types.specs.JudgeTree.{arrays_judged, behind_all, globals_judged, procedures_judged, tree_of}
@@ -23,21 +23,17 @@ pub record Checked : Type 0 where
   pub dictionary : DictionaryText
   pub messages : List MessageText
   pub order : List ℕ
-  pub typed : Tree
-
--- each name of the order is that of a record, and none stands twice: the order of an order file
-abbrev pub IsOrderOf : DictionaryText → List ℕ → Type 0
-IsOrderOf d records = (lines : List (List ℕ)) × IsOrder d lines records
+  pub tree : Tree
 
 -- the tree keeps each rule of 40 to 49, and it is one of a source, with at most 64 parentheses and statements open at once
 pub record IsChecked (c : Checked) : Type 0 where
-  pub well : IsWell c.dictionary c.messages c.typed
-  pub source : ∥ IsSource 64 (erase_tree c.typed) (spell_tree (erase_tree c.typed)) ∥₁
+  pub well : IsWell c.dictionary c.messages c.tree
+  pub source : ∥ IsSource 64 (erase_tree c.tree) (spell_tree (erase_tree c.tree)) ∥₁
   pub ordered : IsOrderOf c.dictionary c.order
 
 -- where the tree has a typing, the answer is that one, unless memory ran out
 abbrev pub IsAnswer : Result Checked TypeError → Tree → Type 0
-IsAnswer (Ok c) t = c.typed ≡ t
+IsAnswer (Ok c) t = c.tree ≡ t
 IsAnswer (Err e) t = e ≡ out_of_memory
 
 -- ---- from names to the tree

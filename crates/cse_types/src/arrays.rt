@@ -26,6 +26,7 @@ fn dimensions_alone<'a>(
 }
 
 /// Those of a declaration, if it is an array.
+#[tactic(auto, using(crate::proofs::DeclarationLaws::no_more, crate::proofs::Walks::map_more))]
 fn add<'a>(
     alloc: Global,
     scope: &Scope<'_>,

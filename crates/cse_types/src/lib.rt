@@ -10,6 +10,13 @@
 //! - `expression`: the walk over expressions.
 //! - `assign`: what a value is put into, and calls that stand alone.
 //! - `head`: the heads of loops.
+//! - `statement`, `told`: the walk over statements, and the messages that it gathers.
+//! - `facts`: what is known of a function behind its end.
+//! - `fresh`, `table`, `owners`: names that are new, each once: of parameters, of declarations, of procedures.
+//! - `array`, `arrays`: arrays, and the dimensions of all of them.
+//! - `function`, `declaration`, `procedure`: functions, declarations and procedures, one after the other.
+//! - `entries`: the messages of a source with their numbers and texts.
+//! - `parts`, `checked`: a whole source, from its names to the typed tree.
 //! - `laws`: laws of the definitions.
 #![tactic(auto)]
 
@@ -17,7 +24,7 @@ mod array;
 mod arrays;
 mod assign;
 mod call;
-mod check;
+mod checked;
 mod deck;
 mod declaration;
 mod entries;
@@ -25,9 +32,9 @@ mod error;
 mod expression;
 mod facts;
 mod faults;
-mod gaps;
 mod fresh;
 mod function;
+mod gaps;
 mod head;
 mod item;
 mod judged;
@@ -46,7 +53,7 @@ mod statement;
 mod table;
 mod told;
 
-pub use check::{Typed, check};
+pub use checked::{Typed, check};
 pub use error::TypeError;
 pub use laws::{expressions_are_judged, sources_are_judged, statements_are_judged};
 pub use meaning::{Meaning, Routine};

@@ -39,7 +39,7 @@ pub struct Parts<'a> {
 }
 
 /// The names of the declarations.
-fn names(
+fn declared_names(
     alloc: Global,
     dictionary: &Dictionary,
     faults: &mut Faults,
@@ -153,7 +153,7 @@ fn parts_of<'a>(
 }
 
 /// The declarations and the procedures, or none where one isn't sound.
-fn parts<'a>(
+fn all_parts<'a>(
     alloc: Global,
     scope: &mut Scope<'_>,
     faults: &mut Faults,
@@ -216,10 +216,10 @@ pub fn judged<'a>(
     ensures value { IfOk result (λ r. is_there faults.new.worst ≡ false → option_map typed.tree r ≡ judge.typed_of dictionary.now messages.now (syntax.tree tree.now)) }
     ensures noted { OnOk result (is_there faults.new.worst ≡ not (is_there (judge.typed_of dictionary.now messages.now (syntax.tree tree.now)))) }
 {
-    let table = names(alloc, dictionary, faults, tree)?;
+    let table = declared_names(alloc, dictionary, faults, tree)?;
     let _owners = owners(alloc, faults, &tree.procedures)?;
     let mut scope = start(alloc, dictionary, messages, table.names, tree)?;
     let mut told = Vec::new(alloc);
-    let parts = parts(alloc, &mut scope, faults, &mut told, tree)?;
+    let parts = all_parts(alloc, &mut scope, faults, &mut told, tree)?;
     tree_of(alloc, messages, &told, parts)
 }

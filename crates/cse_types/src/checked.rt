@@ -1,13 +1,16 @@
 //! Sources that are checked: each name stands beside what it names, and each rule of 40 to 49 is kept.
 
-ghost use Rattle.std.specs.Prelude.{◌≡◌, ◌≤◌, ◌⊎◌, false, true, IfOk, IfErr};
+ghost use Rattle.std.specs.Prelude.{◌≡◌, ◌≤◌, ◌⊎◌, not, false, true, IfOk, IfErr};
+ghost use Rattle.std.specs.Option.{option_map};
 ghost use Rattle.cse_syntax.specs.Tree as syntax;
 ghost use Rattle.cse_syntax.specs.Place as place;
 ghost use Rattle.cse_typed.specs.Typed as typed;
-ghost use Rattle.cse_typed.specs.Typed.{Tree};
-ghost use Rattle.cse_types.specs.Checked.{IsAnswer, IsChecked, IsOrderOf, Checked};
+ghost use Rattle.cse_types.specs.Checked.{IsAnswer, IsChecked, Checked};
 ghost use Rattle.cse_types.specs.Fault.{out_of_memory};
+ghost use Rattle.cse_types.specs.OrderFile.{IsOrderOf};
+ghost use Rattle.cse_types.specs.JudgeTree.{typed_of};
 ghost use Rattle.cse_types.specs.WellTyped.{IsTypedAs};
+ghost use Rattle.cse_types.specs.Walk.{is_there};
 
 use crate::error::TypeError;
 use crate::faults::{Fault, Faults};
@@ -32,9 +35,9 @@ pub struct Typed<'a> {
 impl<'a> Model for Typed<'a> {
     ghost Value = { Checked };
 
-    ghost view = { λ t. record { dictionary = t.dictionary.now; messages = t.messages.now; order = t.order.now; typed = typed.tree t.tree } };
+    ghost view = { λ t. record { dictionary = t.dictionary.now; messages = t.messages.now; order = t.order.now; tree = typed.tree t.tree } };
 
-    ghost invariant = { λ t. IsChecked (record { dictionary = t.dictionary.now; messages = t.messages.now; order = t.order.now; typed = typed.tree t.tree }) };
+    ghost invariant = { λ t. IsChecked (record { dictionary = t.dictionary.now; messages = t.messages.now; order = t.order.now; tree = typed.tree t.tree }) };
 }
 
 impl<'a> Typed<'a> {
@@ -61,7 +64,7 @@ impl<'a> Typed<'a> {
 
     /// The typed tree, in which each rule of 40 to 49 is kept.
     pub fn tree(&self) -> &Tree<'a>
-        ensures tree { typed.tree result.now ≡ self.now.typed }
+        ensures tree { typed.tree result.now ≡ self.now.tree }
         ensures checked { IsChecked self.now }
     {
         &self.tree
@@ -95,20 +98,46 @@ fn located(source: &Source<'_>, fault: Fault) -> TypeError
 }
 
 /// What was found, for whom it was made.
-fn checked<'a>(
+fn made_for<'a>(
     dictionary: &'a Dictionary,
     messages: &'a Messages,
     order: &'a Order,
     tree: Tree<'a>,
 ) -> Typed<'a>
-    requires { IsChecked (record { dictionary = dictionary.now; messages = messages.now; order = order.now; typed = typed.tree tree.entry }) }
-    ensures { result ≡ record { dictionary = dictionary.now; messages = messages.now; order = order.now; typed = typed.tree tree.entry } }
+    requires { IsChecked (record { dictionary = dictionary.now; messages = messages.now; order = order.now; tree = typed.tree tree.entry }) }
+    ensures { result ≡ record { dictionary = dictionary.now; messages = messages.now; order = order.now; tree = typed.tree tree.entry } }
 {
     Typed {
         dictionary,
         messages,
         order,
         tree,
+    }
+}
+
+/// The answer, where this is the least fault, or there is none and the tree was found.
+fn answer<'a>(
+    dictionary: &'a Dictionary,
+    source: &Source<'a>,
+    messages: &'a Messages,
+    order: &'a Order,
+    worst: Option<Fault>,
+    found: Option<Tree<'a>>,
+) -> Result<Typed<'a>, TypeError>
+    requires order { IsOrderOf dictionary.now order.now }
+    requires noted { is_there worst ≡ not (is_there (typed_of dictionary.now messages.now (syntax.tree source.now.tree))) }
+    requires found { is_there worst ≡ false → option_map typed.tree found.entry ≡ typed_of dictionary.now messages.now (syntax.tree source.now.tree) }
+    ensures sound { IfOk result (λ t. IsTypedAs dictionary.now messages.now (syntax.tree source.now.tree) t.tree) }
+    ensures made_for { IfOk result (λ t. (t.dictionary ≡ dictionary.now) × (t.messages ≡ messages.now) × (t.order ≡ order.now)) }
+    ensures only { (t : typed.Tree) → IsTypedAs dictionary.now messages.now (syntax.tree source.now.tree) t → IsAnswer result t }
+    ensures cause { IfErr result (λ e. (40 ≤ e.number) × (e.number ≤ 49)) }
+{
+    match worst {
+        Some(fault) => Err(located(source, fault)),
+        None => match found {
+            Some(tree) => Ok(made_for(dictionary, messages, order, tree)),
+            None => unreachable!(),
+        },
     }
 }
 
@@ -125,21 +154,15 @@ pub fn check<'a>(
 ) -> Result<Typed<'a>, TypeError>
     requires { IsOrderOf dictionary.now order.now }
     // The tree is that of the source, and keeps each rule.
-    ensures typed { IfOk result (λ t. IsTypedAs dictionary.now messages.now (syntax.tree source.now.tree) t.typed) }
+    ensures sound { IfOk result (λ t. IsTypedAs dictionary.now messages.now (syntax.tree source.now.tree) t.tree) }
     ensures made_for { IfOk result (λ t. (t.dictionary ≡ dictionary.now) × (t.messages ≡ messages.now) × (t.order ≡ order.now)) }
     // Where there is such a tree, it is the answer, unless memory runs out.
-    ensures only { (t : Tree) → IsTypedAs dictionary.now messages.now (syntax.tree source.now.tree) t → IsAnswer result t }
+    ensures only { (t : typed.Tree) → IsTypedAs dictionary.now messages.now (syntax.tree source.now.tree) t → IsAnswer result t }
     ensures cause { IfErr result (λ e. ((40 ≤ e.number) × (e.number ≤ 49)) ⊎ (e ≡ out_of_memory)) }
 {
     let mut faults = Faults { worst: None };
-    let Ok(found) = judged(alloc, dictionary, messages, &mut faults, &source.tree) else {
-        return Err(memory());
-    };
-    match faults.worst {
-        Some(fault) => Err(located(source, fault)),
-        None => match found {
-            Some(tree) => Ok(checked(dictionary, messages, order, tree)),
-            None => unreachable!(),
-        },
+    match judged(alloc, dictionary, messages, &mut faults, &source.tree) {
+        Err(_) => Err(memory()),
+        Ok(found) => answer(dictionary, source, messages, order, faults.worst, found),
     }
 }
