@@ -1,5 +1,5 @@
 -- What a source is that was checked, and what the checker answers.
-use Rattle.std.specs.Prelude.{◌≡◌, ℕ, Bool, true, ◌&&◌, List, [], length, map, Option, Some, None, Result, Ok, Err}
+use Rattle.std.specs.Prelude.{◌≡◌, ℕ, Bool, true, ◌&&◌, List, [], length, map, Option, Some, None}
 use Rattle.std.specs.Option.{option_map}
 use Rattle.cse_dict.specs.Dictionary.{DictionaryText}
 use Rattle.cse_syntax.specs.Tree as syntax
@@ -7,10 +7,8 @@ use Rattle.cse_syntax.specs.Grammar.{IsSource, spell_tree}
 use Rattle.cse_typed.specs.declared.tree.Owner.TheVariants as o
 use Rattle.cse_typed.specs.Typed.{Declaration, Procedure, Tree}
 use Rattle.cse_typed.specs.Erase.{erase_tree}
-use Rattle.cse_types.specs.declared.error.TypeError.{TypeError}
 use Rattle.cse_types.specs.declared.meaning.Meaning.{Meaning}
 use Rattle.cse_types.specs.declared.meaning.Routine.TheVariants as r
-use Rattle.cse_types.specs.Fault.{out_of_memory}
 use Rattle.cse_types.specs.MessageFile.{MessageText}
 use Rattle.cse_types.specs.OrderFile.{IsOrderOf}
 use Rattle.cse_types.specs.Scope.{Scope}
@@ -30,11 +28,6 @@ pub record IsChecked (c : Checked) : Type 0 where
   pub well : IsWell c.dictionary c.messages c.tree
   pub source : ∥ IsSource 64 (erase_tree c.tree) (spell_tree (erase_tree c.tree)) ∥₁
   pub ordered : IsOrderOf c.dictionary c.order
-
--- where the tree has a typing, the answer is that one, unless memory ran out
-abbrev pub IsAnswer : Result Checked TypeError → Tree → Type 0
-IsAnswer (Ok c) t = c.tree ≡ t
-IsAnswer (Err e) t = e ≡ out_of_memory
 
 -- ---- from names to the tree
 

@@ -15,3 +15,4 @@ pub mod Table
 pub mod Entries
 pub mod Checked
 pub mod Parts
+pub mod Answer

@@ -5,7 +5,8 @@ ghost use Rattle.std.specs.Option.{option_map};
 ghost use Rattle.cse_syntax.specs.Tree as syntax;
 ghost use Rattle.cse_syntax.specs.Place as place;
 ghost use Rattle.cse_typed.specs.Typed as typed;
-ghost use Rattle.cse_types.specs.Checked.{IsAnswer, IsChecked, Checked};
+ghost use Rattle.cse_types.specs.Answer.{IsAnswer, checked};
+ghost use Rattle.cse_types.specs.Checked.{IsChecked};
 ghost use Rattle.cse_types.specs.Fault.{out_of_memory};
 ghost use Rattle.cse_types.specs.OrderFile.{IsOrderOf};
 ghost use Rattle.cse_types.specs.JudgeTree.{typed_of};
@@ -17,59 +18,11 @@ use crate::faults::{Fault, Faults};
 use crate::messages::Messages;
 use crate::order::Order;
 use crate::parts::judged;
+use crate::typed::Typed;
 use cse_dict::Dictionary;
 use cse_syntax::Source;
 use cse_typed::Tree;
 use std::alloc::Global;
-use std::marker::Model;
-
-/// A source that was checked: its typed tree, and what it was made for. [`check`] alone makes one.
-#[derive(Drop)]
-pub struct Typed<'a> {
-    dictionary: &'a Dictionary,
-    messages: &'a Messages,
-    order: &'a Order,
-    tree: Tree<'a>,
-}
-
-impl<'a> Model for Typed<'a> {
-    ghost Value = { Checked };
-
-    ghost view = { λ t. record { dictionary = t.dictionary.now; messages = t.messages.now; order = t.order.now; tree = typed.tree t.tree } };
-
-    ghost invariant = { λ t. IsChecked (record { dictionary = t.dictionary.now; messages = t.messages.now; order = t.order.now; tree = typed.tree t.tree }) };
-}
-
-impl<'a> Typed<'a> {
-    /// The dictionary that it was made for.
-    pub fn dictionary(&self) -> &Dictionary
-        ensures { result.now ≡ self.now.dictionary }
-    {
-        self.dictionary
-    }
-
-    /// The messages of the message file.
-    pub fn messages(&self) -> &Messages
-        ensures { result.now ≡ self.now.messages }
-    {
-        self.messages
-    }
-
-    /// The records of the order file.
-    pub fn order(&self) -> &Order
-        ensures { result.now ≡ self.now.order }
-    {
-        self.order
-    }
-
-    /// The typed tree, in which each rule of 40 to 49 is kept.
-    pub fn tree(&self) -> &Tree<'a>
-        ensures tree { typed.tree result.now ≡ self.now.tree }
-        ensures checked { IsChecked self.now }
-    {
-        &self.tree
-    }
-}
 
 /// Want of memory has no place.
 fn memory() -> TypeError
@@ -104,8 +57,8 @@ fn made_for<'a>(
     order: &'a Order,
     tree: Tree<'a>,
 ) -> Typed<'a>
-    requires { IsChecked (record { dictionary = dictionary.now; messages = messages.now; order = order.now; tree = typed.tree tree.entry }) }
-    ensures { result ≡ record { dictionary = dictionary.now; messages = messages.now; order = order.now; tree = typed.tree tree.entry } }
+    requires { IsChecked (record { dictionary = dictionary.now; messages = messages.now; order = order.now; tree = typed.tree tree }) }
+    ensures { checked result ≡ record { dictionary = dictionary.now; messages = messages.now; order = order.now; tree = typed.tree tree.entry } }
 {
     Typed {
         dictionary,
@@ -126,9 +79,9 @@ fn answer<'a>(
 ) -> Result<Typed<'a>, TypeError>
     requires order { IsOrderOf dictionary.now order.now }
     requires noted { is_there worst ≡ not (is_there (typed_of dictionary.now messages.now (syntax.tree source.now.tree))) }
-    requires found { is_there worst ≡ false → option_map typed.tree found.entry ≡ typed_of dictionary.now messages.now (syntax.tree source.now.tree) }
-    ensures sound { IfOk result (λ t. IsTypedAs dictionary.now messages.now (syntax.tree source.now.tree) t.tree) }
-    ensures made_for { IfOk result (λ t. (t.dictionary ≡ dictionary.now) × (t.messages ≡ messages.now) × (t.order ≡ order.now)) }
+    requires found { is_there worst ≡ false → option_map typed.tree found ≡ typed_of dictionary.now messages.now (syntax.tree source.now.tree) }
+    ensures sound { IfOk result (λ t. IsTypedAs dictionary.now messages.now (syntax.tree source.now.tree) (checked t).tree) }
+    ensures made_for { IfOk result (λ t. ((checked t).dictionary ≡ dictionary.now) × ((checked t).messages ≡ messages.now) × ((checked t).order ≡ order.now)) }
     ensures only { (t : typed.Tree) → IsTypedAs dictionary.now messages.now (syntax.tree source.now.tree) t → IsAnswer result t }
     ensures cause { IfErr result (λ e. (40 ≤ e.number) × (e.number ≤ 49)) }
 {
@@ -154,8 +107,8 @@ pub fn check<'a>(
 ) -> Result<Typed<'a>, TypeError>
     requires { IsOrderOf dictionary.now order.now }
     // The tree is that of the source, and keeps each rule.
-    ensures sound { IfOk result (λ t. IsTypedAs dictionary.now messages.now (syntax.tree source.now.tree) t.tree) }
-    ensures made_for { IfOk result (λ t. (t.dictionary ≡ dictionary.now) × (t.messages ≡ messages.now) × (t.order ≡ order.now)) }
+    ensures sound { IfOk result (λ t. IsTypedAs dictionary.now messages.now (syntax.tree source.now.tree) (checked t).tree) }
+    ensures made_for { IfOk result (λ t. ((checked t).dictionary ≡ dictionary.now) × ((checked t).messages ≡ messages.now) × ((checked t).order ≡ order.now)) }
     // Where there is such a tree, it is the answer, unless memory runs out.
     ensures only { (t : typed.Tree) → IsTypedAs dictionary.now messages.now (syntax.tree source.now.tree) t → IsAnswer result t }
     ensures cause { IfErr result (λ e. ((40 ≤ e.number) × (e.number ≤ 49)) ⊎ (e ≡ out_of_memory)) }

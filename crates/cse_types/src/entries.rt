@@ -69,7 +69,7 @@ fn numbered(messages: &Messages, number: Option<u32>) -> Said<'_>
 /// The number and the text of what is said.
 fn message_said<'a>(messages: &'a Messages, what: Message<'a>) -> Said<'a>
     requires { is_said (message what) ≡ true }
-    ensures { record { number = result.number; text = result.text.now } ≡ unwrap_or (message_meant messages.now (message what)) no_message }
+    ensures { record { number = result.number; text = result.text.now } ≡ unwrap_or (message_meant messages.now (message what.entry)) no_message }
 {
     match what {
         Message::Text(text) => Said {

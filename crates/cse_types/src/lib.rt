@@ -16,7 +16,7 @@
 //! - `array`, `arrays`: arrays, and the dimensions of all of them.
 //! - `function`, `declaration`, `procedure`: functions, declarations and procedures, one after the other.
 //! - `entries`: the messages of a source with their numbers and texts.
-//! - `parts`, `checked`: a whole source, from its names to the typed tree.
+//! - `parts`, `checked`, `typed`: a whole source, from its names to the typed tree.
 //! - `laws`: laws of the definitions.
 #![tactic(auto)]
 
@@ -52,13 +52,15 @@ mod set;
 mod statement;
 mod table;
 mod told;
+mod typed;
 
-pub use checked::{Typed, check};
+pub use checked::check;
 pub use error::TypeError;
 pub use laws::{expressions_are_judged, sources_are_judged, statements_are_judged};
 pub use meaning::{Meaning, Routine};
 pub use messages::Messages;
 pub use order::Order;
+pub use typed::Typed;
 
 #[cfg(test)]
 mod tests;

@@ -28,13 +28,13 @@ fn owner(
 }
 
 /// The names of procedures, each of which stands once.
-pub fn owners(
+pub fn owners<'a>(
     alloc: Global,
     faults: &mut Faults,
-    all: &Vec<Procedure<'_>>,
+    all: &[Procedure<'a>],
 ) -> Result<Fresh, AllocError>
-    ensures value { IfOk result (λ r. r ≡ fresh_names (λ name. true) (spec.owner_names (map syntax.procedure all.now.items))) }
-    ensures noted { OnOk result (IsNoted faults.old faults.new (fresh_names (λ name. true) (spec.owner_names (map syntax.procedure all.now.items))).is_sound) }
+    ensures value { IfOk result (λ r. r ≡ fresh_names (λ name. true) (spec.owner_names (map syntax.procedure all.now))) }
+    ensures noted { OnOk result (IsNoted faults.old faults.new (fresh_names (λ name. true) (spec.owner_names (map syntax.procedure all.now))).is_sound) }
 {
     let mut fresh = Fresh::new(alloc);
     'all: for x in all {

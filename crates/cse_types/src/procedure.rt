@@ -276,11 +276,11 @@ pub fn procedures<'a>(
     scope: &mut Scope<'_>,
     faults: &mut Faults,
     told: &mut Vec<Told<'a>>,
-    all: &Vec<Parsed<'a>>,
+    all: &[Parsed<'a>],
 ) -> Result<Option<Vec<Procedure<'a>>>, AllocError>
-    ensures value { IfOk result (λ r. option_map (λ v. map typed.procedure v.items) r ≡ spec.procedures_judged scope.old (length told.old.items) (map syntax.procedure all.now.items)) }
-    ensures noted { OnOk result (IsNoted faults.old faults.new (is_there (spec.procedures_judged scope.old (length told.old.items) (map syntax.procedure all.now.items)))) }
-    ensures told { OnOk result (map told_of told.new.items ≡ map told_of told.old.items ++ procedure_messages (map syntax.procedure all.now.items)) }
+    ensures value { IfOk result (λ r. option_map (λ v. map typed.procedure v.items) r ≡ spec.procedures_judged scope.old (length told.old.items) (map syntax.procedure all.now)) }
+    ensures noted { OnOk result (IsNoted faults.old faults.new (is_there (spec.procedures_judged scope.old (length told.old.items) (map syntax.procedure all.now)))) }
+    ensures told { OnOk result (map told_of told.new.items ≡ map told_of told.old.items ++ procedure_messages (map syntax.procedure all.now)) }
     ensures same { OnOk result (scope.new ≡ scope.old) }
 {
     let mut found = Vec::new(alloc);

@@ -15,3 +15,27 @@ returns-in-Some-clause-only c = λ t h.
     let m = c.args.messages.now in
     let x = syntax.tree c.args.source.now.tree in
     absurd (no_fault (is_there c.args.worst) (typed_of d m x) t (ap is_there c.in-Some.is) c.requires.noted (typed_only d m x t h))
+
+pub made_for-requires : goal.made_for-requires
+made_for-requires c =
+    let d = c.args.dictionary.now in
+    let m = c.args.messages.now in
+    let x = syntax.tree c.args.source.now.tree in
+    let is = sym (c.requires.found (ap is_there c.in-None.is)) ∙ ap (option_map typed.tree) c.in-Some-found.is in
+    checked_so d m c.args.order.now x _ (typed.tree c.in-Some-found.tree) (typed_right d m x (typed.tree c.in-Some-found.tree) is) c.args.source.now.is_source c.requires.order
+
+pub returns-in-Some-found-clause-sound : goal.returns-in-Some-found-clause-sound
+returns-in-Some-found-clause-sound c =
+    let d = c.args.dictionary.now in
+    let m = c.args.messages.now in
+    let x = syntax.tree c.args.source.now.tree in
+    let is = sym (c.requires.found (ap is_there c.in-None.is)) ∙ ap (option_map typed.tree) c.in-Some-found.is in
+    subst (λ (y : Checked). IsTypedAs d m x y.tree) (sym c.made_for.ensures) (typed_right d m x (typed.tree c.in-Some-found.tree) is)
+
+pub returns-in-Some-found-clause-only : goal.returns-in-Some-found-clause-only
+returns-in-Some-found-clause-only c = λ t h.
+    let d = c.args.dictionary.now in
+    let m = c.args.messages.now in
+    let x = syntax.tree c.args.source.now.tree in
+    let is = sym (c.requires.found (ap is_there c.in-None.is)) ∙ ap (option_map typed.tree) c.in-Some-found.is in
+    ap (λ (y : Checked). y.tree) c.made_for.ensures ∙ same_tree (typed.tree c.in-Some-found.tree) t (typed_of d m x) (sym is) (typed_only d m x t h)

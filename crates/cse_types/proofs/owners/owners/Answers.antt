@@ -11,11 +11,10 @@ use Rattle.cse_types.proofs.owners.owners.Goals as goal
 
 pub all-preserved : goal.all-preserved
 all-preserved c =
-    let items = c.args.all.now.items in
+    let items = c.args.all.now in
     let x = c.x-item.result in
-    let whole = c.deref-x-items.ensures.value in
-    let lt : c.all.x-index < length items = subst (λ (xs : List Procedure). c.all.x-index < length xs) whole c.all-test.true in
-    let is : x ≡ get_or items c.all.x-index x = subst (λ (xs : List Procedure). x ≡ get_or xs c.all.x-index x) whole c.x-item.is in
+    let lt : c.all.x-index < length items = c.all-test.true in
+    let is : x ≡ get_or items c.all.x-index x = c.x-item.is in
     let e = c.in_ok-owner.ensures in
     record {
       value = after_turn with_owner items c.all.x-index x lt is c.all.fresh c.owner.new.fresh _ c.all.invariant.value e.value;
@@ -24,13 +23,13 @@ all-preserved c =
 
 pub returns-clause-value : goal.returns-clause-value
 returns-clause-value c =
-    let items = c.args.all.now.items in
-    let le : length items ≤ c.all.x-index = subst (λ (xs : List Procedure). length xs ≤ c.all.x-index) c.deref-x-items.ensures.value c.all-test.false in
+    let items = c.args.all.now in
+    let le : length items ≤ c.all.x-index = c.all-test.false in
     after_end with_owner items c.all.x-index le c.all.fresh _ c.all.invariant.value ∙ owners_after no_names items
 
 pub returns-clause-noted : goal.returns-clause-noted
 returns-clause-noted c =
-    let items = c.args.all.now.items in
-    let le : length items ≤ c.all.x-index = subst (λ (xs : List Procedure). length xs ≤ c.all.x-index) c.deref-x-items.ensures.value c.all-test.false in
+    let items = c.args.all.now in
+    let le : length items ≤ c.all.x-index = c.all-test.false in
     c.all.invariant.noted
     ∙ ap (λ (f : Fresh). is_there c.args.faults.now.worst || not f.is_sound) (after_end with_owner items c.all.x-index le c.all.fresh _ c.all.invariant.value ∙ owners_after no_names items)

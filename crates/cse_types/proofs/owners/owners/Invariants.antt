@@ -7,6 +7,6 @@ use Rattle.cse_types.proofs.owners.owners.Given as goal
 
 abbrev pub invariant-all : goal.invariant-all
 invariant-all l = record {
-  value : all_after with_owner l.fresh (drop l.x-index l.all.items) ≡ all_after with_owner no_names l.all.items;
+  value : all_after with_owner l.fresh (drop l.x-index l.all) ≡ all_after with_owner no_names l.all;
   noted : is_there l.faults.worst ≡ (is_there l.initial.faults.worst || not l.fresh.is_sound);
 }

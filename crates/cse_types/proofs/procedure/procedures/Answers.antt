@@ -14,11 +14,10 @@ use Rattle.cse_types.proofs.procedure.procedures.Goals as goal
 
 pub all-preserved : goal.all-preserved
 all-preserved c =
-    let items = c.args.all.now.items in
+    let items = c.args.all.now in
     let x = c.x-item.result in
-    let whole = c.deref-x-items.ensures.value in
-    let lt : c.all.x-index < length items = subst (λ (xs : List Procedure). c.all.x-index < length xs) whole c.all-test.true in
-    let is : x ≡ get_or items c.all.x-index x = subst (λ (xs : List Procedure). x ≡ get_or xs c.all.x-index x) whole c.x-item.is in
+    let lt : c.all.x-index < length items = c.all-test.true in
+    let is : x ≡ get_or items c.all.x-index x = c.x-item.is in
     let e = c.in_ok-is_there.ensures in
     record {
       value = judged_turn typed.procedure c.all.is_sound _ c.in_ok-is_there.is_there c.all.found.items _ _ _ _ _ c.all.invariant.value
@@ -30,8 +29,8 @@ all-preserved c =
 
 pub returns-then-is_sound-clause-value : goal.returns-then-is_sound-clause-value
 returns-then-is_sound-clause-value c =
-    let items = c.args.all.now.items in
-    let le : length items ≤ c.all.x-index = subst (λ (xs : List Procedure). length xs ≤ c.all.x-index) c.deref-x-items.ensures.value c.all-test.false in
+    let items = c.args.all.now in
+    let le : length items ≤ c.all.x-index = c.all-test.false in
     let none = ap (map syntax.procedure) (past items c.all.x-index le) in
     let n = length c.all.told.items in
     let e = made_end typed.procedure c.all.is_sound c.all.found.items _ _ (ap (spec.procedures_judged c.all.scope n) none) c.all.invariant.value in
@@ -39,8 +38,8 @@ returns-then-is_sound-clause-value c =
 
 pub returns-then-is_sound-clause-noted : goal.returns-then-is_sound-clause-noted
 returns-then-is_sound-clause-noted c =
-    let items = c.args.all.now.items in
-    let le : length items ≤ c.all.x-index = subst (λ (xs : List Procedure). length xs ≤ c.all.x-index) c.deref-x-items.ensures.value c.all-test.false in
+    let items = c.args.all.now in
+    let le : length items ≤ c.all.x-index = c.all-test.false in
     let none = ap (map syntax.procedure) (past items c.all.x-index le) in
     let n = length c.all.told.items in
     let e = made_end typed.procedure c.all.is_sound c.all.found.items _ _ (ap (spec.procedures_judged c.all.scope n) none) c.all.invariant.value in
@@ -48,16 +47,16 @@ returns-then-is_sound-clause-noted c =
 
 pub returns-then-is_sound-clause-told : goal.returns-then-is_sound-clause-told
 returns-then-is_sound-clause-told c =
-    let items = c.args.all.now.items in
-    let le : length items ≤ c.all.x-index = subst (λ (xs : List Procedure). length xs ≤ c.all.x-index) c.deref-x-items.ensures.value c.all-test.false in
+    let items = c.args.all.now in
+    let le : length items ≤ c.all.x-index = c.all-test.false in
     let none = ap (map syntax.procedure) (past items c.all.x-index le) in
     let n = length c.all.told.items in
     sym (no_more (map told_of c.all.told.items)) ∙ ap (λ ds. map told_of c.all.told.items ++ procedure_messages ds) (sym none) ∙ c.all.invariant.told
 
 pub returns-clause-value : goal.returns-clause-value
 returns-clause-value c =
-    let items = c.args.all.now.items in
-    let le : length items ≤ c.all.x-index = subst (λ (xs : List Procedure). length xs ≤ c.all.x-index) c.deref-x-items.ensures.value c.all-test.false in
+    let items = c.args.all.now in
+    let le : length items ≤ c.all.x-index = c.all-test.false in
     let none = ap (map syntax.procedure) (past items c.all.x-index le) in
     let n = length c.all.told.items in
     let e = made_end typed.procedure c.all.is_sound c.all.found.items _ _ (ap (spec.procedures_judged c.all.scope n) none) c.all.invariant.value in
@@ -65,8 +64,8 @@ returns-clause-value c =
 
 pub returns-clause-noted : goal.returns-clause-noted
 returns-clause-noted c =
-    let items = c.args.all.now.items in
-    let le : length items ≤ c.all.x-index = subst (λ (xs : List Procedure). length xs ≤ c.all.x-index) c.deref-x-items.ensures.value c.all-test.false in
+    let items = c.args.all.now in
+    let le : length items ≤ c.all.x-index = c.all-test.false in
     let none = ap (map syntax.procedure) (past items c.all.x-index le) in
     let n = length c.all.told.items in
     let e = made_end typed.procedure c.all.is_sound c.all.found.items _ _ (ap (spec.procedures_judged c.all.scope n) none) c.all.invariant.value in
@@ -74,8 +73,8 @@ returns-clause-noted c =
 
 pub returns-clause-told : goal.returns-clause-told
 returns-clause-told c =
-    let items = c.args.all.now.items in
-    let le : length items ≤ c.all.x-index = subst (λ (xs : List Procedure). length xs ≤ c.all.x-index) c.deref-x-items.ensures.value c.all-test.false in
+    let items = c.args.all.now in
+    let le : length items ≤ c.all.x-index = c.all-test.false in
     let none = ap (map syntax.procedure) (past items c.all.x-index le) in
     let n = length c.all.told.items in
     sym (no_more (map told_of c.all.told.items)) ∙ ap (λ ds. map told_of c.all.told.items ++ procedure_messages ds) (sym none) ∙ c.all.invariant.told
