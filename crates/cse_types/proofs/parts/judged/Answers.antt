@@ -8,29 +8,21 @@ use Rattle.cse_types.specs.Entries.{are_said}
 use Rattle.cse_types.specs.JudgeTree.{typed_of}
 use Rattle.cse_types.specs.Parts.{parts_tree}
 use Rattle.cse_types.specs.Scope.{Scope}
-use Rattle.cse_types.specs.Table as tables
 use Rattle.cse_types.specs.Told.{told_of}
 use Rattle.cse_types.specs.WellTyped.{all_declarations, tree_messages}
 use Rattle.cse_types.specs.Walk.{is_there}
 use Rattle.cse_types.proofs.CheckLaws.{judged_noted, judged_value, where_so}
 use Rattle.cse_types.proofs.FunctionLaws.{where_ok}
 use Rattle.cse_types.proofs.parts.judged.Goals as goal
-use Rattle.cse_types.proofs.parts.judged.Goals.{After-tree_of}
 
 pub tree_of-requires : goal.tree_of-requires
 tree_of-requires c = ap are_said c.in_ok-parts.ensures.told ∙ c.requires.said
-
-scope_is : (c : After-tree_of) → c.in_ok-scope.scope ≡ start_of c.args.dictionary.now c.args.messages.now (tables.table_of c.args.dictionary.now (all_declarations (syntax.tree c.args.tree.now).globals)).names (all_declarations (syntax.tree c.args.tree.now).globals)
-scope_is c =
-    let d = c.args.dictionary.now in
-    let ds = all_declarations (syntax.tree c.args.tree.now).globals in
-    c.in_ok-scope.ensures ∙ ap (λ (t : Table). start_of d c.args.messages.now t.names ds) c.in_ok-table.ensures.value
 
 pub returns-clause-noted : goal.returns-clause-noted
 returns-clause-noted c =
     let x = syntax.tree c.args.tree.now in
     where_ok c.tree_of.result _ (judged_noted c.args.dictionary.now c.args.messages.now x _ _ _ c.in_ok-table.ensures.noted c.in_ok-_owners.ensures.noted
-    (c.in_ok-parts.ensures.noted ∙ ap (λ (s : Scope). is_there c.owners.new.faults.worst || not (is_there (parts_judged s x))) (scope_is c)))
+    (c.in_ok-parts.ensures.noted ∙ ap (λ (s : Scope). is_there c.owners.new.faults.worst || not (is_there (parts_judged s x))) (c.in_ok-scope.ensures ∙ ap (λ (t : Table). start_of c.args.dictionary.now c.args.messages.now t.names (all_declarations x.globals)) c.in_ok-table.ensures.value)))
 
 pub returns-clause-value : goal.returns-clause-value
 returns-clause-value c =
@@ -40,5 +32,5 @@ returns-clause-value c =
     where_so _ _ c.tree_of.result (λ r e h.
       e
       ∙ ap (λ ms. option_map (with_entries m ms) (option_map parts_tree c.in_ok-parts.parts)) c.in_ok-parts.ensures.told
-      ∙ ap (option_map (with_entries m (tree_messages x))) (c.in_ok-parts.ensures.value ∙ ap (λ (s : Scope). parts_judged s x) (scope_is c))
-      ∙ judged_value d m x _ _ _ c.in_ok-table.ensures.noted c.in_ok-_owners.ensures.noted (c.in_ok-parts.ensures.noted ∙ ap (λ (s : Scope). is_there c.owners.new.faults.worst || not (is_there (parts_judged s x))) (scope_is c)) h) c.tree_of.ensures
+      ∙ ap (option_map (with_entries m (tree_messages x))) (c.in_ok-parts.ensures.value ∙ ap (λ (s : Scope). parts_judged s x) (c.in_ok-scope.ensures ∙ ap (λ (t : Table). start_of c.args.dictionary.now c.args.messages.now t.names (all_declarations x.globals)) c.in_ok-table.ensures.value))
+      ∙ judged_value d m x _ _ _ c.in_ok-table.ensures.noted c.in_ok-_owners.ensures.noted (c.in_ok-parts.ensures.noted ∙ ap (λ (s : Scope). is_there c.owners.new.faults.worst || not (is_there (parts_judged s x))) (c.in_ok-scope.ensures ∙ ap (λ (t : Table). start_of c.args.dictionary.now c.args.messages.now t.names (all_declarations x.globals)) c.in_ok-table.ensures.value)) h) c.tree_of.ensures
