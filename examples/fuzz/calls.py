@@ -59,9 +59,27 @@ def commands_of(program, seconds):
     return [name for name in WORDS if name.encode() in named]
 
 
-def call(program, command, case, folder, seconds, before):
+# Words, and the status and the line of a fault that they end with. No file of these names is there.
+ENDINGS = [
+    ([], 2, None), (["--help"], 2, None), (["no-command"], 2, None), (["verify", "DICT"], 2, None),
+    (["try", "no-file"], 3, b"refused 72\n"), (["try", "."], 3, b"refused 70\n"), (["try", ""], 3, b"refused 72\n"),
+    (["verify", "no-file", "."], 3, b"refused 72\n"), (["verify", ".", "no-file"], 3, b"refused 70\n"),
+]
+
+
+def wrong_words(program, seconds):
+    """Why words that are no command, or name no file, end otherwise than they have to, or None."""
+    for words, status, line in ENDINGS:
+        ran = subprocess.run([program, *words], env={}, stdin=subprocess.DEVNULL, capture_output=True, timeout=seconds)
+        told = ran.stderr == line if line else b"usage" in ran.stderr
+        if ran.returncode != status or ran.stdout or not told:
+            return f"{words}: status {ran.returncode}, {ran.stderr!r}"
+    return None
+
+
+def call(program, command, case, folder, seconds, before, env=None, fds=()):
     """Calls the program in a new folder with the files of the case. `before` is what the written files hold already,
-    or None where they aren't there."""
+    or None where they aren't there. It gets an environment of its own, and the open files that are named."""
     shutil.rmtree(folder, ignore_errors=True)
     os.makedirs(folder)
     held = {name: case[name] for name in READ[command]}
@@ -71,8 +89,8 @@ def call(program, command, case, folder, seconds, before):
         with open(os.path.join(folder, name), "wb") as file:
             file.write(data)
     try:
-        ran = subprocess.run([os.path.abspath(program), command, *WORDS[command]], cwd=folder, env={},
-                             stdin=subprocess.DEVNULL, capture_output=True, timeout=seconds)
+        ran = subprocess.run([os.path.abspath(program), command, *WORDS[command]], cwd=folder, env=env or {},
+                             pass_fds=fds, stdin=subprocess.DEVNULL, capture_output=True, timeout=seconds)
         status, out, err = ran.returncode, ran.stdout, ran.stderr
     except subprocess.TimeoutExpired:
         status, out, err = None, b"", b""

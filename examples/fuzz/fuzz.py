@@ -8,6 +8,7 @@ PROGRAM is a built csbatch. README.md beside this file says what is looked at, a
 """
 import argparse
 import contextlib
+import itertools
 import os
 import random
 import re
@@ -18,7 +19,7 @@ from collections import Counter
 
 import mutate
 import seeds
-from calls import ANSWERS, DICTIONARY, IMAGE, READ, call, commands_of, wrong_ending, wrong_files
+from calls import ANSWERS, DICTIONARY, IMAGE, READ, WORDS, call, commands_of, wrong_ending, wrong_files, wrong_words
 
 READERS = ["DICT", "IMAGE", "DATA", "DECKS", "LOGIC", "MESSAGES", "ORDER"]
 OLD = b"what was there before\n"
@@ -120,7 +121,11 @@ class Fuzz:
                 raise Stop(f"try: {steps} steps, and the bound is {bound}")
 
     def begin(self):
-        """Sees that each seed is taken as it is, by all commands that stand."""
+        """Sees that words without a command or a file end as they have to, and that each seed is taken as it is, by all
+        commands that stand."""
+        why = wrong_words(self.program, self.seconds)
+        if why:
+            raise Stop(why)
         if "compile" in self.commands:
             case, answer = seeds.compiled(self.program, os.path.join(self.folder, "first"), self.seconds)
             if answer.status != 0:
@@ -160,7 +165,8 @@ class Fuzz:
 def numbered(fuzz, args):
     """The cases that are asked for, each with its number."""
     if args.sweep:
-        yield from enumerate(fuzz.sweep(args.only, 128))
+        end = None if args.cases is None else args.first + args.cases
+        yield from itertools.islice(enumerate(fuzz.sweep(args.only, 128)), args.first, end)
         return
     number = args.first
     while args.cases is None or number < args.first + args.cases:
@@ -215,6 +221,16 @@ def run(fuzz, args, since):
     return 0
 
 
+def passed_over(fuzz):
+    """A line for each command that the program doesn't have, and for each file that nothing reads therefore."""
+    for name in WORDS:
+        if name not in fuzz.commands:
+            yield f"passed over: {name}, since the program has no such command"
+    for name in READERS:
+        if name not in fuzz.readers():
+            yield f"passed over: {name}, since no command reads it"
+
+
 def main():
     args = words()
     since = time.monotonic()
@@ -224,6 +240,10 @@ def main():
             print(f"{args.program} tells no command")
             return 2
         print(f"commands: {' '.join(fuzz.commands)}; readers: {' '.join(fuzz.readers())}; seed {args.seed}")
+        for line in passed_over(fuzz):
+            print(line)
+        if args.only and args.only not in fuzz.readers():
+            return 0
         status = run(fuzz, args, since)
     tell(fuzz, since)
     return status

@@ -1,5 +1,5 @@
 -- The exit status of what a command came to, and the numbers of faults.
-use Rattle.std.specs.Prelude.{ℕ, ◌==◌, ◌||◌, if◌then◌else◌, None, Result, Ok, Err}
+use Rattle.std.specs.Prelude.{ℕ, ◌==◌, ◌||◌, if◌then◌else◌, Option, None, Some, Result, Ok, Err}
 use Rattle.cse_batch.specs.declared.image.CheckFault.{CheckFault}
 use Rattle.cse_batch.specs.declared.image.CheckFault.TheVariants as checks
 use Rattle.csbatch.specs.declared.fault.Fault.{Fault}
@@ -29,6 +29,18 @@ exit_status (Err (Refused fault)) = status_of fault.number
 -- a fault that tells its number alone
 abbrev pub plain_fault : ℕ → Fault
 plain_fault number = record { number = number; line = None; column = None; byte = None; routine = None; place = None }
+
+-- the line, or the column, that a fault tells: 0 stands for none
+abbrev pub position_told : ℕ → Option ℕ
+position_told position = if position == 0 then None else Some position
+
+-- a fault at a line
+abbrev pub fault_at : ℕ → ℕ → Fault
+fault_at number line = record { number = number; line = position_told line; column = None; byte = None; routine = None; place = None }
+
+-- a fault at a line and a column
+abbrev pub fault_in_text : ℕ → ℕ → ℕ → Fault
+fault_in_text number line column = record { number = number; line = position_told line; column = position_told column; byte = None; routine = None; place = None }
 
 -- of a call that failed, by what was asked
 abbrev pub number_asked : Asked → ℕ

@@ -1,5 +1,6 @@
 pub mod Ending
 pub mod Printed
+pub mod Stops
 pub mod Tried
 pub mod Verdict
 pub mod Vetted

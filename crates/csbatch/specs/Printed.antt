@@ -1,4 +1,4 @@
--- What `try` and `run` print.
+-- What `try`, `compile` and `run` print.
 use Rattle.std.specs.Prelude.{ℕ, List, [], ◌∷◌, ◌++◌, codes, decimal}
 use Rattle.std.specs.List.{flat_map}
 use Rattle.cse_parts.specs.Image.{MessageLists}
@@ -24,6 +24,11 @@ steps_line n = decimal n ++ codes " steps\n"
 
 abbrev pub printed : List (List ℕ) → ℕ → List ℕ
 printed texts n = text_lines texts ++ steps_line n
+
+-- ---- `compile`: how many bytes the image has
+
+abbrev pub compiled_line : ℕ → List ℕ
+compiled_line n = codes "compiled " ++ decimal n ++ codes " bytes\n"
 
 -- ---- `run`: what it counted
 

@@ -2,12 +2,13 @@
 
 ghost use Rattle.std.specs.Prelude.{◌≡◌};
 ghost use Rattle.cse_value.specs.Writing.{FailsAtErr};
-ghost use Rattle.csbatch.specs.Ending.{number_of_check, number_of_try, number_of_verify, plain_fault, status_of};
+ghost use Rattle.csbatch.specs.Ending.{fault_at, fault_in_text, position_told, number_of_check, number_of_try, number_of_verify, plain_fault, status_of};
 
 use crate::printing::write_parts;
 use crate::try_image::TryFault;
 use crate::verify_image::VerifyFault;
 use cse_batch::{CheckFault, RunFault};
+use cse_build::BuildFault;
 use cse_decks::DeckError;
 use cse_dict::DictError;
 use cse_image::ImageError;
@@ -78,17 +79,17 @@ impl Fault {
 
     /// A fault at a line; a line 0 is not told.
     fn at_line(number: u8, line: u64) -> Fault
-        ensures { result.number ≡ number }
+        ensures { result ≡ fault_at number line }
     {
         Fault {
-            line: told_line(line),
+            line: told_position(line),
             ..Fault::of_number(number)
         }
     }
 
     /// A text that is no dictionary.
     pub fn of_dictionary(error: DictError) -> Fault
-        ensures { result.number ≡ error.number }
+        ensures { result ≡ fault_at error.number error.line }
     {
         Fault::at_line(error.number, error.line)
     }
@@ -104,16 +105,27 @@ impl Fault {
         }
     }
 
+    /// Logic, or messages or an edit order beside it, of which no image is made; a line and a column 0 are not told.
+    pub fn of_build(fault: BuildFault) -> Fault
+        ensures { result ≡ fault_in_text fault.number fault.line fault.column }
+    {
+        Fault {
+            line: told_position(fault.line),
+            column: told_position(fault.column),
+            ..Fault::of_number(fault.number)
+        }
+    }
+
     /// A deck file that can't be loaded.
     pub fn of_decks(error: DeckError) -> Fault
-        ensures { result.number ≡ error.number }
+        ensures { result ≡ fault_at error.number error.line }
     {
         Fault::at_line(error.number, error.line)
     }
 
     /// What stopped a run.
     pub fn of_run(fault: RunFault) -> Fault
-        ensures { result.number ≡ fault.number }
+        ensures { result ≡ fault_at fault.number fault.line }
     {
         Fault::at_line(fault.number, fault.line)
     }
@@ -146,8 +158,10 @@ fn told(number: u32) -> Option<u32> {
     if number == NONE { None } else { Some(number) }
 }
 
-fn told_line(line: u64) -> Option<u64> {
-    if line == 0 { None } else { Some(line) }
+fn told_position(position: u64) -> Option<u64>
+    ensures { result ≡ position_told position }
+{
+    if position == 0 { None } else { Some(position) }
 }
 
 /// The exit status of a fault's number: 3 for a device, a file or memory (70, 71, 72, 90), else 1.

@@ -1,7 +1,8 @@
 //! Statuses and lines of faults, and words of command lines.
 
 use crate::fault::{Fault, NO_MEMORY, ending, fault_line};
-use crate::plan::{Command, PlanFault, RunPaths, plan};
+use crate::outcome::{Stop, exit_status};
+use crate::plan::{Command, CompilePaths, PlanFault, RunPaths, plan};
 use cse_value::Writes;
 use std::test::Fail;
 
@@ -14,6 +15,14 @@ fn ends_with_statuses(rt: HostRuntime) {
             1
         };
         assert_eq!(rt; ending(number), want, "at {number}");
+    }
+    assert_eq!(rt; exit_status(&Ok(())), 0);
+    for (stop, want) in [
+        (Stop::Usage, 2),
+        (Stop::of_number(65), 1),
+        (Stop::of_number(NO_MEMORY), 3),
+    ] {
+        assert_eq!(rt; exit_status(&Err(stop)), want);
     }
 }
 
@@ -76,6 +85,8 @@ const WRONG: &[&[&str]] = &[
     &["help"],
     &["try", "--help"],
     &["--version"],
+    &["compile", "d", "l"],
+    &["compile", "d", "l", "i", "--decks", "k"],
     &["run"],
     &["run", "d", "i", "a", "o", "l"],
     &["run", "d", "i", "a", "o", "l", "f", "g"],
@@ -113,6 +124,16 @@ const RIGHT: &[(&[&str], Command<'static>)] = &[
             dict: "-",
             image: "",
         },
+    ),
+    (
+        &["compile", "d", "--order", "o", "l", "i"],
+        Command::Compile(CompilePaths {
+            dict: "d",
+            logic: "l",
+            image: "i",
+            messages: None,
+            order: Some("o"),
+        }),
     ),
     (&["try", "-"], Command::Try { image: "-" }),
     (&["try", ""], Command::Try { image: "" }),

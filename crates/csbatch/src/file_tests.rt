@@ -2,8 +2,8 @@
 
 use crate::fault::Fault;
 use crate::outcome::Stop;
-use crate::plan::RunPaths;
-use crate::{file_bytes, run_and_tell, try_file, verify_files};
+use crate::plan::{CompilePaths, RunPaths};
+use crate::{compile_and_tell, file_bytes, run_and_tell, try_file, verify_files};
 
 /// Paths, and the number of the fault: a file that isn't there, none in a folder that isn't, an empty path,
 /// and a folder, which is opened and can't be read.
@@ -21,6 +21,14 @@ fn tells_opened_from_read(rt: HostRuntime) {
         assert_eq!(rt; file_bytes(&rt, path).err(), Some(want));
         assert_eq!(rt; try_file(&rt, path), Err(want));
         assert_eq!(rt; verify_files(&rt, path, "no_such_file"), Err(want));
+        let texts = CompilePaths {
+            dict: path,
+            logic: "no_such_file",
+            image: "",
+            messages: None,
+            order: None,
+        };
+        assert_eq!(rt; compile_and_tell(&rt, &texts), Err(want));
         let paths = RunPaths {
             dict: path,
             image: "no_such_file",

@@ -36,6 +36,17 @@ pub fn file_bytes<R: Files + AllocGlobal>(rt: &R, path: &str) -> Result<Vec<u8>,
     bytes_left(rt, &mut file)
 }
 
+/// All bytes of a file that is named; none, where it isn't.
+pub fn bytes_where_named<R: Files + AllocGlobal>(
+    rt: &R,
+    path: Option<&str>,
+) -> Result<Vec<u8>, Stop> {
+    match path {
+        Some(path) => file_bytes(rt, path),
+        None => Ok(Vec::new(rt.alloc())),
+    }
+}
+
 /// All bytes of a file, where there is one.
 pub fn bytes_where_there<R: Files + AllocGlobal>(
     rt: &R,

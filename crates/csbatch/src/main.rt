@@ -4,11 +4,13 @@
 //! - `try_image`: `try`, from the bytes of an image to the messages of its preproc.
 //! - `verify_image`: `verify`, from a dictionary and an image to what is known of the program. `verdict`:
 //!   its lines.
+//! - `compile_image`: `compile`, logic to the bytes of an image.
 //! - `run_image`: `run`, an image over a data file. `gathered`: bytes in memory.
 //! - `files`: the files of the commands.
 //! - `printing`, `fault`: lines for a device. `outcome`: the exit status.
 #![tactic(auto)]
 
+mod compile_image;
 mod fault;
 mod files;
 mod gathered;
@@ -20,12 +22,13 @@ mod try_image;
 mod verdict;
 mod verify_image;
 
+use compile_image::compile_files;
 use cse_value::Writes;
 use fault::{Fault, NO_MEMORY, WRITE_FAILED, fault_line};
 use files::file_bytes;
 use outcome::{Asked, Stop, exit_status};
-use plan::{Command, PlanFault, RunPaths, plan};
-use printing::write_totals;
+use plan::{Command, CompilePaths, PlanFault, RunPaths, plan};
+use printing::{write_compiled, write_totals};
 use run_image::run_files;
 use std::env;
 use std::io::{self, BufWriter, ErrorKind, Write};
@@ -37,9 +40,13 @@ use verify_image::verify_to;
 #[cfg(test)]
 mod code_tests;
 #[cfg(test)]
+mod compile_tests;
+#[cfg(test)]
 mod fault_tests;
 #[cfg(test)]
 mod file_tests;
+#[cfg(test)]
+mod image_tests;
 #[cfg(test)]
 mod run_tests;
 #[cfg(test)]
@@ -49,15 +56,18 @@ mod try_tests;
 #[cfg(test)]
 mod verify_tests;
 
-const USAGE: &str = "usage: csbatch try IMAGE
-       csbatch verify DICT IMAGE
-       csbatch run DICT IMAGE DATA OUT LIST FREQ [--decks F]
+const USAGE: &str = "usage: one of
 
-  try IMAGE           run the application's preproc of an image, and print its messages and its steps
-  verify DICT IMAGE   tell whether an image may run with a dictionary, and how many steps it may take
-  run DICT IMAGE DATA OUT LIST FREQ
-                      run an image over a data file, and write its lines, the listing and the frequencies
-    --decks F         begin with the hot decks of a file, where it is there, and write them to it";
+  csbatch compile DICT LOGIC IMAGE [--messages F] [--order F]  reads DICT, LOGIC and each F; writes IMAGE; ends with 0, 1 or 3
+  csbatch verify DICT IMAGE                                    reads DICT and IMAGE; writes no file; ends with 0, 1 or 3
+  csbatch run DICT IMAGE DATA OUT LIST FREQ [--decks F]        reads DICT, IMAGE, F where it is there, and DATA; writes OUT, LIST, FREQ and F; ends with 0, 1 or 3
+  csbatch try IMAGE                                            reads IMAGE; writes no file; ends with 0, 1 or 3
+
+compile makes an image of logic, with its messages and its edit order. verify tells whether an image may run with a
+dictionary, and how many steps it may take. run edits a data file, and begins with the hot decks of a file. try runs
+what an image does before the first case, and prints its messages.
+The status is 0 where it is done, 1 where something was refused, 2 for words that are no command, and 3 where a file, a
+device or memory failed. At 1 and 3 a line on standard error tells the fault.";
 
 fn main(rt: HostRuntime) -> ExitCode {
     let outcome = carry_out(&rt);
@@ -98,6 +108,7 @@ fn do_planned<R: Files + Print + AllocGlobal>(
     match planned {
         Ok(Command::Try { image }) => try_file(rt, image),
         Ok(Command::Verify { dict, image }) => verify_files(rt, dict, image),
+        Ok(Command::Compile(paths)) => compile_and_tell(rt, &paths),
         Ok(Command::Run(paths)) => run_and_tell(rt, &paths),
         Err(PlanFault::Usage) => Err(Stop::Usage),
         Err(PlanFault::Memory) => Err(Stop::of_number(NO_MEMORY)),
@@ -147,6 +158,19 @@ fn verify_files<R: Files + Print + AllocGlobal>(
         return Err(Stop::Refused(Fault::of_verify(&fault)));
     }
     match out.into_inner().flush() {
+        Ok(()) => Ok(()),
+        Err(_) => Err(Stop::of_number(WRITE_FAILED)),
+    }
+}
+
+/// `compile`, and how many bytes the image has.
+fn compile_and_tell<R: Files + Print + AllocGlobal>(
+    rt: &R,
+    paths: &CompilePaths<'_>,
+) -> Result<(), Stop> {
+    let bytes = compile_files(rt, paths)?;
+    let mut out = Writes::new(io::writer(rt));
+    match write_compiled(bytes, &mut out) {
         Ok(()) => Ok(()),
         Err(_) => Err(Stop::of_number(WRITE_FAILED)),
     }

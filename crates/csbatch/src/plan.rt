@@ -11,8 +11,22 @@ pub enum Command<'a> {
     Try { image: &'a str },
     /// `csbatch verify DICT IMAGE`: tell whether an image may run with a dictionary.
     Verify { dict: &'a str, image: &'a str },
+    /// `csbatch compile DICT LOGIC IMAGE [--messages F] [--order F]`: make an image of logic.
+    Compile(CompilePaths<'a>),
     /// `csbatch run DICT IMAGE DATA OUT LIST FREQ [--decks F]`: run an image over a data file.
     Run(RunPaths<'a>),
+}
+
+/// The files of `compile`.
+#[derive(Clone, Copy, Debug, PartialEq, Eq)]
+pub struct CompilePaths<'a> {
+    pub dict: &'a str,
+    pub logic: &'a str,
+    pub image: &'a str,
+    /// The messages that logic names by number.
+    pub messages: Option<&'a str>,
+    /// The records that come first in edit order.
+    pub order: Option<&'a str>,
 }
 
 /// The files of `run`.
@@ -64,6 +78,7 @@ fn command_of<'a>(matches: &ArgMatches<'a>) -> Result<Command<'a>, PlanFault> {
     match matches.subcommand() {
         Some(("try", matches)) => try_of(matches),
         Some(("verify", matches)) => verify_of(matches),
+        Some(("compile", matches)) => compile_of(matches),
         Some(("run", matches)) => run_of(matches),
         _ => Err(PlanFault::Usage),
     }
@@ -82,12 +97,18 @@ fn program_words<'a>(alloc: Global) -> Result<Clap<'a>, AllocError> {
         .no_binary_name(true)
         .subcommand(words)?;
     let program = program.subcommand(verify_words(alloc)?)?;
+    let program = program.subcommand(compile_words(alloc)?)?;
     program.subcommand(run_words(alloc)?)
 }
 
 /// A path that has to be given.
 fn path<'a>(alloc: Global, name: &'a str) -> Arg<'a> {
     Arg::new(alloc, name).required(true).action(ArgAction::Set)
+}
+
+/// A path that may be given after its name.
+fn named_path<'a>(alloc: Global, name: &'a str) -> Arg<'a> {
+    Arg::new(alloc, name).long(name).action(ArgAction::Set)
 }
 
 /// `try IMAGE`.
@@ -102,6 +123,17 @@ fn verify_words<'a>(alloc: Global) -> Result<Clap<'a>, AllocError> {
         .arg(path(alloc, "IMAGE"))
 }
 
+/// `compile DICT LOGIC IMAGE [--messages F] [--order F]`.
+fn compile_words<'a>(alloc: Global) -> Result<Clap<'a>, AllocError> {
+    let paths = Clap::new(alloc, "compile")
+        .arg(path(alloc, "DICT"))?
+        .arg(path(alloc, "LOGIC"))?
+        .arg(path(alloc, "IMAGE"))?;
+    paths
+        .arg(named_path(alloc, "messages"))?
+        .arg(named_path(alloc, "order"))
+}
+
 /// `run DICT IMAGE DATA OUT LIST FREQ [--decks F]`.
 fn run_words<'a>(alloc: Global) -> Result<Clap<'a>, AllocError> {
     let read = Clap::new(alloc, "run")
@@ -112,10 +144,7 @@ fn run_words<'a>(alloc: Global) -> Result<Clap<'a>, AllocError> {
         .arg(path(alloc, "OUT"))?
         .arg(path(alloc, "LIST"))?
         .arg(path(alloc, "FREQ"))?;
-    let decks = Arg::new(alloc, "decks")
-        .long("decks")
-        .action(ArgAction::Set);
-    written.arg(decks)
+    written.arg(named_path(alloc, "decks"))
 }
 
 fn try_of<'a>(matches: &ArgMatches<'a>) -> Result<Command<'a>, PlanFault> {
@@ -130,6 +159,17 @@ fn verify_of<'a>(matches: &ArgMatches<'a>) -> Result<Command<'a>, PlanFault> {
         (Some(dict), Some(image)) => Ok(Command::Verify { dict, image }),
         _ => Err(PlanFault::Usage),
     }
+}
+
+fn compile_of<'a>(matches: &ArgMatches<'a>) -> Result<Command<'a>, PlanFault> {
+    let given = |name: &str| matches.get_str(name).ok_or(PlanFault::Usage);
+    Ok(Command::Compile(CompilePaths {
+        dict: given("DICT")?,
+        logic: given("LOGIC")?,
+        image: given("IMAGE")?,
+        messages: matches.get_str("messages"),
+        order: matches.get_str("order"),
+    }))
 }
 
 fn run_of<'a>(matches: &ArgMatches<'a>) -> Result<Command<'a>, PlanFault> {

@@ -1,9 +1,10 @@
-//! Lines for a device: the texts of messages, how many steps an event took, and what a run counted.
+//! Lines for a device: the texts of messages, how many steps an event took, how many bytes an image has, and what a
+//! run counted.
 
 ghost use Rattle.std.specs.Prelude.{◌≡◌, [], ◌∷◌};
 ghost use Rattle.std.specs.List.{flat_map};
 ghost use Rattle.cse_value.specs.Writing.{WritesAll, FailsAtErr};
-ghost use Rattle.csbatch.specs.Printed.{text_line, text_lines, totals_line, steps_line, printed};
+ghost use Rattle.csbatch.specs.Printed.{text_line, text_lines, compiled_line, totals_line, steps_line, printed};
 
 use cse_batch::Totals;
 use cse_report::Listing;
@@ -60,6 +61,16 @@ pub fn print<W: Output>(listing: &Listing, steps: u64, out: &mut W) -> Result<()
 {
     write_texts(listing, out)?;
     write_steps(steps, out)
+}
+
+/// Writes how many bytes an image has that was made.
+pub fn write_compiled<W: Output>(bytes: usize, out: &mut W) -> Result<(), Failed>
+    ensures bytes { WritesAll result (W.contents out.old) (W.contents out.new) (compiled_line bytes) }
+    ensures failed { FailsAtErr result (W.has_failed out.old) (W.has_failed out.new) }
+{
+    let mut buffer = Buffer::new();
+    let bytes = buffer.format(bytes).as_bytes();
+    write_parts(&[b"compiled ", bytes, b" bytes\n"], out)
 }
 
 /// Writes what a run counted.

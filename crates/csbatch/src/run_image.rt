@@ -1,9 +1,10 @@
 //! `run`: an image over a data file, from the files of its words to those of its outputs.
 
-ghost use Rattle.std.specs.Prelude.{◌≡◌, [], Some, IfOk, IfSome, IfNone};
-ghost use Rattle.cse_decks.specs.Store.{StoreFits, first_kept};
+ghost use Rattle.std.specs.Prelude.{◌≡◌, [], Some, IfOk, IfErr, IfSome, IfNone};
+ghost use Rattle.cse_decks.specs.Store.{Kept, StoreFits, first_kept};
 ghost use Rattle.cse_decks.specs.DeckText.{IsDeckText};
-ghost use Rattle.cse_batch.specs.RunClauses.{RunsWhole, contents};
+ghost use Rattle.cse_batch.specs.RunClauses.{RunsWhole, contents, failures};
+ghost use Rattle.csbatch.specs.Stops.{IsMemory, IsStoreOf, TellsDeckFault, TellsRunFault};
 
 use crate::fault::{Fault, NO_MEMORY};
 use crate::files::{bytes_where_there, created, file_bytes, opened, write_file};
@@ -64,7 +65,8 @@ fn run_verified<R: Files + AllocGlobal, C: Code>(
     Ok(totals)
 }
 
-/// The store with the cells of a deck text, or a new one.
+/// The store with the cells of a deck text, or a new one. A deck text of the program is refused by want of memory
+/// alone, and another text by its first faulty line.
 pub fn store_of<C: Code>(
     alloc: Global,
     program: &Program<C>,
@@ -73,6 +75,9 @@ pub fn store_of<C: Code>(
     ensures fits { IfOk result (λ s. StoreFits program.now s) }
     ensures first { IfNone text.entry (IfOk result (λ s. s ≡ first_kept program.now)) }
     ensures loaded { IfSome text.entry (λ t. IfOk result (λ s. IsDeckText program.now t.now s)) }
+    ensures lacks_memory { IfNone text.entry (IfErr result IsMemory) }
+    ensures every_deck_text { IfSome text.entry (λ t. (s : Kept) → IsDeckText program.now t.now s → IsStoreOf s result) }
+    ensures refused { IfSome text.entry (λ t. IfErr result (TellsDeckFault program.now t.now)) }
 {
     let Some(text) = text else {
         return match Store::new(alloc, program) {
@@ -80,6 +85,16 @@ pub fn store_of<C: Code>(
             Err(_) => Err(Stop::of_number(NO_MEMORY)),
         };
     };
+    store_said(alloc, program, text)
+}
+
+/// The store that a deck text says.
+fn store_said<C: Code>(alloc: Global, program: &Program<C>, text: &[u8]) -> Result<Store, Stop>
+    ensures fits { IfOk result (λ s. StoreFits program.now s) }
+    ensures loaded { IfOk result (λ s. IsDeckText program.now text.now s) }
+    ensures every_deck_text { (s : Kept) → IsDeckText program.now text.now s → IsStoreOf s result }
+    ensures refused { IfErr result (TellsDeckFault program.now text.now) }
+{
     match load(alloc, program, text) {
         Ok(store) => Ok(store),
         Err(error) => Err(Stop::Refused(Fault::of_decks(error))),
@@ -123,8 +138,12 @@ pub fn run_on<C: Code, R: Input, O: Output, L: Output, F: Output>(
 ) -> Result<(Totals, Gathered), Stop>
     requires { StoreFits verified.now.image store }
     // The texts, the gathered one too, are those of the batch over all bytes of the input.
-    ensures { IfOk result (λ ran. RunsWhole verified.now store (R.remaining input.old) (R.remaining input.new)
+    ensures whole { IfOk result (λ ran. RunsWhole verified.now store (R.remaining input.old) (R.remaining input.new)
         (contents (O.contents out.old) (L.contents listing.old) (F.contents frequencies.old) (Some [])) (contents (O.contents out.new) (L.contents listing.new) (F.contents frequencies.new) (Some ran.1.bytes.items)) ran.0) }
+    // A stop tells the fault of such a run, but where memory had no place for the deck text.
+    ensures stopped { IfErr result (TellsRunFault verified.now store (R.remaining input.old) (R.remaining input.new)
+        (contents (O.contents out.old) (L.contents listing.old) (F.contents frequencies.old)) (contents (O.contents out.new) (L.contents listing.new) (F.contents frequencies.new))
+        (R.has_failed input.new) (failures (O.has_failed out.new) (L.has_failed listing.new) (F.has_failed frequencies.new))) }
 {
     let mut decks = Gathered::new(alloc);
     let ran = run(

@@ -13,7 +13,7 @@ use std::io;
 use std::test::Fail;
 
 /// Lists "Hi" in the application's preproc: one message, one routine of two instructions, one event.
-const HELLO: [u8; 94] = [
+pub const HELLO: [u8; 94] = [
     67, 83, 69, 66, 1, 0, 0, 0, // header
     0, 0, 0, 0, 0, 0, 0, 0, 0, 0, 0, 0, 0, 0, 0, 0, // records, items, sets, order
     0, 0, 0, 0, 0, 0, 0, 0, 0, 0, 0, 0, 0, 0, 0, 0, // constants, texts, globals, arrays
@@ -245,7 +245,7 @@ fn hello_routines(alloc: Global) -> Result<Vec<Routine>, AllocError> {
 }
 
 /// `HELLO` in version 2 of the format, which has a table of limits.
-fn hello_in_version_2(alloc: Global) -> Result<Vec<u8>, AllocError> {
+pub fn hello_in_version_2(alloc: Global) -> Result<Vec<u8>, AllocError> {
     let mut image = Vec::from_slice(alloc, &[67, 83, 69, 66, 2, 0, 0, 0])?;
     image.extend_from_slice(&[0; 36])?;
     image.extend_from_slice(&HELLO[40..])?;

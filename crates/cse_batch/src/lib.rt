@@ -27,8 +27,3 @@ pub use running::{run, run_by};
 pub use totals::{RunFault, Totals};
 pub use untouched::{checks_change_nothing, untouched_columns_stay, worked_edit};
 pub use worked::worked_rows;
-
-#[cfg(test)]
-mod samples;
-#[cfg(test)]
-mod tests;

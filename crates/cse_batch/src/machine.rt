@@ -3,6 +3,8 @@
 ghost use Rattle.std.specs.Prelude.{◌≡◌, Option, Some, None, IfOk, OnErr, true};
 ghost use Rattle.cse_bounds.specs.CaseEvents.{moment};
 ghost use Rattle.cse_verify.specs.Verified.{VerifiedProgram};
+ghost use Rattle.cse_case.specs.Fit.{IsFit};
+ghost use Rattle.cse_decks.specs.Store.{StoreFits};
 ghost use Rattle.cse_report.specs.Reports.{ReportsFit};
 ghost use Rattle.cse_steps.specs.Fits.{FitsFirst, is_of_run};
 ghost use Rattle.cse_machine.specs.Results.{HaltsAt, RunsTo};
@@ -34,6 +36,8 @@ pub trait Runs {
         ensures same { program self.new ≡ program self.old }
         ensures ended { IfOk result (λ n. RunsTo (program self.old) (moment event.code event.index occurrence) (Some case.old) store.old reports.old n (Some case.new) store.new reports.new) }
         ensures halted { OnErr result (HaltsAt (program self.old) (moment event.code event.index occurrence) (Some case.old) store.old reports.old (Some case.new) store.new reports.new) }
+        ensures case_fits { IsFit case.new }
+        ensures store_fits { StoreFits (program self.old).image store.new }
         ensures reports_fit { ReportsFit (program self.old).image reports.new };
 
     /// Runs an event of the application, which has no case, and tells its steps.
@@ -49,6 +53,7 @@ pub trait Runs {
         ensures same { program self.new ≡ program self.old }
         ensures ended { IfOk result (λ n. RunsTo (program self.old) (moment event.code event.index 0) None store.old reports.old n None store.new reports.new) }
         ensures halted { OnErr result (HaltsAt (program self.old) (moment event.code event.index 0) None store.old reports.old None store.new reports.new) }
+        ensures store_fits { StoreFits (program self.old).image store.new }
         ensures reports_fit { ReportsFit (program self.old).image reports.new };
 }
 

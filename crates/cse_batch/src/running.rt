@@ -229,6 +229,8 @@ pub fn run_by<C: Code, M: Runs, R: Input, O: Output, L: Output, F: Output, D: Ou
 ) -> Result<Totals, RunFault>
     requires machine { M.program machine.old ≡ verified.now }
     requires fits { StoreFits verified.now.image store }
+    // The machine still runs this program, so it may be lent to another run.
+    ensures same { M.program machine.new ≡ verified.now }
     ensures ok { IfOk result (λ totals. RunsWhole verified.now store (R.remaining input.old) (R.remaining input.new)
         (contents (O.contents out.old) (L.contents listing.old) (F.contents frequencies.old) (D.contents decks.old)) (contents (O.contents out.new) (L.contents listing.new) (F.contents frequencies.new) (D.contents decks.new)) totals) }
     ensures err { IfErr result (λ fault. RunStops verified.now store (R.remaining input.old) (R.remaining input.new)

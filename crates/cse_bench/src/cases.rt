@@ -17,10 +17,10 @@ use std::time::Instant;
 /// How many households there are.
 const HOUSEHOLDS: u32 = 1_000_000;
 
-/// The lines of the file: in each household a head, a spouse and a child, whose age lacks.
-fn lines(alloc: Global) -> Result<Vec<u8>, AllocError> {
+/// The lines of a file: in each household a head, a spouse and a child, whose age lacks.
+pub(crate) fn lines(alloc: Global, households: u32) -> Result<Vec<u8>, AllocError> {
     let mut bytes = Vec::new(alloc);
-    for i in 0..HOUSEHOLDS {
+    for i in 0..households {
         let household = format!(in alloc; "P{i:06}11 35\nP{i:06}22 33\nP{i:06}13\n")?;
         bytes.extend_from_slice(household.as_bytes())?;
     }
@@ -28,7 +28,7 @@ fn lines(alloc: Global) -> Result<Vec<u8>, AllocError> {
 }
 
 /// The program of an outline, verified, if it may run.
-fn verified<'a>(
+pub(crate) fn verified<'a>(
     alloc: Global,
     dictionary: &'a Dictionary,
     outline: &Outline<'_>,
@@ -66,7 +66,24 @@ fn run_over(alloc: Global, verified: &Verified<'_>, bytes: &[u8]) -> u64 {
     }
 }
 
-/// Runs a program three times, and prints the times.
+/// Runs a program over the bytes three times, and prints the times.
+fn time_runs<R: Clock + Print>(
+    alloc: Global,
+    rt: &R,
+    bytes: &[u8],
+    name: &str,
+    verified: &Verified<'_>,
+) -> io::Result<()> {
+    for _ in 0..3 {
+        let start = Instant::now(rt)?;
+        let cases = run_over(alloc, verified, bytes);
+        let millis = start.elapsed(rt)?.as_millis();
+        println!(rt; "run {name}, {cases} cases: {millis} ms")?;
+    }
+    Ok(())
+}
+
+/// Verifies a program, and prints the times of its runs.
 fn bench_program<R: Clock + Print>(
     alloc: Global,
     rt: &R,
@@ -77,21 +94,15 @@ fn bench_program<R: Clock + Print>(
     let Ok(dictionary) = Dictionary::read(alloc, SAMPLE.as_bytes()) else {
         return Ok(());
     };
-    let Some(verified) = verified(alloc, &dictionary, outline)? else {
-        return println!(rt; "run {name}: refused");
-    };
-    for _ in 0..3 {
-        let start = Instant::now(rt)?;
-        let cases = run_over(alloc, &verified, bytes);
-        let millis = start.elapsed(rt)?.as_millis();
-        println!(rt; "run {name}, {cases} cases: {millis} ms")?;
+    match verified(alloc, &dictionary, outline)? {
+        Some(verified) => time_runs(alloc, rt, bytes, name, &verified),
+        None => println!(rt; "run {name}: refused"),
     }
-    Ok(())
 }
 
 /// Runs each program over the lines.
 pub fn bench<R: Clock + Print>(alloc: Global, rt: &R) -> io::Result<()> {
-    let bytes = lines(alloc)?;
+    let bytes = lines(alloc, HOUSEHOLDS)?;
     bench_program(alloc, rt, &bytes, "without logic", &NOTHING)?;
     bench_program(alloc, rt, &bytes, "with checks", &CHECKS)?;
     bench_program(alloc, rt, &bytes, "with a hot deck", &DECK)

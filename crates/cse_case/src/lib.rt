@@ -26,6 +26,3 @@ pub use laws::{
 };
 pub use reader::CaseReader;
 pub use stream::CaseStream;
-
-#[cfg(test)]
-mod tests;

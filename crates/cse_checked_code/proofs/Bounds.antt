@@ -1,6 +1,6 @@
 -- The bound of each routine is at most its cost.
-use Rattle.std.proofs.Common.{◌≡◌, ◌≤◌, ◌<◌, ℕ, zero, suc, ◌+◌, true, false, ◌⊎◌, inl, inr, List, [], ◌∷◌, ◌++◌, length, get_or, Option, Some, None, refl, sym, ap, ◌∙◌, subst, arith}
-use Rattle.std.specs.Prelude.{slice_get, slice_index, All}
+use Rattle.std.proofs.Common.{◌≡◌, ◌≤◌, ◌<◌, ℕ, zero, suc, true, false, ◌⊎◌, inl, inr, List, [], ◌∷◌, ◌++◌, length, get_or, Some, None, ap, ◌∙◌, subst, arith}
+use Rattle.std.specs.Prelude.{slice_get, slice_index}
 use Rattle.std.specs.Option.{option_map, option_map_or}
 use Rattle.std.proofs.lemmas.Bool.{ltb-true}
 use Rattle.std.proofs.lemmas.List.{length-map}
@@ -18,7 +18,7 @@ use Rattle.cse_typed.specs.Typed.{Tree}
 use Rattle.cse_types.specs.MessageFile.{MessageText}
 use Rattle.cse_bounds.specs.Bound.{bound, bounds_below}
 use Rattle.cse_tables.specs.Outline.{Outline}
-use Rattle.cse_compile.specs.Program.{outlines, sizes, setting_for}
+use Rattle.cse_compile.specs.Program.{outlines, sizes}
 use Rattle.cse_checked_code.specs.Checked.{IsCompiled, spot_for}
 use Rattle.cse_checked_code.specs.Cost.{cost_by, costs_below, cost_of, HasFewDimensions, BoundsAreCosts}
 use Rattle.cse_checked_code.proofs.Sizes.{IsSmall}

@@ -1,22 +1,21 @@
 -- A routine takes at most the steps that its tokens cost.
-use Rattle.std.proofs.Common.{◌≡◌, ◌≤◌, ℕ, zero, suc, ◌+◌, ◌*◌, Bool, true, false, List, [], ◌∷◌, ◌++◌, length, Option, Some, None, refl, sym, ap, ◌∙◌, subst, arith}
-use Rattle.std.specs.Prelude.{slice_get, slice_index, max, min, ℤ, pos, negsuc}
+use Rattle.std.proofs.Common.{◌≤◌, ℕ, zero, suc, ◌+◌, ◌*◌, Bool, true, List, [], ◌∷◌, Option, Some, None, arith}
+use Rattle.std.specs.Prelude.{slice_index, min, ℤ, pos, negsuc}
 use Rattle.std.proofs.Math.Nat.{le-max_left, mul-le-mul_left, mul-le-mul_right}
 use Rattle.cse_value.specs.declared.number.Num.{Num}
 use Rattle.cse_value.specs.declared.number.Num.TheVariants as num
 use Rattle.cse_value.specs.Occurrences.{most_occurrences}
 use Rattle.cse_typed.specs.Typed.{Number, Words, Numbers, Operations, Constant, Special', Variable', Item, ItemAt, Cell, Call, Group, Int, IsSpecial, Deck, TotOcc, MaxOcc, CurOcc, InSet, Minus, Not, Compare, CompareTexts, Chain}
 use Rattle.cse_typed.specs.Typed.{Quoted, TextGlobal, TextItem, TextItemAt, TextGroup, no_number, number_and, no_operation, operation_and}
-use Rattle.cse_typed.specs.Typed.{Which, Here, At, Argument, OfNumber, OfWords, Counting, Statement, Statements, Arms}
+use Rattle.cse_typed.specs.Typed.{Which, Here, At, Argument, OfNumber, OfWords, Statement, Statements, Arms}
 use Rattle.cse_typed.specs.Typed.{Empty, Set, SetText, SetItem, SetTextItem, SetCell, CallOf, If, For, Do, Jump', Impute, PutDeck, ErrMsg, no_statement, statement_and, no_arm, else_of, arm}
-use Rattle.cse_typed.specs.Erase.{erase, erase_counting, erase_statement}
-use Rattle.cse_typed.specs.Tokens.{expr_tokens, counting_tokens, stmt_tokens}
-use Rattle.cse_emit.specs.Setting.{Setting}
+use Rattle.cse_typed.specs.Erase.{erase_counting}
+use Rattle.cse_typed.specs.Tokens.{counting_tokens}
 use Rattle.cse_emit.specs.Routines.{entry_size_by}
-use Rattle.cse_emit.specs.Statements.{as_limit, head_size, turns_size_by, known, turn_limit, exit_size_by, statement_size, block_size, arms_size}
+use Rattle.cse_emit.specs.Statements.{as_limit, head_size, turns_size_by, known, turn_limit, statement_size, arms_size}
 use Rattle.cse_emitted.specs.Fit.{Spot, Within, over, StatementFits, BlockFits, ArmsFit}
 use Rattle.cse_emitted.specs.Steps.{number_calls, words_calls, numbers_calls, operations_calls, which_calls, argument_calls, arguments_calls, loop_steps, statement_steps, block_steps, arms_steps, routine_steps}
-use Rattle.cse_checked_code.specs.Cost.{calls_of, statement_cost, block_cost, arms_cost, routine_cost}
+use Rattle.cse_checked_code.specs.Cost.{statement_cost, block_cost, arms_cost, routine_cost}
 use Rattle.cse_checked_code.proofs.Sizes.{IsSmall, small_over, jump_small, exit_small, number_small, words_small, numbers_small, which_small, arguments_small, place_small, deck_place_small, jump_code_small}
 
 -- ---- calls

@@ -9,3 +9,7 @@ pub mod Whole
 pub mod Sizes
 pub mod Costs
 pub mod Bounds
+pub mod EditOrder
+pub mod EventsFit
+pub mod SoundLaws
+pub mod CaseCosts

@@ -1,6 +1,6 @@
 -- What names mean is in the tables of the program.
-use Rattle.std.proofs.Common.{◌≡◌, ◌≤◌, ◌<◌, ℕ, suc, zero, ◌+◌, Bool, true, false, List, [], ◌∷◌, ◌++◌, length, map, Option, Some, None, refl, sym, ap, ◌∙◌, subst, arith}
-use Rattle.std.specs.Prelude.{slice_get, nat_le, nat_lt, position, if◌then◌else◌, replicate}
+use Rattle.std.proofs.Common.{◌≡◌, ◌<◌, ℕ, ◌+◌, Bool, true, false, List, [], ◌∷◌, ◌++◌, length, map, Option, Some, None, refl, ap, ◌∙◌, subst, arith}
+use Rattle.std.specs.Prelude.{slice_get, nat_le, position, if◌then◌else◌, replicate}
 use Rattle.std.specs.Option.{option_map}
 use Rattle.std.specs.Map.{lookup}
 use Rattle.std.specs.Str.{bytes_eq}
@@ -9,10 +9,9 @@ use Rattle.std.proofs.lemmas.List.{length-map, length-replicate}
 use Rattle.std.proofs.lemmas.List.Quantifiers.{position-Some}
 use Rattle.std.proofs.lemmas.Option.{same_Some, none-some}
 use Rattle.cse_parts.specs.declared.entries.GlobalVariable.{GlobalVariable}
-use Rattle.cse_dict.specs.Dictionary.{DictionaryText, RecordText, shape_of, number_named, record_names, item_names, set_names}
+use Rattle.cse_dict.specs.Dictionary.{RecordText, shape_of, number_named, record_names, item_names, set_names}
 use Rattle.cse_dict.specs.Keys.{kept_name}
 use Rattle.cse_syntax.specs.Tree.{Spelling}
-use Rattle.cse_typing.specs.declared.kind.Kind.{Kind}
 use Rattle.cse_typing.specs.declared.kind.Kind.TheVariants as kind
 use Rattle.cse_typing.specs.Kinds.{global_kind}
 use Rattle.cse_typing.specs.Signature.{is_record, global_at, local_at}
@@ -78,7 +77,7 @@ pub place_within : {A : Type 0} (test : A → Bool) (xs : List A) (k : ℕ) → 
 place_within test [] k e = absurd (none-some k e)
 place_within test (x ∷ xs) k e = (position-Some test (x ∷ xs) k x e).0
 
-named_within : (name : List ℕ) (names : List (List ℕ)) (k : ℕ) → number_named name names ≡ Some k → k < length names
+pub named_within : (name : List ℕ) (names : List (List ℕ)) (k : ℕ) → number_named name names ≡ Some k → k < length names
 named_within name names k e = by (nat_le (length name) 32) e
   where
     by : (b : Bool) → (if b then position (bytes_eq (kept_name name)) names else None) ≡ Some k → k < length names

@@ -1,6 +1,6 @@
 -- Sound expressions fit the tables.
-use Rattle.std.proofs.Common.{◌≡◌, ◌≤◌, ◌<◌, ℕ, suc, zero, ◌+◌, Bool, true, false, ◌&&◌, ◌||◌, List, [], ◌∷◌, length, map, Option, Some, None, refl, sym, ap, ◌∙◌, subst, arith}
-use Rattle.std.specs.Prelude.{slice_get, ◌==◌, not, nat_lt, replicate, if◌then◌else◌}
+use Rattle.std.proofs.Common.{◌≡◌, ℕ, suc, ◌+◌, Bool, true, false, ◌&&◌, ◌||◌, List, [], ◌∷◌, length, Option, Some, None, refl, sym, ap, ◌∙◌, subst, arith}
+use Rattle.std.specs.Prelude.{slice_get, ◌==◌, not, replicate, if◌then◌else◌}
 use Rattle.std.specs.List.{list_any}
 use Rattle.std.specs.Option.{option_map, option_and_then}
 use Rattle.std.proofs.lemmas.Bool.{false≢true, and_from, lt-ltb, eqb-true}
@@ -10,14 +10,10 @@ use Rattle.cse_value.specs.declared.shape.ItemKind.TheVariants as items
 use Rattle.cse_value.specs.declared.shape.ItemShape.{ItemShape}
 use Rattle.cse_value.specs.Shape.{ShapeLists}
 use Rattle.cse_parts.specs.declared.instruction.Op.TheVariants as ops
-use Rattle.cse_parts.specs.declared.entries.Gift.TheVariants as gifts
-use Rattle.cse_parts.specs.Image.{ArrayLists, RoutineLists}
 use Rattle.cse_dict.specs.Dictionary.{DictionaryText, ItemText, SetText as ValueSet, shape_of}
 use Rattle.cse_syntax.specs.Tree.{Spelling}
-use Rattle.cse_typing.specs.declared.kind.Kind.{Kind}
 use Rattle.cse_typing.specs.declared.kind.Kind.TheVariants as kind
-use Rattle.cse_typing.specs.Kinds.{local_kind}
-use Rattle.cse_typing.specs.Signature.{is_record, rows_of, rows_by, is_numeric, is_number_kind, is_text_kind, item_where, is_id, id_number, id_text, number_item, text_item, global_at, local_at}
+use Rattle.cse_typing.specs.Signature.{is_record, rows_of, rows_by, is_numeric, is_number_kind, is_text_kind, item_where, is_id, id_number, id_text, number_item, text_item}
 use Rattle.cse_typing.specs.Calls.{calls_well, may_call as may_be_called}
 use Rattle.cse_typing.specs.Order.{is_run}
 use Rattle.cse_typed.specs.declared.tree.Variable.{Variable}
@@ -31,13 +27,13 @@ use Rattle.cse_typed.specs.Typed.{Number, Words, Numbers, Operations, Constant, 
 use Rattle.cse_typed.specs.Typed.{Quoted, TextGlobal, TextItem, TextItemAt, TextGroup, no_number, number_and, no_operation, operation_and, Dimension, Sized, Rows}
 use Rattle.cse_types.specs.declared.meaning.Meaning.{Meaning}
 use Rattle.cse_types.specs.declared.meaning.Meaning.TheVariants as m
-use Rattle.cse_types.specs.Scope.{Scope, Facts, meant, variable_named, variable_meant, loop_variable, loop_variable_meant, has_case, kind_and_owner, found, is_looped, is_event_of, most_of, are_free}
-use Rattle.cse_types.specs.Uses.{Use, TheCase, Calls, facts_need, needs_case, uses, uses_words, uses_all, uses_operations}
+use Rattle.cse_types.specs.Scope.{Scope, Facts, meant, variable_named, variable_meant, loop_variable, loop_variable_meant, has_case, kind_and_owner, found, is_looped, is_event_of, most_of}
+use Rattle.cse_types.specs.Uses.{Use, Calls, facts_need, needs_case, uses, uses_words, uses_all, uses_operations}
 use Rattle.cse_types.specs.WellTyped as t
 use Rattle.cse_types.specs.WellTyped.{IsField, IsPresent, IsNumberSet, set_kind, kind_of, whole_set, AreDeckPicks, dimensions_of, may_call, suits, IsNumber, IsWords, AreNumbers, AreOperands}
 use Rattle.cse_emit.specs.Numbers.{count}
-use Rattle.cse_emitted.specs.Fit.{Spot, HasCase, IsRecord, IsFound, IsEntry, IsNumberVariable, variable_kind, IsNumberField, IsTextField, IsNumberPresent, IsTextPresent, IsArray, ArePicks, row_count, IsDeck, numbers_kinds, IsFunction, NumberFits, WordsFit, NumbersFit, OperationsFit}
-use Rattle.cse_checked_code.proofs.Agrees.{MeaningFits, SizesFit, ArrayFits, FunctionFits, Agrees, InLoops, Cased, cased_left, cased_right, cased_call, cased_tail, cased_here}
+use Rattle.cse_emitted.specs.Fit.{Spot, HasCase, IsFound, IsEntry, IsNumberVariable, IsNumberField, IsTextField, IsNumberPresent, IsTextPresent, IsArray, ArePicks, row_count, IsDeck, numbers_kinds, IsFunction, NumberFits, WordsFit, NumbersFit, OperationsFit}
+use Rattle.cse_checked_code.proofs.Agrees.{MeaningFits, SizesFit, FunctionFits, Agrees, Cased, cased_left, cased_right, cased_call, cased_tail, cased_here}
 
 and_left : (a b : Bool) → (a && b) ≡ true → a ≡ true
 and_left true b e = refl

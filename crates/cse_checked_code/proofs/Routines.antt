@@ -7,7 +7,6 @@ use Rattle.std.proofs.lemmas.List.{length-map, length-append, map-append, append
 use Rattle.std.proofs.lemmas.List.Elements.{All-get_or}
 use Rattle.std.proofs.lemmas.Option.{same_Some, none-some, slice_get-map, slice_get_within, get_or_from_slice_get}
 use Rattle.cse_value.specs.declared.shape.ItemKind.{ItemKind}
-use Rattle.cse_parts.specs.declared.entries.Ambient.TheVariants as ambients
 use Rattle.cse_parts.specs.declared.entries.Local.{Local}
 use Rattle.cse_parts.specs.Image.{Image, Lists, ArrayLists, MessageLists, RoutineLists}
 use Rattle.cse_dict.specs.Dictionary.{DictionaryText, ItemText, RecordText, shape_of}
@@ -15,8 +14,7 @@ use Rattle.cse_dict.specs.Keys.{kept_name}
 use Rattle.cse_dict.specs.Sound.{IsSound, IsSoundItem}
 use Rattle.cse_syntax.specs.Tree as syntax
 use Rattle.cse_syntax.specs.Word.{Word}
-use Rattle.cse_syntax.specs.Grammar.{Each, AreStmts, IsDeclaration, IsBody as IsBodyOf, IsProcedure, AreGlobals, IsSource}
-use Rattle.cse_typing.specs.declared.kind.Kind.{Kind}
+use Rattle.cse_syntax.specs.Grammar.{Each, AreStmts, IsDeclaration, IsBody as IsBodyOf, IsProcedure, AreGlobals}
 use Rattle.cse_typing.specs.declared.kind.Kind.TheVariants as kind
 use Rattle.cse_typing.specs.Kinds.{local_kind}
 use Rattle.cse_typing.specs.Signature.{is_record, local_at}
@@ -27,25 +25,24 @@ use Rattle.cse_typed.specs.declared.tree.Owner.{Owner}
 use Rattle.cse_typed.specs.declared.tree.Owner.TheVariants as owners
 use Rattle.cse_typed.specs.Typed.{Statements, Dimension, Function, Declaration, Numeric, Alpha, Array', Function', Body, Plain, Preproc, Both, Postproc, Procedure, Tree}
 use Rattle.cse_typed.specs.Erase.{erase_block, erase_body, erase_declaration, erase_procedure, erase_tree}
-use Rattle.cse_tables.specs.declared.outlines.Sort.{Sort}
 use Rattle.cse_tables.specs.declared.outlines.Sort.TheVariants as sorts
 use Rattle.cse_tables.specs.Tables.{globals_in, arrays_in, message_of}
 use Rattle.cse_tables.specs.Outline.{Outline, Handler, ambient_of, gives_of, parameters_of, locals_of, number_local, numbers, outline_of, functions_in, is_idle, event_of, handler_of, handlers_of_body, handlers_in}
-use Rattle.cse_compile.specs.Program.{declarations_in, declarations, handlers, outlines, sizes, setting_for, entry_of, IsProgramOf}
+use Rattle.cse_compile.specs.Program.{declarations_in, declarations, handlers, outlines, sizes, entry_of}
 use Rattle.cse_types.specs.MessageFile.{MessageText}
 use Rattle.cse_types.specs.declared.meaning.Routine.{Routine}
 use Rattle.cse_types.specs.declared.meaning.Routine.TheVariants as r
 use Rattle.cse_types.specs.Scope.{Scope, Facts, declared_from, is_looped, kind_and_owner, own_result, is_event_of, has_case}
-use Rattle.cse_types.specs.Uses.{Use, needs_case, uses_block, facts_of}
+use Rattle.cse_types.specs.Uses.{facts_of}
 use Rattle.cse_types.specs.WellTyped as w
 use Rattle.cse_types.specs.WellTyped.{AreStatements, AreDeclared, AreProcedures, IsBody, all_declarations, typed_declarations, parameter_names, first_scope, with_functions, messages_of, declared_messages, procedure_messages, body_messages, tree_messages}
-use Rattle.cse_emitted.specs.Fit.{Spot, HasCase, variable_kind, BlockFits}
+use Rattle.cse_emitted.specs.Fit.{Spot, variable_kind, BlockFits}
 use Rattle.cse_emitted.proofs.At.{HasAt, has_self, has_front, has_back}
 use Rattle.cse_checked_code.specs.Checked.{IsCompiled, spot_for}
-use Rattle.cse_checked_code.proofs.Agrees.{is_open, ArrayFits, FunctionFits, Agrees, InLoops, Cased}
+use Rattle.cse_checked_code.proofs.Agrees.{is_open, ArrayFits, FunctionFits, Agrees, InLoops}
 use Rattle.cse_checked_code.proofs.Names.{AllMean, declared_mean, name_fits}
 use Rattle.cse_checked_code.proofs.Statements.{block_fits}
-use Rattle.cse_checked_code.proofs.Tables.{front_at, ArraysKnown, arrays_known, array_at, FunctionsKnown, one_more, known_length, function_at}
+use Rattle.cse_checked_code.proofs.Tables.{front_at, ArraysKnown, arrays_known, array_at, FunctionsKnown, one_more, function_at}
 
 -- ---- locals
 

@@ -1,6 +1,6 @@
 -- The code of a tree that fits has at most 16 instructions a token.
-use Rattle.std.proofs.Common.{◌≡◌, ◌≤◌, ℕ, zero, suc, ◌+◌, ◌*◌, Bool, true, false, List, [], ◌∷◌, length, Option, Some, None, refl, ap, ◌∙◌, arith}
-use Rattle.std.specs.Prelude.{slice_get, not, if◌then◌else◌, ◌||◌}
+use Rattle.std.proofs.Common.{◌≡◌, ◌≤◌, ℕ, suc, ◌+◌, ◌*◌, Bool, true, false, List, [], ◌∷◌, length, Option, Some, None, refl, ap, arith}
+use Rattle.std.specs.Prelude.{slice_get, if◌then◌else◌}
 use Rattle.std.proofs.Math.Nat.{min-le_right}
 use Rattle.cse_parts.specs.Image.{ArrayLists}
 use Rattle.cse_syntax.specs.declared.tree.Jump.{Jump}
@@ -15,7 +15,7 @@ use Rattle.cse_typed.specs.Typed.{Number, Words, Numbers, Operations, Constant, 
 use Rattle.cse_typed.specs.Typed.{Quoted, TextGlobal, TextItem, TextItemAt, TextGroup, no_number, number_and, no_operation, operation_and}
 use Rattle.cse_typed.specs.Typed.{Which, Here, At, Argument, OfNumber, OfWords}
 use Rattle.cse_typed.specs.Erase.{erase, erase_words, erase_all, erase_operations, erase_which, erase_argument, erase_arguments}
-use Rattle.cse_typed.specs.Tokens.{two_tokens, expr_tokens, exprs_tokens, others_tokens, operations_tokens, subscripts_tokens}
+use Rattle.cse_typed.specs.Tokens.{expr_tokens, exprs_tokens, others_tokens, operations_tokens, subscripts_tokens}
 use Rattle.cse_value.specs.Occurrences.{most_occurrences}
 use Rattle.cse_emit.specs.Wide.{jump_size}
 use Rattle.cse_emit.specs.Setting.{Setting}

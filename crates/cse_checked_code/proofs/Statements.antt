@@ -4,9 +4,7 @@ use Rattle.std.specs.Prelude.{slice_get, unwrap_or}
 use Rattle.std.specs.Option.{option_map}
 use Rattle.std.proofs.lemmas.List.{length-map, map-append}
 use Rattle.std.proofs.lemmas.Option.{same_Some, none-some}
-use Rattle.cse_value.specs.declared.shape.ItemKind.TheVariants as items
 use Rattle.cse_parts.specs.Image.{MessageLists}
-use Rattle.cse_parts.specs.declared.placeholders.ArgumentKind.{ArgumentKind}
 use Rattle.cse_parts.specs.Placeholders.{message_kinds}
 use Rattle.cse_syntax.specs.declared.tree.Count.TheVariants as counts
 use Rattle.cse_syntax.specs.declared.tree.Jump.{Jump}
@@ -14,7 +12,7 @@ use Rattle.cse_syntax.specs.declared.tree.Jump.TheVariants as j
 use Rattle.cse_syntax.specs.Tree as syntax
 use Rattle.cse_syntax.specs.Grammar.{Below, IsStmt, AreStmts, AreArms as AreArmsOf}
 use Rattle.cse_typing.specs.Kinds as kinds
-use Rattle.cse_typed.specs.Typed.{Which, Here, At, Argument, OfNumber, OfWords, Limit, Fixed, Counted, Counting, Statement, Statements, Arms}
+use Rattle.cse_typed.specs.Typed.{Which, Here, At, Argument, OfNumber, OfWords, Limit, Fixed, Counted, Statement, Statements, Arms}
 use Rattle.cse_typed.specs.Typed.{Empty, Set, SetText, SetItem, SetTextItem, SetCell, CallOf, If, For, Do, Jump', Impute, PutDeck, ErrMsg, no_statement, statement_and, no_arm, else_of, arm}
 use Rattle.cse_typed.specs.Erase.{erase_statement, erase_block, erase_arms}
 use Rattle.cse_tables.specs.Tables.{message_of}
@@ -22,8 +20,8 @@ use Rattle.cse_types.specs.declared.meaning.Meaning.TheVariants as meaning
 use Rattle.cse_types.specs.MessageFile.{MessageText}
 use Rattle.cse_types.specs.Scope.{Scope, Loops, within}
 use Rattle.cse_types.specs.Uses.{uses, uses_words, uses_all, uses_which, uses_argument, uses_arguments, uses_limit, assigns, uses_of, uses_block, uses_arms}
-use Rattle.cse_types.specs.WellTyped.{messages_in, messages_of, messages_behind, message_meant, kinds_of, no_message, entry_of, argument_kind, IsArgument, AreArguments, IsWhich, IsLimit, IsCounting, may_jump, IsStatement, AreStatements, AreArms}
-use Rattle.cse_emitted.specs.Fit.{Spot, WhichFits, ArgumentFits, ArgumentsFit, kind_of, IsMessage, LimitFits, CountingFits, over, Within, JumpFits, StatementFits, BlockFits, ArmsFit}
+use Rattle.cse_types.specs.WellTyped.{messages_in, messages_of, messages_behind, message_meant, kinds_of, no_message, entry_of, argument_kind, IsArgument, AreArguments, IsWhich, IsLimit, may_jump, IsStatement, AreStatements, AreArms}
+use Rattle.cse_emitted.specs.Fit.{Spot, WhichFits, ArgumentFits, ArgumentsFit, kind_of, IsMessage, LimitFits, over, Within, JumpFits, StatementFits, BlockFits, ArmsFit}
 use Rattle.cse_emitted.proofs.At.{HasAt, has_front, has_back}
 use Rattle.cse_checked_code.proofs.Agrees.{is_open, Agrees, agrees_in_do, agrees_in_for, InLoops, loops_in_do, loops_in_for, Cased, cased_left, cased_right, cased_call, cased_tail, cased_here}
 use Rattle.cse_checked_code.proofs.Numbers.{variable_fits, loop_variable_fits, number_field_fits, text_field_fits, found_fits, array_fits, deck_fits, function_fits, record_fits, number_fits, words_fit, numbers_fit}

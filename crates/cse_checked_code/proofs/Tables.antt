@@ -1,16 +1,15 @@
 -- Arrays and functions that are known at a place of logic are in the tables of the program.
-use Rattle.std.proofs.Common.{◌≡◌, ◌≤◌, ◌<◌, ℕ, suc, zero, ◌+◌, Bool, true, false, List, [], ◌∷◌, ◌++◌, length, map, Option, Some, None, refl, sym, ap, ◌∙◌, subst, arith}
-use Rattle.std.specs.Prelude.{slice_get, ◌==◌, if◌then◌else◌, All}
+use Rattle.std.proofs.Common.{◌≡◌, ◌≤◌, ℕ, suc, zero, ◌+◌, Bool, true, false, List, [], ◌∷◌, ◌++◌, length, map, Option, Some, None, refl, sym, ap, ◌∙◌, subst, arith}
+use Rattle.std.specs.Prelude.{slice_get, ◌==◌, if◌then◌else◌}
+use Rattle.std.specs.List.{AllByRecursion}
 use Rattle.std.specs.Option.{option_map}
 use Rattle.std.proofs.lemmas.Option.{same_Some, none-some}
 use Rattle.cse_value.specs.Shape.{ShapeLists}
 use Rattle.cse_parts.specs.Image.{ArrayLists}
-use Rattle.cse_dict.specs.Dictionary.{DictionaryText, SetText as ValueSet, shape_of}
+use Rattle.cse_dict.specs.Dictionary.{SetText as ValueSet, shape_of}
 use Rattle.cse_syntax.specs.Grammar.{Each, IsSome, IsDeclaration}
-use Rattle.cse_typing.specs.Signature.{rows_of}
 use Rattle.cse_typed.specs.Typed.{Dimension, Sized, Rows, Declaration, Numeric, Alpha, Array', Function'}
 use Rattle.cse_typed.specs.Erase.{erase_dimension, erase_declaration, erase_block}
-use Rattle.cse_tables.specs.declared.outlines.Sort.{Sort}
 use Rattle.cse_tables.specs.declared.outlines.Sort.TheVariants as sorts
 use Rattle.cse_tables.specs.Tables.{size_of, arrays_in}
 use Rattle.cse_tables.specs.Outline.{Outline}
@@ -22,12 +21,6 @@ use Rattle.cse_checked_code.proofs.Agrees.{SizesFit}
 use Rattle.cse_checked_code.proofs.Numbers.{has_set}
 
 -- ---- lists
-
-all_first : {A : Type 0} (P : A → Type 0) (x : A) (xs : List A) → All P (x ∷ xs) → P x
-all_first P x xs h = h zero x (omega arith)
-
-all_rest : {A : Type 0} (P : A → Type 0) (x : A) (xs : List A) → All P (x ∷ xs) → All P xs
-all_rest P x xs h = λ k d lt. h (suc k) d (omega (arith, lt))
 
 pub front_at : {A : Type 0} (xs ys : List A) (k : ℕ) (x : A) → slice_get xs k ≡ Some x → slice_get (xs ++ ys) k ≡ Some x
 front_at [] ys k x e = absurd (none-some x e)
@@ -44,13 +37,12 @@ dimension_rows set entry one_more size e h = by (entry.shape.rows == 0) one_more
     by false true h = sym (same_Some _ _ h)
     by false false h = let e : entry.shape.rows + 0 ≡ size = same_Some _ _ h in omega (arith, e)
 
-sizes_fit : (c : Scope) (ds : List Dimension) → All (IsDimension c) ds → SizesFit (shape_of c.dictionary) ds (map size_of ds)
+sizes_fit : (c : Scope) (ds : List Dimension) → AllByRecursion (IsDimension c) ds → SizesFit (shape_of c.dictionary) ds (map size_of ds)
 sizes_fit c [] h = tt
-sizes_fit c (Sized digits size ∷ ds) h = sizes_fit c ds (all_rest (IsDimension c) (Sized digits size) ds h)
+sizes_fit c (Sized digits size ∷ ds) h = sizes_fit c ds h.1
 sizes_fit c (Rows name set one_more size ∷ ds) h =
-    let f = all_first (IsDimension c) (Rows name set one_more size) ds h in
-    let b = has_set c.dictionary set f.1 in
-    ((b.entry.shape.rows, b.rows, dimension_rows (slice_get c.dictionary.sets set) b.entry one_more size b.there f.2), sizes_fit c ds (all_rest (IsDimension c) (Rows name set one_more size) ds h))
+    let b = has_set c.dictionary set h.0.1 in
+    ((b.entry.shape.rows, b.rows, dimension_rows (slice_get c.dictionary.sets set) b.entry one_more size b.there h.0.2), sizes_fit c ds h.1)
 
 some_dimension : (ds : List Dimension) → IsSome (map erase_dimension ds) → 1 ≤ length ds
 some_dimension [] h = absurd h

@@ -6,7 +6,7 @@ use Rattle.cse_parts.specs.Image.{Image, ArrayLists}
 use Rattle.cse_dict.specs.Dictionary.{DictionaryText, shape_of}
 use Rattle.cse_syntax.specs.Tree as syntax
 use Rattle.cse_syntax.specs.Word.{Word}
-use Rattle.cse_typed.specs.Typed.{Number, Words, Numbers, Operations, Argument, Which, Here, At, Statement, Statements, Arms, Tree}
+use Rattle.cse_typed.specs.Typed.{Statement, Statements, Arms, Tree}
 use Rattle.cse_typed.specs.Typed.{Empty, Set, SetText, SetItem, SetTextItem, SetCell, CallOf, If, For, Do, Jump', Impute, PutDeck, ErrMsg, no_statement, statement_and, no_arm, else_of, arm}
 use Rattle.cse_typed.specs.Erase.{erase, erase_counting, erase_statement}
 use Rattle.cse_typed.specs.Tokens.{expr_tokens, counting_tokens, stmt_tokens}

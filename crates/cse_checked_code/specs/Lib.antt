@@ -1,2 +1,4 @@
 pub mod Checked
 pub mod Cost
+pub mod Sound
+pub mod Costs

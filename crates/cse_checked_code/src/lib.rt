@@ -6,4 +6,7 @@
 
 mod laws;
 
-pub use laws::{bounds_are_costs, code_of_a_source_is_typed};
+pub use laws::{
+    bounds_are_costs, cheap_sources_are_bounded, code_of_a_source_is_typed, sources_are_sound,
+    spelled_bounds_are_costs,
+};

@@ -1,6 +1,6 @@
 //! Fields written at the end of a list of bytes.
 
-ghost use Rattle.std.specs.Prelude.{◌≡◌, ◌++◌, OnOk};
+ghost use Rattle.std.specs.Prelude.{◌≡◌, ℕ, ◌++◌, take, OnOk, OnErr};
 ghost use Rattle.std.specs.List.{flat_map};
 ghost use Rattle.cse_codec.specs.Spelling.{u8 as u8_spelling, u16 as u16_spelling, u32 as u32_spelling, i64 as i64_spelling};
 
@@ -9,7 +9,8 @@ use std::alloc::AllocError;
 
 #[inline]
 pub fn put_u8(out: &mut Vec<u8>, n: u8) -> Result<(), AllocError>
-    ensures { OnOk result (out.new.items ≡ out.old.items ++ u8_spelling n) }
+    ensures bytes { OnOk result (out.new.items ≡ out.old.items ++ u8_spelling n) }
+    ensures err { OnErr result (out.new.items ≡ out.old.items) }
 {
     out.push(n)?;
     Ok(())
@@ -17,7 +18,8 @@ pub fn put_u8(out: &mut Vec<u8>, n: u8) -> Result<(), AllocError>
 
 #[inline]
 pub fn put_u16(out: &mut Vec<u8>, n: u16) -> Result<(), AllocError>
-    ensures { OnOk result (out.new.items ≡ out.old.items ++ u16_spelling n) }
+    ensures bytes { OnOk result (out.new.items ≡ out.old.items ++ u16_spelling n) }
+    ensures err { OnErr result (out.new.items ≡ out.old.items) }
 {
     let mut bytes = [0; 2];
     LittleEndian::write_u16(&mut bytes, n);
@@ -27,7 +29,8 @@ pub fn put_u16(out: &mut Vec<u8>, n: u16) -> Result<(), AllocError>
 
 #[inline]
 pub fn put_u32(out: &mut Vec<u8>, n: u32) -> Result<(), AllocError>
-    ensures { OnOk result (out.new.items ≡ out.old.items ++ u32_spelling n) }
+    ensures bytes { OnOk result (out.new.items ≡ out.old.items ++ u32_spelling n) }
+    ensures err { OnErr result (out.new.items ≡ out.old.items) }
 {
     let mut bytes = [0; 4];
     LittleEndian::write_u32(&mut bytes, n);
@@ -38,7 +41,8 @@ pub fn put_u32(out: &mut Vec<u8>, n: u32) -> Result<(), AllocError>
 /// The number is read behind a reference, so that its range is known.
 #[inline]
 pub fn put_i64(out: &mut Vec<u8>, n: &i64) -> Result<(), AllocError>
-    ensures { OnOk result (out.new.items ≡ out.old.items ++ i64_spelling n.now) }
+    ensures bytes { OnOk result (out.new.items ≡ out.old.items ++ i64_spelling n.now) }
+    ensures err { OnErr result (out.new.items ≡ out.old.items) }
 {
     let mut bytes = [0; 8];
     LittleEndian::write_i64(&mut bytes, *n);
@@ -48,13 +52,15 @@ pub fn put_i64(out: &mut Vec<u8>, n: &i64) -> Result<(), AllocError>
 
 #[inline]
 pub fn put_bytes(out: &mut Vec<u8>, bytes: &[u8]) -> Result<(), AllocError>
-    ensures { OnOk result (out.new.items ≡ out.old.items ++ bytes.now) }
+    ensures bytes { OnOk result (out.new.items ≡ out.old.items ++ bytes.now) }
+    ensures err { OnErr result (out.new.items ≡ out.old.items) }
 {
     out.extend_from_slice(bytes)
 }
 
 pub fn put_u32s(out: &mut Vec<u8>, numbers: &[u32]) -> Result<(), AllocError>
-    ensures { OnOk result (out.new.items ≡ out.old.items ++ flat_map u32_spelling numbers.now) }
+    ensures bytes { OnOk result (out.new.items ≡ out.old.items ++ flat_map u32_spelling numbers.now) }
+    ensures err { OnErr result ((n : ℕ) × (out.new.items ≡ out.old.items ++ flat_map u32_spelling (take n numbers.now))) }
 {
     for n in numbers {
         put_u32(out, *n)?;
@@ -63,7 +69,8 @@ pub fn put_u32s(out: &mut Vec<u8>, numbers: &[u32]) -> Result<(), AllocError>
 }
 
 pub fn put_i64s(out: &mut Vec<u8>, numbers: &[i64]) -> Result<(), AllocError>
-    ensures { OnOk result (out.new.items ≡ out.old.items ++ flat_map i64_spelling numbers.now) }
+    ensures bytes { OnOk result (out.new.items ≡ out.old.items ++ flat_map i64_spelling numbers.now) }
+    ensures err { OnErr result ((n : ℕ) × (out.new.items ≡ out.old.items ++ flat_map i64_spelling (take n numbers.now))) }
 {
     for n in numbers {
         put_i64(out, n)?;

@@ -1,10 +1,9 @@
 -- The image of lists that were made one by one is that of the source.
 use Rattle.std.proofs.Common.{◌≡◌, ℕ, List, [], ◌∷◌, length, map, refl, sym, ap, subst, ◌∙◌}
 use Rattle.std.specs.Global.{Vec}
-use Rattle.cse_value.specs.declared.shape.RecordShape.{RecordShape}
 use Rattle.cse_value.specs.Shape.{shape_lists}
 use Rattle.cse_parts.specs.declared.entries.Array.{Array}
-use Rattle.cse_parts.specs.Image.{Image, ArrayLists, RoutineLists, array_lists, message_lists, routine_lists}
+use Rattle.cse_parts.specs.Image.{Image, ArrayLists, array_lists, message_lists, routine_lists}
 use Rattle.cse_dict.specs.Dictionary.{DictionaryText, shape_of}
 use Rattle.cse_typed.specs.Typed.{Tree}
 use Rattle.cse_tables.specs.Tables.{globals_in, arrays_in, message_of}
@@ -16,6 +15,8 @@ use Rattle.cse_compile.specs.Stands.{AllStand}
 use Rattle.cse_compile.specs.Pooled.{pools_in}
 use Rattle.cse_compile.specs.Program.{IsProgramOf, declarations, sizes, outlines, entry_of, all_code, events}
 use Rattle.cse_compile.specs.Joined.{image_from}
+use Rattle.cse_compile.specs.Room.{HasCodeOf, NoCodeFits}
+use Rattle.cse_compile.specs.Compiled.{HasNoRoom}
 
 sizes_of_lists : (xs : List Array) → map sizes_of xs ≡ map (λ (x : ArrayLists). x.dimensions) (map array_lists xs)
 sizes_of_lists [] = refl
@@ -51,3 +52,10 @@ program_is d named t said arrays seen routes x e h =
       events = h.events;
       code = subst (λ (s : List (List ℕ)). AllStand (pools_in routes.code) routes.code.instructions.items (all_code (shape_of d).records s (outlines t))) same h.code;
     })
+
+-- where no image with the code of its routines has a spelling, no program of the source has
+pub no_room : (d : DictionaryText) (named : List ℕ) (t : Tree) (arrays : Vec Array) (seen : List Array) → seen ≡ arrays.items → map array_lists arrays.items ≡ arrays_in (declarations t) → NoCodeFits (shape_of d).records (map sizes_of seen) (outlines t) → HasNoRoom d named t
+no_room d named t arrays seen same lists never x p fits =
+    let e : map sizes_of seen ≡ sizes t = ap (map sizes_of) same ∙ sizes_are t arrays.items lists in
+    let no : NoCodeFits (shape_of d).records (sizes t) (outlines t) = subst (λ (s : List (List ℕ)). NoCodeFits (shape_of d).records s (outlines t)) e never in
+    no x (record { routines = p.routines; code = p.code }) fits

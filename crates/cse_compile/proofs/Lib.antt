@@ -3,3 +3,5 @@ pub mod Joined
 pub mod Refused
 pub mod Limits
 pub mod NumberLaws
+pub mod Room
+pub mod Spelled

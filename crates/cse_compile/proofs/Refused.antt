@@ -1,5 +1,5 @@
 -- Why a program of a sound source is refused.
-use Rattle.std.proofs.Common.{◌≡◌, ℕ, Bool, true, false, List, refl, sym, subst, ap, ◌∙◌, ⊎_elim, inl, inr, arith}
+use Rattle.std.proofs.Common.{◌≡◌, ◌≤◌, ℕ, Bool, true, false, List, refl, sym, subst, ◌∙◌, ⊎_elim, inl, inr, arith}
 use Rattle.std.specs.Prelude.{◌⊎◌, ◌||◌, nat_eq, IsTrue, Result, IfErr}
 use Rattle.std.proofs.lemmas.Result.{IfErr-weaker}
 use Rattle.cse_value.specs.Shape.{ShapeLists}
@@ -14,8 +14,10 @@ use Rattle.cse_verify.specs.FirstFault.{IsUntypedRoutine, IsTooLongRoutine, AreU
 use Rattle.cse_typed.specs.Typed.{Tree}
 use Rattle.cse_compile.specs.declared.error.CompileError.{CompileError}
 use Rattle.cse_compile.specs.Fault.{IsLimit, IsReason}
-use Rattle.cse_compile.specs.Program.{IsProgramOf}
-use Rattle.cse_compile.specs.Compiled.{IsSound, MayTakeLong, IsRefused}
+use Rattle.cse_pools.specs.Pools.{PoolsFit}
+use Rattle.cse_compile.specs.Program.{IsProgramOf, pools_of}
+use Rattle.cse_compile.specs.Compiled.{HasNoRoom, IsSound, MayTakeLong, IsRefused}
+use Rattle.cse_compile.proofs.Spelled.{same_fit}
 
 -- ---- numbers
 
@@ -63,12 +65,30 @@ not_both n e f = omega (arith, e, f)
 pub refused : (s : ShapeLists) (x : Image) (r : Refusal) (e : CompileError) → e.number ≡ r.number → IsOutOfMemory r ⊎ IsFirstFault s x r → IsOutOfMemory r ⊎ (IsTyped s x → IsBounded x → ⊥) → Fits x → IsRefused s x e
 refused s x r e same first never fits typed = (
   ⊎_elim (λ (m : IsOutOfMemory r). by_90 e (same ∙ m.0)) (λ (why : IsFirstFault s x r). by_67 e (same ∙ too_long s x r why (typed fits))) first,
-  λ is bounded. ⊎_elim (λ (m : IsOutOfMemory r). not_both e.number (same ∙ m.0) is) (λ (f : IsTyped s x → IsBounded x → ⊥). f (typed fits) bounded) never,
+  λ is. (fits, λ bounded. ⊎_elim (λ (m : IsOutOfMemory r). not_both e.number (same ∙ m.0) is) (λ (f : IsTyped s x → IsBounded x → ⊥). f (typed fits) bounded) never),
 )
+
+-- the verifier never says 64
+untyped_above : (s : ShapeLists) (x : Image) (r : Refusal) → BreaksRules s x r ⊎ (MayNotStand s x r ⊎ HasNoStack s x r) → 65 ≤ r.number
+untyped_above s x r why =
+    ⊎_elim (λ (b : BreaksRules s x r). let n = b.number in omega (arith, n))
+    (λ rest. ⊎_elim (λ (b : MayNotStand s x r). let n = b.number in omega (arith, n)) (λ (b : HasNoStack s x r). let n = b.number in omega (arith, n)) rest) why
+
+first_above : (s : ShapeLists) (x : Image) (r : Refusal) → IsFirstFault s x r → 65 ≤ r.number
+first_above s x r why =
+    ⊎_elim (λ (b : IsOfOtherShape s x r). let n = b.number in omega (arith, n))
+    (λ a. ⊎_elim (λ (b : IsUntypedRoutine s x r). untyped_above s x r b.reason)
+    (λ c. ⊎_elim (λ (b : IsTooLongRoutine s x r). let n = b.reason.number in omega (arith, n))
+    (λ d. ⊎_elim (λ (b : AreUnfitEvents s x r). let n = b.reason.number in omega (arith, n))
+    (λ (b : IsTooLongCase s x r). let n = b.number in omega (arith, n)) d) c) a) why
+
+pub never_64 : (s : ShapeLists) (x : Image) (r : Refusal) → IsOutOfMemory r ⊎ IsFirstFault s x r → r.number ≡ 64 → ⊥
+never_64 s x r why is =
+    ⊎_elim (λ (b : IsOutOfMemory r). let n = b.0 in omega (arith, n, is)) (λ (b : IsFirstFault s x r). let n = first_above s x r b in omega (arith, n, is)) why
 
 -- no spelling: 64
 pub no_spelling : (s : ShapeLists) (x : Image) (e : CompileError) → IsLimit e → IsRefused s x e
-no_spelling s x e h typed = (limit_reason e h, λ is bounded. limit_never e h is)
+no_spelling s x e h typed = (limit_reason e h, λ is. absurd (limit_never e h is))
 
 -- ---- the compiler's
 
@@ -76,7 +96,7 @@ pub sound_others : (d : DictionaryText) (named : List ℕ) (t : Tree) (x : Image
 sound_others d named t x e h r sound = (r (sound x h)).0
 
 pub sound_cost : (d : DictionaryText) (named : List ℕ) (t : Tree) (x : Image) (e : CompileError) → IsProgramOf d named t x → IsRefused (shape_of d) x e → IsSound d named t → e.number ≡ 67 → MayTakeLong d named t
-sound_cost d named t x e h r sound is = (x, h, (r (sound x h)).1 is)
+sound_cost d named t x e h r sound is = let f = (r (sound x h)).1 is in (x, h, f.0, f.1)
 
 pub limit_others : (e : CompileError) → IsLimit e → IsReason e
 limit_others e h = limit_reason e h
@@ -94,3 +114,7 @@ err_others d named t x r p h sound = IfErr-weaker r (IsRefused (shape_of d) x) I
 
 pub err_cost : {T : Type 0} (d : DictionaryText) (named : List ℕ) (t : Tree) (x : Image) (r : Result T CompileError) → IsProgramOf d named t x → IfErr r (IsRefused (shape_of d) x) → IsSound d named t → IfErr r (λ e. e.number ≡ 67 → MayTakeLong d named t)
 err_cost d named t x r p h sound = IfErr-weaker r (IsRefused (shape_of d) x) (λ e. e.number ≡ 67 → MayTakeLong d named t) (λ e k is. sound_cost d named t x e p k sound is) h
+
+pub err_room : {T : Type 0} (d : DictionaryText) (named : List ℕ) (t : Tree) (x : Image) (r : Result T CompileError) → IsProgramOf d named t x → PoolsFit (pools_of x.lists) → IfErr r (λ e. e.number ≡ 64 → Fits x → ⊥) → IfErr r (λ e. e.number ≡ 64 → HasNoRoom d named t)
+err_room d named t x r p pools h =
+    IfErr-weaker r (λ e. e.number ≡ 64 → Fits x → ⊥) (λ e. e.number ≡ 64 → HasNoRoom d named t) (λ e k is y q fits. k is (same_fit d named t x y p q pools fits)) h

@@ -15,10 +15,14 @@ use Rattle.cse_compile.specs.Program.{IsProgramOf}
 abbrev pub IsSound : DictionaryText → List ℕ → Tree → Type 0
 IsSound d named t = (x : Image) → IsProgramOf d named t x → Fits x → IsTyped (shape_of d) x
 
--- a program of the source passes the limit on steps
-abbrev pub MayTakeLong : DictionaryText → List ℕ → Tree → Type 0
-MayTakeLong d named t = (x : Image) × IsProgramOf d named t x × (IsBounded x → ⊥)
+-- no program of the source has a spelling: one of its tables, or its code, is beyond a limit of the format
+abbrev pub HasNoRoom : DictionaryText → List ℕ → Tree → Type 0
+HasNoRoom d named t = (x : Image) → IsProgramOf d named t x → Fits x → ⊥
 
--- where the image is typed if it has a spelling, it is refused by 64, 67 or 90, and by 67 only where it isn't bounded
+-- a program of the source that has a spelling passes the limit on steps
+abbrev pub MayTakeLong : DictionaryText → List ℕ → Tree → Type 0
+MayTakeLong d named t = (x : Image) × IsProgramOf d named t x × Fits x × (IsBounded x → ⊥)
+
+-- Where the image is typed if it has a spelling, it is refused by 64, 67 or 90, by 67 only where it has a spelling and isn't bounded.
 abbrev pub IsRefused : ShapeLists → Image → CompileError → Type 0
-IsRefused s x e = (Fits x → IsTyped s x) → IsReason e × (e.number ≡ 67 → IsBounded x → ⊥)
+IsRefused s x e = (Fits x → IsTyped s x) → IsReason e × (e.number ≡ 67 → Fits x × (IsBounded x → ⊥))

@@ -1,5 +1,5 @@
 -- Why no program is made.
-use Rattle.std.specs.Prelude.{ℕ, Bool, true, false, ◌||◌, nat_eq, IsTrue}
+use Rattle.std.specs.Prelude.{◌||◌, nat_eq, IsTrue}
 use Rattle.cse_compile.specs.declared.error.CompileError.{CompileError}
 
 abbrev pub out_of_memory : CompileError

@@ -1,5 +1,5 @@
 -- The image of lists that were made one by one.
-use Rattle.std.specs.Prelude.{◌≡◌, List, length, map}
+use Rattle.std.specs.Prelude.{map}
 use Rattle.std.specs.String.{string_bytes}
 use Rattle.std.specs.Global.{Vec}
 use Rattle.cse_parts.specs.declared.entries.Array.{Array}

@@ -5,3 +5,4 @@ pub mod Pooled
 pub mod Joined
 pub mod Compiled
 pub mod Numbers
+pub mod Room

@@ -1,6 +1,7 @@
 //! The code of all routines.
 
-ghost use Rattle.std.specs.Prelude.{◌≡◌, ◌++◌, ◌∷◌, [], map, OnOk, IfOk, IfErr};
+ghost use Rattle.std.specs.Prelude.{◌≡◌, ◌≤◌, ◌<◌, ◌++◌, ◌∷◌, [], map, OnOk, IfOk, IfErr};
+ghost use Rattle.cse_parts.specs.Limits.{most_instructions};
 ghost use Rattle.cse_parts.specs.Image.{routine_lists};
 ghost use Rattle.cse_emit.specs.Setting.{setting as setting_view, sizes_of};
 ghost use Rattle.cse_emit.specs.Routines as routines_spec;
@@ -8,6 +9,7 @@ ghost use Rattle.cse_typed.specs.Typed.{block};
 ghost use Rattle.cse_tables.specs.Outline as outline_spec;
 ghost use Rattle.cse_compile.specs.Program as spec;
 ghost use Rattle.cse_compile.specs.Fault.{IsLimit};
+ghost use Rattle.cse_compile.specs.Room.{AreSmall, IsSmall};
 
 use crate::error::{BEYOND, CompileError, WANT_OF_MEMORY};
 use cse_emit::{Emitter, Setting, routine_size};
@@ -24,6 +26,7 @@ const MOST: usize = 1_000_000;
 fn field_of(count: usize) -> Result<u8, CompileError>
     ensures ok { IfOk result (λ n. n ≡ count) }
     ensures err { IfErr result IsLimit }
+    ensures room { IfErr result (λ _. 256 ≤ count) }
 {
     match u8::try_from(count) {
         Ok(count) => Ok(count),
@@ -40,6 +43,7 @@ fn emit<'a>(
     ensures code { OnOk result (emitter.new ≡ emitter.old ++ routines_spec.routine_code (setting_view setting.now) (block body.now.items)) }
     ensures size { IfOk result (λ n. n ≡ routines_spec.routine_size (setting_view setting.now) (block body.now.items)) }
     ensures err { IfErr result IsLimit }
+    ensures room { IfErr result (λ e. e.number ≡ 64 → most_instructions < routines_spec.routine_size (setting_view setting.now) (block body.now.items)) }
 {
     if routine_size(setting, body) > MOST {
         return Err(BEYOND);
@@ -54,8 +58,12 @@ fn emit<'a>(
 fn routine_of(alloc: Global, sort: Sort, instructions: u32) -> Result<Routine, CompileError>
     ensures ok { IfOk result (λ r. routine_lists r ≡ outline_spec.routine_of sort instructions) }
     ensures err { IfErr result IsLimit }
+    ensures room { IfErr result (λ e. e.number ≡ 64 → 256 ≤ outline_spec.parameters_of sort) }
 {
-    let parameters = field_of(sort.parameters())?;
+    let parameters = match field_of(sort.parameters()) {
+        Ok(count) => count,
+        Err(error) => return Err(error),
+    };
     match sort.locals(alloc) {
         Ok(locals) => Ok(Routine {
             ambient: sort.ambient(),
@@ -79,20 +87,27 @@ fn coded<'a>(
     ensures code { OnOk result (emitter.new ≡ emitter.old ++ spec.code_of records.now (map sizes_of arrays.now) (outline_spec.outline written.entry)) }
     ensures entry { IfOk result (λ r. routine_lists r ≡ spec.entry_of records.now (map sizes_of arrays.now) (outline_spec.outline written.entry)) }
     ensures err { IfErr result IsLimit }
+    ensures room { IfErr result (λ e. e.number ≡ 64 → IsSmall records.now (map sizes_of arrays.now) (outline_spec.outline written.entry) → ⊥) }
 {
     let setting = Setting {
         records,
         arrays,
         result_at: written.sort.result_at(),
     };
-    let instructions = emit(emitter, &setting, written.body)?;
-    let routine = routine_of(alloc, written.sort, instructions)?;
-    Ok(routine)
+    let instructions = match emit(emitter, &setting, written.body) {
+        Ok(instructions) => instructions,
+        Err(error) => return Err(error),
+    };
+    match routine_of(alloc, written.sort, instructions) {
+        Ok(routine) => Ok(routine),
+        Err(error) => Err(error),
+    }
 }
 
 fn keep(routines: &mut Vec<Routine>, routine: Routine) -> Result<(), CompileError>
     ensures ok { OnOk result (routines.new.items ≡ routines.old.items ++ routine ∷ []) }
     ensures err { IfErr result IsLimit }
+    ensures memory { IfErr result (λ e. e.number ≡ 90) }
 {
     match routines.push(routine) {
         Ok(()) => Ok(()),
@@ -111,11 +126,18 @@ pub fn code_all<'a>(
     ensures code { OnOk result (emitter.new ≡ emitter.old ++ spec.all_code records.now (map sizes_of arrays.now) (map outline_spec.outline outlines.now)) }
     ensures entries { IfOk result (λ v. map routine_lists v.items ≡ map (spec.entry_of records.now (map sizes_of arrays.now)) (map outline_spec.outline outlines.now)) }
     ensures err { IfErr result IsLimit }
+    ensures room { IfErr result (λ e. e.number ≡ 64 → AreSmall emitter.old records.now (map sizes_of arrays.now) (map outline_spec.outline outlines.now) → ⊥) }
 {
     let mut routines = Vec::new(alloc);
     'all: for written in outlines {
-        let routine = coded(alloc, emitter, records, arrays, *written)?;
-        keep(&mut routines, routine)?;
+        let routine = match coded(alloc, emitter, records, arrays, *written) {
+            Ok(routine) => routine,
+            Err(error) => return Err(error),
+        };
+        match keep(&mut routines, routine) {
+            Ok(()) => {}
+            Err(error) => return Err(error),
+        }
         if emitter.code().len() > MOST {
             return Err(BEYOND);
         }

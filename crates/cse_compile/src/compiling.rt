@@ -9,7 +9,7 @@ ghost use Rattle.cse_bounds.specs.Bounded.{IsBounded};
 ghost use Rattle.cse_typed.specs.Typed.{tree as tree_view};
 ghost use Rattle.cse_compile.specs.Fault.{IsReason};
 ghost use Rattle.cse_compile.specs.Program.{IsProgramOf};
-ghost use Rattle.cse_compile.specs.Compiled.{IsSound, MayTakeLong, IsRefused};
+ghost use Rattle.cse_compile.specs.Compiled.{HasNoRoom, IsSound, MayTakeLong, IsRefused};
 
 use crate::error::{BEYOND, CompileError};
 use crate::parts::parts_of;
@@ -30,6 +30,7 @@ fn verified(
     ensures typed { IfOk result (IsTyped (shape_of dictionary.now)) }
     ensures bounded { IfOk result IsBounded }
     ensures refused { IfErr result (λ e. Fits program → IsRefused (shape_of dictionary.now) program e) }
+    ensures room { IfErr result (λ e. e.number ≡ 64 → ⊥) }
 {
     match verify(alloc, dictionary, program) {
         Ok(verified) => Ok(verified.into_program()),
@@ -45,6 +46,7 @@ fn spelled(alloc: Global, dictionary: &Dictionary, parts: Parts) -> Result<Progr
     ensures typed { IfOk result (IsTyped (shape_of dictionary.now)) }
     ensures bounded { IfOk result IsBounded }
     ensures refused { IfErr result (IsRefused (shape_of dictionary.now) (image_of parts)) }
+    ensures room { IfErr result (λ e. e.number ≡ 64 → Fits (image_of parts) → ⊥) }
 {
     match Program::from_parts(parts) {
         Some(program) => verified(alloc, dictionary, program),
@@ -54,8 +56,10 @@ fn spelled(alloc: Global, dictionary: &Dictionary, parts: Parts) -> Result<Progr
 
 /// The program of a typed source for its dictionary, with the named records first in edit order. It may run with the
 /// dictionary (`typed`, `bounded`); it has the tables of the source, in order of the source and no others, and its
-/// instructions stand for the code of its routines (`tables`). A source whose programs are typed is refused by 64, 67
-/// or 90 alone (`others`), and by 67 only where its program may take more than 10^15 steps (`cost`).
+/// instructions stand for the code of its routines (`tables`). It refuses by 64 only where no program of the source has a
+/// spelling, since one of its tables, or its code, is beyond a limit of the format (`room`). A source whose programs are
+/// typed is refused by 64, 67 or 90 alone (`others`), and by 67 only where its program may take more than 10^15 steps
+/// (`cost`).
 pub fn compile<'t, 'a>(
     alloc: Global,
     tree: &'t Tree<'a>,
@@ -65,6 +69,7 @@ pub fn compile<'t, 'a>(
     ensures typed { IfOk result (IsTyped (shape_of dictionary.now)) }
     ensures bounded { IfOk result IsBounded }
     ensures tables { IfOk result (IsProgramOf dictionary.now order.now (tree_view tree.now)) }
+    ensures room { IfErr result (λ e. e.number ≡ 64 → HasNoRoom dictionary.now order.now (tree_view tree.now)) }
     ensures others { IsSound dictionary.now order.now (tree_view tree.now) → IfErr result IsReason }
     ensures cost { IsSound dictionary.now order.now (tree_view tree.now) → IfErr result (λ e. e.number ≡ 67 → MayTakeLong dictionary.now order.now (tree_view tree.now)) }
 {

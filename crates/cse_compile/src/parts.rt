@@ -10,7 +10,9 @@ ghost use Rattle.cse_tables.specs.Order as order_spec;
 ghost use Rattle.cse_compile.specs.Joined.{image_from};
 ghost use Rattle.cse_compile.specs.Program as spec;
 ghost use Rattle.cse_compile.specs.Program.{IsProgramOf};
+ghost use Rattle.cse_compile.specs.Compiled.{HasNoRoom};
 ghost use Rattle.cse_compile.specs.Fault.{IsLimit};
+ghost use Rattle.cse_pools.specs.Pools.{PoolsFit};
 
 use crate::error::CompileError;
 use crate::routes::{Routes, declarations_of, routes_of};
@@ -113,10 +115,15 @@ pub fn parts_of<'t, 'a>(
     named: &[u16],
 ) -> Result<Parts, CompileError>
     ensures ok { IfOk result (λ p. IsProgramOf dictionary.now named.now (tree_view tree.now) (image_of p)) }
+    ensures fit { IfOk result (λ p. PoolsFit (spec.pools_of (image_of p).lists)) }
     ensures err { IfErr result IsLimit }
+    ensures room { IfErr result (λ e. e.number ≡ 64 → HasNoRoom dictionary.now named.now (tree_view tree.now)) }
 {
     let said = said_in(alloc, tree, dictionary, named)?;
     let arrays = arrays_of(alloc, declarations_of(tree))?;
-    let routes = routes_of(alloc, tree, dictionary, &arrays)?;
+    let routes = match routes_of(alloc, tree, dictionary, &arrays) {
+        Ok(routes) => routes,
+        Err(error) => return Err(error),
+    };
     Ok(joined(said, arrays, routes))
 }

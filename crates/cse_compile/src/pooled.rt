@@ -3,10 +3,12 @@
 ghost use Rattle.std.specs.Prelude.{◌≡◌, ◌++◌, map, drop, IfOk, IfErr};
 ghost use Rattle.std.specs.String.{string_bytes};
 ghost use Rattle.cse_compile.specs.Stands.{AllStand};
+ghost use Rattle.cse_pools.specs.Pools.{PoolsFit, no_pools};
 ghost use Rattle.cse_compile.specs.Pooled.{pools_in};
+ghost use Rattle.cse_compile.specs.Room.{CannotHold};
 ghost use Rattle.cse_compile.specs.Fault.{IsLimit};
 
-use crate::error::CompileError;
+use crate::error::{CompileError, WANT_OF_MEMORY};
 use crate::resolve::resolve;
 use cse_emit::Emitter;
 use cse_parts::instruction::Instr;
@@ -36,6 +38,7 @@ fn texts_of(alloc: Global, texts: &[&str]) -> Result<Vec<String>, AllocError>
 /// The tables and the code.
 fn with_pools(alloc: Global, pools: &Pools, instructions: Vec<Instr>) -> Result<Pooled, AllocError>
     ensures pools { IfOk result (λ x. pools_in x ≡ pools.now) }
+    ensures fit { IfOk result (λ x. PoolsFit (pools_in x)) }
     ensures code { IfOk result (λ x. x.instructions.items ≡ instructions.items) }
 {
     let constants = Vec::from_slice(alloc, pools.constants())?;
@@ -50,13 +53,19 @@ fn with_pools(alloc: Global, pools: &Pools, instructions: Vec<Instr>) -> Result<
 }
 
 /// The instructions that stand for the code, with the tables in which its entries stand.
-#[tactic(auto, using(crate::proofs::Limits::memory_limit))]
 pub fn resolved(alloc: Global, emitter: &Emitter) -> Result<Pooled, CompileError>
     ensures ok { IfOk result (λ x. AllStand (pools_in x) x.instructions.items emitter.now) }
+    ensures fit { IfOk result (λ x. PoolsFit (pools_in x)) }
     ensures err { IfErr result IsLimit }
+    ensures room { IfErr result (λ e. e.number ≡ 64 → CannotHold no_pools emitter.now) }
 {
     let mut pools = Pools::new(alloc);
-    let instructions = resolve(alloc, &mut pools, emitter.code())?;
-    let pooled = with_pools(alloc, &pools, instructions)?;
-    Ok(pooled)
+    let instructions = match resolve(alloc, &mut pools, emitter.code()) {
+        Ok(instructions) => instructions,
+        Err(error) => return Err(error),
+    };
+    match with_pools(alloc, &pools, instructions) {
+        Ok(pooled) => Ok(pooled),
+        Err(_) => Err(WANT_OF_MEMORY),
+    }
 }

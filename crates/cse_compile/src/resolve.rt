@@ -1,12 +1,15 @@
 //! From instructions with constants, texts and limits by value to those of an image.
 
-ghost use Rattle.std.specs.Prelude.{◌≡◌, MatchOption, true, IfOk, OnOk, IfErr};
+ghost use Rattle.std.specs.Prelude.{◌≡◌, ◌≤◌, ◌^◌, length, MatchOption, true, IfOk, OnOk, IfErr};
 ghost use Rattle.std.specs.Bool.{Decides};
 ghost use Rattle.cse_syntax.specs.Leaf.{text_of};
 ghost use Rattle.cse_image.specs.Spelling.{TextFits};
 ghost use Rattle.cse_emit.specs.Wide as w;
 ghost use Rattle.cse_compile.specs.Stands.{Stands, AllStand, IsMore};
+ghost use Rattle.std.specs.Str.{IsUtf8};
+ghost use Rattle.cse_pools.specs.declared.pools.PoolError.TheVariants.{Full};
 ghost use Rattle.cse_compile.specs.Fault.{IsLimit};
+ghost use Rattle.cse_compile.specs.Room.{CannotHold, LacksRoom, with_entry};
 
 use crate::error::{BEYOND, CompileError, WANT_OF_MEMORY};
 use cse_emit::Wide;
@@ -16,7 +19,8 @@ use cse_pools::{PoolError, Pools};
 use std::alloc::Global;
 
 fn pool_error(error: PoolError) -> CompileError
-    ensures { IsLimit result }
+    ensures limit { IsLimit result }
+    ensures full { result.number ≡ 64 → error ≡ Full }
 {
     match error {
         PoolError::Full => BEYOND,
@@ -28,6 +32,7 @@ fn pool_error(error: PoolError) -> CompileError
 fn field_of(c: usize) -> Result<u32, CompileError>
     ensures ok { IfOk result (λ n. n ≡ c) }
     ensures err { IfErr result IsLimit }
+    ensures room { IfErr result (λ _. 2 ^ 32 ≤ c) }
 {
     match u32::try_from(c) {
         Ok(c) => Ok(c),
@@ -44,7 +49,7 @@ fn text_fits(text: &str) -> bool
 
 /// What stands between the quotes of a text.
 fn inside(text: &str) -> Option<&str>
-    ensures { MatchOption result (Unit {0}) (λ t. t.now ≡ text_of text.now) }
+    ensures { MatchOption result (IsUtf8 (text_of text.now) → ⊥) (λ t. t.now ≡ text_of text.now) }
 {
     match text.as_bytes() {
         [] => Some(""),
@@ -59,7 +64,9 @@ fn inside(text: &str) -> Option<&str>
 fn constant(pools: &mut Pools, value: i64) -> Result<Instr, CompileError>
     ensures stands { IfOk result (λ i. Stands pools.new i (w.Constant value)) }
     ensures more { OnOk result (IsMore pools.old pools.new) }
+    ensures grew { OnOk result (pools.new ≡ with_entry pools.old (w.Constant value)) }
     ensures err { IfErr result IsLimit }
+    ensures room { IfErr result (λ e. e.number ≡ 64 → LacksRoom pools.old (w.Constant value)) }
 {
     match pools.constant(value) {
         Ok(c) => Ok(Instr {
@@ -76,7 +83,9 @@ fn constant(pools: &mut Pools, value: i64) -> Result<Instr, CompileError>
 fn text<'a>(pools: &mut Pools<'a>, value: &'a str) -> Result<Instr, CompileError>
     ensures stands { IfOk result (λ i. Stands pools.new i (w.Chars value.now)) }
     ensures more { OnOk result (IsMore pools.old pools.new) }
+    ensures grew { OnOk result (pools.new ≡ with_entry pools.old (w.Chars value.now)) }
     ensures err { IfErr result IsLimit }
+    ensures room { IfErr result (λ e. e.number ≡ 64 → LacksRoom pools.old (w.Chars value.now)) }
 {
     if !text_fits(value) {
         return Err(BEYOND);
@@ -95,7 +104,9 @@ fn text<'a>(pools: &mut Pools<'a>, value: &'a str) -> Result<Instr, CompileError
 fn quoted<'a>(pools: &mut Pools<'a>, value: &'a str) -> Result<Instr, CompileError>
     ensures stands { IfOk result (λ i. Stands pools.new i (w.Chars (text_of value.now))) }
     ensures more { OnOk result (IsMore pools.old pools.new) }
+    ensures grew { OnOk result (pools.new ≡ with_entry pools.old (w.Chars (text_of value.now))) }
     ensures err { IfErr result IsLimit }
+    ensures room { IfErr result (λ e. e.number ≡ 64 → LacksRoom pools.old (w.Chars (text_of value.now))) }
 {
     match inside(value) {
         Some(inner) => text(pools, inner),
@@ -107,7 +118,9 @@ fn quoted<'a>(pools: &mut Pools<'a>, value: &'a str) -> Result<Instr, CompileErr
 fn turns(pools: &mut Pools, limit: u32, end: usize) -> Result<Instr, CompileError>
     ensures stands { IfOk result (λ i. Stands pools.new i (w.Turns limit end)) }
     ensures more { OnOk result (IsMore pools.old pools.new) }
+    ensures grew { OnOk result (pools.new ≡ with_entry pools.old (w.Turns limit end)) }
     ensures err { IfErr result IsLimit }
+    ensures room { IfErr result (λ e. e.number ≡ 64 → LacksRoom pools.old (w.Turns limit end)) }
 {
     if limit == 0 {
         return Err(BEYOND);
@@ -127,6 +140,7 @@ fn turns(pools: &mut Pools, limit: u32, end: usize) -> Result<Instr, CompileErro
 fn plain(op: Op, a: u8, b: u16, c: usize) -> Result<Instr, CompileError>
     ensures ok { IfOk result (λ i. i ≡ record { op = op; a = a; b = b; c = c }) }
     ensures err { IfErr result IsLimit }
+    ensures room { IfErr result (λ _. 2 ^ 32 ≤ c) }
 {
     let c = field_of(c)?;
     Ok(Instr { op, a, b, c })
@@ -137,7 +151,9 @@ fn plain(op: Op, a: u8, b: u16, c: usize) -> Result<Instr, CompileError>
 pub fn instruction<'a>(pools: &mut Pools<'a>, written: Wide<'a>) -> Result<Instr, CompileError>
     ensures stands { IfOk result (λ i. Stands pools.new i (w.wide written.entry)) }
     ensures more { OnOk result (IsMore pools.old pools.new) }
+    ensures grew { OnOk result (pools.new ≡ with_entry pools.old (w.wide written.entry)) }
     ensures err { IfErr result IsLimit }
+    ensures room { IfErr result (λ e. e.number ≡ 64 → LacksRoom pools.old (w.wide written.entry)) }
 {
     match written {
         Wide::Constant(value) => constant(pools, value),
@@ -156,10 +172,14 @@ pub fn resolve<'a>(
 ) -> Result<Vec<Instr>, CompileError>
     ensures ok { IfOk result (λ v. AllStand pools.new v.items (w.all_wide code.now)) }
     ensures err { IfErr result IsLimit }
+    ensures room { IfErr result (λ e. e.number ≡ 64 → CannotHold pools.old (w.all_wide code.now)) }
 {
     let mut resolved = Vec::new(alloc);
     'all: for written in code {
-        let instr = instruction(pools, *written)?;
+        let instr = match instruction(pools, *written) {
+            Ok(instr) => instr,
+            Err(error) => return Err(error),
+        };
         match resolved.push(instr) {
             Ok(()) => {}
             Err(_) => return Err(WANT_OF_MEMORY),

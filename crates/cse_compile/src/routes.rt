@@ -1,6 +1,7 @@
 //! The routines of a typed source with their code, and the events that run them.
 
-ghost use Rattle.std.specs.Prelude.{◌≡◌, [], map, length, IfOk, IfErr};
+ghost use Rattle.cse_parts.specs.Limits.{most_routines};
+ghost use Rattle.std.specs.Prelude.{◌≡◌, ◌≤◌, [], map, length, IfOk, IfErr};
 ghost use Rattle.cse_dict.specs.Dictionary.{shape_of};
 ghost use Rattle.cse_parts.specs.Image.{routine_lists};
 ghost use Rattle.cse_typed.specs.Typed.{tree as tree_view, declaration as declaration_view};
@@ -11,9 +12,11 @@ ghost use Rattle.cse_compile.specs.Stands.{AllStand};
 ghost use Rattle.cse_compile.specs.Pooled.{pools_in};
 ghost use Rattle.cse_compile.specs.Program as spec;
 ghost use Rattle.cse_compile.specs.Fault.{IsLimit};
+ghost use Rattle.cse_compile.specs.Room.{NoCodeFits};
+ghost use Rattle.cse_pools.specs.Pools.{PoolsFit};
 
 use crate::coding::{code_all, with_handlers};
-use crate::error::{BEYOND, CompileError};
+use crate::error::{BEYOND, CompileError, WANT_OF_MEMORY};
 use crate::pooled::{Pooled, resolved};
 use cse_dict::Dictionary;
 use cse_emit::Emitter;
@@ -53,11 +56,19 @@ fn routed(
     ensures routines { IfOk result (λ x. map routine_lists x.routines.items ≡ map (spec.entry_of records.now (map sizes_of arrays.now)) (map outline_spec.outline outlines.now)) }
     ensures events { IfOk result (λ x. x.events.items ≡ events.items) }
     ensures code { IfOk result (λ x. AllStand (pools_in x.code) x.code.instructions.items (spec.all_code records.now (map sizes_of arrays.now) (map outline_spec.outline outlines.now))) }
+    ensures fit { IfOk result (λ x. PoolsFit (pools_in x.code)) }
     ensures err { IfErr result IsLimit }
+    ensures room { IfErr result (λ e. e.number ≡ 64 → NoCodeFits records.now (map sizes_of arrays.now) (map outline_spec.outline outlines.now)) }
 {
     let mut emitter = Emitter::new(alloc);
-    let routines = code_all(alloc, &mut emitter, records, arrays, outlines)?;
-    let code = resolved(alloc, &emitter)?;
+    let routines = match code_all(alloc, &mut emitter, records, arrays, outlines) {
+        Ok(routines) => routines,
+        Err(error) => return Err(error),
+    };
+    let code = match resolved(alloc, &emitter) {
+        Ok(code) => code,
+        Err(error) => return Err(error),
+    };
     Ok(Routes {
         routines,
         events,
@@ -66,7 +77,6 @@ fn routed(
 }
 
 /// The events of the handlers, which are the routines behind the functions.
-#[tactic(auto, using(crate::proofs::Limits::memory_limit))]
 fn events_of(
     alloc: Global,
     dictionary: &Dictionary,
@@ -75,18 +85,23 @@ fn events_of(
 ) -> Result<Vec<EventEntry>, CompileError>
     ensures ok { IfOk result (λ v. v.items ≡ events_spec.entries_in (events_spec.table_from [] functions (map outline_spec.handler handlers.now)) (length (shape_of dictionary.now).records) (length (shape_of dictionary.now).items)) }
     ensures err { IfErr result IsLimit }
+    ensures room { IfErr result (λ e. e.number ≡ 64 → functions ≤ most_routines → length handlers.now ≤ most_routines → ⊥) }
 {
     if functions > MOST_ROUTINES || handlers.len() > MOST_ROUTINES {
         return Err(BEYOND);
     }
     let shape = dictionary.shape();
-    let table = event_table(alloc, functions as u32, handlers)?;
-    let events = table.entries(alloc, shape.records.len() as u16, shape.items.len() as u16)?;
-    Ok(events)
+    let table = match event_table(alloc, functions as u32, handlers) {
+        Ok(table) => table,
+        Err(_) => return Err(WANT_OF_MEMORY),
+    };
+    match table.entries(alloc, shape.records.len() as u16, shape.items.len() as u16) {
+        Ok(events) => Ok(events),
+        Err(_) => Err(WANT_OF_MEMORY),
+    }
 }
 
 /// The routines of a source, their events and their code.
-#[tactic(auto, using(crate::proofs::Limits::memory_limit))]
 pub fn routes_of<'t, 'a>(
     alloc: Global,
     tree: &'t Tree<'a>,
@@ -96,18 +111,29 @@ pub fn routes_of<'t, 'a>(
     ensures routines { IfOk result (λ x. map routine_lists x.routines.items ≡ map (spec.entry_of (shape_of dictionary.now).records (map sizes_of arrays.now)) (spec.outlines (tree_view tree.now))) }
     ensures events { IfOk result (λ x. x.events.items ≡ spec.events dictionary.now (tree_view tree.now)) }
     ensures code { IfOk result (λ x. AllStand (pools_in x.code) x.code.instructions.items (spec.all_code (shape_of dictionary.now).records (map sizes_of arrays.now) (spec.outlines (tree_view tree.now)))) }
+    ensures fit { IfOk result (λ x. PoolsFit (pools_in x.code)) }
     ensures err { IfErr result IsLimit }
+    ensures room { IfErr result (λ e. e.number ≡ 64 → NoCodeFits (shape_of dictionary.now).records (map sizes_of arrays.now) (spec.outlines (tree_view tree.now))) }
 {
-    let functions = function_outlines(alloc, declarations_of(tree))?;
-    let handlers = handlers_of(alloc, &tree.procedures)?;
-    let events = events_of(alloc, dictionary, functions.len(), &handlers)?;
-    let outlines = with_handlers(functions, &handlers)?;
-    let routes = routed(
-        alloc,
-        &dictionary.shape().records,
-        arrays,
-        &outlines,
-        events,
-    )?;
-    Ok(routes)
+    let functions = match function_outlines(alloc, declarations_of(tree)) {
+        Ok(functions) => functions,
+        Err(_) => return Err(WANT_OF_MEMORY),
+    };
+    let handlers = match handlers_of(alloc, &tree.procedures) {
+        Ok(handlers) => handlers,
+        Err(_) => return Err(WANT_OF_MEMORY),
+    };
+    let events = match events_of(alloc, dictionary, functions.len(), &handlers) {
+        Ok(events) => events,
+        Err(error) => return Err(error),
+    };
+    let outlines = match with_handlers(functions, &handlers) {
+        Ok(outlines) => outlines,
+        Err(_) => return Err(WANT_OF_MEMORY),
+    };
+    let records = &dictionary.shape().records;
+    match routed(alloc, records, arrays, &outlines, events) {
+        Ok(routes) => Ok(routes),
+        Err(error) => Err(error),
+    }
 }

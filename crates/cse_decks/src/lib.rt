@@ -19,6 +19,3 @@ pub use laws::{cell_lines, deck_texts, saved_is_loaded};
 pub use loading::load;
 pub use saving::save;
 pub use store::Store;
-
-#[cfg(test)]
-mod tests;

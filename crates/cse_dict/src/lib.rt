@@ -24,6 +24,3 @@ pub use dictionary::Dictionary;
 pub use fault::DictError;
 pub use laws::sound_without_fault;
 pub use lookup::Unseen;
-
-#[cfg(test)]
-mod tests;

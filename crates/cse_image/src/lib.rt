@@ -33,6 +33,3 @@ pub use error::ImageError;
 pub use laws::{none_begins_another, one_spelling, upgrade_has_a_spelling};
 pub use program::{Program, read_image, write_image};
 pub use view::{CodeView, view_image};
-
-#[cfg(test)]
-mod tests;

@@ -25,6 +25,3 @@ pub use line::{Ending, Line};
 pub use reader::{Kept, RunReader};
 pub use run::Run;
 pub use untouched::untouched_line_stays;
-
-#[cfg(test)]
-mod tests;

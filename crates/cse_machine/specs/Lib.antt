@@ -5,3 +5,4 @@ pub mod Laws
 pub mod Results
 pub mod Ready
 pub mod Small
+pub mod Quiet

@@ -1,9 +1,9 @@
 -- Tables to which an entry is added, unless it is there.
-use Rattle.std.proofs.Common.{◌≡◌, ℕ, ◌≤◌, Bool, true, false, ◌||◌, if◌then◌else◌, List, [], ◌∷◌, ◌++◌, map, length, Some, slice_get, refl, sym, ap, subst, ◌∙◌, Bor}
+use Rattle.std.proofs.Common.{◌≡◌, ℕ, ◌≤◌, ◌<◌, Bool, true, false, ◌||◌, if◌then◌else◌, List, [], ◌∷◌, ◌++◌, map, length, Some, slice_get, refl, sym, ap, subst, ◌∙◌, Bor, arith}
 use Rattle.std.specs.List.{list_any}
 use Rattle.std.specs.Option.{option_map}
 use Rattle.std.specs.Str.{bytes_eq}
-use Rattle.std.proofs.lemmas.List.{map-append}
+use Rattle.std.proofs.lemmas.List.{length-append, length-map, map-append}
 use Rattle.std.proofs.lemmas.Option.{slice_get-map}
 use Rattle.std.proofs.lemmas.Slice.Eq.{bytes_eq-Decides}
 use Rattle.std.proofs.lemmas.Bool.{le-leb}
@@ -34,6 +34,14 @@ text_there ks i k value at same =
     slice_get-map there ks i
     ∙ ap (option_map there) at
     ∙ ap Some (sym ((bytes_eq-Decides value.now k.now).0 same))
+
+-- a table with a text that wasn't there is longer
+pub text_longer : (n : ℕ) (ks : List (Bor (List ℕ))) (k : Bor (List ℕ)) → n ≤ length ks → list_any (λ x. bytes_eq k.now x.now) ks ≡ false → n < length (insert_key bytes_eq (map there ks) k.now)
+text_longer n ks k room absent =
+    let e = ap (λ b. length (if b then map there ks else map there ks ++ k.now ∷ [])) (sym (any_same k ks) ∙ absent) in
+    let f = length-append (map there ks) (k.now ∷ []) in
+    let g = length-map ks there in
+    omega (arith, room, e, f, g)
 
 -- ---- what fits
 

@@ -19,7 +19,7 @@ use std::marker::Model;
 /// Why an entry is not in its table.
 #[derive(Clone, Copy, Debug, PartialEq, Eq)]
 pub enum PoolError {
-    /// The table has as many entries as an image may have.
+    /// The table would have more entries with it than an image may have.
     Full,
     Memory,
 }
@@ -57,7 +57,7 @@ impl<'a> Pools<'a> {
         ensures at { IfOk result (λ c. slice_get self.new.constants c ≡ Some value) }
         ensures added { OnOk result (self.new ≡ with_constant self.old value) }
         ensures err { OnErr result (self.new ≡ self.old) }
-        ensures full { IfErr result (λ e. e ≡ Full → most_constants ≤ length self.old.constants) }
+        ensures full { IfErr result (λ e. e ≡ Full → most_constants < length (with_constant self.old value).constants) }
     {
         constant_place(&mut self.constants, value)
     }
@@ -68,7 +68,7 @@ impl<'a> Pools<'a> {
         ensures at { IfOk result (λ c. slice_get self.new.limits c ≡ Some value) }
         ensures added { OnOk result (self.new ≡ with_limit self.old value) }
         ensures err { OnErr result (self.new ≡ self.old) }
-        ensures full { IfErr result (λ e. e ≡ Full → most_limits ≤ length self.old.limits) }
+        ensures full { IfErr result (λ e. e ≡ Full → most_limits < length (with_limit self.old value).limits) }
     {
         limit_place(&mut self.limits, value)
     }
@@ -79,7 +79,7 @@ impl<'a> Pools<'a> {
         ensures at { IfOk result (λ c. slice_get self.new.texts c ≡ Some value.now) }
         ensures added { OnOk result (self.new ≡ with_text self.old value.now) }
         ensures err { OnErr result (self.new ≡ self.old) }
-        ensures full { IfErr result (λ e. e ≡ Full → most_texts ≤ length self.old.texts) }
+        ensures full { IfErr result (λ e. e ≡ Full → most_texts < length (with_text self.old value.now).texts) }
     {
         text_place(&mut self.texts, value)
     }
@@ -112,7 +112,7 @@ fn constant_place(table: &mut IndexSet<i64>, value: i64) -> Result<u32, PoolErro
     ensures at { IfOk result (λ c. slice_get table.new.keys c ≡ Some value) }
     ensures keys { OnOk result (table.new.keys ≡ insert_key int_eq table.old.keys value) }
     ensures err { OnErr result (table.new.keys ≡ table.old.keys) }
-    ensures full { IfErr result (λ e. e ≡ Full → most_constants ≤ length table.old.keys) }
+    ensures full { IfErr result (λ e. e ≡ Full → most_constants < length (insert_key int_eq table.old.keys value)) }
     ensures small { IfOk result (λ c. c < most_constants) }
     ensures fit { SectionFits most_constants (λ _. FitsSigned w64) table.new.keys }
 {
@@ -132,7 +132,7 @@ fn limit_place(table: &mut IndexSet<u32>, value: u32) -> Result<u16, PoolError>
     ensures at { IfOk result (λ c. slice_get table.new.keys c ≡ Some value) }
     ensures keys { OnOk result (table.new.keys ≡ insert_key nat_eq table.old.keys value) }
     ensures err { OnErr result (table.new.keys ≡ table.old.keys) }
-    ensures full { IfErr result (λ e. e ≡ Full → most_limits ≤ length table.old.keys) }
+    ensures full { IfErr result (λ e. e ≡ Full → most_limits < length (insert_key nat_eq table.old.keys value)) }
     ensures small { IfOk result (λ c. c < most_limits) }
     ensures fit { SectionFits most_limits (λ _. LimitFits) table.new.keys }
 {
@@ -152,7 +152,7 @@ fn text_place<'a>(table: &mut IndexSet<&'a str>, value: &'a str) -> Result<u32, 
     ensures at { IfOk result (λ c. slice_get (map (λ t. t.now) table.new.keys) c ≡ Some value.now) }
     ensures keys { OnOk result (map (λ t. t.now) table.new.keys ≡ insert_key bytes_eq (map (λ t. t.now) table.old.keys) value.now) }
     ensures err { OnErr result (table.new.keys ≡ table.old.keys) }
-    ensures full { IfErr result (λ e. e ≡ Full → most_texts ≤ length table.old.keys) }
+    ensures full { IfErr result (λ e. e ≡ Full → most_texts < length (insert_key bytes_eq (map (λ t. t.now) table.old.keys) value.now)) }
     ensures small { IfOk result (λ c. c < most_texts) }
     ensures fit { SectionFits most_texts (λ _. TextFits) (map (λ t. t.now) table.new.keys) }
 {

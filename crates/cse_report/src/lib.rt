@@ -20,8 +20,3 @@ pub use laws::{
 };
 pub use listing::Listing;
 pub use reports::Reports;
-
-#[cfg(test)]
-mod failing;
-#[cfg(test)]
-mod tests;

@@ -37,6 +37,3 @@ pub use tree::{
     Limit, Literal, Message, Operation, Operator, Parameter, Place, Procedure, Query, Relation,
     Special, Statement, Tree,
 };
-
-#[cfg(test)]
-mod tests;

@@ -260,9 +260,19 @@ pub struct Entry<'a> {
 }
 
 /// What stands after `PROC GLOBAL`, if it is there, the other procedures, and the messages of each `errmsg`, in order.
-#[derive(Drop)]
 pub struct Tree<'a> {
     pub globals: Option<Vec<Declaration<'a>>>,
     pub procedures: Vec<Procedure<'a>>,
     pub messages: Vec<Entry<'a>>,
+}
+
+// Written out, so that a crate that owns a tree calls this drop and does not prove one for each part.
+impl Drop for Tree<'_> {
+    fn drop(self) {
+        let Tree {
+            globals: _globals,
+            procedures: _procedures,
+            messages: _messages,
+        } = self;
+    }
 }

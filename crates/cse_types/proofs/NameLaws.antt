@@ -20,3 +20,12 @@ has_key n (e ∷ es) = by (has_key n es) (nat_eq n e.0) refl
         → (nat_eq n e.0 || list_any (λ x. nat_eq n x) (map (λ e. e.0) es)) ≡ is_some (cond (nat_eq n e.0) (Some e.1) (lookup (nat_eq n) es))
     by rest true is = rw is refl
     by rest false is = rw is rest
+
+pub has_named : {K X : Type 0} (f : K → List ℕ) (t : List ℕ → Bool) (es : List (K × X)) → list_any t (map (λ e. f e.0) es) ≡ is_some (lookup (λ k. t (f k)) es)
+has_named f t [] = refl
+has_named f t (e ∷ es) = by (has_named f t es) (t (f e.0)) refl
+  where
+    by : list_any t (map (λ e. f e.0) es) ≡ is_some (lookup (λ k. t (f k)) es) → (v : Bool) → t (f e.0) ≡ v
+        → (t (f e.0) || list_any t (map (λ e. f e.0) es)) ≡ is_some (cond (t (f e.0)) (Some e.1) (lookup (λ k. t (f k)) es))
+    by rest true is = rw is refl
+    by rest false is = rw is rest

@@ -1,6 +1,6 @@
 -- Order files, line by line.
 use Rattle.std.proofs.Common.{◌≡◌, ◌⊎◌, inl, inr, ◌≤◌, ◌<◌, ◌+◌, suc, ℕ, Bool, true, false, List, [], ◌∷◌, ◌++◌, length, refl, sym, ap, ◌∙◌, subst, arith, Some, None}
-use Rattle.std.specs.Prelude.{Err, map, nat_eq, ◌||◌, unwrap_or, Option, is_some, if◌then◌else◌}
+use Rattle.std.specs.Prelude.{Result, Ok, Err, IfOk, map, nat_eq, ◌||◌, unwrap_or, Option, is_some, if◌then◌else◌}
 use Rattle.std.specs.List.{filter, list_any, IsDistinct, AllByRecursion}
 use Rattle.std.proofs.lemmas.List.{map-append}
 use Rattle.std.proofs.lemmas.List.Elements.{filter-append}
@@ -11,7 +11,7 @@ use Rattle.cse_types.specs.declared.error.TypeError.{TypeError}
 use Rattle.cse_types.specs.declared.error.Stop.{Stop}
 use Rattle.cse_types.specs.declared.error.Stop.TheVariants.{Memory, Fault}
 use Rattle.cse_types.specs.Fault.{at_line, error_of, out_of_memory}
-use Rattle.cse_types.specs.OrderFile.{IsOrder, FirstFaulty, TakesRecord, is_there, order_line, record_in, with_record}
+use Rattle.cse_types.specs.OrderFile.{IsOrder, IsOrderOf, ReadsOrder, FirstFaulty, TakesRecord, is_there, order_line, record_in, with_record}
 
 -- ---- one line more
 
@@ -219,3 +219,7 @@ cut_told d found new number rest text line more Memory e c l k s = inl s
 cut_told d found new number rest text line more (Fault n) e c l k s =
     let here : e.line ≡ number + 1 = ap (λ (x : TypeError). x.line) s in
     inr (s ∙ ap (λ m. at_line m (number + 1)) k.0 ∙ ap (at_line 40) (sym here), subst (FirstFaulty d (lines_of text)) (sym here) (cut_off d found number rest text line more c l k.1))
+
+pub ordered : (d : DictionaryText) (r : Result (List ℕ) TypeError) (lines : List (List ℕ)) → ReadsOrder d r lines → IfOk r (λ records. IsOrderOf d records)
+ordered d (Ok records) lines h = (lines, h)
+ordered d (Err e) lines h = tt

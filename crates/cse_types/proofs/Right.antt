@@ -255,7 +255,7 @@ number_kind_holds (Some kind.Opaque) h = absurd (false≢true h)
 number_kind_holds (Some kind.Text) h = absurd (false≢true h)
 number_kind_holds None h = absurd (false≢true h)
 
-set_right : (s : Scope) (o : Option Meaning) → For (λ k. (o ≡ Some (m.Set k)) × IsNumberSet s.dictionary k) (number_set s o)
+pub set_right : (s : Scope) (o : Option Meaning) → For (λ k. (o ≡ Some (m.Set k)) × IsNumberSet s.dictionary k) (number_set s o)
 set_right s (Some (m.Set k)) = for_only _ (is_number_kind (set_kind s.dictionary k)) _ (λ c. (refl, number_kind_holds (set_kind s.dictionary k) c))
 set_right s (Some (m.Variable x)) = tt
 set_right s (Some (m.Text x)) = tt

@@ -186,7 +186,7 @@ for_right s n variable record_name body (Some x) (Some y) h k = (ap (syntax.For 
 for_right s n variable record_name body (Some x) None h k = tt
 for_right s n variable record_name body None ys h k = tt
 
-whole_right : (x : syntax.Literal) (o : Option ℤ) → signed_value x ≡ o → For (λ (y : Whole). (y.literal ≡ x) × IsWhole y) (option_map (λ value. record { literal = x; value = value }) o)
+pub whole_right : (x : syntax.Literal) (o : Option ℤ) → signed_value x ≡ o → For (λ (y : Whole). (y.literal ≡ x) × IsWhole y) (option_map (λ value. record { literal = x; value = value }) o)
 whole_right x None e = tt
 whole_right x (Some value) e = (refl, e)
 
@@ -194,7 +194,7 @@ limit_right : (s : Scope) (x : syntax.Limit) → For (λ y. (erase_limit y ≡ x
 limit_right s (syntax.Fixed x) = for_map (λ (y : Whole). (y.literal ≡ x) × IsWhole y) _ Fixed (λ y k. (ap syntax.Fixed k.0, k.1)) (whole_judged x) (whole_right x (signed_value x) refl)
 limit_right s (syntax.Counted count name) = for_map (IsRecord s (meant s name)) _ (Counted count name) (λ y k. (refl, k)) (record_of s (meant s name)) (record_right s (meant s name))
 
-some_right : {A : Type 0} (o : Option A) → For (λ x. o ≡ Some x) o
+pub some_right : {A : Type 0} (o : Option A) → For (λ x. o ≡ Some x) o
 some_right None = tt
 some_right (Some x) = refl
 

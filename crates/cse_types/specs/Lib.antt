@@ -7,4 +7,12 @@ pub mod WellTyped
 pub mod Walk
 pub mod Judge
 pub mod JudgeStatement
+pub mod JudgeTree
+pub mod Gather
+pub mod Fresh
 pub mod Told
+pub mod Table
+pub mod Entries
+pub mod Checked
+pub mod Parts
+pub mod Answer

@@ -21,6 +21,10 @@ pub record IsOrder (d : DictionaryText) (lines : List (List ℕ)) (records : Lis
   pub named : map (record_in d) (filter is_there lines) ≡ map Some records
   pub once : IsDistinct nat_eq records
 
+-- records that an order file names
+abbrev pub IsOrderOf : DictionaryText → List ℕ → Type 0
+IsOrderOf d records = (lines : List (List ℕ)) × IsOrder d lines records
+
 -- the line of this number, counted from 1, is the first that is faulty: the lines before it are those of an
 -- order file, and no order file begins with these and the line
 pub record FirstFaulty (d : DictionaryText) (lines : List (List ℕ)) (number : ℕ) : Type 0 where

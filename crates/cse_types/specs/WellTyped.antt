@@ -6,8 +6,8 @@
 --   48 placeholders and arguments differ in number     49 a wrong place
 --
 -- Kinds are those of the types: a number and a text are of different types, so that most of 44 is in the tree itself.
-use Rattle.std.specs.Prelude.{◌≡◌, ◌≤◌, ℕ, ◌+◌, ℤ, pos, neg_ℤ, Bool, true, false, ◌&&◌, ◌||◌, not, ◌==◌, nat_eq, if◌then◌else◌, List, [], ◌∷◌, ◌++◌, length, map, find, position, slice_get, unwrap_or, Option, Some, None, All}
-use Rattle.std.specs.List.{IsDistinct}
+use Rattle.std.specs.Prelude.{◌≡◌, ◌≤◌, ℕ, ◌+◌, ℤ, pos, neg_ℤ, Bool, true, false, ◌&&◌, ◌||◌, not, ◌==◌, nat_eq, nat_le, if◌then◌else◌, List, [], ◌∷◌, ◌++◌, length, map, find, position, slice_get, unwrap_or, Option, Some, None}
+use Rattle.std.specs.List.{AllByRecursion, IsDistinct}
 use Rattle.std.specs.Option.{option_map, option_map_or, option_and_then}
 use Rattle.std.specs.Map.{lookup}
 use Rattle.std.specs.Str.{bytes_eq}
@@ -311,9 +311,20 @@ abbrev pub rows_of : Option ValueSet → Option ℕ
 rows_of None = None
 rows_of (Some x) = if x.shape.rows == 0 then None else Some x.shape.rows
 
+-- the size that digits write: from 1 to the most
+unfoldable pub size_in : ℕ → List ℕ → Option ℕ
+size_in most digits = if is_within 1 most digits then Some (number_of digits) else None
+
+-- the same, where it is known that they are digits, and what they write
+abbrev pub size_fit : ℕ → ℕ → Option ℕ
+size_fit most n = if nat_le 1 n && nat_le n most then Some n else None
+
+abbrev pub size_of : ℕ → Spelling → Option ℕ
+size_of most digits = size_in most digits.text
+
 -- a number, or a whole set of a numeric item (40; 41, 42, 44) with rows (49)
 abbrev pub IsDimension : Scope → Dimension → Type 0
-IsDimension s (Sized digits size) = size ≡ number_of digits.text
+IsDimension s (Sized digits size) = size_of 65535 digits ≡ Some size
 IsDimension s (Rows name set one_more size) = (meant s name ≡ Some (m.Set set)) × IsNumberSet s.dictionary set × (option_map (λ rows. rows + one_if one_more) (rows_of (slice_get s.dictionary.sets set)) ≡ Some size)
 
 -- a name that nothing else bears (40)
@@ -333,7 +344,7 @@ with_function s f = record s { functions = s.functions ++ Some (facts_of s.funct
 
 -- a function is sound: its parameters are new names, each once (40); its body is sound after the functions before it
 pub record IsFunction (s : Scope) (n : ℕ) (f : Function) : Type 0 where
-  pub parameters_new : All (IsNew s.dictionary s.declared) (parameter_names f.parameters)
+  pub parameters_new : AllByRecursion (IsNew s.dictionary s.declared) (parameter_names f.parameters)
   pub parameters_once : IsDistinct bytes_eq (parameter_names f.parameters)
   pub body : AreStatements (function_scope s (length s.functions) f.parameters) n f.body
   pub needs : f.needs_case ≡ (facts_of s.functions f).needs_case
@@ -342,17 +353,20 @@ pub record IsFunction (s : Scope) (n : ℕ) (f : Function) : Type 0 where
 abbrev pub AreDeclared : Scope → ℕ → List Declaration → Type 0
 AreDeclared s n [] = Unit {0}
 AreDeclared s n (Numeric names ∷ ds) = AreDeclared s n ds
-AreDeclared s n (Alpha digits size names ∷ ds) = (size ≡ number_of digits.text) × AreDeclared s n ds
-AreDeclared s n (Array' array ∷ ds) = All (IsDimension s) array.dimensions × All IsWhole array.cells × AreDeclared s n ds
+AreDeclared s n (Alpha digits size names ∷ ds) = (size_of 255 digits ≡ Some size) × AreDeclared s n ds
+AreDeclared s n (Array' array ∷ ds) = AllByRecursion (IsDimension s) array.dimensions × AllByRecursion IsWhole array.cells × AreDeclared s n ds
 AreDeclared s n (Function' f ∷ ds) = IsFunction s n f × AreDeclared (with_function s f) (n + length (messages_of (erase_block f.body))) ds
 
 -- ---- procedures
 
 -- what a procedure of this name belongs to: an item's is that of an item of a record that isn't opaque
+abbrev pub owner_in : ℕ → ℕ → Option Owner
+owner_in item owner = if owner == 255 then None else Some (o.Item (record { owner = owner; item = item }))
+
 abbrev pub item_owner : ℕ → Option (ItemKind × ℕ) → Option Owner
 item_owner item None = None
 item_owner item (Some (kind.Opaque, owner)) = None
-item_owner item (Some (k, owner)) = if owner == 255 then None else Some (o.Item (record { owner = owner; item = item }))
+item_owner item (Some (k, owner)) = owner_in item owner
 
 abbrev pub owner_meant : DictionaryText → Option Meaning → Option Owner
 owner_meant d (Some m.Application) = Some o.Application
@@ -437,7 +451,7 @@ first_scope d messages t = record {
 -- A typed tree is sound for a dictionary and the messages of a message file.
 pub record IsWell (d : DictionaryText) (messages : List MessageText) (t : Tree) : Type 0 where
   -- 40: each declared name is new, and stands once
-  pub names_new : All (λ (x : List ℕ × Meaning). in_dictionary d x.0 ≡ None) (declared_in (erase_tree t))
+  pub names_new : AllByRecursion (λ (x : List ℕ × Meaning). in_dictionary d x.0 ≡ None) (declared_in (erase_tree t))
   pub names_once : IsDistinct bytes_eq (map (λ (x : List ℕ × Meaning). x.0) (declared_in (erase_tree t)))
   pub declarations : AreDeclared (first_scope d messages t) 0 (typed_declarations t.globals)
   -- 40: each owner has one procedure

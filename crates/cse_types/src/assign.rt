@@ -119,6 +119,26 @@ fn assign_variable<'a>(
     set(name, variable, value)
 }
 
+/// An assignment of the result of a function in its own body: by its name alone, since a call is no place (40).
+fn assign_result<'a>(
+    scope: &Scope<'_>,
+    faults: &mut Faults,
+    name: Lexeme<'a>,
+    own: Option<Variable>,
+    count: usize,
+    value: Judged<'a>,
+    token: usize,
+) -> Option<Statement<'a>>
+    ensures value { option_map statement result ≡ spec.assign_variable scope.now (written name.entry) own count (judged value.entry) }
+    ensures noted { IsNotedAfter (is_sound (judged value.entry)) faults.old faults.new (is_there (spec.assign_variable scope.now (written name.entry) own count (judged value.entry))) }
+{
+    if count != 0 {
+        faults.note(40, name.token);
+        return None;
+    }
+    assign_variable(scope, faults, name, own, count, value, token)
+}
+
 fn set_text<'a>(name: Lexeme<'a>, global: usize, value: Option<Words<'a>>) -> Option<Statement<'a>>
     ensures { option_map statement result ≡ option_map (typed.SetText (written name.entry) global) (option_map words value.entry) }
 {
@@ -350,7 +370,7 @@ pub fn assign<'a>(
         }
         Some(Meaning::Function(function)) => {
             let own = own_result(scope.routine, function);
-            assign_variable(scope, faults, name, own, count, value, token)
+            assign_result(scope, faults, name, own, count, value, token)
         }
         Some(Meaning::Item(item)) => {
             assign_item(scope, faults, name, count, item, subscripts, value, token)

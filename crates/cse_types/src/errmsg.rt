@@ -49,7 +49,7 @@ fn in_range(number: u64) -> Option<u32>
 }
 
 /// The number of a message that digits write.
-fn message_number(digits: &str) -> Option<u32>
+pub fn message_number(digits: &str) -> Option<u32>
     ensures { result ≡ message_number digits.now }
 {
     match written_number(digits) {

@@ -1,23 +1,29 @@
 //! The fault that is told: the one with the least token, and then the least number.
 
-ghost use Rattle.std.specs.Prelude.{◌≡◌, true};
-ghost use Rattle.cse_types.specs.Walk.{is_there};
+ghost use Rattle.std.specs.Prelude.{◌≤◌};
 
-/// A fault of logic: its number, and the index of its token.
-#[derive(Clone, Copy, Debug, PartialEq, Eq)]
+/// A fault of logic: its number, from 40 to 49, and the index of its token.
+#[derive(Clone, Copy, Debug)]
 pub struct Fault {
     pub number: u8,
     pub token: usize,
+    pub ghost least: { 40 ≤ number },
+    pub ghost most: { number ≤ 49 },
 }
 
 /// The least fault so far.
-#[derive(Clone, Copy, Debug, PartialEq, Eq)]
+#[derive(Clone, Copy, Debug)]
 pub struct Faults {
     pub worst: Option<Fault>,
 }
 
 impl Faults {
+    ghost use Rattle.std.specs.Prelude.{◌≡◌, true};
+    ghost use Rattle.cse_types.specs.Walk.{is_there};
+
     pub fn note(&mut self, number: u8, token: usize)
+        requires least { 40 ≤ number }
+        requires most { number ≤ 49 }
         ensures { is_there self.new.worst ≡ true }
     {
         let is_less = match self.worst {

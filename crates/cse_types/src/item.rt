@@ -1,6 +1,6 @@
 //! Items, value sets, hot decks and records in expressions.
 
-ghost use Rattle.std.specs.Prelude.{◌≡◌, map, slice_get, Some, None, IfOk, OnOk};
+ghost use Rattle.std.specs.Prelude.{◌≡◌, ◌≤◌, map, slice_get, Some, None, IfOk, OnOk};
 ghost use Rattle.std.specs.Option.{option_map};
 ghost use Rattle.cse_syntax.specs.Tree.{written};
 ghost use Rattle.cse_typed.specs.Typed as typed;
@@ -61,6 +61,8 @@ pub fn field_at(
     item: u16,
     owner: u8,
 ) -> Option<Field>
+    requires least { 40 ≤ number }
+    requires most { number ≤ 49 }
     ensures value { result ≡ spec.field_at scope.now item owner }
     ensures noted { IsNoted faults.old faults.new (is_there (spec.field_at scope.now item owner)) }
 {

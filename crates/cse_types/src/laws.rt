@@ -1,13 +1,17 @@
 //! Laws of the definitions, each the contract of a function that does nothing.
 
-ghost use Rattle.std.specs.Prelude.{◌≡◌, ℕ, Bool, Some};
+ghost use Rattle.std.specs.Prelude.{◌≡◌, ℕ, Bool, List, Some};
+ghost use Rattle.cse_dict.specs.Dictionary.{DictionaryText};
 ghost use Rattle.cse_syntax.specs.Tree.{Expr, Stmts};
-ghost use Rattle.cse_typed.specs.Typed.{Number, Words, Statements};
-ghost use Rattle.cse_typed.specs.Erase.{erase, erase_words, erase_block};
+ghost use Rattle.cse_syntax.specs.Tree as syntax;
+ghost use Rattle.cse_typed.specs.Typed.{Number, Words, Statements, Tree};
+ghost use Rattle.cse_typed.specs.Erase.{erase, erase_words, erase_block, erase_tree};
 ghost use Rattle.cse_types.specs.Scope.{Scope};
-ghost use Rattle.cse_types.specs.WellTyped.{IsNumber, IsWords, AreStatements};
+ghost use Rattle.cse_types.specs.WellTyped.{IsNumber, IsWords, AreStatements, IsTypedAs, IsWell};
+ghost use Rattle.cse_types.specs.MessageFile.{MessageText};
 ghost use Rattle.cse_types.specs.Judge.{judge, AsNumber, AsWords};
 ghost use Rattle.cse_types.specs.JudgeStatement.{judge_block};
+ghost use Rattle.cse_types.specs.JudgeTree.{typed_of};
 
 /// An expression is judged to be a number, or a text, exactly where a sound typed tree is made of it, and as that one.
 pub fn expressions_are_judged()
@@ -21,4 +25,10 @@ pub fn expressions_are_judged()
 pub fn statements_are_judged()
     ensures sound { (s : Scope) (n : ℕ) (x : Stmts) (y : Statements) → judge_block s n x ≡ Some y → (erase_block y ≡ x) × AreStatements s n y }
     ensures complete { (s : Scope) (n : ℕ) (y : Statements) → AreStatements s n y → judge_block s n (erase_block y) ≡ Some y }
+{}
+
+/// A source's tree is judged to be sound exactly where a typed tree of it keeps each rule of 40 to 49, and as that one: there is one at most.
+pub fn sources_are_judged()
+    ensures sound { (d : DictionaryText) (messages : List MessageText) (x : syntax.Tree) (t : Tree) → typed_of d messages x ≡ Some t → IsTypedAs d messages x t }
+    ensures complete { (d : DictionaryText) (messages : List MessageText) (x : syntax.Tree) (t : Tree) → IsTypedAs d messages x t → typed_of d messages x ≡ Some t }
 {}

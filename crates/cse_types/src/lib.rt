@@ -13,17 +13,31 @@
 //! - `head`: the heads of loops, and literals.
 //! - `told`, `errmsg`: the messages of a source.
 //! - `action`, `statement`: the walk over statements.
+//! - `facts`: what is known of a function behind its end.
+//! - `fresh`, `table`, `owners`: names that are new, each once: of parameters, of declarations, of procedures.
+//! - `array`, `arrays`: arrays, and the dimensions of all of them.
+//! - `function`, `declaration`, `procedure`: functions, declarations and procedures, one after the other.
+//! - `entries`: the messages of a source with their numbers and texts.
+//! - `parts`, `checked`, `typed`: a whole source, from its names to the typed tree.
 //! - `laws`: laws of the definitions.
 #![tactic(auto)]
 
 mod action;
+mod array;
+mod arrays;
 mod assign;
 mod call;
+mod checked;
 mod deck;
+mod declaration;
+mod entries;
 mod errmsg;
 mod error;
 mod expression;
+mod facts;
 mod faults;
+mod fresh;
+mod function;
 mod gaps;
 mod head;
 mod item;
@@ -35,17 +49,21 @@ mod messages;
 mod names;
 mod operator;
 mod order;
+mod owners;
+mod parts;
 mod place;
+mod procedure;
 mod scope;
 mod set;
 mod statement;
+mod table;
 mod told;
+mod typed;
 
+pub use checked::check;
 pub use error::TypeError;
-pub use laws::{expressions_are_judged, statements_are_judged};
+pub use laws::{expressions_are_judged, sources_are_judged, statements_are_judged};
 pub use meaning::{Meaning, Routine};
 pub use messages::Messages;
 pub use order::Order;
-
-#[cfg(test)]
-mod tests;
+pub use typed::Typed;

@@ -1,10 +1,10 @@
 //! An order file: the records whose events come first, one name a line (own).
 
-ghost use Rattle.std.specs.Prelude.{◌≡◌, ℕ, List, nat_eq};
+ghost use Rattle.std.specs.Prelude.{◌≡◌, ℕ, List, nat_eq, IfOk};
 ghost use Rattle.std.specs.List.{list_any};
 ghost use Rattle.cse_sections.specs.Sections.{after_mark, lines_of};
 ghost use Rattle.cse_types.specs.MessageFile.{file_lines};
-ghost use Rattle.cse_types.specs.OrderFile.{ReadsOrder, TakesRecord, record_in};
+ghost use Rattle.cse_types.specs.OrderFile.{IsOrderOf, ReadsOrder, TakesRecord, record_in};
 
 use crate::error::{Stop, TypeError, error_at};
 use cse_dict::Dictionary;
@@ -87,7 +87,8 @@ impl Order {
     /// record at most once; empty lines say nothing. Else the first line that names no record, or one that was
     /// named before (40), at its column 1; or want of memory (90).
     pub fn read(alloc: Global, dictionary: &Dictionary, text: &[u8]) -> Result<Order, TypeError>
-        ensures { ReadsOrder dictionary.now result (file_lines text.now) }
+        ensures reads { ReadsOrder dictionary.now result (file_lines text.now) }
+        ensures order { IfOk result (λ o. IsOrderOf dictionary.now o) }
     {
         Order::read_lines(alloc, dictionary, after_mark(text))
     }

@@ -65,7 +65,7 @@ impl<'a> Model for Scope<'a> {
 }
 
 /// What a name means in the dictionary; it stands here in upper case too.
-fn in_dictionary(dictionary: &Dictionary, name: &str, kept: &[u8]) -> Option<Meaning>
+pub fn in_dictionary(dictionary: &Dictionary, name: &str, kept: &[u8]) -> Option<Meaning>
     requires { kept.now ≡ kept_name name.now }
     ensures { result ≡ in_dictionary dictionary.now name.now }
 {

@@ -51,7 +51,10 @@ fn set_kind(dictionary: &Dictionary, set: u16) -> Option<ItemKind>
 }
 
 /// The number of the fault of a set that isn't whole: 41 where it is an opaque item's.
-fn partial_fault(dictionary: &Dictionary, set: u16) -> u8 {
+fn partial_fault(dictionary: &Dictionary, set: u16) -> u8
+    ensures least { 40 ≤ result }
+    ensures most { result ≤ 49 }
+{
     let Some(set) = dictionary.shape().sets.get(set as usize) else {
         return 42;
     };
@@ -123,7 +126,7 @@ fn set_meant(scope: &Scope<'_>, item: u16, set_name: Option<Lexeme<'_>>) -> Opti
     }
 }
 
-fn number_set(
+pub fn number_set(
     scope: &Scope<'_>,
     faults: &mut Faults,
     token: usize,

@@ -135,20 +135,12 @@ fn one_message<'a>(
     ensures noted { OnOk result (IsNoted faults.old faults.new (is_there (judge_statement scope.now (length told.old.items) (syntax.ErrMsg (syntax.message message.entry) (syntax.exprs (map syntax.expr values.now.items)) is_summary)))) }
     ensures told { OnOk result (map told_of told.new.items ≡ map told_of told.old.items ++ (syntax.message message.entry, is_summary) ∷ []) }
 {
-    let found = err_msg(
-        alloc,
-        scope,
-        faults,
-        message,
-        told.len(),
-        is_summary,
-        values,
-    )?;
+    let index = told.len();
     told.push(Told {
         message,
         is_summary,
     })?;
-    Ok(found)
+    err_msg(alloc, scope, faults, message, index, is_summary, values)
 }
 
 /// A statement, or none where it isn't sound.

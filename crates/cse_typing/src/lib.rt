@@ -44,12 +44,3 @@ pub use stand::may_stand;
 pub use turn::Surroundings;
 pub use walk::{Fault, judge};
 pub use whole::{check_events, check_routine, typed};
-
-#[cfg(test)]
-mod events;
-#[cfg(test)]
-mod programs;
-#[cfg(test)]
-mod rows;
-#[cfg(test)]
-mod tests;

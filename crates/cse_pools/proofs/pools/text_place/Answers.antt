@@ -1,11 +1,11 @@
-use Rattle.std.proofs.Common.{◌≤◌, length, ap, ◌∙◌, map, arith, ℕ, List}
+use Rattle.std.proofs.Common.{◌≤◌, length, sym, ap, ◌∙◌, map, arith, ℕ, List}
 use Rattle.std.specs.Str.{bytes_eq}
 use Rattle.std.proofs.lemmas.Bool.{leb-true}
 use Rattle.std.proofs.lemmas.List.{length-map}
 use Rattle.std.proofs.lemmas.Grind.{common_steps}
 use Rattle.cse_parts.specs.Limits.{most_texts}
 use Rattle.cse_image.specs.Spelling.{TextFits}
-use Rattle.cse_pools.proofs.Entries.{section_added, texts_added, text_there}
+use Rattle.cse_pools.proofs.Entries.{section_added, texts_added, text_longer, text_there}
 use Rattle.cse_pools.proofs.pools.text_place.Goals as goal
 
 pub returns-in-Ok-clause-at : goal.returns-in-Ok-clause-at
@@ -27,3 +27,8 @@ returns-in-Ok-clause-fit c =
     (omega (arith, room, length-map c.insert_full.new.self.keys (λ t. t.now)))
     c.requires.entry
     c.requires.fit
+
+pub returns-then-not-contains-clause-full : goal.returns-then-not-contains-clause-full
+returns-then-not-contains-clause-full c =
+    let room : most_texts ≤ length c.args.table.now.keys = omega (arith, c.if-len-ge-MOST_TEXTS.true, c.len.ensures.len) in
+    λ _. text_longer most_texts c.args.table.now.keys c.args.value room (sym c.contains.ensures ∙ c.if-not-contains.true)

@@ -1,0 +1,3 @@
+mod Promises
+mod Layers
+mod Whole

@@ -1,0 +1,25 @@
+use Rattle.std.proofs.Common.{◌∙◌, ap, subst}
+use Rattle.cse_dict.specs.Dictionary.{DictionaryText}
+use Rattle.cse_dict.specs.Sound.{IsSound as IsSoundDictionary}
+use Rattle.cse_typed.specs.Typed.{tree}
+use Rattle.cse_types.specs.Answer.{checked}
+use Rattle.cse_build.proofs.Promises.{reasons_alone, no_room, long_at_cost}
+use Rattle.cse_build.proofs.compiling.compile.Goals as goal
+
+pub returns-clause-others : goal.returns-clause-others
+returns-clause-others c =
+    let sound = subst (λ (d : DictionaryText). IsSoundDictionary d) c.dictionary-dictionary.ensures c.shape-sound.ensures.sound in
+    reasons_alone (checked c.args.typed.now) sound c.args.typed.now.is_checked _ _ _ c.dictionary-dictionary.ensures (c.records.ensures ∙ c.order.ensures) (ap tree c.tree.ensures)
+    c.compile.result c.compile.ensures.others
+
+pub returns-clause-cost : goal.returns-clause-cost
+returns-clause-cost c =
+    let sound = subst (λ (d : DictionaryText). IsSoundDictionary d) c.dictionary-dictionary.ensures c.shape-sound.ensures.sound in
+    long_at_cost (checked c.args.typed.now) sound c.args.typed.now.is_checked _ _ _ c.dictionary-dictionary.ensures (c.records.ensures ∙ c.order.ensures) (ap tree c.tree.ensures)
+    c.compile.result c.compile.ensures.cost
+
+pub returns-clause-room : goal.returns-clause-room
+returns-clause-room c =
+    let sound = subst (λ (d : DictionaryText). IsSoundDictionary d) c.dictionary-dictionary.ensures c.shape-sound.ensures.sound in
+    no_room (checked c.args.typed.now) sound c.args.typed.now.is_checked _ _ _ c.dictionary-dictionary.ensures (c.records.ensures ∙ c.order.ensures) (ap tree c.tree.ensures)
+    c.compile.result c.compile.ensures.room

@@ -1,0 +1,35 @@
+//! The program of a checked source.
+
+ghost use Rattle.std.specs.Prelude.{◌≡◌, IfOk, IfErr};
+ghost use Rattle.cse_dict.specs.Dictionary.{shape_of};
+ghost use Rattle.cse_typing.specs.Typed.{IsTyped};
+ghost use Rattle.cse_bounds.specs.Bounded.{IsBounded};
+ghost use Rattle.cse_types.specs.Answer.{checked};
+ghost use Rattle.cse_compile.specs.Compiled.{HasNoRoom};
+ghost use Rattle.cse_compile.specs.Fault.{IsReason};
+ghost use Rattle.cse_compile.specs.Program.{IsProgramOf};
+ghost use Rattle.cse_checked_code.specs.Costs.{KeepsCosts};
+
+use cse_compile::CompileError;
+use cse_image::Program;
+use cse_types::Typed;
+use std::alloc::Global;
+
+/// The program of a checked source, for the dictionary and the edit order that it was checked for. It may run with the
+/// dictionary (`typed`, `bounded`), and is the program of the source (`tables`).
+///
+/// A checked source is refused by 64, 67 or 90 alone (`others`): by 64 only where no program of it has a spelling, since
+/// one of its tables, or its code, is beyond a limit of the format (`room`), and by 67 only where a routine or the events
+/// of a case cost more than 10^15 steps (`cost`).
+pub fn compile(alloc: Global, typed: &Typed<'_>) -> Result<Program, CompileError>
+    ensures typed { IfOk result (IsTyped (shape_of (checked typed.now).dictionary)) }
+    ensures bounded { IfOk result IsBounded }
+    ensures tables { IfOk result (IsProgramOf (checked typed.now).dictionary (checked typed.now).order (checked typed.now).tree) }
+    ensures others { IfErr result IsReason }
+    ensures room { IfErr result (λ e. e.number ≡ 64 → HasNoRoom (checked typed.now).dictionary (checked typed.now).order (checked typed.now).tree) }
+    ensures cost { IfErr result (λ e. e.number ≡ 67 → KeepsCosts (checked typed.now).dictionary (checked typed.now).tree → ⊥) }
+{
+    let dictionary = typed.dictionary();
+    let _sound = dictionary.shape();
+    cse_compile::compile(alloc, typed.tree(), dictionary, typed.order().records())
+}

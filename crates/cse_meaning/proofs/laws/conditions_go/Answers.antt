@@ -1,0 +1,6 @@
+use Rattle.cse_steps.proofs.Runs.{composed}
+use Rattle.cse_meaning.proofs.Assigned.{decided}
+use Rattle.cse_meaning.proofs.laws.conditions_go.Goals as goal
+
+pub returns : goal.returns
+returns c = decided composed

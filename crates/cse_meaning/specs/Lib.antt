@@ -1,0 +1,10 @@
+pub mod Setting
+pub mod Reading
+pub mod Writing
+pub mod Expressions
+pub mod Statements
+pub mod Meaning
+pub mod Means
+pub mod Runs
+pub mod Acts
+pub mod Worked

@@ -1,0 +1,30 @@
+//! Worked rows of the libraries below: tests of their public calls, of what no clause says. They stand apart so that each of
+//! these libraries is proved once, and not a second time with its tests.
+//!
+//! - `dictionaries`: dictionaries, and the first fault of those that are none.
+//! - `images`: images of both versions, and bytes that break a rule.
+//! - `typings`, `events`, `programs`, `opcodes`: programs that may run, and those that may not.
+//! - `syntax`: logic, and the first fault of what is none.
+//! - `files`: message and order files.
+//! - `checks`, `logic`: names and kinds of logic.
+#![tactic(auto)]
+
+#[cfg(test)]
+mod checks;
+#[cfg(test)]
+mod dictionaries;
+#[cfg(test)]
+mod events;
+#[cfg(test)]
+mod files;
+#[cfg(test)]
+mod images;
+pub mod logic;
+#[cfg(test)]
+mod opcodes;
+#[cfg(test)]
+mod programs;
+#[cfg(test)]
+mod syntax;
+#[cfg(test)]
+mod typings;

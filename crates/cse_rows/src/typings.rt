@@ -1,0 +1,350 @@
+//! Worked programs, and why they may not run.
+
+use cse_image::{Ambient, Array, EventCode, EventEntry, Gift, Instr, Op, Parts, Program, Routine};
+use cse_typing::{NONE, Refusal, check_jumps_and_brackets, typed};
+use cse_value::shape::{RecordShape, Shape};
+use std::alloc::{AllocError, Global};
+use std::test::Fail;
+
+/// An instruction: its opcode and its fields a, b and c.
+type Line = (Op, u8, u16, u32);
+
+fn code_of(alloc: Global, lines: &[Line]) -> Result<Vec<Instr>, AllocError> {
+    let mut code = Vec::new(alloc);
+    for (op, a, b, c) in lines {
+        code.push(Instr {
+            op: *op,
+            a: *a,
+            b: *b,
+            c: *c,
+        })?;
+    }
+    Ok(code)
+}
+
+/// One routine, the application's preproc, with a constant, a text and an array of 4 cells.
+fn parts_of(alloc: Global, code: Vec<Instr>) -> Result<Parts, AllocError> {
+    let mut texts = Vec::new(alloc);
+    texts.push(String::from_str(alloc, "A")?)?;
+    let mut arrays = Vec::new(alloc);
+    arrays.push(Array {
+        saved: false,
+        dimensions: Vec::from_slice(alloc, &[4])?,
+        name: String::from_str(alloc, "CELLS")?,
+        cells: Vec::new(alloc),
+    })?;
+    let mut routines = Vec::new(alloc);
+    routines.push(Routine {
+        ambient: Ambient::Run,
+        gives: Gift::Nothing,
+        parameters: 0,
+        locals: Vec::new(alloc),
+        instructions: u32::try_from(code.len()).unwrap_or(0),
+    })?;
+    let first = EventEntry {
+        code: EventCode::ApplicationPreproc,
+        index: 0,
+        routine: 0,
+    };
+    Ok(Parts {
+        records: Vec::new(alloc),
+        items: Vec::new(alloc),
+        sets: Vec::new(alloc),
+        order: Vec::new(alloc),
+        constants: Vec::from_slice(alloc, &[1])?,
+        limits: Vec::from_slice(alloc, &[1, 2, 3, 4])?,
+        texts,
+        globals: Vec::new(alloc),
+        arrays,
+        messages: Vec::new(alloc),
+        routines,
+        events: Vec::from_slice(alloc, &[first])?,
+        code,
+    })
+}
+
+/// What the numbers of an answer are: zeros, or the number, the routine and the place.
+fn numbers_of(told: Result<(), Refusal>) -> (u8, u32, u32) {
+    match told {
+        Ok(()) => (0, 0, 0),
+        Err(refusal) => (refusal.number, refusal.routine, refusal.at),
+    }
+}
+
+/// What the rules of jumps and brackets say of a routine with this code.
+fn jumps_told(alloc: Global, code: Vec<Instr>) -> Result<(u8, u32, u32), Fail> {
+    let program = Program::from_parts(parts_of(alloc, code)?).ok_or("no spelling")?;
+    Ok(numbers_of(check_jumps_and_brackets(alloc, &program)))
+}
+
+/// So many loops, one in the other.
+fn nested(alloc: Global, depth: u32) -> Result<Vec<Instr>, AllocError> {
+    let depth = depth.min(100);
+    let mut code = Vec::new(alloc);
+    for i in 0..depth {
+        code.push(Instr {
+            op: Op::Number,
+            a: 0,
+            b: 0,
+            c: 0,
+        })?;
+        code.push(Instr {
+            op: Op::LoopCount,
+            a: 0,
+            b: 1,
+            c: (3 * depth).saturating_sub(i + 1),
+        })?;
+    }
+    for i in 0..depth {
+        code.push(Instr {
+            op: Op::End,
+            a: 0,
+            b: 0,
+            c: (2 * depth).saturating_sub(2 * i + 1),
+        })?;
+    }
+    code.push(Instr {
+        op: Op::Return,
+        a: 0,
+        b: 0,
+        c: 0,
+    })?;
+    Ok(code)
+}
+
+/// Code, and the first place that breaks a rule of jumps or brackets.
+const JUMPS: [(&[Line], u8, u32); 10] = [
+    (&[(Op::Return, 0, 0, 0)], 0, 0),
+    // A loop with a break, and a jump over it.
+    (
+        &[
+            (Op::Jump, 0, 0, 5),
+            (Op::Number, 0, 0, 0),
+            (Op::LoopCount, 0, 3, 4),
+            (Op::Break, 0, 0, 4),
+            (Op::End, 0, 0, 2),
+            (Op::Return, 0, 0, 0),
+        ],
+        0,
+        0,
+    ),
+    // A jump into a loop, and one out of it.
+    (
+        &[
+            (Op::Number, 0, 0, 0),
+            (Op::JumpUnless, 0, 0, 4),
+            (Op::Number, 0, 0, 0),
+            (Op::LoopCount, 0, 3, 5),
+            (Op::Special, 0, 0, 0),
+            (Op::End, 0, 0, 3),
+            (Op::Return, 0, 0, 0),
+        ],
+        65,
+        1,
+    ),
+    (
+        &[
+            (Op::Number, 0, 0, 0),
+            (Op::LoopCount, 0, 3, 3),
+            (Op::Jump, 0, 0, 4),
+            (Op::End, 0, 0, 1),
+            (Op::Return, 0, 0, 0),
+        ],
+        65,
+        2,
+    ),
+    // A break of no loop, and one that names another end.
+    (&[(Op::Break, 0, 0, 1), (Op::Return, 0, 0, 0)], 65, 0),
+    (
+        &[
+            (Op::Number, 0, 0, 0),
+            (Op::LoopCount, 0, 3, 3),
+            (Op::Break, 0, 0, 4),
+            (Op::End, 0, 0, 1),
+            (Op::Return, 0, 0, 0),
+        ],
+        65,
+        2,
+    ),
+    // An end without its opener, an opener without its end.
+    (&[(Op::End, 0, 0, 0), (Op::Return, 0, 0, 0)], 65, 0),
+    (
+        &[
+            (Op::Number, 0, 0, 0),
+            (Op::LoopCount, 0, 3, 2),
+            (Op::Return, 0, 0, 0),
+        ],
+        65,
+        1,
+    ),
+    // A jump back, and a routine that doesn't return.
+    (
+        &[
+            (Op::Special, 0, 0, 0),
+            (Op::Jump, 0, 0, 0),
+            (Op::Return, 0, 0, 0),
+        ],
+        65,
+        1,
+    ),
+    (&[(Op::Special, 0, 0, 0)], 65, 0),
+];
+
+#[test]
+fn jumps_and_brackets(rt: HostRuntime) -> Result<(), Fail> {
+    let alloc = rt.alloc();
+    for (lines, number, at) in JUMPS {
+        let told = jumps_told(alloc, code_of(alloc, lines)?)?;
+        assert_eq!(rt; told, (number, 0, at));
+    }
+    Ok(())
+}
+
+#[test]
+fn nests_64_deep(rt: HostRuntime) -> Result<(), Fail> {
+    let alloc = rt.alloc();
+    assert_eq!(rt; jumps_told(alloc, nested(alloc, 64)?)?, (0, 0, 0));
+    assert_eq!(rt; jumps_told(alloc, nested(alloc, 65)?)?, (65, 0, 129));
+    Ok(())
+}
+
+/// Code, and the first place that has no stack.
+const TYPINGS: [(&[Line], u8, u32); 9] = [
+    // A limit that isn't there.
+    (
+        &[
+            (Op::Number, 0, 0, 0),
+            (Op::LoopCount, 0, 4, 2),
+            (Op::End, 0, 0, 1),
+            (Op::Return, 0, 0, 0),
+        ],
+        66,
+        1,
+    ),
+    // A number is not a text.
+    (
+        &[
+            (Op::Number, 0, 0, 0),
+            (Op::Text, 0, 0, 0),
+            (Op::Add, 0, 0, 0),
+            (Op::Pop, 0, 0, 0),
+            (Op::Return, 0, 0, 0),
+        ],
+        66,
+        2,
+    ),
+    // Two stacks meet; the place where they meet is told.
+    (
+        &[
+            (Op::Number, 0, 0, 0),
+            (Op::JumpUnless, 0, 0, 3),
+            (Op::Text, 0, 0, 0),
+            (Op::Return, 0, 0, 0),
+        ],
+        66,
+        3,
+    ),
+    // An index of 5 in an array of 4, and one of 4.
+    (
+        &[
+            (Op::Number, 0, 0, 0),
+            (Op::Index, 0, 5, 4),
+            (Op::LoadCell, 0, 0, 0),
+            (Op::Pop, 0, 0, 0),
+            (Op::Return, 0, 0, 0),
+        ],
+        66,
+        2,
+    ),
+    (
+        &[
+            (Op::Number, 0, 0, 0),
+            (Op::Index, 0, 4, 4),
+            (Op::LoadCell, 0, 0, 0),
+            (Op::Pop, 0, 0, 0),
+            (Op::Return, 0, 0, 0),
+        ],
+        0,
+        0,
+    ),
+    // A loop that leaves a value with each turn.
+    (
+        &[
+            (Op::Number, 0, 0, 0),
+            (Op::LoopCount, 0, 3, 3),
+            (Op::Number, 0, 0, 0),
+            (Op::End, 0, 0, 1),
+            (Op::Return, 0, 0, 0),
+        ],
+        66,
+        3,
+    ),
+    // Something is left.
+    (&[(Op::Number, 0, 0, 0), (Op::Return, 0, 0, 0)], 66, 1),
+    // A call to itself, and one that needs a case.
+    (&[(Op::Call, 0, 0, 0), (Op::Return, 0, 0, 0)], 69, 0),
+    (
+        &[
+            (Op::TotalOccurrences, 0, 0, 0),
+            (Op::Pop, 0, 0, 0),
+            (Op::Return, 0, 0, 0),
+        ],
+        69,
+        0,
+    ),
+];
+
+fn no_shape(alloc: Global) -> Shape {
+    Shape {
+        records: Vec::new(alloc),
+        items: Vec::new(alloc),
+        sets: Vec::new(alloc),
+    }
+}
+
+#[test]
+fn typings(rt: HostRuntime) -> Result<(), Fail> {
+    let alloc = rt.alloc();
+    for (lines, number, at) in TYPINGS {
+        let parts = parts_of(alloc, code_of(alloc, lines)?)?;
+        let program = Program::from_parts(parts).ok_or("no spelling")?;
+        let told = typed(alloc, &no_shape(alloc), &program);
+        assert_eq!(rt; numbers_of(told), (number, 0, at));
+    }
+    Ok(())
+}
+
+#[test]
+fn fits_its_dictionary(rt: HostRuntime) -> Result<(), Fail> {
+    let alloc = rt.alloc();
+    let mut parts = parts_of(alloc, code_of(alloc, &[(Op::Return, 0, 0, 0)])?)?;
+    let record = RecordShape {
+        max_records: 1,
+        record_len: 80,
+    };
+    parts.records.push(record)?;
+    parts.order.push(0)?;
+    let program = Program::from_parts(parts).ok_or("no spelling")?;
+    let mut shape = no_shape(alloc);
+    let told = typed(alloc, &shape, &program);
+    assert_eq!(rt; numbers_of(told), (68, NONE, NONE));
+    shape.records.push(record)?;
+    assert_eq!(rt; numbers_of(typed(alloc, &shape, &program)), (0, 0, 0));
+    Ok(())
+}
+
+#[test]
+fn events_want_their_routine(rt: HostRuntime) -> Result<(), Fail> {
+    let alloc = rt.alloc();
+    let mut parts = parts_of(alloc, code_of(alloc, &[(Op::Return, 0, 0, 0)])?)?;
+    let event = EventEntry {
+        code: EventCode::LevelPreproc,
+        index: 0,
+        routine: 0,
+    };
+    parts.events = Vec::from_slice(alloc, &[event])?;
+    let program = Program::from_parts(parts).ok_or("no spelling")?;
+    let told = typed(alloc, &no_shape(alloc), &program);
+    assert_eq!(rt; numbers_of(told), (69, NONE, NONE));
+    Ok(())
+}

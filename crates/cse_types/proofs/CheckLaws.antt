@@ -1,0 +1,146 @@
+-- A source's tree, from its names to the typed one: what the checker's steps tell together.
+use Rattle.std.proofs.Common.{◌≡◌, ℕ, Bool, true, false, List, [], ◌∷◌, length, map, Option, Some, None, refl, sym, ap, ◌∙◌, subst, option_map}
+use Rattle.std.specs.Prelude.{◌&&◌, ◌||◌, not, Result, Ok, Err, IfOk}
+use Rattle.std.proofs.lemmas.List.{length-map}
+use Rattle.std.proofs.lemmas.Bool.{false≢true}
+use Rattle.std.proofs.Math.Logic.{∥∥₁_map}
+use Rattle.cse_dict.specs.Dictionary.{DictionaryText}
+use Rattle.cse_syntax.specs.Word.{Word}
+use Rattle.cse_syntax.specs.Grammar.{IsSource, spell_tree}
+use Rattle.cse_syntax.specs.Tree as syntax
+use Rattle.cse_typed.specs.Typed.{Declaration, Procedure, Tree}
+use Rattle.cse_typed.specs.Erase.{erase_tree}
+use Rattle.cse_types.specs.declared.error.TypeError.{TypeError}
+use Rattle.cse_types.specs.MessageFile.{MessageText}
+use Rattle.cse_types.specs.WellTyped.{all_declarations, declared_in, tree_messages, declared_messages, IsTypedAs}
+use Rattle.cse_types.specs.JudgeTree.{typed_of, tree_of, are_new, is_free, names_of, owner_names, start_scope, globals_judged, procedures_judged, behind_all}
+use Rattle.cse_types.specs.Fresh.{fresh_names}
+use Rattle.cse_types.specs.declared.told.Told.{Told}
+use Rattle.cse_types.specs.Told.{told_of}
+use Rattle.cse_types.specs.Scope.{Scope}
+use Rattle.cse_types.specs.Table.{table_of}
+use Rattle.cse_types.specs.OrderFile.{IsOrderOf}
+use Rattle.cse_types.specs.Checked.{Checked, IsChecked, start_of, parts_of, parts_judged, with_entries}
+use Rattle.cse_types.specs.Walk.{is_there, joined, only_if}
+use Rattle.cse_types.proofs.Right.{For}
+use Rattle.cse_types.proofs.FreshLaws.{fresh_sound}
+use Rattle.cse_types.proofs.TableLaws.{table_sound, table_names}
+use Rattle.cse_types.proofs.TreeRight.{tree_right}
+use Rattle.cse_types.proofs.TreeComplete.{tree_complete}
+use Rattle.cse_types.proofs.Walks.{there_map}
+use Rattle.cse_types.proofs.ProcedureLaws.{noted_joined}
+
+module _ {A B : Type 0} (g : A → B) (a b : Bool) (p q : Option A) (same : a ≡ true → p ≡ q) where
+  found_noted : ((not a || not b) || not (is_there p)) ≡ not (is_there (only_if (a && b) (option_map g q)))
+  found_noted = by a b same
+    where
+      by : (a b : Bool) → (a ≡ true → p ≡ q) → ((not a || not b) || not (is_there p)) ≡ not (is_there (only_if (a && b) (option_map g q)))
+      by true true h = ap (λ o. not (is_there o)) (h refl) ∙ ap not (sym (there_map g q))
+      by true false h = refl
+      by false b h = refl
+
+  found_value : ((not a || not b) || not (is_there p)) ≡ false → option_map g p ≡ only_if (a && b) (option_map g q)
+  found_value = by a b same
+    where
+      by : (a b : Bool) → (a ≡ true → p ≡ q) → ((not a || not b) || not (is_there p)) ≡ false → option_map g p ≡ only_if (a && b) (option_map g q)
+      by true true h k = ap (option_map g) (h refl)
+      by true false h k = absurd (false≢true (sym k))
+      by false b h k = absurd (false≢true (sym k))
+
+module _ (d : DictionaryText) (messages : List MessageText) (x : syntax.Tree) where
+  abbrev ds : List syntax.Declaration
+  ds = all_declarations x.globals
+
+  abbrev new_names : Bool
+  new_names = are_new (is_free d) [] (names_of (declared_in x))
+
+  abbrev new_owners : Bool
+  new_owners = are_new (λ name. true) [] (owner_names x.procedures)
+
+  as_entries : (g : Option (Option (List Declaration))) (ps : Option (List Procedure)) → joined (tree_of messages x) g ps ≡ option_map (with_entries messages (tree_messages x)) (joined parts_of g ps)
+  as_entries None ps = refl
+  as_entries (Some g) None = refl
+  as_entries (Some g) (Some ps) = refl
+
+  typed_is : typed_of d messages x ≡ only_if (new_names && new_owners) (option_map (with_entries messages (tree_messages x)) (parts_judged (start_scope d messages x) x))
+  unfolding typed_of
+  typed_is = ap (only_if (new_names && new_owners)) (as_entries (globals_judged (start_scope d messages x) x.globals) (procedures_judged (behind_all (start_scope d messages x) 0 ds) (length (declared_messages ds)) x.procedures))
+
+  -- the same parts, where all names are new
+  same_parts : new_names ≡ true → parts_judged (start_of d messages (table_of d ds).names ds) x ≡ parts_judged (start_scope d messages x) x
+  same_parts h = ap (λ names. parts_judged (start_of d messages names ds) x) (table_names d ds (table_sound d ds ∙ h))
+
+  flags : (after_names after_owners last : Bool) → after_names ≡ not (table_of d ds).is_sound → after_owners ≡ (after_names || not (fresh_names (λ name. true) (owner_names x.procedures)).is_sound)
+      → last ≡ (after_owners || not (is_there (parts_judged (start_of d messages (table_of d ds).names ds) x)))
+      → last ≡ ((not new_names || not new_owners) || not (is_there (parts_judged (start_of d messages (table_of d ds).names ds) x)))
+  flags after_names after_owners last h k l =
+      l ∙ ap (λ o. o || not (is_there (parts_judged (start_of d messages (table_of d ds).names ds) x)))
+      (k ∙ ap (λ n. n || not (fresh_names (λ name. true) (owner_names x.procedures)).is_sound) (h ∙ ap not (table_sound d ds)) ∙ ap (λ o. not new_names || not o) (fresh_sound (λ name. true) (owner_names x.procedures)))
+
+  pub judged_noted : (after_names after_owners last : Bool) → after_names ≡ not (table_of d ds).is_sound → after_owners ≡ (after_names || not (fresh_names (λ name. true) (owner_names x.procedures)).is_sound)
+      → last ≡ (after_owners || not (is_there (parts_judged (start_of d messages (table_of d ds).names ds) x))) → last ≡ not (is_there (typed_of d messages x))
+  judged_noted after_names after_owners last h k l =
+      flags after_names after_owners last h k l
+      ∙ found_noted (with_entries messages (tree_messages x)) new_names new_owners (parts_judged (start_of d messages (table_of d ds).names ds) x) (parts_judged (start_scope d messages x) x) same_parts
+      ∙ ap (λ o. not (is_there o)) (sym typed_is)
+
+  pub judged_value : (after_names after_owners last : Bool) → after_names ≡ not (table_of d ds).is_sound → after_owners ≡ (after_names || not (fresh_names (λ name. true) (owner_names x.procedures)).is_sound)
+      → last ≡ (after_owners || not (is_there (parts_judged (start_of d messages (table_of d ds).names ds) x))) → last ≡ false
+      → option_map (with_entries messages (tree_messages x)) (parts_judged (start_of d messages (table_of d ds).names ds) x) ≡ typed_of d messages x
+  judged_value after_names after_owners last h k l e =
+      found_value (with_entries messages (tree_messages x)) new_names new_owners (parts_judged (start_of d messages (table_of d ds).names ds) x) (parts_judged (start_scope d messages x) x) same_parts
+      (sym (flags after_names after_owners last h k l) ∙ e)
+      ∙ sym typed_is
+
+-- the words of a tree of a source are those that it spells
+pub its_words : (x : syntax.Tree) (ws : List Word) → ∥ IsSource 64 x ws ∥₁ → ∥ IsSource 64 x (spell_tree x) ∥₁
+its_words x ws t = ∥∥₁_map t (λ h. (h.0, h.1, refl))
+
+-- ---- the parts
+
+told_length : (ts : List Told) (ms : List (syntax.Message × Bool)) → map told_of ts ≡ ms → length ts ≡ length ms
+told_length ts ms e = sym (length-map ts told_of) ∙ ap length e
+
+module _ (s mid : Scope) (x : syntax.Tree) (ts : List Told) (behind : mid ≡ behind_all s 0 (all_declarations x.globals)) (told : map told_of ts ≡ declared_messages (all_declarations x.globals)) where
+  same_procedures : procedures_judged mid (length ts) x.procedures ≡ procedures_judged (behind_all s 0 (all_declarations x.globals)) (length (declared_messages (all_declarations x.globals))) x.procedures
+  same_procedures = ap (λ z. procedures_judged z (length ts) x.procedures) behind ∙ ap (λ n. procedures_judged (behind_all s 0 (all_declarations x.globals)) n x.procedures) (told_length ts _ told)
+
+  pub parts_value : (g : Option (Option (List Declaration))) (ps : Option (List Procedure)) → g ≡ globals_judged s x.globals → ps ≡ procedures_judged mid (length ts) x.procedures → joined parts_of g ps ≡ parts_judged s x
+  parts_value g ps h k = ap (λ z. joined parts_of z ps) h ∙ ap (joined parts_of (globals_judged s x.globals)) (k ∙ same_procedures)
+
+  pub parts_noted : (first between last : Bool) → between ≡ (first || not (is_there (globals_judged s x.globals))) → last ≡ (between || not (is_there (procedures_judged mid (length ts) x.procedures))) → last ≡ (first || not (is_there (parts_judged s x)))
+  parts_noted first between last h k =
+      noted_joined parts_of (globals_judged s x.globals) (procedures_judged (behind_all s 0 (all_declarations x.globals)) (length (declared_messages (all_declarations x.globals))) x.procedures) first between last h
+      (k ∙ ap (λ o. between || not (is_there o)) same_procedures)
+
+-- ---- the answer
+
+pub where_so : {A E : Type 0} (P Q : A → Type 0) (r : Result A E) → ((x : A) → P x → Q x) → IfOk r P → IfOk r Q
+where_so P Q (Ok x) f h = f x h
+where_so P Q (Err e) f h = tt
+
+-- a tree that was found and one that is right are the same
+pub same_tree : (t u : Tree) (o : Option Tree) → Some t ≡ o → o ≡ Some u → t ≡ u
+same_tree t u o h k = ap (or_this t) (h ∙ k)
+  where
+    or_this : Tree → Option Tree → Tree
+    or_this z None = z
+    or_this z (Some y) = y
+
+-- no fault, and no tree
+pub no_tree : (w : Bool) (o : Option Tree) → w ≡ false → w ≡ not (is_there o) → None ≡ o → ⊥
+no_tree w o h k e = false≢true (sym h ∙ k ∙ ap (λ z. not (is_there z)) (sym e))
+
+-- a fault, and a tree that is right
+pub no_fault : (w : Bool) (o : Option Tree) (t : Tree) → w ≡ true → w ≡ not (is_there o) → o ≡ Some t → ⊥
+no_fault w o t h k e = false≢true (sym (ap (λ z. not (is_there z)) e) ∙ sym k ∙ h)
+
+pub checked_so : (d : DictionaryText) (messages : List MessageText) (order : List ℕ) (x : syntax.Tree) (ws : List Word) (t : Tree) → IsTypedAs d messages x t → ∥ IsSource 64 x ws ∥₁ → IsOrderOf d order
+    → IsChecked (record { dictionary = d; messages = messages; order = order; tree = t })
+checked_so d messages order x ws t h p q = record { well = h.well; source = subst (λ (y : syntax.Tree). ∥ IsSource 64 y (spell_tree y) ∥₁) (sym h.erased) (its_words x ws p); ordered = q }
+
+pub typed_right : (d : DictionaryText) (messages : List MessageText) (x : syntax.Tree) (t : Tree) → typed_of d messages x ≡ Some t → IsTypedAs d messages x t
+typed_right d messages x t e = subst (For (IsTypedAs d messages x)) e (tree_right d messages x)
+
+pub typed_only : (d : DictionaryText) (messages : List MessageText) (x : syntax.Tree) (t : Tree) → IsTypedAs d messages x t → typed_of d messages x ≡ Some t
+typed_only d messages x t h = ap (typed_of d messages) (sym h.erased) ∙ tree_complete d messages t h.well

@@ -1,0 +1,41 @@
+use Rattle.std.proofs.Common.{◌≡◌, ap, ◌∙◌, sym, subst, Some, None, true, false, option_map}
+use Rattle.std.specs.Prelude.{not}
+use Rattle.cse_syntax.specs.Tree as syntax
+use Rattle.cse_typed.specs.Typed as typed
+use Rattle.cse_types.specs.Checked.{Checked}
+use Rattle.cse_types.specs.JudgeTree.{typed_of}
+use Rattle.cse_types.specs.WellTyped.{IsTypedAs}
+use Rattle.cse_types.specs.Walk.{is_there}
+use Rattle.cse_types.proofs.CheckLaws.{typed_right, typed_only, same_tree, no_tree, no_fault, checked_so}
+use Rattle.cse_types.proofs.checked.answer.Goals as goal
+
+pub returns-in-Some-clause-only : goal.returns-in-Some-clause-only
+returns-in-Some-clause-only c = λ t h.
+    let d = c.args.dictionary.now in
+    let m = c.args.messages.now in
+    let x = syntax.tree c.args.source.now.tree in
+    absurd (no_fault (is_there c.args.worst) (typed_of d m x) t (ap is_there c.in-Some.is) c.requires.noted (typed_only d m x t h))
+
+pub made_for-requires : goal.made_for-requires
+made_for-requires c =
+    let d = c.args.dictionary.now in
+    let m = c.args.messages.now in
+    let x = syntax.tree c.args.source.now.tree in
+    let is = sym (c.requires.found (ap is_there c.in-None.is)) ∙ ap (option_map typed.tree) c.in-Some-found.is in
+    checked_so d m c.args.order.now x _ (typed.tree c.in-Some-found.tree) (typed_right d m x (typed.tree c.in-Some-found.tree) is) c.args.source.now.is_source c.requires.order
+
+pub returns-in-Some-found-clause-sound : goal.returns-in-Some-found-clause-sound
+returns-in-Some-found-clause-sound c =
+    let d = c.args.dictionary.now in
+    let m = c.args.messages.now in
+    let x = syntax.tree c.args.source.now.tree in
+    let is = sym (c.requires.found (ap is_there c.in-None.is)) ∙ ap (option_map typed.tree) c.in-Some-found.is in
+    subst (λ (y : Checked). IsTypedAs d m x y.tree) (sym c.made_for.ensures) (typed_right d m x (typed.tree c.in-Some-found.tree) is)
+
+pub returns-in-Some-found-clause-only : goal.returns-in-Some-found-clause-only
+returns-in-Some-found-clause-only c = λ t h.
+    let d = c.args.dictionary.now in
+    let m = c.args.messages.now in
+    let x = syntax.tree c.args.source.now.tree in
+    let is = sym (c.requires.found (ap is_there c.in-None.is)) ∙ ap (option_map typed.tree) c.in-Some-found.is in
+    ap (λ (y : Checked). y.tree) c.made_for.ensures ∙ same_tree (typed.tree c.in-Some-found.tree) t (typed_of d m x) (sym is) (typed_only d m x t h)

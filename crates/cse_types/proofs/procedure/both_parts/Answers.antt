@@ -1,0 +1,29 @@
+use Rattle.std.proofs.Common.{◌≡◌, ◌∙◌, ap, sym, map, length, Option, ℕ, ◌+◌}
+use Rattle.std.specs.Prelude.{◌||◌, not, option_map}
+use Rattle.cse_syntax.specs.Tree as syntax
+use Rattle.cse_typed.specs.Typed as typed
+use Rattle.cse_types.specs.Scope.{Scope}
+use Rattle.cse_types.specs.WellTyped.{messages_of}
+use Rattle.cse_types.specs.JudgeStatement.{judge_block}
+use Rattle.cse_types.specs.Walk.{is_there, joined}
+use Rattle.cse_types.proofs.DeclarationLaws.{told_count}
+use Rattle.cse_types.proofs.ProcedureLaws.{noted_joined}
+use Rattle.cse_types.proofs.procedure.both_parts.Goals as goal
+use Rattle.cse_types.proofs.procedure.both_parts.Goals.{After-around}
+
+-- the second part, judged where the first left the scope and the messages
+behind_is : (c : After-around) → judge_block c.block.new.scope (length c.block.new.told.items) (syntax.block c.args.ys.now.items) ≡ judge_block c.args.scope.now (length c.args.told.now.items + length (messages_of (syntax.block c.args.xs.now.items))) (syntax.block c.args.ys.now.items)
+behind_is c =
+    ap (λ (z : Scope). judge_block z (length c.block.new.told.items) (syntax.block c.args.ys.now.items)) c.in_ok-before.ensures.same
+    ∙ ap (λ (n : ℕ). judge_block c.args.scope.now n (syntax.block c.args.ys.now.items)) (told_count c.args.told.now.items c.block.new.told.items (messages_of (syntax.block c.args.xs.now.items)) c.in_ok-before.ensures.told)
+
+pub returns-clause-value : goal.returns-clause-value
+returns-clause-value c =
+    c.around.ensures
+    ∙ ap (λ (o : Option typed.Statements). joined typed.Both o (option_map (λ v. typed.block v.items) c.in_ok-after.after)) c.in_ok-before.ensures.value
+    ∙ ap (λ (o : Option typed.Statements). joined typed.Both (judge_block c.args.scope.now (length c.args.told.now.items) (syntax.block c.args.xs.now.items)) o) (c.in_ok-after.ensures.value ∙ behind_is c)
+
+pub returns-clause-noted : goal.returns-clause-noted
+returns-clause-noted c =
+    noted_joined typed.Both _ _ (is_there c.args.faults.now.worst) (is_there c.block.new.faults.worst) (is_there c.block-2.new.faults.worst) c.in_ok-before.ensures.noted
+    (c.in_ok-after.ensures.noted ∙ ap (λ (o : Option typed.Statements). is_there c.block.new.faults.worst || not (is_there o)) (behind_is c))

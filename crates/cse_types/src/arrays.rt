@@ -1,0 +1,62 @@
+//! The dimensions of all arrays, which are known before anything else is judged.
+
+ghost use Rattle.std.specs.Prelude.{◌≡◌, ◌++◌, ◌∷◌, [], map, IfOk, OnOk};
+ghost use Rattle.std.specs.Option.{option_map};
+ghost use Rattle.cse_syntax.specs.Tree as syntax;
+ghost use Rattle.cse_typed.specs.Typed as typed;
+ghost use Rattle.cse_types.specs.JudgeTree as spec;
+
+use crate::array::dimensions;
+use crate::faults::Faults;
+use crate::scope::Scope;
+use cse_syntax::{Array, Declaration};
+use cse_typed::Dimension;
+use std::alloc::{AllocError, Global};
+
+/// The dimensions of an array. Their faults are told where it is judged as a whole.
+fn dimensions_alone<'a>(
+    alloc: Global,
+    scope: &Scope<'_>,
+    x: &Array<'a>,
+) -> Result<Option<Vec<Dimension<'a>>>, AllocError>
+    ensures { IfOk result (λ r. option_map (λ v. map typed.dimension v.items) r ≡ spec.dimensions_judged scope.now (map syntax.dimension x.now.dimensions.items)) }
+{
+    let mut told_elsewhere = Faults { worst: None };
+    dimensions(alloc, scope, &mut told_elsewhere, &x.dimensions)
+}
+
+/// Those of a declaration, if it is an array.
+#[tactic(auto, using(crate::proofs::DeclarationLaws::no_more, crate::proofs::Walks::map_more))]
+fn add<'a>(
+    alloc: Global,
+    scope: &Scope<'_>,
+    found: &mut Vec<Option<Vec<Dimension<'a>>>>,
+    x: &Declaration<'a>,
+) -> Result<(), AllocError>
+    ensures { OnOk result (map (option_map (λ v. map typed.dimension v.items)) found.new.items ≡ map (option_map (λ v. map typed.dimension v.items)) found.old.items ++ spec.arrays_judged scope.now (syntax.declaration x.now ∷ [])) }
+{
+    match x {
+        Declaration::Numeric(_) => Ok(()),
+        Declaration::Alpha(_, _) => Ok(()),
+        Declaration::Array(x) => {
+            found.push(dimensions_alone(alloc, scope, x)?)?;
+            Ok(())
+        }
+        Declaration::Function(_, _, _) => Ok(()),
+    }
+}
+
+/// The dimensions of each array, or none where one isn't sound.
+pub fn arrays<'a>(
+    alloc: Global,
+    scope: &Scope<'_>,
+    all: &Vec<Declaration<'a>>,
+) -> Result<Vec<Option<Vec<Dimension<'a>>>>, AllocError>
+    ensures { IfOk result (λ v. map (option_map (λ v. map typed.dimension v.items)) v.items ≡ spec.arrays_judged scope.now (map syntax.declaration all.now.items)) }
+{
+    let mut found = Vec::new(alloc);
+    'all: for x in all {
+        add(alloc, scope, &mut found, x)?;
+    }
+    Ok(found)
+}

@@ -1,0 +1,121 @@
+//! Sources that are checked: each name stands beside what it names, and each rule of 40 to 49 is kept.
+
+ghost use Rattle.std.specs.Prelude.{◌≡◌, ◌≤◌, ◌⊎◌, not, false, true, IfOk, IfErr};
+ghost use Rattle.std.specs.Option.{option_map};
+ghost use Rattle.cse_syntax.specs.Tree as syntax;
+ghost use Rattle.cse_syntax.specs.Place as place;
+ghost use Rattle.cse_typed.specs.Typed as typed;
+ghost use Rattle.cse_types.specs.Answer.{IsAnswer, checked};
+ghost use Rattle.cse_types.specs.Checked.{IsChecked};
+ghost use Rattle.cse_types.specs.Fault.{out_of_memory};
+ghost use Rattle.cse_types.specs.OrderFile.{IsOrderOf};
+ghost use Rattle.cse_types.specs.JudgeTree.{typed_of};
+ghost use Rattle.cse_types.specs.WellTyped.{IsTypedAs};
+ghost use Rattle.cse_types.specs.Walk.{is_there};
+
+use crate::error::TypeError;
+use crate::faults::{Fault, Faults};
+use crate::messages::Messages;
+use crate::order::Order;
+use crate::parts::judged;
+use crate::typed::Typed;
+use cse_dict::Dictionary;
+use cse_syntax::Source;
+use cse_typed::Tree;
+use std::alloc::Global;
+
+/// Want of memory has no place.
+fn memory() -> TypeError
+    ensures { result ≡ out_of_memory }
+{
+    TypeError {
+        number: 90,
+        line: 0,
+        column: 0,
+    }
+}
+
+/// A fault with its line and column.
+fn located(source: &Source<'_>, fault: Fault) -> TypeError
+    ensures least { 40 ≤ result.number }
+    ensures most { result.number ≤ 49 }
+    ensures line { result.line ≡ place.cut (place.line_of source.now.text.now (place.start_of source.now.text.now source.now.tokens.items fault.token)) }
+    ensures column { result.column ≡ place.cut (place.column_of source.now.text.now (place.start_of source.now.text.now source.now.tokens.items fault.token)) }
+{
+    let at = source.position(fault.token);
+    TypeError {
+        number: fault.number,
+        line: u64::from(at.line),
+        column: u64::from(at.column),
+    }
+}
+
+/// What was found, for whom it was made.
+fn made_for<'a>(
+    dictionary: &'a Dictionary,
+    messages: &'a Messages,
+    order: &'a Order,
+    tree: Tree<'a>,
+) -> Typed<'a>
+    requires { IsChecked (record { dictionary = dictionary.now; messages = messages.now; order = order.now; tree = typed.tree tree }) }
+    ensures { checked result ≡ record { dictionary = dictionary.now; messages = messages.now; order = order.now; tree = typed.tree tree.entry } }
+{
+    Typed {
+        dictionary,
+        messages,
+        order,
+        tree,
+    }
+}
+
+/// The answer, where this is the least fault, or there is none and the tree was found.
+fn answer<'a>(
+    dictionary: &'a Dictionary,
+    source: &Source<'a>,
+    messages: &'a Messages,
+    order: &'a Order,
+    worst: Option<Fault>,
+    found: Option<Tree<'a>>,
+) -> Result<Typed<'a>, TypeError>
+    requires order { IsOrderOf dictionary.now order.now }
+    requires noted { is_there worst ≡ not (is_there (typed_of dictionary.now messages.now (syntax.tree source.now.tree))) }
+    requires found { is_there worst ≡ false → option_map typed.tree found ≡ typed_of dictionary.now messages.now (syntax.tree source.now.tree) }
+    ensures sound { IfOk result (λ t. IsTypedAs dictionary.now messages.now (syntax.tree source.now.tree) (checked t).tree) }
+    ensures made_for { IfOk result (λ t. ((checked t).dictionary ≡ dictionary.now) × ((checked t).messages ≡ messages.now) × ((checked t).order ≡ order.now)) }
+    ensures only { (t : typed.Tree) → IsTypedAs dictionary.now messages.now (syntax.tree source.now.tree) t → IsAnswer result t }
+    ensures cause { IfErr result (λ e. (40 ≤ e.number) × (e.number ≤ 49)) }
+{
+    match worst {
+        Some(fault) => Err(located(source, fault)),
+        None => match found {
+            Some(tree) => Ok(made_for(dictionary, messages, order, tree)),
+            None => unreachable!(),
+        },
+    }
+}
+
+/// The typed tree of a source, for a dictionary, the messages of a message file and the records of an order file.
+///
+/// A source that keeps each rule has one typed tree, and that is the answer. Else the fault with the least token, and of
+/// these the one with the least number (40 to 49, see [`TypeError`]), with its line and column; or want of memory (90).
+pub fn check<'a>(
+    alloc: Global,
+    dictionary: &'a Dictionary,
+    source: &Source<'a>,
+    messages: &'a Messages,
+    order: &'a Order,
+) -> Result<Typed<'a>, TypeError>
+    requires { IsOrderOf dictionary.now order.now }
+    // The tree is that of the source, and keeps each rule.
+    ensures sound { IfOk result (λ t. IsTypedAs dictionary.now messages.now (syntax.tree source.now.tree) (checked t).tree) }
+    ensures made_for { IfOk result (λ t. ((checked t).dictionary ≡ dictionary.now) × ((checked t).messages ≡ messages.now) × ((checked t).order ≡ order.now)) }
+    // Where there is such a tree, it is the answer, unless memory runs out.
+    ensures only { (t : typed.Tree) → IsTypedAs dictionary.now messages.now (syntax.tree source.now.tree) t → IsAnswer result t }
+    ensures cause { IfErr result (λ e. ((40 ≤ e.number) × (e.number ≤ 49)) ⊎ (e ≡ out_of_memory)) }
+{
+    let mut faults = Faults { worst: None };
+    match judged(alloc, dictionary, messages, &mut faults, &source.tree) {
+        Err(_) => Err(memory()),
+        Ok(found) => answer(dictionary, source, messages, order, faults.worst, found),
+    }
+}

@@ -1,0 +1,163 @@
+//! Functions: their parameters, their statements, and what is known of them behind their end.
+
+ghost use Rattle.std.specs.Prelude.{◌≡◌, ◌++◌, ◌∷◌, ◌&&◌, ◌||◌, not, [], true, map, length, IfOk, OnOk};
+ghost use Rattle.std.specs.Option.{option_map};
+ghost use Rattle.cse_dict.specs.Keys.{kept_name};
+ghost use Rattle.cse_syntax.specs.Tree as syntax;
+ghost use Rattle.cse_syntax.specs.Tree.{written};
+ghost use Rattle.cse_typed.specs.Typed as typed;
+ghost use Rattle.cse_types.specs.Told.{told_of};
+ghost use Rattle.cse_types.specs.Uses.{facts_of};
+ghost use Rattle.cse_types.specs.WellTyped.{messages_of, parameter_names};
+ghost use Rattle.cse_types.specs.JudgeStatement.{judge_block};
+ghost use Rattle.cse_types.specs.JudgeTree as spec;
+ghost use Rattle.cse_types.specs.Fresh.{body_scope, fresh_names, is_fresh, with_fresh};
+ghost use Rattle.cse_types.specs.Walk.{is_there, only_if, IsNoted};
+
+use crate::facts::facts_of;
+use crate::faults::Faults;
+use crate::fresh::{Fresh, is_new};
+use crate::meaning::Routine;
+use crate::names::{Parameters, kept};
+use crate::scope::{Facts, Scope};
+use crate::statement::block;
+use crate::told::Told;
+use cse_syntax::{Lexeme, Parameter, Statement as Parsed};
+use cse_typed::{Function, Statement};
+use std::alloc::{AllocError, Global};
+
+/// Where a parameter is at fault: at its own name, or at that of what bears the name, if that comes later.
+fn later_token(scope: &Scope<'_>, kept: &[u8], token: usize) -> usize {
+    let other = scope.declared.token(kept);
+    if other > token { other } else { token }
+}
+
+/// One parameter more.
+fn parameter(
+    alloc: Global,
+    scope: &Scope<'_>,
+    faults: &mut Faults,
+    fresh: &mut Fresh,
+    x: &Parameter<'_>,
+) -> Result<(), AllocError>
+    ensures value { OnOk result (fresh.new ≡ with_fresh (spec.is_new scope.now.dictionary scope.now.declared) fresh.old (kept_name x.now.name.text.now)) }
+    ensures noted { OnOk result (IsNoted faults.old faults.new (is_fresh (spec.is_new scope.now.dictionary scope.now.declared) fresh.old.names (kept_name x.now.name.text.now))) }
+{
+    let name = kept(alloc, x.name.text)?;
+    let passes = is_new(scope.dictionary, &scope.declared, x.name.text, &name);
+    let token = later_token(scope, &name, x.name.token);
+    fresh.add(faults, name, passes, token)
+}
+
+/// The names of parameters: each is new.
+#[tactic(auto, using(crate::proofs::FreshLaws::parameter_turn, crate::proofs::FreshLaws::fresh_noted))]
+fn parameters(
+    alloc: Global,
+    scope: &Scope<'_>,
+    faults: &mut Faults,
+    all: &Vec<Parameter<'_>>,
+) -> Result<Fresh, AllocError>
+    ensures value { IfOk result (λ r. r ≡ fresh_names (spec.is_new scope.now.dictionary scope.now.declared) (parameter_names (map syntax.parameter all.now.items))) }
+    ensures noted { OnOk result (IsNoted faults.old faults.new (fresh_names (spec.is_new scope.now.dictionary scope.now.declared) (parameter_names (map syntax.parameter all.now.items))).is_sound) }
+{
+    let mut fresh = Fresh::new(alloc);
+    'all: for x in all {
+        parameter(alloc, scope, faults, &mut fresh, x)?;
+    }
+    Ok(fresh)
+}
+
+/// The statements of the next function, in which these names are its parameters.
+fn body_in<'a>(
+    alloc: Global,
+    scope: &mut Scope<'_>,
+    faults: &mut Faults,
+    told: &mut Vec<Told<'a>>,
+    names: Parameters,
+    body: &Vec<Parsed<'a>>,
+) -> Result<Option<Vec<Statement<'a>>>, AllocError>
+    ensures value { IfOk result (λ r. option_map (λ v. typed.block v.items) r ≡ judge_block (body_scope scope.old names) (length told.old.items) (syntax.block body.now.items)) }
+    ensures noted { OnOk result (IsNoted faults.old faults.new (is_there (judge_block (body_scope scope.old names) (length told.old.items) (syntax.block body.now.items)))) }
+    ensures told { OnOk result (map told_of told.new.items ≡ map told_of told.old.items ++ messages_of (syntax.block body.now.items)) }
+    ensures same { OnOk result (scope.new ≡ scope.old) }
+{
+    let routine = scope.routine;
+    scope.routine = Routine::Function(scope.functions.len());
+    let outer = std::mem::replace(&mut scope.parameters, names);
+    let found = block(alloc, scope, faults, told, body)?;
+    scope.routine = routine;
+    scope.parameters = outer;
+    Ok(found)
+}
+
+/// A function of sound parts, and what is known of it.
+fn made<'a>(
+    alloc: Global,
+    scope: &Scope<'_>,
+    is_sound: bool,
+    name: Lexeme<'a>,
+    parameters: &Vec<Parameter<'a>>,
+    body: Option<Vec<Statement<'a>>>,
+) -> Result<Option<(Function<'a>, Facts)>, AllocError>
+    ensures function { IfOk result (λ r. option_map (λ p. typed.function p.0) r ≡ only_if is_sound (option_map (spec.function_of scope.now (written name.entry) (map syntax.parameter parameters.now.items)) (option_map (λ v. typed.block v.items) body.entry))) }
+    ensures facts { IfOk result (λ r. option_map (λ p. p.1) r ≡ option_map (λ p. facts_of scope.now.functions (typed.function p.0)) r) }
+{
+    if !is_sound {
+        return Ok(None);
+    }
+    match body {
+        None => Ok(None),
+        Some(body) => {
+            let facts = facts_of(alloc, &scope.functions, parameters.len(), &body)?;
+            let function = Function {
+                name,
+                parameters: Vec::from_slice(alloc, parameters)?,
+                body,
+                needs_case: facts.needs_case,
+            };
+            Ok(Some((function, facts)))
+        }
+    }
+}
+
+/// A function ends: what is known of it is known behind it.
+fn ended<'a>(
+    scope: &mut Scope<'_>,
+    made: Option<(Function<'a>, Facts)>,
+) -> Result<Option<Function<'a>>, AllocError>
+    ensures value { IfOk result (λ r. option_map typed.function r ≡ option_map (λ p. typed.function p.0) made.entry) }
+    ensures behind { OnOk result (scope.new ≡ record scope.old { functions = scope.old.functions ++ option_map (λ p. p.1) made.entry ∷ [] }) }
+{
+    match made {
+        None => {
+            scope.functions.push(None)?;
+            Ok(None)
+        }
+        Some((function, facts)) => {
+            scope.functions.push(Some(facts))?;
+            Ok(Some(function))
+        }
+    }
+}
+
+/// A function, or none where it isn't sound; behind it stands what is known of it.
+pub fn function<'a>(
+    alloc: Global,
+    scope: &mut Scope<'_>,
+    faults: &mut Faults,
+    told: &mut Vec<Told<'a>>,
+    name: Lexeme<'a>,
+    all: &Vec<Parameter<'a>>,
+    body: &Vec<Parsed<'a>>,
+) -> Result<Option<Function<'a>>, AllocError>
+    ensures value { IfOk result (λ r. option_map typed.function r ≡ spec.function_judged scope.old (length told.old.items) (written name.entry) (map syntax.parameter all.now.items) (syntax.block body.now.items)) }
+    ensures behind { OnOk result (scope.new ≡ spec.behind_function scope.old (spec.function_judged scope.old (length told.old.items) (written name.entry) (map syntax.parameter all.now.items) (syntax.block body.now.items))) }
+    ensures noted { OnOk result (IsNoted faults.old faults.new (is_there (spec.function_judged scope.old (length told.old.items) (written name.entry) (map syntax.parameter all.now.items) (syntax.block body.now.items)))) }
+    ensures told { OnOk result (map told_of told.new.items ≡ map told_of told.old.items ++ messages_of (syntax.block body.now.items)) }
+{
+    let fresh = parameters(alloc, scope, faults, all)?;
+    let is_sound = fresh.is_sound;
+    let found = body_in(alloc, scope, faults, told, fresh.names, body)?;
+    let made = made(alloc, scope, is_sound, name, all, found)?;
+    ended(scope, made)
+}

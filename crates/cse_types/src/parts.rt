@@ -1,0 +1,234 @@
+//! A source's tree, from names to the typed one.
+
+ghost use Rattle.std.specs.Prelude.{◌≡◌, ◌&&◌, ◌||◌, not, false, true, [], map, length, Some, None, IfOk, OnOk};
+ghost use Rattle.std.specs.Option.{option_map};
+ghost use Rattle.cse_syntax.specs.Tree as syntax;
+ghost use Rattle.cse_typed.specs.Typed as typed;
+ghost use Rattle.cse_types.specs.Checked as spec;
+ghost use Rattle.cse_types.specs.Checked.{parts_judged, with_entries};
+ghost use Rattle.cse_types.specs.Entries.{are_said};
+ghost use Rattle.cse_types.specs.JudgeTree as judge;
+ghost use Rattle.cse_types.specs.Parts.{parts_tree};
+ghost use Rattle.cse_types.specs.Table as tables;
+ghost use Rattle.cse_types.specs.Told.{told_of};
+ghost use Rattle.cse_types.specs.WellTyped.{all_declarations, declared_messages, tree_messages};
+ghost use Rattle.cse_types.specs.Walk.{is_there, joined, IsNoted};
+
+use crate::arrays::arrays;
+use crate::declaration::declarations;
+use crate::entries::entries;
+use crate::faults::Faults;
+use crate::meaning::Routine;
+use crate::messages::Messages;
+use crate::names::{Names, Parameters};
+use crate::owners::owners;
+use crate::procedure::procedures;
+use crate::scope::Scope;
+use crate::table::{Table, table_of};
+use crate::told::Told;
+use cse_dict::Dictionary;
+use cse_syntax::{Procedure as ParsedProcedure, Tree as Parsed};
+use cse_typed::{Declaration, Dimension, Owner, Procedure, Tree};
+use std::alloc::{AllocError, Global};
+
+/// The declarations, if there are any, and the procedures.
+#[derive(Drop)]
+pub struct Parts<'a> {
+    pub globals: Option<Vec<Declaration<'a>>>,
+    pub procedures: Vec<Procedure<'a>>,
+}
+
+/// The names of the declarations.
+fn declared_names(
+    alloc: Global,
+    dictionary: &Dictionary,
+    faults: &mut Faults,
+    tree: &Parsed<'_>,
+) -> Result<Table, AllocError>
+    requires { is_there faults.old.worst ≡ false }
+    ensures value { IfOk result (λ t. t ≡ tables.table_of dictionary.now (all_declarations (syntax.tree tree.now).globals)) }
+    ensures noted { OnOk result (is_there faults.new.worst ≡ not (tables.table_of dictionary.now (all_declarations (syntax.tree tree.now).globals)).is_sound) }
+{
+    match &tree.globals {
+        None => Ok(Table::new(alloc)),
+        Some(all) => table_of(alloc, dictionary, faults, all),
+    }
+}
+
+/// What is known where these names are declared.
+fn first_scope<'a>(
+    alloc: Global,
+    dictionary: &'a Dictionary,
+    messages: &'a Messages,
+    declared: Names,
+) -> Scope<'a>
+    ensures { result ≡ spec.names_of dictionary.now messages.now declared }
+{
+    Scope {
+        dictionary,
+        messages,
+        declared,
+        arrays: Vec::new(alloc),
+        functions: Vec::new(alloc),
+        parameters: Parameters::new(alloc),
+        routine: Routine::Procedure(Owner::Application),
+        loops: Vec::new(alloc),
+    }
+}
+
+/// The dimensions of each array.
+fn all_arrays<'a>(
+    alloc: Global,
+    scope: &Scope<'_>,
+    tree: &Parsed<'a>,
+) -> Result<Vec<Option<Vec<Dimension<'a>>>>, AllocError>
+    ensures { IfOk result (λ v. map (option_map (λ v. map typed.dimension v.items)) v.items ≡ judge.arrays_judged scope.now (all_declarations (syntax.tree tree.now).globals)) }
+{
+    match &tree.globals {
+        None => Ok(Vec::new(alloc)),
+        Some(all) => arrays(alloc, scope, all),
+    }
+}
+
+/// What is known before the first function ends.
+fn start<'a>(
+    alloc: Global,
+    dictionary: &'a Dictionary,
+    messages: &'a Messages,
+    declared: Names,
+    tree: &Parsed<'a>,
+) -> Result<Scope<'a>, AllocError>
+    ensures { IfOk result (λ s. s ≡ spec.start_of dictionary.now messages.now declared (all_declarations (syntax.tree tree.now).globals)) }
+{
+    let mut scope = first_scope(alloc, dictionary, messages, declared);
+    scope.arrays = all_arrays(alloc, &scope, tree)?;
+    Ok(scope)
+}
+
+fn present<'a>(found: Option<Vec<Declaration<'a>>>) -> Option<Option<Vec<Declaration<'a>>>>
+    ensures { option_map (option_map (λ v. map typed.declaration v.items)) result ≡ option_map (λ ys. Some ys) (option_map (λ v. map typed.declaration v.items) found.entry) }
+{
+    match found {
+        None => None,
+        Some(found) => Some(Some(found)),
+    }
+}
+
+/// The declarations, if there are any; none where one isn't sound.
+fn globals<'a>(
+    alloc: Global,
+    scope: &mut Scope<'_>,
+    faults: &mut Faults,
+    told: &mut Vec<Told<'a>>,
+    tree: &Parsed<'a>,
+) -> Result<Option<Option<Vec<Declaration<'a>>>>, AllocError>
+    requires { told.old.items ≡ [] }
+    ensures value { IfOk result (λ r. option_map (option_map (λ v. map typed.declaration v.items)) r ≡ judge.globals_judged scope.old (syntax.tree tree.now).globals) }
+    ensures behind { OnOk result (scope.new ≡ judge.behind_all scope.old 0 (all_declarations (syntax.tree tree.now).globals)) }
+    ensures noted { OnOk result (IsNoted faults.old faults.new (is_there (judge.globals_judged scope.old (syntax.tree tree.now).globals))) }
+    ensures told { OnOk result (map told_of told.new.items ≡ declared_messages (all_declarations (syntax.tree tree.now).globals)) }
+{
+    match &tree.globals {
+        None => Ok(Some(None)),
+        Some(all) => Ok(present(declarations(alloc, scope, faults, told, all)?)),
+    }
+}
+
+fn parts_of<'a>(
+    globals: Option<Option<Vec<Declaration<'a>>>>,
+    procedures: Option<Vec<Procedure<'a>>>,
+) -> Option<Parts<'a>>
+    ensures { option_map parts_tree result ≡ joined spec.parts_of (option_map (option_map (λ v. map typed.declaration v.items)) globals.entry) (option_map (λ v. map typed.procedure v.items) procedures.entry) }
+{
+    match globals {
+        None => None,
+        Some(globals) => match procedures {
+            None => None,
+            Some(procedures) => Some(Parts {
+                globals,
+                procedures,
+            }),
+        },
+    }
+}
+
+/// The procedures of a tree.
+fn procedures_in<'t, 'a>(tree: &'t Parsed<'a>) -> &'t [ParsedProcedure<'a>]
+    ensures { result.now ≡ tree.now.procedures.items }
+{
+    tree.procedures.as_slice()
+}
+
+/// The declarations and the procedures, or none where one isn't sound.
+fn all_parts<'a>(
+    alloc: Global,
+    scope: &mut Scope<'_>,
+    faults: &mut Faults,
+    told: &mut Vec<Told<'a>>,
+    tree: &Parsed<'a>,
+) -> Result<Option<Parts<'a>>, AllocError>
+    requires { told.old.items ≡ [] }
+    ensures value { IfOk result (λ r. option_map parts_tree r ≡ parts_judged scope.old (syntax.tree tree.now)) }
+    ensures noted { OnOk result (IsNoted faults.old faults.new (is_there (parts_judged scope.old (syntax.tree tree.now)))) }
+    ensures told { OnOk result (map told_of told.new.items ≡ tree_messages (syntax.tree tree.now)) }
+{
+    let globals = globals(alloc, scope, faults, told, tree)?;
+    let all = procedures_in(tree);
+    let procedures = procedures(alloc, scope, faults, told, all)?;
+    Ok(parts_of(globals, procedures))
+}
+
+/// The parts as a tree, with the messages of the source.
+fn whole_tree<'a>(
+    alloc: Global,
+    messages: &'a Messages,
+    told: &Vec<Told<'a>>,
+    parts: Parts<'a>,
+) -> Result<Tree<'a>, AllocError>
+    requires { are_said (map told_of told.now.items) ≡ true }
+    ensures { IfOk result (λ t. typed.tree t ≡ with_entries messages.now (map told_of told.now.items) (parts_tree parts.entry)) }
+{
+    let messages = entries(alloc, messages, told)?;
+    Ok(Tree {
+        globals: parts.globals,
+        procedures: parts.procedures,
+        messages,
+    })
+}
+
+fn tree_of<'a>(
+    alloc: Global,
+    messages: &'a Messages,
+    told: &Vec<Told<'a>>,
+    parts: Option<Parts<'a>>,
+) -> Result<Option<Tree<'a>>, AllocError>
+    requires { are_said (map told_of told.now.items) ≡ true }
+    ensures { IfOk result (λ r. option_map typed.tree r ≡ option_map (with_entries messages.now (map told_of told.now.items)) (option_map parts_tree parts.entry)) }
+{
+    match parts {
+        None => Ok(None),
+        Some(parts) => Ok(Some(whole_tree(alloc, messages, told, parts)?)),
+    }
+}
+
+/// The typed tree of a source's tree. Where a fault was noted, it is none that can be told of.
+pub fn judged<'a>(
+    alloc: Global,
+    dictionary: &'a Dictionary,
+    messages: &'a Messages,
+    faults: &mut Faults,
+    tree: &Parsed<'a>,
+) -> Result<Option<Tree<'a>>, AllocError>
+    requires said { are_said (tree_messages (syntax.tree tree.now)) ≡ true }
+    requires first { is_there faults.old.worst ≡ false }
+    ensures value { IfOk result (λ r. is_there faults.new.worst ≡ false → option_map typed.tree r ≡ judge.typed_of dictionary.now messages.now (syntax.tree tree.now)) }
+    ensures noted { OnOk result (is_there faults.new.worst ≡ not (is_there (judge.typed_of dictionary.now messages.now (syntax.tree tree.now)))) }
+{
+    let table = declared_names(alloc, dictionary, faults, tree)?;
+    let all = procedures_in(tree);
+    let _owners = owners(alloc, faults, all)?;
+    let mut scope = start(alloc, dictionary, messages, table.names, tree)?;
+    let mut told = Vec::new(alloc);
+    let parts = all_parts(alloc, &mut scope, faults, &mut told, tree)?;
+    tree_of(alloc, messages, &told, parts)
+}

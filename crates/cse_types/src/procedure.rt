@@ -1,0 +1,293 @@
+//! Procedures, one after the other.
+
+ghost use Rattle.std.specs.Prelude.{◌≡◌, ◌≤◌, ◌++◌, ◌==◌, if◌then◌else◌, map, length, Some, None, IfOk, OnOk};
+ghost use Rattle.std.specs.Option.{option_map};
+ghost use Rattle.cse_syntax.specs.Tree as syntax;
+ghost use Rattle.cse_syntax.specs.Tree.{written};
+ghost use Rattle.cse_typed.specs.Typed as typed;
+ghost use Rattle.cse_types.specs.Scope as scopes;
+ghost use Rattle.cse_types.specs.WellTyped as well;
+ghost use Rattle.cse_types.specs.WellTyped.{body_messages, procedure_messages, procedure_scope};
+ghost use Rattle.cse_types.specs.JudgeTree as spec;
+ghost use Rattle.cse_types.specs.Told.{told_of};
+ghost use Rattle.cse_types.specs.Walk.{is_there, joined, found_more, IsNoted};
+
+use crate::faults::Faults;
+use crate::list::{both, keep};
+use crate::meaning::{Meaning, Routine};
+use crate::names::kept;
+use crate::scope::{Scope, in_dictionary, kind_and_owner};
+use crate::statement::block;
+use crate::told::Told;
+use cse_dict::Dictionary;
+use cse_syntax::{Body as ParsedBody, Lexeme, Procedure as Parsed, Statement as ParsedStatement};
+use cse_typed::{Body, Field, Owner, Procedure, Statement};
+use cse_value::shape::ItemKind;
+use std::alloc::{AllocError, Global};
+
+/// What a procedure of an item of a record belongs to.
+fn in_record(item: u16, owner: u8) -> Option<Owner>
+    ensures { result ≡ well.owner_in item owner }
+{
+    if owner == 255 {
+        None
+    } else {
+        Some(Owner::Item(Field { owner, item }))
+    }
+}
+
+/// What the procedure of an item belongs to.
+fn item_owner(dictionary: &Dictionary, item: u16) -> Option<Owner>
+    ensures { result ≡ well.item_owner item (scopes.kind_and_owner dictionary.now item) }
+{
+    match kind_and_owner(dictionary, item) {
+        None => None,
+        Some((kind, owner)) => match kind {
+            ItemKind::Opaque => None,
+            ItemKind::Number => in_record(item, owner),
+            ItemKind::Text => in_record(item, owner),
+        },
+    }
+}
+
+/// What a procedure of a name belongs to.
+fn owner_meant(dictionary: &Dictionary, meaning: Option<Meaning>) -> Option<Owner>
+    ensures { result ≡ well.owner_meant dictionary.now meaning }
+{
+    match meaning {
+        Some(Meaning::Application) => Some(Owner::Application),
+        Some(Meaning::Level) => Some(Owner::Level),
+        Some(Meaning::Record(record)) => Some(Owner::Record(record)),
+        Some(Meaning::Item(item)) => item_owner(dictionary, item),
+        _ => None,
+    }
+}
+
+/// The fault of a name that no procedure can have: 41 of an opaque item, 49 of an id item, else 40.
+fn owner_fault(dictionary: &Dictionary, meaning: Option<Meaning>) -> u8
+    ensures least { 40 ≤ result }
+    ensures most { result ≤ 49 }
+{
+    match meaning {
+        Some(Meaning::Item(item)) => match kind_and_owner(dictionary, item) {
+            Some((ItemKind::Opaque, _)) => 41,
+            _ => 49,
+        },
+        _ => 40,
+    }
+}
+
+/// What a name means in the dictionary.
+#[tactic(auto, using(crate::proofs::FreshLaws::kept_there))]
+fn meant_by(
+    alloc: Global,
+    dictionary: &Dictionary,
+    name: Lexeme<'_>,
+) -> Result<Option<Meaning>, AllocError>
+    ensures { IfOk result (λ r. r ≡ scopes.in_dictionary dictionary.now name.entry.text.now) }
+{
+    let kept = kept(alloc, name.text)?;
+    Ok(in_dictionary(dictionary, name.text, &kept))
+}
+
+/// What a procedure belongs to, by its name; else the fault at it.
+fn owner_named(
+    alloc: Global,
+    dictionary: &Dictionary,
+    faults: &mut Faults,
+    name: Lexeme<'_>,
+) -> Result<Option<Owner>, AllocError>
+    ensures value { IfOk result (λ r. r ≡ well.owner_meant dictionary.now (scopes.in_dictionary dictionary.now name.entry.text.now)) }
+    ensures noted { OnOk result (IsNoted faults.old faults.new (is_there (well.owner_meant dictionary.now (scopes.in_dictionary dictionary.now name.entry.text.now)))) }
+{
+    let meaning = meant_by(alloc, dictionary, name)?;
+    match owner_meant(dictionary, meaning) {
+        None => {
+            faults.note(owner_fault(dictionary, meaning), name.token);
+            Ok(None)
+        }
+        Some(owner) => Ok(Some(owner)),
+    }
+}
+
+// ---- bodies
+
+fn plain<'a>(found: Option<Vec<Statement<'a>>>) -> Option<Body<'a>>
+    ensures { option_map typed.body_tree result ≡ option_map typed.Plain (option_map (λ v. typed.block v.items) found.entry) }
+{
+    match found {
+        None => None,
+        Some(found) => Some(Body::Plain(found)),
+    }
+}
+
+fn preproc<'a>(found: Option<Vec<Statement<'a>>>) -> Option<Body<'a>>
+    ensures { option_map typed.body_tree result ≡ option_map typed.Preproc (option_map (λ v. typed.block v.items) found.entry) }
+{
+    match found {
+        None => None,
+        Some(found) => Some(Body::Preproc(found)),
+    }
+}
+
+fn postproc<'a>(found: Option<Vec<Statement<'a>>>) -> Option<Body<'a>>
+    ensures { option_map typed.body_tree result ≡ option_map typed.Postproc (option_map (λ v. typed.block v.items) found.entry) }
+{
+    match found {
+        None => None,
+        Some(found) => Some(Body::Postproc(found)),
+    }
+}
+
+fn around<'a>(
+    before: Option<Vec<Statement<'a>>>,
+    after: Option<Vec<Statement<'a>>>,
+) -> Option<Body<'a>>
+    ensures { option_map typed.body_tree result ≡ joined typed.Both (option_map (λ v. typed.block v.items) before.entry) (option_map (λ v. typed.block v.items) after.entry) }
+{
+    match before {
+        None => None,
+        Some(before) => match after {
+            None => None,
+            Some(after) => Some(Body::Both(before, after)),
+        },
+    }
+}
+
+/// What stands before a case, and behind it.
+fn both_parts<'a>(
+    alloc: Global,
+    scope: &mut Scope<'_>,
+    faults: &mut Faults,
+    told: &mut Vec<Told<'a>>,
+    xs: &Vec<ParsedStatement<'a>>,
+    ys: &Vec<ParsedStatement<'a>>,
+) -> Result<Option<Body<'a>>, AllocError>
+    ensures value { IfOk result (λ r. option_map typed.body_tree r ≡ spec.body_judged scope.old (length told.old.items) (syntax.Both (syntax.block xs.now.items) (syntax.block ys.now.items))) }
+    ensures noted { OnOk result (IsNoted faults.old faults.new (is_there (spec.body_judged scope.old (length told.old.items) (syntax.Both (syntax.block xs.now.items) (syntax.block ys.now.items))))) }
+    ensures told { OnOk result (map told_of told.new.items ≡ map told_of told.old.items ++ body_messages (syntax.Both (syntax.block xs.now.items) (syntax.block ys.now.items))) }
+    ensures same { OnOk result (scope.new ≡ scope.old) }
+{
+    let before = block(alloc, scope, faults, told, xs)?;
+    let after = block(alloc, scope, faults, told, ys)?;
+    Ok(around(before, after))
+}
+
+/// The statements of a procedure.
+fn body<'a>(
+    alloc: Global,
+    scope: &mut Scope<'_>,
+    faults: &mut Faults,
+    told: &mut Vec<Told<'a>>,
+    x: &ParsedBody<'a>,
+) -> Result<Option<Body<'a>>, AllocError>
+    ensures value { IfOk result (λ r. option_map typed.body_tree r ≡ spec.body_judged scope.old (length told.old.items) (syntax.body_tree x.now)) }
+    ensures noted { OnOk result (IsNoted faults.old faults.new (is_there (spec.body_judged scope.old (length told.old.items) (syntax.body_tree x.now)))) }
+    ensures told { OnOk result (map told_of told.new.items ≡ map told_of told.old.items ++ body_messages (syntax.body_tree x.now)) }
+    ensures same { OnOk result (scope.new ≡ scope.old) }
+{
+    match x {
+        ParsedBody::Plain(xs) => Ok(plain(block(alloc, scope, faults, told, xs)?)),
+        ParsedBody::Preproc(xs) => Ok(preproc(block(alloc, scope, faults, told, xs)?)),
+        ParsedBody::Both(xs, ys) => both_parts(alloc, scope, faults, told, xs, ys),
+        ParsedBody::Postproc(xs) => Ok(postproc(block(alloc, scope, faults, told, xs)?)),
+    }
+}
+
+/// The statements of a procedure of this owner.
+fn body_of<'a>(
+    alloc: Global,
+    scope: &mut Scope<'_>,
+    faults: &mut Faults,
+    told: &mut Vec<Told<'a>>,
+    owner: Owner,
+    x: &ParsedBody<'a>,
+) -> Result<Option<Body<'a>>, AllocError>
+    ensures value { IfOk result (λ r. option_map typed.body_tree r ≡ spec.body_judged (procedure_scope scope.old owner) (length told.old.items) (syntax.body_tree x.now)) }
+    ensures noted { OnOk result (IsNoted faults.old faults.new (is_there (spec.body_judged (procedure_scope scope.old owner) (length told.old.items) (syntax.body_tree x.now)))) }
+    ensures told { OnOk result (map told_of told.new.items ≡ map told_of told.old.items ++ body_messages (syntax.body_tree x.now)) }
+    ensures same { OnOk result (scope.new ≡ scope.old) }
+{
+    let routine = scope.routine;
+    scope.routine = Routine::Procedure(owner);
+    let found = body(alloc, scope, faults, told, x)?;
+    scope.routine = routine;
+    Ok(found)
+}
+
+fn owned<'a>(name: Lexeme<'a>, owner: Owner, body: Option<Body<'a>>) -> Option<Procedure<'a>>
+    ensures { option_map typed.procedure result ≡ option_map (spec.procedure_of (written name.entry) owner) (option_map typed.body_tree body.entry) }
+{
+    match body {
+        None => None,
+        Some(body) => Some(Procedure { name, owner, body }),
+    }
+}
+
+/// A procedure, or none where it isn't sound.
+fn procedure<'a>(
+    alloc: Global,
+    scope: &mut Scope<'_>,
+    faults: &mut Faults,
+    told: &mut Vec<Told<'a>>,
+    x: &Parsed<'a>,
+) -> Result<Option<Procedure<'a>>, AllocError>
+    ensures value { IfOk result (λ r. option_map typed.procedure r ≡ spec.procedure_judged scope.old (length told.old.items) (syntax.procedure x.now)) }
+    ensures noted { OnOk result (IsNoted faults.old faults.new (is_there (spec.procedure_judged scope.old (length told.old.items) (syntax.procedure x.now)))) }
+    ensures told { OnOk result (map told_of told.new.items ≡ map told_of told.old.items ++ body_messages (syntax.body_tree x.now.body)) }
+    ensures same { OnOk result (scope.new ≡ scope.old) }
+{
+    match owner_named(alloc, scope.dictionary, faults, x.name)? {
+        None => {
+            // Its statements are counted as messages, and their faults come later than that of its name.
+            let _found = body_of(alloc, scope, faults, told, Owner::Level, &x.body)?;
+            Ok(None)
+        }
+        Some(owner) => {
+            let found = body_of(alloc, scope, faults, told, owner, &x.body)?;
+            Ok(owned(x.name, owner, found))
+        }
+    }
+}
+
+/// One procedure more, and whether it is sound.
+#[tactic(auto, using(crate::proofs::ProcedureLaws::kept_made, crate::proofs::ProcedureLaws::made_there))]
+fn one_more<'a>(
+    alloc: Global,
+    scope: &mut Scope<'_>,
+    faults: &mut Faults,
+    told: &mut Vec<Told<'a>>,
+    found: &mut Vec<Procedure<'a>>,
+    x: &Parsed<'a>,
+) -> Result<bool, AllocError>
+    ensures found { OnOk result (map typed.procedure found.new.items ≡ found_more (map typed.procedure found.old.items) (spec.procedure_judged scope.old (length told.old.items) (syntax.procedure x.now))) }
+    ensures there { IfOk result (λ b. b ≡ is_there (spec.procedure_judged scope.old (length told.old.items) (syntax.procedure x.now))) }
+    ensures noted { OnOk result (IsNoted faults.old faults.new (is_there (spec.procedure_judged scope.old (length told.old.items) (syntax.procedure x.now)))) }
+    ensures told { OnOk result (map told_of told.new.items ≡ map told_of told.old.items ++ body_messages (syntax.body_tree x.now.body)) }
+    ensures same { OnOk result (scope.new ≡ scope.old) }
+{
+    let next = procedure(alloc, scope, faults, told, x)?;
+    keep(found, next)
+}
+
+/// Procedures, or none where one isn't sound.
+pub fn procedures<'a>(
+    alloc: Global,
+    scope: &mut Scope<'_>,
+    faults: &mut Faults,
+    told: &mut Vec<Told<'a>>,
+    all: &[Parsed<'a>],
+) -> Result<Option<Vec<Procedure<'a>>>, AllocError>
+    ensures value { IfOk result (λ r. option_map (λ v. map typed.procedure v.items) r ≡ spec.procedures_judged scope.old (length told.old.items) (map syntax.procedure all.now)) }
+    ensures noted { OnOk result (IsNoted faults.old faults.new (is_there (spec.procedures_judged scope.old (length told.old.items) (map syntax.procedure all.now)))) }
+    ensures told { OnOk result (map told_of told.new.items ≡ map told_of told.old.items ++ procedure_messages (map syntax.procedure all.now)) }
+    ensures same { OnOk result (scope.new ≡ scope.old) }
+{
+    let mut found = Vec::new(alloc);
+    let mut is_sound = true;
+    'all: for x in all {
+        let is_there = one_more(alloc, scope, faults, told, &mut found, x)?;
+        is_sound = both(is_sound, is_there);
+    }
+    if is_sound { Ok(Some(found)) } else { Ok(None) }
+}
