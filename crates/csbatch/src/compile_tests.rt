@@ -37,7 +37,12 @@ const ROWS: &[(&[u8], &[u8], &[u8], &[u8])] = &[
     (b"^", b"x", b"x", b"refused 30 line 1 column 1\n"),
     (b"^", b"7 a\n0 b", b"x", b"refused 35 line 2 column 1\n"),
     (b"^", b"7 a", b"x", b"refused 40 line 1 column 1\n"),
-    (b"^", b"", b"PERSON\nperson", b"refused 40 line 2 column 1\n"),
+    (
+        b"^",
+        b"",
+        b"PERSON\nperson",
+        b"refused 40 line 2 column 1\n",
+    ),
     (b"^", b"", b"PERSON", b"refused 30 line 1 column 1\n"),
 ];
 
