@@ -1,3 +1,4 @@
+pub mod FaultLaws
 pub mod PrintLaws
 pub mod TriedLaws
 pub mod VerdictLaws

@@ -1,5 +1,7 @@
--- The exit status of what a command came to, and the numbers of faults.
+-- The exit status of what a command came to, and the faults that it tells.
 use Rattle.std.specs.Prelude.{ℕ, ◌==◌, ◌||◌, if◌then◌else◌, Option, None, Some, Result, Ok, Err}
+use Rattle.cse_image.specs.declared.error.ImageError.{ImageError}
+use Rattle.cse_typing.specs.declared.refusal.Refusal.{Refusal}
 use Rattle.cse_batch.specs.declared.image.CheckFault.{CheckFault}
 use Rattle.cse_batch.specs.declared.image.CheckFault.TheVariants as checks
 use Rattle.csbatch.specs.declared.fault.Fault.{Fault}
@@ -24,7 +26,7 @@ exit_status (Ok done) = 0
 exit_status (Err Usage) = 2
 exit_status (Err (Refused fault)) = status_of fault.number
 
--- ---- the numbers of faults
+-- ---- faults, and what they tell of their place
 
 -- a fault that tells its number alone
 abbrev pub plain_fault : ℕ → Fault
@@ -42,27 +44,39 @@ fault_at number line = record { number = number; line = position_told line; colu
 abbrev pub fault_in_text : ℕ → ℕ → ℕ → Fault
 fault_in_text number line column = record { number = number; line = position_told line; column = position_told column; byte = None; routine = None; place = None }
 
--- of a call that failed, by what was asked
+-- bytes that are no image: the byte
+abbrev pub fault_in_bytes : ImageError → Fault
+fault_in_bytes error = record { number = error.number; line = None; column = None; byte = Some error.at; routine = None; place = None }
+
+-- the routine, or the place in it, that a fault tells: the greatest number of 32 bits stands for none
+abbrev pub code_told : ℕ → Option ℕ
+code_told number = if number == 4_294_967_295 then None else Some number
+
+-- a program that is refused: the routine, and the place in it
+abbrev pub fault_in_code : Refusal → Fault
+fault_in_code refusal = record { number = refusal.number; line = None; column = None; byte = None; routine = code_told refusal.routine; place = code_told refusal.at }
+
+-- the number of a call that failed, by what was asked
 abbrev pub number_asked : Asked → ℕ
 number_asked Open = 72
 number_asked Read = 70
 number_asked Write = 71
 
--- of a fault of `try`
-abbrev pub number_of_try : TryFault → ℕ
-number_of_try (tries.Image e) = e.number
-number_of_try (tries.Refused r) = r.number
-number_of_try tries.Write = 71
-number_of_try tries.Memory = 90
+-- the fault that `try` tells
+abbrev pub fault_of_try : TryFault → Fault
+fault_of_try (tries.Image error) = fault_in_bytes error
+fault_of_try (tries.Refused refusal) = fault_in_code refusal
+fault_of_try tries.Write = plain_fault 71
+fault_of_try tries.Memory = plain_fault 90
 
--- of an image that may not run
-abbrev pub number_of_check : CheckFault → ℕ
-number_of_check (checks.Image e) = e.number
-number_of_check (checks.Refused r) = r.number
-number_of_check checks.Memory = 90
+-- that of an image that may not run
+abbrev pub fault_of_check : CheckFault → Fault
+fault_of_check (checks.Image error) = fault_in_bytes error
+fault_of_check (checks.Refused refusal) = fault_in_code refusal
+fault_of_check checks.Memory = plain_fault 90
 
--- of a fault of `verify`
-abbrev pub number_of_verify : VerifyFault → ℕ
-number_of_verify (verifies.Dict e) = e.number
-number_of_verify (verifies.Check f) = number_of_check f
-number_of_verify verifies.Write = 71
+-- the fault that `verify` tells
+abbrev pub fault_of_verify : VerifyFault → Fault
+fault_of_verify (verifies.Dict error) = fault_at error.number error.line
+fault_of_verify (verifies.Check fault) = fault_of_check fault
+fault_of_verify verifies.Write = plain_fault 71

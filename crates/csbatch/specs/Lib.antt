@@ -1,4 +1,5 @@
 pub mod Ending
+pub mod FaultLine
 pub mod Printed
 pub mod Stops
 pub mod Tried

@@ -1,8 +1,10 @@
 //! Faults as the program tells them: a line of text, and an exit status.
 
 ghost use Rattle.std.specs.Prelude.{◌≡◌};
-ghost use Rattle.cse_value.specs.Writing.{FailsAtErr};
-ghost use Rattle.csbatch.specs.Ending.{fault_at, fault_in_text, position_told, number_of_check, number_of_try, number_of_verify, plain_fault, status_of};
+ghost use Rattle.std.specs.List.{flat_map};
+ghost use Rattle.cse_value.specs.Writing.{WritesAll, FailsAtErr};
+ghost use Rattle.csbatch.specs.Ending.{code_told, fault_at, fault_in_bytes, fault_in_code, fault_in_text, fault_of_check, fault_of_try, fault_of_verify, plain_fault, position_told, status_of};
+ghost use Rattle.csbatch.specs.FaultLine.{fault_text, told};
 
 use crate::printing::write_parts;
 use crate::try_image::TryFault;
@@ -12,7 +14,7 @@ use cse_build::BuildFault;
 use cse_decks::DeckError;
 use cse_dict::DictError;
 use cse_image::ImageError;
-use cse_value::{Failed, Output};
+use cse_value::{Failed, Output, write_all};
 use cse_verify::{NONE, Refusal};
 use itoa::Buffer;
 
@@ -36,9 +38,9 @@ pub struct Fault {
     /// The byte, from 0.
     pub byte: Option<u64>,
     /// The routine, from 0.
-    pub routine: Option<u32>,
+    pub routine: Option<u64>,
     /// The place in the routine, from 0.
-    pub place: Option<u32>,
+    pub place: Option<u64>,
 }
 
 impl Fault {
@@ -58,18 +60,18 @@ impl Fault {
 
     /// A refusal; a routine and a place that stand for none are not told.
     pub fn of_refusal(refusal: Refusal) -> Fault
-        ensures { result.number ≡ refusal.number }
+        ensures { result ≡ fault_in_code refusal }
     {
         Fault {
-            routine: told(refusal.routine),
-            place: told(refusal.at),
+            routine: told_code(refusal.routine),
+            place: told_code(refusal.at),
             ..Fault::of_number(refusal.number)
         }
     }
 
     /// Bytes that are no image.
     fn of_image(error: ImageError) -> Fault
-        ensures { result.number ≡ error.number }
+        ensures { result ≡ fault_in_bytes error }
     {
         Fault {
             byte: Some(error.at as u64),
@@ -96,7 +98,7 @@ impl Fault {
 
     /// An image that may not run.
     pub fn of_check(fault: CheckFault) -> Fault
-        ensures { result.number ≡ number_of_check fault }
+        ensures { result ≡ fault_of_check fault }
     {
         match fault {
             CheckFault::Image(error) => Fault::of_image(error),
@@ -132,7 +134,7 @@ impl Fault {
 
     /// The fault of `verify`.
     pub fn of_verify(fault: &VerifyFault) -> Fault
-        ensures { result.number ≡ number_of_verify fault.now }
+        ensures { result ≡ fault_of_verify fault.now }
     {
         match fault {
             VerifyFault::Dict(error) => Fault::of_dictionary(*error),
@@ -143,7 +145,7 @@ impl Fault {
 
     /// The fault of `try`.
     pub fn of_try(fault: &TryFault) -> Fault
-        ensures { result.number ≡ number_of_try fault.now }
+        ensures { result ≡ fault_of_try fault.now }
     {
         match fault {
             TryFault::Image(error) => Fault::of_image(*error),
@@ -154,8 +156,14 @@ impl Fault {
     }
 }
 
-fn told(number: u32) -> Option<u32> {
-    if number == NONE { None } else { Some(number) }
+fn told_code(number: u32) -> Option<u64>
+    ensures { result ≡ code_told number }
+{
+    if number == NONE {
+        None
+    } else {
+        Some(u64::from(number))
+    }
 }
 
 fn told_position(position: u64) -> Option<u64>
@@ -177,19 +185,37 @@ pub fn ending(number: u8) -> u8
 /// Writes `refused N` and what the fault tells of its place, as one line: ` line L`, ` column C`,
 /// ` byte B`, ` routine R`, ` place P`. A write that fails is the only fault (71).
 pub fn fault_line<W: Output>(fault: &Fault, out: &mut W) -> Result<(), Failed>
+    ensures bytes { WritesAll result (W.contents out.old) (W.contents out.new) (fault_text fault.now) }
     ensures failed { FailsAtErr result (W.has_failed out.old) (W.has_failed out.new) }
 {
-    write_told(b"refused ", Some(u64::from(fault.number)), out)?;
-    write_told(b" line ", fault.line, out)?;
-    write_told(b" column ", fault.column, out)?;
-    write_told(b" byte ", fault.byte, out)?;
-    write_told(b" routine ", fault.routine.map(u64::from), out)?;
-    write_told(b" place ", fault.place.map(u64::from), out)?;
-    write_parts(&[b"\n"], out)
+    write_all_told(
+        &[
+            (b"refused ", Some(u64::from(fault.number))),
+            (b" line ", fault.line),
+            (b" column ", fault.column),
+            (b" byte ", fault.byte),
+            (b" routine ", fault.routine),
+            (b" place ", fault.place),
+        ],
+        out,
+    )?;
+    write_all(out, b"\n")
+}
+
+/// Writes words with their numbers, one after the other.
+fn write_all_told<W: Output>(parts: &[(&[u8], Option<u64>)], out: &mut W) -> Result<(), Failed>
+    ensures bytes { WritesAll result (W.contents out.old) (W.contents out.new) (flat_map (λ part. told part.0.now part.1) parts.now) }
+    ensures failed { FailsAtErr result (W.has_failed out.old) (W.has_failed out.new) }
+{
+    for part in parts {
+        write_told(part.0, part.1, out)?;
+    }
+    Ok(())
 }
 
 /// Writes a word and a number, where the number is told.
 fn write_told<W: Output>(word: &[u8], number: Option<u64>, out: &mut W) -> Result<(), Failed>
+    ensures bytes { WritesAll result (W.contents out.old) (W.contents out.new) (told word.now number) }
     ensures failed { FailsAtErr result (W.has_failed out.old) (W.has_failed out.new) }
 {
     match number {
