@@ -1,0 +1,146 @@
+#!/usr/bin/env python3
+"""Times whole runs over a large file of the household sample, by turns, and compares what they write.
+
+usage: whole.py CSBATCH [CASES [ROUNDS]]     (1,000,000 cases and 5 rounds, if it isn't said; needs rustc)
+
+It builds `households.rs` and `household/main.rs` beside it, writes the file, and then runs in each round: `cat`, the
+sample's edit by hand in plain Rust, `csbatch run` with empty logic, with the sample's logic, the same in 4 parts side
+by side, and over the first 10,000 cases. It prints seconds of processor time (user and system, least of the rounds),
+seconds of the clock, and the most memory that was resident; then whether the plain edit wrote what `csbatch run` did.
+"""
+import filecmp
+import os
+import shutil
+import subprocess
+import sys
+import tempfile
+import time
+
+HERE = os.path.dirname(os.path.realpath(__file__))
+SAMPLE = os.path.join(HERE, "..", "household")
+PARTS, FEW = 4, 10_000
+
+
+def sample(name):
+    return os.path.join(SAMPLE, f"HOUSEHOLD.{name}")
+
+
+def built(source, to):
+    subprocess.run(["rustc", "--edition", "2021", "-O", os.path.join(HERE, source), "-o", to], check=True)
+    return os.path.abspath(to)
+
+
+def started(words, out):
+    """Starts a command whose standard output goes to this file."""
+    pid = os.fork()
+    if pid == 0:
+        os.dup2(os.open(out, os.O_WRONLY | os.O_CREAT | os.O_TRUNC, 0o644), 1)
+        os.execvp(words[0], words)
+    return pid
+
+
+def resident(pid):
+    """The most memory of a started command so far, in kilobytes."""
+    try:
+        if os.path.samefile(f"/proc/{pid}/exe", sys.executable):
+            return 0
+        with open(f"/proc/{pid}/status") as it:
+            return next((int(line.split()[1]) for line in it if line.startswith("VmHWM:")), 0)
+    except OSError:
+        return 0
+
+
+def timed(*commands):
+    """Runs commands side by side: processor time, time of the clock, and kilobytes of the largest."""
+    began, spent, most = time.time(), 0.0, 0
+    running = [started(words, out) for words, out in commands]
+    while running:
+        time.sleep(0.01)
+        for pid in list(running):
+            held = resident(pid)
+            ended, status, used = os.wait4(pid, os.WNOHANG)
+            if not ended:
+                most = max(most, held)
+                continue
+            if status:
+                sys.exit(f"failed: {commands}")
+            running.remove(pid)
+            spent += used.ru_utime + used.ru_stime
+    return spent, time.time() - began, most
+
+
+def first_cases(data, to, most):
+    """Writes the first cases of a file, and says how many lines the file has."""
+    last, cases, lines = None, 0, 0
+    with open(data, "rb") as whole, open(to, "wb") as part:
+        for line in whole:
+            lines += 1
+            cases, last = cases + (line[1:8] != last), line[1:8]
+            if cases <= most:
+                part.write(line)
+    return lines
+
+
+def in_parts(data, lines):
+    """Cuts the file into parts of whole cases, in its order."""
+    names, last, k, at = [f"part{k}.dat" for k in range(PARTS)], None, 0, 0
+    files = [open(name, "wb") for name in names]
+    with open(data, "rb") as whole:
+        for line in whole:
+            if line[1:8] != last and at >= (k + 1) * lines // PARTS:
+                k += 1
+            last, at = line[1:8], at + 1
+            files[k].write(line)
+    for file in files:
+        file.close()
+    return names
+
+
+def run_of(program, image, data, to, decks=True):
+    words = [program, "run", sample("dcf"), image, data, f"{to}.out", f"{to}.lst", f"{to}.frq"]
+    return words + ["--decks", f"{to}.decks"] * decks, f"{to}.said"
+
+
+def prepared(program, cases):
+    with open("data", "wb") as data:
+        subprocess.run([built("households.rs", "households"), str(cases)], stdout=data, check=True)
+    open("empty.apc", "w").close()
+    beside = ["--messages", sample("mgf"), "--order", sample("order")]
+    subprocess.run([program, "compile", sample("dcf"), sample("apc"), "logic.img", *beside], check=True)
+    subprocess.run([program, "compile", sample("dcf"), "empty.apc", "empty.img"], check=True)
+    lines = first_cases("data", "few", FEW)
+    parts = in_parts("data", lines)
+    rows = {
+        "cat": [(["cat", "data"], "cat.out")],
+        "plain edit": [([built("household/main.rs", "plain"), "data", "p.out", "p.lst", "p.frq", "p.decks"], "p.said")],
+        "empty logic": [run_of(program, "empty.img", "data", "e", decks=False)],
+        "sample": [run_of(program, "logic.img", "data", "h")],
+        f"in {PARTS} parts": [run_of(program, "logic.img", part, part) for part in parts],
+        f"{FEW} cases": [run_of(program, "logic.img", "few", "f")],
+    }
+    return lines, rows, ["p.decks", "h.decks", "f.decks", *(f"{part}.decks" for part in parts)]
+
+
+def main(program, cases=1_000_000, rounds=5):
+    lines, rows, decks = prepared(program, cases)
+    print(f"{cases} cases, {lines} lines, {os.path.getsize('data')} bytes; {rounds} rounds")
+    seen = {}
+    for _ in range(rounds):
+        for to in decks:
+            shutil.copy(sample("decks"), to)
+        for name, commands in rows.items():
+            seen.setdefault(name, []).append(timed(*commands))
+    print(f"{'':14}{'processor s':>12}{'clock s':>9}{'KB':>9}")
+    for name, used in seen.items():
+        print(f"{name:14}{min(it[0] for it in used):12.2f}{min(it[1] for it in used):9.2f}{max(it[2] for it in used):9}")
+    for ours, theirs in (("h.out", "p.out"), ("h.lst", "p.lst"), ("h.frq", "p.frq"), ("h.decks", "p.decks"), ("e.out", "data")):
+        print(f"{ours} and {theirs}: {'the same' if filecmp.cmp(ours, theirs, shallow=False) else 'DIFFERENT'}")
+
+
+if __name__ == "__main__":
+    if len(sys.argv) not in (2, 3, 4):
+        sys.exit(__doc__)
+    given = os.path.abspath(sys.argv[1])
+    with tempfile.TemporaryDirectory(prefix="csbatch-whole-") as room:
+        os.chdir(room)
+        main(given, *map(int, sys.argv[2:]))
