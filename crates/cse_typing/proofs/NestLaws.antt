@@ -1,6 +1,7 @@
 -- A stack whose topmost entry is the last one of those that are in use.
 use Rattle.std.proofs.Common.{◌≡◌, ℕ, zero, suc, ◌+◌, ◌-◌, ◌<◌, ◌≤◌, List, [], ◌∷◌, ◌++◌, length, take, drop, reverse, get_or, Some, refl, sym, ap, ◌∙◌, arith}
 use Rattle.std.specs.Prelude.{slice_get}
+use Rattle.cse_typing.specs.Bracket.{first}
 use Rattle.std.proofs.lemmas.Option.{slice_get-get_or}
 use Rattle.std.proofs.lemmas.List.{get_or-reverse, length-reverse, length-take-le, get_or-take, take_more, reverse-append}
 
@@ -30,3 +31,13 @@ first_of (x ∷ xs) l n m view e le = shorter (x ∷ xs) x n (suc m) (omega arit
 pub shown_below : {A : Type 0} (entries shown : List A) (n m : ℕ) → reverse (take m entries) ≡ shown → (shown ≡ [] → ⊥) → n ≡ m - 1 → m ≤ length entries → reverse (take n entries) ≡ drop 1 shown
 shown_below entries shown n zero view some e le = absurd (some (sym view))
 shown_below entries shown n (suc m) view some e le = first_of entries shown n m view (omega arith) le
+
+-- ---- the topmost one
+
+pub top_there : {A : Type 0} (shown : List A) → (shown ≡ [] → ⊥) → 0 < length shown
+top_there [] some = absurd (some refl)
+top_there (x ∷ xs) some = omega arith
+
+pub top_is : {A : Type 0} (shown : List A) (x : A) → slice_get shown 0 ≡ Some x → first shown ≡ Some x
+top_is [] x at = cc
+top_is (y ∷ ys) x at = at
