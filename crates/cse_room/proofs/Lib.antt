@@ -1,0 +1,9 @@
+pub mod Lists
+pub mod Plain
+pub mod Pooled
+pub mod Leaves
+pub mod Facts
+pub mod Expressions
+pub mod Blocks
+pub mod Few
+pub mod Whole
