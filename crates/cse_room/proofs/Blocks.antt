@@ -107,7 +107,8 @@ module _ (s : Spot) (m : IsRoomy s.scene s.setting) where
   counted_fits q x body xs f l le k =
       joined (head_code s.setting x) _ (head_fits x f l) (
         (limit_fits (turns (least s.setting.records x.start) (greatest s.setting.records x.stop) x.step), omega (arith, le)),
-        joined xs _ k (joined (step_code s.setting x) _ (step_fits x f l) (end_fits (opener_at s.setting q x) (omega (arith, le)), tt)),
+        joined xs (step_code s.setting x ++ with_c ops.End (opener_at s.setting q x) ∷ []) k
+            (joined (step_code s.setting x) (with_c ops.End (opener_at s.setting q x) ∷ []) (step_fits x f l) (end_fits (opener_at s.setting q x) (omega (arith, le)), tt)),
       )
 
 guard_fits : (end q condition body others : ℕ) (xs ys zs : List Wide) → end ≤ 4000000 → q + front_size condition body others ≤ 4000000 → CodeFits xs → CodeFits ys → CodeFits zs → CodeFits (guard_code end q condition body others xs ys zs)
