@@ -6,4 +6,7 @@ pub mod Facts
 pub mod Expressions
 pub mod Blocks
 pub mod Few
+pub mod Texts
+pub mod Held
+pub mod HeldBlocks
 pub mod Whole

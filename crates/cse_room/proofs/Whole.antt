@@ -5,6 +5,7 @@ use Rattle.cse_room.proofs.Facts as facts
 use Rattle.cse_room.proofs.Leaves as leaves
 use Rattle.cse_room.proofs.Blocks as code
 use Rattle.cse_room.proofs.Few as few
+use Rattle.cse_room.proofs.HeldBlocks as held
 
 pub large_alone : LargeAlone
 large_alone d messages named source words t sound shape grammar utf8 texts typed order within none = ?
