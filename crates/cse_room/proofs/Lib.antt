@@ -9,4 +9,12 @@ pub mod Few
 pub mod Texts
 pub mod Held
 pub mod HeldBlocks
+pub mod HeldSource
+pub mod Messages
+pub mod Counts
+pub mod Order
+pub mod Names
+pub mod Arrays
+pub mod Routines
+pub mod Events
 pub mod Whole
