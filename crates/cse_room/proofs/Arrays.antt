@@ -81,15 +81,17 @@ pub arrays_good : (c : Scope) (n : ℕ) (ds : List Declaration) → AreDeclared 
 arrays_good c n [] h g w = tt
 arrays_good c n (Numeric names ∷ ds) h g w = arrays_good c n ds h g.1 w
 arrays_good c n (Alpha digits size names ∷ ds) h g w = arrays_good c n ds h.1 g.1 w
-arrays_good c n (Array' array ∷ ds) h g w =
-    (record {
-      some = some_size array.dimensions g.0.1;
-      few = w.0.dimensions;
-      dimensions = dimensions_fit c array.dimensions h.0 w.0.sizes;
-      name = name_fits array.name.text g.0.0;
-      room = w.0.cells;
-      cells = cells_fit array.cells h.1;
-    }, arrays_good c n ds h.2 g.1 w.1)
+arrays_good c n (Array' array ∷ ds) h g w = (
+  record {
+    some = some_size array.dimensions g.0.1;
+    few = w.0.dimensions;
+    dimensions = dimensions_fit c array.dimensions h.0 w.0.sizes;
+    name = name_fits array.name.text g.0.0;
+    room = w.0.cells;
+    cells = cells_fit array.cells h.1;
+  },
+  arrays_good c n ds h.2 g.1 w.1,
+)
 arrays_good c n (Function' f ∷ ds) h g w = arrays_good (with_function c f) (n + length (messages_of (erase_block f.body))) ds h.1 g.1 w
 
 -- ---- one after the other
@@ -118,17 +120,19 @@ arrays_fit before (x ∷ xs) g new once room =
     let here = sum_by-cons (λ (y : ArrayLists). product y.dimensions) x xs in
     let more = sum_by-append (λ (y : ArrayLists). product y.dimensions) before (x ∷ []) in
     let last = sum_by-cons (λ (y : ArrayLists). product y.dimensions) x [] in
-    let cells = g.0.room in
-    (record {
-      count = and_from (nat_le 1 (length x.dimensions)) (nat_le (length x.dimensions) 3) (le-leb 1 (length x.dimensions) g.0.some) (le-leb (length x.dimensions) 3 g.0.few);
-      dimensions = g.0.dimensions;
-      room = le-leb (cells_in before + product x.dimensions) most_cells (omega (arith, room, here));
-      name = g.0.name;
-      new = ap not new.0;
-      cell_count = le-leb (length x.cells) (product x.dimensions) g.0.room;
-      size = omega (arith, cells, room, here);
-      cells = g.0.cells;
-    }, arrays_fit (before ++ x ∷ []) xs g.1 (still_new before x (names_of xs) new.1 once.0) once.1 (omega (arith, room, here, more, last)))
+    let cells = g.0.room in (
+      record {
+        count = and_from (nat_le 1 (length x.dimensions)) (nat_le (length x.dimensions) 3) (le-leb 1 (length x.dimensions) g.0.some) (le-leb (length x.dimensions) 3 g.0.few);
+        dimensions = g.0.dimensions;
+        room = le-leb (cells_in before + product x.dimensions) most_cells (omega (arith, room, here));
+        name = g.0.name;
+        new = ap not new.0;
+        cell_count = le-leb (length x.cells) (product x.dimensions) g.0.room;
+        size = omega (arith, cells, room, here);
+        cells = g.0.cells;
+      },
+      arrays_fit (before ++ x ∷ []) xs g.1 (still_new before x (names_of xs) new.1 once.0) once.1 (omega (arith, room, here, more, last)),
+    )
 
 pub all_arrays_fit : (xs : List ArrayLists) → AllByRecursion IsGood xs → IsDistinct bytes_eq (names_of xs) → cells_in xs ≤ most_cells → AllAfter ArrayFits [] xs
 all_arrays_fit xs g once room = arrays_fit [] xs g (all_new (names_of xs)) once (omega (arith, room))

@@ -180,33 +180,45 @@ module _ (set : ℕ) (there : set < 65536) where
   pub row_or_place : (c : ℕ) → c < 2 ^ 32 → Fit ops.Row 0 set c
   unfolding shape
   row_or_place c small = record {
-    a_size = omega arith; a = refl;
-    b_size = omega (arith, there); b = ap (λ b. b && true) (from_zero set 65535 (omega (arith, there)));
-    c_size = small; c = from_zero c 4294967295 (omega (arith, small));
+    a_size = omega arith;
+    a = refl;
+    b_size = omega (arith, there);
+    b = ap (λ b. b && true) (from_zero set 65535 (omega (arith, there)));
+    c_size = small;
+    c = from_zero c 4294967295 (omega (arith, small));
   }
 
   pub row_or_leftover : Fit ops.Row 1 set 0
   unfolding shape
   row_or_leftover = record {
-    a_size = omega arith; a = refl;
-    b_size = omega (arith, there); b = ap (λ b. b && true) (from_zero set 65535 (omega (arith, there)));
-    c_size = omega arith; c = refl;
+    a_size = omega arith;
+    a = refl;
+    b_size = omega (arith, there);
+    b = ap (λ b. b && true) (from_zero set 65535 (omega (arith, there)));
+    c_size = omega arith;
+    c = refl;
   }
 
   pub in_set : Fit ops.InSet 0 set 0
   unfolding shape
   in_set = record {
-    a_size = omega arith; a = refl;
-    b_size = omega (arith, there); b = ap (λ b. b && true) (from_zero set 65535 (omega (arith, there)));
-    c_size = omega arith; c = refl;
+    a_size = omega arith;
+    a = refl;
+    b_size = omega (arith, there);
+    b = ap (λ b. b && true) (from_zero set 65535 (omega (arith, there)));
+    c_size = omega arith;
+    c = refl;
   }
 
 pub index_fits : (size c : ℕ) → 0 < size → size < 65536 → c < 2 ^ 32 → Fit ops.Index 0 size c
 unfolding shape
 index_fits size c some few small = record {
-  a_size = omega arith; a = refl;
-  b_size = omega (arith, few); b = ap (λ b. b && leb size 65535 && true) (le-leb 1 size (omega (arith, some))) ∙ ap (λ b. b && true) (le-leb size 65535 (omega (arith, few)));
-  c_size = small; c = from_zero c 4294967295 (omega (arith, small));
+  a_size = omega arith;
+  a = refl;
+  b_size = omega (arith, few);
+  b = ap (λ b. b && leb size 65535 && true) (le-leb 1 size (omega (arith, some))) ∙ ap (λ b. b && true) (le-leb size 65535 (omega (arith, few)));
+  c_size = small;
+  c = from_zero c 4294967295 (omega (arith, small));
 }
 
 pub special_fits : (n : ℕ) → n ≤ 2 → Fit ops.Special n 0 0

@@ -194,14 +194,16 @@ module _ (records : List RecordShape) (arrays : List (List ℕ)) where
   routines_fit before (o ∷ os) room h =
       let n = size_of o in
       let more = sum_by-append (λ (r : RoutineLists). r.instructions) before (entry_of records arrays o ∷ []) in
-      let last = sum_by-cons (λ (r : RoutineLists). r.instructions) (entry_of records arrays o) [] in
-      (record {
-        gives = refl;
-        parameters = few_parameters o.sort h.0;
-        locals = locals_fit o.sort h.0;
-        size = omega (arith, room);
-        room = and_from (nat_le 1 n) (nat_le (instructions_in before + n) most_instructions) (le-leb 1 n (one_at_least o)) (le-leb (instructions_in before + n) most_instructions (omega (arith, room)));
-      }, routines_fit (before ++ entry_of records arrays o ∷ []) os (omega (arith, room, more, last)) h.1)
+      let last = sum_by-cons (λ (r : RoutineLists). r.instructions) (entry_of records arrays o) [] in (
+        record {
+          gives = refl;
+          parameters = few_parameters o.sort h.0;
+          locals = locals_fit o.sort h.0;
+          size = omega (arith, room);
+          room = and_from (nat_le 1 n) (nat_le (instructions_in before + n) most_instructions) (le-leb 1 n (one_at_least o)) (le-leb (instructions_in before + n) most_instructions (omega (arith, room)));
+        },
+        routines_fit (before ++ entry_of records arrays o ∷ []) os (omega (arith, room, more, last)) h.1,
+      )
 
   pub all_routines_fit : (os : List Outline) → total os ≤ most_instructions → AllByRecursion OutlineFits os → AllAfter (λ before. RoutineFits versions.Two (instructions_in before)) [] (map (entry_of records arrays) os)
   all_routines_fit os room h = routines_fit [] os (omega (arith, room)) h
