@@ -1,38 +1,31 @@
 -- The code of statements and of routines fits.
-use Rattle.std.proofs.Common.{◌≡◌, ◌≤◌, ◌<◌, ◌^◌, ℕ, zero, suc, ◌+◌, ℤ, Bool, true, false, List, [], ◌∷◌, ◌++◌, length, Option, Some, None, refl, sym, ap, subst, ◌∙◌, arith}
-use Rattle.std.specs.Prelude.{slice_get, pos, min}
+use Rattle.std.proofs.Common.{◌≡◌, ◌≤◌, ◌<◌, ◌^◌, ℕ, zero, suc, ◌+◌, ℤ, Bool, true, false, List, [], ◌∷◌, ◌++◌, Option, Some, None, refl, arith}
 use Rattle.std.proofs.lemmas.Option.{slice_get_within}
-use Rattle.cse_value.specs.declared.shape.RecordShape.{RecordShape}
 use Rattle.cse_value.specs.declared.number.Num.TheVariants.{Whole}
-use Rattle.cse_value.specs.Number.{sum_of, difference_of, quotient_of}
+use Rattle.cse_value.specs.Number.{sum_of, difference_of}
 use Rattle.cse_value.specs.Occurrences.{most_occurrences}
 use Rattle.cse_parts.specs.declared.instruction.Op.TheVariants as ops
-use Rattle.cse_parts.specs.Image.{ArrayLists}
 use Rattle.cse_syntax.specs.declared.tree.Count.TheVariants as counts
 use Rattle.cse_syntax.specs.declared.tree.Jump.{Jump}
 use Rattle.cse_syntax.specs.declared.tree.Jump.TheVariants as j
 use Rattle.cse_typed.specs.declared.tree.Variable.{Variable}
-use Rattle.cse_typed.specs.declared.tree.Found.{Found}
 use Rattle.cse_typed.specs.declared.tree.Found.TheVariants as h
-use Rattle.cse_typed.specs.declared.tree.Pick.{Pick}
-use Rattle.cse_typed.specs.Typed.{Numbers, Which, Here, At, Argument, OfNumber, OfWords, Limit, Fixed, Counted, Counting, Statement, Statements, Arms}
+use Rattle.cse_typed.specs.Typed.{Which, Here, At, Argument, OfNumber, OfWords, Limit, Fixed, Counted, Counting, Statement, Statements, Arms}
 use Rattle.cse_typed.specs.Typed.{Empty, Set, SetText, SetItem, SetTextItem, SetCell, CallOf, If, For, Do, Jump', Impute, PutDeck, ErrMsg, no_statement, statement_and, no_arm, else_of, arm}
 use Rattle.cse_typing.specs.declared.kind.Kind.TheVariants as kind
-use Rattle.cse_emit.specs.Wide as w
-use Rattle.cse_emit.specs.Wide.{Wide, bare, with_a, with_c, undefined, occurrence, value, pops, jump_size, jump_over}
+use Rattle.cse_emit.specs.Wide.{Wide, with_c, pops, jump_size, jump_over}
 use Rattle.cse_emit.specs.declared.setting.Loop.{Loop}
-use Rattle.cse_emit.specs.Setting.{Setting, size_at}
-use Rattle.cse_emit.specs.Numbers.{load, store, behind, deepest, count, number_size, words_size, numbers_size, indexes_size, picks_size, number_code, words_code, numbers_code, indexes_code, picks_code}
-use Rattle.cse_emit.specs.Statements.{which_size, which_code, drops_size, drops_code, argument_size, argument_code, arguments_size, arguments_code, known, limit_code, least, greatest, turns, turn_limit, turns_size, turns_code_by, turns_code, head_size, head_code, step_code, exit_size_by, exit_code_by, exit_code, jump_code, front_size, guard_size, front_code, guard_code, loop_to, over_code, opener_at, turn_end_at, counted_code, statement_size, block_size, arms_size, statement_code, block_code, arms_code}
+use Rattle.cse_emit.specs.Numbers.{behind, deepest, count, number_size, words_size, numbers_size, indexes_size, picks_size, number_code, words_code, numbers_code, indexes_code, picks_code}
+use Rattle.cse_emit.specs.Statements.{which_size, which_code, drops_size, drops_code, argument_size, argument_code, arguments_size, arguments_code, known, limit_code, least, greatest, turns, turns_code_by, head_size, head_code, step_code, exit_code_by, exit_code, jump_code, front_size, guard_size, front_code, guard_code, loop_to, over_code, opener_at, turn_end_at, counted_code, statement_size, block_size, arms_size, statement_code, block_code, arms_code}
 use Rattle.cse_emit.specs.Routines.{no_loop, entry_size_by, entry_code_by, routine_size, routine_code}
 use Rattle.cse_emitted.specs.Fit as fit
 use Rattle.cse_emitted.specs.Fit.{Spot, IsRecord, IsNumberVariable, IsDeck, WhichFits, ArgumentFits, ArgumentsFit, CountingFits, Within, over, StatementFits, BlockFits, ArmsFit}
-use Rattle.cse_room.proofs.Plain.{current_fits, number_of_fits, total_fits, occurrence_fits, over_fits, load_local, store_local, store_global, store_cell, store_number, store_text, jump_fits, jump_unless, message_fits, impute_fits, call_fits, end_fits, break_fits, special_fits, pop_fits, add_fits, subtract_fits, quotient_fits, return_fits}
+use Rattle.cse_room.proofs.Plain.{current_fits, number_of_fits, total_fits, occurrence_fits, over_fits, load_local, store_local, store_global, store_cell, store_number, store_text, jump_fits, jump_unless, message_fits, impute_fits, call_fits, end_fits, break_fits, pop_fits, add_fits, subtract_fits, quotient_fits, return_fits}
 use Rattle.cse_room.proofs.Pooled.{WideFits, CodeFits}
 use Rattle.cse_room.proofs.Leaves.{WhichHolds, ArgumentHolds, ArgumentsHold, LimitHolds, CountingHolds, StatementHolds, BlockHolds, ArmsHold}
 use Rattle.cse_room.proofs.Facts as facts
 use Rattle.cse_room.proofs.Facts.{IsRoomy, mapped_within, item_within, small_number, limit_fits, load_fits, store_fits, record_small, size_fits}
-use Rattle.cse_room.proofs.Expressions.{joined, undefined_fits, pops_fit, jump_over_fits, deepest_small, picks_many, count_behind, picks_fit, number_fits, words_fit, numbers_fit, indexes_fit, cell_within, deck_within, function_within}
+use Rattle.cse_room.proofs.Expressions.{joined, undefined_fits, pops_fit, jump_over_fits, deepest_small, picks_many, picks_fit, number_fits, words_fit, numbers_fit, indexes_fit, cell_within, deck_within, function_within}
 
 drops_fit : (q n : ℕ) → q + drops_size n < 2 ^ 32 → CodeFits (drops_code q n)
 drops_fit q n small = joined (jump_over (q + drops_size n) n) (pops n) (jump_over_fits (q + drops_size n) n small) (pops_fit n)

@@ -1,5 +1,5 @@
 -- The numbers of sound expressions are of 64 bits, and their texts are texts of the format, where the texts among the words are UTF-8.
-use Rattle.std.proofs.Common.{◌≡◌, ◌≤◌, ◌<◌, ◌^◌, ℕ, zero, suc, ℤ, pos, neg_ℤ, Bool, true, false, ◌&&◌, List, [], ◌∷◌, Option, Some, None, refl, sym, ap, subst, ◌∙◌, arith}
+use Rattle.std.proofs.Common.{◌≡◌, ◌≤◌, ℕ, zero, suc, ℤ, pos, neg_ℤ, Bool, true, false, ◌&&◌, List, ◌∷◌, Option, Some, None, refl, subst, arith}
 use Rattle.std.specs.Prelude.{FitsSigned, nat_le, if◌then◌else◌}
 use Rattle.std.specs.Int.{w64}
 use Rattle.std.specs.Option.{option_map}
@@ -10,13 +10,12 @@ use Rattle.cse_syntax.specs.declared.token.Mark.TheVariants as mark
 use Rattle.cse_syntax.specs.Leaf.{number_of, is_within, is_digits, MOST}
 use Rattle.cse_syntax.specs.Tree as syntax
 use Rattle.cse_syntax.specs.Tree.{Spelling}
-use Rattle.cse_syntax.specs.Word.{Word, Name, Digits, Quoted, Value, Leave, Sign, Stray}
+use Rattle.cse_syntax.specs.Word.{Word, Sign}
 use Rattle.cse_syntax.specs.Grammar.{Below, IsExpr, AreInner, AreOperations, spell_expr, spell_exprs, spell_others, spell_operations, spell_set}
 use Rattle.cse_typed.specs.Typed.{Number, Words, Numbers, Operations, Constant, Special', Variable', Item, ItemAt, Cell, Call, Group, Int, IsSpecial, Deck, TotOcc, MaxOcc, CurOcc, InSet, Minus, Not, Compare, CompareTexts, Chain}
 use Rattle.cse_typed.specs.Typed.{Quoted as QuotedText, TextGlobal, TextItem, TextItemAt, TextGroup, no_number, number_and, no_operation, operation_and}
 use Rattle.cse_typed.specs.Erase.{erase, erase_words, erase_all, erase_operations}
 use Rattle.cse_types.specs.Scope.{Scope}
-use Rattle.cse_types.specs.WellTyped as t
 use Rattle.cse_types.specs.WellTyped.{value_of, signed_value, IsNumber, IsWords, AreNumbers, AreOperands}
 use Rattle.cse_room.specs.Given.{AreUtf8}
 use Rattle.cse_room.proofs.Leaves.{NumberHolds, WordsHold, NumbersHold, OperationsHold}

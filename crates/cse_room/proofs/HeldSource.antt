@@ -1,13 +1,13 @@
 -- The same of whole sources: of the statements of each routine, and of each message.
-use Rattle.std.proofs.Common.{◌≡◌, ℕ, ◌+◌, Bool, true, false, List, [], ◌∷◌, ◌++◌, length, map, Option, Some, None, refl, sym, ap, subst, ◌∙◌, arith}
+use Rattle.std.proofs.Common.{ℕ, ◌+◌, Bool, true, false, List, [], ◌∷◌, length, map, Option, Some, None}
 use Rattle.std.specs.Prelude.{if◌then◌else◌}
-use Rattle.std.specs.List.{AllByRecursion, flat_map}
+use Rattle.std.specs.List.{AllByRecursion}
 use Rattle.std.specs.Option.{option_map}
 use Rattle.cse_dict.specs.Dictionary.{DictionaryText}
 use Rattle.cse_syntax.specs.declared.token.Mark.TheVariants as mark
 use Rattle.cse_syntax.specs.Tree as syntax
 use Rattle.cse_syntax.specs.Tree.{Spelling}
-use Rattle.cse_syntax.specs.Word.{Word, Name, Digits, Quoted, Value, Leave, Sign, Stray}
+use Rattle.cse_syntax.specs.Word.{Word, Name, Sign}
 use Rattle.cse_syntax.specs.Grammar.{Spells, Each, AreGlobals, AreStmts, IsDeclaration, IsBody as IsBodyOf, IsProcedure, spell_each, spell_list, spell_all, spell_mark, spell_name, spell_literal, spell_dimension, spell_parameter, spell_cells, spell_array, spell_stmts, spell_declaration, spell_body, spell_procedure, spell_globals, spell_tree}
 use Rattle.cse_typed.specs.declared.tree.Owner.{Owner}
 use Rattle.cse_typed.specs.Typed.{Statements, Declaration, Numeric, Alpha, Array', Function', Body, Plain, Preproc, Both, Postproc, Procedure, Tree}

@@ -1,21 +1,18 @@
 -- Which entries of messages, globals and arrays fit.
-use Rattle.std.proofs.Common.{◌≡◌, ◌≤◌, ◌<◌, ◌^◌, ℕ, zero, suc, ◌+◌, Bool, true, false, ◌&&◌, List, [], ◌∷◌, ◌++◌, length, map, Option, Some, None, refl, sym, ap, subst, ◌∙◌, arith}
+use Rattle.std.proofs.Common.{◌≡◌, ◌≤◌, ◌<◌, ◌^◌, ℕ, zero, suc, ◌+◌, Bool, true, false, List, [], ◌∷◌, length, map, Option, Some, None, refl, subst, arith}
 use Rattle.std.specs.Prelude.{find, nat_eq, unwrap_or, if◌then◌else◌, replicate, nat_le}
-use Rattle.std.specs.List.{AllByRecursion, flat_map}
+use Rattle.std.specs.List.{AllByRecursion}
 use Rattle.std.proofs.lemmas.Bool.{eqb-true, and_from, le-leb}
-use Rattle.std.proofs.lemmas.List.{length-map, length-append, length-replicate}
+use Rattle.std.proofs.lemmas.List.{length-append, length-replicate}
 use Rattle.std.proofs.lemmas.Option.{same_Some, none-some}
-use Rattle.cse_parts.specs.declared.entries.GlobalVariable.{GlobalVariable}
-use Rattle.cse_parts.specs.Image.{MessageLists}
-use Rattle.cse_parts.specs.Placeholders.{has_few_placeholders}
-use Rattle.cse_parts.specs.Texts.{is_text, is_short}
-use Rattle.cse_image.specs.Spelling.{GlobalFits, MessageFits, TextFits}
-use Rattle.cse_syntax.specs.Leaf.{text_of, is_within, number_of}
+use Rattle.cse_parts.specs.Texts.{is_text}
+use Rattle.cse_image.specs.Spelling.{GlobalFits, MessageFits}
+use Rattle.cse_syntax.specs.Leaf.{is_within, number_of}
 use Rattle.cse_syntax.specs.Tree as syntax
-use Rattle.cse_typed.specs.Typed.{Entry, Declaration, Numeric, Alpha, Array', Function'}
+use Rattle.cse_typed.specs.Typed.{Declaration, Numeric, Alpha, Array', Function'}
 use Rattle.cse_typed.specs.Erase.{erase_block, erase_declaration}
 use Rattle.cse_typed.specs.Tokens.{all_tokens, list_tokens, each_tokens, one_token, declaration_tokens}
-use Rattle.cse_tables.specs.Tables.{number_global, text_global, globals_of, globals_in, message_of}
+use Rattle.cse_tables.specs.Tables.{number_global, text_global, globals_in, message_of}
 use Rattle.cse_types.specs.MessageFile.{MessageText}
 use Rattle.cse_types.specs.Scope.{Scope}
 use Rattle.cse_types.specs.WellTyped.{message_number, numbered, message_meant, no_message, entry_of, size_of, size_in, AreDeclared, with_function, messages_of}

@@ -1,8 +1,7 @@
 -- An edit order that names each of n records once has n entries at most.
-use Rattle.std.proofs.Common.{◌≡◌, ◌≤◌, ◌<◌, ◌^◌, ℕ, zero, suc, ◌+◌, Bool, true, false, cond, ◌||◌, eqb, List, [], ◌∷◌, length, Some, refl, sym, ap, subst, ◌∙◌, arith, ⊎_elim}
-use Rattle.std.specs.Prelude.{count_by, nat_eq, nat_lt, slice_get, if◌then◌else◌}
+use Rattle.std.proofs.Common.{◌≡◌, ◌≤◌, ◌<◌, ℕ, zero, suc, ◌+◌, Bool, true, false, cond, ◌||◌, eqb, List, [], ◌∷◌, length, Some, refl, sym, ◌∙◌, arith, ⊎_elim}
+use Rattle.std.specs.Prelude.{count_by, nat_eq, nat_lt, slice_get}
 use Rattle.std.specs.List.{AllByRecursion, IsDistinct, list_any, range_with_len}
-use Rattle.std.specs.Set.{is_member}
 use Rattle.std.proofs.lemmas.Bool.{eqb-true, eq-eqb, ne_eqb, cond-true, cond-false, cases_lt, lt-ltb, le-ltb, false≢true}
 use Rattle.std.proofs.lemmas.Cmp.{nat_eq_equiv}
 use Rattle.std.proofs.lemmas.List.FromFn.{length-range_with_len}

@@ -1,12 +1,12 @@
 -- Which instructions without an entry of a table fit.
-use Rattle.std.proofs.Common.{◌≡◌, ◌≤◌, ◌<◌, ◌^◌, ℕ, ◌+◌, Bool, true, false, ◌&&◌, leb, List, [], ◌∷◌, refl, ap, ◌∙◌, arith}
+use Rattle.std.proofs.Common.{◌≡◌, ◌≤◌, ◌<◌, ◌^◌, ℕ, Bool, true, false, ◌&&◌, leb, refl, ap, ◌∙◌, arith}
 use Rattle.std.specs.Prelude.{◌==◌, if◌then◌else◌}
 use Rattle.std.proofs.lemmas.Bool.{le-leb}
 use Rattle.cse_parts.specs.declared.instruction.Op.{Op}
 use Rattle.cse_parts.specs.declared.instruction.Op.TheVariants as ops
 use Rattle.cse_parts.specs.declared.version.Version.TheVariants as versions
-use Rattle.cse_parts.specs.Opcodes.{Shape, Range, shape, lies_in, none, up_to, any, any_record, any_set, positive}
-use Rattle.cse_image.specs.Spelling.{InstrFits, LimitFits, TextFits}
+use Rattle.cse_parts.specs.Opcodes.{Shape, Range, shape, lies_in, none, up_to, any, any_record}
+use Rattle.cse_image.specs.Spelling.{InstrFits}
 use Rattle.cse_syntax.specs.declared.tree.Operator.{Operator}
 use Rattle.cse_syntax.specs.declared.tree.Operator.TheVariants as operators
 use Rattle.cse_syntax.specs.declared.tree.Relation.{Relation}

@@ -1,5 +1,5 @@
 -- The tables that a code names, each entry as often as it is named, and the instructions that stand for the code by them.
-use Rattle.std.proofs.Common.{◌≡◌, ◌≤◌, ◌<◌, ◌^◌, ℕ, ◌+◌, ℤ, List, [], ◌∷◌, ◌++◌, length, refl, sym, ap, subst, ◌∙◌, arith}
+use Rattle.std.proofs.Common.{◌≡◌, ◌≤◌, ◌<◌, ◌^◌, ℕ, ◌+◌, ℤ, List, [], ◌∷◌, length, refl, arith}
 use Rattle.std.specs.Prelude.{FitsSigned}
 use Rattle.std.specs.Int.{w64}
 use Rattle.std.specs.List.{AllByRecursion}
@@ -7,8 +7,6 @@ use Rattle.std.proofs.lemmas.Bool.{le-leb}
 use Rattle.cse_parts.specs.declared.instruction.Op.TheVariants as ops
 use Rattle.cse_parts.specs.declared.instruction.Instr.{Instr}
 use Rattle.cse_parts.specs.declared.version.Version.TheVariants as versions
-use Rattle.cse_parts.specs.Limits.{most_constants, most_limits, most_texts}
-use Rattle.cse_codec.specs.Spelling.{SectionFits}
 use Rattle.cse_image.specs.Spelling.{InstrFits, LimitFits, TextFits}
 use Rattle.cse_pools.specs.Pools.{PoolLists, PoolsFit}
 use Rattle.cse_emit.specs.Wide.{Wide, Constant, Chars, Turns, Plain}

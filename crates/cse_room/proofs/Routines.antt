@@ -1,7 +1,7 @@
 -- Which routines fit, and how many instructions they have.
-use Rattle.std.proofs.Common.{◌≡◌, ◌≤◌, ◌<◌, ◌^◌, ℕ, zero, suc, ◌+◌, Bool, true, false, ◌&&◌, List, [], ◌∷◌, ◌++◌, length, map, Option, Some, None, refl, sym, ap, subst, ◌∙◌, arith, length-append}
+use Rattle.std.proofs.Common.{◌≡◌, ◌≤◌, ◌<◌, ℕ, zero, suc, ◌+◌, Bool, true, false, List, [], ◌∷◌, ◌++◌, length, map, Option, Some, None, refl, ap, subst, ◌∙◌, arith, length-append}
 use Rattle.std.specs.Prelude.{nat_le, slice_get, replicate, if◌then◌else◌, ◌==◌}
-use Rattle.std.specs.List.{AllByRecursion, flat_map}
+use Rattle.std.specs.List.{AllByRecursion}
 use Rattle.std.specs.Option.{option_map}
 use Rattle.std.proofs.lemmas.Bool.{and_from, le-leb}
 use Rattle.std.proofs.lemmas.List.{length-replicate}
@@ -9,7 +9,6 @@ use Rattle.std.proofs.lemmas.List.Sums.{sum_by-cons, sum_by-append}
 use Rattle.std.proofs.lemmas.Option.{same_Some, none-some, slice_get-map}
 use Rattle.cse_value.specs.declared.shape.ItemKind.{ItemKind}
 use Rattle.cse_value.specs.declared.shape.ItemKind.TheVariants as kinds
-use Rattle.cse_value.specs.declared.shape.ItemShape.{ItemShape}
 use Rattle.cse_value.specs.declared.shape.RecordShape.{RecordShape}
 use Rattle.cse_parts.specs.declared.entries.Local.{Local}
 use Rattle.cse_parts.specs.declared.version.Version.TheVariants as versions
@@ -21,18 +20,17 @@ use Rattle.cse_image.specs.Spelling.{ItemFits, LocalFits, LocalsFit, RoutineFits
 use Rattle.cse_dict.specs.Dictionary.{DictionaryText, ItemText, shape_of}
 use Rattle.cse_typed.specs.declared.tree.Owner.{Owner}
 use Rattle.cse_typed.specs.declared.tree.Owner.TheVariants as owners
-use Rattle.cse_typed.specs.Typed.{Statements, Function, Declaration, Numeric, Alpha, Array', Function', Body, Plain, Preproc, Both, Postproc, Procedure}
+use Rattle.cse_typed.specs.Typed.{Statements, Declaration, Numeric, Alpha, Array', Function', Body, Plain, Preproc, Both, Postproc, Procedure}
 use Rattle.cse_typed.specs.Erase.{erase_body}
 use Rattle.cse_tables.specs.declared.outlines.Sort.{Sort}
 use Rattle.cse_tables.specs.declared.outlines.Sort.TheVariants as sorts
 use Rattle.cse_tables.specs.Tables as tables
-use Rattle.cse_tables.specs.Outline.{Outline, Handler, parameters_of, number_local, occurrence_local, numbers, locals_of, functions_in, is_idle, event_of, handler_of, handlers_of_body, handlers_in}
+use Rattle.cse_tables.specs.Outline.{Outline, Handler, parameters_of, number_local, numbers, locals_of, functions_in, is_idle, event_of, handler_of, handlers_of_body, handlers_in}
 use Rattle.cse_types.specs.declared.meaning.Meaning.{Meaning}
 use Rattle.cse_types.specs.declared.meaning.Meaning.TheVariants as m
 use Rattle.cse_types.specs.Scope.{Scope, in_dictionary, kind_and_owner}
 use Rattle.cse_types.specs.WellTyped.{item_owner, owner_meant, body_messages, AreProcedures}
-use Rattle.cse_emit.specs.Wide.{Wide}
-use Rattle.cse_emit.specs.Routines.{routine_size, routine_code}
+use Rattle.cse_emit.specs.Routines.{routine_size}
 use Rattle.cse_emit.specs.Statements.{exit_size_by}
 use Rattle.cse_compile.specs.Program.{setting_for, code_of, all_code, entry_of}
 use Rattle.cse_measure.proofs.Totals.{routine_length}

@@ -1,5 +1,5 @@
 -- A source within the limits has a program with a spelling: that whose tables have each entry as often as the code names it.
-use Rattle.std.proofs.Common.{◌≡◌, ◌≤◌, ◌<◌, ◌^◌, ℕ, zero, suc, ◌+◌, ◌*◌, Bool, true, false, ◌&&◌, List, [], ◌∷◌, ◌++◌, length, map, Option, Some, None, refl, sym, ap, subst, ◌∙◌, arith}
+use Rattle.std.proofs.Common.{◌≡◌, ◌≤◌, ◌<◌, ◌^◌, ℕ, zero, suc, Bool, true, false, List, [], ◌∷◌, ◌++◌, length, map, Option, Some, None, refl, sym, ap, subst, ◌∙◌, arith}
 use Rattle.std.specs.Prelude.{slice_get}
 use Rattle.std.specs.List.{AllByRecursion, IsDistinct, list_all}
 use Rattle.std.specs.Option.{option_map, option_map_or}
@@ -22,8 +22,8 @@ use Rattle.cse_syntax.specs.Tree as syntax
 use Rattle.cse_syntax.specs.Word.{Word}
 use Rattle.cse_syntax.specs.Grammar.{Each, IsDeclaration, IsProcedure, AreGlobals, IsSource, spell_tree}
 use Rattle.cse_typed.specs.Typed.{Declaration, Numeric, Alpha, Array', Function', Entry, Tree}
-use Rattle.cse_typed.specs.Erase.{erase_declaration, erase_procedure, erase_tree}
-use Rattle.cse_typed.specs.Tokens.{all_tokens, declaration_tokens, procedure_tokens, globals_tokens, tree_tokens}
+use Rattle.cse_typed.specs.Erase.{erase_declaration, erase_tree}
+use Rattle.cse_typed.specs.Tokens.{all_tokens, declaration_tokens, globals_tokens}
 use Rattle.cse_typing.specs.Order.{NamesEachOnce, is_handled_by, fits_event, all_events_fit}
 use Rattle.cse_typing.specs.Typed.{scene_of}
 use Rattle.cse_tables.specs.declared.outlines.Sort.{Sort}
@@ -39,7 +39,6 @@ use Rattle.cse_types.specs.Scope.{Scope, declared_from}
 use Rattle.cse_types.specs.WellTyped.{IsTypedAs, AreDeclared, all_declarations, typed_declarations, declared_messages, tree_messages, entry_of as said, first_scope, with_function, with_functions}
 use Rattle.cse_emit.specs.Wide.{Wide}
 use Rattle.cse_emit.specs.Setting.{Setting}
-use Rattle.cse_emit.specs.Routines.{routine_size}
 use Rattle.cse_emitted.specs.Fit.{BlockFits}
 use Rattle.cse_compile.specs.Program.{IsProgramOf, all_code, code_of, declarations_in, declarations, entry_of, events, handlers, outlines, setting_for, sizes}
 use Rattle.cse_compile.specs.Compiled.{HasNoRoom}

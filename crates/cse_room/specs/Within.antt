@@ -1,5 +1,5 @@
 -- Which sources are within the limits of the format.
-use Rattle.std.specs.Prelude.{◌≤◌, ℕ, List, length, map, IsTrue}
+use Rattle.std.specs.Prelude.{◌≤◌, ℕ, List, length, IsTrue}
 use Rattle.std.specs.List.{AllByRecursion}
 use Rattle.cse_parts.specs.Fields.{cells_in, product}
 use Rattle.cse_parts.specs.Image.{ArrayLists}
