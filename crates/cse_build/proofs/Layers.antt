@@ -25,6 +25,7 @@ use Rattle.cse_typing.specs.Typed.{IsTyped}
 use Rattle.cse_bounds.specs.Bounded.{IsBounded}
 use Rattle.cse_compile.specs.Program.{IsProgramOf}
 use Rattle.cse_checked_code.specs.Costs.{KeepsCosts}
+use Rattle.cse_room.specs.Within.{IsWithin}
 use Rattle.cse_build.specs.declared.error.BuildFault.{BuildFault}
 use Rattle.cse_build.specs.Fault.{at_no_place, of_syntax, of_type, out_of_memory}
 use Rattle.cse_build.specs.Build.{AreEntries, AreNamed, IsBuilt, IsFault, IsFaultBehind, IsImage, IsLimitFault, IsLogic, IsLogicFault, IsMessageFault, IsOrderFault, IsSourceFault, IsTextFault}
@@ -41,11 +42,11 @@ reasons n h = by (nat_eq n 64) (nat_eq n 67) (nat_eq n 90) refl refl refl h
     by false false false e f g k = absurd cc
 
 -- the fault of a program
-pub limit_told : (d : DictionaryText) (t : Tree) (n : ℕ) → IsTrue (nat_eq n 64 || (nat_eq n 67 || nat_eq n 90)) → (n ≡ 67 → KeepsCosts d t → ⊥) → (at_no_place n ≡ out_of_memory) ⊎ IsLimitFault d t (at_no_place n)
-limit_told d t n reason cost = by (reasons n reason)
+pub limit_told : (d : DictionaryText) (t : Tree) (n : ℕ) → IsTrue (nat_eq n 64 || (nat_eq n 67 || nat_eq n 90)) → (n ≡ 64 → IsWithin t → ⊥) → (n ≡ 67 → KeepsCosts d t → ⊥) → (at_no_place n ≡ out_of_memory) ⊎ IsLimitFault d t (at_no_place n)
+limit_told d t n reason large cost = by (reasons n reason)
   where
     by : (n ≡ 64) ⊎ ((n ≡ 67) ⊎ (n ≡ 90)) → (at_no_place n ≡ out_of_memory) ⊎ IsLimitFault d t (at_no_place n)
-    by (inl e) = inr (inl (ap at_no_place e))
+    by (inl e) = inr (inl (ap at_no_place e, large e))
     by (inr (inl e)) = inr (inr (ap at_no_place e, cost e))
     by (inr (inr e)) = inl (ap at_no_place e)
 

@@ -1,3 +1,4 @@
 mod Promises
 mod Layers
+mod Given
 mod Whole

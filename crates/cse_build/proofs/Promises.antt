@@ -2,7 +2,7 @@
 use Rattle.std.proofs.Common.{◌≡◌, ℕ, Bool, true, false, List, refl, sym, subst}
 use Rattle.std.specs.Prelude.{IsTrue, ◌||◌, nat_eq, Result, Ok, Err, IfErr}
 use Rattle.std.proofs.Math.Logic.{∥∥₁_elim, ∥∥₁_prop}
-use Rattle.cse_dict.specs.Dictionary.{DictionaryText}
+use Rattle.cse_dict.specs.Dictionary.{DictionaryText, shape_of}
 use Rattle.cse_dict.specs.Sound.{IsSound as IsSoundDictionary}
 use Rattle.cse_syntax.specs.Grammar.{spell_tree}
 use Rattle.cse_typed.specs.Typed.{Tree}
@@ -14,6 +14,9 @@ use Rattle.cse_compile.specs.Fault.{IsReason}
 use Rattle.cse_checked_code.specs.Costs.{KeepsCosts}
 use Rattle.cse_checked_code.proofs.SoundLaws.{grammar_suffices}
 use Rattle.cse_checked_code.proofs.CaseCosts.{long_only_at_cost}
+use Rattle.cse_room.specs.Given.{ShapeFits, AreTexts, AreUtf8}
+use Rattle.cse_room.specs.Within.{IsWithin}
+use Rattle.cse_room.proofs.Whole.{large_alone}
 
 differ : IsTrue false → ⊥
 differ h = cc
@@ -57,3 +60,8 @@ module _ (c : Checked) (dictionary : IsSoundDictionary c.dictionary) (is : ∥ I
     pub no_room : {T : Type 0} (r : Result T CompileError) → IfErr r (λ e. e.number ≡ 64 → HasNoRoom d named t) → IfErr r (λ e. e.number ≡ 64 → HasNoRoom c.dictionary c.order c.tree)
     no_room (Ok x) h = tt
     no_room (Err e) h = λ is64. room_here (h is64)
+
+    pub within_limits : {T : Type 0} (r : Result T CompileError) → ShapeFits (shape_of c.dictionary) → IfErr r (λ e. e.number ≡ 64 → HasNoRoom d named t) → IfErr r (λ e. e.number ≡ 64 → AreUtf8 (spell_tree (erase_tree c.tree)) → AreTexts c.messages → IsWithin c.tree → ⊥)
+    within_limits (Ok x) shape h = tt
+    within_limits (Err e) shape h = λ is64 utf8 texts within. ∥∥₁_elim is (λ a b. absurd a) (λ k.
+        large_alone c.dictionary c.messages c.order (erase_tree c.tree) (spell_tree (erase_tree c.tree)) c.tree dictionary shape k.source utf8 texts (record { erased = refl; well = k.well }) k.ordered within (room_here (h is64)))

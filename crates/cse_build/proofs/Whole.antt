@@ -29,7 +29,7 @@ reason_at n e is h = subst (λ (f : BuildFault). IsReason f) (sym is) h
 
 module _ (d : DictionaryText) (entries : List MessageText) (logic : List ℕ) (source : syntax.Tree) (t : Tree) (h : IsLogic d entries logic source t) (e : BuildFault) where
   by_limit : (t : Tree) → IsLimitFault d t e → IsReason e
-  by_limit t (inl is) = reason_at 64 e is refl
+  by_limit t (inl k) = reason_at 64 e k.0 refl
   by_limit t (inr k) = reason_at 67 e k.0 refl
 
   by_source : IsSourceFault d entries source e → IsReason e

@@ -16,6 +16,7 @@ use Rattle.cse_typing.specs.Typed.{IsTyped}
 use Rattle.cse_bounds.specs.Bounded.{IsBounded}
 use Rattle.cse_compile.specs.Program.{IsProgramOf}
 use Rattle.cse_checked_code.specs.Costs.{KeepsCosts}
+use Rattle.cse_room.specs.Within.{IsWithin}
 use Rattle.cse_build.specs.declared.error.BuildFault.{BuildFault}
 use Rattle.cse_build.specs.Fault.{at_no_place, no_text, of_type, out_of_memory}
 
@@ -59,9 +60,9 @@ pub record IsBuilt (d : DictionaryText) (logic messages order bytes : List ℕ) 
 
 -- ---- faults
 
--- the program is beyond a limit of the format; or its steps pass their limit, and so does a cost of the source
+-- the source is beyond a limit of the format; or the steps of its program pass their limit, and so does a cost of the source
 abbrev pub IsLimitFault : DictionaryText → Tree → BuildFault → Type 0
-IsLimitFault d t e = (e ≡ at_no_place 64) ⊎ ((e ≡ at_no_place 67) × (KeepsCosts d t → ⊥))
+IsLimitFault d t e = ((e ≡ at_no_place 64) × (IsWithin t → ⊥)) ⊎ ((e ≡ at_no_place 67) × (KeepsCosts d t → ⊥))
 
 -- no typed tree of the source keeps the rules
 abbrev pub IsRuleFault : DictionaryText → List MessageText → syntax.Tree → BuildFault → Type 0

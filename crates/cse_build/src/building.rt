@@ -10,15 +10,19 @@ ghost use Rattle.cse_image.specs.Spelling.{Spells};
 ghost use Rattle.cse_syntax.specs.Tree as syntax;
 ghost use Rattle.cse_syntax.specs.Source.{IsSourceText};
 ghost use Rattle.cse_typed.specs.Typed as typed_spec;
+ghost use Rattle.cse_syntax.specs.Grammar.{spell_tree};
+ghost use Rattle.cse_typed.specs.Erase.{erase_tree};
 ghost use Rattle.cse_types.specs.Answer.{checked};
 ghost use Rattle.cse_types.specs.OrderFile.{IsOrderOf};
 ghost use Rattle.cse_types.specs.WellTyped.{IsTypedAs};
+ghost use Rattle.cse_room.specs.Given.{AreTexts, AreUtf8};
 ghost use Rattle.cse_build.specs.Build.{AreSound, IsBuilt, IsFault};
 ghost use Rattle.cse_build.specs.Build.{AreNamed, IsFaultBehind, IsImage, IsLimitFault, IsLogic, IsLogicFault, IsSourceFault};
 ghost use Rattle.cse_build.specs.Fault.{IsReason, out_of_memory};
 
 use crate::compiling::compile;
 use crate::error::{BuildFault, NO_TEXT, WANT_OF_MEMORY};
+use crate::reading::read_tokens;
 use cse_dict::Dictionary;
 use cse_image::{Program, write_image};
 use cse_syntax::{Source, parse};
@@ -39,6 +43,8 @@ fn spelled(alloc: Global, program: &Program) -> Result<Vec<u8>, BuildFault>
 
 /// The image of a checked source.
 fn of_typed(alloc: Global, typed: Typed<'_>) -> Result<Vec<u8>, BuildFault>
+    requires utf8 { AreUtf8 (spell_tree (erase_tree (checked typed).tree)) }
+    requires texts { AreTexts (checked typed).messages }
     ensures image { IfOk result (λ v. (x : Image) × IsImage (checked typed.entry).dictionary (checked typed.entry).order (checked typed.entry).tree x v.items) }
     ensures fault { IfErr result (λ e. (e ≡ out_of_memory) ⊎ IsLimitFault (checked typed.entry).dictionary (checked typed.entry).tree e) }
 {
@@ -56,7 +62,9 @@ fn of_source<'a>(
     messages: &'a Messages,
     order: &'a Order,
 ) -> Result<Vec<u8>, BuildFault>
-    requires { IsOrderOf dictionary.now order.now }
+    requires order { IsOrderOf dictionary.now order.now }
+    requires utf8 { AreUtf8 (spell_tree (syntax.tree source.now.tree)) }
+    requires texts { AreTexts messages.now }
     ensures image { IfOk result (λ v. (t : typed_spec.Tree) × (x : Image) × IsTypedAs dictionary.now messages.now (syntax.tree source.now.tree) t × IsImage dictionary.now order.now t x v.items) }
     ensures fault { IfErr result (λ e. (e ≡ out_of_memory) ⊎ IsSourceFault dictionary.now messages.now (syntax.tree source.now.tree) e) }
 {
@@ -74,12 +82,16 @@ fn of_text<'a>(
     messages: &'a Messages,
     order: &'a Order,
 ) -> Result<Vec<u8>, BuildFault>
-    requires { IsOrderOf dictionary.now order.now }
+    requires order { IsOrderOf dictionary.now order.now }
+    requires texts { AreTexts messages.now }
     ensures image { IfOk result (λ v. (source : syntax.Tree) × (t : typed_spec.Tree) × (x : Image) × IsSourceText 64 text.now source × IsTypedAs dictionary.now messages.now source t × IsImage dictionary.now order.now t x v.items) }
     ensures fault { IfErr result (λ e. (e ≡ out_of_memory) ⊎ IsLogicFault dictionary.now messages.now text.now e) }
 {
     match parse(alloc, text) {
-        Ok(source) => of_source(alloc, dictionary, &source, messages, order),
+        Ok(source) => {
+            read_tokens(&source.tokens);
+            of_source(alloc, dictionary, &source, messages, order)
+        }
         Err(error) => Err(BuildFault::from(error)),
     }
 }
@@ -92,7 +104,8 @@ fn of_logic(
     messages: &Messages,
     order: &Order,
 ) -> Result<Vec<u8>, BuildFault>
-    requires { IsOrderOf dictionary.now order.now }
+    requires order { IsOrderOf dictionary.now order.now }
+    requires texts { AreTexts messages.now }
     ensures image { IfOk result (λ v. (source : syntax.Tree) × (t : typed_spec.Tree) × (x : Image) × IsLogic dictionary.now messages.now logic.now source t × IsImage dictionary.now order.now t x v.items) }
     ensures fault { IfErr result (λ e. (e ≡ out_of_memory) ⊎ IsLogicFault dictionary.now messages.now logic.now e) }
 {
@@ -110,6 +123,7 @@ fn with_messages(
     messages: &Messages,
     order: &[u8],
 ) -> Result<Vec<u8>, BuildFault>
+    requires { AreTexts messages.now }
     ensures image { IfOk result (λ v. (named : List ℕ) × (source : syntax.Tree) × (t : typed_spec.Tree) × (x : Image) × AreNamed dictionary.now order.now named × IsLogic dictionary.now messages.now logic.now source t × IsImage dictionary.now named t x v.items) }
     ensures fault { IfErr result (λ e. (e ≡ out_of_memory) ⊎ IsFaultBehind dictionary.now messages.now logic.now order.now e) }
 {

@@ -2,6 +2,8 @@
 
 ghost use Rattle.std.specs.Prelude.{◌≡◌, IfOk, IfErr};
 ghost use Rattle.cse_dict.specs.Dictionary.{shape_of};
+ghost use Rattle.cse_syntax.specs.Grammar.{spell_tree};
+ghost use Rattle.cse_typed.specs.Erase.{erase_tree};
 ghost use Rattle.cse_typing.specs.Typed.{IsTyped};
 ghost use Rattle.cse_bounds.specs.Bounded.{IsBounded};
 ghost use Rattle.cse_types.specs.Answer.{checked};
@@ -9,7 +11,10 @@ ghost use Rattle.cse_compile.specs.Compiled.{HasNoRoom};
 ghost use Rattle.cse_compile.specs.Fault.{IsReason};
 ghost use Rattle.cse_compile.specs.Program.{IsProgramOf};
 ghost use Rattle.cse_checked_code.specs.Costs.{KeepsCosts};
+ghost use Rattle.cse_room.specs.Given.{AreTexts, AreUtf8};
+ghost use Rattle.cse_room.specs.Within.{IsWithin};
 
+use crate::reading::read_shape;
 use cse_compile::CompileError;
 use cse_image::Program;
 use cse_types::Typed;
@@ -20,16 +25,20 @@ use std::alloc::Global;
 ///
 /// A checked source is refused by 64, 67 or 90 alone (`others`): by 64 only where no program of it has a spelling, since
 /// one of its tables, or its code, is beyond a limit of the format (`room`), and by 67 only where a routine or the events
-/// of a case cost more than 10^15 steps (`cost`).
+/// of a case cost more than 10^15 steps (`cost`). By 64 only where the source itself is beyond a limit: where it has more
+/// than 60,000 tokens, or 4,096 functions and parts of procedures, or an array, a function or a message that no image may
+/// have (`within`); its texts are UTF-8, and those of the message file have no character below U+0020.
 pub fn compile(alloc: Global, typed: &Typed<'_>) -> Result<Program, CompileError>
     ensures typed { IfOk result (IsTyped (shape_of (checked typed.now).dictionary)) }
     ensures bounded { IfOk result IsBounded }
     ensures tables { IfOk result (IsProgramOf (checked typed.now).dictionary (checked typed.now).order (checked typed.now).tree) }
     ensures others { IfErr result IsReason }
     ensures room { IfErr result (λ e. e.number ≡ 64 → HasNoRoom (checked typed.now).dictionary (checked typed.now).order (checked typed.now).tree) }
+    ensures within { IfErr result (λ e. e.number ≡ 64 → AreUtf8 (spell_tree (erase_tree (checked typed.now).tree)) → AreTexts (checked typed.now).messages → IsWithin (checked typed.now).tree → ⊥) }
     ensures cost { IfErr result (λ e. e.number ≡ 67 → KeepsCosts (checked typed.now).dictionary (checked typed.now).tree → ⊥) }
 {
     let dictionary = typed.dictionary();
-    let _sound = dictionary.shape();
+    let sound = dictionary.shape();
+    read_shape(sound);
     cse_compile::compile(alloc, typed.tree(), dictionary, typed.order().records())
 }

@@ -1,6 +1,7 @@
 //! From the bytes of logic to an image.
 //!
 //! - `error`: why there is no image.
+//! - `reading`: what the types of what is read hold.
 //! - `compiling`: the program of a checked source.
 //! - `building`: the image of logic, its message file and its order file.
 //!
@@ -10,6 +11,7 @@
 mod building;
 mod compiling;
 mod error;
+mod reading;
 
 pub use building::build;
 pub use compiling::compile;

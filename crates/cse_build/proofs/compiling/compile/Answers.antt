@@ -1,9 +1,10 @@
 use Rattle.std.proofs.Common.{◌∙◌, ap, subst}
-use Rattle.cse_dict.specs.Dictionary.{DictionaryText}
+use Rattle.cse_dict.specs.Dictionary.{DictionaryText, shape_of}
 use Rattle.cse_dict.specs.Sound.{IsSound as IsSoundDictionary}
 use Rattle.cse_typed.specs.Typed.{tree}
 use Rattle.cse_types.specs.Answer.{checked}
-use Rattle.cse_build.proofs.Promises.{reasons_alone, no_room, long_at_cost}
+use Rattle.cse_room.specs.Given.{ShapeFits}
+use Rattle.cse_build.proofs.Promises.{reasons_alone, no_room, within_limits, long_at_cost}
 use Rattle.cse_build.proofs.compiling.compile.Goals as goal
 
 pub returns-clause-others : goal.returns-clause-others
@@ -23,3 +24,10 @@ returns-clause-room c =
     let sound = subst (λ (d : DictionaryText). IsSoundDictionary d) c.dictionary-dictionary.ensures c.shape-sound.ensures.sound in
     no_room (checked c.args.typed.now) sound c.args.typed.now.is_checked _ _ _ c.dictionary-dictionary.ensures (c.records.ensures ∙ c.order.ensures) (ap tree c.tree.ensures)
     c.compile.result c.compile.ensures.room
+
+pub returns-clause-within : goal.returns-clause-within
+returns-clause-within c =
+    let sound = subst (λ (d : DictionaryText). IsSoundDictionary d) c.dictionary-dictionary.ensures c.shape-sound.ensures.sound in
+    let shape = subst ShapeFits (c.shape-sound.ensures.shape ∙ ap shape_of c.dictionary-dictionary.ensures) c.read_shape.ensures in
+    within_limits (checked c.args.typed.now) sound c.args.typed.now.is_checked _ _ _ c.dictionary-dictionary.ensures (c.records.ensures ∙ c.order.ensures) (ap tree c.tree.ensures)
+    c.compile.result shape c.compile.ensures.room
