@@ -12,6 +12,7 @@ pub mod MergeLaws
 pub mod RuleLaws
 pub mod TurnLaws
 pub mod OpenerLaws
+pub mod NestLaws
 pub mod PassLaws
 pub mod OrderLaws
 pub mod TypedLaws

@@ -26,13 +26,3 @@ any_none f (x ∷ xs) (suc i) h = any_none f xs i (omega arith)
 
 pub any_end : (f : ℕ → Bool) (xs : List ℕ) (i : ℕ) → length xs ≤ i → false ≡ list_any f (drop i xs)
 any_end = any_none
-
--- the element so far from the top of a stack
-pub shown_at : (places shown : List ℕ) (len i x : ℕ) → reverse (take len places) ≡ shown → len ≤ length places → i < length shown → x ≡ get_or places (len - 1 - i) x → slice_get shown i ≡ Some x
-shown_at places shown len i x is le lt read =
-    let size : length (take len places) ≡ len = length-take-le len places le in
-    let count : length shown ≡ len = ap length (sym is) ∙ length-reverse (take len places) ∙ size in
-    let back : get_or (reverse (take len places)) i x ≡ get_or (take len places) (length (take len places) - 1 - i) x = get_or-reverse (take len places) i x (omega arith) in
-    ap (λ l. slice_get l i) (sym is)
-    ∙ slice_get-get_or (reverse (take len places)) i x (let r = length-reverse (take len places) in omega arith)
-    ∙ ap Some (back ∙ ap (λ n. get_or (take len places) (n - 1 - i) x) size ∙ get_or-take len places (len - 1 - i) x (omega arith) ∙ sym read)
