@@ -106,3 +106,26 @@ module _ (code : List Control) (p : ℕ) (nest : IsNestedBelow code p) (here : K
       is ∙ sym (around_plain code p
       (λ e b. let o = named_loop (slice_get code p) e b.1 in no_loop o.0 e (same_Some i (Open o.0 e) (sym at ∙ o.1)))
       (λ s b. let o = named_end_is (slice_get code p) s b.2 in no_end s (same_Some i (End s) (sym at ∙ o))))
+
+-- a place of code that keeps the rules, and what a pass over it knows
+module _ (code : List Control) (keeps : KeepsRules code) (p : ℕ) (i : Control) (at : slice_get code p ≡ Some i) where
+  pub kept_here : KeepsRulesAt code p
+  kept_here = keeps p (slice_get_within code p i at)
+
+  pub kept_nested : IsNestedBelow code p
+  kept_nested = nested_before code p (λ q lt j there. (keeps q (slice_get_within code q j there) j there).0)
+
+  pub kept_shallow : (b e : ℕ) → i ≡ Open b e → length (around code p) < 64
+  kept_shallow b e opens = pass_shallow code p kept_nested kept_here b e (around code p) (at ∙ ap Some opens) refl
+
+  pub kept_opener : (b e : ℕ) → i ≡ Open b e → p ∷ around code p ≡ around code (suc p)
+  kept_opener b e opens = pass_opener code p kept_nested kept_here b e (around code p) (p ∷ around code p) (at ∙ ap Some opens) refl refl
+
+  pub kept_some : (s : ℕ) → i ≡ End s → around code p ≡ [] → ⊥
+  kept_some s ends = pass_some code p kept_nested kept_here s (around code p) (at ∙ ap Some ends) refl
+
+  pub kept_end : (s : ℕ) → i ≡ End s → drop 1 (around code p) ≡ around code (suc p)
+  kept_end s ends = pass_end code p kept_nested kept_here s (around code p) (drop 1 (around code p)) (at ∙ ap Some ends) refl refl
+
+  pub kept_plain : ((b e : ℕ) → i ≡ Open b e → ⊥) → ((s : ℕ) → i ≡ End s → ⊥) → around code p ≡ around code (suc p)
+  kept_plain no_open no_end = pass_plain code p kept_nested kept_here i (around code p) at refl no_open no_end

@@ -11,7 +11,7 @@ pub mod BelowLaws
 pub mod MergeLaws
 pub mod RuleLaws
 pub mod TurnLaws
-pub mod OpenerLaws
+pub mod NestLaws
 pub mod PassLaws
 pub mod OrderLaws
 pub mod TypedLaws

@@ -19,7 +19,8 @@ use Rattle.cse_typing.specs.Pass.{Free, Known, turn}
 use Rattle.cse_typing.specs.Edges.{known_of}
 use Rattle.cse_typing.specs.Within.{AreWithin, IsWithin, expected_in}
 use Rattle.cse_typing.specs.Judged.{StopsAtInstr, StopsAtStack, Judges}
-use Rattle.cse_typing.proofs.Around.{around_start, nested_before}
+use Rattle.cse_typing.proofs.Around.{around_start}
+use Rattle.cse_typing.proofs.Checks.{kept_here, kept_nested}
 use Rattle.cse_typing.proofs.Sound.{IsKnown, next_known, typing_found, no_stack, first_known}
 
 -- what is at hand at place p
@@ -79,12 +80,10 @@ module _ (s : Scene) (r : ℕ) (code : List Instr) where
   control_there p i c there is = slice_get-map (control s.lists) code p ∙ ap (option_map (control s.lists)) there ∙ ap Some (sym is)
 
   pub keeps_there : (p : ℕ) (c : Control) → KeepsRules (skeleton s.lists code) → slice_get (skeleton s.lists code) p ≡ Some c → KeepsRulesAt (skeleton s.lists code) p
-  keeps_there p c keeps there = keeps p (slice_get_within (skeleton s.lists code) p c there)
+  keeps_there p c keeps there = kept_here (skeleton s.lists code) keeps p c there
 
   pub nested_there : (p : ℕ) (c : Control) → KeepsRules (skeleton s.lists code) → slice_get (skeleton s.lists code) p ≡ Some c → IsNestedBelow (skeleton s.lists code) p
-  nested_there p c keeps there =
-      let within = slice_get_within (skeleton s.lists code) p c there in
-      nested_before (skeleton s.lists code) p (λ q lt j at. (keeps q (omega arith) j at).0)
+  nested_there p c keeps there = kept_nested (skeleton s.lists code) keeps p c there
 
   pub stops_instr : (p : ℕ) (i : Instr) (openers : List ℕ) (piles : List Entry) (known : List Expected) → IsPassed s r code openers piles known p → slice_get code p ≡ Some i → may_stand s.lists.routines r s.routine.ambient i ≡ false → StopsAtInstr s r code p
   stops_instr p i openers piles known so there fails =

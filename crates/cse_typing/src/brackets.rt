@@ -6,7 +6,7 @@ ghost use Rattle.cse_typing.specs.Bracket.{IsBracket, IsAround, IsNestedBelow, f
 
 use crate::control::Control;
 use crate::innermost::{innermost_table, is_told_jump};
-use crate::openers::Openers;
+use crate::nest::Nest;
 use crate::routine_code::RoutineCode;
 use cse_image::Code;
 use std::alloc::{AllocError, Global};
@@ -51,7 +51,7 @@ pub fn is_around<C: Code>(code: &RoutineCode<'_, C>, opener: u32, place: u32) ->
 }
 
 /// Whether an end lies within the innermost bracket, if there is one.
-fn ends_inside<C: Code>(code: &RoutineCode<'_, C>, openers: &Openers, end: u32) -> bool
+fn ends_inside<C: Code>(code: &RoutineCode<'_, C>, openers: &Nest<u32>, end: u32) -> bool
     ensures { IsTrue result ↔ ((s f : ℕ) → first openers.now ≡ Some s → named_end (slice_get code.now s) ≡ Some f → end ≤ f) }
 {
     match openers.top() {
@@ -64,7 +64,7 @@ fn ends_inside<C: Code>(code: &RoutineCode<'_, C>, openers: &Openers, end: u32) 
 }
 
 /// Whether an opener has its end and lies within the brackets around it.
-fn is_opener<C: Code>(code: &RoutineCode<'_, C>, place: u32, end: u32, openers: &Openers) -> bool
+fn is_opener<C: Code>(code: &RoutineCode<'_, C>, place: u32, end: u32, openers: &Nest<u32>) -> bool
     requires nested { IsNestedBelow code.now place }
     requires openers { openers.now ≡ around code.now place }
     ensures { IsTrue result ↔ IsOpener code.now place end }
@@ -76,7 +76,7 @@ fn is_opener<C: Code>(code: &RoutineCode<'_, C>, place: u32, end: u32, openers: 
 }
 
 /// Whether the end belongs to the innermost bracket.
-fn is_break<C: Code>(code: &RoutineCode<'_, C>, end: u32, place: u32, openers: &Openers) -> bool
+fn is_break<C: Code>(code: &RoutineCode<'_, C>, end: u32, place: u32, openers: &Nest<u32>) -> bool
     requires openers { openers.now ≡ around code.now place }
     ensures { IsTrue result ↔ ((s : ℕ) × (innermost code.now place ≡ Some s) × IsBracket code.now s end) }
 {
@@ -91,7 +91,7 @@ fn is_fine<C: Code>(
     code: &RoutineCode<'_, C>,
     place: u32,
     control: Control,
-    openers: &Openers,
+    openers: &Nest<u32>,
     table: &[Option<u32>],
 ) -> bool
     requires nested { IsNestedBelow code.now place }
@@ -123,7 +123,12 @@ fn ends_fine<C: Code>(code: &RoutineCode<'_, C>, place: u32, control: Control) -
 }
 
 /// From a place that keeps the rules to the next one.
-pub fn pass<C: Code>(code: &RoutineCode<'_, C>, place: u32, control: Control, openers: &mut Openers)
+pub fn pass<C: Code>(
+    code: &RoutineCode<'_, C>,
+    place: u32,
+    control: Control,
+    openers: &mut Nest<u32>,
+)
     requires there { slice_get code.now place ≡ Some control }
     requires fine { KeepsRulesAt code.now place }
     requires nested { IsNestedBelow code.now place }
@@ -143,7 +148,7 @@ fn check_code<C: Code>(code: &RoutineCode<'_, C>, table: &[Option<u32>]) -> Opti
     ensures all { IfNone result (KeepsRules code.now) }
     ensures first { IfSome result (λ p. BreaksFirst code.now p) }
 {
-    let mut openers = Openers::new();
+    let mut openers = Nest::new();
     'places: for place in 0..code.len() {
         let Some(control) = code.at(place) else {
             unreachable!()

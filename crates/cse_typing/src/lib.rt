@@ -2,6 +2,8 @@
 //!
 //! It is the lower half of the verifier. `typed` says whether a whole program is typed for a dictionary
 //! of a shape, and gives the first reason where it isn't; `specs/Typed.antt` says what that means.
+//! A pass over the places keeps what the brackets around a place bring on a `Nest`: here their openers, in
+//! `cse_bounds` their weights.
 #![tactic(auto)]
 
 mod below;
@@ -17,8 +19,8 @@ mod kind;
 mod known;
 mod laws;
 mod need;
+mod nest;
 mod numbers;
-mod openers;
 mod order;
 mod piles;
 mod place_depth;
@@ -36,6 +38,7 @@ pub use handlers::routine_of;
 pub use jumps::check_jumps_and_brackets;
 pub use kind::{Kind, is_same_kind, kind_of_argument, kind_of_global, kind_of_local};
 pub use laws::{edges_lead_inside, events_run_handlers, growth_is_told, typing_is_one};
+pub use nest::Nest;
 pub use order::{all_events_fit, fits_event, names_each_once};
 pub use refusal::{NONE, Refusal};
 pub use routine_code::RoutineCode;

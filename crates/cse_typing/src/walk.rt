@@ -14,7 +14,7 @@ use crate::control::control_of;
 use crate::depth::Depth;
 use crate::in_loop::is_in_loop;
 use crate::known::expected_at;
-use crate::openers::Openers;
+use crate::nest::Nest;
 use crate::piles::{Expected, Piles};
 use crate::place_depth::{locals_depth, place_depth};
 use crate::routine_code::RoutineCode;
@@ -94,7 +94,7 @@ fn walk<C: Code>(
     let _fits = code.len();
     let size = around.routine.instructions;
     let skeleton = RoutineCode::new(code, around.tables, start, size);
-    let mut openers = Openers::new();
+    let mut openers = Nest::new();
     let mut piles = Piles::new(alloc);
     let mut most = Depth::NONE;
     'places: for place in 0..size {

@@ -1,12 +1,14 @@
-use Rattle.std.proofs.Common.{ap, ◌∙◌, Some}
+use Rattle.std.proofs.Common.{ap, ◌∙◌, Some, arith}
 use Rattle.cse_typing.proofs.Checks.{pass_shallow, pass_opener, pass_some, pass_end, pass_plain}
 use Rattle.cse_typing.proofs.brackets.pass.Goals as goal
 
 pub push-requires : goal.push-requires
-push-requires g c = pass_shallow _ _ c.requires.nested c.requires.fine _ _ _ (c.requires.there ∙ ap Some c.in-Open.is) c.requires.openers
+push-requires g c =
+    let few = pass_shallow _ _ c.requires.nested c.requires.fine _ _ _ (c.requires.there ∙ ap Some c.in-Open.is) c.requires.openers in
+    omega arith
 
 pub pop-requires : goal.pop-requires
-pop-requires g c = pass_some _ _ c.requires.nested c.requires.fine _ _ (c.requires.there ∙ ap Some c.in-End.is) c.requires.openers
+pop-requires g c = (omega arith, pass_some _ _ c.requires.nested c.requires.fine _ _ (c.requires.there ∙ ap Some c.in-End.is) c.requires.openers)
 
 pub returns-in-Open : goal.returns-in-Open
 returns-in-Open g c = pass_opener _ _ c.requires.nested c.requires.fine _ _ _ _ (c.requires.there ∙ ap Some c.in-Open.is) c.requires.openers c.push.ensures

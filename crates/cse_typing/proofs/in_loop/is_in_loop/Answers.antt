@@ -2,7 +2,7 @@ use Rattle.std.proofs.Common.{ℕ, length, ◌≤◌, sym, ◌∙◌, arith}
 use Rattle.std.specs.Prelude.{slice_get}
 use Rattle.cse_typing.specs.Code.{part}
 use Rattle.cse_typing.specs.Signature.{loops_over}
-use Rattle.cse_typing.proofs.OpenerLaws.{any_here, any_more, any_end}
+use Rattle.cse_typing.proofs.NestLaws.{any_here, any_more, any_end}
 use Rattle.cse_typing.proofs.in_loop.is_in_loop.Goals as goal
 
 pub returns-then-loops_at : goal.returns-then-loops_at

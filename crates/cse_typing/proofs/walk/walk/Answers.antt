@@ -4,7 +4,6 @@ use Rattle.cse_typing.specs.declared.control.Control.{Control}
 use Rattle.cse_typing.specs.declared.piles.Entry.{Entry}
 use Rattle.cse_typing.proofs.Few.{none_few, greater_few, more_few}
 use Rattle.cse_typing.specs.Code.{part}
-use Rattle.cse_typing.specs.Skeleton.{control, skeleton}
 use Rattle.cse_typing.specs.Bracket.{around, KeepsRulesAt, IsNestedBelow}
 use Rattle.cse_typing.specs.Tables.{scene_in}
 use Rattle.cse_typing.proofs.CodeLaws.{part_at, length-part}
