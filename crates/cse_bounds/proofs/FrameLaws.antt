@@ -1,12 +1,11 @@
 -- How the number of open brackets changes from one place to the next.
 use Rattle.std.proofs.Common.{◌≡◌, ℕ, suc, ◌+◌, ◌*◌, ◌-◌, ◌<◌, ◌≤◌, List, [], ◌∷◌, length, drop, Some, refl, sym, ap, ◌∙◌, arith}
 use Rattle.std.specs.Prelude.{slice_get, max}
-use Rattle.std.proofs.lemmas.Option.{slice_get_within}
 use Rattle.cse_typing.specs.declared.control.Control.{Control}
 use Rattle.cse_typing.specs.declared.control.Control.TheVariants.{Open, End}
-use Rattle.cse_typing.specs.Bracket.{around, IsNestedBelow, KeepsRulesAt, KeepsRules}
-use Rattle.cse_typing.proofs.Around.{nested_before, around_start}
-use Rattle.cse_typing.proofs.Checks.{pass_shallow, pass_opener, pass_some, pass_end, pass_plain}
+use Rattle.cse_typing.specs.Bracket.{around, KeepsRules}
+use Rattle.cse_typing.proofs.Around.{around_start}
+use Rattle.cse_typing.proofs.Checks.{kept_shallow, kept_opener, kept_some, kept_end, kept_plain}
 use Rattle.cse_bounds.specs.Frames.{frames_in_call, most_frames}
 
 -- what a pass has at the place p
@@ -45,24 +44,13 @@ length_rest [] some = absurd (some refl)
 length_rest (s ∷ ss) some = (omega arith, omega arith)
 
 module _ (code : List Control) (keeps : KeepsRules code) (p : ℕ) (i : Control) (at : slice_get code p ≡ Some i) where
-  here : KeepsRulesAt code p
-  here = keeps p (slice_get_within code p i at)
-
-  nest : IsNestedBelow code p
-  nest = nested_before code p (λ q lt j there. (keeps q (slice_get_within code q j there) j there).0)
-
   pub one_more : (b e : ℕ) → i ≡ Open b e → (suc (length (around code p)) ≡ length (around code (suc p))) × (length (around code p) < 64)
-  one_more b e opens =
-      let there = at ∙ ap Some opens in (
-        ap (λ (l : List ℕ). length l) (pass_opener code p nest here b e (around code p) (p ∷ around code p) there refl refl),
-        pass_shallow code p nest here b e (around code p) there refl,
-      )
+  one_more b e opens = (ap (λ (l : List ℕ). length l) (kept_opener code keeps p i at b e opens), kept_shallow code keeps p i at b e opens)
 
   pub one_less : (s : ℕ) → i ≡ End s → (length (around code p) - 1 ≡ length (around code (suc p))) × (0 < length (around code p))
   one_less s ends =
-      let there = at ∙ ap Some ends in
-      let rest = length_rest (around code p) (pass_some code p nest here s (around code p) there refl) in
-      (sym rest.0 ∙ ap (λ (l : List ℕ). length l) (pass_end code p nest here s (around code p) (drop 1 (around code p)) there refl refl), rest.1)
+      let rest = length_rest (around code p) (kept_some code keeps p i at s ends) in
+      (sym rest.0 ∙ ap (λ (l : List ℕ). length l) (kept_end code keeps p i at s ends), rest.1)
 
   pub no_change : ((b e : ℕ) → i ≡ Open b e → ⊥) → ((s : ℕ) → i ≡ End s → ⊥) → length (around code p) ≡ length (around code (suc p))
-  no_change no_open no_end = ap (λ (l : List ℕ). length l) (pass_plain code p nest here i (around code p) at refl no_open no_end)
+  no_change no_open no_end = ap (λ (l : List ℕ). length l) (kept_plain code keeps p i at no_open no_end)

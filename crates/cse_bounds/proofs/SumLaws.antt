@@ -6,7 +6,6 @@ use Rattle.std.proofs.lemmas.Bool.{cases_lt}
 use Rattle.std.proofs.lemmas.Option.{slice_get_within}
 use Rattle.cse_typing.specs.declared.control.Control.{Control}
 use Rattle.cse_typing.specs.declared.control.Control.TheVariants.{Step, Jump, Branch, Open, End, Break, Call, Return}
-use Rattle.cse_typing.specs.Bracket.{first}
 use Rattle.cse_bounds.specs.Limit.{step_limit}
 use Rattle.cse_bounds.specs.Weight.{weight}
 use Rattle.cse_bounds.specs.Bound.{cost, partial, PassesLimit}
@@ -46,7 +45,7 @@ unfolding partial
 at_start bounds code weights e = record { weights_are = weights_start code weights e; total_is = refl; small = omega arith }
 
 -- the weight alone is above the limit
-pub too_heavy : (bounds : List ℕ) (code : List Control) (p w total : ℕ) (weights : List ℕ) (i : Control) → IsAt bounds code p total weights → slice_get code p ≡ Some i → first weights ≡ Some w → step_limit < w → PassesLimit bounds code p
+pub too_heavy : (bounds : List ℕ) (code : List Control) (p w total : ℕ) (weights : List ℕ) (i : Control) → IsAt bounds code p total weights → slice_get code p ≡ Some i → slice_get weights 0 ≡ Some w → step_limit < w → PassesLimit bounds code p
 too_heavy bounds code p w total weights i at there top more =
     let k = weight_in_partial bounds code p in
     let a = top_weight code p w weights at.weights_are top in
@@ -55,7 +54,7 @@ too_heavy bounds code p w total weights i at there top more =
     record { within = slice_get_within code p i there; before = omega arith; after = omega arith }
 
 -- the sum with this place
-pub with_place : (bounds : List ℕ) (code : List Control) (p w total spent : ℕ) (weights : List ℕ) (i : Control) → IsAt bounds code p total weights → slice_get code p ≡ Some i → first weights ≡ Some w → spent ≡ cost bounds (Some i) → total + w * spent ≡ partial bounds code (suc p)
+pub with_place : (bounds : List ℕ) (code : List Control) (p w total spent : ℕ) (weights : List ℕ) (i : Control) → IsAt bounds code p total weights → slice_get code p ≡ Some i → slice_get weights 0 ≡ Some w → spent ≡ cost bounds (Some i) → total + w * spent ≡ partial bounds code (suc p)
 with_place bounds code p w total spent weights i at there top e =
     let a = top_weight code p w weights at.weights_are top in
     let b = at.total_is in
@@ -64,7 +63,7 @@ with_place bounds code p w total spent weights i at there top e =
     omega arith
 
 -- it is above the limit
-pub too_long : (bounds : List ℕ) (code : List Control) (p w total spent : ℕ) (weights : List ℕ) (i : Control) → IsAt bounds code p total weights → slice_get code p ≡ Some i → first weights ≡ Some w → spent ≡ cost bounds (Some i) → step_limit < total + w * spent → PassesLimit bounds code p
+pub too_long : (bounds : List ℕ) (code : List Control) (p w total spent : ℕ) (weights : List ℕ) (i : Control) → IsAt bounds code p total weights → slice_get code p ≡ Some i → slice_get weights 0 ≡ Some w → spent ≡ cost bounds (Some i) → step_limit < total + w * spent → PassesLimit bounds code p
 too_long bounds code p w total spent weights i at there top e more =
     let sum = with_place bounds code p w total spent weights i at there top e in
     let b = at.total_is in
@@ -72,7 +71,7 @@ too_long bounds code p w total spent weights i at there top e more =
     record { within = slice_get_within code p i there; before = omega arith; after = omega arith }
 
 -- or it isn't
-pub at_next : (bounds : List ℕ) (code : List Control) (p w total spent : ℕ) (weights next : List ℕ) (i : Control) → IsAt bounds code p total weights → slice_get code p ≡ Some i → first weights ≡ Some w → spent ≡ cost bounds (Some i) → total + w * spent ≤ step_limit → next ≡ weights_at code (suc p) → IsAt bounds code (p + 1) (total + w * spent) next
+pub at_next : (bounds : List ℕ) (code : List Control) (p w total spent : ℕ) (weights next : List ℕ) (i : Control) → IsAt bounds code p total weights → slice_get code p ≡ Some i → slice_get weights 0 ≡ Some w → spent ≡ cost bounds (Some i) → total + w * spent ≤ step_limit → next ≡ weights_at code (suc p) → IsAt bounds code (p + 1) (total + w * spent) next
 at_next bounds code p w total spent weights next i at there top e small passed =
     let one : suc p ≡ p + 1 = omega arith in
     record {

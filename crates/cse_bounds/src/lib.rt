@@ -12,7 +12,6 @@ mod frames;
 mod laws;
 mod limits;
 mod sum;
-mod weights;
 
 pub use events::{case_steps, run_steps};
 pub use frames::frames_of;

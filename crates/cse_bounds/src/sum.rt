@@ -8,9 +8,8 @@ ghost use Rattle.cse_bounds.specs.Bound.{cost, partial, CallsBelow, PassesLimit}
 ghost use Rattle.cse_bounds.specs.Running.{weights_at};
 
 use crate::limits::STEP_LIMIT;
-use crate::weights::Weights;
 use cse_image::Code;
-use cse_typing::{Control, RoutineCode};
+use cse_typing::{Control, Nest, RoutineCode};
 
 /// The steps of one visit of an instruction.
 fn cost_of(control: Control, bounds: &[u64]) -> u64
@@ -26,7 +25,7 @@ fn cost_of(control: Control, bounds: &[u64]) -> u64
 }
 
 /// From the weights at a place to those at the next one.
-fn pass<C: Code>(code: &RoutineCode<'_, C>, place: u32, control: Control, weights: &mut Weights)
+fn pass<C: Code>(code: &RoutineCode<'_, C>, place: u32, control: Control, weights: &mut Nest<u128>)
     requires keeps { KeepsRules code.now }
     requires there { slice_get code.now place ≡ Some control }
     requires weights { weights.old ≡ weights_at code.now place }
@@ -35,7 +34,7 @@ fn pass<C: Code>(code: &RoutineCode<'_, C>, place: u32, control: Control, weight
 {
     match control {
         Control::Open(limit, _) => {
-            let weight = weights.top();
+            let weight = weights.at(0);
             weights.push(limit as u128 * weight);
         }
         Control::End(_) => weights.pop(),
@@ -52,13 +51,14 @@ pub fn bound_of<C: Code>(code: &RoutineCode<'_, C>, bounds: &[u64]) -> Result<u6
     ensures small { IfOk result (λ n. n ≤ step_limit) }
     ensures too_long { IfErr result (λ p. PassesLimit bounds.now code.now p) }
 {
-    let mut weights = Weights::new();
+    let mut weights = Nest::new();
+    weights.push(1);
     let mut total = 0;
     'places: for place in 0..code.len() {
         let Some(control) = code.at(place) else {
             unreachable!()
         };
-        let weight = weights.top();
+        let weight = weights.at(0);
         if weight > STEP_LIMIT as u128 {
             return Err(place);
         }
