@@ -1,12 +1,11 @@
 //! Pieces of code and what `try` prints of them.
 
 use crate::tests::{instr, parts_of, printed};
+use cse_fixtures::outline::Line;
+use cse_fixtures::pieces::add_instructions;
 use cse_image::{Instr, Op};
 use std::alloc::Global;
 use std::test::Fail;
-
-/// An instruction: its opcode and its fields a, b and c.
-type Line = (Op, u8, u16, u32);
 
 /// Pieces of code, without the Return at their end, and what `try` prints of them.
 const ENDS: &[(&[Line], &str)] = &[
@@ -196,9 +195,7 @@ const ENDS: &[(&[Line], &str)] = &[
 /// The instructions, and a return.
 fn returning(alloc: Global, front: &[Line]) -> Result<Vec<Instr>, Fail> {
     let mut code = Vec::new(alloc);
-    for (op, a, b, c) in front {
-        code.push(instr(*op, *a, *b, *c))?;
-    }
+    add_instructions(&mut code, front)?;
     code.push(instr(Op::Return, 0, 0, 0))?;
     Ok(code)
 }

@@ -2,14 +2,16 @@
 
 use crate::fault::{Fault, fault_line};
 use crate::try_image::{TryFault, try_to};
+use cse_fixtures::device::Slow;
+use cse_fixtures::outline::{self, ArrayOutline, MessageOutline, NOTHING, Outline};
+use cse_fixtures::pieces::{Head, PLAIN, add_event, add_message, add_routine, no_parts};
 use cse_image::{
-    Ambient, Array, EventCode, EventEntry, Gift, GlobalKind, GlobalVariable, Instr, Local,
-    LocalKind, Message, Op, Parts, Program, Routine, write_image,
+    Ambient, EventCode, Gift, GlobalKind, GlobalVariable, Instr, Local, LocalKind, Op, Parts,
+    Program, write_image,
 };
 use cse_value::Writes;
 use cse_value::shape::{ItemKind, ItemShape};
 use std::alloc::{AllocError, Global};
-use std::io;
 use std::test::Fail;
 
 /// Lists "Hi" in the application's preproc: one message, one routine of two instructions, one event.
@@ -24,9 +26,72 @@ pub const HELLO: [u8; 94] = [
     40, 0, 0, 0, 0, 0, 0, 0, // Return
 ];
 
-/// Parts of a program whose preproc is this code, with the constants 0, 1, 10, 11, the texts `A` and
-/// `A `, a number and a text of three characters as globals and as locals, an array of four cells that
-/// begins with 7, and the messages `yes`, `no`, `100%%`, one that is counted, and `%d`.
+/// The constants 0, 1, 10, 11, the texts `A` and `A `, a number and a text of three characters as globals, an
+/// array of four cells that begins with 7, and the messages `yes`, `no`, `100%%`, one that is counted, and `%d`.
+const BESIDE: Outline<'static> = Outline {
+    constants: &[0, 1, 10, 11],
+    texts: &["A", "A "],
+    globals: &[
+        GlobalVariable {
+            kind: GlobalKind::Number,
+            length: 0,
+        },
+        GlobalVariable {
+            kind: GlobalKind::Text,
+            length: 3,
+        },
+    ],
+    arrays: &[ArrayOutline {
+        saved: false,
+        name: "CELLS",
+        dimensions: &[2, 2],
+        cells: &[7],
+    }],
+    messages: &[
+        MessageOutline {
+            number: 0,
+            summary: false,
+            text: "yes",
+        },
+        MessageOutline {
+            number: 0,
+            summary: false,
+            text: "no",
+        },
+        MessageOutline {
+            number: 0,
+            summary: false,
+            text: "100%%",
+        },
+        MessageOutline {
+            number: 9,
+            summary: true,
+            text: "counted",
+        },
+        MessageOutline {
+            number: 0,
+            summary: false,
+            text: "%d",
+        },
+    ],
+    ..NOTHING
+};
+
+/// A number and a text of three characters.
+const LOCALS: &[Local] = &[
+    Local {
+        kind: LocalKind::Number,
+        owner: 0,
+        length: 0,
+    },
+    Local {
+        kind: LocalKind::Text,
+        owner: 0,
+        length: 3,
+    },
+];
+
+/// Parts of a program whose preproc is this code, with two locals, a limit of 1, and what stands in `BESIDE`.
 pub fn parts_of(alloc: Global, code: &[Instr]) -> Result<Parts, AllocError> {
     parts_with(alloc, Ambient::Run, Gift::Nothing, 0, code)
 }
@@ -39,117 +104,17 @@ fn parts_with(
     routine: u32,
     code: &[Instr],
 ) -> Result<Parts, AllocError> {
-    Ok(Parts {
-        records: Vec::new(alloc),
-        items: Vec::new(alloc),
-        sets: Vec::new(alloc),
-        order: Vec::new(alloc),
-        constants: Vec::from_slice(alloc, &[0, 1, 10, 11])?,
-        limits: Vec::from_slice(alloc, &[1])?,
-        texts: texts_of(alloc)?,
-        globals: globals_of(alloc)?,
-        arrays: arrays_of(alloc)?,
-        messages: messages_of(alloc)?,
-        routines: routines_of(alloc, ambient, gives, code.len())?,
-        events: events_of(alloc, routine)?,
-        code: Vec::from_slice(alloc, code)?,
-    })
-}
-
-fn texts_of(alloc: Global) -> Result<Vec<String>, AllocError> {
-    let mut texts = Vec::new(alloc);
-    texts.push(String::from_str(alloc, "A")?)?;
-    texts.push(String::from_str(alloc, "A ")?)?;
-    Ok(texts)
-}
-
-fn globals_of(alloc: Global) -> Result<Vec<GlobalVariable>, AllocError> {
-    let globals = [
-        GlobalVariable {
-            kind: GlobalKind::Number,
-            length: 0,
-        },
-        GlobalVariable {
-            kind: GlobalKind::Text,
-            length: 3,
-        },
-    ];
-    Vec::from_slice(alloc, &globals)
-}
-
-fn arrays_of(alloc: Global) -> Result<Vec<Array>, AllocError> {
-    let mut arrays = Vec::new(alloc);
-    arrays.push(Array {
-        saved: false,
-        dimensions: Vec::from_slice(alloc, &[2, 2])?,
-        name: String::from_str(alloc, "CELLS")?,
-        cells: Vec::from_slice(alloc, &[7])?,
-    })?;
-    Ok(arrays)
-}
-
-/// The application's preproc, which is a routine.
-fn events_of(alloc: Global, routine: u32) -> Result<Vec<EventEntry>, AllocError> {
-    let first = EventEntry {
-        code: EventCode::ApplicationPreproc,
-        index: 0,
-        routine,
-    };
-    Vec::from_slice(alloc, &[first])
-}
-
-fn messages_of(alloc: Global) -> Result<Vec<Message>, AllocError> {
-    let mut messages = Vec::new(alloc);
-    for text in ["yes", "no", "100%%"] {
-        let text = String::from_str(alloc, text)?;
-        messages.push(Message {
-            number: 0,
-            summary: false,
-            text,
-        })?;
-    }
-    let text = String::from_str(alloc, "counted")?;
-    messages.push(Message {
-        number: 9,
-        summary: true,
-        text,
-    })?;
-    let text = String::from_str(alloc, "%d")?;
-    messages.push(Message {
-        number: 0,
-        summary: false,
-        text,
-    })?;
-    Ok(messages)
-}
-
-fn routines_of(
-    alloc: Global,
-    ambient: Ambient,
-    gives: Gift,
-    instructions: usize,
-) -> Result<Vec<Routine>, AllocError> {
-    let locals = [
-        Local {
-            kind: LocalKind::Number,
-            owner: 0,
-            length: 0,
-        },
-        Local {
-            kind: LocalKind::Text,
-            owner: 0,
-            length: 3,
-        },
-    ];
-    let mut routines = Vec::new(alloc);
-    routines.push(Routine {
+    let head = Head {
         ambient,
         gives,
         parameters: 0,
-        locals: Vec::from_slice(alloc, &locals)?,
-        instructions: u32::try_from(instructions).unwrap_or(0),
-    })?;
-    Ok(routines)
+        locals: LOCALS,
+    };
+    let mut parts = outline::parts_of(alloc, &BESIDE)?;
+    parts.limits.push(1)?;
+    add_routine(alloc, &mut parts, &head, code)?;
+    add_event(&mut parts, EventCode::ApplicationPreproc, 0, routine)?;
+    Ok(parts)
 }
 
 pub fn instr(op: Op, a: u8, b: u16, c: u32) -> Instr {
@@ -204,44 +169,11 @@ fn says_hello(rt: HostRuntime) -> Result<(), Fail> {
 
 /// The parts of `HELLO`.
 fn hello_parts(alloc: Global) -> Result<Parts, AllocError> {
-    let code = [instr(Op::Message, 0, 0, 0), instr(Op::Return, 0, 0, 0)];
-    Ok(Parts {
-        records: Vec::new(alloc),
-        items: Vec::new(alloc),
-        sets: Vec::new(alloc),
-        order: Vec::new(alloc),
-        constants: Vec::new(alloc),
-        limits: Vec::new(alloc),
-        texts: Vec::new(alloc),
-        globals: Vec::new(alloc),
-        arrays: Vec::new(alloc),
-        messages: hello_messages(alloc)?,
-        routines: hello_routines(alloc)?,
-        events: events_of(alloc, 0)?,
-        code: Vec::from_slice(alloc, &code)?,
-    })
-}
-
-fn hello_messages(alloc: Global) -> Result<Vec<Message>, AllocError> {
-    let mut messages = Vec::new(alloc);
-    messages.push(Message {
-        number: 0,
-        summary: false,
-        text: String::from_str(alloc, "Hi")?,
-    })?;
-    Ok(messages)
-}
-
-fn hello_routines(alloc: Global) -> Result<Vec<Routine>, AllocError> {
-    let mut routines = Vec::new(alloc);
-    routines.push(Routine {
-        ambient: Ambient::Run,
-        gives: Gift::Nothing,
-        parameters: 0,
-        locals: Vec::new(alloc),
-        instructions: 2,
-    })?;
-    Ok(routines)
+    let mut parts = no_parts(alloc);
+    add_message(alloc, &mut parts, 0, false, "Hi")?;
+    add_routine(alloc, &mut parts, &PLAIN, &says_yes())?;
+    add_event(&mut parts, EventCode::ApplicationPreproc, 0, 0)?;
+    Ok(parts)
 }
 
 /// `HELLO` in version 2 of the format, which has a table of limits.
@@ -310,54 +242,24 @@ fn refuses_events(rt: HostRuntime) -> Result<(), Fail> {
     Ok(())
 }
 
-/// A writer that fails at a call, counted down, and takes at most so many bytes in a call.
-struct Failing {
-    calls: usize,
-    most: usize,
-    taken: Vec<u8>,
-}
-
-impl io::Write for Failing {
-    fn write(&mut self, bytes: &[u8]) -> io::Result<usize> {
-        if self.calls == 0 {
-            return Err(io::Error::from(io::ErrorKind::Other));
-        }
-        self.calls -= 1;
-        let count = bytes.len().min(self.most);
-        self.taken.extend_from_slice(&bytes[..count])?;
-        Ok(count)
-    }
-
-    fn flush(&mut self) -> io::Result<()> {
-        Ok(())
-    }
-}
-
+/// What is told by a writer that takes at most so many bytes in a call, and fails at a call; and what it took.
 #[test]
 fn tells_failed_writes(rt: HostRuntime) -> Result<(), Fail> {
     let alloc = rt.alloc();
+    let text = b"Hi\n2 steps\n".as_slice();
     for most in 0..3 {
-        for calls in 0..20 {
-            let mut out = Writes::new(Failing {
-                calls,
-                most,
-                taken: Vec::new(alloc),
-            });
+        for fails_at in 0..20 {
+            let mut out = Writes::new(Slow::new(alloc, most, fails_at, 0));
             let result = try_to(alloc, &HELLO, &mut out);
-            let Failing {
-                calls: left,
-                most: _,
-                taken,
-            } = out.into_inner();
-            let text = b"Hi\n2 steps\n".as_slice();
+            let writer: Slow = out.into_inner();
             match result {
                 Ok(steps) => {
                     assert_eq!(rt; steps, 2);
-                    assert_eq!(rt; taken.as_slice(), text);
+                    assert_eq!(rt; writer.taken(), text);
                 }
                 Err(TryFault::Write) => {
-                    assert!(rt; most == 0 || left == 0);
-                    assert!(rt; text.starts_with(&taken));
+                    assert!(rt; most == 0 || fails_at > 0);
+                    assert!(rt; text.starts_with(writer.taken()));
                 }
                 Err(_) => assert!(rt; false),
             }

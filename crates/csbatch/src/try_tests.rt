@@ -2,9 +2,10 @@
 
 use crate::tests::printed_of;
 use crate::verify_tests::{
-    CALLS, CALLS_ITSELF, EMPTY, FIRST, GREATEST, GREETS, Line, Made, RUN, RUN_SECOND, SUM, THREE,
-    YOU, image_of,
+    CALLS, CALLS_ITSELF, EMPTY, FIRST, GREATEST, GREETS, Made, RUN, RUN_SECOND, SUM, THREE, YOU,
+    image_of,
 };
+use cse_fixtures::outline::Line;
 use cse_image::{Ambient, Gift, Op};
 use std::test::Fail;
 

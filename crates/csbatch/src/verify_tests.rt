@@ -3,10 +3,11 @@
 use crate::fault::{Fault, fault_line};
 use crate::verify_image::{VerifyFault, verify_to};
 use cse_dict::Dictionary;
-use cse_image::{
-    Ambient, Array, EventCode, EventEntry, Gift, Instr, Local, LocalKind, Message, Op, Parts,
-    Program, Routine, write_image,
+use cse_fixtures::outline::{
+    self, ArrayOutline, Line, MessageOutline, NOTHING, Outline, add_shape,
 };
+use cse_fixtures::pieces::{Head, add_event, add_lines};
+use cse_image::{Ambient, EventCode, Gift, Local, LocalKind, Op, Parts, Program, write_image};
 use cse_value::Writes;
 use std::alloc::{AllocError, Global};
 use std::test::Fail;
@@ -34,9 +35,6 @@ const SHORTER: &[u8] = b"[Dictionary]\nName=SAMPLE_DICT\nRecordTypeStart=1\nReco
 
 /// A second level, in line 5.
 const TWO_LEVELS: &[u8] = b"[Dictionary]\nName=D\n[Level]\nName=A\n[Level]\nName=B\n";
-
-/// An instruction: its opcode and its fields a, b and c.
-pub type Line = (Op, u8, u16, u32);
 
 /// A routine: its ambient, its gift, whether it takes an occurrence of record 0, its code.
 pub type Part = (Ambient, Gift, bool, &'static [Line]);
@@ -257,117 +255,63 @@ const LIMITS: [u32; 11] = [
     10, 3, 999999, 999999997, 999999995, 999999996, 10000, 9999, 9997, 9996, 9993,
 ];
 
-fn code_of(alloc: Global, routines: &[Part]) -> Result<Vec<Instr>, AllocError> {
-    let mut code = Vec::new(alloc);
-    for (_, _, _, lines) in routines {
-        add_code(&mut code, lines)?;
-    }
-    Ok(code)
-}
+/// An occurrence of record 0.
+const PERSON: &[Local] = &[Local {
+    kind: LocalKind::Occurrence,
+    owner: 0,
+    length: 0,
+}];
 
-fn add_code(code: &mut Vec<Instr>, lines: &[Line]) -> Result<(), AllocError> {
-    for (op, a, b, c) in lines {
-        code.push(Instr {
-            op: *op,
-            a: *a,
-            b: *b,
-            c: *c,
-        })?;
-    }
-    Ok(())
-}
-
-fn routine_of(alloc: Global, part: &Part) -> Result<Routine, AllocError> {
+fn add_part(alloc: Global, parts: &mut Parts, part: &Part) -> Result<(), AllocError> {
     let (ambient, gives, takes, lines) = *part;
-    let mut locals = Vec::new(alloc);
-    if takes {
-        locals.push(Local {
-            kind: LocalKind::Occurrence,
-            owner: 0,
-            length: 0,
-        })?;
-    }
-    Ok(Routine {
+    let head = Head {
         ambient,
         gives,
         parameters: u8::from(takes),
-        locals,
-        instructions: u32::try_from(lines.len()).unwrap_or(0),
-    })
+        locals: if takes { PERSON } else { &[] },
+    };
+    add_lines(alloc, parts, &head, lines)
 }
 
-fn routines_of(alloc: Global, parts: &[Part]) -> Result<Vec<Routine>, AllocError> {
-    let mut routines = Vec::new(alloc);
-    for part in parts {
-        routines.push(routine_of(alloc, part)?)?;
-    }
-    Ok(routines)
-}
-
-fn events_of(alloc: Global, events: &[When]) -> Result<Vec<EventEntry>, AllocError> {
-    let mut entries = Vec::new(alloc);
-    for (code, index, routine) in events {
-        entries.push(EventEntry {
-            code: *code,
-            index: *index,
-            routine: *routine,
-        })?;
-    }
-    Ok(entries)
-}
-
-fn array_of(alloc: Global, name: &str, dimensions: &[u16]) -> Result<Array, AllocError> {
-    Ok(Array {
-        saved: true,
-        dimensions: Vec::from_slice(alloc, dimensions)?,
-        name: String::from_str(alloc, name)?,
-        cells: Vec::new(alloc),
-    })
-}
-
-/// A deck by sex and relation, and an array of four cells.
-fn arrays_of(alloc: Global) -> Result<Vec<Array>, AllocError> {
-    let mut arrays = Vec::new(alloc);
-    arrays.push(array_of(alloc, "AGE_HD", &[2, 4])?)?;
-    arrays.push(array_of(alloc, "FOUR", &[4])?)?;
-    Ok(arrays)
-}
-
-fn messages_of(alloc: Global) -> Result<Vec<Message>, AllocError> {
-    let mut messages = Vec::new(alloc);
-    messages.push(Message {
+/// A text, a deck by sex and relation and an array of four cells, a message.
+const BESIDE: Outline<'static> = Outline {
+    constants: &[10, 2, 3, 1, 0],
+    texts: &["you"],
+    arrays: &[
+        ArrayOutline {
+            saved: true,
+            name: "AGE_HD",
+            dimensions: &[2, 4],
+            cells: &[],
+        },
+        ArrayOutline {
+            saved: true,
+            name: "FOUR",
+            dimensions: &[4],
+            cells: &[],
+        },
+    ],
+    messages: &[MessageOutline {
         number: 0,
         summary: false,
-        text: String::from_str(alloc, "Hi %s")?,
-    })?;
-    Ok(messages)
-}
+        text: "Hi %s",
+    }],
+    ..NOTHING
+};
 
 /// The parts of a program that was made for a dictionary.
 fn parts_of(alloc: Global, dict: &Dictionary, made: &Made) -> Result<Parts, AllocError> {
     let (_, routines, events, _) = *made;
-    let shape = dict.shape();
-    let mut order = Vec::new(alloc);
-    if !shape.records.is_empty() {
-        order.push(0)?;
+    let mut parts = outline::parts_of(alloc, &BESIDE)?;
+    add_shape(&mut parts, dict.shape())?;
+    parts.limits.extend_from_slice(&LIMITS)?;
+    for part in routines {
+        add_part(alloc, &mut parts, part)?;
     }
-    let mut texts = Vec::new(alloc);
-    texts.push(String::from_str(alloc, "you")?)?;
-    Ok(Parts {
-        records: Vec::from_slice(alloc, &shape.records)?,
-        items: Vec::from_slice(alloc, &shape.items)?,
-        sets: Vec::from_slice(alloc, &shape.sets)?,
-        order,
-        constants: Vec::from_slice(alloc, &[10, 2, 3, 1, 0])?,
-        limits: Vec::from_slice(alloc, &LIMITS)?,
-        texts,
-        globals: Vec::new(alloc),
-        arrays: arrays_of(alloc)?,
-        messages: messages_of(alloc)?,
-        routines: routines_of(alloc, routines)?,
-        events: events_of(alloc, events)?,
-        code: code_of(alloc, routines)?,
-    })
+    for (code, index, routine) in events {
+        add_event(&mut parts, *code, *index, *routine)?;
+    }
+    Ok(parts)
 }
 
 pub fn image_of(alloc: Global, made: &Made) -> Result<Vec<u8>, Fail> {

@@ -1,7 +1,8 @@
 //! Times of saving and loading hot decks.
 
 use cse_decks::{load, save};
-use cse_image::{Array, Parts, Program};
+use cse_fixtures::pieces::{add_array, no_parts};
+use cse_image::Program;
 use cse_value::{Num, Writes, show_num};
 use std::alloc::{AllocError, Global};
 use std::fmt::Debug;
@@ -17,27 +18,8 @@ const CELLS: u32 = 1_000_000;
 
 /// A program with one saved array of 1,000,000 cells.
 fn program(alloc: Global) -> Result<Option<Program>, AllocError> {
-    let array = Array {
-        saved: true,
-        dimensions: Vec::from_slice(alloc, &[SIDE, SIDE])?,
-        name: String::from_str(alloc, "AGE_HD")?,
-        cells: Vec::new(alloc),
-    };
-    let parts = Parts {
-        records: Vec::new(alloc),
-        items: Vec::new(alloc),
-        sets: Vec::new(alloc),
-        order: Vec::new(alloc),
-        constants: Vec::new(alloc),
-        limits: Vec::new(alloc),
-        texts: Vec::new(alloc),
-        globals: Vec::new(alloc),
-        arrays: vec![in alloc; array]?,
-        messages: Vec::new(alloc),
-        routines: Vec::new(alloc),
-        events: Vec::new(alloc),
-        code: Vec::new(alloc),
-    };
+    let mut parts = no_parts(alloc);
+    add_array(alloc, &mut parts, true, "AGE_HD", &[SIDE, SIDE])?;
     Ok(Program::from_parts(parts))
 }
 

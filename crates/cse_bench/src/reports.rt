@@ -1,6 +1,7 @@
 //! Times of messages listed.
 
-use cse_image::{Message, Parts, Program};
+use cse_fixtures::pieces::{add_message, no_parts};
+use cse_image::Program;
 use cse_report::{Arg, Reports};
 use cse_value::{Num, Writes};
 use std::alloc::{AllocError, Global};
@@ -30,28 +31,9 @@ impl io::Write for Counting {
 
 /// The program of a message with two numbers.
 fn program_of(alloc: Global) -> Result<Option<Program>, AllocError> {
-    let message = Message {
-        number: 0,
-        summary: false,
-        text: String::from_str(alloc, "persons %d of age %3d")?,
-    };
-    let mut messages = Vec::new(alloc);
-    messages.push(message)?;
-    Ok(Program::from_parts(Parts {
-        records: Vec::new(alloc),
-        items: Vec::new(alloc),
-        sets: Vec::new(alloc),
-        order: Vec::new(alloc),
-        constants: Vec::new(alloc),
-        limits: Vec::new(alloc),
-        texts: Vec::new(alloc),
-        globals: Vec::new(alloc),
-        arrays: Vec::new(alloc),
-        messages,
-        routines: Vec::new(alloc),
-        events: Vec::new(alloc),
-        code: Vec::new(alloc),
-    }))
+    let mut parts = no_parts(alloc);
+    add_message(alloc, &mut parts, 0, false, "persons %d of age %3d")?;
+    Ok(Program::from_parts(parts))
 }
 
 fn numbers(k: i64) -> [Arg; 2] {

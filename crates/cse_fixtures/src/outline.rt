@@ -1,8 +1,7 @@
 //! Programs as slices, and the parts that they describe.
 
-use cse_parts::entries::{
-    Ambient, Array, EventEntry, Gift, GlobalVariable, Local, Message, Parts, Routine,
-};
+use crate::pieces::{add_message, no_parts};
+use cse_parts::entries::{Ambient, Array, EventEntry, Gift, GlobalVariable, Local, Parts, Routine};
 use cse_parts::instruction::{Instr, Op};
 use cse_value::shape::Shape;
 use std::alloc::{AllocError, Global};
@@ -61,25 +60,6 @@ pub const NOTHING: Outline<'static> = Outline {
     events: &[],
 };
 
-/// No parts.
-fn no_parts(alloc: Global) -> Parts {
-    Parts {
-        records: Vec::new(alloc),
-        items: Vec::new(alloc),
-        sets: Vec::new(alloc),
-        order: Vec::new(alloc),
-        constants: Vec::new(alloc),
-        limits: Vec::new(alloc),
-        texts: Vec::new(alloc),
-        globals: Vec::new(alloc),
-        arrays: Vec::new(alloc),
-        messages: Vec::new(alloc),
-        routines: Vec::new(alloc),
-        events: Vec::new(alloc),
-        code: Vec::new(alloc),
-    }
-}
-
 fn add_values(parts: &mut Parts, outline: &Outline<'_>) -> Result<(), AllocError> {
     parts.constants.extend_from_slice(outline.constants)?;
     parts.globals.extend_from_slice(outline.globals)?;
@@ -122,15 +102,11 @@ fn add_arrays(
 
 fn add_messages(
     alloc: Global,
-    messages: &mut Vec<Message>,
+    parts: &mut Parts,
     from: &[MessageOutline],
 ) -> Result<(), AllocError> {
     for message in from {
-        messages.push(Message {
-            number: message.number,
-            summary: message.summary,
-            text: String::from_str(alloc, message.text)?,
-        })?;
+        add_message(alloc, parts, message.number, message.summary, message.text)?;
     }
     Ok(())
 }
@@ -195,7 +171,7 @@ pub fn parts_of(alloc: Global, outline: &Outline<'_>) -> Result<Parts, AllocErro
     add_values(&mut parts, outline)?;
     add_texts(alloc, &mut parts.texts, outline.texts)?;
     add_arrays(alloc, &mut parts.arrays, outline.arrays)?;
-    add_messages(alloc, &mut parts.messages, outline.messages)?;
+    add_messages(alloc, &mut parts, outline.messages)?;
     add_heads(alloc, &mut parts.routines, outline.routines)?;
     add_codes(&mut parts.code, &mut parts.limits, outline.routines)?;
     Ok(parts)

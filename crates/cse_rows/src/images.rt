@@ -1,6 +1,7 @@
 //! Worked images of both versions, and for each rule of the format bytes that break it, with the number
 //! and the place. Tables are gone through by one function each.
 
+use cse_fixtures::pieces::{PLAIN, add_event, add_message, add_routine, no_parts};
 use cse_image::*;
 use std::alloc::Global;
 use std::test::*;
@@ -387,38 +388,16 @@ fn plain(op: Op) -> Instr {
 }
 
 fn hello(alloc: Global) -> Result<Parts, Fail> {
-    let message = Message {
-        number: 0,
-        summary: false,
-        text: String::from_str(alloc, "Hi")?,
-    };
-    let routine = Routine {
-        ambient: Ambient::Run,
-        gives: Gift::Nothing,
-        parameters: 0,
-        locals: Vec::new(alloc),
-        instructions: 2,
-    };
-    let event = EventEntry {
-        code: EventCode::ApplicationPreproc,
-        index: 0,
-        routine: 0,
-    };
-    Ok(Parts {
-        records: Vec::new(alloc),
-        items: Vec::new(alloc),
-        sets: Vec::new(alloc),
-        order: Vec::new(alloc),
-        constants: Vec::new(alloc),
-        limits: Vec::new(alloc),
-        texts: Vec::new(alloc),
-        globals: Vec::new(alloc),
-        arrays: Vec::new(alloc),
-        messages: vec![in alloc; message]?,
-        routines: vec![in alloc; routine]?,
-        events: vec![in alloc; event]?,
-        code: vec![in alloc; plain(Op::Message), plain(Op::Return)]?,
-    })
+    let mut parts = no_parts(alloc);
+    add_message(alloc, &mut parts, 0, false, "Hi")?;
+    add_routine(
+        alloc,
+        &mut parts,
+        &PLAIN,
+        &[plain(Op::Message), plain(Op::Return)],
+    )?;
+    add_event(&mut parts, EventCode::ApplicationPreproc, 0, 0)?;
+    Ok(parts)
 }
 
 #[test]

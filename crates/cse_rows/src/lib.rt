@@ -4,11 +4,18 @@
 //! - `dictionaries`: dictionaries, and the first fault of those that are none.
 //! - `images`: images of both versions, and bytes that break a rule.
 //! - `typings`, `events`, `programs`, `opcodes`: programs that may run, and those that may not.
+//! - `answers`, `bounds`, `chains`, `limits`, `shapes`: what the verifier tells of programs.
 //! - `syntax`: logic, and the first fault of what is none.
 //! - `files`: message and order files.
 //! - `checks`, `logic`: names and kinds of logic.
 #![tactic(auto)]
 
+#[cfg(test)]
+mod answers;
+#[cfg(test)]
+mod bounds;
+#[cfg(test)]
+mod chains;
 #[cfg(test)]
 mod checks;
 #[cfg(test)]
@@ -19,11 +26,15 @@ mod events;
 mod files;
 #[cfg(test)]
 mod images;
+#[cfg(test)]
+mod limits;
 pub mod logic;
 #[cfg(test)]
 mod opcodes;
 #[cfg(test)]
 mod programs;
+#[cfg(test)]
+mod shapes;
 #[cfg(test)]
 mod syntax;
 #[cfg(test)]

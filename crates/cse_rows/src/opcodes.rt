@@ -1,10 +1,8 @@
 //! For each instruction code that may run, and code that may not.
 
+use cse_fixtures::outline::Line;
 use cse_image::Op;
 use cse_typing::NONE;
-
-/// An instruction: its opcode and its fields a, b and c.
-pub type Line = (Op, u8, u16, u32);
 
 pub const NUMBER: Line = (Op::Number, 0, 0, 0);
 

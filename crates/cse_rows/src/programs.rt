@@ -1,26 +1,13 @@
 //! A table of programs: for each instruction one that may run and one that may not.
 
-use crate::opcodes::{Line, NUMBER, RETURN, ROWS};
-use cse_image::{
-    Ambient, Array, Gift, GlobalKind, GlobalVariable, Instr, Local, LocalKind, Message, Op, Parts,
-    Program, Routine,
-};
+use crate::opcodes::{NUMBER, RETURN, ROWS};
+use cse_fixtures::outline::{self, ArrayOutline, Line, MessageOutline, NOTHING, Outline};
+use cse_fixtures::pieces::{Head, PLAIN, add_instructions, add_lines, add_routine};
+use cse_image::{Ambient, Gift, GlobalKind, GlobalVariable, Local, LocalKind, Op, Parts, Program};
 use cse_typing::{NONE, typed};
 use cse_value::shape::{ID_OWNER, ItemKind, ItemShape, RecordShape, SetShape, Shape};
 use std::alloc::{AllocError, Global};
 use std::test::Fail;
-
-fn push_code(code: &mut Vec<Instr>, lines: &[Line]) -> Result<(), AllocError> {
-    for (op, a, b, c) in lines {
-        code.push(Instr {
-            op: *op,
-            a: *a,
-            b: *b,
-            c: *c,
-        })?;
-    }
-    Ok(())
-}
 
 fn item(owner: u8, kind: ItemKind) -> ItemShape {
     ItemShape {
@@ -36,14 +23,6 @@ fn set(item: u16, partial: bool) -> SetShape {
         item,
         rows: 4,
         partial,
-    }
-}
-
-fn local(kind: LocalKind, length: u16) -> Local {
-    Local {
-        kind,
-        owner: 0,
-        length,
     }
 }
 
@@ -69,86 +48,114 @@ pub fn shape_of(alloc: Global) -> Result<Shape, AllocError> {
     })
 }
 
-fn routine(
-    ambient: Ambient,
-    gives: Gift,
-    parameters: u8,
-    locals: Vec<Local>,
-    size: usize,
-) -> Routine {
-    Routine {
-        ambient,
-        gives,
-        parameters,
-        locals,
-        instructions: u32::try_from(size).unwrap_or(0),
-    }
-}
+const NUMBER_LOCAL: Local = Local {
+    kind: LocalKind::Number,
+    owner: 0,
+    length: 0,
+};
+
+const TEXT_LOCAL: Local = Local {
+    kind: LocalKind::Text,
+    owner: 0,
+    length: 3,
+};
+
+const OCCURRENCE: Local = Local {
+    kind: LocalKind::Occurrence,
+    owner: 0,
+    length: 0,
+};
+
+/// A routine of the whole run with a number and a text, which gives a number.
+const GIVES: Head<'static> = Head {
+    ambient: Ambient::Run,
+    gives: Gift::Number,
+    parameters: 2,
+    locals: &[NUMBER_LOCAL, TEXT_LOCAL],
+};
+
+/// A routine of a case with an occurrence.
+const OF_PERSON: Head<'static> = Head {
+    ambient: Ambient::Case,
+    gives: Gift::Nothing,
+    parameters: 1,
+    locals: &[OCCURRENCE],
+};
+
+/// A routine of a case without parameters.
+const OF_CASE: Head<'static> = Head {
+    ambient: Ambient::Case,
+    gives: Gift::Nothing,
+    parameters: 0,
+    locals: &[],
+};
 
 /// Routine 0 takes a number and a text and gives a number; 1 takes an occurrence; 2 is the one that
 /// is looked at; 3 is one of the whole run, and 4 one of the case.
-fn routines_of(alloc: Global, ambient: Ambient, size: usize) -> Result<Vec<Routine>, AllocError> {
-    let number = local(LocalKind::Number, 0);
-    let text = local(LocalKind::Text, 3);
-    let occurrence = local(LocalKind::Occurrence, 0);
-    let mut routines = Vec::new(alloc);
-    let pair = Vec::from_slice(alloc, &[number, text])?;
-    routines.push(routine(Ambient::Run, Gift::Number, 2, pair, 2))?;
-    let one = Vec::from_slice(alloc, &[occurrence])?;
-    routines.push(routine(Ambient::Case, Gift::Nothing, 1, one, 1))?;
-    let three = Vec::from_slice(alloc, &[occurrence, number, text])?;
-    routines.push(routine(ambient, Gift::Nothing, 1, three, size))?;
-    routines.push(routine(Ambient::Run, Gift::Nothing, 0, Vec::new(alloc), 1))?;
-    routines.push(routine(Ambient::Case, Gift::Nothing, 0, Vec::new(alloc), 1))?;
-    Ok(routines)
+fn add_routines(
+    alloc: Global,
+    parts: &mut Parts,
+    ambient: Ambient,
+    lines: &[Line],
+) -> Result<(), AllocError> {
+    let looked_at = Head {
+        ambient,
+        gives: Gift::Nothing,
+        parameters: 1,
+        locals: &[OCCURRENCE, NUMBER_LOCAL, TEXT_LOCAL],
+    };
+    let mut code = Vec::new(alloc);
+    add_instructions(&mut code, lines)?;
+    add_instructions(&mut code, &[RETURN])?;
+    add_lines(alloc, parts, &GIVES, &[NUMBER, RETURN])?;
+    add_lines(alloc, parts, &OF_PERSON, &[RETURN])?;
+    add_routine(alloc, parts, &looked_at, &code)?;
+    add_lines(alloc, parts, &PLAIN, &[RETURN])?;
+    add_lines(alloc, parts, &OF_CASE, &[RETURN])
 }
 
-fn array_of(alloc: Global) -> Result<Array, AllocError> {
-    Ok(Array {
-        saved: false,
-        dimensions: Vec::from_slice(alloc, &[4])?,
-        name: String::from_str(alloc, "CELLS")?,
-        cells: Vec::new(alloc),
-    })
-}
+/// An array of 4 cells.
+pub const CELLS: ArrayOutline = ArrayOutline {
+    saved: false,
+    name: "CELLS",
+    dimensions: &[4],
+    cells: &[],
+};
 
-fn global(kind: GlobalKind, length: u16) -> GlobalVariable {
-    GlobalVariable { kind, length }
-}
+/// What stands beside the routines: a constant, a text, a number and a text as globals, an array, a message.
+const BESIDE: Outline<'static> = Outline {
+    constants: &[1],
+    texts: &["A"],
+    globals: &[
+        GlobalVariable {
+            kind: GlobalKind::Number,
+            length: 0,
+        },
+        GlobalVariable {
+            kind: GlobalKind::Text,
+            length: 3,
+        },
+    ],
+    arrays: &[CELLS],
+    messages: &[MessageOutline {
+        number: 0,
+        summary: false,
+        text: "%d of %s",
+    }],
+    ..NOTHING
+};
 
 /// A program whose routine 2 has this code, and a return behind it.
 pub fn parts_of(alloc: Global, ambient: Ambient, lines: &[Line]) -> Result<Parts, AllocError> {
+    let mut parts = outline::parts_of(alloc, &BESIDE)?;
     let shape = shape_of(alloc)?;
-    let mut texts = Vec::new(alloc);
-    texts.push(String::from_str(alloc, "A")?)?;
-    let mut arrays = Vec::new(alloc);
-    arrays.push(array_of(alloc)?)?;
-    let mut messages = Vec::new(alloc);
-    messages.push(Message {
-        number: 0,
-        summary: false,
-        text: String::from_str(alloc, "%d of %s")?,
-    })?;
-    let mut code = Vec::new(alloc);
-    push_code(&mut code, &[NUMBER, RETURN, RETURN])?;
-    push_code(&mut code, lines)?;
-    push_code(&mut code, &[RETURN, RETURN, RETURN])?;
-    let globals = [global(GlobalKind::Number, 0), global(GlobalKind::Text, 3)];
-    Ok(Parts {
-        records: shape.records,
-        items: shape.items,
-        sets: shape.sets,
-        order: Vec::from_slice(alloc, &[1, 0])?,
-        constants: Vec::from_slice(alloc, &[1])?,
-        limits: Vec::from_slice(alloc, &[1, 2, 3, 4])?,
-        texts,
-        globals: Vec::from_slice(alloc, &globals)?,
-        arrays,
-        messages,
-        routines: routines_of(alloc, ambient, lines.len().saturating_add(1))?,
-        events: Vec::new(alloc),
-        code,
-    })
+    parts.records.extend_from_slice(&shape.records)?;
+    parts.items.extend_from_slice(&shape.items)?;
+    parts.sets.extend_from_slice(&shape.sets)?;
+    parts.order.extend_from_slice(&[1, 0])?;
+    parts.limits.extend_from_slice(&[1, 2, 3, 4])?;
+    add_routines(alloc, &mut parts, ambient, lines)?;
+    Ok(parts)
 }
 
 /// What is said of a program: zeros, or the number, the routine and the place.

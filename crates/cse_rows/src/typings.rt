@@ -1,66 +1,35 @@
 //! Worked programs, and why they may not run.
 
-use cse_image::{Ambient, Array, EventCode, EventEntry, Gift, Instr, Op, Parts, Program, Routine};
+use crate::programs::CELLS;
+use cse_fixtures::outline::{self, Line, NOTHING, Outline};
+use cse_fixtures::pieces::{PLAIN, add_event, add_instructions, add_routine};
+use cse_image::{Ambient, EventCode, EventEntry, Gift, Instr, Op, Parts, Program};
 use cse_typing::{NONE, Refusal, check_jumps_and_brackets, typed};
 use cse_value::shape::{RecordShape, Shape};
 use std::alloc::{AllocError, Global};
 use std::test::Fail;
 
-/// An instruction: its opcode and its fields a, b and c.
-type Line = (Op, u8, u16, u32);
-
 fn code_of(alloc: Global, lines: &[Line]) -> Result<Vec<Instr>, AllocError> {
     let mut code = Vec::new(alloc);
-    for (op, a, b, c) in lines {
-        code.push(Instr {
-            op: *op,
-            a: *a,
-            b: *b,
-            c: *c,
-        })?;
-    }
+    add_instructions(&mut code, lines)?;
     Ok(code)
 }
 
-/// One routine, the application's preproc, with a constant, a text and an array of 4 cells.
+/// A constant, a text and an array of 4 cells.
+const BESIDE: Outline<'static> = Outline {
+    constants: &[1],
+    texts: &["A"],
+    arrays: &[CELLS],
+    ..NOTHING
+};
+
+/// One routine, the application's preproc, with limits from 1 to 4 and what stands in `BESIDE`.
 fn parts_of(alloc: Global, code: Vec<Instr>) -> Result<Parts, AllocError> {
-    let mut texts = Vec::new(alloc);
-    texts.push(String::from_str(alloc, "A")?)?;
-    let mut arrays = Vec::new(alloc);
-    arrays.push(Array {
-        saved: false,
-        dimensions: Vec::from_slice(alloc, &[4])?,
-        name: String::from_str(alloc, "CELLS")?,
-        cells: Vec::new(alloc),
-    })?;
-    let mut routines = Vec::new(alloc);
-    routines.push(Routine {
-        ambient: Ambient::Run,
-        gives: Gift::Nothing,
-        parameters: 0,
-        locals: Vec::new(alloc),
-        instructions: u32::try_from(code.len()).unwrap_or(0),
-    })?;
-    let first = EventEntry {
-        code: EventCode::ApplicationPreproc,
-        index: 0,
-        routine: 0,
-    };
-    Ok(Parts {
-        records: Vec::new(alloc),
-        items: Vec::new(alloc),
-        sets: Vec::new(alloc),
-        order: Vec::new(alloc),
-        constants: Vec::from_slice(alloc, &[1])?,
-        limits: Vec::from_slice(alloc, &[1, 2, 3, 4])?,
-        texts,
-        globals: Vec::new(alloc),
-        arrays,
-        messages: Vec::new(alloc),
-        routines,
-        events: Vec::from_slice(alloc, &[first])?,
-        code,
-    })
+    let mut parts = outline::parts_of(alloc, &BESIDE)?;
+    parts.limits.extend_from_slice(&[1, 2, 3, 4])?;
+    add_routine(alloc, &mut parts, &PLAIN, &code)?;
+    add_event(&mut parts, EventCode::ApplicationPreproc, 0, 0)?;
+    Ok(parts)
 }
 
 /// What the numbers of an answer are: zeros, or the number, the routine and the place.

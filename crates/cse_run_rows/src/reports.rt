@@ -1,7 +1,8 @@
 //! Worked listings and frequencies.
 
 use cse_dict::{Dictionary, Unseen};
-use cse_image::{Message, Parts, Program};
+use cse_fixtures::pieces::{add_message, no_parts};
+use cse_image::Program;
 use cse_report::*;
 use cse_value::shape::Shape;
 use cse_value::{Num, OutOfMemory, Text, Writes};
@@ -17,52 +18,19 @@ pub const SEX: usize = 1;
 
 pub const AGE: usize = 3;
 
-/// A message of a number, whether it is only counted, and its text.
-fn message_of(
-    alloc: Global,
-    number: u32,
-    summary: bool,
-    text: &str,
-) -> Result<Message, AllocError> {
-    let text = String::from_str(alloc, text)?;
-    Ok(Message {
-        number,
-        summary,
-        text,
-    })
-}
-
-/// Messages of these numbers, which of them are only counted, and texts.
-fn messages_of(alloc: Global, messages: &[(u32, bool, &str)]) -> Result<Vec<Message>, AllocError> {
-    let mut made = Vec::new(alloc);
-    for (number, summary, text) in messages {
-        let message = message_of(alloc, *number, *summary, text)?;
-        made.push(message)?;
-    }
-    Ok(made)
-}
-
-/// The program of a shape and messages.
+/// The program of a shape and messages: their numbers, which of them are only counted, and texts.
 pub fn program_of(
     alloc: Global,
     shape: &Shape,
     messages: &[(u32, bool, &str)],
 ) -> Result<Option<Program>, AllocError> {
-    let parts = Parts {
-        records: Vec::from_slice(alloc, &shape.records)?,
-        items: Vec::from_slice(alloc, &shape.items)?,
-        sets: Vec::from_slice(alloc, &shape.sets)?,
-        order: Vec::new(alloc),
-        constants: Vec::new(alloc),
-        limits: Vec::new(alloc),
-        texts: Vec::new(alloc),
-        globals: Vec::new(alloc),
-        arrays: Vec::new(alloc),
-        messages: messages_of(alloc, messages)?,
-        routines: Vec::new(alloc),
-        events: Vec::new(alloc),
-        code: Vec::new(alloc),
-    };
+    let mut parts = no_parts(alloc);
+    parts.records.extend_from_slice(&shape.records)?;
+    parts.items.extend_from_slice(&shape.items)?;
+    parts.sets.extend_from_slice(&shape.sets)?;
+    for (number, summary, text) in messages {
+        add_message(alloc, &mut parts, *number, *summary, text)?;
+    }
     Ok(Program::from_parts(parts))
 }
 

@@ -8,6 +8,8 @@
 //! - `same_shape`: whether a program was made for a dictionary, without memory.
 //! - `code_start`, `code_starts`: where the code of a routine lies.
 //! - `routine_of`: which routine an event runs.
+//!
+//! Its tests are those of cse_rows.
 #![tactic(auto)]
 
 mod code;
@@ -28,14 +30,3 @@ pub use laws::{first_reason_is_one, upgrade_means_the_same};
 pub use shape::same_shape;
 pub use verified::Verified;
 pub use verifying::verify;
-
-#[cfg(test)]
-mod bound_tests;
-#[cfg(test)]
-mod chain_tests;
-#[cfg(test)]
-mod limit_tests;
-#[cfg(test)]
-mod tests;
-#[cfg(test)]
-mod worked;

@@ -1,56 +1,28 @@
 //! Worked programs: their jumps and brackets, and the dictionaries that they were made for.
 
-use crate::{check_jumps, same_shape};
 use cse_dict::Dictionary;
-use cse_image::{Ambient, EventCode, EventEntry, Gift, Instr, Op, Parts, Program, Routine};
+use cse_fixtures::outline::{self, Line, NOTHING, Outline};
+use cse_fixtures::pieces::{PLAIN, add_event, add_lines};
+use cse_image::{EventCode, Op, Parts, Program};
 use cse_value::shape::{ItemKind, ItemShape, RecordShape};
+use cse_verify::{check_jumps, same_shape};
 use std::alloc::{AllocError, Global};
 use std::test::Fail;
 
-/// An instruction: its opcode and its fields a, b and c.
-type Line = (Op, u8, u16, u32);
+/// A constant and a text.
+const BESIDE: Outline<'static> = Outline {
+    constants: &[1],
+    texts: &["A"],
+    ..NOTHING
+};
 
-/// One routine, the application's preproc, with a constant and a text.
+/// One routine, the application's preproc, with a limit of 3 and what stands in `BESIDE`.
 fn parts_of(alloc: Global, lines: &[Line]) -> Result<Parts, AllocError> {
-    let mut code = Vec::new(alloc);
-    for (op, a, b, c) in lines {
-        code.push(Instr {
-            op: *op,
-            a: *a,
-            b: *b,
-            c: *c,
-        })?;
-    }
-    let mut texts = Vec::new(alloc);
-    texts.push(String::from_str(alloc, "A")?)?;
-    let mut routines = Vec::new(alloc);
-    routines.push(Routine {
-        ambient: Ambient::Run,
-        gives: Gift::Nothing,
-        parameters: 0,
-        locals: Vec::new(alloc),
-        instructions: u32::try_from(code.len()).unwrap_or(0),
-    })?;
-    let first = EventEntry {
-        code: EventCode::ApplicationPreproc,
-        index: 0,
-        routine: 0,
-    };
-    Ok(Parts {
-        records: Vec::new(alloc),
-        items: Vec::new(alloc),
-        sets: Vec::new(alloc),
-        order: Vec::new(alloc),
-        constants: Vec::from_slice(alloc, &[1])?,
-        limits: Vec::from_slice(alloc, &[3])?,
-        texts,
-        globals: Vec::new(alloc),
-        arrays: Vec::new(alloc),
-        messages: Vec::new(alloc),
-        routines,
-        events: Vec::from_slice(alloc, &[first])?,
-        code,
-    })
+    let mut parts = outline::parts_of(alloc, &BESIDE)?;
+    parts.limits.push(3)?;
+    add_lines(alloc, &mut parts, &PLAIN, lines)?;
+    add_event(&mut parts, EventCode::ApplicationPreproc, 0, 0)?;
+    Ok(parts)
 }
 
 /// What the rules of jumps and brackets say of a routine with this code: zeros, or the number, the

@@ -1,12 +1,12 @@
 //! Programs for tests, and what the verifier tells of them.
 
-use crate::{Verified, verify};
 use cse_dict::Dictionary;
-use cse_image::{
-    Ambient, Array, EventCode, EventEntry, Gift, Instr, Local, LocalKind, Message, Op, Parts,
-    Program, Routine,
+use cse_fixtures::outline::{
+    self, ArrayOutline, Line, MessageOutline, NOTHING, Outline, add_shape,
 };
-use cse_value::shape::{ItemShape, RecordShape, SetShape, Shape};
+use cse_fixtures::pieces::{Head, add_lines};
+use cse_image::{Ambient, EventCode, EventEntry, Gift, Local, LocalKind, Parts, Program};
+use cse_verify::{Verified, verify};
 use std::alloc::{AllocError, Global};
 use std::test::Fail;
 
@@ -22,119 +22,43 @@ pub const PERSONS: &str = "[Dictionary]\nName=SAMPLE_DICT\nRecordTypeStart=1\nRe
 [ValueSet]\nName=REL_VS\nValue=1;Head\nValue=2;Spouse\nValue=3:8;Other\n\
 [Item]\nName=AGE\nStart=7\nLen=3\n[Item]\nName=WEIGHT\nStart=10\nLen=3\nDecimal=1\n";
 
-/// An instruction: its opcode and its fields a, b and c.
-pub type Line = (Op, u8, u16, u32);
-
 /// A routine: its ambient, what it gives, whether it has an occurrence of record 0, and its code.
 pub type Plan<'a> = (Ambient, Gift, bool, &'a [Line]);
 
 /// An occurrence of record 0.
-const PERSON: Local = Local {
+const PERSON: &[Local] = &[Local {
     kind: LocalKind::Occurrence,
     owner: 0,
     length: 0,
-};
+}];
 
-fn head_of(alloc: Global, plan: &Plan<'_>) -> Result<Routine, AllocError> {
-    let (ambient, gives, occurrence, lines) = plan;
-    let mut locals = Vec::new(alloc);
-    let mut parameters = 0;
-    if *occurrence {
-        locals.push(PERSON)?;
-        parameters = 1;
-    }
-    Ok(Routine {
-        ambient: *ambient,
-        gives: *gives,
-        parameters,
-        locals,
-        instructions: u32::try_from(lines.len()).unwrap_or(0),
-    })
-}
-
-fn heads_of(alloc: Global, plans: &[Plan<'_>]) -> Result<Vec<Routine>, AllocError> {
-    let mut heads = Vec::new(alloc);
-    for plan in plans {
-        heads.push(head_of(alloc, plan)?)?;
-    }
-    Ok(heads)
-}
-
-fn code_of(alloc: Global, plans: &[Plan<'_>]) -> Result<Vec<Instr>, AllocError> {
-    let mut code = Vec::new(alloc);
-    for plan in plans {
-        for (op, a, b, c) in plan.3 {
-            code.push(Instr {
-                op: *op,
-                a: *a,
-                b: *b,
-                c: *c,
-            })?;
-        }
-    }
-    Ok(code)
-}
-
-/// The records as they stand.
-fn order_of(alloc: Global, count: usize) -> Result<Vec<u32>, AllocError> {
-    let mut order = Vec::new(alloc);
-    for record in 0..count {
-        order.push(u32::try_from(record).unwrap_or(0))?;
-    }
-    Ok(order)
-}
-
-/// A deck of 2 by 4 cells.
-fn decks_of(alloc: Global) -> Result<Vec<Array>, AllocError> {
-    let deck = Array {
-        saved: true,
-        dimensions: Vec::from_slice(alloc, &[2, 4])?,
-        name: String::from_str(alloc, "AGE_HD")?,
-        cells: Vec::new(alloc),
+fn add_plan(alloc: Global, parts: &mut Parts, plan: &Plan<'_>) -> Result<(), AllocError> {
+    let (ambient, gives, occurrence, lines) = *plan;
+    let head = Head {
+        ambient,
+        gives,
+        parameters: u8::from(occurrence),
+        locals: if occurrence { PERSON } else { &[] },
     };
-    let mut decks = Vec::new(alloc);
-    decks.push(deck)?;
-    Ok(decks)
+    add_lines(alloc, parts, &head, lines)
 }
 
-fn messages_of(alloc: Global) -> Result<Vec<Message>, AllocError> {
-    let message = Message {
+/// Two constants, a deck of 2 by 4 cells and a message.
+const BESIDE: Outline<'static> = Outline {
+    constants: &[10, 2],
+    arrays: &[ArrayOutline {
+        saved: true,
+        name: "AGE_HD",
+        dimensions: &[2, 4],
+        cells: &[],
+    }],
+    messages: &[MessageOutline {
         number: 0,
         summary: false,
-        text: String::from_str(alloc, "Hi")?,
-    };
-    let mut messages = Vec::new(alloc);
-    messages.push(message)?;
-    Ok(messages)
-}
-
-type Shapes = (Vec<RecordShape>, Vec<ItemShape>, Vec<SetShape>);
-
-fn shapes_of(alloc: Global, shape: &Shape) -> Result<Shapes, AllocError> {
-    let records = Vec::from_slice(alloc, &shape.records)?;
-    let items = Vec::from_slice(alloc, &shape.items)?;
-    let sets = Vec::from_slice(alloc, &shape.sets)?;
-    Ok((records, items, sets))
-}
-
-type Others = (Vec<i64>, Vec<Array>, Vec<Message>);
-
-/// Two constants, a deck and a message.
-fn others_of(alloc: Global) -> Result<Others, AllocError> {
-    let constants = Vec::from_slice(alloc, &[10, 2])?;
-    let decks = decks_of(alloc)?;
-    let messages = messages_of(alloc)?;
-    Ok((constants, decks, messages))
-}
-
-type Codes = (Vec<Routine>, Vec<Instr>, Vec<EventEntry>);
-
-fn codes_of(alloc: Global, plans: &[Plan<'_>], events: &[EventEntry]) -> Result<Codes, AllocError> {
-    let heads = heads_of(alloc, plans)?;
-    let code = code_of(alloc, plans)?;
-    let events = Vec::from_slice(alloc, events)?;
-    Ok((heads, code, events))
-}
+        text: "Hi",
+    }],
+    ..NOTHING
+};
 
 /// The limits of counted loops.
 const LIMITS: [u32; 16] = [
@@ -149,26 +73,14 @@ pub fn parts_of(
     plans: &[Plan<'_>],
     events: &[EventEntry],
 ) -> Result<Parts, AllocError> {
-    let shape = dictionary.shape();
-    let order = order_of(alloc, shape.records.len())?;
-    let (records, items, sets) = shapes_of(alloc, shape)?;
-    let (constants, arrays, messages) = others_of(alloc)?;
-    let (routines, code, events) = codes_of(alloc, plans, events)?;
-    Ok(Parts {
-        records,
-        items,
-        sets,
-        order,
-        constants,
-        limits: Vec::from_slice(alloc, &LIMITS)?,
-        texts: Vec::new(alloc),
-        globals: Vec::new(alloc),
-        arrays,
-        messages,
-        routines,
-        events,
-        code,
-    })
+    let mut parts = outline::parts_of(alloc, &BESIDE)?;
+    add_shape(&mut parts, dictionary.shape())?;
+    parts.limits.extend_from_slice(&LIMITS)?;
+    for plan in plans {
+        add_plan(alloc, &mut parts, plan)?;
+    }
+    parts.events.extend_from_slice(events)?;
+    Ok(parts)
 }
 
 /// The steps of a routine, if it is there.

@@ -1,9 +1,10 @@
 //! Worked programs: how much they may take, and which are refused.
 
-use crate::verify;
-use crate::worked::{EMPTY, Line, PERSONS, parts_of, read, told_of, told_of_two};
+use crate::answers::{EMPTY, PERSONS, parts_of, read, told_of, told_of_two};
 use cse_dict::Dictionary;
+use cse_fixtures::outline::Line;
 use cse_image::{Ambient, EventCode, Gift, Op, Program};
+use cse_verify::verify;
 use std::alloc::Global;
 use std::test::Fail;
 
