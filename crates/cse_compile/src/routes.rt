@@ -1,12 +1,13 @@
 //! The routines of a typed source with their code, and the events that run them.
 
 ghost use Rattle.cse_parts.specs.Limits.{most_routines};
-ghost use Rattle.std.specs.Prelude.{◌≡◌, ◌≤◌, [], map, length, IfOk, IfErr};
+ghost use Rattle.std.specs.Prelude.{◌≡◌, ◌≤◌, [], ◌++◌, map, length, IfOk, IfErr};
 ghost use Rattle.cse_dict.specs.Dictionary.{shape_of};
 ghost use Rattle.cse_parts.specs.Image.{routine_lists};
 ghost use Rattle.cse_typed.specs.Typed.{tree as tree_view, declaration as declaration_view};
 ghost use Rattle.cse_emit.specs.Setting.{sizes_of};
 ghost use Rattle.cse_tables.specs.Outline as outline_spec;
+ghost use Rattle.cse_tables.specs.Outline.{functions_in};
 ghost use Rattle.cse_tables.specs.Events as events_spec;
 ghost use Rattle.cse_compile.specs.Stands.{AllStand};
 ghost use Rattle.cse_compile.specs.Pooled.{pools_in};
@@ -25,7 +26,7 @@ use cse_parts::limits::MOST_ROUTINES;
 use cse_tables::{Handler, Outline, event_table, function_outlines, handlers_of};
 use cse_typed::{Declaration, Tree};
 use cse_value::shape::RecordShape;
-use std::alloc::Global;
+use std::alloc::{AllocError, Global};
 
 /// The declarations of a source.
 pub fn declarations_of<'t, 'a>(tree: &'t Tree<'a>) -> &'t [Declaration<'a>]
@@ -76,6 +77,21 @@ fn routed(
     })
 }
 
+/// The outlines of the routines of a source, and how many of them are functions, which stand first.
+fn outlines_of<'t, 'a>(
+    alloc: Global,
+    tree: &'t Tree<'a>,
+    handlers: &[Handler<'t, 'a>],
+) -> Result<(Vec<Outline<'t, 'a>>, usize), AllocError>
+    ensures outlines { IfOk result (λ r. map outline_spec.outline r.0.items ≡ functions_in (spec.declarations (tree_view tree.now)) ++ map (λ x. x.outline) (map outline_spec.handler handlers.now)) }
+    ensures functions { IfOk result (λ r. r.1 ≡ length (functions_in (spec.declarations (tree_view tree.now)))) }
+{
+    let functions = function_outlines(alloc, declarations_of(tree))?;
+    let count = functions.len();
+    let outlines = with_handlers(functions, handlers)?;
+    Ok((outlines, count))
+}
+
 /// The events of the handlers, which are the routines behind the functions.
 fn events_of(
     alloc: Global,
@@ -115,21 +131,17 @@ pub fn routes_of<'t, 'a>(
     ensures err { IfErr result IsLimit }
     ensures room { IfErr result (λ e. e.number ≡ 64 → NoCodeFits (shape_of dictionary.now).records (map sizes_of arrays.now) (spec.outlines (tree_view tree.now))) }
 {
-    let functions = match function_outlines(alloc, declarations_of(tree)) {
-        Ok(functions) => functions,
-        Err(_) => return Err(WANT_OF_MEMORY),
-    };
     let handlers = match handlers_of(alloc, &tree.procedures) {
         Ok(handlers) => handlers,
         Err(_) => return Err(WANT_OF_MEMORY),
     };
-    let events = match events_of(alloc, dictionary, functions.len(), &handlers) {
+    let (outlines, functions) = match outlines_of(alloc, tree, &handlers) {
+        Ok(found) => found,
+        Err(_) => return Err(WANT_OF_MEMORY),
+    };
+    let events = match events_of(alloc, dictionary, functions, &handlers) {
         Ok(events) => events,
         Err(error) => return Err(error),
-    };
-    let outlines = match with_handlers(functions, &handlers) {
-        Ok(outlines) => outlines,
-        Err(_) => return Err(WANT_OF_MEMORY),
     };
     let records = &dictionary.shape().records;
     match routed(alloc, records, arrays, &outlines, events) {

@@ -180,3 +180,14 @@ pub fn arms_size(s: &Setting, others: &Vec<Arm>, last: usize) -> usize
     }
     size
 }
+
+/// What stands behind the arms of an `if`.
+#[tactic(auto, unfolding(crate::specs::Statements::arms_size))]
+pub fn otherwise_size(s: &Setting, body: &Option<Vec<Statement>>) -> usize
+    ensures { result ≡ min (spec.arms_size (setting s.now) (otherwise_tree body.now)) 1000001 }
+{
+    match body {
+        None => 0,
+        Some(body) => block_size(s, body),
+    }
+}

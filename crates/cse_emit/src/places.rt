@@ -19,7 +19,7 @@ use crate::sizes::{
 };
 use crate::wide::Wide;
 use cse_parts::instruction::Op;
-use cse_typed::{Argument, Field, Found, Number, Pick, Which, Words};
+use cse_typed::{Argument, Field, Found, Number, Pick, Variable, Which, Words};
 use std::alloc::AllocError;
 
 impl<'a> Emitter<'a> {
@@ -68,6 +68,40 @@ impl<'a> Emitter<'a> {
         self.jump_over(end, count)?;
         self.pops(count)?;
         Ok(end)
+    }
+
+    /// A number into a variable.
+    pub(crate) fn number_into_variable(
+        &mut self,
+        s: &Setting,
+        place: usize,
+        variable: Variable,
+        value: &Number<'a>,
+    ) -> Result<usize, AllocError>
+        requires room { place + (number_size (number value.now) + 1) ≤ 1000000 }
+        ensures code { OnOk result (self.new ≡ self.old ++ (number_code (setting s.now) place (number value.now) ++ store (setting s.now) variable ∷ [])) }
+        ensures behind { IfOk result (λ n. n ≡ place + (number_size (number value.now) + 1)) }
+    {
+        let at = self.number(s, place, value)?;
+        self.store(s, variable)?;
+        Ok(at + 1)
+    }
+
+    /// A text into a variable, which is a global.
+    pub(crate) fn words_into_variable(
+        &mut self,
+        s: &Setting,
+        place: usize,
+        variable: usize,
+        value: &Words<'a>,
+    ) -> Result<usize, AllocError>
+        requires room { place + (words_size (words value.now) + 1) ≤ 1000000 }
+        ensures code { OnOk result (self.new ≡ self.old ++ (words_code (setting s.now) place (words value.now) ++ with_c ops.StoreGlobal variable ∷ [])) }
+        ensures behind { IfOk result (λ n. n ≡ place + (words_size (words value.now) + 1)) }
+    {
+        let at = self.words(s, place, value)?;
+        self.with_c(Op::StoreGlobal, variable)?;
+        Ok(at + 1)
     }
 
     /// A number into an item, by the instruction that does it.
@@ -153,6 +187,41 @@ impl<'a> Emitter<'a> {
         self.with_c(Op::StoreCell, array)?;
         let end = self.drops(last + 1, count)?;
         Ok(end)
+    }
+
+    /// A function is called, and its result dropped.
+    pub(crate) fn call_alone(
+        &mut self,
+        s: &Setting,
+        place: usize,
+        function: usize,
+        arguments: &Vec<Number<'a>>,
+    ) -> Result<usize, AllocError>
+        requires room { place + (numbers_size (numbers (map number arguments.now.items)) + 2) ≤ 1000000 }
+        ensures code { OnOk result (self.new ≡ self.old ++ (numbers_code (setting s.now) place (numbers (map number arguments.now.items)) ++ (with_c ops.Call function ∷ with_a ops.Pop 0 ∷ []))) }
+        ensures behind { IfOk result (λ n. n ≡ place + (numbers_size (numbers (map number arguments.now.items)) + 2)) }
+    {
+        let at = self.numbers(s, place, arguments)?;
+        self.with_c(Op::Call, function)?;
+        self.with_a(Op::Pop, 0)?;
+        Ok(at + 2)
+    }
+
+    /// A message is given, with its values.
+    pub(crate) fn message(
+        &mut self,
+        s: &Setting,
+        place: usize,
+        index: usize,
+        values: &Vec<Argument<'a>>,
+    ) -> Result<usize, AllocError>
+        requires room { place + (spec.arguments_size (map argument values.now.items) + 1) ≤ 1000000 }
+        ensures code { OnOk result (self.new ≡ self.old ++ (spec.arguments_code (setting s.now) place (map argument values.now.items) ++ with_c ops.Message index ∷ [])) }
+        ensures behind { IfOk result (λ n. n ≡ place + (spec.arguments_size (map argument values.now.items) + 1)) }
+    {
+        let at = self.arguments(s, place, values)?;
+        self.with_c(Op::Message, index)?;
+        Ok(at + 1)
     }
 
     /// The values of a message.

@@ -5,7 +5,9 @@ ghost use Rattle.cse_typed.specs.Typed.{statement, block, arm_tree, counting};
 ghost use Rattle.cse_emit.specs.Setting.{setting};
 ghost use Rattle.cse_emit.specs.Statements as spec;
 
-use crate::block_sizes::{arms_size, block_size, head_size, jump_size, statement_size};
+use crate::block_sizes::{
+    arms_size, block_size, head_size, jump_size, otherwise_size, statement_size,
+};
 use crate::emitter::Emitter;
 use crate::heads::turn_limit;
 use crate::setting::{Loop, Setting};
@@ -78,14 +80,10 @@ impl<'a> Emitter<'a> {
         match x {
             Statement::Empty => Ok(place),
             Statement::Set(_, variable, value) => {
-                let at = self.number(s, place, value)?;
-                self.store(s, *variable)?;
-                Ok(at + 1)
+                self.number_into_variable(s, place, *variable, value)
             }
             Statement::SetText(_, variable, value) => {
-                let at = self.words(s, place, value)?;
-                self.with_c(Op::StoreGlobal, *variable)?;
-                Ok(at + 1)
+                self.words_into_variable(s, place, *variable, value)
             }
             Statement::SetItem(_, field, at, value) => {
                 self.number_into(s, place, Op::StoreNumber, *field, at, value)
@@ -97,37 +95,24 @@ impl<'a> Emitter<'a> {
                 self.number_into_cell(s, place, *array, subscripts, value)
             }
             Statement::Call(_, function, arguments) => {
-                let at = self.numbers(s, place, arguments)?;
-                self.with_c(Op::Call, *function)?;
-                self.with_a(Op::Pop, 0)?;
-                Ok(at + 2)
+                self.call_alone(s, place, *function, arguments)
             }
-            Statement::If(first, others, otherwise) => match otherwise {
-                None => {
-                    let rest = arms_size(s, others, 0);
-                    let end = place + statement_size(s, x);
-                    let second = self.arm(s, around, end, place, first, rest)?;
-                    let last = self.arms(s, around, end, second, others, 0)?;
-                    Ok(last)
+            Statement::If(first, others, otherwise) => {
+                let behind = otherwise_size(s, otherwise);
+                let rest = arms_size(s, others, behind);
+                let end = place + statement_size(s, x);
+                let second = self.arm(s, around, end, place, first, rest)?;
+                let third = self.arms(s, around, end, second, others, behind)?;
+                match otherwise {
+                    None => Ok(third),
+                    Some(body) => {
+                        let last = self.block(s, around, third, body)?;
+                        Ok(last)
+                    }
                 }
-                Some(body) => {
-                    let behind = block_size(s, body);
-                    let rest = arms_size(s, others, behind);
-                    let end = place + statement_size(s, x);
-                    let second = self.arm(s, around, end, place, first, rest)?;
-                    let third = self.arms(s, around, end, second, others, behind)?;
-                    let last = self.block(s, around, third, body)?;
-                    Ok(last)
-                }
-            },
-            Statement::For(_, variable, _, of, body) => {
-                let last = self.over(s, place, *variable, *of, body)?;
-                Ok(last)
             }
-            Statement::Do(head, body) => {
-                let last = self.counted(s, place, head, body)?;
-                Ok(last)
-            }
+            Statement::For(_, variable, _, of, body) => self.over(s, place, *variable, *of, body),
+            Statement::Do(head, body) => self.counted(s, place, head, body),
             Statement::Jump(_, jump) => self.jump(s, around, place, *jump),
             Statement::Impute(_, field, at, value) => {
                 self.number_into(s, place, Op::Impute, *field, at, value)
@@ -135,11 +120,7 @@ impl<'a> Emitter<'a> {
             Statement::PutDeck(_, array, picks, value) => {
                 self.number_into_deck(s, place, *array, picks, value)
             }
-            Statement::ErrMsg(_, index, values, _) => {
-                let at = self.arguments(s, place, values)?;
-                self.with_c(Op::Message, *index)?;
-                Ok(at + 1)
-            }
+            Statement::ErrMsg(_, index, values, _) => self.message(s, place, *index, values),
         }
     }
 

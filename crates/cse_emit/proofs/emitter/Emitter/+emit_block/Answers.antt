@@ -1,7 +1,7 @@
-use Rattle.std.proofs.Common.{rules, refl, ◌≡◌, ◌<◌, ◌+◌, ◌-◌, ◌==◌, if◌then◌else◌, ◌∷◌, ◌++◌, length, drop, ap, sym, subst, ◌∙◌, arith, map, length-drop}
+use Rattle.std.proofs.Common.{rules, ◌≡◌, ◌<◌, ◌+◌, ◌-◌, ◌==◌, if◌then◌else◌, ◌∷◌, ◌++◌, length, drop, ap, sym, subst, ◌∙◌, arith, map, length-drop}
 use Rattle.std.proofs.lemmas.List.{append-nil, drop_more, length-map}
 use Rattle.cse_typed.specs.declared.tree.Statement.{the_lemmas}
-use Rattle.cse_typed.specs.Typed.{If, no_arm, else_of, statement, block, arms, arm_tree, otherwise_tree, counting}
+use Rattle.cse_typed.specs.Typed.{statement, block, arms, arm_tree, otherwise_tree, counting}
 use Rattle.cse_typed.proofs.Rows.{if_is, for_is, do_is}
 use Rattle.cse_emit.specs.Setting.{setting}
 use Rattle.cse_emit.specs.Numbers.{number_size}
@@ -17,19 +17,17 @@ statement-over-requires t c =
     ap (λ x. statement_size s (statement x)) c.in-For.is ∙ ap (statement_size s) (for_is c.in-For.field-0 c.in-For.variable c.in-For.field-2 c.in-For.of c.in-For.body) in
     (search (rules, the_lemmas), omega (arith, e, c.requires.room))
 
-pub statement-returns-in_ok-last-in-For-clause-code : goal.statement-returns-in_ok-last-in-For-clause-code
+pub statement-returns-in-For-clause-code : goal.statement-returns-in-For-clause-code
 unfolding statement_code
-statement-returns-in_ok-last-in-For-clause-code t c =
+statement-returns-in-For-clause-code t c =
     let same = ap statement c.in-For.is ∙ for_is c.in-For.field-0 c.in-For.variable c.in-For.field-2 c.in-For.of c.in-For.body in
-    c.in_ok-last-in-For.ensures.code ∙ ap (λ x. c.args.self.now ++ statement_code (setting c.args.s.now) c.args.around c.args.place x) (sym same)
+    rw same c.over.ensures.code
 
-pub statement-returns-in_ok-last-in-For-clause-behind : goal.statement-returns-in_ok-last-in-For-clause-behind
+pub statement-returns-in-For-clause-behind : goal.statement-returns-in-For-clause-behind
 unfolding statement_size
-statement-returns-in_ok-last-in-For-clause-behind t c =
-    let s = setting c.args.s.now in
-    let e : statement_size s (statement c.args.x.now) ≡ block_size s (block c.in-For.body.items) + 5 =
-    ap (λ x. statement_size s (statement x)) c.in-For.is ∙ ap (statement_size s) (for_is c.in-For.field-0 c.in-For.variable c.in-For.field-2 c.in-For.of c.in-For.body) in
-    omega (arith, e, c.in_ok-last-in-For.ensures.behind)
+statement-returns-in-For-clause-behind t c =
+    let same = ap statement c.in-For.is ∙ for_is c.in-For.field-0 c.in-For.variable c.in-For.field-2 c.in-For.of c.in-For.body in
+    rw same c.over.ensures.behind
 
 pub statement-counted-requires : goal.statement-counted-requires
 unfolding statement_size
@@ -39,19 +37,17 @@ statement-counted-requires t c =
     ap (λ x. statement_size s (statement x)) c.in-Do.is ∙ ap (statement_size s) (do_is c.in-Do.head c.in-Do.body) in
     (search (rules, the_lemmas), omega (arith, e, c.requires.room))
 
-pub statement-returns-in_ok-last-in-Do-clause-code : goal.statement-returns-in_ok-last-in-Do-clause-code
+pub statement-returns-in-Do-clause-code : goal.statement-returns-in-Do-clause-code
 unfolding statement_code
-statement-returns-in_ok-last-in-Do-clause-code t c =
+statement-returns-in-Do-clause-code t c =
     let same = ap statement c.in-Do.is ∙ do_is c.in-Do.head c.in-Do.body in
-    c.in_ok-last-in-Do.ensures.code ∙ ap (λ x. c.args.self.now ++ statement_code (setting c.args.s.now) c.args.around c.args.place x) (sym same)
+    rw same c.counted.ensures.code
 
-pub statement-returns-in_ok-last-in-Do-clause-behind : goal.statement-returns-in_ok-last-in-Do-clause-behind
+pub statement-returns-in-Do-clause-behind : goal.statement-returns-in-Do-clause-behind
 unfolding statement_size
-statement-returns-in_ok-last-in-Do-clause-behind t c =
-    let s = setting c.args.s.now in
-    let e : statement_size s (statement c.args.x.now) ≡ head_size s.records (counting c.in-Do.head) + (block_size s (block c.in-Do.body.items) + 6) =
-    ap (λ x. statement_size s (statement x)) c.in-Do.is ∙ ap (statement_size s) (do_is c.in-Do.head c.in-Do.body) in
-    omega (arith, e, c.in_ok-last-in-Do.ensures.behind)
+statement-returns-in-Do-clause-behind t c =
+    let same = ap statement c.in-Do.is ∙ do_is c.in-Do.head c.in-Do.body in
+    rw same c.counted.ensures.behind
 
 pub statement-arm-requires : goal.statement-arm-requires
 unfolding statement_size arms_size
@@ -59,15 +55,16 @@ statement-arm-requires t c =
     let s = setting c.args.s.now in
     let x = arm_tree c.in-If.first in
     let xs = map arm_tree c.in-If.others.items in
+    let last = otherwise_tree c.in-If.otherwise in
     let whole = statement_size s (statement c.args.x.now) in
-    let e : whole ≡ guard_size (number_size x.0) (block_size s x.1) (arms_size s (arms xs no_arm)) =
-    ap (λ y. statement_size s (statement y)) c.in-If.is
-    ∙ ap (statement_size s) (if_is c.in-If.first c.in-If.others c.in-If.otherwise)
-    ∙ ap (λ o. guard_size (number_size x.0) (block_size s x.1) (arms_size s (arms xs (otherwise_tree o)))) c.in-None.is in
-    let n = behind_arms s x xs no_arm 0 c.arms_size-rest.result c.args.place whole e c.requires.room refl in
-    let told = arms_then_behind s x xs no_arm 0 c.arms_size-rest.result c.args.place whole e c.requires.room refl in
-    let alone = alone_then_behind s x xs no_arm 0 c.arms_size-rest.result c.args.place whole e c.requires.room refl in
-    let r = behind_first s x xs no_arm 0 c.arms_size-rest.result c.args.place whole e c.requires.room refl c.arms_size-rest.ensures in
+    let e : whole ≡ guard_size (number_size x.0) (block_size s x.1) (arms_size s (arms xs last)) =
+    ap (λ y. statement_size s (statement y)) c.in-If.is ∙ ap (statement_size s) (if_is c.in-If.first c.in-If.others c.in-If.otherwise) in
+    let behind = c.otherwise_size-behind.result in
+    let rest = c.arms_size-rest.result in
+    let n = behind_arms s x xs last behind rest c.args.place whole e c.requires.room c.otherwise_size-behind.ensures in
+    let told = arms_then_behind s x xs last behind rest c.args.place whole e c.requires.room c.otherwise_size-behind.ensures in
+    let alone = alone_then_behind s x xs last behind rest c.args.place whole e c.requires.room c.otherwise_size-behind.ensures in
+    let r = behind_first s x xs last behind rest c.args.place whole e c.requires.room c.otherwise_size-behind.ensures c.arms_size-rest.ensures in
     (search (rules, the_lemmas), omega (arith, e, n, told, alone, r, c.requires.room))
 
 pub statement-arms-requires : goal.statement-arms-requires
@@ -76,97 +73,67 @@ statement-arms-requires t c =
     let s = setting c.args.s.now in
     let x = arm_tree c.in-If.first in
     let xs = map arm_tree c.in-If.others.items in
+    let last = otherwise_tree c.in-If.otherwise in
     let whole = statement_size s (statement c.args.x.now) in
-    let e : whole ≡ guard_size (number_size x.0) (block_size s x.1) (arms_size s (arms xs no_arm)) =
-    ap (λ y. statement_size s (statement y)) c.in-If.is
-    ∙ ap (statement_size s) (if_is c.in-If.first c.in-If.others c.in-If.otherwise)
-    ∙ ap (λ o. guard_size (number_size x.0) (block_size s x.1) (arms_size s (arms xs (otherwise_tree o)))) c.in-None.is in
-    let n = behind_arms s x xs no_arm 0 c.arms_size-rest.result c.args.place whole e c.requires.room refl in
-    let told = arms_then_behind s x xs no_arm 0 c.arms_size-rest.result c.args.place whole e c.requires.room refl in
-    let alone = alone_then_behind s x xs no_arm 0 c.arms_size-rest.result c.args.place whole e c.requires.room refl in
-    let r = behind_first s x xs no_arm 0 c.arms_size-rest.result c.args.place whole e c.requires.room refl c.arms_size-rest.ensures in
-    (search (rules, the_lemmas), omega (arith, e, n, told, alone, r, c.requires.room, c.in_ok-second-in-None.ensures.behind))
+    let e : whole ≡ guard_size (number_size x.0) (block_size s x.1) (arms_size s (arms xs last)) =
+    ap (λ y. statement_size s (statement y)) c.in-If.is ∙ ap (statement_size s) (if_is c.in-If.first c.in-If.others c.in-If.otherwise) in
+    let behind = c.otherwise_size-behind.result in
+    let rest = c.arms_size-rest.result in
+    let n = behind_arms s x xs last behind rest c.args.place whole e c.requires.room c.otherwise_size-behind.ensures in
+    let told = arms_then_behind s x xs last behind rest c.args.place whole e c.requires.room c.otherwise_size-behind.ensures in
+    let alone = alone_then_behind s x xs last behind rest c.args.place whole e c.requires.room c.otherwise_size-behind.ensures in
+    let r = behind_first s x xs last behind rest c.args.place whole e c.requires.room c.otherwise_size-behind.ensures c.arms_size-rest.ensures in
+    (search (rules, the_lemmas), omega (arith, e, n, told, alone, r, c.requires.room, c.in_ok-second-in-If.ensures.behind))
 
-pub statement-returns-in_ok-last-in-None-clause-behind : goal.statement-returns-in_ok-last-in-None-clause-behind
+pub statement-returns-in-None-clause-behind : goal.statement-returns-in-None-clause-behind
 unfolding statement_size arms_size
-statement-returns-in_ok-last-in-None-clause-behind t c =
+statement-returns-in-None-clause-behind t c =
     let s = setting c.args.s.now in
     let x = arm_tree c.in-If.first in
     let xs = map arm_tree c.in-If.others.items in
+    let last = otherwise_tree c.in-If.otherwise in
     let whole = statement_size s (statement c.args.x.now) in
-    let e : whole ≡ guard_size (number_size x.0) (block_size s x.1) (arms_size s (arms xs no_arm)) =
-    ap (λ y. statement_size s (statement y)) c.in-If.is
-    ∙ ap (statement_size s) (if_is c.in-If.first c.in-If.others c.in-If.otherwise)
-    ∙ ap (λ o. guard_size (number_size x.0) (block_size s x.1) (arms_size s (arms xs (otherwise_tree o)))) c.in-None.is in
-    let n = behind_arms s x xs no_arm 0 c.arms_size-rest.result c.args.place whole e c.requires.room refl in
-    let told = arms_then_behind s x xs no_arm 0 c.arms_size-rest.result c.args.place whole e c.requires.room refl in
-    let alone = alone_then_behind s x xs no_arm 0 c.arms_size-rest.result c.args.place whole e c.requires.room refl in
-    let r = behind_first s x xs no_arm 0 c.arms_size-rest.result c.args.place whole e c.requires.room refl c.arms_size-rest.ensures in
-    omega (arith, e, n, told, alone, r, c.requires.room, c.in_ok-second-in-None.ensures.behind, c.in_ok-last-in-None.ensures.behind)
+    let e : whole ≡ guard_size (number_size x.0) (block_size s x.1) (arms_size s (arms xs last)) =
+    ap (λ y. statement_size s (statement y)) c.in-If.is ∙ ap (statement_size s) (if_is c.in-If.first c.in-If.others c.in-If.otherwise) in
+    let behind = c.otherwise_size-behind.result in
+    let rest = c.arms_size-rest.result in
+    let n = behind_arms s x xs last behind rest c.args.place whole e c.requires.room c.otherwise_size-behind.ensures in
+    let told = arms_then_behind s x xs last behind rest c.args.place whole e c.requires.room c.otherwise_size-behind.ensures in
+    let alone = alone_then_behind s x xs last behind rest c.args.place whole e c.requires.room c.otherwise_size-behind.ensures in
+    let r = behind_first s x xs last behind rest c.args.place whole e c.requires.room c.otherwise_size-behind.ensures c.arms_size-rest.ensures in
+    let none = ap (λ o. arms_size s (otherwise_tree o)) c.in-None.is in
+    omega (arith, e, n, told, alone, r, none, c.requires.room, c.in_ok-second-in-If.ensures.behind, c.in_ok-third-in-If.ensures.behind)
 
-pub statement-returns-in_ok-last-in-None-clause-code : goal.statement-returns-in_ok-last-in-None-clause-code
+pub statement-returns-in-None-clause-code : goal.statement-returns-in-None-clause-code
 unfolding statement_size arms_size arms_code
-statement-returns-in_ok-last-in-None-clause-code t c =
+statement-returns-in-None-clause-code t c =
     let s = setting c.args.s.now in
     let x = arm_tree c.in-If.first in
     let xs = map arm_tree c.in-If.others.items in
+    let last = otherwise_tree c.in-If.otherwise in
     let whole = statement_size s (statement c.args.x.now) in
-    let e : whole ≡ guard_size (number_size x.0) (block_size s x.1) (arms_size s (arms xs no_arm)) =
-    ap (λ y. statement_size s (statement y)) c.in-If.is
-    ∙ ap (statement_size s) (if_is c.in-If.first c.in-If.others c.in-If.otherwise)
-    ∙ ap (λ o. guard_size (number_size x.0) (block_size s x.1) (arms_size s (arms xs (otherwise_tree o)))) c.in-None.is in
-    let n = behind_arms s x xs no_arm 0 c.arms_size-rest.result c.args.place whole e c.requires.room refl in
-    let told = arms_then_behind s x xs no_arm 0 c.arms_size-rest.result c.args.place whole e c.requires.room refl in
-    let alone = alone_then_behind s x xs no_arm 0 c.arms_size-rest.result c.args.place whole e c.requires.room refl in
-    let r = behind_first s x xs no_arm 0 c.arms_size-rest.result c.args.place whole e c.requires.room refl c.arms_size-rest.ensures in
-    let same = ap statement c.in-If.is
-    ∙ if_is c.in-If.first c.in-If.others c.in-If.otherwise
-    ∙ ap (λ o. If x.0 x.1 (arms xs (otherwise_tree o))) c.in-None.is in
-    let end_is : c.args.place + c.statement_size.result ≡ c.args.place + guard_size (number_size x.0) (block_size s x.1) (arms_size s (arms xs no_arm)) = omega (arith, e, c.statement_size.ensures, c.requires.room) in
-    choice_code s c.args.around c.args.place x xs no_arm c.args.self.now c.arm.new.self c.arms.new.self c.arms.new.self (c.args.place + c.statement_size.result) c.in_ok-second-in-None.second c.in_ok-last-in-None.last c.arms_size-rest.result 0
+    let e : whole ≡ guard_size (number_size x.0) (block_size s x.1) (arms_size s (arms xs last)) =
+    ap (λ y. statement_size s (statement y)) c.in-If.is ∙ ap (statement_size s) (if_is c.in-If.first c.in-If.others c.in-If.otherwise) in
+    let behind = c.otherwise_size-behind.result in
+    let rest = c.arms_size-rest.result in
+    let n = behind_arms s x xs last behind rest c.args.place whole e c.requires.room c.otherwise_size-behind.ensures in
+    let told = arms_then_behind s x xs last behind rest c.args.place whole e c.requires.room c.otherwise_size-behind.ensures in
+    let alone = alone_then_behind s x xs last behind rest c.args.place whole e c.requires.room c.otherwise_size-behind.ensures in
+    let r = behind_first s x xs last behind rest c.args.place whole e c.requires.room c.otherwise_size-behind.ensures c.arms_size-rest.ensures in
+    let same = ap statement c.in-If.is ∙ if_is c.in-If.first c.in-If.others c.in-If.otherwise in
+    let end = c.args.place + c.statement_size.result in
+    let end_is : end ≡ c.args.place + guard_size (number_size x.0) (block_size s x.1) (arms_size s (arms xs last)) = omega (arith, e, c.statement_size.ensures, c.requires.room) in
+    let third = c.in_ok-third-in-If.third in
+    choice_code s c.args.around c.args.place x xs last c.args.self.now c.arm.new.self c.arms.new.self c.arms.new.self end c.in_ok-second-in-If.second third rest behind
     n
     r
     end_is
-    c.in_ok-second-in-None.ensures.behind
-    c.in_ok-last-in-None.ensures.behind
-    c.in_ok-second-in-None.ensures.code
-    c.in_ok-last-in-None.ensures.code
-    (sym (append-nil c.arms.new.self))
+    c.in_ok-second-in-If.ensures.behind
+    c.in_ok-third-in-If.ensures.behind
+    c.in_ok-second-in-If.ensures.code
+    c.in_ok-third-in-If.ensures.code
+    (sym (append-nil c.arms.new.self) ∙ ap (λ o. c.arms.new.self ++ arms_code s c.args.around end third (otherwise_tree o)) (sym c.in-None.is))
     ∙ ap (λ y. c.args.self.now ++ statement_code s c.args.around c.args.place y) (sym same)
-
-pub statement-arm-requires-in-Some : goal.statement-arm-requires-in-Some
-unfolding statement_size arms_size
-statement-arm-requires-in-Some t c =
-    let s = setting c.args.s.now in
-    let x = arm_tree c.in-If.first in
-    let xs = map arm_tree c.in-If.others.items in
-    let whole = statement_size s (statement c.args.x.now) in
-    let e : whole ≡ guard_size (number_size x.0) (block_size s x.1) (arms_size s (arms xs (else_of (block c.in-Some.body.items)))) =
-    ap (λ y. statement_size s (statement y)) c.in-If.is
-    ∙ ap (statement_size s) (if_is c.in-If.first c.in-If.others c.in-If.otherwise)
-    ∙ ap (λ o. guard_size (number_size x.0) (block_size s x.1) (arms_size s (arms xs (otherwise_tree o)))) c.in-Some.is in
-    let n = behind_arms s x xs (else_of (block c.in-Some.body.items)) c.block_size-behind.result c.arms_size-rest-in-Some.result c.args.place whole e c.requires.room c.block_size-behind.ensures in
-    let told = arms_then_behind s x xs (else_of (block c.in-Some.body.items)) c.block_size-behind.result c.arms_size-rest-in-Some.result c.args.place whole e c.requires.room c.block_size-behind.ensures in
-    let alone = alone_then_behind s x xs (else_of (block c.in-Some.body.items)) c.block_size-behind.result c.arms_size-rest-in-Some.result c.args.place whole e c.requires.room c.block_size-behind.ensures in
-    let r = behind_first s x xs (else_of (block c.in-Some.body.items)) c.block_size-behind.result c.arms_size-rest-in-Some.result c.args.place whole e c.requires.room c.block_size-behind.ensures c.arms_size-rest-in-Some.ensures in
-    (search (rules, the_lemmas), omega (arith, e, n, told, alone, r, c.requires.room))
-
-pub statement-arms-requires-in-Some : goal.statement-arms-requires-in-Some
-unfolding statement_size arms_size
-statement-arms-requires-in-Some t c =
-    let s = setting c.args.s.now in
-    let x = arm_tree c.in-If.first in
-    let xs = map arm_tree c.in-If.others.items in
-    let whole = statement_size s (statement c.args.x.now) in
-    let e : whole ≡ guard_size (number_size x.0) (block_size s x.1) (arms_size s (arms xs (else_of (block c.in-Some.body.items)))) =
-    ap (λ y. statement_size s (statement y)) c.in-If.is
-    ∙ ap (statement_size s) (if_is c.in-If.first c.in-If.others c.in-If.otherwise)
-    ∙ ap (λ o. guard_size (number_size x.0) (block_size s x.1) (arms_size s (arms xs (otherwise_tree o)))) c.in-Some.is in
-    let n = behind_arms s x xs (else_of (block c.in-Some.body.items)) c.block_size-behind.result c.arms_size-rest-in-Some.result c.args.place whole e c.requires.room c.block_size-behind.ensures in
-    let told = arms_then_behind s x xs (else_of (block c.in-Some.body.items)) c.block_size-behind.result c.arms_size-rest-in-Some.result c.args.place whole e c.requires.room c.block_size-behind.ensures in
-    let alone = alone_then_behind s x xs (else_of (block c.in-Some.body.items)) c.block_size-behind.result c.arms_size-rest-in-Some.result c.args.place whole e c.requires.room c.block_size-behind.ensures in
-    let r = behind_first s x xs (else_of (block c.in-Some.body.items)) c.block_size-behind.result c.arms_size-rest-in-Some.result c.args.place whole e c.requires.room c.block_size-behind.ensures c.arms_size-rest-in-Some.ensures in
-    (search (rules, the_lemmas), omega (arith, e, n, told, alone, r, c.requires.room, c.in_ok-second-in-Some.ensures.behind))
 
 pub statement-block-requires : goal.statement-block-requires
 unfolding statement_size arms_size
@@ -174,16 +141,18 @@ statement-block-requires t c =
     let s = setting c.args.s.now in
     let x = arm_tree c.in-If.first in
     let xs = map arm_tree c.in-If.others.items in
+    let last = otherwise_tree c.in-If.otherwise in
     let whole = statement_size s (statement c.args.x.now) in
-    let e : whole ≡ guard_size (number_size x.0) (block_size s x.1) (arms_size s (arms xs (else_of (block c.in-Some.body.items)))) =
-    ap (λ y. statement_size s (statement y)) c.in-If.is
-    ∙ ap (statement_size s) (if_is c.in-If.first c.in-If.others c.in-If.otherwise)
-    ∙ ap (λ o. guard_size (number_size x.0) (block_size s x.1) (arms_size s (arms xs (otherwise_tree o)))) c.in-Some.is in
-    let n = behind_arms s x xs (else_of (block c.in-Some.body.items)) c.block_size-behind.result c.arms_size-rest-in-Some.result c.args.place whole e c.requires.room c.block_size-behind.ensures in
-    let told = arms_then_behind s x xs (else_of (block c.in-Some.body.items)) c.block_size-behind.result c.arms_size-rest-in-Some.result c.args.place whole e c.requires.room c.block_size-behind.ensures in
-    let alone = alone_then_behind s x xs (else_of (block c.in-Some.body.items)) c.block_size-behind.result c.arms_size-rest-in-Some.result c.args.place whole e c.requires.room c.block_size-behind.ensures in
-    let r = behind_first s x xs (else_of (block c.in-Some.body.items)) c.block_size-behind.result c.arms_size-rest-in-Some.result c.args.place whole e c.requires.room c.block_size-behind.ensures c.arms_size-rest-in-Some.ensures in
-    (search (rules, the_lemmas), omega (arith, e, n, told, alone, r, c.requires.room, c.in_ok-second-in-Some.ensures.behind, c.in_ok-third-in-Some.ensures.behind))
+    let e : whole ≡ guard_size (number_size x.0) (block_size s x.1) (arms_size s (arms xs last)) =
+    ap (λ y. statement_size s (statement y)) c.in-If.is ∙ ap (statement_size s) (if_is c.in-If.first c.in-If.others c.in-If.otherwise) in
+    let behind = c.otherwise_size-behind.result in
+    let rest = c.arms_size-rest.result in
+    let n = behind_arms s x xs last behind rest c.args.place whole e c.requires.room c.otherwise_size-behind.ensures in
+    let told = arms_then_behind s x xs last behind rest c.args.place whole e c.requires.room c.otherwise_size-behind.ensures in
+    let alone = alone_then_behind s x xs last behind rest c.args.place whole e c.requires.room c.otherwise_size-behind.ensures in
+    let r = behind_first s x xs last behind rest c.args.place whole e c.requires.room c.otherwise_size-behind.ensures c.arms_size-rest.ensures in
+    let some = ap (λ o. arms_size s (otherwise_tree o)) c.in-Some.is in
+    (search (rules, the_lemmas), omega (arith, e, n, told, alone, r, some, c.requires.room, c.in_ok-second-in-If.ensures.behind, c.in_ok-third-in-If.ensures.behind))
 
 pub statement-returns-in_ok-last-in-Some-clause-behind : goal.statement-returns-in_ok-last-in-Some-clause-behind
 unfolding statement_size arms_size
@@ -191,16 +160,18 @@ statement-returns-in_ok-last-in-Some-clause-behind t c =
     let s = setting c.args.s.now in
     let x = arm_tree c.in-If.first in
     let xs = map arm_tree c.in-If.others.items in
+    let last = otherwise_tree c.in-If.otherwise in
     let whole = statement_size s (statement c.args.x.now) in
-    let e : whole ≡ guard_size (number_size x.0) (block_size s x.1) (arms_size s (arms xs (else_of (block c.in-Some.body.items)))) =
-    ap (λ y. statement_size s (statement y)) c.in-If.is
-    ∙ ap (statement_size s) (if_is c.in-If.first c.in-If.others c.in-If.otherwise)
-    ∙ ap (λ o. guard_size (number_size x.0) (block_size s x.1) (arms_size s (arms xs (otherwise_tree o)))) c.in-Some.is in
-    let n = behind_arms s x xs (else_of (block c.in-Some.body.items)) c.block_size-behind.result c.arms_size-rest-in-Some.result c.args.place whole e c.requires.room c.block_size-behind.ensures in
-    let told = arms_then_behind s x xs (else_of (block c.in-Some.body.items)) c.block_size-behind.result c.arms_size-rest-in-Some.result c.args.place whole e c.requires.room c.block_size-behind.ensures in
-    let alone = alone_then_behind s x xs (else_of (block c.in-Some.body.items)) c.block_size-behind.result c.arms_size-rest-in-Some.result c.args.place whole e c.requires.room c.block_size-behind.ensures in
-    let r = behind_first s x xs (else_of (block c.in-Some.body.items)) c.block_size-behind.result c.arms_size-rest-in-Some.result c.args.place whole e c.requires.room c.block_size-behind.ensures c.arms_size-rest-in-Some.ensures in
-    omega (arith, e, n, told, alone, r, c.requires.room, c.in_ok-second-in-Some.ensures.behind, c.in_ok-third-in-Some.ensures.behind, c.in_ok-last-in-Some.ensures.behind)
+    let e : whole ≡ guard_size (number_size x.0) (block_size s x.1) (arms_size s (arms xs last)) =
+    ap (λ y. statement_size s (statement y)) c.in-If.is ∙ ap (statement_size s) (if_is c.in-If.first c.in-If.others c.in-If.otherwise) in
+    let behind = c.otherwise_size-behind.result in
+    let rest = c.arms_size-rest.result in
+    let n = behind_arms s x xs last behind rest c.args.place whole e c.requires.room c.otherwise_size-behind.ensures in
+    let told = arms_then_behind s x xs last behind rest c.args.place whole e c.requires.room c.otherwise_size-behind.ensures in
+    let alone = alone_then_behind s x xs last behind rest c.args.place whole e c.requires.room c.otherwise_size-behind.ensures in
+    let r = behind_first s x xs last behind rest c.args.place whole e c.requires.room c.otherwise_size-behind.ensures c.arms_size-rest.ensures in
+    let some = ap (λ o. arms_size s (otherwise_tree o)) c.in-Some.is in
+    omega (arith, e, n, told, alone, r, some, c.requires.room, c.in_ok-second-in-If.ensures.behind, c.in_ok-third-in-If.ensures.behind, c.in_ok-last-in-Some.ensures.behind)
 
 pub statement-returns-in_ok-last-in-Some-clause-code : goal.statement-returns-in_ok-last-in-Some-clause-code
 unfolding statement_size arms_size arms_code
@@ -208,28 +179,29 @@ statement-returns-in_ok-last-in-Some-clause-code t c =
     let s = setting c.args.s.now in
     let x = arm_tree c.in-If.first in
     let xs = map arm_tree c.in-If.others.items in
+    let last = otherwise_tree c.in-If.otherwise in
     let whole = statement_size s (statement c.args.x.now) in
-    let e : whole ≡ guard_size (number_size x.0) (block_size s x.1) (arms_size s (arms xs (else_of (block c.in-Some.body.items)))) =
-    ap (λ y. statement_size s (statement y)) c.in-If.is
-    ∙ ap (statement_size s) (if_is c.in-If.first c.in-If.others c.in-If.otherwise)
-    ∙ ap (λ o. guard_size (number_size x.0) (block_size s x.1) (arms_size s (arms xs (otherwise_tree o)))) c.in-Some.is in
-    let n = behind_arms s x xs (else_of (block c.in-Some.body.items)) c.block_size-behind.result c.arms_size-rest-in-Some.result c.args.place whole e c.requires.room c.block_size-behind.ensures in
-    let told = arms_then_behind s x xs (else_of (block c.in-Some.body.items)) c.block_size-behind.result c.arms_size-rest-in-Some.result c.args.place whole e c.requires.room c.block_size-behind.ensures in
-    let alone = alone_then_behind s x xs (else_of (block c.in-Some.body.items)) c.block_size-behind.result c.arms_size-rest-in-Some.result c.args.place whole e c.requires.room c.block_size-behind.ensures in
-    let r = behind_first s x xs (else_of (block c.in-Some.body.items)) c.block_size-behind.result c.arms_size-rest-in-Some.result c.args.place whole e c.requires.room c.block_size-behind.ensures c.arms_size-rest-in-Some.ensures in
-    let same = ap statement c.in-If.is
-    ∙ if_is c.in-If.first c.in-If.others c.in-If.otherwise
-    ∙ ap (λ o. If x.0 x.1 (arms xs (otherwise_tree o))) c.in-Some.is in
-    let end_is : c.args.place + c.statement_size-in-Some.result ≡ c.args.place + guard_size (number_size x.0) (block_size s x.1) (arms_size s (arms xs (else_of (block c.in-Some.body.items)))) = omega (arith, e, c.statement_size-in-Some.ensures, c.requires.room) in
-    choice_code s c.args.around c.args.place x xs (else_of (block c.in-Some.body.items)) c.args.self.now c.arm-in-Some.new.self c.arms-in-Some.new.self c.block.new.self (c.args.place + c.statement_size-in-Some.result) c.in_ok-second-in-Some.second c.in_ok-third-in-Some.third c.arms_size-rest-in-Some.result c.block_size-behind.result
+    let e : whole ≡ guard_size (number_size x.0) (block_size s x.1) (arms_size s (arms xs last)) =
+    ap (λ y. statement_size s (statement y)) c.in-If.is ∙ ap (statement_size s) (if_is c.in-If.first c.in-If.others c.in-If.otherwise) in
+    let behind = c.otherwise_size-behind.result in
+    let rest = c.arms_size-rest.result in
+    let n = behind_arms s x xs last behind rest c.args.place whole e c.requires.room c.otherwise_size-behind.ensures in
+    let told = arms_then_behind s x xs last behind rest c.args.place whole e c.requires.room c.otherwise_size-behind.ensures in
+    let alone = alone_then_behind s x xs last behind rest c.args.place whole e c.requires.room c.otherwise_size-behind.ensures in
+    let r = behind_first s x xs last behind rest c.args.place whole e c.requires.room c.otherwise_size-behind.ensures c.arms_size-rest.ensures in
+    let same = ap statement c.in-If.is ∙ if_is c.in-If.first c.in-If.others c.in-If.otherwise in
+    let end = c.args.place + c.statement_size.result in
+    let end_is : end ≡ c.args.place + guard_size (number_size x.0) (block_size s x.1) (arms_size s (arms xs last)) = omega (arith, e, c.statement_size.ensures, c.requires.room) in
+    let third = c.in_ok-third-in-If.third in
+    choice_code s c.args.around c.args.place x xs last c.args.self.now c.arm.new.self c.arms.new.self c.block.new.self end c.in_ok-second-in-If.second third rest behind
     n
     r
     end_is
-    c.in_ok-second-in-Some.ensures.behind
-    c.in_ok-third-in-Some.ensures.behind
-    c.in_ok-second-in-Some.ensures.code
-    c.in_ok-third-in-Some.ensures.code
-    c.in_ok-last-in-Some.ensures.code
+    c.in_ok-second-in-If.ensures.behind
+    c.in_ok-third-in-If.ensures.behind
+    c.in_ok-second-in-If.ensures.code
+    c.in_ok-third-in-If.ensures.code
+    (c.in_ok-last-in-Some.ensures.code ∙ ap (λ o. c.arms.new.self ++ arms_code s c.args.around end third (otherwise_tree o)) (sym c.in-Some.is))
     ∙ ap (λ y. c.args.self.now ++ statement_code s c.args.around c.args.place y) (sym same)
 
 pub arms-arm-requires : goal.arms-arm-requires
