@@ -91,6 +91,7 @@ pub(crate) fn run_cases<C: Code, M: Runs, R: Input, O: Output, L: Output>(
                 if written.gave_up || listed.gave_up {
                     return Err(WRITE_FAULT);
                 }
+                reader.take_back(case);
             }
             Err(error) => return Err(RunFault {
                 number: error.number,

@@ -19,7 +19,7 @@ use cse_lines::{Line, Run};
 use cse_output::Gatherer;
 use cse_value::shape::{ID_OWNER, ItemKind, ItemShape};
 use cse_value::{Failed, Num, Output, Text, read_num, read_text};
-use std::alloc::{AllocError, Global};
+use std::alloc::AllocError;
 use std::marker::Model;
 
 /// A case: consecutive lines with equal id columns (CSPro Users Guide, data files), with the occurrences of
@@ -59,11 +59,12 @@ impl<'a> Case<'a> {
     ghost use Rattle.cse_case.specs.Case.{IsOccurrence, columns_at, items_of, number_at, place_of, places_of, records_of, text_at, types_of, unseen_lines, with_item, with_number, with_text};
     ghost use Rattle.cse_case.specs.Fit.{IsFit, line_width};
 
-    /// The case of a run, with these id columns. Its occurrences are counted in `counts`.
+    /// The case of a run, with these id columns. Its occurrences are counted in `counts`, and its table has
+    /// the memory of another one.
     pub(crate) fn new(
-        alloc: Global,
         dictionary: &'a Dictionary,
         counts: &mut Vec<u16>,
+        room: Table,
         ids: Vec<char>,
         run: Run,
     ) -> Result<Case<'a>, AllocError>
@@ -74,7 +75,7 @@ impl<'a> Case<'a> {
     {
         let (columns, lines, marked, first_line) = run.into_parts();
         let table = table_of(
-            alloc,
+            room,
             counts,
             &dictionary.shape().records,
             &lines,
@@ -89,6 +90,20 @@ impl<'a> Case<'a> {
             first_line,
             table,
         })
+    }
+
+    /// Its vectors, which are no longer needed: those of its ids, of its table and of its run.
+    pub(crate) fn into_room(self) -> (Vec<char>, Table, Vec<char>, Vec<Line>) {
+        let Case {
+            dictionary: _,
+            ids,
+            columns,
+            lines,
+            marked: _,
+            first_line: _,
+            table,
+        } = self;
+        (ids, table, columns, lines)
     }
 
     /// Whether the run has a line that is an occurrence of a record.

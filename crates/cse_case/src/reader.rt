@@ -61,6 +61,16 @@ impl<'a, R: Input> CaseReader<'a, R> {
         self.stream.next(self.input)
     }
 
+    /// Takes back a case that was given: its memory, unless it is large, serves a later one. A caller who
+    /// gives each case back before the next but one lets the reader read on in the memory that it has.
+    pub fn take_back(&mut self, case: Case<'_>)
+        ensures same_reference { self.new.input.ghost_name ≡ self.old.input.ghost_name }
+        ensures input { self.new.input.now ≡ self.old.input.now }
+        ensures stream { self.new.stream ≡ self.old.stream }
+    {
+        self.stream.take_back(case);
+    }
+
     /// How many reads gave bytes, 2^40 at most. It takes no memory.
     pub fn reads(&self) -> u64
         ensures value { result ≡ self.now.stream.reads }

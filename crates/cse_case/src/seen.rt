@@ -1,6 +1,6 @@
 //! Which lines of a run are seen, and as which occurrence of their record.
 
-ghost use Rattle.std.specs.Prelude.{◌≡◌, ◌≤◌, ◌<◌, ◌+◌, ◌++◌, ◌∷◌, [], ◌^◌, ℕ, List, Option, IfOk, OnOk, map, take, length, slice_index};
+ghost use Rattle.std.specs.Prelude.{◌≡◌, ◌≤◌, ◌<◌, ◌+◌, ◌++◌, ◌∷◌, [], ◌^◌, ℕ, List, Option, IfOk, OnOk, map, take, length, slice_index, vec_len};
 ghost use Rattle.cse_case.specs.Seen.{is_of, places_from, unseen_after, unseen_of};
 ghost use Rattle.cse_case.specs.Table.{AreCounts, AreSpans, IsTable};
 
@@ -8,6 +8,15 @@ use cse_dict::Unseen;
 use cse_lines::Line;
 use cse_value::shape::RecordShape;
 use std::alloc::{AllocError, Global};
+
+/// The vector without its elements, in the memory that it has.
+fn emptied<T: Drop>(mut room: Vec<T>) -> Vec<T>
+    ensures items { result.items ≡ [] }
+    ensures len { vec_len result ≡ 0 }
+{
+    room.clear();
+    room
+}
 
 /// The occurrences of a record: where their places begin in the table, and how many there are.
 #[derive(Clone, Copy, Debug, PartialEq, Eq)]
@@ -34,9 +43,9 @@ fn count_line(records: &[RecordShape], counts: &mut [u16], line: Option<u16>) ->
 }
 
 /// Counts how many occurrences each record has, in place of what was counted before, and tells the unseen
-/// lines, of which the first has this number.
+/// lines, in this room; the first of all lines has this number.
 fn count_lines(
-    alloc: Global,
+    room: Vec<(u64, Unseen)>,
     counts: &mut Vec<u16>,
     records: &[RecordShape],
     lines: &[Line],
@@ -48,7 +57,7 @@ fn count_lines(
 {
     counts.clear();
     counts.resize(records.len(), 0)?;
-    let mut unseen = Vec::new(alloc);
+    let mut unseen = emptied(room);
     'lines: for (i, line) in lines.iter().enumerate() {
         match count_line(records, counts, line.record_number) {
             Some(why) => unseen.push((number + i as u64, why))?,
@@ -90,9 +99,10 @@ fn place_record(
     Ok(())
 }
 
-/// The places of the occurrences of each record.
+/// The places of the occurrences of each record, in this room.
 fn place_lines(
-    alloc: Global,
+    span_room: Vec<Span>,
+    place_room: Vec<usize>,
     lines: &[Line],
     counts: &[u16],
 ) -> Result<(Vec<Span>, Vec<usize>), AllocError>
@@ -100,8 +110,10 @@ fn place_lines(
     ensures size { IfOk result (λ p. length p.0.items ≡ length counts.now) }
     ensures spans { IfOk result (λ p. AreSpans (map (λ l. l.record_number) lines.now) counts.now p.1.items p.0.items) }
 {
-    let mut spans = Vec::with_capacity(alloc, counts.len())?;
-    let mut places = Vec::with_capacity(alloc, lines.len())?;
+    let mut spans = emptied(span_room);
+    spans.reserve(counts.len())?;
+    let mut places = emptied(place_room);
+    places.reserve(lines.len())?;
     'records: for (number, count) in counts.iter().enumerate() {
         let start = places.len();
         place_record(&mut places, lines, number, *count)?;
@@ -122,10 +134,21 @@ pub struct Table {
     pub unseen: Vec<(u64, Unseen)>,
 }
 
-/// The table of a run's lines, of which the first has this number. The counts are made anew, in the
-/// memory that they have.
+impl Table {
+    /// A table of nothing, which takes no memory.
+    pub fn new(alloc: Global) -> Table {
+        Table {
+            spans: Vec::new(alloc),
+            places: Vec::new(alloc),
+            unseen: Vec::new(alloc),
+        }
+    }
+}
+
+/// The table of a run's lines, of which the first has this number, in the memory of another one. The counts
+/// are made anew, in the memory that they have.
 pub fn table_of(
-    alloc: Global,
+    room: Table,
     counts: &mut Vec<u16>,
     records: &[RecordShape],
     lines: &[Line],
@@ -135,8 +158,8 @@ pub fn table_of(
     ensures table { IfOk result (λ t. IsTable records.now (map (λ l. l.record_number) lines.now) t.places.items t.spans.items) }
     ensures unseen { IfOk result (λ t. t.unseen.items ≡ unseen_of records.now number (map (λ l. l.record_number) lines.now)) }
 {
-    let unseen = count_lines(alloc, counts, records, lines, number)?;
-    let (spans, places) = place_lines(alloc, lines, counts)?;
+    let unseen = count_lines(room.unseen, counts, records, lines, number)?;
+    let (spans, places) = place_lines(room.spans, room.places, lines, counts)?;
     Ok(Table {
         spans,
         places,

@@ -7,19 +7,24 @@ ghost use Rattle.cse_case.specs.Fit.{line_width};
 
 use crate::case::Case;
 use crate::field::field_of;
+use crate::seen::Table;
 use cse_dict::Dictionary;
 use cse_lines::Run;
 use cse_value::shape::{ID_OWNER, ItemShape};
 use std::alloc::{AllocError, Global};
 use std::marker::Model;
+use std::mem;
 
-/// A dictionary, its id items once they are known, and room for the counts of a case's occurrences.
+/// A dictionary, its id items once they are known, and room for the counts of a case's occurrences, for its
+/// ids and for its table.
 #[derive(Drop)]
 pub struct Source<'a> {
     dictionary: &'a Dictionary,
     id_items: Vec<ItemShape>,
     is_known: bool,
     counts: Vec<u16>,
+    ids: Vec<char>,
+    table: Table,
 }
 
 impl<'a> Model for Source<'a> {
@@ -45,11 +50,16 @@ fn id_items(alloc: Global, items: &[ItemShape]) -> Result<Vec<ItemShape>, AllocE
         .collect(alloc)
 }
 
-/// What stands at these items, one after the other.
-fn fields_of(alloc: Global, items: &[ItemShape], columns: &[char]) -> Result<Vec<char>, AllocError>
+/// What stands at these items, one after the other, in this room.
+fn fields_of(
+    room: Vec<char>,
+    items: &[ItemShape],
+    columns: &[char],
+) -> Result<Vec<char>, AllocError>
     ensures { IfOk result (λ v. v.items ≡ fields_at (map span_of items.now) columns.now) }
 {
-    let mut fields = Vec::new(alloc);
+    let mut fields = room;
+    fields.clear();
     'items: for item in items {
         fields.extend_from_slice(field_of(item, columns))?;
     }
@@ -66,11 +76,18 @@ impl<'a> Source<'a> {
             id_items: Vec::new(alloc),
             is_known: false,
             counts: Vec::new(alloc),
+            ids: Vec::new(alloc),
+            table: Table::new(alloc),
         }
     }
 
-    /// The id columns of a line.
-    pub fn ids_of(&mut self, alloc: Global, columns: &[char]) -> Result<Vec<char>, AllocError>
+    /// The id columns of a line, in this room.
+    fn ids_of(
+        &mut self,
+        alloc: Global,
+        room: Vec<char>,
+        columns: &[char],
+    ) -> Result<Vec<char>, AllocError>
         ensures same { self.new ≡ self.old }
         ensures ids { IfOk result (λ v. v.items ≡ ids_of self.old columns.now) }
     {
@@ -78,10 +95,19 @@ impl<'a> Source<'a> {
             self.id_items = id_items(alloc, &self.dictionary.shape().items)?;
             self.is_known = true;
         }
-        fields_of(alloc, &self.id_items, columns)
+        fields_of(room, &self.id_items, columns)
     }
 
-    /// The case of a run.
+    /// Takes back the memory of a case's ids and table.
+    pub fn take_back(&mut self, ids: Vec<char>, table: Table)
+        ensures { self.new ≡ self.old }
+    {
+        self.ids = ids;
+        self.table = table;
+    }
+
+    /// The case of a run. It lies in the memory of the one that was taken back, and in new memory where that
+    /// doesn't serve.
     pub fn case_of(&mut self, alloc: Global, run: Run) -> Result<Case<'a>, AllocError>
         requires some { 0 < length run.lines }
         requires wide { (place : ℕ) → place < length run.lines → length (line_at run place).columns ≡ line_width self.old (line_at run place) }
@@ -89,7 +115,9 @@ impl<'a> Source<'a> {
         ensures same { self.new ≡ self.old }
         ensures made { IfOk result (λ c. c ≡ record { dictionary = self.old; ids = ids_of self.old (line_at run 0).columns; run = run }) }
     {
-        let ids = self.ids_of(alloc, run.columns(0))?;
-        Case::new(alloc, self.dictionary, &mut self.counts, ids, run)
+        let room = mem::replace(&mut self.ids, Vec::new(alloc));
+        let ids = self.ids_of(alloc, room, run.columns(0))?;
+        let table = mem::replace(&mut self.table, Table::new(alloc));
+        Case::new(self.dictionary, &mut self.counts, table, ids, run)
     }
 }

@@ -74,6 +74,16 @@ impl<'a> CaseStream<'a> {
         self.runs.kept()
     }
 
+    /// Takes back a case that was given: its memory, unless it is large, serves a later one. A caller who
+    /// gives each case back before the next but one lets the stream read on in the memory that it has.
+    pub fn take_back(&mut self, case: Case<'_>)
+        ensures { self.new ≡ self.old }
+    {
+        let (ids, table, columns, lines) = case.into_room();
+        self.source.take_back(ids, table);
+        self.runs.take_back(columns, lines);
+    }
+
     /// The next case of the input, or that there is none. After an error the same error is answered.
     ///
     /// 70 comes first only where what was held and read gives no answer, so that more had to be read: the

@@ -10,7 +10,7 @@ use crate::buffer::Buffer;
 use crate::cut::first_line;
 use crate::decode::Stop;
 use crate::layout::Layout;
-use crate::run::Run;
+use crate::run::{Room, Run};
 use crate::take::take_line;
 use cse_dict::Dictionary;
 use std::alloc::Global;
@@ -29,6 +29,7 @@ pub fn gather(
     dictionary: &Dictionary,
     layout: &Layout,
     run: &mut Run,
+    room: &mut Room,
     columns: &mut Vec<char>,
     buffer: &mut Buffer,
     first: bool,
@@ -43,7 +44,7 @@ pub fn gather(
     'lines: while let Some(line) = first_line(buffer.as_slice(), is_front(first, run), ended) {
         let front = is_front(first, run);
         let len = line.len();
-        let given = take_line(alloc, dictionary, layout, run, columns, line, front)?;
+        let given = take_line(alloc, dictionary, layout, run, room, columns, line, front)?;
         buffer.drop_front(len);
         if let Some(given) = given {
             return Ok(Some(given));

@@ -11,7 +11,7 @@ use crate::decode::Stop;
 use crate::error::DataError;
 use crate::gather::gather;
 use crate::layout::Layout;
-use crate::run::Run;
+use crate::run::{Room, Run};
 use cse_dict::Dictionary;
 use cse_value::Input;
 use std::alloc::{AllocError, Global};
@@ -49,6 +49,7 @@ fn next_run<R: Input>(
     layout: &Layout,
     input: &mut R,
     run: &mut Run,
+    room: &mut Room,
     columns: &mut Vec<char>,
     buffer: &mut Buffer,
     ended: &mut bool,
@@ -72,6 +73,7 @@ fn next_run<R: Input>(
             dictionary,
             layout,
             run,
+            room,
             columns,
             buffer,
             lines == 0,
@@ -120,6 +122,7 @@ pub fn next_by_layout<R: Input>(
     layout: &mut Option<Layout>,
     input: &mut R,
     run: &mut Run,
+    room: &mut Room,
     columns: &mut Vec<char>,
     buffer: &mut Buffer,
     ended: &mut bool,
@@ -142,7 +145,7 @@ pub fn next_by_layout<R: Input>(
         return Err(error(90));
     };
     let answer = next_run(
-        alloc, dictionary, &known, input, run, columns, buffer, ended, reads, lines,
+        alloc, dictionary, &known, input, run, room, columns, buffer, ended, reads, lines,
     );
     *layout = Some(known);
     answer

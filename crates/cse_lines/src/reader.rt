@@ -7,12 +7,16 @@ ghost use Rattle.cse_lines.specs.Reader.{HoldsLittle, Next, held_of};
 use crate::buffer::Buffer;
 use crate::error::DataError;
 use crate::layout::Layout;
+use crate::line::Line;
 use crate::next::next_by_layout;
-use crate::run::Run;
+use crate::run::{Room, Run};
 use cse_dict::Dictionary;
 use cse_value::Input;
 use std::alloc::Global;
 use std::marker::Model;
+
+/// The most columns of a run whose room is kept.
+const MOST_ROOM: usize = 65_536;
 
 /// How much a reader holds: lines that are cut and not yet given, and bytes that aren't cut.
 #[derive(Clone, Copy, Debug, PartialEq, Eq)]
@@ -28,6 +32,7 @@ pub struct RunReader<'a> {
     dictionary: &'a Dictionary,
     layout: Option<Layout>,
     run: Run,
+    room: Room,
     columns: Vec<char>,
     buffer: Buffer,
     ended: bool,
@@ -71,6 +76,7 @@ impl<'a> RunReader<'a> {
             dictionary,
             layout: None,
             run: Run::new(alloc, 1),
+            room: Room::new(alloc),
             columns: Vec::new(alloc),
             buffer: Buffer::new(alloc),
             ended: false,
@@ -100,6 +106,17 @@ impl<'a> RunReader<'a> {
         }
     }
 
+    /// Takes back the vectors of a run that was given: their memory, unless it is large, serves a later
+    /// run. A caller who gives each run back before the next but one lets the reader read on in the memory
+    /// that it has.
+    pub fn take_back(&mut self, columns: Vec<char>, lines: Vec<Line>)
+        ensures { self.new ≡ self.old }
+    {
+        if columns.len() <= MOST_ROOM {
+            self.room = Room::of(columns, lines);
+        }
+    }
+
     /// The next run of the input, or that there is none. After an error the same error is answered.
     ///
     /// 70 comes first only where what was held and read gives no answer, so that more had to be read: the
@@ -126,6 +143,7 @@ impl<'a> RunReader<'a> {
             &mut self.layout,
             input,
             &mut self.run,
+            &mut self.room,
             &mut self.columns,
             &mut self.buffer,
             &mut self.ended,
@@ -140,6 +158,7 @@ impl<'a> RunReader<'a> {
             Ok(None) => Ok(None),
             Err(error) => {
                 self.run = Run::new(self.alloc, self.lines + 1);
+                self.room = Room::new(self.alloc);
                 self.columns = Vec::new(self.alloc);
                 self.buffer = Buffer::new(self.alloc);
                 self.error = Some(error);

@@ -32,6 +32,28 @@ impl Model for Run {
     ghost invariant = { λ r. IsLaid 0 r.columns.items r.lines.items };
 }
 
+/// Room for the columns and the lines of a run.
+#[derive(Drop)]
+pub struct Room {
+    columns: Vec<char>,
+    lines: Vec<Line>,
+}
+
+impl Room {
+    /// Room for nothing, which takes no memory.
+    pub(crate) fn new(alloc: Global) -> Room {
+        Room {
+            columns: Vec::new(alloc),
+            lines: Vec::new(alloc),
+        }
+    }
+
+    /// The room of a run that is no longer needed.
+    pub(crate) fn of(columns: Vec<char>, lines: Vec<Line>) -> Room {
+        Room { columns, lines }
+    }
+}
+
 /// So many columns from a place on.
 fn part(columns: &[char], first: usize, width: usize) -> &[char]
     requires { first + width ≤ length columns.now }
@@ -78,19 +100,23 @@ impl Run {
         }
     }
 
-    /// A run without lines, with room for as much as another one has.
-    pub(crate) fn with_room_of(
-        alloc: Global,
-        other: &Run,
-        first_line: u64,
-    ) -> Result<Run, AllocError>
+    /// A run without lines in this room, which is made large enough for as much as another one has.
+    pub(crate) fn in_room(room: Room, other: &Run, first_line: u64) -> Result<Run, AllocError>
         ensures lines { IfOk result (λ run. run.lines ≡ []) }
         ensures marked { IfOk result (λ run. run.marked ≡ false) }
         ensures first_line { IfOk result (λ run. run.first_line ≡ first_line) }
     {
+        let Room {
+            mut columns,
+            mut lines,
+        } = room;
+        columns.clear();
+        columns.reserve(other.columns.len())?;
+        lines.clear();
+        lines.reserve(other.lines.len())?;
         Ok(Run {
-            columns: Vec::with_capacity(alloc, other.columns.len())?,
-            lines: Vec::with_capacity(alloc, other.lines.len())?,
+            columns,
+            lines,
             marked: false,
             first_line,
         })

@@ -8,7 +8,7 @@ ghost use Rattle.cse_lines.specs.Taking.{Refuses, Takes};
 
 use crate::decode::{Stop, decode};
 use crate::layout::Layout;
-use crate::run::Run;
+use crate::run::{Room, Run};
 use cse_dict::Dictionary;
 use std::alloc::Global;
 use std::mem;
@@ -16,12 +16,14 @@ use std::mem;
 /// The most lines of a run.
 pub const MOST_LINES: usize = 10_000;
 
-/// Takes a line with its end: it goes on the run, or begins the next one, and then the run is given.
+/// Takes a line with its end: it goes on the run, or begins the next one, and then the run is given. The
+/// next one lies in the room.
 pub fn take_line(
     alloc: Global,
     dictionary: &Dictionary,
     layout: &Layout,
     run: &mut Run,
+    room: &mut Room,
     columns: &mut Vec<char>,
     line: &[u8],
     front: bool,
@@ -37,7 +39,8 @@ pub fn take_line(
     let len = run.len();
     if len > 0 && !layout.has_same_ids(run.columns(0), columns) {
         let number = run.first_line() + len as u64;
-        let mut next = Run::with_room_of(alloc, run, number)?;
+        let room = mem::replace(room, Room::new(alloc));
+        let mut next = Run::in_room(room, run, number)?;
         next.push(columns, head)?;
         return Ok(Some(mem::replace(run, next)));
     }

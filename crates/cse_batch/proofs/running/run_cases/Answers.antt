@@ -1,5 +1,6 @@
 use Rattle.std.proofs.Common.{◌∙◌, ap, length, refl, inl, inr}
 use Rattle.cse_output.proofs.GatherLaws.{Gathering-none}
+use Rattle.cse_lines.specs.Reader.{ReaderText}
 use Rattle.cse_report.specs.Held.{Held}
 use Rattle.cse_report.specs.declared.reports.Reports.{Reports}
 use Rattle.cse_batch.proofs.SoFarLaws.{byte_is}
@@ -64,9 +65,9 @@ runs-preserved g c =
     let more = running_case _ _ _ _ _ _ _ _ _ _ _ _ inv.running _ next c.edit.new.case c.edit.new.store c.edit.new.reports new _ _ c.is_case.result
     c.in-Ok-edit.ensures.edits c.put_to-in-Ok-Some.ensures c.put_to-in-Ok-Some-2.ensures.puts c.put_to-in-Ok-Some-2.ensures.held refl c.is_case.ensures c.in-Ok-Some.ensures.few in
     record {
-      running = rw (c.from-cases.ensures ∙ byte_is _, c.lines-lines.ensures.lines, c.unseen.ensures) more;
-      sound = c.in-Ok-Some.ensures.ok;
-      same = c.in-Ok-Some.ensures.same_reference ∙ inv.same;
+      running = rw (c.take_back.ensures.input, c.take_back.ensures.stream, c.from-cases.ensures ∙ byte_is _, c.lines-lines.ensures.lines, c.unseen.ensures) more;
+      sound = ap (λ (s : ReaderText). s.error) c.take_back.ensures.stream ∙ c.in-Ok-Some.ensures.ok;
+      same = c.take_back.ensures.same_reference ∙ c.in-Ok-Some.ensures.same_reference ∙ inv.same;
       machine = c.in-Ok-edit.ensures.same;
       store_fits = c.in-Ok-edit.ensures.goes_on.store;
       reports_fit = record { messages = ap (λ (h : Held). h.messages) c.put_to-in-Ok-Some-2.ensures.held ∙ c.in-Ok-edit.ensures.reports_fit.messages; counts = ap (λ (h : Held). length h.counts) c.put_to-in-Ok-Some-2.ensures.held ∙ c.in-Ok-edit.ensures.reports_fit.counts; items = c.in-Ok-edit.ensures.reports_fit.items };
