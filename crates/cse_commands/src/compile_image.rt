@@ -1,0 +1,64 @@
+//! `compile`: logic to an image, from the files of its words to that of the image.
+
+ghost use Rattle.std.specs.Prelude.{IfOk, IfErr};
+ghost use Rattle.cse_build.specs.Build.{IsBuilt};
+ghost use Rattle.cse_commands.specs.Stops.{TellsBuildFault};
+
+use crate::fault::Fault;
+use crate::files::{bytes_where_named, file_bytes, write_file};
+use crate::outcome::Stop;
+use crate::plan::CompilePaths;
+use cse_build::build;
+use cse_dict::Dictionary;
+use std::alloc::Global;
+use std::rt::Files;
+
+/// Makes an image of logic for a dictionary, and tells how many bytes it has.
+///
+/// The dictionary is read and checked; then logic, the messages and the edit order are read, one after the other, and
+/// checked. The image is opened where there is one to write. Faults are those of the dictionary (10 to 18); of the
+/// messages (30, 35), the order (40) and the logic (30 to 35, 40 to 49, 64, 67); 70 to 72 of files and devices; and
+/// want of memory (90).
+pub fn compile_files<R: Files + AllocGlobal>(
+    rt: &R,
+    paths: &CompilePaths<'_>,
+) -> Result<usize, Stop> {
+    let text = file_bytes(rt, paths.dict)?;
+    match Dictionary::read(rt.alloc(), &text) {
+        Ok(dictionary) => compile_with(rt, &dictionary, paths),
+        Err(error) => Err(Stop::Refused(Fault::of_dictionary(error))),
+    }
+}
+
+/// The same with the dictionary.
+fn compile_with<R: Files + AllocGlobal>(
+    rt: &R,
+    dictionary: &Dictionary,
+    paths: &CompilePaths<'_>,
+) -> Result<usize, Stop> {
+    let logic = file_bytes(rt, paths.logic)?;
+    let messages = bytes_where_named(rt, paths.messages)?;
+    let order = bytes_where_named(rt, paths.order)?;
+    let image = image_of(rt.alloc(), dictionary, &logic, &messages, &order)?;
+    write_file(rt, paths.image, &image)?;
+    Ok(image.len())
+}
+
+/// The image of these texts. A refusal tells the fault of `build`, with its line and column.
+pub fn image_of(
+    alloc: Global,
+    dictionary: &Dictionary,
+    logic: &[u8],
+    messages: &[u8],
+    order: &[u8],
+) -> Result<Vec<u8>, Stop>
+    // The image is that of the logic, with these messages and this edit order.
+    ensures built { IfOk result (λ image. IsBuilt dictionary.now logic.now messages.now order.now image.items) }
+    // Why there is none.
+    ensures refused { IfErr result (TellsBuildFault dictionary.now logic.now messages.now order.now) }
+{
+    match build(alloc, dictionary, logic, messages, order) {
+        Ok(image) => Ok(image),
+        Err(fault) => Err(Stop::Refused(Fault::of_build(fault))),
+    }
+}

@@ -1,0 +1,25 @@
+//! The commands of csbatch: the words of its command line, files, streams and exit statuses.
+//!
+//! - `commands`: from the words to what is done.
+//! - `plan`: what the words ask for.
+//! - `try_image`: `try`, from the bytes of an image to the messages of its preproc.
+//! - `verify_image`: `verify`, from a dictionary and an image to what is known of the program. `verdict`:
+//!   its lines.
+//! - `compile_image`: `compile`, logic to the bytes of an image.
+//! - `run_image`: `run`, an image over a data file. `gathered`: bytes in memory.
+//! - `files`: the files of the commands.
+//! - `printing`, `fault`: lines for a device. `outcome`: the exit status.
+#![tactic(auto)]
+
+pub mod commands;
+pub mod compile_image;
+pub mod fault;
+pub mod files;
+pub mod gathered;
+pub mod outcome;
+pub mod plan;
+pub mod printing;
+pub mod run_image;
+pub mod try_image;
+pub mod verdict;
+pub mod verify_image;

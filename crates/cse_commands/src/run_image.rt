@@ -1,0 +1,164 @@
+//! `run`: an image over a data file, from the files of its words to those of its outputs.
+
+ghost use Rattle.std.specs.Prelude.{◌≡◌, [], Some, IfOk, IfErr, IfSome, IfNone};
+ghost use Rattle.cse_decks.specs.Store.{Kept, StoreFits, first_kept};
+ghost use Rattle.cse_decks.specs.DeckText.{IsDeckText};
+ghost use Rattle.cse_batch.specs.RunClauses.{RunsWhole, contents, failures};
+ghost use Rattle.cse_commands.specs.Stops.{IsMemory, IsStoreOf, TellsDeckFault, TellsRunFault};
+
+use crate::fault::{Fault, NO_MEMORY};
+use crate::files::{bytes_where_there, created, file_bytes, opened, write_file};
+use crate::gathered::Gathered;
+use crate::outcome::Stop;
+use crate::plan::RunPaths;
+use cse_batch::{Totals, check_image, run};
+use cse_decks::{Store, load};
+use cse_dict::Dictionary;
+use cse_image::{Code, Program};
+use cse_value::{Input, Output, Reads, Writes};
+use cse_verify::Verified;
+use std::alloc::Global;
+use std::rt::Files;
+
+/// Runs an image over a data file, and tells what it counted.
+///
+/// The dictionary, the image and the deck file, if it is named and there, are read and checked one after the
+/// other; then the data file and the outputs are opened, in the order of the words. The deck file is written after
+/// a run without fault. Faults are those of the dictionary (10 to 18), the image (60 to 69), the deck file (50 to
+/// 53) and the data (20 to 22); 70 to 72 of files and devices; and want of memory (90).
+pub fn run_files<R: Files + AllocGlobal>(rt: &R, paths: &RunPaths<'_>) -> Result<Totals, Stop> {
+    let text = file_bytes(rt, paths.dict)?;
+    match Dictionary::read(rt.alloc(), &text) {
+        Ok(dictionary) => run_with(rt, &dictionary, paths),
+        Err(error) => Err(Stop::Refused(Fault::of_dictionary(error))),
+    }
+}
+
+/// The same with the dictionary.
+fn run_with<R: Files + AllocGlobal>(
+    rt: &R,
+    dictionary: &Dictionary,
+    paths: &RunPaths<'_>,
+) -> Result<Totals, Stop> {
+    let image = file_bytes(rt, paths.image)?;
+    match check_image(rt.alloc(), dictionary, &image) {
+        Ok(verified) => run_verified(rt, &verified, paths),
+        Err(fault) => Err(Stop::Refused(Fault::of_check(fault))),
+    }
+}
+
+/// The same with the program.
+fn run_verified<R: Files + AllocGlobal, C: Code>(
+    rt: &R,
+    verified: &Verified<'_, C>,
+    paths: &RunPaths<'_>,
+) -> Result<Totals, Stop> {
+    let Some(path) = paths.decks else {
+        let store = store_of(rt.alloc(), verified.program(), None)?;
+        let (totals, _) = run_over(rt, verified, store, paths)?;
+        return Ok(totals);
+    };
+    let text = bytes_where_there(rt, path)?;
+    let store = store_of(rt.alloc(), verified.program(), text.as_deref())?;
+    let (totals, decks) = run_over(rt, verified, store, paths)?;
+    write_file(rt, path, decks.bytes())?;
+    Ok(totals)
+}
+
+/// The store with the cells of a deck text, or a new one. A deck text of the program is refused by want of memory
+/// alone, and another text by its first faulty line.
+pub fn store_of<C: Code>(
+    alloc: Global,
+    program: &Program<C>,
+    text: Option<&[u8]>,
+) -> Result<Store, Stop>
+    ensures fits { IfOk result (λ s. StoreFits program.now s) }
+    ensures first { IfNone text.entry (IfOk result (λ s. s ≡ first_kept program.now)) }
+    ensures loaded { IfSome text.entry (λ t. IfOk result (λ s. IsDeckText program.now t.now s)) }
+    ensures lacks_memory { IfNone text.entry (IfErr result IsMemory) }
+    ensures every_deck_text { IfSome text.entry (λ t. (s : Kept) → IsDeckText program.now t.now s → IsStoreOf s result) }
+    ensures refused { IfSome text.entry (λ t. IfErr result (TellsDeckFault program.now t.now)) }
+{
+    let Some(text) = text else {
+        return match Store::new(alloc, program) {
+            Ok(store) => Ok(store),
+            Err(_) => Err(Stop::of_number(NO_MEMORY)),
+        };
+    };
+    store_said(alloc, program, text)
+}
+
+/// The store that a deck text says.
+fn store_said<C: Code>(alloc: Global, program: &Program<C>, text: &[u8]) -> Result<Store, Stop>
+    ensures fits { IfOk result (λ s. StoreFits program.now s) }
+    ensures loaded { IfOk result (λ s. IsDeckText program.now text.now s) }
+    ensures every_deck_text { (s : Kept) → IsDeckText program.now text.now s → IsStoreOf s result }
+    ensures refused { IfErr result (TellsDeckFault program.now text.now) }
+{
+    match load(alloc, program, text) {
+        Ok(store) => Ok(store),
+        Err(error) => Err(Stop::Refused(Fault::of_decks(error))),
+    }
+}
+
+/// Runs the program over the data file to the files of the outputs, and gathers the deck text.
+fn run_over<R: Files + AllocGlobal, C: Code>(
+    rt: &R,
+    verified: &Verified<'_, C>,
+    store: Store,
+    paths: &RunPaths<'_>,
+) -> Result<(Totals, Gathered), Stop>
+    requires { StoreFits verified.now.image store }
+{
+    let mut input = Reads::new(opened(rt, paths.data)?);
+    let mut out = Writes::new(created(rt, paths.out)?);
+    let mut listing = Writes::new(created(rt, paths.list)?);
+    let mut frequencies = Writes::new(created(rt, paths.freq)?);
+    run_on(
+        rt.alloc(),
+        verified,
+        store,
+        &mut input,
+        &mut out,
+        &mut listing,
+        &mut frequencies,
+    )
+}
+
+/// Runs the program over the bytes of a device to those of three, and gathers the deck text. A deck text that
+/// memory has no place for is want of memory (90).
+pub fn run_on<C: Code, R: Input, O: Output, L: Output, F: Output>(
+    alloc: Global,
+    verified: &Verified<'_, C>,
+    store: Store,
+    input: &mut R,
+    out: &mut O,
+    listing: &mut L,
+    frequencies: &mut F,
+) -> Result<(Totals, Gathered), Stop>
+    requires { StoreFits verified.now.image store }
+    // The texts, the gathered one too, are those of the batch over all bytes of the input.
+    ensures whole { IfOk result (λ ran. RunsWhole verified.now store (R.remaining input.old) (R.remaining input.new)
+        (contents (O.contents out.old) (L.contents listing.old) (F.contents frequencies.old) (Some [])) (contents (O.contents out.new) (L.contents listing.new) (F.contents frequencies.new) (Some ran.1.bytes.items)) ran.0) }
+    // A stop tells the fault of such a run, but where memory had no place for the deck text.
+    ensures stopped { IfErr result (TellsRunFault verified.now store (R.remaining input.old) (R.remaining input.new)
+        (contents (O.contents out.old) (L.contents listing.old) (F.contents frequencies.old)) (contents (O.contents out.new) (L.contents listing.new) (F.contents frequencies.new))
+        (R.has_failed input.new) (failures (O.has_failed out.new) (L.has_failed listing.new) (F.has_failed frequencies.new))) }
+{
+    let mut decks = Gathered::new(alloc);
+    let ran = run(
+        alloc,
+        verified,
+        store,
+        input,
+        out,
+        listing,
+        frequencies,
+        &mut decks,
+    );
+    match ran {
+        Ok(totals) => Ok((totals, decks)),
+        Err(_) if decks.has_failed() => Err(Stop::of_number(NO_MEMORY)),
+        Err(fault) => Err(Stop::Refused(Fault::of_run(fault))),
+    }
+}
