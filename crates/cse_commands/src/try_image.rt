@@ -1,8 +1,12 @@
 //! `try`: an image runs from its bytes to the messages of its preproc.
 
-ghost use Rattle.std.specs.Prelude.{◌≡◌, false, IfOk, IfErr};
+ghost use Rattle.std.specs.Prelude.{◌≡◌, false, None, IfOk, IfErr};
 ghost use Rattle.std.specs.Io.KnownBytes.{Appends};
-ghost use Rattle.cse_commands.specs.Tried.{empty_text, Goes, IsRefused, Runs, text_of, PrintsBefore, FailsByWrite, is_write};
+ghost use Rattle.cse_decks.specs.Store.{StoreFits};
+ghost use Rattle.cse_report.specs.Held.{begun};
+ghost use Rattle.cse_report.specs.Reports.{ReportsFit};
+ghost use Rattle.cse_machine.specs.Results.{RunsTo};
+ghost use Rattle.cse_commands.specs.Tried.{empty_text, preproc, Goes, IsRefused, Runs, text_of, PrintsBefore, FailsByWrite, is_write};
 ghost use Rattle.cse_commands.specs.Vetted.{IsReadAs};
 
 use crate::printing::print;
@@ -103,9 +107,36 @@ fn try_with<W: Output>(
 fn run_preproc<C: Code>(alloc: Global, verified: &Verified<'_, C>) -> Result<Tried, OutOfMemory>
     ensures { IfOk result (λ t. Goes verified.now t.steps t.reports.listing.texts) }
 {
-    let mut machine = Machine::new(alloc, verified)?;
-    let mut store = Store::new(alloc, verified.program())?;
     let mut reports = Reports::new(alloc, verified.program())?;
-    let steps = machine.run_plain(&mut store, &mut reports, PREPROC)?;
+    let steps = run_from_start(alloc, verified, &mut reports)?;
     Ok(Tried { steps, reports })
+}
+
+/// The same, to reports in which nothing was reported yet. Tells the steps.
+fn run_from_start<C: Code>(
+    alloc: Global,
+    verified: &Verified<'_, C>,
+    reports: &mut Reports,
+) -> Result<u64, OutOfMemory>
+    requires fits { ReportsFit verified.now.image reports.old }
+    requires empty { reports.old.listing ≡ begun verified.now.image.lists.messages }
+    ensures { IfOk result (λ n. Goes verified.now n reports.new.listing.texts) }
+{
+    let mut store = Store::new(alloc, verified.program())?;
+    run_with(alloc, verified, &mut store, reports)
+}
+
+/// Runs the application's preproc from a store, and tells its steps.
+fn run_with<C: Code>(
+    alloc: Global,
+    verified: &Verified<'_, C>,
+    store: &mut Store,
+    reports: &mut Reports,
+) -> Result<u64, OutOfMemory>
+    requires store { StoreFits verified.now.image store.old }
+    requires reports { ReportsFit verified.now.image reports.old }
+    ensures { IfOk result (λ n. RunsTo verified.now preproc None store.old reports.old n None store.new reports.new) }
+{
+    let mut machine = Machine::new(alloc, verified)?;
+    machine.run_plain(store, reports, PREPROC)
 }
