@@ -48,61 +48,22 @@ returns-then-not-branch-clause-judges g c =
     stops_stack s c.args.number code place i c.places.openers c.places.piles c.places.known c.places.invariant.passed there stands
     (stuck_is s c.args.number code place i c.places.openers c.control_of-control.result c.is_in_loop-in_loop.result c.in_ok-turn.field-0 _ _ c.places.invariant.passed.openers_are is c.is_in_loop-in_loop.ensures c.in_ok-turn.ensures.turn c.if-not-branch.true)
 
-pub pass-requires-clause-there : goal.pass-requires-clause-there
-pass-requires-clause-there g c =
+pub pass-requires : goal.pass-requires
+pass-requires g c =
     let s = scene_in c.args.around in
     let size = c.args.around.routine.now.instructions in
     let list = g.C.Code.list c.args.code.now in
     let code = part c.args.start size list in
     let place = c.places.place in
-    let i = c.at-instr.result in
     let there = part_at c.args.start size list place c.places-test.true ∙ c.at-instr.ensures in
-    let is = c.control_of-control.ensures in
-    let stands = sym c.may_stand.ensures ∙ c.if-not-may_stand.false in
     let skel = c.new-skeleton.ensures in
-    subst (λ (k : List Control). slice_get k place ≡ Some c.control_of-control.result) (sym skel) (control_there s c.args.number code place i c.control_of-control.result there is)
-
-pub pass-requires-clause-fine : goal.pass-requires-clause-fine
-pass-requires-clause-fine g c =
-    let s = scene_in c.args.around in
-    let size = c.args.around.routine.now.instructions in
-    let list = g.C.Code.list c.args.code.now in
-    let code = part c.args.start size list in
-    let place = c.places.place in
-    let i = c.at-instr.result in
-    let there = part_at c.args.start size list place c.places-test.true ∙ c.at-instr.ensures in
-    let is = c.control_of-control.ensures in
-    let stands = sym c.may_stand.ensures ∙ c.if-not-may_stand.false in
-    let skel = c.new-skeleton.ensures in
-    subst (λ (k : List Control). KeepsRulesAt k place) (sym skel) (keeps_there s c.args.number code place c.control_of-control.result c.requires.brackets (control_there s c.args.number code place i c.control_of-control.result there is))
-
-pub pass-requires-clause-nested : goal.pass-requires-clause-nested
-pass-requires-clause-nested g c =
-    let s = scene_in c.args.around in
-    let size = c.args.around.routine.now.instructions in
-    let list = g.C.Code.list c.args.code.now in
-    let code = part c.args.start size list in
-    let place = c.places.place in
-    let i = c.at-instr.result in
-    let there = part_at c.args.start size list place c.places-test.true ∙ c.at-instr.ensures in
-    let is = c.control_of-control.ensures in
-    let stands = sym c.may_stand.ensures ∙ c.if-not-may_stand.false in
-    let skel = c.new-skeleton.ensures in
-    subst (λ (k : List Control). IsNestedBelow k place) (sym skel) (nested_there s c.args.number code place c.control_of-control.result c.requires.brackets (control_there s c.args.number code place i c.control_of-control.result there is))
-
-pub pass-requires-clause-openers : goal.pass-requires-clause-openers
-pass-requires-clause-openers g c =
-    let s = scene_in c.args.around in
-    let size = c.args.around.routine.now.instructions in
-    let list = g.C.Code.list c.args.code.now in
-    let code = part c.args.start size list in
-    let place = c.places.place in
-    let i = c.at-instr.result in
-    let there = part_at c.args.start size list place c.places-test.true ∙ c.at-instr.ensures in
-    let is = c.control_of-control.ensures in
-    let stands = sym c.may_stand.ensures ∙ c.if-not-may_stand.false in
-    let skel = c.new-skeleton.ensures in
-    c.places.invariant.passed.openers_are ∙ ap (λ (k : List Control). around k place) (sym skel)
+    let at = control_there s c.args.number code place c.at-instr.result c.control_of-control.result there c.control_of-control.ensures in
+    record {
+      there = subst (λ (k : List Control). slice_get k place ≡ Some c.control_of-control.result) (sym skel) at;
+      fine = subst (λ (k : List Control). KeepsRulesAt k place) (sym skel) (keeps_there s c.args.number code place c.control_of-control.result c.requires.brackets at);
+      nested = subst (λ (k : List Control). IsNestedBelow k place) (sym skel) (nested_there s c.args.number code place c.control_of-control.result c.requires.brackets at);
+      openers = c.places.invariant.passed.openers_are ∙ ap (λ (k : List Control). around k place) (sym skel);
+    }
 
 pub places-preserved : goal.places-preserved
 places-preserved g c =
