@@ -6,3 +6,4 @@ pub mod Results
 pub mod Ready
 pub mod Small
 pub mod Quiet
+pub mod Sorts
