@@ -20,7 +20,7 @@ use Rattle.cse_types.specs.WellTyped.{may_divide}
 use Rattle.cse_types.specs.Judge.{Judged, AsNumber, AsWords, Unknown, is_sound, compared, as_number, expr_count, indexed, is_end, judge, judge_all, judge_operation, judge_operations}
 use Rattle.cse_types.specs.Walk.{is_there, joined, only_if, walk}
 use Rattle.cse_types.proofs.Right.{and_holds}
-use Rattle.cse_types.proofs.Walks.{walk_made, is_none, or_parts}
+use Rattle.cse_types.proofs.Walks.{walk_made, is_none, or_parts, or_same}
 
 pub count_is : (xs : List syntax.Expr) → expr_count (exprs xs) ≡ length xs
 count_is [] = refl
@@ -115,6 +115,24 @@ pub after_made_parts : (relation : Relation) (a b a' b' : Judged) (before mid bo
     → final ≡ (before || not (is_there (compared relation a b)))
 after_made_parts relation a b a' b' before mid both final u v e f h =
     after_parts relation a b before mid both final e f (subst (λ z. NotedParts relation a z both final) v (subst (λ z. NotedParts relation z b' both final) u h))
+
+absorbed_number : (j : Judged) (before : Bool) → ((before || not (is_sound j)) || not (is_there (as_number j))) ≡ (before || not (is_there (as_number j)))
+absorbed_number j true = refl
+absorbed_number (AsNumber (Some x)) false = refl
+absorbed_number (AsNumber None) false = refl
+absorbed_number (AsWords (Some x)) false = refl
+absorbed_number (AsWords None) false = refl
+absorbed_number Unknown false = refl
+
+-- the faults of what is judged were noted before a number was wanted
+pub number_noted : (j k : Judged) (before mid final : Bool) → k ≡ j → mid ≡ (before || not (is_sound j))
+    → ((mid || not (is_sound k)) ≡ mid → final ≡ (mid || not (is_there (as_number k))))
+    → final ≡ (before || not (is_there (as_number j)))
+number_noted j k before mid final u e h =
+    let wanted = subst (λ z. (mid || not (is_sound z)) ≡ mid → final ≡ (mid || not (is_there (as_number z)))) u h in
+    wanted (ap (λ m. m || not (is_sound j)) e ∙ or_same before (not (is_sound j)) ∙ sym e)
+    ∙ ap (λ m. m || not (is_there (as_number j))) e
+    ∙ absorbed_number j before
 
 pub compare_judged : (s : Scope) (top : Bool) (left : Box rust.Expression) (relation : Relation) (right : Box rust.Expression)
     → judge s top (expr (e.Compare left relation right)) ≡ AsNumber (compared relation (judge s false (expr left.value)) (judge s false (expr right.value)))

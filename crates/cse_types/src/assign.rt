@@ -88,12 +88,9 @@ fn set<'a>(
 ) -> Option<Statement<'a>>
     ensures { option_map statement result ≡ joined (typed.Set (written name.entry)) variable (option_map number value.entry) }
 {
-    match variable {
+    match variable.zip(value) {
         None => None,
-        Some(variable) => match value {
-            None => None,
-            Some(value) => Some(Statement::Set(name, variable, value)),
-        },
+        Some((variable, value)) => Some(Statement::Set(name, variable, value)),
     }
 }
 
@@ -175,12 +172,9 @@ fn set_cell<'a>(
 ) -> Option<Statement<'a>>
     ensures { option_map statement result ≡ joined (typed.SetCell (written name.entry) array) (option_map (λ v. numbers (map number v.items)) subscripts.entry) (option_map number value.entry) }
 {
-    match subscripts {
+    match subscripts.zip(value) {
         None => None,
-        Some(subscripts) => match value {
-            None => None,
-            Some(value) => Some(Statement::SetCell(name, array, subscripts, value)),
-        },
+        Some((subscripts, value)) => Some(Statement::SetCell(name, array, subscripts, value)),
     }
 }
 
@@ -191,12 +185,9 @@ fn set_item<'a>(
 ) -> Option<Statement<'a>>
     ensures { option_map statement result ≡ joined (spec.set_item (written name.entry)) (option_map placed place.entry) (option_map number value.entry) }
 {
-    match place {
+    match place.zip(value) {
         None => None,
-        Some((field, which)) => match value {
-            None => None,
-            Some(value) => Some(Statement::SetItem(name, field, which, value)),
-        },
+        Some(((field, which), value)) => Some(Statement::SetItem(name, field, which, value)),
     }
 }
 
@@ -207,12 +198,9 @@ fn set_text_item<'a>(
 ) -> Option<Statement<'a>>
     ensures { option_map statement result ≡ joined (spec.set_text_item (written name.entry)) (option_map placed place.entry) (option_map words value.entry) }
 {
-    match place {
+    match place.zip(value) {
         None => None,
-        Some((field, which)) => match value {
-            None => None,
-            Some(value) => Some(Statement::SetTextItem(name, field, which, value)),
-        },
+        Some(((field, which), value)) => Some(Statement::SetTextItem(name, field, which, value)),
     }
 }
 
@@ -223,12 +211,9 @@ fn imputed<'a>(
 ) -> Option<Statement<'a>>
     ensures { option_map statement result ≡ joined (spec.impute_item (written name.entry)) (option_map placed place.entry) (option_map number value.entry) }
 {
-    match place {
+    match place.zip(value) {
         None => None,
-        Some((field, which)) => match value {
-            None => None,
-            Some(value) => Some(Statement::Impute(name, field, which, value)),
-        },
+        Some(((field, which), value)) => Some(Statement::Impute(name, field, which, value)),
     }
 }
 
@@ -240,12 +225,9 @@ fn put<'a>(
 ) -> Option<Statement<'a>>
     ensures { option_map statement result ≡ joined (typed.PutDeck (written name.entry) array) (option_map (λ v. v.items) picks) (option_map number value.entry) }
 {
-    match picks {
+    match picks.zip(value) {
         None => None,
-        Some(picks) => match value {
-            None => None,
-            Some(value) => Some(Statement::PutDeck(name, array, picks, value)),
-        },
+        Some((picks, value)) => Some(Statement::PutDeck(name, array, picks, value)),
     }
 }
 

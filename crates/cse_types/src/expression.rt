@@ -14,6 +14,7 @@ ghost use Rattle.cse_types.specs.Judge as spec;
 ghost use Rattle.cse_types.specs.Judge.{judged, judge, judge_all, judge_operations, as_number, is_sound, indexed, queried, bare, compared};
 ghost use Rattle.cse_types.specs.Walk.{is_there, joined, only_if, found_more, IsNoted, IsNotedAfter};
 
+use crate::assign::number_in;
 use crate::call::{call, cell, has_dimensions, may_call};
 use crate::deck::queried;
 use crate::faults::Faults;
@@ -185,11 +186,11 @@ pub fn expression<'a>(
         }
         Expression::Minus(operand) => {
             let operand = value(alloc, scope, faults, false, operand)?;
-            Ok(Judged::Number(minus(alloc, operand)?))
+            minus(alloc, operand)
         }
         Expression::Not(operand) => {
             let operand = value(alloc, scope, faults, false, operand)?;
-            Ok(Judged::Number(negated(alloc, operand)?))
+            negated(alloc, operand)
         }
         Expression::Compare(left, relation, right) => {
             let tokens = (left.token(), right.token());
@@ -200,8 +201,7 @@ pub fn expression<'a>(
         }
         Expression::Chain(first, others) => {
             let start = value(alloc, scope, faults, false, first)?;
-            let linked = chain(alloc, scope, faults, top, start, others)?;
-            Ok(Judged::Number(linked))
+            chain(alloc, scope, faults, top, start, others)
         }
     }
 }
@@ -218,14 +218,8 @@ pub fn value<'a>(
     ensures value { IfOk result (λ r. option_map number r ≡ as_number (judge scope.now top (expr x.now))) }
     ensures noted { OnOk result (IsNoted faults.old faults.new (is_there (as_number (judge scope.now top (expr x.now))))) }
 {
-    match expression(alloc, scope, faults, top, x)? {
-        Judged::Number(number) => Ok(number),
-        Judged::Words(_) => {
-            faults.note(44, x.token());
-            Ok(None)
-        }
-        Judged::Unknown => Ok(None),
-    }
+    let found = expression(alloc, scope, faults, top, x)?;
+    Ok(number_in(faults, x.token(), found))
 }
 
 /// `int` or `special`.
@@ -244,11 +238,11 @@ fn apply<'a>(
     match function {
         Function::Int => {
             let inner = value(alloc, scope, faults, true, x)?;
-            Ok(Judged::Number(int(alloc, inner)?))
+            int(alloc, inner)
         }
         Function::Special => {
             let inner = value(alloc, scope, faults, false, x)?;
-            Ok(Judged::Number(is_special(alloc, inner)?))
+            is_special(alloc, inner)
         }
     }
 }
@@ -298,8 +292,8 @@ fn chain<'a>(
     top: bool,
     first: Option<Number<'a>>,
     others: &Vec<Parsed<'a>>,
-) -> Result<Option<Number<'a>>, AllocError>
-    ensures value { IfOk result (λ r. option_map number r ≡ joined typed.Chain (option_map number first.entry) (judge_operations scope.now top (operations_of (map parsed others.now.items)))) }
+) -> Result<Judged<'a>, AllocError>
+    ensures value { IfOk result (λ r. judged r ≡ spec.AsNumber (joined typed.Chain (option_map number first.entry) (judge_operations scope.now top (operations_of (map parsed others.now.items))))) }
     ensures noted { OnOk result (IsNotedAfter (is_there first.entry) faults.old faults.new (is_there (joined typed.Chain (option_map number first.entry) (judge_operations scope.now top (operations_of (map parsed others.now.items)))))) }
 {
     let others = all_operations(alloc, scope, faults, top, others)?;

@@ -14,42 +14,39 @@ use cse_syntax::Relation;
 use cse_typed::{Number, Operation, Words};
 use std::alloc::{AllocError, Global};
 
-pub fn minus<'a>(alloc: Global, x: Option<Number<'a>>) -> Result<Option<Number<'a>>, AllocError>
-    ensures { IfOk result (λ r. option_map number r ≡ option_map typed.Minus (option_map number x.entry)) }
+pub fn minus<'a>(alloc: Global, x: Option<Number<'a>>) -> Result<Judged<'a>, AllocError>
+    ensures { IfOk result (λ r. judged r ≡ spec.AsNumber (option_map typed.Minus (option_map number x.entry))) }
 {
     match x {
-        None => Ok(None),
-        Some(x) => Ok(Some(Number::Minus(Box::new(alloc, x)?))),
+        None => Ok(Judged::Number(None)),
+        Some(x) => Ok(Judged::Number(Some(Number::Minus(Box::new(alloc, x)?)))),
     }
 }
 
-pub fn negated<'a>(alloc: Global, x: Option<Number<'a>>) -> Result<Option<Number<'a>>, AllocError>
-    ensures { IfOk result (λ r. option_map number r ≡ option_map typed.Not (option_map number x.entry)) }
+pub fn negated<'a>(alloc: Global, x: Option<Number<'a>>) -> Result<Judged<'a>, AllocError>
+    ensures { IfOk result (λ r. judged r ≡ spec.AsNumber (option_map typed.Not (option_map number x.entry))) }
 {
     match x {
-        None => Ok(None),
-        Some(x) => Ok(Some(Number::Not(Box::new(alloc, x)?))),
+        None => Ok(Judged::Number(None)),
+        Some(x) => Ok(Judged::Number(Some(Number::Not(Box::new(alloc, x)?)))),
     }
 }
 
-pub fn int<'a>(alloc: Global, x: Option<Number<'a>>) -> Result<Option<Number<'a>>, AllocError>
-    ensures { IfOk result (λ r. option_map number r ≡ option_map typed.Int (option_map number x.entry)) }
+pub fn int<'a>(alloc: Global, x: Option<Number<'a>>) -> Result<Judged<'a>, AllocError>
+    ensures { IfOk result (λ r. judged r ≡ spec.AsNumber (option_map typed.Int (option_map number x.entry))) }
 {
     match x {
-        None => Ok(None),
-        Some(x) => Ok(Some(Number::Int(Box::new(alloc, x)?))),
+        None => Ok(Judged::Number(None)),
+        Some(x) => Ok(Judged::Number(Some(Number::Int(Box::new(alloc, x)?)))),
     }
 }
 
-pub fn is_special<'a>(
-    alloc: Global,
-    x: Option<Number<'a>>,
-) -> Result<Option<Number<'a>>, AllocError>
-    ensures { IfOk result (λ r. option_map number r ≡ option_map typed.IsSpecial (option_map number x.entry)) }
+pub fn is_special<'a>(alloc: Global, x: Option<Number<'a>>) -> Result<Judged<'a>, AllocError>
+    ensures { IfOk result (λ r. judged r ≡ spec.AsNumber (option_map typed.IsSpecial (option_map number x.entry))) }
 {
     match x {
-        None => Ok(None),
-        Some(x) => Ok(Some(Number::IsSpecial(Box::new(alloc, x)?))),
+        None => Ok(Judged::Number(None)),
+        Some(x) => Ok(Judged::Number(Some(Number::IsSpecial(Box::new(alloc, x)?)))),
     }
 }
 
@@ -89,16 +86,13 @@ fn compared_numbers<'a>(
 ) -> Result<Option<Number<'a>>, AllocError>
     ensures { IfOk result (λ r. option_map number r ≡ joined (typed.Compare relation) (option_map number x.entry) (option_map number y.entry)) }
 {
-    match x {
+    match x.zip(y) {
         None => Ok(None),
-        Some(x) => match y {
-            None => Ok(None),
-            Some(y) => Ok(Some(Number::Compare(
-                Box::new(alloc, x)?,
-                relation,
-                Box::new(alloc, y)?,
-            ))),
-        },
+        Some((x, y)) => Ok(Some(Number::Compare(
+            Box::new(alloc, x)?,
+            relation,
+            Box::new(alloc, y)?,
+        ))),
     }
 }
 
@@ -110,16 +104,13 @@ fn compared_texts<'a>(
 ) -> Result<Option<Number<'a>>, AllocError>
     ensures { IfOk result (λ r. option_map number r ≡ joined (typed.CompareTexts relation) (option_map words x.entry) (option_map words y.entry)) }
 {
-    match x {
+    match x.zip(y) {
         None => Ok(None),
-        Some(x) => match y {
-            None => Ok(None),
-            Some(y) => Ok(Some(Number::CompareTexts(
-                Box::new(alloc, x)?,
-                relation,
-                Box::new(alloc, y)?,
-            ))),
-        },
+        Some((x, y)) => Ok(Some(Number::CompareTexts(
+            Box::new(alloc, x)?,
+            relation,
+            Box::new(alloc, y)?,
+        ))),
     }
 }
 
@@ -160,14 +151,14 @@ pub fn chained<'a>(
     alloc: Global,
     first: Option<Number<'a>>,
     others: Option<Vec<Operation<'a>>>,
-) -> Result<Option<Number<'a>>, AllocError>
-    ensures { IfOk result (λ r. option_map number r ≡ joined typed.Chain (option_map number first.entry) (option_map (λ v. operations (map operation_tree v.items)) others.entry)) }
+) -> Result<Judged<'a>, AllocError>
+    ensures { IfOk result (λ r. judged r ≡ spec.AsNumber (joined typed.Chain (option_map number first.entry) (option_map (λ v. operations (map operation_tree v.items)) others.entry))) }
 {
-    match first {
-        None => Ok(None),
-        Some(first) => match others {
-            None => Ok(None),
-            Some(others) => Ok(Some(Number::chain(Box::new(alloc, first)?, others))),
-        },
+    match first.zip(others) {
+        None => Ok(Judged::Number(None)),
+        Some((first, others)) => {
+            let first = Box::new(alloc, first)?;
+            Ok(Judged::Number(Some(Number::chain(first, others))))
+        }
     }
 }

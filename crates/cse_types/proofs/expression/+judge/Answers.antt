@@ -1,15 +1,16 @@
 use Rattle.std.proofs.Common.{◌≡◌, ap, ◌∙◌, sym, subst, map, drop, ◌+◌, ◌<◌, ◌≤◌, length, get_or, List, arith}
-use Rattle.std.specs.Prelude.{◌||◌, not, false, option_map, ◌==◌}
+use Rattle.std.specs.Prelude.{◌||◌, not, false, Option, IfOk, option_map, ◌==◌}
+use Rattle.std.proofs.lemmas.Result.{on_ok_weaker}
 use Rattle.cse_syntax.specs.declared.tree.Expression.{Expression}
 use Rattle.cse_syntax.specs.declared.tree.Operation.{Operation}
 use Rattle.cse_syntax.specs.Tree as syntax
 use Rattle.cse_syntax.specs.Tree.{expr}
 use Rattle.cse_typed.specs.Typed as typed
-use Rattle.cse_typed.specs.Typed.{number}
-use Rattle.cse_types.specs.Judge.{AsNumber, compared, judge, as_number, judge_operation, judge_operations}
+use Rattle.cse_typed.specs.Typed.{Number, number}
+use Rattle.cse_types.specs.Judge.{AsNumber, judged, compared, judge, as_number, judge_operation, judge_operations}
 use Rattle.cse_types.specs.Walk.{is_there, walk, so_far, joined}
 use Rattle.cse_types.proofs.Walks.{step_made, step_noted_made, at_end, there_map, is_none, none_left, after_made_part, step_left}
-use Rattle.cse_types.proofs.Expressions.{indexed_judged, chain_judged, compare_judged, after_made_parts, values_walked, operations_walked}
+use Rattle.cse_types.proofs.Expressions.{indexed_judged, chain_judged, compare_judged, after_made_parts, values_walked, operations_walked, number_noted}
 use Rattle.cse_types.proofs.expression.+judge.Goals as goal
 
 pub expression-returns-in-Indexed-clause-value : goal.expression-returns-in-Indexed-clause-value
@@ -33,22 +34,26 @@ expression-returns-in_ok-made-in-Compare-clause-noted t c =
     ∙ ap (λ (x : Expression). AsNumber (compared relation (judge s false (expr left)) (judge s false (expr x)))) (sym c.deref-in-Compare-4.ensures) in
     rw same (after_made_parts relation (judge s false (expr left)) (judge s false (expr right)) _ _ _ _ _ _ c.in_ok-earlier-in-Compare.ensures.value c.in_ok-later-in-Compare.ensures.value c.in_ok-earlier-in-Compare.ensures.noted c.in_ok-later-in-Compare.ensures.noted c.in_ok-made-in-Compare.ensures.noted)
 
-pub expression-returns-in_ok-linked-in-Chain-clause-value : goal.expression-returns-in_ok-linked-in-Chain-clause-value
-expression-returns-in_ok-linked-in-Chain-clause-value t c =
+pub expression-returns-in_ok-start-in-Chain-clause-value : goal.expression-returns-in_ok-start-in-Chain-clause-value
+expression-returns-in_ok-start-in-Chain-clause-value t c =
     let s = c.args.scope.now in
     let others = judge_operations s c.args.top (syntax.operations (map syntax.operation_tree c.in-Chain.others.items)) in
     let same = ap (λ x. judge s c.args.top (expr x)) c.in-Chain.is ∙ chain_judged s c.args.top c.in-Chain.first c.in-Chain.others
     ∙ ap (λ (x : Expression). AsNumber (joined typed.Chain (as_number (judge s false (expr x))) others)) (sym c.deref-in-Chain.ensures) in
-    ap AsNumber (c.in_ok-linked-in-Chain.ensures.value ∙ ap (λ y. joined typed.Chain y others) c.in_ok-start-in-Chain.ensures.value) ∙ sym same
+    rw same (subst (λ (y : Option Number). IfOk c.chain.result (λ r. judged r ≡ AsNumber (joined typed.Chain y others))) c.in_ok-start-in-Chain.ensures.value c.chain.ensures.value)
 
-pub expression-returns-in_ok-linked-in-Chain-clause-noted : goal.expression-returns-in_ok-linked-in-Chain-clause-noted
-expression-returns-in_ok-linked-in-Chain-clause-noted t c =
+pub expression-returns-in_ok-start-in-Chain-clause-noted : goal.expression-returns-in_ok-start-in-Chain-clause-noted
+expression-returns-in_ok-start-in-Chain-clause-noted t c =
     let s = c.args.scope.now in
     let first = c.deref-in-Chain.result.now in
     let others = judge_operations s c.args.top (syntax.operations (map syntax.operation_tree c.in-Chain.others.items)) in
     let same = ap (λ x. judge s c.args.top (expr x)) c.in-Chain.is ∙ chain_judged s c.args.top c.in-Chain.first c.in-Chain.others
     ∙ ap (λ (x : Expression). AsNumber (joined typed.Chain (as_number (judge s false (expr x))) others)) (sym c.deref-in-Chain.ensures) in
-    rw same (after_made_part number typed.Chain _ (as_number (judge s false (expr first))) others _ _ _ c.in_ok-start-in-Chain.ensures.value c.in_ok-start-in-Chain.ensures.noted c.in_ok-linked-in-Chain.ensures.noted)
+    rw same (on_ok_weaker c.chain.result (after_made_part number typed.Chain _ (as_number (judge s false (expr first))) others _ _ _ c.in_ok-start-in-Chain.ensures.value c.in_ok-start-in-Chain.ensures.noted) c.chain.ensures.noted)
+
+pub value-returns-clause-noted : goal.value-returns-clause-noted
+value-returns-clause-noted t c =
+    number_noted (judge c.args.scope.now c.args.top (expr c.args.x.now)) _ _ _ _ c.in_ok-found.ensures.value c.in_ok-found.ensures.noted c.number_in.ensures.noted
 
 pub all_values-returns-then-is_sound-clause-value : goal.all_values-returns-then-is_sound-clause-value
 all_values-returns-then-is_sound-clause-value t c =
