@@ -104,4 +104,19 @@ impl Emitter<'_> {
         self.put(UNDEFINED)?;
         Ok(place + count + 3)
     }
+    /// The number in a hot deck's cell: an index for each pick, and the cell that they pick.
+    pub(crate) fn number_of_deck(
+        &mut self,
+        place: usize,
+        array: usize,
+        picks: &[Pick],
+    ) -> Result<usize, AllocError>
+        requires room { place + (spec.picks_size picks.now + spec.deck_size picks.now) ≤ 1000000 }
+        ensures code { OnOk result (self.new ≡ self.old ++ (spec.picks_code (place + spec.picks_size picks.now + 2) place picks.now ++ spec.deck_code array (place + spec.picks_size picks.now) picks.now)) }
+        ensures behind { IfOk result (λ n. n ≡ place + (spec.picks_size picks.now + spec.deck_size picks.now)) }
+    {
+        let at = self.picks(place + picks_size(picks) + 2, place, picks)?;
+        let last = self.deck(at, array, picks)?;
+        Ok(last)
+    }
 }

@@ -1,6 +1,6 @@
 //! Code that grows at its end.
 
-ghost use Rattle.std.specs.Prelude.{◌≡◌, List, [], ◌∷◌, ◌++◌, OnOk};
+ghost use Rattle.std.specs.Prelude.{◌≡◌, ◌+◌, ◌≤◌, List, [], ◌∷◌, ◌++◌, OnOk, IfOk};
 ghost use Rattle.cse_emit.specs.Wide as spec;
 ghost use Rattle.cse_emit.specs.Wide.{Wide as AnyWide, all_wide, wide};
 
@@ -43,6 +43,16 @@ impl<'a> Emitter<'a> {
     {
         self.code.push(instruction)?;
         Ok(())
+    }
+
+    /// One more instruction, and the place behind it.
+    pub(crate) fn one(&mut self, place: usize, instruction: Wide<'a>) -> Result<usize, AllocError>
+        requires room { place + 1 ≤ 1000000 }
+        ensures code { OnOk result (self.new ≡ self.old ++ wide instruction.entry ∷ []) }
+        ensures behind { IfOk result (λ n. n ≡ place + 1) }
+    {
+        self.put(instruction)?;
+        Ok(place + 1)
     }
 
     /// An instruction without fields.

@@ -1,7 +1,8 @@
 //! The code of variables and of items without subscripts.
 
 ghost use Rattle.std.specs.Prelude.{◌≡◌, ◌+◌, ◌≤◌, [], ◌∷◌, ◌++◌, OnOk, IfOk};
-ghost use Rattle.cse_emit.specs.Wide.{wide};
+ghost use Rattle.cse_parts.specs.declared.instruction.Op.TheVariants as ops;
+ghost use Rattle.cse_emit.specs.Wide.{wide, with_b};
 ghost use Rattle.cse_emit.specs.Setting.{setting};
 ghost use Rattle.cse_emit.specs.Numbers as spec;
 
@@ -63,6 +64,21 @@ impl<'a> Emitter<'a> {
             Variable::Parameter(parameter) => self.with_c(Op::LoadLocal, parameter),
             Variable::Result => self.with_c(Op::LoadLocal, s.result_local()),
         }
+    }
+
+    /// The value of a variable, and the place behind it.
+    pub(crate) fn number_of_variable(
+        &mut self,
+        s: &Setting,
+        place: usize,
+        variable: Variable,
+    ) -> Result<usize, AllocError>
+        requires room { place + 1 ≤ 1000000 }
+        ensures code { OnOk result (self.new ≡ self.old ++ spec.load (setting s.now) variable ∷ []) }
+        ensures behind { IfOk result (λ n. n ≡ place + 1) }
+    {
+        self.load(s, variable)?;
+        Ok(place + 1)
     }
 
     /// The value on top goes into a variable.
@@ -141,6 +157,22 @@ impl<'a> Emitter<'a> {
                 self.here(place, taken, UNDEFINED, field.owner, found)
             }
         }
+    }
+
+    /// Whether an item's value is in a set.
+    pub(crate) fn in_set(
+        &mut self,
+        place: usize,
+        item: Present,
+        set: u16,
+    ) -> Result<usize, AllocError>
+        requires room { place + (spec.present_size item + 1) ≤ 1000000 }
+        ensures code { OnOk result (self.new ≡ self.old ++ (spec.number_of_item place item ++ with_b ops.InSet set ∷ [])) }
+        ensures behind { IfOk result (λ n. n ≡ place + (spec.present_size item + 1)) }
+    {
+        let at = self.number_of_item(place, item)?;
+        self.with_b(Op::InSet, set)?;
+        Ok(at + 1)
     }
 
     pub fn text_of_item(&mut self, place: usize, item: Present) -> Result<usize, AllocError>
