@@ -3,9 +3,11 @@
 //! - `outline`: the sections of a program as slices, so that a test is a table of constants, and the parts
 //!   that they describe.
 //! - `pieces`: parts, added one by one.
+//! - `persons`: a dictionary of persons, and the program of a hot deck of their ages.
 //! - `device`: a writer that takes few bytes in a call, fails at a call, or takes none at one.
 #![tactic(auto)]
 
 pub mod device;
 pub mod outline;
+pub mod persons;
 pub mod pieces;

@@ -191,3 +191,10 @@ pub fn add_shape(parts: &mut Parts, shape: &Shape) -> Result<(), AllocError> {
     parts.sets.extend_from_slice(&shape.sets)?;
     add_order(&mut parts.order, shape.records.len())
 }
+
+/// The parts that an outline describes, for a dictionary of this shape.
+pub fn parts_for(alloc: Global, outline: &Outline<'_>, shape: &Shape) -> Result<Parts, AllocError> {
+    let mut parts = parts_of(alloc, outline)?;
+    add_shape(&mut parts, shape)?;
+    Ok(parts)
+}

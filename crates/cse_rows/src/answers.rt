@@ -1,11 +1,10 @@
 //! Programs for tests, and what the verifier tells of them.
 
 use cse_dict::Dictionary;
-use cse_fixtures::outline::{
-    self, ArrayOutline, Line, MessageOutline, NOTHING, Outline, add_shape,
-};
+use cse_fixtures::outline::{Line, MessageOutline, NOTHING, Outline, parts_for};
+use cse_fixtures::persons::{AGES, PERSON};
 use cse_fixtures::pieces::{Head, add_lines};
-use cse_image::{Ambient, EventCode, EventEntry, Gift, Local, LocalKind, Parts, Program};
+use cse_image::{Ambient, EventCode, EventEntry, Gift, Parts, Program};
 use cse_verify::{Verified, verify};
 use std::alloc::{AllocError, Global};
 use std::test::Fail;
@@ -13,24 +12,8 @@ use std::test::Fail;
 /// A dictionary of a level alone.
 pub const EMPTY: &str = "[Dictionary]\nName=T\n[Level]\nName=L\n";
 
-/// Persons of a household: at most 30, with sex, relation and age.
-pub const PERSONS: &str = "[Dictionary]\nName=SAMPLE_DICT\nRecordTypeStart=1\nRecordTypeLen=1\n\
-[Level]\nName=QUEST\n[IdItems]\n[Item]\nName=HH\nStart=2\nLen=3\nZeroFill=Yes\n\
-[Record]\nName=PERSON\nRecordTypeValue='P'\nRecordLen=12\nMaxRecords=30\n\
-[Item]\nName=SEX\nStart=5\nLen=1\n[ValueSet]\nName=SEX_VS\nValue=1;Male\nValue=2;Female\n\
-[Item]\nName=REL\nStart=6\nLen=1\n\
-[ValueSet]\nName=REL_VS\nValue=1;Head\nValue=2;Spouse\nValue=3:8;Other\n\
-[Item]\nName=AGE\nStart=7\nLen=3\n[Item]\nName=WEIGHT\nStart=10\nLen=3\nDecimal=1\n";
-
 /// A routine: its ambient, what it gives, whether it has an occurrence of record 0, and its code.
 pub type Plan<'a> = (Ambient, Gift, bool, &'a [Line]);
-
-/// An occurrence of record 0.
-const PERSON: &[Local] = &[Local {
-    kind: LocalKind::Occurrence,
-    owner: 0,
-    length: 0,
-}];
 
 fn add_plan(alloc: Global, parts: &mut Parts, plan: &Plan<'_>) -> Result<(), AllocError> {
     let (ambient, gives, occurrence, lines) = *plan;
@@ -46,12 +29,7 @@ fn add_plan(alloc: Global, parts: &mut Parts, plan: &Plan<'_>) -> Result<(), All
 /// Two constants, a deck of 2 by 4 cells and a message.
 const BESIDE: Outline<'static> = Outline {
     constants: &[10, 2],
-    arrays: &[ArrayOutline {
-        saved: true,
-        name: "AGE_HD",
-        dimensions: &[2, 4],
-        cells: &[],
-    }],
+    arrays: &[AGES],
     messages: &[MessageOutline {
         number: 0,
         summary: false,
@@ -73,8 +51,7 @@ pub fn parts_of(
     plans: &[Plan<'_>],
     events: &[EventEntry],
 ) -> Result<Parts, AllocError> {
-    let mut parts = outline::parts_of(alloc, &BESIDE)?;
-    add_shape(&mut parts, dictionary.shape())?;
+    let mut parts = parts_for(alloc, &BESIDE, dictionary.shape())?;
     parts.limits.extend_from_slice(&LIMITS)?;
     for plan in plans {
         add_plan(alloc, &mut parts, plan)?;

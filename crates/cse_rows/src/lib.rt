@@ -4,7 +4,7 @@
 //! - `dictionaries`: dictionaries, and the first fault of those that are none.
 //! - `images`: images of both versions, and bytes that break a rule.
 //! - `typings`, `events`, `programs`, `opcodes`: programs that may run, and those that may not.
-//! - `answers`, `bounds`, `chains`, `limits`, `shapes`: what the verifier tells of programs.
+//! - `answers`, `bounds`, `chains`, `limits`, `nests`, `shapes`: what the verifier tells of programs.
 //! - `syntax`: logic, and the first fault of what is none.
 //! - `files`: message and order files.
 //! - `checks`, `logic`: names and kinds of logic.
@@ -29,6 +29,8 @@ mod images;
 #[cfg(test)]
 mod limits;
 pub mod logic;
+#[cfg(test)]
+mod nests;
 #[cfg(test)]
 mod opcodes;
 #[cfg(test)]

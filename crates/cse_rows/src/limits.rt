@@ -1,6 +1,7 @@
 //! Programs with limits of their own, and with a routine that gives a text.
 
 use crate::answers::EMPTY;
+use crate::nests::loops_of;
 use cse_dict::Dictionary;
 use cse_fixtures::outline::{Line, MessageOutline, NOTHING, Outline, parts_of};
 use cse_fixtures::pieces::{Head, PLAIN, add_event, add_lines};
@@ -10,18 +11,7 @@ use std::alloc::{AllocError, Global};
 use std::test::Fail;
 
 /// Two loops, one in the other, and a third one.
-const LOOPS: [Line; 10] = [
-    (Op::Number, 0, 0, 0),
-    (Op::LoopCount, 0, 0, 5),
-    (Op::Number, 0, 0, 0),
-    (Op::LoopCount, 0, 1, 4),
-    (Op::End, 0, 0, 3),
-    (Op::End, 0, 0, 1),
-    (Op::Number, 0, 0, 0),
-    (Op::LoopCount, 0, 2, 8),
-    (Op::End, 0, 0, 7),
-    (Op::Return, 0, 0, 0),
-];
+const LOOPS: &[&[u16]] = &[&[0, 1], &[2]];
 
 /// Gives a text.
 const GIVES: [Line; 2] = [(Op::Text, 0, 0, 0), (Op::Return, 0, 0, 0)];
@@ -48,7 +38,7 @@ const BESIDE: Outline<'static> = Outline {
 fn loops(alloc: Global, limits: &[u32]) -> Result<Parts, AllocError> {
     let mut parts = parts_of(alloc, &BESIDE)?;
     parts.limits.extend_from_slice(limits)?;
-    add_lines(alloc, &mut parts, &PLAIN, &LOOPS)?;
+    add_lines(alloc, &mut parts, &PLAIN, &loops_of(alloc, LOOPS, &[])?)?;
     add_event(&mut parts, EventCode::ApplicationPreproc, 0, 0)?;
     Ok(parts)
 }

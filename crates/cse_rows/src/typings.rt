@@ -1,5 +1,6 @@
 //! Worked programs, and why they may not run.
 
+use crate::nests::loops_of;
 use crate::programs::CELLS;
 use cse_fixtures::outline::{self, Line, NOTHING, Outline};
 use cse_fixtures::pieces::{PLAIN, add_event, add_instructions, add_routine};
@@ -48,37 +49,11 @@ fn jumps_told(alloc: Global, code: Vec<Instr>) -> Result<(u8, u32, u32), Fail> {
 
 /// So many loops, one in the other.
 fn nested(alloc: Global, depth: u32) -> Result<Vec<Instr>, AllocError> {
-    let depth = depth.min(100);
-    let mut code = Vec::new(alloc);
-    for i in 0..depth {
-        code.push(Instr {
-            op: Op::Number,
-            a: 0,
-            b: 0,
-            c: 0,
-        })?;
-        code.push(Instr {
-            op: Op::LoopCount,
-            a: 0,
-            b: 1,
-            c: (3 * depth).saturating_sub(i + 1),
-        })?;
+    let mut limits = Vec::new(alloc);
+    for _ in 0..depth {
+        limits.push(1)?;
     }
-    for i in 0..depth {
-        code.push(Instr {
-            op: Op::End,
-            a: 0,
-            b: 0,
-            c: (2 * depth).saturating_sub(2 * i + 1),
-        })?;
-    }
-    code.push(Instr {
-        op: Op::Return,
-        a: 0,
-        b: 0,
-        c: 0,
-    })?;
-    Ok(code)
+    code_of(alloc, &loops_of(alloc, &[limits.as_slice()], &[])?)
 }
 
 /// Code, and the first place that breaks a rule of jumps or brackets.
