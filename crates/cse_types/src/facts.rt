@@ -1,6 +1,6 @@
 //! What statements use: whether they need a case, and the globals that they may assign.
 
-ghost use Rattle.std.specs.Prelude.{◌≡◌, map, slice_get, Some, OnOk, IfOk, true};
+ghost use Rattle.std.specs.Prelude.{◌≡◌, ◌∷◌, ◌++◌, map, slice_get, Some, OnOk, IfOk, true};
 ghost use Rattle.cse_typed.specs.Typed as typed;
 ghost use Rattle.cse_typed.specs.Typed.{operation_tree};
 ghost use Rattle.cse_types.specs.Uses as spec;
@@ -77,10 +77,13 @@ fn number(
     ensures { OnOk result (gathered.new ≡ gather functions.now gathered.old (spec.uses (typed.number x.now))) }
 {
     match x {
-        Number::Literal(_, _) => Ok(()),
-        Number::Special(_, _) => Ok(()),
-        Number::Variable(_, _) => Ok(()),
-        Number::Item(_, _) => {
+        Number::Literal(_, _) | Number::Special(_, _) | Number::Variable(_, _) => Ok(()),
+        Number::Item(_, _)
+        | Number::Deck(_, _, _)
+        | Number::TotOcc(_, _)
+        | Number::MaxOcc(_, _)
+        | Number::CurOcc(_, _, _)
+        | Number::InSet(_, _, _, _) => {
             case(functions, gathered);
             Ok(())
         }
@@ -93,31 +96,11 @@ fn number(
             call(functions, gathered, *function)?;
             numbers(functions, gathered, arguments)
         }
-        Number::Group(inner) => number(functions, gathered, inner),
-        Number::Int(inner) => number(functions, gathered, inner),
-        Number::IsSpecial(inner) => number(functions, gathered, inner),
-        Number::Deck(_, _, _) => {
-            case(functions, gathered);
-            Ok(())
-        }
-        Number::TotOcc(_, _) => {
-            case(functions, gathered);
-            Ok(())
-        }
-        Number::MaxOcc(_, _) => {
-            case(functions, gathered);
-            Ok(())
-        }
-        Number::CurOcc(_, _, _) => {
-            case(functions, gathered);
-            Ok(())
-        }
-        Number::InSet(_, _, _, _) => {
-            case(functions, gathered);
-            Ok(())
-        }
-        Number::Minus(inner) => number(functions, gathered, inner),
-        Number::Not(inner) => number(functions, gathered, inner),
+        Number::Group(inner)
+        | Number::Int(inner)
+        | Number::IsSpecial(inner)
+        | Number::Minus(inner)
+        | Number::Not(inner) => number(functions, gathered, inner),
         Number::Compare(left, _, right) => {
             number(functions, gathered, left)?;
             number(functions, gathered, right)
@@ -199,6 +182,36 @@ fn which(
     }
 }
 
+/// A number is put into an item.
+#[tactic(auto, unfolding(crate::specs::Gather::gather), using(crate::proofs::Gathering::gather_both))]
+fn into_item(
+    functions: &[Option<Facts>],
+    gathered: &mut Gathered,
+    place: &Which<'_>,
+    value: &Number<'_>,
+) -> Result<(), AllocError>
+    ensures { OnOk result (gathered.new ≡ gather functions.now gathered.old (spec.TheCase ∷ (spec.uses_which (typed.which place.now) ++ spec.uses (typed.number value.now)))) }
+{
+    case(functions, gathered);
+    which(functions, gathered, place)?;
+    number(functions, gathered, value)
+}
+
+/// A text is put into an item.
+#[tactic(auto, unfolding(crate::specs::Gather::gather), using(crate::proofs::Gathering::gather_both))]
+fn text_into_item(
+    functions: &[Option<Facts>],
+    gathered: &mut Gathered,
+    place: &Which<'_>,
+    value: &Words<'_>,
+) -> Result<(), AllocError>
+    ensures { OnOk result (gathered.new ≡ gather functions.now gathered.old (spec.TheCase ∷ (spec.uses_which (typed.which place.now) ++ spec.uses_words (typed.words value.now)))) }
+{
+    case(functions, gathered);
+    which(functions, gathered, place)?;
+    words(functions, gathered, value)
+}
+
 fn argument(
     functions: &[Option<Facts>],
     gathered: &mut Gathered,
@@ -260,21 +273,17 @@ fn statement(
     ensures { OnOk result (gathered.new ≡ gather functions.now gathered.old (spec.uses_of (typed.statement x.now))) }
 {
     match x {
-        Statement::Empty => Ok(()),
+        Statement::Empty | Statement::Jump(_, _) => Ok(()),
         Statement::Set(_, variable, value) => {
             assigned(functions, gathered, *variable)?;
             number(functions, gathered, value)
         }
         Statement::SetText(_, _, value) => words(functions, gathered, value),
-        Statement::SetItem(_, _, place, value) => {
-            case(functions, gathered);
-            which(functions, gathered, place)?;
-            number(functions, gathered, value)
+        Statement::SetItem(_, _, place, value) | Statement::Impute(_, _, place, value) => {
+            into_item(functions, gathered, place, value)
         }
         Statement::SetTextItem(_, _, place, value) => {
-            case(functions, gathered);
-            which(functions, gathered, place)?;
-            words(functions, gathered, value)
+            text_into_item(functions, gathered, place, value)
         }
         Statement::SetCell(_, _, subscripts, value) => {
             numbers(functions, gathered, subscripts)?;
@@ -301,12 +310,6 @@ fn statement(
         Statement::Do(counting, body) => {
             head(functions, gathered, counting)?;
             block(functions, gathered, body)
-        }
-        Statement::Jump(_, _) => Ok(()),
-        Statement::Impute(_, _, place, value) => {
-            case(functions, gathered);
-            which(functions, gathered, place)?;
-            number(functions, gathered, value)
         }
         Statement::PutDeck(_, _, _, value) => {
             case(functions, gathered);

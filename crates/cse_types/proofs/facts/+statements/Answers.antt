@@ -83,7 +83,7 @@ statement-returns-in_ok-assigned-in-For t c =
     let same = ap (λ (x : Statement). gather fs g (spec.uses_of (typed.statement x))) c.in-For.is
     ∙ ap (λ (x : typed.Statement). gather fs g (spec.uses_of x)) (for_is c.in-For.field-0 c.in-For.variable c.in-For.field-2 c.in-For.field-3 c.in-For.body)
     ∙ gather_for fs g us vs
-    ∙ ap (λ z. gather fs (gather fs z us) vs) (sym c.case-in-For.ensures)
+    ∙ ap (λ z. gather fs (gather fs z us) vs) (sym c.case.ensures)
     ∙ ap (λ z. gather fs z vs) (sym c.in_ok-assigned-in-For.ensures) in
     rw same c.block-in-For.ensures
 
