@@ -1,17 +1,19 @@
 //! A plain Rust program that does the work of a copy case by case, to compare times with those that
-//! `cse_bench` prints: 3,000,000 short lines in memory, three to a household.
+//! `cse_bench` and `whole.py` print.
 //!
-//!     rustc -O copy.rs && ./copy
+//!     rustc -O copy.rs && ./copy            3,000,000 short lines in memory, three to a household, with six id columns
+//!     ./copy IN OUT                         a file, with three id columns
 //!
 //! Each line is decoded to characters and padded to its record's length; lines with equal id columns
-//! (2 to 7) are gathered; each line of a gathered run is encoded again without trailing blanks past
-//! its own length, then its own end.
+//! (from the second on) are gathered; each line of a gathered run is encoded again without trailing blanks
+//! past its own length, then its own end.
 
-use std::io::{self, BufRead, BufReader, BufWriter, Write};
+use std::env;
+use std::fs::File;
+use std::io::{self, BufRead, BufReader, BufWriter, Read, Write};
 use std::time::Instant;
 
 const RECORD_LENGTH: usize = 12;
-const IDS: std::ops::Range<usize> = 1..7;
 
 struct Line {
     first: usize,
@@ -21,13 +23,19 @@ struct Line {
     is_person: bool,
 }
 
-#[derive(Default)]
 struct Run {
+    /// How many id columns a line has.
+    ids: usize,
     columns: Vec<char>,
     lines: Vec<Line>,
 }
 
 impl Run {
+    /// A run without lines.
+    fn new(ids: usize) -> Run {
+        Run { ids, columns: Vec::new(), lines: Vec::new() }
+    }
+
     /// Appends a line to the run.
     fn push(&mut self, text: &str, end: &'static [u8]) {
         let first = self.columns.len();
@@ -40,7 +48,7 @@ impl Run {
     }
 
     fn ids(&self, line: &Line) -> &[char] {
-        &self.columns[line.first + IDS.start..line.first + IDS.end]
+        &self.columns[line.first + 1..line.first + 1 + self.ids]
     }
 
     /// Whether the last line has other ids than the first.
@@ -53,7 +61,7 @@ impl Run {
 
     /// Takes the last line out into a run of its own.
     fn split_last(&mut self) -> Run {
-        let mut next = Run::default();
+        let mut next = Run::new(self.ids);
         if let Some(mut line) = self.lines.pop() {
             next.columns.extend_from_slice(&self.columns[line.first..]);
             self.columns.truncate(line.first);
@@ -92,13 +100,13 @@ fn cut_end(line: &[u8]) -> (&[u8], &'static [u8]) {
     }
 }
 
-fn copy(input: &[u8], output: &mut Vec<u8>) -> io::Result<(usize, usize)> {
+fn copy(ids: usize, input: impl Read, output: impl Write) -> io::Result<(usize, usize)> {
     let mut input = BufReader::with_capacity(65_536, input);
     let mut out = BufWriter::with_capacity(65_536, output);
     let (mut cases, mut lines) = (0, 0);
     let mut bytes = Vec::new();
     let mut text = String::new();
-    let mut run = Run::default();
+    let mut run = Run::new(ids);
     while input.read_until(b'\n', &mut bytes)? > 0 {
         let (line, end) = cut_end(&bytes);
         let line = std::str::from_utf8(line).map_err(io::Error::other)?;
@@ -116,7 +124,8 @@ fn copy(input: &[u8], output: &mut Vec<u8>) -> io::Result<(usize, usize)> {
     Ok((cases, lines))
 }
 
-fn main() -> io::Result<()> {
+/// Copies lines in memory three times, and prints the time of each.
+fn time_copies() -> io::Result<()> {
     let mut input = Vec::new();
     for i in 0..1_000_000 {
         write!(input, "P{i:06}11 35\nP{i:06}22 33\nP{i:06}13\n")?;
@@ -124,9 +133,21 @@ fn main() -> io::Result<()> {
     for _ in 0..3 {
         let mut output = Vec::new();
         let start = Instant::now();
-        let (cases, lines) = copy(&input, &mut output)?;
+        let (cases, lines) = copy(6, &input[..], &mut output)?;
         let time = start.elapsed().as_millis();
         println!("{cases} cases, {lines} lines: {time} ms, same: {}", input == output);
     }
     Ok(())
+}
+
+fn main() -> io::Result<()> {
+    let words: Vec<String> = env::args().skip(1).collect();
+    match &words[..] {
+        [from, to] => {
+            let (cases, lines) = copy(3, File::open(from)?, File::create(to)?)?;
+            println!("cases {cases} lines {lines}");
+            Ok(())
+        }
+        _ => time_copies(),
+    }
 }

@@ -1,12 +1,14 @@
 #!/usr/bin/env python3
-"""Times whole runs over a large file of the household sample, by turns, and compares what they write.
+"""Times whole runs over large files, by turns with plain Rust programs of the same work, and compares what they write.
 
 usage: whole.py CSBATCH [CASES [ROUNDS]]     (1,000,000 cases and 5 rounds, if it isn't said; needs rustc)
 
-It builds `households.rs` and `household/main.rs` beside it, writes the file, and then runs in each round: `cat`, the
-sample's edit by hand in plain Rust, `csbatch run` with empty logic, with the sample's logic, the same in 4 parts side
-by side, and over the first 10,000 cases. It prints seconds of processor time (user and system, least of the rounds),
-seconds of the clock, and the most memory that was resident; then whether the plain edit wrote what `csbatch run` did.
+It builds `copy.rs`, `households.rs` and `household/main.rs` beside it, and writes three files: short lines, three to a
+case; the same with a column beyond ASCII in each; and households as the sample has them. In each round it runs a copy
+by hand and `csbatch run` with empty logic over each of the first two; over the third `cat`, the sample's edit by hand,
+`csbatch run` with empty logic, with the sample's logic, the same in 4 parts side by side, and over the first 10,000
+cases. It prints seconds of processor time (user and system, least of the rounds) with the ratio to the plain program
+that does the same, seconds of the clock, and the most memory that was resident; then whether both wrote the same.
 """
 import filecmp
 import os
@@ -18,7 +20,11 @@ import time
 
 HERE = os.path.dirname(os.path.realpath(__file__))
 SAMPLE = os.path.join(HERE, "..", "household")
+SHORT = os.path.join(HERE, "..", "sample", "SAMPLE.dcf")
 PARTS, FEW = 4, 10_000
+
+# Which plain program does the work of a run.
+PLAIN = {"short lines": "copy of short lines", "beyond ASCII": "copy beyond ASCII", "sample": "edit by hand"}
 
 
 def sample(name):
@@ -96,8 +102,16 @@ def in_parts(data, lines):
     return names
 
 
-def run_of(program, image, data, to, decks=True):
-    words = [program, "run", sample("dcf"), image, data, f"{to}.out", f"{to}.lst", f"{to}.frq"]
+def short_lines(to, cases, mark):
+    """Writes cases of three short lines, each with this mark in its last column."""
+    with open(to, "w", encoding="utf-8") as data:
+        for k in range(cases):
+            household = f"P{k % 1000:03}"
+            data.write(f"{household}11 35{mark}\n{household}22 33{mark}\n{household}13   {mark}\n")
+
+
+def run_of(program, image, data, to, decks=True, dictionary=sample("dcf")):
+    words = [program, "run", dictionary, image, data, f"{to}.out", f"{to}.lst", f"{to}.frq"]
     return words + ["--decks", f"{to}.decks"] * decks, f"{to}.said"
 
 
@@ -108,11 +122,19 @@ def prepared(program, cases):
     beside = ["--messages", sample("mgf"), "--order", sample("order")]
     subprocess.run([program, "compile", sample("dcf"), sample("apc"), "logic.img", *beside], check=True)
     subprocess.run([program, "compile", sample("dcf"), "empty.apc", "empty.img"], check=True)
+    subprocess.run([program, "compile", SHORT, "empty.apc", "short.img"], check=True)
+    short_lines("short", cases, "E")
+    short_lines("beyond", cases, "\u00c9")
+    copy = built("copy.rs", "copy")
     lines = first_cases("data", "few", FEW)
     parts = in_parts("data", lines)
     rows = {
+        "copy of short lines": [([copy, "short", "cs.out"], "cs.said")],
+        "short lines": [run_of(program, "short.img", "short", "s", decks=False, dictionary=SHORT)],
+        "copy beyond ASCII": [([copy, "beyond", "cb.out"], "cb.said")],
+        "beyond ASCII": [run_of(program, "short.img", "beyond", "b", decks=False, dictionary=SHORT)],
         "cat": [(["cat", "data"], "cat.out")],
-        "plain edit": [([built("household/main.rs", "plain"), "data", "p.out", "p.lst", "p.frq", "p.decks"], "p.said")],
+        "edit by hand": [([built("household/main.rs", "plain"), "data", "p.out", "p.lst", "p.frq", "p.decks"], "p.said")],
         "empty logic": [run_of(program, "empty.img", "data", "e", decks=False)],
         "sample": [run_of(program, "logic.img", "data", "h")],
         f"in {PARTS} parts": [run_of(program, "logic.img", part, part) for part in parts],
@@ -130,10 +152,13 @@ def main(program, cases=1_000_000, rounds=5):
             shutil.copy(sample("decks"), to)
         for name, commands in rows.items():
             seen.setdefault(name, []).append(timed(*commands))
-    print(f"{'':14}{'processor s':>12}{'clock s':>9}{'KB':>9}")
+    least = {name: min(it[0] for it in used) for name, used in seen.items()}
+    print(f"{'':20}{'processor s':>12}{'ratio':>7}{'clock s':>9}{'KB':>9}")
     for name, used in seen.items():
-        print(f"{name:14}{min(it[0] for it in used):12.2f}{min(it[1] for it in used):9.2f}{max(it[2] for it in used):9}")
-    for ours, theirs in (("h.out", "p.out"), ("h.lst", "p.lst"), ("h.frq", "p.frq"), ("h.decks", "p.decks"), ("e.out", "data")):
+        ratio = f"{least[name] / least[PLAIN[name]]:.2f}" if name in PLAIN else ""
+        print(f"{name:20}{least[name]:12.2f}{ratio:>7}{min(it[1] for it in used):9.2f}{max(it[2] for it in used):9}")
+    for ours, theirs in (("s.out", "cs.out"), ("s.out", "short"), ("b.out", "cb.out"), ("b.out", "beyond"), ("e.out", "data"),
+                         ("h.out", "p.out"), ("h.lst", "p.lst"), ("h.frq", "p.frq"), ("h.decks", "p.decks")):
         print(f"{ours} and {theirs}: {'the same' if filecmp.cmp(ours, theirs, shallow=False) else 'DIFFERENT'}")
 
 
