@@ -1,6 +1,6 @@
 -- Laws of an item's columns among those of a line.
-use Rattle.std.proofs.Common.{◌≡◌, ℕ, ◌+◌, ◌-◌, ◌≤◌, min, List, ◌++◌, length, take, drop, ap, sym, ◌∙◌, arith, length-drop, drop-drop}
-use Rattle.std.proofs.lemmas.List.{length-take, length-take-le, take_rest, take_min, drop_min}
+use Rattle.std.proofs.Common.{◌≡◌, ℕ, zero, suc, ◌+◌, ◌-◌, ◌≤◌, min, List, [], ◌∷◌, ◌++◌, length, take, drop, refl, ap, sym, ◌∙◌, arith, length-drop, drop-drop}
+use Rattle.std.proofs.lemmas.List.{drop-take, length-take, length-take-le, take_rest, take_min, drop_min}
 use borrow.Rule.Slice.PartMut.{put_mid}
 use Rattle.cse_value.specs.declared.shape.ItemShape.{ItemShape}
 use Rattle.cse_value.proofs.WidthLaws.{length-put, length-put_text}
@@ -10,6 +10,12 @@ use Rattle.cse_case.specs.declared.field.Entry.TheVariants.{Number, Words}
 use Rattle.cse_case.specs.Entry.{entry_columns}
 use Rattle.cse_case.specs.Field.{field_of, rewritten}
 
+take_take : (n m : ℕ) (xs : List ℕ) → n ≤ m → take n (take m xs) ≡ take n xs
+take_take zero m xs h = refl
+take_take (suc n) zero xs h = absurd (omega arith)
+take_take (suc n) (suc m) [] h = refl
+take_take (suc n) (suc m) (x ∷ xs) h = ap (λ l. x ∷ l) (take_take n m xs (omega arith))
+
 -- the columns that are there
 pub field_here : (item : ItemShape) (columns : List ℕ) (s n : ℕ) → s ≡ min (item.start - 1) (length columns)
     → n ≡ min item.len (length (take (length columns - s) (drop s columns))) → take n (take (length columns - s) (drop s columns)) ≡ field_of item columns
@@ -18,6 +24,19 @@ field_here item columns s n e f =
     let rest : take (length columns - s) (drop s columns) ≡ drop (item.start - 1) columns =
     take_rest columns s ∙ (ap (λ k. drop k columns) e ∙ drop_min (item.start - 1) columns) in
     ap (λ k. take k (take (length columns - s) (drop s columns))) f ∙ (take_min item.len (take (length columns - s) (drop s columns)) ∙ ap (take item.len) rest)
+
+-- all columns of an item, among those of a run
+pub whole_here : (item : ItemShape) (columns : List ℕ) (first width start n : ℕ) → item.start - 1 + item.len ≤ width → start ≡ first + (item.start - 1) → n ≡ item.len
+    → take n (drop start columns) ≡ field_of item (take width (drop first columns))
+unfolding field_of
+whole_here item columns first width start n within at is =
+    let from = item.start - 1 in
+    let rest : width ≡ from + (width - from) = omega arith in
+    let cut : drop from (take width (drop first columns)) ≡ take (width - from) (drop from (drop first columns)) =
+    ap (λ w. drop from (take w (drop first columns))) rest ∙ drop-take from (width - from) (drop first columns) in
+    let moved : drop from (drop first columns) ≡ drop start columns = drop-drop from first columns ∙ ap (λ k. drop k columns) (sym at) in
+    ap (λ k. take k (drop start columns)) is
+    ∙ sym (ap (take item.len) (cut ∙ ap (take (width - from)) moved) ∙ take_take item.len (width - from) (drop start columns) (omega arith))
 
 -- the columns after new ones were written into these
 pub written_here : (item : ItemShape) (put : ℕ → List ℕ) (columns new : List ℕ) (s n : ℕ) → s ≡ min (item.start - 1) (length columns)

@@ -7,3 +7,4 @@ pub mod FitLaws
 pub mod ReadLaws
 pub mod SightLaws
 pub mod SetLaws
+pub mod NumberLaws

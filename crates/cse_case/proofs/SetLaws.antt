@@ -82,6 +82,19 @@ text_short c n sound h text =
     let size : (item_at (items_of c) n).len ≡ s.item.shape.len = ap (λ (i : ItemShape). i.len) s.shape in
     omega (arith, s.sound.text (ap (λ (i : ItemShape). i.kind) (sym s.shape) ∙ text))
 
+-- an item starts at the first column or after it, and a number has 15 columns at most
+pub item_starts : (c : CaseText) (n : ℕ) → IsSound c.dictionary → n < length (items_of c) → 1 ≤ (item_at (items_of c) n).start
+item_starts c n sound h =
+    let s = sound_item c.dictionary n sound h in
+    let start : (item_at (items_of c) n).start ≡ s.item.shape.start = ap (λ (i : ItemShape). i.start) s.shape in
+    omega (arith, s.sound.start)
+
+pub number_short : (c : CaseText) (n : ℕ) → IsSound c.dictionary → n < length (items_of c) → (item_at (items_of c) n).kind ≡ Number → (item_at (items_of c) n).len ≤ 15
+number_short c n sound h number =
+    let s = sound_item c.dictionary n sound h in
+    let size : (item_at (items_of c) n).len ≡ s.item.shape.len = ap (λ (i : ItemShape). i.len) s.shape in
+    omega (arith, s.sound.number (ap (λ (i : ItemShape). i.kind) (sym s.shape) ∙ number))
+
 -- the columns of an item that may be set
 pub record HasRoom (c : CaseText) (r o item : ℕ) : Type 0 where
   pub below : place_of c r o < length c.run.lines

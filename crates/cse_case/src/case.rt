@@ -11,7 +11,8 @@ ghost use Rattle.cse_case.specs.Seen.{is_case};
 ghost use Rattle.cse_case.specs.Field.{IsItem, item_at};
 ghost use Rattle.cse_case.specs.Entry.{entry_columns};
 
-use crate::field::{Entry, field_of, line_columns, write_in_line};
+use crate::field::{Entry, field_of, line_columns, whole_field, write_in_line};
+use crate::number::number_in;
 use crate::seen::{Table, table_of};
 use crate::write::{mark, put_lines};
 use cse_dict::{Dictionary, Unseen};
@@ -178,7 +179,7 @@ impl<'a> Case<'a> {
         ensures own { (line_at self.now.run result).record_number ≡ Some number }
     {
         let span = self.table.spans[number as usize];
-        self.table.places[span.start + (occurrence - 1) as usize]
+        self.table.places[span.start + occurrence as usize - 1]
     }
 
     /// An item of the dictionary, which is sound.
@@ -200,6 +201,19 @@ impl<'a> Case<'a> {
     {
         let line = self.lines[place];
         field_of(self.item(item), line_columns(&self.columns, line))
+    }
+
+    /// The columns of an item in the line at a place, which is one of the item's record and so has them
+    /// all.
+    fn own_columns(&self, place: usize, item: u16) -> &[char]
+        requires place { place < length self.now.run.lines }
+        requires item { item < length (items_of self.now) }
+        requires own { (line_at self.now.run place).record_number ≡ Some (item_at (items_of self.now) item).owner }
+        requires there { (item_at (items_of self.now) item).owner < length (records_of self.now) }
+        ensures columns { result.now ≡ columns_at self.now place item }
+        ensures number { (item_at (items_of self.now) item).kind ≡ ANumber → length result.now ≤ 15 }
+    {
+        whole_field(self.item(item), &self.columns, &self.lines[place])
     }
 
     /// The number in an item's columns, in the line at a place.
@@ -224,12 +238,15 @@ impl<'a> Case<'a> {
     }
 
     /// The number of an item in an occurrence of its record.
+    #[inline(always)]
+    #[tactic(auto, unfolding(crate::specs::Case::number_at))]
     pub fn get_num(&self, number: u16, occurrence: u16, item: u16) -> Num
         requires occurrence { IsOccurrence self.now number occurrence }
         requires item { IsItem (items_of self.now) number ANumber item }
         ensures { result ≡ number_at self.now (place_of self.now number occurrence) item }
     {
-        self.number_at(self.place(number, occurrence), item)
+        let columns = self.own_columns(self.place(number, occurrence), item);
+        number_in(columns, self.dictionary.code(item))
     }
 
     /// The text of an item in an occurrence of its record: all its columns.

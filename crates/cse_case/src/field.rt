@@ -25,6 +25,17 @@ pub fn field_of<'a>(item: &ItemShape, columns: &'a [char]) -> &'a [char]
     &rest[..count]
 }
 
+/// The item's columns in a line that has them all, among the columns of its run.
+pub fn whole_field<'a>(item: &ItemShape, columns: &'a [char], line: &Line) -> &'a [char]
+    requires start { 1 ≤ item.now.start }
+    requires whole { item.now.start - 1 + item.now.len ≤ line.now.width }
+    requires laid { line.now.first + line.now.width ≤ length columns.now }
+    ensures { result.now ≡ field_of item.now (take line.now.width (drop line.now.first columns.now)) }
+{
+    let start = line.first + (item.start as usize - 1);
+    &columns[start..start + item.len as usize]
+}
+
 /// What is written into an item: a number, with the item's zeros and code, or a text.
 pub enum Entry<'t> {
     Number {

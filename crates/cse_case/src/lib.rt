@@ -1,6 +1,7 @@
 //! Cases in and out: the lines of a data file with equal id columns, read by a dictionary.
 //!
 //! - `field`: the columns of an item in a line.
+//! - `number`: the number in a few columns.
 //! - `seen`: which lines of a run are seen, and as which occurrence of their record.
 //! - `case`: a case, and its fields.
 //! - `write`: how the lines of a run are written.
@@ -12,6 +13,7 @@
 mod case;
 mod field;
 mod laws;
+mod number;
 mod reader;
 mod seen;
 mod source;

@@ -1,7 +1,6 @@
-use Rattle.std.proofs.Common.{◌≡◌, ◌<◌, ◌+◌, ◌-◌, Some, ap, sym, ◌∙◌, length, arith, map, subst}
+use Rattle.std.proofs.Common.{◌≡◌, ◌<◌, ◌+◌, ◌-◌, Some, get_or, ap, sym, ◌∙◌, length, arith, map, subst}
 use Rattle.std.specs.Prelude.{slice_index}
-use Rattle.std.proofs.lemmas.List.{get_or_read, length-map}
-use Rattle.cse_lines.specs.Laid.{laid_line}
+use Rattle.std.proofs.lemmas.List.{get_or_read}
 use Rattle.cse_dict.specs.Dictionary.{shape_of}
 use Rattle.cse_case.specs.Seen.{occurrence_places}
 use Rattle.cse_case.specs.Case.{CaseText, place_of, places_of, records_of}
@@ -42,8 +41,10 @@ returns-clause-value c =
     let all : length (occurrence_places records r types) ≡ length (places_of c.args.self.now r) =
     ap (λ ts. length (occurrence_places records r ts)) (sym (types_laid v.columns.items v.lines.items)) ∙ ap (λ (x : CaseText). length (places_of x r)) c.self.view_is in
     let fits = c.self.invariant.table.fits r span within c.index-span.ensures in
-    let low : span.start + o < length v.table.places.items = omega (arith, c.requires.occurrence) in
-    get_or_read v.table.places.items (span.start + o) c.index.result.now low c.index.ensures 0
+    let at : span.start + c.args.occurrence - 1 ≡ span.start + o = omega (arith, c.requires.occurrence) in
+    let low : span.start + c.args.occurrence - 1 < length v.table.places.items = omega (arith, c.requires.occurrence) in
+    get_or_read v.table.places.items (span.start + c.args.occurrence - 1) c.index.result.now low c.index.ensures 0
+    ∙ ap (λ k. get_or v.table.places.items k 0) at
     ∙ (place_is records types v.table.places.items v.table.spans.items r o span c.self.invariant.table within c.index-span.ensures (omega (arith, c.requires.occurrence))
     ∙ (ap (λ ts. slice_index (occurrence_places records r ts) o) (sym (types_laid v.columns.items v.lines.items)) ∙ ap (λ (x : CaseText). slice_index (places_of x r) o) c.self.view_is))
 

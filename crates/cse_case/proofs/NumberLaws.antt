@@ -1,0 +1,117 @@
+-- Laws of fields of blanks and then digits.
+use Rattle.std.proofs.Common.{◌≡◌, ℕ, ◌<◌, ◌≤◌, ◌^◌, ◌-◌, Bool, true, false, not, cond, eqb, ltb, List, [], ◌∷◌, length, get_or, reverse, Option, Some, None, pos, neg_ℤ, refl, ap, sym, ◌∙◌, arith}
+use Rattle.std.specs.Prelude.{ℤ}
+use Rattle.std.specs.Option.{option_map}
+use Rattle.std.specs.List.{list_all}
+use Rattle.std.specs.Char.{is_ascii_digit}
+use Rattle.std.proofs.lemmas.Bool.{and_parts, and_from, not-true, cond-true, cond-false, eqb-true, lt-ltb}
+use Rattle.std.proofs.lemmas.Bool.Decides.{nat_tests}
+use Rattle.std.proofs.lemmas.List.{reverse-append, reverse-reverse}
+use Rattle.std.proofs.lemmas.List.Folds.{list_all-append}
+use Rattle.std.proofs.Math.Nat.{pow-le-pow_right}
+use Rattle.cse_value.specs.declared.number.Num.TheVariants.{Missing, NotAppl, Whole}
+use Rattle.cse_value.specs.Field.{without_blanks, trimmed, digits_value, digits_number, numeral, in_i64, is_code, value_of, value_of_trimmed, field}
+
+raised : (i j : ℕ) → i ≤ j → 10 ^ i ≤ 10 ^ j
+raised i j h = pow-le-pow_right {n = 10} (omega arith) {i = i} {j = j} h
+
+-- fewer digits than 18, and one more
+pub one_more_fits : (i n : ℕ) → i < 18 → n < 10 ^ i → n < 100000000000000000
+one_more_fits i n few low =
+    let most : 10 ^ i ≤ 10 ^ 17 = raised i 17 (omega arith) in
+    omega arith
+
+pub digits_fit : (i n : ℕ) → i ≤ 18 → n < 10 ^ i → n < 1000000000000000000
+digits_fit i n few low =
+    let most : 10 ^ i ≤ 10 ^ 18 = raised i 18 few in
+    omega arith
+
+abbrev not_blank : ℕ → Bool
+not_blank c = not (eqb c 32)
+
+without_blanks-none : (cs : List ℕ) → list_all not_blank cs ≡ true → without_blanks cs ≡ cs
+without_blanks-none [] h = refl
+without_blanks-none (c ∷ cs) h = cond-false (eqb c 32) (without_blanks cs) (c ∷ cs) (not-true (eqb c 32) (and_parts (not_blank c) (list_all not_blank cs) h).0)
+
+list_all-reverse : (p : ℕ → Bool) (cs : List ℕ) → list_all p cs ≡ true → list_all p (reverse cs) ≡ true
+list_all-reverse p [] h = refl
+list_all-reverse p (c ∷ cs) h =
+    let parts = and_parts (p c) (list_all p cs) h in
+    ap (list_all p) (reverse-append (c ∷ []) cs) ∙ list_all-append p (reverse cs) (c ∷ [])
+    ∙ and_from (list_all p (reverse cs)) (list_all p (c ∷ [])) (list_all-reverse p cs parts.1) (and_from (p c) true parts.0 refl)
+
+digit_is_no_blank : (c : ℕ) → is_ascii_digit c ≡ true → not_blank c ≡ true
+digit_is_no_blank c h = grind (arith, nat_tests)
+
+digit_is_no_minus : (c : ℕ) → is_ascii_digit c ≡ true → eqb c 45 ≡ false
+digit_is_no_minus c h = grind (arith, nat_tests)
+
+pub digit_is_low : (c : ℕ) → is_ascii_digit c ≡ true → c - 48 < 1000000000000000000
+digit_is_low c h = grind (arith, nat_tests)
+
+digits_have_no_blank : (ds : List ℕ) → list_all is_ascii_digit ds ≡ true → list_all not_blank ds ≡ true
+digits_have_no_blank [] h = refl
+digits_have_no_blank (c ∷ cs) h =
+    let parts = and_parts (is_ascii_digit c) (list_all is_ascii_digit cs) h in
+    and_from (not_blank c) (list_all not_blank cs) (digit_is_no_blank c parts.0) (digits_have_no_blank cs parts.1)
+
+-- the value of digits that are fewer than 19
+value_of_digits : (ds : List ℕ) (n : ℕ) (code : Option ℤ) → list_all is_ascii_digit ds ≡ true → digits_number ds ≡ Some n → n < 1000000000000000000 → value_of_trimmed ds code ≡ value_of (Some (pos n)) code
+unfolding numeral digits_number
+value_of_digits [] n code h e low = cc
+value_of_digits (c ∷ cs) n code h e low =
+    let unsigned : numeral (c ∷ cs) ≡ Some (pos n) =
+    cond-false (eqb c 45) (option_map (λ m. neg_ℤ (pos m)) (digits_number cs)) (option_map pos (digits_number (c ∷ cs)))
+    (digit_is_no_minus c (and_parts (is_ascii_digit c) (list_all is_ascii_digit cs) h).0) ∙ ap (option_map pos) e in
+    ap (λ v. value_of (in_i64 v) code) unsigned ∙ ap (λ v. value_of v code) (cond-true (ltb n (2 ^ 63)) (Some (pos n)) None (lt-ltb n (2 ^ 63) (omega arith)))
+
+digits_are : (ds : List ℕ) (n : ℕ) → digits_number ds ≡ Some n → list_all is_ascii_digit ds ≡ true
+unfolding digits_number
+digits_are [] n e = refl
+digits_are (c ∷ cs) n e = by (list_all is_ascii_digit (c ∷ cs)) e
+  where
+    by : (b : Bool) → cond b (Some (digits_value (c ∷ cs))) None ≡ Some n → b ≡ true
+    by true e = refl
+    by false e = cc
+
+-- a field of blanks
+pub field_of_blanks : (columns spelled : List ℕ) (code : Option ℤ) → spelled ≡ without_blanks columns → eqb (length spelled) 0 ≡ true → NotAppl ≡ field columns code
+unfolding field trimmed
+field_of_blanks columns [] code e h = ap (λ l. value_of_trimmed (reverse (without_blanks (reverse l))) code) e
+field_of_blanks columns (c ∷ cs) code e h = absurd (omega (arith, eqb-true (length (c ∷ cs)) 0 h))
+
+-- a field of blanks and then digits
+field_of_digits : (columns spelled : List ℕ) (n : ℕ) (code : Option ℤ) → spelled ≡ without_blanks columns → digits_number spelled ≡ Some n → n < 1000000000000000000
+    → value_of (Some (pos n)) code ≡ field columns code
+unfolding field trimmed
+field_of_digits columns spelled n code e is low =
+    let digits = digits_are spelled n is in
+    let none = digits_have_no_blank spelled digits in
+    let all : reverse (without_blanks (reverse spelled)) ≡ spelled = ap reverse (without_blanks-none (reverse spelled) (list_all-reverse not_blank spelled none)) ∙ reverse-reverse spelled in
+    sym (ap (λ l. value_of_trimmed (reverse (without_blanks (reverse l))) code) (sym e) ∙ ap (λ l. value_of_trimmed l code) all ∙ value_of_digits spelled n code digits is low)
+
+-- the code, and another number
+pub the_code : (columns spelled : List ℕ) (n : ℕ) (code : Option ℤ) → spelled ≡ without_blanks columns → digits_number spelled ≡ Some n → n < 1000000000000000000
+    → is_code code (pos n) ≡ true → Missing ≡ field columns code
+the_code columns spelled n code e is low same = sym (cond-true (is_code code (pos n)) Missing (Whole (pos n)) same) ∙ field_of_digits columns spelled n code e is low
+
+pub no_code : (columns spelled : List ℕ) (n : ℕ) (code : Option ℤ) → spelled ≡ without_blanks columns → digits_number spelled ≡ Some n → n < 1000000000000000000
+    → is_code code (pos n) ≡ false → Whole (pos n) ≡ field columns code
+no_code columns spelled n code e is low other = sym (cond-false (is_code code (pos n)) Missing (Whole (pos n)) other) ∙ field_of_digits columns spelled n code e is low
+
+-- a field of one digit
+one_column : (columns : List ℕ) (c : ℕ) → length columns ≡ 1 → c ≡ get_or columns 0 c → columns ≡ c ∷ []
+one_column [] c h e = absurd (omega arith)
+one_column (x ∷ []) c h e = ap (λ d. d ∷ []) (sym e)
+one_column (x ∷ y ∷ xs) c h e = absurd (omega arith)
+
+pub a_digit : (columns : List ℕ) (digit : ℕ) (code : Option ℤ) → length columns ≡ 1 → digit ≡ get_or columns 0 digit → is_ascii_digit digit ≡ true
+    → is_code code (pos (digit - 48)) ≡ false → Whole (pos (digit - 48)) ≡ field columns code
+unfolding digits_number
+a_digit columns digit code one at h other =
+    let own : columns ≡ digit ∷ [] = one_column columns digit one at in
+    let front : digit ∷ [] ≡ without_blanks columns = sym (ap without_blanks own ∙ without_blanks-none (digit ∷ []) (and_from (not_blank digit) true (digit_is_no_blank digit h) refl)) in
+    let value : digits_value (digit ∷ []) ≡ digit - 48 = omega arith in
+    let number : digits_number (digit ∷ []) ≡ Some (digit - 48) =
+    cond-true (list_all is_ascii_digit (digit ∷ [])) (Some (digits_value (digit ∷ []))) None (and_from (is_ascii_digit digit) true h refl) ∙ ap Some value in
+    no_code columns (digit ∷ []) (digit - 48) code front number (digit_is_low digit h) other
