@@ -1,10 +1,13 @@
 -- Laws of written lines.
-use Rattle.std.proofs.Common.{◌≡◌, ℕ, ◌+◌, ◌-◌, ◌<◌, ◌≤◌, false, eqb, List, [], ◌∷◌, ◌++◌, length, get_or, take, drop, refl, ap, sym, ◌∙◌, arith, take-add, get_or-drop, length-drop, take_all, inl, inr}
-use Rattle.std.specs.Prelude.{encode_utf8_all}
+use Rattle.std.proofs.Common.{◌≡◌, ℕ, ◌+◌, ◌-◌, ◌<◌, ◌≤◌, ◌%◌, false, eqb, List, [], ◌∷◌, ◌++◌, length, get_or, take, drop, refl, ap, sym, subst, ◌∙◌, arith, take-add, get_or-drop, length-drop, take_all, inl, inr}
+use Rattle.std.specs.Prelude.{encode_utf8, encode_utf8_all}
 use Rattle.std.proofs.lemmas.Bool.{cases_lt}
 use Rattle.std.specs.Str.{IsAscii}
-use Rattle.std.proofs.lemmas.Str.{encodes-IsAscii}
-use Rattle.std.proofs.lemmas.List.{take_more, ext_get_or, get_or-take, length-take-le}
+use Rattle.std.proofs.lemmas.Str.{encodes-IsAscii, encodes-append}
+use Rattle.std.proofs.Math.Nat.{mod-eq_of_lt}
+use Rattle.std.proofs.Math.Seq.{take-append-add}
+use borrow.Rule.Slice.PartMut.{put_mid, post_of}
+use Rattle.std.proofs.lemmas.List.{append-nil, get_or_past, take-append-le, take_rest, take_more, ext_get_or, get_or-take, length-take-le}
 use Rattle.cse_lines.specs.Written.{onto_trimmed, without_blanks, kept_columns}
 
 without_blanks-blank : (xs : List ℕ) → without_blanks (xs ++ 32 ∷ []) ≡ without_blanks xs
@@ -66,3 +69,35 @@ front_ascii columns bytes n a b same ascii =
     let low : k < n = omega arith in
     get_or-take n bytes k 0 low ∙ same k low ∙ sym (get_or-take n columns k 0 low))
     ∙ sym (encodes-IsAscii (take n columns) ascii)
+
+-- columns that are at most an ASCII one are ASCII
+columns_below : (columns : List ℕ) (greatest : ℕ) → ((k : ℕ) → k < length columns → get_or columns k 0 ≤ greatest) → greatest < 128 → IsAscii columns
+columns_below columns greatest low ascii k =
+    elim (cases_lt k (length columns)) [
+      | inl h ↦ let at = low k h in omega arith
+      | inr h ↦ rw (get_or_past columns k 0 (omega arith)) (omega arith)
+    ]
+
+-- the lowest bytes of ASCII columns are what they are in UTF-8
+pub low_bytes : (columns bytes : List ℕ) (greatest : ℕ) → length columns ≤ length bytes → ((k : ℕ) → k < length columns → get_or bytes k 0 ≡ get_or columns k 0 % 256)
+    → ((k : ℕ) → k < length columns → get_or columns k 0 ≤ greatest) → greatest < 128 → take (length columns) bytes ≡ encode_utf8_all columns
+low_bytes columns bytes greatest room same low ascii =
+    let all : take (length columns) columns ≡ columns = take_all (length columns) columns (omega arith) in
+    front_ascii columns bytes (length columns) (omega arith) room (λ k h. same k h ∙ mod-eq_of_lt {n = get_or columns k 0} {m = 256} (let at = low k h in omega arith))
+    (subst IsAscii (sym all) (columns_below columns greatest low ascii)) ∙ ap encode_utf8_all all
+
+-- what is left of bytes from a place on
+pub length-rest : (xs : List ℕ) (a : ℕ) → length (take (length xs - a) (drop a xs)) ≡ length xs - a
+length-rest xs a = ap length (take_rest xs a) ∙ length-drop a xs
+
+-- the front of bytes after some were written from a place on
+pub put_after : (xs ys : List ℕ) (a k n : ℕ) → a ≤ length xs → n ≤ length ys → take (a + n) (put_mid a k xs ys) ≡ take a xs ++ take n ys
+put_after xs ys a k n within fits =
+    ap (λ j. take (j + n) (take a xs ++ (ys ++ post_of a k xs))) (sym (length-take-le a xs within))
+    ∙ take-append-add (take a xs) (ys ++ post_of a k xs) n ∙ ap (λ l. take a xs ++ l) (take-append-le n ys (post_of a k xs) fits)
+
+-- one more column in UTF-8
+pub encode-more : (columns : List ℕ) (i c : ℕ) → i < length columns → c ≡ get_or columns i c → encode_utf8_all (take (i + 1) columns) ≡ encode_utf8_all (take i columns) ++ encode_utf8 c
+encode-more columns i c within is =
+    ap encode_utf8_all (take_more columns i c within) ∙ encodes-append (take i columns) (get_or columns i c ∷ [])
+    ∙ ap (λ l. encode_utf8_all (take i columns) ++ l) (append-nil (encode_utf8 (get_or columns i c)) ∙ ap encode_utf8 (sym is))

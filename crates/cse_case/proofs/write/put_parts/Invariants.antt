@@ -1,7 +1,7 @@
 use Rattle.std.proofs.Common.{◌≤◌, ◌-◌, take, length}
 use Rattle.std.specs.Prelude.{encode_utf8_all}
 use Rattle.cse_output.specs.Gathering.{going, Puts}
-use Rattle.cse_case.proofs.write.put_columns.Given as goal
+use Rattle.cse_case.proofs.write.put_parts.Given as goal
 
 abbrev pub invariant-parts : goal.invariant-parts
 invariant-parts g l = record {
