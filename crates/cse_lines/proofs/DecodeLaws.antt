@@ -1,9 +1,9 @@
 -- Laws of a line that is read as columns.
-use Rattle.std.proofs.Common.{◌≡◌, ℕ, ◌+◌, ◌-◌, ◌<◌, ◌≤◌, max, cond, ltb, Option, Some, None, Bool, true, false, List, [], ◌∷◌, ◌++◌, length, take, drop, replicate, refl, ap, sym, ◌∙◌, arith, append_assoc, length-append}
-use Rattle.std.specs.Str.{IsUtf8, is_utf8}
+use Rattle.std.proofs.Common.{◌≡◌, ℕ, ◌+◌, ◌-◌, ◌<◌, ◌≤◌, max, cond, ltb, Option, Some, None, Bool, true, false, List, [], ◌∷◌, ◌++◌, length, get_or, take, drop, replicate, refl, ap, sym, ◌∙◌, arith, append_assoc, length-append, inl, inr}
+use Rattle.std.specs.Str.{IsAscii, IsUtf8, is_utf8}
 use Rattle.std.proofs.lemmas.Str.{IsUtf8-from_is_utf8}
-use Rattle.std.proofs.lemmas.List.{length-replicate, replicate-append-replicate}
-use Rattle.std.proofs.lemmas.Bool.{lt-ltb, ltb-true}
+use Rattle.std.proofs.lemmas.List.{get_or_past, length-replicate, replicate-append-replicate}
+use Rattle.std.proofs.lemmas.Bool.{cases_lt, lt-ltb, ltb-true}
 use Rattle.cse_dict.specs.Dictionary.{DictionaryText, number_of_type}
 use Rattle.cse_lines.specs.declared.line.Ending.{Ending}
 use Rattle.cse_lines.specs.Line.{FileLine, ending_of, text_of}
@@ -91,3 +91,11 @@ line_text-is d line columns len ending number e n r c = rw (e, n, r, c) refl
 pub IfFault-more : (P Q : ℕ → Type 0) (stop : Stop) → ((number : ℕ) → P number → Q number) → IfFault P stop → IfFault Q stop
 IfFault-more P Q Memory h f = tt
 IfFault-more P Q (Fault number) h f = h number f
+
+-- bytes that are at most an ASCII one are ASCII
+pub ascii_below : (text : List ℕ) (greatest : ℕ) → ((k : ℕ) → k < length text → get_or text k 0 ≤ greatest) → greatest < 128 → IsAscii text
+ascii_below text greatest low ascii k =
+    elim (cases_lt k (length text)) [
+      | inl h ↦ let at = low k h in omega arith
+      | inr h ↦ rw (get_or_past text k 0 (omega arith)) (omega arith)
+    ]

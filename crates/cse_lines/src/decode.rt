@@ -1,7 +1,7 @@
 //! A line of a file, as columns.
 
 ghost use Rattle.std.specs.Prelude.{◌≡◌, ◌<◌, ◌++◌, length, true, false, Some, IfOk, IfErr, OnOk};
-ghost use Rattle.std.specs.Str.{chars, is_utf8};
+ghost use Rattle.std.specs.Str.{IsAscii, chars, is_utf8};
 ghost use Rattle.cse_lines.specs.declared.decode.Stop.TheVariants.{Memory};
 ghost use Rattle.cse_lines.specs.Field.{layout_of, padded, record_len, record_of, width_of};
 ghost use Rattle.cse_lines.specs.Runs.{line_fault};
@@ -43,23 +43,28 @@ pub struct Head {
     pub marked: bool,
 }
 
-/// Writes bytes as characters over columns.
-fn put_ascii(columns: &mut [char], text: &[u8])
+/// Writes bytes as characters over columns, and tells whether all are ASCII. It tests none by itself, so
+/// that the compiler takes many at once.
+fn put_ascii(columns: &mut [char], text: &[u8]) -> bool
     requires { length columns.old ≡ length text.now }
-    ensures { columns.new ≡ text.now }
+    ensures columns { columns.new ≡ text.now }
+    ensures ascii { result ≡ true → IsAscii text.now }
 {
+    let mut greatest = 0u8;
     'bytes: for (i, byte) in text.iter().enumerate() {
         columns[i] = *byte as char;
+        greatest = greatest.max(*byte);
     }
+    greatest < 128
 }
 
-/// Bytes as characters, in place of what was there.
-fn read_ascii(columns: &mut Vec<char>, text: &[u8]) -> Result<(), AllocError>
-    ensures { OnOk result (columns.new.items ≡ text.now) }
+/// Bytes as characters, in place of what was there. Tells whether they are ASCII.
+fn read_ascii(columns: &mut Vec<char>, text: &[u8]) -> Result<bool, AllocError>
+    ensures columns { OnOk result (columns.new.items ≡ text.now) }
+    ensures ascii { IfOk result (λ is_ascii. is_ascii ≡ true → IsAscii text.now) }
 {
     columns.resize(text.len(), ' ')?;
-    put_ascii(columns, text);
-    Ok(())
+    Ok(put_ascii(columns, text))
 }
 
 /// Appends the characters of a text.
@@ -78,8 +83,7 @@ fn read_columns(text: &[u8], columns: &mut Vec<char>) -> Result<(), Stop>
     ensures utf8 { OnOk result (is_utf8 text.now ≡ true) }
     ensures err { IfErr result (IfFault (λ number. (number ≡ 20) × (is_utf8 text.now ≡ false))) }
 {
-    if text.is_ascii() {
-        read_ascii(columns, text)?;
+    if read_ascii(columns, text)? {
         return Ok(());
     }
     columns.clear();

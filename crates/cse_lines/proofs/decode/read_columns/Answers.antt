@@ -4,13 +4,6 @@ use Rattle.std.proofs.lemmas.Str.{chars-IsAscii, IsUtf8-from_ascii, is_utf8-from
 use Rattle.cse_lines.proofs.DecodeLaws.{not_utf8}
 use Rattle.cse_lines.proofs.decode.read_columns.Goals as goal
 
-pub returns-then-is_ascii-clause-columns : goal.returns-then-is_ascii-clause-columns
-returns-then-is_ascii-clause-columns c =
-    c.in_ok-read_ascii.ensures ∙ sym (chars-IsAscii c.args.text.now c.if-is_ascii.ensures.cases)
-
-pub returns-then-is_ascii-clause-utf8 : goal.returns-then-is_ascii-clause-utf8
-returns-then-is_ascii-clause-utf8 c = is_utf8-from_IsUtf8 c.args.text.now (IsUtf8-from_ascii c.args.text.now c.if-is_ascii.ensures.cases)
-
 pub returns-in_ok-extend_chars-in-Ok-clause-columns : goal.returns-in_ok-extend_chars-in-Ok-clause-columns
 returns-in_ok-extend_chars-in-Ok-clause-columns c =
     c.in_ok-extend_chars-in-Ok.ensures ∙ ap (λ l. l ++ chars c.in-Ok.text.now) c.clear.ensures.items ∙ ap chars c.in-Ok.ensures.cases.0
@@ -20,3 +13,10 @@ returns-in_ok-extend_chars-in-Ok-clause-utf8 c = is_utf8-from_IsUtf8 c.args.text
 
 pub returns-in-Err-clause-err : goal.returns-in-Err-clause-err
 returns-in-Err-clause-err c = (refl, not_utf8 c.args.text.now c.in-Err.ensures.cases.0)
+
+pub returns-then-branch-clause-columns : goal.returns-then-branch-clause-columns
+returns-then-branch-clause-columns c =
+    c.in_ok-read_ascii.ensures.columns ∙ sym (chars-IsAscii c.args.text.now (c.in_ok-read_ascii.ensures.ascii c.if-branch.true))
+
+pub returns-then-branch-clause-utf8 : goal.returns-then-branch-clause-utf8
+returns-then-branch-clause-utf8 c = is_utf8-from_IsUtf8 c.args.text.now (IsUtf8-from_ascii c.args.text.now (c.in_ok-read_ascii.ensures.ascii c.if-branch.true))
