@@ -70,7 +70,7 @@ module _ (x : Image) (n : ℕ → ℕ) (r o : ℕ) (low : 1 ≤ o) (high : o ≤
       (pair_there k item (ap (slice_get x.lists.items) (sym here) ∙ at 0) (eqb item.owner r) refl)
       (items_there (suc k) items (λ j. let next : suc k + j ≡ k + suc j = omega arith in ap (slice_get x.lists.items) next ∙ at (suc j)))
 
-  all_items_there : AllThere x n (item_events r o 0 x.lists.items)
+  pub all_items_there : AllThere x n (item_events r o 0 x.lists.items)
   all_items_there = items_there 0 x.lists.items (λ j. let same : 0 + j ≡ j = omega arith in ap (slice_get x.lists.items) same)
 
 occurrences_there : (x : Image) (n : ℕ → ℕ) (r o c : ℕ) → 1 ≤ o → o + c ≤ n r + 1 → AllThere x n (occurrence_events r x.lists.items o c)

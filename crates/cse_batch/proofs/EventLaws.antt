@@ -15,7 +15,7 @@ use Rattle.cse_batch.specs.Laws.{EndsAreFinal}
 no_step : (v : VerifiedProgram) (s : State) → s.calls ≡ [] → step v s ≡ None
 no_step v s e = ap (λ calls. step_of v calls s.world) e
 
-stays : (v : VerifiedProgram) (k : ℕ) (s : State) → s.calls ≡ [] → final v k s ≡ s
+pub stays : (v : VerifiedProgram) (k : ℕ) (s : State) → s.calls ≡ [] → final v k s ≡ s
 unfolding final
 stays v zero s e = refl
 stays v (suc k) s e = ap (λ o. option_map_or (final v k) o s) (no_step v s e)

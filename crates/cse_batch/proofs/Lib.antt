@@ -5,6 +5,7 @@ pub mod CloseLaws
 pub mod EditLaws
 pub mod EndLaws
 pub mod EventLaws
+pub mod HandledLaws
 pub mod HeldLaws
 pub mod OrderLaws
 pub mod RunLaws

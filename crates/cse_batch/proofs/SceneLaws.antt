@@ -1,6 +1,6 @@
 -- What events change, one after the other.
-use Rattle.std.proofs.Common.{◌≡◌, ℕ, suc, ◌+◌, ◌-◌, ◌<◌, get_or, drop, length, Result, Ok, Err, OnOk, arith, List, [], ◌∷◌, ◌++◌, Option, Some, refl, sym, ap, ◌∙◌, subst}
-use Rattle.std.proofs.lemmas.List.{drop_more, map-append}
+use Rattle.std.proofs.Common.{◌≡◌, ℕ, suc, ◌+◌, ◌-◌, ◌<◌, drop, map, Result, Ok, Err, OnOk, arith, List, [], ◌∷◌, ◌++◌, Option, Some, refl, sym, ap, ◌∙◌, subst}
+use Rattle.std.proofs.lemmas.List.{map-append}
 use Rattle.cse_parts.specs.declared.entries.Event.{Event}
 use Rattle.cse_value.specs.declared.shape.ItemShape.{ItemShape}
 use Rattle.cse_case.specs.Case.{CaseText}
@@ -19,6 +19,8 @@ use Rattle.cse_steps.specs.Laws.{EventsEnd}
 use Rattle.cse_machine.specs.Results.{RunsTo}
 use Rattle.cse_batch.specs.Events.{after_moment, after_moments, end_of, told_more}
 use Rattle.cse_batch.specs.Batch.{reports_of}
+use Rattle.cse_batch.specs.declared.handled.HandledRecord.{HandledRecord}
+use Rattle.cse_batch.specs.Handled.{number_of}
 use Rattle.cse_batch.specs.Scene.{GoesOn, Scene, scene, scene_after, scene_after_all, told_to, world_of}
 use Rattle.cse_batch.proofs.EventLaws.{ends_are_final}
 use Rattle.cse_batch.proofs.EndLaws.{fits_then, there_as}
@@ -119,13 +121,12 @@ occurrences_next v s s' r items k count low e =
     ∙ ap (λ (n : ℕ). scene_after_all v s (occurrence_events r items (k + 1) n)) left))
 
 -- a record more
-pub records_next : (v : VerifiedProgram) (s s' : Scene) (items : List ItemShape) (n : ℕ → ℕ) (order : List ℕ) (k r d : ℕ) → k < length order → r ≡ get_or order k d → s' ≡ scene_after_all v s (record_events items r (n r))
-    → scene_after_all v s' (records_events items n (drop (k + 1) order)) ≡ scene_after_all v s (records_events items n (drop k order))
-records_next v s s' items n order k r d low is e =
-    let rest = records_events items n (drop (k + 1) order) in
-    let split : drop k order ≡ r ∷ drop (k + 1) order = drop_more order k d low ∙ ap (λ (x : ℕ). x ∷ drop (k + 1) order) (sym is) in
+pub records_next : (v : VerifiedProgram) (s s' : Scene) (items : List ItemShape) (n : ℕ → ℕ) (rs : List HandledRecord) (k : ℕ) (h : HandledRecord) → drop k rs ≡ h ∷ drop (k + 1) rs → s' ≡ scene_after_all v s (record_events items h.number (n h.number))
+    → scene_after_all v s' (records_events items n (map number_of (drop (k + 1) rs))) ≡ scene_after_all v s (records_events items n (map number_of (drop k rs)))
+records_next v s s' items n rs k h split e =
+    let rest = records_events items n (map number_of (drop (k + 1) rs)) in
     ap (λ (x : Scene). scene_after_all v x rest) e
-    ∙ (sym (scene_later v s (record_events items r (n r)) rest) ∙ ap (λ (l : List ℕ). scene_after_all v s (records_events items n l)) (sym split))
+    ∙ (sym (scene_later v s (record_events items h.number (n h.number)) rest) ∙ ap (λ (l : List HandledRecord). scene_after_all v s (records_events items n (map number_of l))) (sym split))
 
 -- records with as many occurrences
 pub records_same : (items : List ItemShape) (n n' : ℕ → ℕ) → ((r : ℕ) → n r ≡ n' r) → (rs : List ℕ) → records_events items n rs ≡ records_events items n' rs

@@ -3,6 +3,7 @@ pub mod Checked
 pub mod DataFaults
 pub mod Edits
 pub mod Events
+pub mod Handled
 pub mod Laws
 pub mod RunClauses
 pub mod RunState

@@ -6,9 +6,11 @@ ghost use Rattle.cse_report.specs.AllReported.{all_reported};
 ghost use Rattle.cse_report.specs.Reports.{ReportsFit};
 ghost use Rattle.cse_batch.specs.Batch.{unseen_reports};
 ghost use Rattle.cse_batch.specs.Edits.{Edits};
+ghost use Rattle.cse_batch.specs.Handled.{AreHandled};
 ghost use Rattle.cse_batch.specs.Scene.{GoesOn};
 
 use crate::events::run_case_events;
+use crate::handled::HandledEvents;
 use crate::machine::Runs;
 use cse_case::Case;
 use cse_decks::Store;
@@ -37,7 +39,9 @@ pub(crate) fn edit<C: Code, M: Runs>(
     case: &mut Case<'_>,
     store: &mut Store,
     reports: &mut Reports,
+    handled: &HandledEvents,
 ) -> Result<(), OutOfMemory>
+    requires handled { AreHandled verified.now handled.now }
     requires machine { M.program machine.old ≡ verified.now }
     requires goes_on { GoesOn verified.now case.old case.old store.old }
     requires reports { ReportsFit verified.now.image reports.old }
@@ -49,7 +53,7 @@ pub(crate) fn edit<C: Code, M: Runs>(
     reports.begin_case(case.ids())?;
     list_unseen(case, reports)?;
     if case.is_case() {
-        run_case_events(verified, machine, case, store, reports)?;
+        run_case_events(verified, machine, case, store, reports, handled)?;
     }
     Ok(())
 }

@@ -1,15 +1,14 @@
 //! The events of a case, in order.
 
-ghost use Rattle.std.specs.Prelude.{◌≡◌, ◌≤◌, ◌<◌, ◌+◌, [], ◌∷◌, Some, OnOk, length};
-ghost use Rattle.cse_parts.specs.declared.entries.EventCode.TheVariants.{ItemPreproc, ItemPostproc};
-ghost use Rattle.cse_case.specs.Case.{records_of, places_of};
+ghost use Rattle.std.specs.Prelude.{◌≡◌, ◌≤◌, Some, OnOk};
 ghost use Rattle.cse_bounds.specs.CaseEvents.{case_events, event, item_events, moment, occurrence_events, record_events, records_events};
 ghost use Rattle.cse_report.specs.Reports.{ReportsFit};
 ghost use Rattle.cse_steps.specs.Fits.{IsThere, occurrences_in};
+ghost use Rattle.cse_batch.specs.Handled.{AreHandled, IsHandledRecord, has_routine};
 ghost use Rattle.cse_batch.specs.Scene.{GoesOn, scene, scene_after, scene_after_all};
 
+use crate::handled::{HandledEvents, HandledRecord};
 use crate::machine::Runs;
-use crate::parts::{items_of, order_of};
 use cse_case::Case;
 use cse_decks::Store;
 use cse_image::{Code, Event, EventCode};
@@ -42,38 +41,38 @@ fn run_event<C: Code, M: Runs>(
     Ok(())
 }
 
-/// An event, by its code and the number of its record or item.
-fn event(code: EventCode, index: u16) -> Event
-    ensures { result ≡ event code index }
-{
-    Event { code, index }
-}
-
-/// Runs the preproc and the postproc of an item in an occurrence of its record.
-fn run_item<C: Code, M: Runs>(
+/// Runs an event of the level or of a record, if the program has a routine for it.
+#[inline]
+fn run_if_handled<C: Code, M: Runs>(
     verified: &Verified<'_, C>,
     machine: &mut M,
     case: &mut Case<'_>,
     store: &mut Store,
     reports: &mut Reports,
-    item: u16,
-    occurrence: u16,
+    event: Event,
+    is_handled: bool,
 ) -> Result<(), OutOfMemory>
+    requires handled { is_handled ≡ has_routine verified.now.image event }
     requires machine { M.program machine.old ≡ verified.now }
     requires goes_on { GoesOn verified.now case.old case.old store.old }
-    requires there { IsThere verified.now.image (occurrences_in (Some case.old)) ItemPreproc item occurrence }
+    requires there { IsThere verified.now.image (occurrences_in (Some case.old)) event.code event.index 0 }
     requires reports { ReportsFit verified.now.image reports.old }
     ensures same { M.program machine.new ≡ verified.now }
-    ensures scene { OnOk result (scene (Some case.new) store.new reports.new ≡ scene_after_all verified.now (scene (Some case.old) store.old reports.old) (moment ItemPreproc item occurrence ∷ moment ItemPostproc item occurrence ∷ [])) }
+    ensures scene { OnOk result (scene (Some case.new) store.new reports.new ≡ scene_after verified.now (scene (Some case.old) store.old reports.old) (moment event.code event.index 0)) }
     ensures goes_on { OnOk result (GoesOn verified.now case.old case.new store.new) }
     ensures reports_fit { ReportsFit verified.now.image reports.new }
 {
-    let preproc = event(EventCode::ItemPreproc, item);
-    run_event(verified, machine, case, store, reports, preproc, occurrence)?;
-    let postproc = event(EventCode::ItemPostproc, item);
-    run_event(
-        verified, machine, case, store, reports, postproc, occurrence,
-    )
+    if !is_handled {
+        return Ok(());
+    }
+    run_event(verified, machine, case, store, reports, event, 0)
+}
+
+/// An event, by its code and the number of its record or item.
+fn event(code: EventCode, index: u16) -> Event
+    ensures { result ≡ event code index }
+{
+    Event { code, index }
 }
 
 /// Runs the events of the items of a record in one of its occurrences.
@@ -83,25 +82,22 @@ fn run_items<C: Code, M: Runs>(
     case: &mut Case<'_>,
     store: &mut Store,
     reports: &mut Reports,
-    number: u16,
+    handled: &HandledRecord,
     occurrence: u16,
 ) -> Result<(), OutOfMemory>
+    requires handled { IsHandledRecord verified.now handled.now }
     requires machine { M.program machine.old ≡ verified.now }
     requires goes_on { GoesOn verified.now case.old case.old store.old }
     requires low { 1 ≤ occurrence }
-    requires high { occurrence ≤ occurrences_in (Some case.old) number }
+    requires high { occurrence ≤ occurrences_in (Some case.old) handled.now.number }
     requires reports { ReportsFit verified.now.image reports.old }
     ensures same { M.program machine.new ≡ verified.now }
-    ensures scene { OnOk result (scene (Some case.new) store.new reports.new ≡ scene_after_all verified.now (scene (Some case.old) store.old reports.old) (item_events number occurrence 0 verified.now.image.lists.items)) }
+    ensures scene { OnOk result (scene (Some case.new) store.new reports.new ≡ scene_after_all verified.now (scene (Some case.old) store.old reports.old) (item_events handled.now.number occurrence 0 verified.now.image.lists.items)) }
     ensures goes_on { OnOk result (GoesOn verified.now case.old case.new store.new) }
     ensures reports_fit { ReportsFit verified.now.image reports.new }
 {
-    let items = items_of(verified);
-    'items: for item in 0..items.len() {
-        if u16::from(items[item].owner) == number {
-            let item = item as u16;
-            run_item(verified, machine, case, store, reports, item, occurrence)?;
-        }
+    'events: for event in &handled.items {
+        run_event(verified, machine, case, store, reports, *event, occurrence)?;
     }
     Ok(())
 }
@@ -113,20 +109,23 @@ fn run_occurrences<C: Code, M: Runs>(
     case: &mut Case<'_>,
     store: &mut Store,
     reports: &mut Reports,
-    number: u16,
+    handled: &HandledRecord,
 ) -> Result<(), OutOfMemory>
+    requires handled { IsHandledRecord verified.now handled.now }
     requires machine { M.program machine.old ≡ verified.now }
     requires goes_on { GoesOn verified.now case.old case.old store.old }
-    requires record { number < length (records_of case.old) }
     requires reports { ReportsFit verified.now.image reports.old }
     ensures same { M.program machine.new ≡ verified.now }
-    ensures scene { OnOk result (scene (Some case.new) store.new reports.new ≡ scene_after_all verified.now (scene (Some case.old) store.old reports.old) (occurrence_events number verified.now.image.lists.items 1 (occurrences_in (Some case.old) number))) }
+    ensures scene { OnOk result (scene (Some case.new) store.new reports.new ≡ scene_after_all verified.now (scene (Some case.old) store.old reports.old) (occurrence_events handled.now.number verified.now.image.lists.items 1 (occurrences_in (Some case.old) handled.now.number))) }
     ensures goes_on { OnOk result (GoesOn verified.now case.old case.new store.new) }
     ensures reports_fit { ReportsFit verified.now.image reports.new }
 {
-    let count = case.occurrences(number);
+    if handled.items.is_empty() {
+        return Ok(());
+    }
+    let count = case.occurrences(handled.number);
     'occurrences: for before in 0..count {
-        run_items(verified, machine, case, store, reports, number, before + 1)?;
+        run_items(verified, machine, case, store, reports, handled, before + 1)?;
     }
     Ok(())
 }
@@ -138,22 +137,38 @@ fn run_record<C: Code, M: Runs>(
     case: &mut Case<'_>,
     store: &mut Store,
     reports: &mut Reports,
-    number: u16,
+    handled: &HandledRecord,
 ) -> Result<(), OutOfMemory>
+    requires handled { IsHandledRecord verified.now handled.now }
     requires machine { M.program machine.old ≡ verified.now }
     requires goes_on { GoesOn verified.now case.old case.old store.old }
-    requires record { number < length (records_of case.old) }
     requires reports { ReportsFit verified.now.image reports.old }
     ensures same { M.program machine.new ≡ verified.now }
-    ensures scene { OnOk result (scene (Some case.new) store.new reports.new ≡ scene_after_all verified.now (scene (Some case.old) store.old reports.old) (record_events verified.now.image.lists.items number (occurrences_in (Some case.old) number))) }
+    ensures scene { OnOk result (scene (Some case.new) store.new reports.new ≡ scene_after_all verified.now (scene (Some case.old) store.old reports.old) (record_events verified.now.image.lists.items handled.now.number (occurrences_in (Some case.old) handled.now.number))) }
     ensures goes_on { OnOk result (GoesOn verified.now case.old case.new store.new) }
     ensures reports_fit { ReportsFit verified.now.image reports.new }
 {
-    let preproc = event(EventCode::RecordPreproc, number);
-    run_event(verified, machine, case, store, reports, preproc, 0)?;
-    run_occurrences(verified, machine, case, store, reports, number)?;
-    let postproc = event(EventCode::RecordPostproc, number);
-    run_event(verified, machine, case, store, reports, postproc, 0)?;
+    let preproc = event(EventCode::RecordPreproc, handled.number);
+    run_if_handled(
+        verified,
+        machine,
+        case,
+        store,
+        reports,
+        preproc,
+        handled.preproc,
+    )?;
+    run_occurrences(verified, machine, case, store, reports, handled)?;
+    let postproc = event(EventCode::RecordPostproc, handled.number);
+    run_if_handled(
+        verified,
+        machine,
+        case,
+        store,
+        reports,
+        postproc,
+        handled.postproc,
+    )?;
     Ok(())
 }
 
@@ -164,7 +179,9 @@ fn run_records<C: Code, M: Runs>(
     case: &mut Case<'_>,
     store: &mut Store,
     reports: &mut Reports,
+    handled: &HandledEvents,
 ) -> Result<(), OutOfMemory>
+    requires handled { AreHandled verified.now handled.now }
     requires machine { M.program machine.old ≡ verified.now }
     requires goes_on { GoesOn verified.now case.old case.old store.old }
     requires reports { ReportsFit verified.now.image reports.old }
@@ -173,10 +190,8 @@ fn run_records<C: Code, M: Runs>(
     ensures goes_on { OnOk result (GoesOn verified.now case.old case.new store.new) }
     ensures reports_fit { ReportsFit verified.now.image reports.new }
 {
-    let order = order_of(verified);
-    'records: for record in order {
-        let number = *record as u16;
-        run_record(verified, machine, case, store, reports, number)?;
+    'records: for of_record in &handled.records {
+        run_record(verified, machine, case, store, reports, of_record)?;
     }
     Ok(())
 }
@@ -188,7 +203,9 @@ pub(crate) fn run_case_events<C: Code, M: Runs>(
     case: &mut Case<'_>,
     store: &mut Store,
     reports: &mut Reports,
+    handled: &HandledEvents,
 ) -> Result<(), OutOfMemory>
+    requires handled { AreHandled verified.now handled.now }
     requires machine { M.program machine.old ≡ verified.now }
     requires goes_on { GoesOn verified.now case.old case.old store.old }
     requires reports { ReportsFit verified.now.image reports.old }
@@ -198,9 +215,25 @@ pub(crate) fn run_case_events<C: Code, M: Runs>(
     ensures reports_fit { ReportsFit verified.now.image reports.new }
 {
     let preproc = event(EventCode::LevelPreproc, 0);
-    run_event(verified, machine, case, store, reports, preproc, 0)?;
-    run_records(verified, machine, case, store, reports)?;
+    run_if_handled(
+        verified,
+        machine,
+        case,
+        store,
+        reports,
+        preproc,
+        handled.preproc,
+    )?;
+    run_records(verified, machine, case, store, reports, handled)?;
     let postproc = event(EventCode::LevelPostproc, 0);
-    run_event(verified, machine, case, store, reports, postproc, 0)?;
+    run_if_handled(
+        verified,
+        machine,
+        case,
+        store,
+        reports,
+        postproc,
+        handled.postproc,
+    )?;
     Ok(())
 }

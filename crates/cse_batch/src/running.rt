@@ -4,11 +4,13 @@ ghost use Rattle.std.specs.Prelude.{◌≡◌, IfOk, IfErr, OnOk};
 ghost use Rattle.cse_decks.specs.Store.{StoreFits};
 ghost use Rattle.cse_output.specs.Gathering.{going};
 ghost use Rattle.cse_report.specs.Reports.{ReportsFit};
+ghost use Rattle.cse_batch.specs.Handled.{AreHandled};
 ghost use Rattle.cse_batch.specs.RunClauses.{RunStops, RunsWhole, contents, failures};
 ghost use Rattle.cse_batch.specs.RunState.{CasesRan, Halts, IsFresh, IsUnread, IsUnreported, Ran, device};
 
 use crate::application::apply;
 use crate::cases::edit;
+use crate::handled::{HandledEvents, handled_events};
 use crate::machine::Runs;
 use crate::totals::{RunFault, Totals};
 use cse_case::CaseReader;
@@ -41,11 +43,13 @@ pub(crate) fn run_cases<C: Code, M: Runs, R: Input, O: Output, L: Output>(
     reader: &mut CaseReader<'_, R>,
     store: &mut Store,
     reports: &mut Reports,
+    handled: &HandledEvents,
     written: &mut Gatherer,
     out: &mut O,
     listed: &mut Gatherer,
     listing: &mut L,
 ) -> Result<Totals, RunFault>
+    requires handled { AreHandled verified.now handled.now }
     requires machine { M.program machine.old ≡ verified.now }
     requires reader { IsUnread verified.now reader.old.stream }
     requires store { StoreFits verified.now.image store.old }
@@ -83,7 +87,7 @@ pub(crate) fn run_cases<C: Code, M: Runs, R: Input, O: Output, L: Output>(
                 cases += u64::from(case.is_case());
                 lines += case.lines();
                 unseen += case.unseen().len() as u64;
-                let Ok(()) = edit(verified, machine, &mut case, store, reports) else {
+                let Ok(()) = edit(verified, machine, &mut case, store, reports, handled) else {
                     return Err(MEMORY_FAULT);
                 };
                 case.put_to(written, out);
@@ -108,11 +112,13 @@ fn run_events<C: Code, M: Runs, R: Input, O: Output, L: Output>(
     reader: &mut CaseReader<'_, R>,
     store: &mut Store,
     reports: &mut Reports,
+    handled: &HandledEvents,
     written: &mut Gatherer,
     out: &mut O,
     listed: &mut Gatherer,
     listing: &mut L,
 ) -> Result<Totals, RunFault>
+    requires handled { AreHandled verified.now handled.now }
     requires machine { M.program machine.old ≡ verified.now }
     requires reader { IsUnread verified.now reader.old.stream }
     requires store { StoreFits verified.now.image store.old }
@@ -132,7 +138,7 @@ fn run_events<C: Code, M: Runs, R: Input, O: Output, L: Output>(
     ensures reports_fit { ReportsFit verified.now.image reports.new }
 {
     let totals = run_cases(
-        verified, machine, reader, store, reports, written, out, listed, listing,
+        verified, machine, reader, store, reports, handled, written, out, listed, listing,
     )?;
     let postproc = EventCode::ApplicationPostproc;
     let Ok(()) = apply(verified, machine, store, reports, postproc, listed, listing) else {
@@ -148,11 +154,13 @@ fn run_reader<C: Code, M: Runs, R: Input, O: Output, L: Output, F: Output, D: Ou
     reader: &mut CaseReader<'_, R>,
     store: &mut Store,
     reports: &mut Reports,
+    handled: &HandledEvents,
     out: &mut O,
     listing: &mut L,
     frequencies: &mut F,
     decks: &mut D,
 ) -> Result<Totals, RunFault>
+    requires handled { AreHandled verified.now handled.now }
     requires machine { M.program machine.old ≡ verified.now }
     requires reader { IsUnread verified.now reader.old.stream }
     requires store { StoreFits verified.now.image store.old }
@@ -174,6 +182,7 @@ fn run_reader<C: Code, M: Runs, R: Input, O: Output, L: Output, F: Output, D: Ou
         reader,
         store,
         reports,
+        handled,
         &mut written,
         out,
         &mut listed,
@@ -241,6 +250,9 @@ pub fn run_by<C: Code, M: Runs, R: Input, O: Output, L: Output, F: Output, D: Ou
     let Ok(mut reports) = Reports::new(alloc, verified.program()) else {
         return Err(MEMORY_FAULT);
     };
+    let Ok(handled) = handled_events(alloc, verified) else {
+        return Err(MEMORY_FAULT);
+    };
     let mut kept = store;
     let mut reader = CaseReader::new(alloc, verified.dictionary(), input);
     let result = run_reader(
@@ -249,6 +261,7 @@ pub fn run_by<C: Code, M: Runs, R: Input, O: Output, L: Output, F: Output, D: Ou
         &mut reader,
         &mut kept,
         &mut reports,
+        &handled,
         out,
         listing,
         frequencies,

@@ -1,6 +1,10 @@
-use Rattle.std.proofs.Common.{Some, ◌∙◌, ap, get_or, refl}
+use Rattle.std.proofs.Common.{◌≡◌, ◌+◌, ◌<◌, ◌∷◌, List, Some, ◌∙◌, ap, arith, drop, get_or, length, subst, sym}
+use Rattle.std.specs.List.{AllByRecursion}
+use Rattle.std.proofs.lemmas.List.{drop_more}
 use Rattle.cse_bounds.specs.CaseEvents.{record_events}
 use Rattle.cse_steps.specs.Fits.{occurrences_in}
+use Rattle.cse_batch.specs.declared.handled.HandledRecord.{HandledRecord}
+use Rattle.cse_batch.specs.Handled.{IsHandledRecord}
 use Rattle.cse_batch.specs.Scene.{scene, scene_after_all}
 use Rattle.cse_batch.proofs.SceneLaws.{goes_further, records_next}
 use Rattle.cse_batch.proofs.events.run_records.Goals as goal
@@ -13,13 +17,19 @@ records-preserved g c =
     let items = v.image.lists.items in
     let before = scene (Some c.records.case) c.records.store c.records.reports in
     let after = scene (Some c.run_record.new.case) c.run_record.new.store c.run_record.new.reports in
-    let order = c.order_of-order.result.now in
-    let number = get_or order c.records.record-index 0 in
-    let many = ap (λ n. scene_after_all v before (record_events items number n)) (inv.goes_on.occurrences number) in
-    let next = records_next v before after items (occurrences_in (Some c.args.case.now)) order c.records.record-index number 0 c.records-test.true refl (done.scene ∙ many) in
+    let all = c.args.handled.now.records.items in
+    let at = c.records.of_record-index in
+    let one = c.of_record-item.result in
+    let low : at < length all = omega (arith, c.records-test.true, ap length c.deref-of_record-items.ensures.value) in
+    let is : one ≡ get_or all at one = c.of_record-item.is ∙ ap (λ (l : List HandledRecord). get_or l at one) c.deref-of_record-items.ensures.value in
+    let split : drop at all ≡ one ∷ drop (at + 1) all = drop_more all at one low ∙ ap (λ (h : HandledRecord). h ∷ drop (at + 1) all) (sym is) in
+    let many = ap (λ n. scene_after_all v before (record_events items one.number n)) (inv.goes_on.occurrences one.number) in
+    let next = records_next v before after items (occurrences_in (Some c.args.case.now)) all at one split (done.scene ∙ many) in
+    let left = subst (λ (l : List HandledRecord). AllByRecursion (IsHandledRecord v) l) split inv.handled in
     record {
       same = done.same;
       reports_fit = done.reports_fit;
       goes_on = goes_further v c.args.case.now c.records.case c.run_record.new.case c.records.store c.run_record.new.store inv.goes_on done.goes_on;
+      handled = left.1;
       left = next ∙ inv.left;
     }

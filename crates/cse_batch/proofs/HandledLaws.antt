@@ -1,0 +1,92 @@
+-- Events that the program has no routine for change nothing, and so the others count alone.
+use Rattle.std.proofs.Common.{◌≡◌, ℕ, zero, suc, ◌≤◌, Bool, true, false, cond, eqb, List, [], ◌∷◌, ◌++◌, map, Option, Some, None, refl, sym, ap, ◌∙◌, subst}
+use Rattle.std.specs.Prelude.{filter, is_some}
+use Rattle.cse_value.specs.declared.shape.ItemShape.{ItemShape}
+use Rattle.cse_parts.specs.declared.entries.Event.{Event}
+use Rattle.cse_parts.specs.declared.entries.EventCode.TheVariants as codes
+use Rattle.cse_parts.specs.Image.{Image}
+use Rattle.cse_case.specs.Case.{CaseText}
+use Rattle.cse_decks.specs.Store.{Kept}
+use Rattle.cse_typing.specs.Handlers.{routine_of}
+use Rattle.cse_bounds.specs.CaseEvents.{Moment, moment, event, event_bound, item_events, occurrence_events}
+use Rattle.cse_verify.specs.Verified.{VerifiedProgram}
+use Rattle.cse_steps.specs.State.{State}
+use Rattle.cse_steps.specs.Run.{first, first_calls}
+use Rattle.cse_batch.specs.Handled.{events_of_items, handled_items, has_routine}
+use Rattle.cse_batch.specs.Scene.{Scene, scene_after, scene_after_all, told_to}
+use Rattle.cse_batch.proofs.EventLaws.{stays}
+use Rattle.cse_batch.proofs.EndLaws.{AllThere, all_items_there}
+use Rattle.cse_batch.proofs.SceneLaws.{scene_later}
+
+-- ---- one event
+
+no_routine : (r : Option ℕ) → is_some r ≡ false → r ≡ None
+no_routine None is = refl
+no_routine (Some n) is = cc
+
+calls_none : (v : VerifiedProgram) (m : Moment) (case : Option CaseText) (store : Kept) → routine_of v.image.lists.events m.event ≡ None → (first v m case store).calls ≡ []
+unfolding first
+calls_none v m case store none = ap (first_calls v.image m.occurrence) none
+
+nothing_first : (v : VerifiedProgram) (m : Moment) (s : Scene) → told_to s (first v m s.case s.store).world ≡ s
+unfolding first
+nothing_first v m s = refl
+
+pub scene_unhandled : (v : VerifiedProgram) (s : Scene) (m : Moment) → has_routine v.image m.event ≡ false → scene_after v s m ≡ s
+unfolding scene_after
+scene_unhandled v s m is =
+    let calls = calls_none v m s.case s.store (no_routine (routine_of v.image.lists.events m.event) is) in
+    ap (λ (t : State). told_to s t.world) (stays v (event_bound v.image m.event) (first v m s.case s.store) calls) ∙ nothing_first v m s
+
+-- ---- the events of items, in an occurrence
+
+abbrev pub in_occurrence : ℕ → List Event → List Moment
+in_occurrence o es = map (λ e. let m : Moment = record { event = e; occurrence = o } in m) es
+
+only_handled : (v : VerifiedProgram) (o : ℕ) (es : List Event) (s : Scene) → scene_after_all v s (in_occurrence o (filter (has_routine v.image) es)) ≡ scene_after_all v s (in_occurrence o es)
+only_handled v o [] s = refl
+only_handled v o (e ∷ es) s = by (λ (t : Scene). only_handled v o es t) (has_routine v.image e) refl
+  where
+    by : ((t : Scene) → scene_after_all v t (in_occurrence o (filter (has_routine v.image) es)) ≡ scene_after_all v t (in_occurrence o es)) → (b : Bool) → has_routine v.image e ≡ b
+        → scene_after_all v s (in_occurrence o (cond b (e ∷ filter (has_routine v.image) es) (filter (has_routine v.image) es))) ≡ scene_after_all v s (in_occurrence o (e ∷ es))
+    by others true is = others (scene_after v s (record { event = e; occurrence = o }))
+    by others false is = others s ∙ ap (λ (t : Scene). scene_after_all v t (in_occurrence o es)) (sym (scene_unhandled v s (record { event = e; occurrence = o }) is))
+
+pair_in : (o k : ℕ) (b : Bool) (es : List Event) (ms : List Moment) → in_occurrence o es ≡ ms
+    → in_occurrence o (cond b (event codes.ItemPreproc k ∷ event codes.ItemPostproc k ∷ []) [] ++ es) ≡ cond b (moment codes.ItemPreproc k o ∷ moment codes.ItemPostproc k o ∷ []) [] ++ ms
+pair_in o k true es ms is = ap (λ (l : List Moment). moment codes.ItemPreproc k o ∷ moment codes.ItemPostproc k o ∷ l) is
+pair_in o k false es ms is = is
+
+items_in : (r o k : ℕ) (items : List ItemShape) → in_occurrence o (events_of_items r k items) ≡ item_events r o k items
+items_in r o k [] = refl
+items_in r o k (item ∷ items) = pair_in o k (eqb item.owner r) (events_of_items r (suc k) items) (item_events r o (suc k) items) (items_in r o (suc k) items)
+
+-- the handled ones leave what all of them leave
+pub items_scene : (v : VerifiedProgram) (r o : ℕ) (s : Scene) (es : List Event) → es ≡ handled_items v.image r → scene_after_all v s (in_occurrence o es) ≡ scene_after_all v s (item_events r o 0 v.image.lists.items)
+items_scene v r o s es is =
+    ap (λ (l : List Event). scene_after_all v s (in_occurrence o l)) is
+    ∙ (only_handled v o (events_of_items r 0 v.image.lists.items) s ∙ ap (scene_after_all v s) (items_in r o 0 v.image.lists.items))
+
+-- where none is handled, occurrences change nothing
+pub occurrences_stay : (v : VerifiedProgram) (r o n : ℕ) (s : Scene) → [] ≡ handled_items v.image r → scene_after_all v s (occurrence_events r v.image.lists.items o n) ≡ s
+occurrences_stay v r o zero s none = refl
+occurrences_stay v r o (suc n) s none =
+    let one = sym (items_scene v r o s [] none) in
+    scene_later v s (item_events r o 0 v.image.lists.items) (occurrence_events r v.image.lists.items (suc o) n)
+    ∙ (ap (λ (t : Scene). scene_after_all v t (occurrence_events r v.image.lists.items (suc o) n)) one ∙ occurrences_stay v r (suc o) n s none)
+
+-- ---- their occurrence is there
+
+module _ (x : Image) (n : ℕ → ℕ) (o : ℕ) where
+  kept : (p : Event → Bool) (es : List Event) → AllThere x n (in_occurrence o es) → AllThere x n (in_occurrence o (filter p es))
+  kept p [] there = tt
+  kept p (e ∷ es) there = by (kept p es there.1) (p e)
+    where
+      by : AllThere x n (in_occurrence o (filter p es)) → (b : Bool) → AllThere x n (in_occurrence o (cond b (e ∷ filter p es) (filter p es)))
+      by others true = (there.0, others)
+      by others false = others
+
+  pub items_there : (r : ℕ) (es : List Event) → es ≡ handled_items x r → 1 ≤ o → o ≤ n r → AllThere x n (in_occurrence o es)
+  items_there r es is low high =
+      let all = subst (AllThere x n) (sym (items_in r o 0 x.lists.items)) (all_items_there x n r o low high) in
+      subst (λ (l : List Event). AllThere x n (in_occurrence o l)) (sym is) (kept (has_routine x) (events_of_items r 0 x.lists.items) all)

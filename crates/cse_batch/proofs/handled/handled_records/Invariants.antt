@@ -1,0 +1,11 @@
+use Rattle.std.proofs.Common.{◌≡◌, map, take}
+use Rattle.std.specs.List.{AllByRecursion}
+use Rattle.cse_batch.specs.Handled.{IsHandledRecord, number_of}
+use Rattle.cse_batch.proofs.handled.handled_records.Given as goal
+
+-- the records so far
+abbrev pub invariant-records : goal.invariant-records
+invariant-records g l = record {
+  numbers : map number_of l.records.items ≡ take l.number-index l.order;
+  each : AllByRecursion (IsHandledRecord l.verified) l.records.items;
+}

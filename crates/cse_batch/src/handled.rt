@@ -1,0 +1,125 @@
+//! The events of a case that a program has a routine for, found once before the first case.
+
+ghost use Rattle.std.specs.Prelude.{◌≡◌, ◌++◌, ◌<◌, [], ◌∷◌, IfOk, OnOk, filter, length, map};
+ghost use Rattle.std.specs.List.{AllByRecursion};
+ghost use Rattle.cse_bounds.specs.CaseEvents.{event};
+ghost use Rattle.cse_dict.specs.Dictionary.{shape_of};
+ghost use Rattle.cse_batch.specs.Handled.{AreHandled, IsHandledRecord, handled_items, has_routine, number_of};
+
+use crate::parts::{items_of, order_of};
+use cse_image::{Code, Event, EventCode};
+use cse_typing::routine_of;
+use cse_verify::Verified;
+use std::alloc::{AllocError, Global};
+
+/// The events of a record and of its items that have a routine.
+#[derive(Drop)]
+pub(crate) struct HandledRecord {
+    pub(crate) number: u16,
+    /// Whether its preproc has one.
+    pub(crate) preproc: bool,
+    /// The events of its items that have one, in the order in which they run.
+    pub(crate) items: Vec<Event>,
+    /// Whether its postproc has one.
+    pub(crate) postproc: bool,
+}
+
+/// The events of a case that have a routine.
+#[derive(Drop)]
+pub(crate) struct HandledEvents {
+    /// Whether the preproc of the level has one.
+    pub(crate) preproc: bool,
+    /// The records in edit order.
+    pub(crate) records: Vec<HandledRecord>,
+    /// Whether the postproc of the level has one.
+    pub(crate) postproc: bool,
+}
+
+/// Whether the program has a routine for an event.
+fn has_routine<C: Code>(verified: &Verified<'_, C>, code: EventCode, index: u16) -> bool
+    ensures { result ≡ has_routine verified.now.image (event code index) }
+{
+    routine_of(verified.program(), Event { code, index }).is_some()
+}
+
+/// Puts an event behind others, if the program has a routine for it.
+fn put_handled<C: Code>(
+    verified: &Verified<'_, C>,
+    events: &mut Vec<Event>,
+    code: EventCode,
+    index: u16,
+) -> Result<(), AllocError>
+    ensures { OnOk result (events.new.items ≡ events.old.items ++ filter (has_routine verified.now.image) (event code index ∷ [])) }
+{
+    if has_routine(verified, code, index) {
+        events.push(Event { code, index })?;
+    }
+    Ok(())
+}
+
+/// The events of the items of a record that have a routine, in order.
+fn events_of_items<C: Code>(
+    alloc: Global,
+    verified: &Verified<'_, C>,
+    number: u16,
+) -> Result<Vec<Event>, AllocError>
+    ensures { IfOk result (λ events. events.items ≡ handled_items verified.now.image number) }
+{
+    let items = items_of(verified);
+    let mut events = Vec::new(alloc);
+    'items: for item in 0..items.len() {
+        if u16::from(items[item].owner) == number {
+            put_handled(verified, &mut events, EventCode::ItemPreproc, item as u16)?;
+            put_handled(verified, &mut events, EventCode::ItemPostproc, item as u16)?;
+        }
+    }
+    Ok(events)
+}
+
+/// The events of a record that have a routine.
+fn handled_record<C: Code>(
+    alloc: Global,
+    verified: &Verified<'_, C>,
+    number: u16,
+) -> Result<HandledRecord, AllocError>
+    requires { number < length (shape_of verified.now.dictionary).records }
+    ensures number { IfOk result (λ r. r.number ≡ number) }
+    ensures handled { IfOk result (IsHandledRecord verified.now) }
+{
+    Ok(HandledRecord {
+        number,
+        preproc: has_routine(verified, EventCode::RecordPreproc, number),
+        items: events_of_items(alloc, verified, number)?,
+        postproc: has_routine(verified, EventCode::RecordPostproc, number),
+    })
+}
+
+/// The events of the records that have a routine, in edit order.
+fn handled_records<C: Code>(
+    alloc: Global,
+    verified: &Verified<'_, C>,
+) -> Result<Vec<HandledRecord>, AllocError>
+    ensures numbers { IfOk result (λ records. map number_of records.items ≡ verified.now.image.lists.order) }
+    ensures each { IfOk result (λ records. AllByRecursion (IsHandledRecord verified.now) records.items) }
+{
+    let order = order_of(verified);
+    let mut records = Vec::with_capacity(alloc, order.len())?;
+    'records: for number in order {
+        records.push(handled_record(alloc, verified, *number as u16)?)?;
+    }
+    Ok(records)
+}
+
+/// The events of a case that have a routine.
+pub(crate) fn handled_events<C: Code>(
+    alloc: Global,
+    verified: &Verified<'_, C>,
+) -> Result<HandledEvents, AllocError>
+    ensures { IfOk result (AreHandled verified.now) }
+{
+    Ok(HandledEvents {
+        preproc: has_routine(verified, EventCode::LevelPreproc, 0),
+        records: handled_records(alloc, verified)?,
+        postproc: has_routine(verified, EventCode::LevelPostproc, 0),
+    })
+}
