@@ -4,6 +4,7 @@ pub mod Resolve
 pub mod Laws
 pub mod Results
 pub mod Ready
+pub mod Handlers
 pub mod Small
 pub mod Quiet
 pub mod Sorts
