@@ -212,6 +212,7 @@ impl<'a> Case<'a> {
         requires there { (item_at (items_of self.now) item).owner < length (records_of self.now) }
         ensures columns { result.now ≡ columns_at self.now place item }
         ensures number { (item_at (items_of self.now) item).kind ≡ ANumber → length result.now ≤ 15 }
+        ensures text { (item_at (items_of self.now) item).kind ≡ AText → length result.now ≤ 255 }
     {
         whole_field(self.item(item), &self.columns, &self.lines[place])
     }
@@ -226,17 +227,6 @@ impl<'a> Case<'a> {
         read_num(self.columns_at(place, item), self.dictionary.code(item))
     }
 
-    /// The text in the columns of a text item, in the line at a place.
-    #[tactic(auto, unfolding(crate::specs::Case::text_at))]
-    fn text_at(&self, place: usize, item: u16) -> Text
-        requires place { place < length self.now.run.lines }
-        requires item { item < length (items_of self.now) }
-        requires text { (item_at (items_of self.now) item).kind ≡ AText }
-        ensures { result.items ≡ text_at self.now place item }
-    {
-        read_text(self.columns_at(place, item))
-    }
-
     /// The number of an item in an occurrence of its record.
     #[inline(always)]
     #[tactic(auto, unfolding(crate::specs::Case::number_at))]
@@ -249,13 +239,24 @@ impl<'a> Case<'a> {
         number_in(columns, self.dictionary.code(item))
     }
 
+    /// The columns of a text item in an occurrence of its record, where they stand: at most 255.
+    #[tactic(auto, unfolding(crate::specs::Case::text_at))]
+    pub fn text_columns(&self, number: u16, occurrence: u16, item: u16) -> &[char]
+        requires occurrence { IsOccurrence self.now number occurrence }
+        requires item { IsItem (items_of self.now) number AText item }
+        ensures columns { result.now ≡ text_at self.now (place_of self.now number occurrence) item }
+        ensures few { length result.now ≤ 255 }
+    {
+        self.own_columns(self.place(number, occurrence), item)
+    }
+
     /// The text of an item in an occurrence of its record: all its columns.
     pub fn get_text(&self, number: u16, occurrence: u16, item: u16) -> Text
         requires occurrence { IsOccurrence self.now number occurrence }
         requires item { IsItem (items_of self.now) number AText item }
         ensures { result.items ≡ text_at self.now (place_of self.now number occurrence) item }
     {
-        self.text_at(self.place(number, occurrence), item)
+        read_text(self.text_columns(number, occurrence, item))
     }
 
     /// The number of an id item, which is read from the first line.
@@ -267,13 +268,23 @@ impl<'a> Case<'a> {
         self.number_at(0, item)
     }
 
+    /// The columns of a text id item in the first line, where they stand: at most 255.
+    #[tactic(auto, unfolding(crate::specs::Case::text_at))]
+    pub fn id_columns(&self, item: u16) -> &[char]
+        requires item { IsItem (items_of self.now) ID_OWNER AText item }
+        ensures columns { result.now ≡ text_at self.now 0 item }
+        ensures few { length result.now ≤ 255 }
+    {
+        let _lines = self.lines();
+        self.columns_at(0, item)
+    }
+
     /// The text of an id item, which is read from the first line: all its columns.
     pub fn id_text(&self, item: u16) -> Text
         requires item { IsItem (items_of self.now) ID_OWNER AText item }
         ensures { result.items ≡ text_at self.now 0 item }
     {
-        let _lines = self.lines();
-        self.text_at(0, item)
+        read_text(self.id_columns(item))
     }
 
     /// Writes into an item of the line at a place, which is one of the item's record and so has all its

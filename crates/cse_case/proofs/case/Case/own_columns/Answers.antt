@@ -11,7 +11,7 @@ use Rattle.cse_case.specs.Fit.{IsFit}
 use Rattle.cse_case.proofs.CaseLaws.{width_of_line}
 use Rattle.cse_case.proofs.FieldLaws.{short_field}
 use Rattle.cse_case.proofs.FitLaws.{kept_fits}
-use Rattle.cse_case.proofs.SetLaws.{item_starts, item_within, number_short}
+use Rattle.cse_case.proofs.SetLaws.{item_starts, item_within, number_short, text_short}
 use Rattle.cse_case.proofs.case.Case.own_columns.Goals as goal
 
 pub whole_field-requires-clause-start : goal.whole_field-requires-clause-start
@@ -66,4 +66,15 @@ returns-clause-number c = λ number.
       short_field c.item.result.now (take line.width (drop line.first c.deref.result.now)),
       ap (λ (i : ItemShape). i.len) c.item.ensures.item,
       number_short c.args.self.now c.args.item c.item.ensures.sound c.requires.item number,
+    )
+
+pub returns-clause-text : goal.returns-clause-text
+returns-clause-text c = λ text.
+    let line = c.index.result.now in
+    omega (
+      arith,
+      ap length c.whole_field.ensures,
+      short_field c.item.result.now (take line.width (drop line.first c.deref.result.now)),
+      ap (λ (i : ItemShape). i.len) c.item.ensures.item,
+      text_short c.args.self.now c.args.item c.item.ensures.sound c.requires.item text,
     )
