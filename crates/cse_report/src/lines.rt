@@ -27,7 +27,7 @@ pub enum Heading {
 
 /// Makes the heading of a run of data lines with these id columns, which stand as they are.
 #[tactic(auto, unfolding(crate::specs::Listing::case_heading))]
-pub fn make_case_heading(out: &mut Vec<u8>, ids: &[char]) -> Result<(), AllocError>
+fn make_case_heading(out: &mut Vec<u8>, ids: &[char]) -> Result<(), AllocError>
     ensures { OnOk result (out.new.items ≡ case_heading ids.now) }
 {
     out.clear();
@@ -47,14 +47,14 @@ fn put_characters(out: &mut Vec<u8>, characters: &[char]) -> Result<(), AllocErr
 }
 
 /// Begins with the heading that waits.
-fn make_heading(out: &mut Vec<u8>, heading: Heading, case_line: &[u8]) -> Result<(), AllocError>
-    ensures { OnOk result (out.new.items ≡ waiting heading case_line.now) }
+fn make_heading(out: &mut Vec<u8>, heading: Heading, ids: &[char]) -> Result<(), AllocError>
+    ensures { OnOk result (out.new.items ≡ waiting heading ids.now) }
 {
     out.clear();
     match heading {
         Heading::Nothing => Ok(()),
         Heading::Run => out.extend_from_slice(b"RUN\n"),
-        Heading::Case => out.extend_from_slice(case_line),
+        Heading::Case => make_case_heading(out, ids),
     }
 }
 
@@ -72,13 +72,13 @@ fn reason(what: Unseen) -> &'static [u8]
 pub fn make_unseen(
     out: &mut Vec<u8>,
     heading: Heading,
-    case_line: &[u8],
+    ids: &[char],
     number: u64,
     what: Unseen,
 ) -> Result<(), AllocError>
-    ensures { OnOk result (out.new.items ≡ waiting heading case_line.now ++ unseen_line number what) }
+    ensures { OnOk result (out.new.items ≡ waiting heading ids.now ++ unseen_line number what) }
 {
-    make_heading(out, heading, case_line)?;
+    make_heading(out, heading, ids)?;
     out.extend_from_slice(b"U ")?;
     out.extend_from_slice(Buffer::new().format(number).as_bytes())?;
     out.extend_from_slice(reason(what))?;
@@ -89,12 +89,12 @@ pub fn make_unseen(
 fn make_message_start(
     out: &mut Vec<u8>,
     heading: Heading,
-    case_line: &[u8],
+    ids: &[char],
     number: u32,
 ) -> Result<(), AllocError>
-    ensures { OnOk result (out.new.items ≡ waiting heading case_line.now ++ ((codes "M " ++ decimal number) ++ 32 ∷ [])) }
+    ensures { OnOk result (out.new.items ≡ waiting heading ids.now ++ ((codes "M " ++ decimal number) ++ 32 ∷ [])) }
 {
-    make_heading(out, heading, case_line)?;
+    make_heading(out, heading, ids)?;
     out.extend_from_slice(b"M ")?;
     out.extend_from_slice(Buffer::new().format(number).as_bytes())?;
     out.extend_from_slice(b" ")
@@ -104,16 +104,16 @@ fn make_message_start(
 pub fn make_message(
     out: &mut Vec<u8>,
     heading: Heading,
-    case_line: &[u8],
+    ids: &[char],
     number: u32,
     text: &str,
     args: &[Arg],
 ) -> Result<Span, AllocError>
-    ensures line { OnOk result (out.new.items ≡ waiting heading case_line.now ++ message_line number (message_text text.now args.now)) }
+    ensures line { OnOk result (out.new.items ≡ waiting heading ids.now ++ message_line number (message_text text.now args.now)) }
     ensures place { IfOk result (λ s. IsText out.new.items s) }
     ensures text { IfOk result (λ s. text_at out.new.items s ≡ message_text text.now args.now) }
 {
-    make_message_start(out, heading, case_line, number)?;
+    make_message_start(out, heading, ids, number)?;
     let start = out.len();
     put_message(out, text, args)?;
     let end = out.len();

@@ -14,7 +14,7 @@ ghost use Rattle.cse_report.specs.Held.{begun, reported, flushed, ending};
 ghost use Rattle.cse_report.specs.Spans.{IsText, AreTexts, text_at, texts_at, moved};
 
 use crate::argument::{Arg, takes};
-use crate::lines::{Heading, make_case_heading, make_message, make_unseen};
+use crate::lines::{Heading, make_message, make_unseen};
 use crate::spans::Span;
 use crate::summary::put_summary;
 use cse_dict::Unseen;
@@ -32,8 +32,10 @@ pub struct Listing {
     messages: Vec<Message>,
     counts: Vec<u64>,
     heading: Heading,
-    /// The heading of the case, where that waits.
-    case_line: Vec<u8>,
+    /// The id columns of the case, where its heading waits.
+    ids: Vec<char>,
+    /// Room for the id columns of the next case.
+    next_ids: Vec<char>,
     /// What is being made.
     making: Vec<u8>,
     lines: Vec<u8>,
@@ -53,7 +55,7 @@ impl Model for Listing {
     ghost view = { λ s. record {
       messages = map message_lists s.messages.items;
       counts = s.counts.items;
-      heading = waiting s.heading s.case_line.items;
+      heading = waiting s.heading s.ids.items;
       lines = s.lines.items;
       texts = texts_at s.lines.items s.spans.items;
     } };
@@ -158,7 +160,8 @@ impl Listing {
             messages,
             counts,
             heading: Heading::Nothing,
-            case_line: Vec::new(alloc),
+            ids: Vec::new(alloc),
+            next_ids: Vec::new(alloc),
             making: Vec::new(alloc),
             lines,
             spans: Vec::new(alloc),
@@ -177,8 +180,9 @@ impl Listing {
         ensures ok { OnOk result (self.new ≡ reported self.old (BeginsCase ids.now)) }
         ensures err { OnErr result (self.new ≡ self.old) }
     {
-        make_case_heading(&mut self.making, ids)?;
-        mem::swap(&mut self.case_line, &mut self.making);
+        self.next_ids.clear();
+        self.next_ids.extend_from_slice(ids)?;
+        mem::swap(&mut self.ids, &mut self.next_ids);
         self.heading = Heading::Case;
         Ok(())
     }
@@ -188,7 +192,7 @@ impl Listing {
         ensures ok { OnOk result (self.new ≡ reported self.old (LeavesUnseen line what)) }
         ensures err { OnErr result (self.new ≡ self.old) }
     {
-        make_unseen(&mut self.making, self.heading, &self.case_line, line, what)?;
+        make_unseen(&mut self.making, self.heading, &self.ids, line, what)?;
         self.lines.extend_from_slice(&self.making)?;
         self.heading = Heading::Nothing;
         Ok(())
@@ -223,7 +227,7 @@ impl Listing {
         let text = make_message(
             &mut self.making,
             self.heading,
-            &self.case_line,
+            &self.ids,
             message.number,
             message.text.as_str(),
             args,

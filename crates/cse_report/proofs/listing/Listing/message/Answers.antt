@@ -46,14 +46,14 @@ returns-in_err-hold_message-clause-summary c =
     let same : is_listed c.args.self.now.messages c.args.index ≡ true = rw (← c.self.view_is) listed in
     λ e. absurd (false≢true (sym e ∙ same))
 
-made : (c : After-count_one-2) → c.deref-2.result.now ≡ waiting c.self.inside.heading c.self.inside.case_line.items ++ message_line c.index-message.result.now.number (message_text (string_bytes c.index-message.result.now.text) c.args.args.now)
+made : (c : After-count_one-2) → c.deref-2.result.now ≡ waiting c.self.inside.heading c.self.inside.ids.items ++ message_line c.index-message.result.now.number (message_text (string_bytes c.index-message.result.now.text) c.args.args.now)
 made c =
     let i = c.self.inside in
     let m = c.index-message.result.now in
     c.deref-2.ensures.value
     ∙ (c.in_ok-text.ensures.line
     ∙ (ap (λ (l : List ℕ). waiting i.heading l ++ message_line m.number (message_text c.as_str.result.now c.args.args.now)) c.deref.ensures.value
-    ∙ ap (λ (l : List ℕ). waiting i.heading i.case_line.items ++ message_line m.number (message_text l c.args.args.now)) c.as_str.ensures.value))
+    ∙ ap (λ (l : List ℕ). waiting i.heading i.ids.items ++ message_line m.number (message_text l c.args.args.now)) c.as_str.ensures.value))
 
 placed : (c : After-count_one-2) → IsText c.deref-2.result.now c.in_ok-text.text
 placed c = subst (λ (l : List ℕ). IsText l c.in_ok-text.text) (sym c.deref-2.ensures.value) c.in_ok-text.ensures.place

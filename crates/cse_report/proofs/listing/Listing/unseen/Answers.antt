@@ -7,7 +7,7 @@ use Rattle.cse_report.proofs.HeldLaws.{same_held}
 use Rattle.cse_report.proofs.listing.Listing.unseen.Goals.{After-self-1}
 use Rattle.cse_report.proofs.listing.Listing.unseen.Goals as goal
 
-made : (c : After-self-1) → c.extend_from_slice.new.self.items ≡ c.self.inside.lines.items ++ (waiting c.self.inside.heading c.self.inside.case_line.items ++ unseen_line c.args.line c.args.what)
+made : (c : After-self-1) → c.extend_from_slice.new.self.items ≡ c.self.inside.lines.items ++ (waiting c.self.inside.heading c.self.inside.ids.items ++ unseen_line c.args.line c.args.what)
 made c =
     let i = c.self.inside in
     c.in_ok-extend_from_slice.ensures.items
