@@ -1,24 +1,22 @@
 -- What a reader knows of the lines that it has cut, line by line.
-use Rattle.std.proofs.Common.{◌≡◌, ℕ, ◌+◌, ◌<◌, ◌≤◌, Bool, true, false, cond, eqb, ltb, List, [], ◌∷◌, ◌++◌, length, take, drop, map, refl, ap, sym, ◌∙◌, subst, arith, Some, None, Option, append_assoc, inl, inr, append-nil, length-append, length-drop, take-append-drop, add-zero}
+use Rattle.std.proofs.Common.{◌≡◌, ℕ, ◌+◌, ◌<◌, ◌≤◌, Bool, true, false, cond, eqb, ltb, List, [], ◌∷◌, ◌++◌, length, take, drop, map, refl, ap, sym, ◌∙◌, subst, arith, Some, None, Option, append_assoc, inl, inr, append-nil, length-drop, take-append-drop}
 use Rattle.std.specs.Prelude.{◌&&◌, ◌||◌, ◌⊎◌}
 use Rattle.std.specs.Option.{is_some}
-use Rattle.std.specs.List.{flat_map}
 use Rattle.std.proofs.lemmas.Bool.{eqb-true, ltb-true}
-use Rattle.std.proofs.lemmas.List.{length_push, length-map, map-append, nil_from_length}
+use Rattle.std.proofs.lemmas.List.{length_push, length-map, map-append}
 use Rattle.cse_dict.specs.Dictionary.{DictionaryText}
 use Rattle.cse_lines.specs.Line.{FileLine, is_marked, lines_in}
 use Rattle.cse_lines.specs.Columns.{id_of, line_text}
 use Rattle.cse_lines.specs.Field.{least_width}
 use Rattle.cse_lines.specs.Cutting.{HasNoFeed, IsFirstLine}
 use Rattle.cse_lines.specs.Run.{RunText, begins_marked, line_at, run_text, with_line, written_run}
-use Rattle.cse_lines.specs.Runs.{AreSound, MayFollow, fault_in, fault_of, first_fault, given, given_of, later_by, line_fault, place_after}
-use Rattle.cse_lines.specs.Reader.{GivesRun}
+use Rattle.cse_lines.specs.Runs.{AreSound, MayFollow, fault_in, fault_of, first_fault, given_of, later_by, line_fault, place_after}
 use Rattle.cse_lines.specs.Gathering.{Gathered, IsRunOf, StandsFrom, bytes_of, first_id, front_after}
-use Rattle.cse_lines.specs.Taking.{CutsPast, EndsRun, Gathers, GathersAll, GivesFirst, GoesOn, Refuses, RefusesAt, run_id}
+use Rattle.cse_lines.specs.Taking.{CutsPast, EndsRun, Gathers, GivesFirst, GoesOn, Refuses, RefusesAt, run_id}
 use Rattle.cse_lines.proofs.DecodeLaws.{short_line}
 use Rattle.cse_lines.proofs.TakeLaws.{id_of_is, least_fits}
 use Rattle.cse_lines.proofs.WrittenLaws.{written-run}
-use Rattle.cse_lines.proofs.RunLaws.{Differs, IsRunOf-push, first_fault-found, first_fault-run, given_of-fault, given_of-last, given_of-nil, given_of-step, place-first}
+use Rattle.cse_lines.proofs.RunLaws.{IsRunOf-push, first_fault-found, first_fault-run, given_of-fault, given_of-step, place-first}
 
 not_true : (b : Bool) → (b ≡ true → ⊥) → b ≡ false
 not_true true h = absurd (h refl)

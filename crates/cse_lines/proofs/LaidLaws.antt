@@ -1,5 +1,5 @@
 -- Laws of how the lines of a run lie in one list of columns.
-use Rattle.std.proofs.Common.{◌≡◌, ℕ, zero, suc, ◌+◌, ◌-◌, ◌<◌, ◌≤◌, List, [], ◌∷◌, ◌++◌, length, get_or, set, take, drop, map, refl, ap, sym, ◌∙◌, arith, add_assoc, append_assoc, length-append, length-drop, take-add, drop-drop, take-append-drop}
+use Rattle.std.proofs.Common.{◌≡◌, ℕ, zero, suc, ◌+◌, ◌-◌, ◌<◌, ◌≤◌, List, [], ◌∷◌, ◌++◌, length, get_or, set, take, drop, refl, ap, sym, ◌∙◌, arith, add_assoc, append_assoc, length-append, length-drop, take-add, drop-drop, take-append-drop}
 use Rattle.std.proofs.lemmas.List.{get_or-map, drop-append-le, drop_at, drop-take, take-append-le, take-take, take_all, length-take-le}
 use Rattle.std.proofs.Math.Seq.{take-append-add}
 use Rattle.cse_lines.specs.declared.line.Line.{Line}

@@ -1,18 +1,17 @@
 -- Laws of a line that comes to a run.
-use Rattle.std.proofs.Common.{◌≡◌, ℕ, ◌+◌, ◌-◌, ◌<◌, ◌≤◌, max, Bool, true, false, cond, ltb, List, [], ◌∷◌, ◌++◌, length, Option, Some, None, refl, ap, sym, ◌∙◌, arith}
-use Rattle.std.specs.Prelude.{not}
+use Rattle.std.proofs.Common.{◌≡◌, ℕ, ◌+◌, ◌≤◌, max, Bool, true, false, List, [], ◌∷◌, length, Some, None, refl, ap, sym, ◌∙◌, arith}
 use Rattle.std.specs.Str.{bytes_eq}
 use Rattle.std.proofs.lemmas.Bool.{false≢true}
 use Rattle.std.proofs.lemmas.Slice.Eq.{bytes_eq-Decides}
 use Rattle.cse_dict.specs.Dictionary.{DictionaryText}
 use Rattle.cse_lines.specs.declared.decode.Head.{Head}
-use Rattle.cse_lines.specs.Decoding.{line_with}
+use Rattle.cse_lines.specs.Decoding.{IsDecoded, line_with}
 use Rattle.cse_lines.specs.Line.{FileLine, is_marked}
-use Rattle.cse_lines.specs.Field.{LayoutText, fields_at, id_spans, ids_of, last_column, layout_of, least_width, record_len, record_of, type_span, width_of}
-use Rattle.cse_lines.specs.Columns.{columns_of, id_of, line_text}
-use Rattle.cse_lines.specs.Run.{RunText, line_at, run_text, with_line}
+use Rattle.cse_lines.specs.Field.{LayoutText, fields_at, id_spans, ids_of, last_column, layout_of, least_width, record_len, record_of, width_of}
+use Rattle.cse_lines.specs.Columns.{LineText, columns_of, id_of, line_text}
+use Rattle.cse_lines.specs.Run.{RunText, line_at, run_of, run_text, with_line}
 use Rattle.cse_lines.specs.Runs.{fault_of, line_fault, place_after}
-use Rattle.cse_lines.specs.Taking.{run_id}
+use Rattle.cse_lines.specs.Taking.{EndsRun, IsLast, run_id}
 use Rattle.cse_lines.proofs.DecodeLaws.{length-padded}
 use Rattle.cse_lines.proofs.RunLaws.{place-same}
 
@@ -64,7 +63,23 @@ pub with_line-read : (d : DictionaryText) (run new : RunText) (line : FileLine) 
 with_line-read d run new line a columns head e f g m =
     e ∙ ap (λ x. with_line run head.marked (line_with x head)) f ∙ ap (λ l. with_line run head.marked l) g ∙ ap (λ b. with_line run b (line_text d line)) m
 
--- a run of that line alone
-pub run_text-first : (d : DictionaryText) (run : RunText) (number : ℕ) (line : FileLine) → run.lines ≡ [] → run.marked ≡ false → run.first_line ≡ number
-    → with_line run (is_marked line) (line_text d line) ≡ run_text d number (line ∷ [])
-run_text-first d run number line l m n = rw (l, m, n) refl
+-- a run of a line alone
+pub run_of-with : (run : RunText) (number : ℕ) (marked : Bool) (line : LineText) → run.lines ≡ [] → run.marked ≡ false → run.first_line ≡ number
+    → with_line run marked line ≡ run_of number marked line
+run_of-with run number marked line l m n = rw (l, m, n) refl
+
+run_of-read : (d : DictionaryText) (number : ℕ) (line : FileLine) (columns : List ℕ) (head : Head) → IsDecoded d line columns head
+    → run_of number head.marked (line_with columns head) ≡ run_text d number (line ∷ [])
+run_of-read d number line columns head h = ap (run_of number head.marked) h.is ∙ ap (λ m. run_of number m (line_text d line)) h.marked
+
+-- the last line of a run, which was given
+pub EndsRun-last : (d : DictionaryText) (line : FileLine) (old kept new run : RunText) (columns : List ℕ) (head : Head) → IsLast d line old kept columns head → run ≡ kept
+    → new ≡ run_of (kept.first_line + length kept.lines) head.marked (line_with columns head) → EndsRun d line old new run
+EndsRun-last d line old kept new run columns head last given next = record {
+  sound = last.decoded.sound;
+  some = last.some;
+  other = last.other;
+  is = given ∙ last.same;
+  next = next ∙ ap (λ r. run_of (r.first_line + length r.lines) head.marked (line_with columns head)) last.same
+      ∙ run_of-read d (old.first_line + length old.lines) line columns head last.decoded;
+}

@@ -1,19 +1,16 @@
 -- A line that was read and not set is written as it came, byte for byte.
-use Rattle.std.proofs.Common.{◌≡◌, ℕ, zero, suc, ◌+◌, ◌-◌, ◌<◌, ◌≤◌, Bool, true, false, cond, eqb, List, [], ◌∷◌, ◌++◌, length, get_or, take, drop, replicate, map, None, refl, ap, sym, ◌∙◌, arith, append_assoc, append-nil, take-append-drop}
+use Rattle.std.proofs.Common.{◌≡◌, ℕ, zero, suc, ◌+◌, ◌-◌, ◌<◌, Bool, true, false, cond, eqb, List, [], ◌∷◌, ◌++◌, length, get_or, take, drop, replicate, map, None, refl, ap, sym, ◌∙◌, arith, append_assoc, append-nil, take-append-drop}
 use Rattle.std.specs.Prelude.{encode_utf8_all, ◌&&◌}
-use Rattle.std.specs.Str.{chars, IsUtf8}
 use Rattle.std.specs.List.{flat_map}
 use Rattle.std.proofs.lemmas.Bool.{eqb-true, false≢true}
 use Rattle.std.proofs.lemmas.List.{drop_all, drop_at, drop_more, take_all, take_at}
 use Rattle.std.proofs.lemmas.Str.{encodes-chars, IsUtf8-from_is_utf8}
 use Rattle.cse_dict.specs.Dictionary.{DictionaryText}
-use Rattle.cse_lines.specs.declared.line.Ending.{Ending}
-use Rattle.cse_lines.specs.declared.line.Ending.TheVariants.{FileEnd, Feed, ReturnFeed}
 use Rattle.cse_lines.specs.Line.{FileLine, before_end, end_bytes, ending_of, has_mark, is_marked, is_whole, text_of, without_mark}
 use Rattle.cse_lines.specs.Field.{padded, width_of}
 use Rattle.cse_lines.specs.Columns.{columns_of, line_text}
 use Rattle.cse_lines.specs.Written.{kept_columns, mark_bytes, onto_trimmed, without_blanks, written_line}
-use Rattle.cse_lines.specs.Run.{begins_marked, run_text, written_run}
+use Rattle.cse_lines.specs.Run.{run_text, written_run}
 use Rattle.cse_lines.specs.Runs.{AreSound, line_fault}
 use Rattle.cse_lines.specs.Gathering.{StandsFrom, bytes_of}
 use Rattle.cse_lines.proofs.DecodeLaws.{text_is_utf8}

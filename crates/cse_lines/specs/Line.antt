@@ -1,6 +1,6 @@
 -- The lines of a data file, as its bytes are cut: a line ends with LF or CRLF, or at the end of the file; another CR is a column. A byte order
 -- mark at the front of the file is carried and is no column.
-use Rattle.std.specs.Prelude.{ℕ, ◌-◌, Bool, true, false, ◌||◌, ◌&&◌, map, drop, ◌==◌, nat_lt, List, [], ◌∷◌, length, take, slice_index, filter, if◌then◌else◌}
+use Rattle.std.specs.Prelude.{ℕ, ◌-◌, Bool, false, ◌||◌, ◌&&◌, map, drop, ◌==◌, nat_lt, List, [], ◌∷◌, length, take, slice_index, filter, if◌then◌else◌}
 use Rattle.std.specs.List.{onto_first}
 use Rattle.cse_lines.specs.declared.line.Ending.{Ending}
 use Rattle.cse_lines.specs.declared.line.Ending.TheVariants.{FileEnd, Feed, ReturnFeed}

@@ -2,7 +2,6 @@
 use Rattle.std.specs.Prelude.{ℕ, ◌+◌, ◌||◌, Bool, false, map, List, [], ◌∷◌, ◌++◌, take, drop, length, slice_index_or}
 use Rattle.std.specs.List.{flat_map}
 use Rattle.cse_dict.specs.Dictionary.{DictionaryText}
-use Rattle.cse_lines.specs.declared.line.Line.{Line}
 use Rattle.cse_lines.specs.Line.{FileLine, is_marked}
 use Rattle.cse_lines.specs.Columns.{LineText, line_text, no_line}
 use Rattle.cse_lines.specs.Written.{mark_bytes, written_line}
@@ -29,6 +28,10 @@ run_text d number lines = record { lines = map (line_text d) lines; marked = beg
 -- the bytes of a run as it is written
 abbrev pub written_run : RunText → List ℕ
 written_run run = mark_bytes run.marked ++ flat_map written_line run.lines
+
+-- the run that begins with this line, which the mark may stand before
+abbrev pub run_of : ℕ → Bool → LineText → RunText
+run_of number marked line = record { lines = line ∷ []; marked = marked; first_line = number }
 
 -- the run with a line behind the others, which the mark may stand before
 abbrev pub with_line : RunText → Bool → LineText → RunText

@@ -1,6 +1,8 @@
 -- What a line does to the run that is gathered, and what all lines that are there do to it.
 use Rattle.std.specs.Prelude.{◌≡◌, ◌+◌, ◌<◌, ◌≤◌, ◌⊎◌, ℕ, Bool, true, false, List, [], ◌∷◌, ◌++◌, length, take, Option, None, Some}
 use Rattle.cse_dict.specs.Dictionary.{DictionaryText}
+use Rattle.cse_lines.specs.declared.decode.Head.{Head}
+use Rattle.cse_lines.specs.Decoding.{IsDecoded}
 use Rattle.cse_lines.specs.Line.{FileLine, is_marked, lines_in}
 use Rattle.cse_lines.specs.Field.{ids_of}
 use Rattle.cse_lines.specs.Columns.{id_of, line_text}
@@ -21,6 +23,17 @@ pub record GoesOn (d : DictionaryText) (line : FileLine) (old new : RunText) : T
   pub room : length old.lines < 10000
   pub is : new ≡ with_line old (is_marked line) (line_text d line)
 
+-- the line ends the run, which stays: it is these columns, under this head
+pub record IsLast (d : DictionaryText) (line : FileLine) (old new : RunText) (columns : List ℕ) (head : Head) : Type 0 where
+  pub decoded : IsDecoded d line columns head
+  pub some : 0 < length old.lines
+  pub other : run_id d old ≡ id_of d line → ⊥
+  pub same : new ≡ old
+
+abbrev pub Takes : DictionaryText → FileLine → RunText → RunText → List ℕ → Option Head → Type 0
+Takes d line old new columns None = GoesOn d line old new
+Takes d line old new columns (Some head) = IsLast d line old new columns head
+
 -- the line ends the run, and begins the next one
 pub record EndsRun (d : DictionaryText) (line : FileLine) (old new run : RunText) : Type 0 where
   pub sound : line_fault line ≡ None
@@ -28,10 +41,6 @@ pub record EndsRun (d : DictionaryText) (line : FileLine) (old new run : RunText
   pub other : run_id d old ≡ id_of d line → ⊥
   pub is : run ≡ old
   pub next : new ≡ run_text d (old.first_line + length old.lines) (line ∷ [])
-
-abbrev pub Takes : DictionaryText → FileLine → RunText → RunText → Option RunText → Type 0
-Takes d line old new None = GoesOn d line old new
-Takes d line old new (Some run) = EndsRun d line old new run
 
 -- the line has this fault at its place of the run, which stays
 pub record Refuses (d : DictionaryText) (line : FileLine) (old new : RunText) (number : ℕ) : Type 0 where

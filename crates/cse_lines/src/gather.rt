@@ -11,7 +11,7 @@ use crate::cut::first_line;
 use crate::decode::Stop;
 use crate::layout::Layout;
 use crate::run::{Room, Run};
-use crate::take::take_line;
+use crate::take::{end_run, take_line};
 use cse_dict::Dictionary;
 use std::alloc::Global;
 
@@ -44,9 +44,10 @@ pub fn gather(
     'lines: while let Some(line) = first_line(buffer.as_slice(), is_front(first, run), ended) {
         let front = is_front(first, run);
         let len = line.len();
-        let given = take_line(alloc, dictionary, layout, run, room, columns, line, front)?;
+        let last = take_line(dictionary, layout, run, columns, line, front)?;
         buffer.drop_front(len);
-        if let Some(given) = given {
+        if let Some(head) = last {
+            let given = end_run(alloc, run, room, columns, head)?;
             return Ok(Some(given));
         }
     }

@@ -1,4 +1,4 @@
-use Rattle.std.proofs.Common.{◌≡◌, ◌++◌, take}
+use Rattle.std.proofs.Common.{◌≡◌, ◌++◌}
 use Rattle.cse_lines.proofs.decode.extend_chars.Given as goal
 
 abbrev pub invariant-chars : goal.invariant-chars

@@ -1,4 +1,4 @@
-use Rattle.std.proofs.Common.{◌≡◌, ◌++◌, ap, sym, ◌∙◌, refl}
+use Rattle.std.proofs.Common.{◌++◌, ap, sym, ◌∙◌, refl}
 use Rattle.std.specs.Str.{chars}
 use Rattle.std.proofs.lemmas.Str.{chars-IsAscii, IsUtf8-from_ascii, is_utf8-from_IsUtf8}
 use Rattle.cse_lines.proofs.DecodeLaws.{not_utf8}

@@ -1,4 +1,4 @@
-use Rattle.std.proofs.Common.{◌≡◌, ◌+◌, ◌-◌, ◌≤◌, length, arith, ap, sym, ◌∙◌}
+use Rattle.std.proofs.Common.{◌≡◌, arith, ap, ◌∙◌}
 use Rattle.cse_dict.specs.Dictionary.{number_of_type}
 use Rattle.cse_lines.specs.Field.{field_at, padded, record_len, record_of, type_span, least_width}
 use Rattle.cse_lines.proofs.DecodeLaws.{record_of_is, type_fits, width_of_is}

@@ -1,12 +1,12 @@
-use Rattle.std.proofs.Common.{◌≡◌, ◌∙◌, sym, subst, arith, length, drop, false, []}
-use Rattle.std.specs.Prelude.{◌==◌, ◌&&◌}
+use Rattle.std.proofs.Common.{◌≡◌, ◌+◌, ◌∙◌, ℕ, List, sym, subst, arith, length, []}
 use Rattle.std.proofs.lemmas.Result.{err_from_is_err_and}
+use Rattle.cse_lines.specs.Decoding.{line_with}
 use Rattle.cse_lines.specs.Line.{lines_in}
-use Rattle.cse_lines.specs.Cutting.{IsFirstLine}
-use Rattle.cse_lines.specs.Gathering.{front_after}
-use Rattle.cse_lines.specs.Taking.{GoesOn, EndsRun, GivesFirst, Gathers, Refuses, RefusesAt, Takes}
+use Rattle.cse_lines.specs.Taking.{GoesOn, EndsRun, GivesFirst, Gathers, IsLast, Refuses, RefusesAt, Takes}
+use Rattle.cse_lines.specs.Run.{run_of}
 use Rattle.cse_lines.proofs.DecodeLaws.{IfFault-more}
 use Rattle.cse_lines.proofs.GatherLaws.{Gathers-more, Gathers-none, GivesFirst-found, RefusesAt-found, first_at, front_at, wide_line}
+use Rattle.cse_lines.proofs.TakeLaws.{EndsRun-last}
 use Rattle.cse_lines.proofs.gather.gather.Goals as goal
 
 pub lines-init : goal.lines-init
@@ -15,8 +15,8 @@ lines-init c = Gathers-none _ _ _ _ _ c.requires.gathered
 pub take_line-requires-clause-width : goal.take_line-requires-clause-width
 take_line-requires-clause-width c = wide_line c.args.dictionary.now c.args.first c.args.ended c.lines.run.first_line c.lines.run c.lines.buffer c.lines.invariant.gathered
 
-pub returns-in_err-given-clause-err : goal.returns-in_err-given-clause-err
-returns-in_err-given-clause-err c =
+pub returns-in_err-last-clause-err : goal.returns-in_err-last-clause-err
+returns-in_err-last-clause-err c =
     let d = c.args.dictionary.now in
     let b = c.is_front-front.result in
     let known = c.lines.invariant in
@@ -24,21 +24,42 @@ returns-in_err-given-clause-err c =
     let first = first_at c.is_front.result b c.args.ended c.as_slice.result.now c.lines.buffer c.in-Some.line.now (c.is_front.ensures ∙ sym c.is_front-front.ensures) c.as_slice.ensures c.in-Some.ensures.some in
     let p = err_from_is_err_and c.from_residual.result c.from_residual.ensures.1 in
     rw (p.1, p.2) (IfFault-more (Refuses d (b, c.in-Some.line.now) c.lines.run c.take_line.new.run)
-    (RefusesAt d c.args.first c.args.ended c.args.run.now c.args.buffer.now c.take_line.new.run) c.in_err-given.field-0.0
+    (RefusesAt d c.args.first c.args.ended c.args.run.now c.args.buffer.now c.take_line.new.run) c.in_err-last.field-0.0
     (RefusesAt-found d c.args.first c.args.ended c.args.run.now c.args.buffer.now c.lines.run c.take_line.new.run c.lines.buffer c.in-Some.line.now known b at first)
-    c.in_err-given.ensures.err)
+    c.in_err-last.ensures.err)
 
-pub returns-in-Some-given-clause-ok : goal.returns-in-Some-given-clause-ok
-returns-in-Some-given-clause-ok c =
+pub end_run-requires-clause-fits : goal.end_run-requires-clause-fits
+end_run-requires-clause-fits c =
+    let d = c.args.dictionary.now in
+    let b = c.is_front-front.result in
+    let last : IsLast d (b, c.in-Some.line.now) c.lines.run c.take_line.new.run c.take_line.new.columns.items c.in-Some-last.head =
+    subst (Takes d (b, c.in-Some.line.now) c.lines.run c.take_line.new.run c.take_line.new.columns.items) c.in-Some-last.is c.in_ok-last.ensures.ok in
+    rw c.deref.ensures.value last.decoded.fits
+
+pub end_run-requires-clause-number : goal.end_run-requires-clause-number
+end_run-requires-clause-number c =
+    let d = c.args.dictionary.now in
+    let b = c.is_front-front.result in
+    let known = c.lines.invariant in
+    let last : IsLast d (b, c.in-Some.line.now) c.lines.run c.take_line.new.run c.take_line.new.columns.items c.in-Some-last.head =
+    subst (Takes d (b, c.in-Some.line.now) c.lines.run c.take_line.new.run c.take_line.new.columns.items) c.in-Some-last.is c.in_ok-last.ensures.ok in
+    rw last.same (omega (arith, known.first_line, known.fewer, c.requires.number))
+
+pub returns-in-Some-last-clause-ok : goal.returns-in-Some-last-clause-ok
+returns-in-Some-last-clause-ok c =
     let d = c.args.dictionary.now in
     let b = c.is_front-front.result in
     let known = c.lines.invariant in
     let at = front_at d c.args.first c.args.ended c.lines.run.first_line c.lines.run c.lines.buffer known.gathered b c.is_front-front.ensures in
     let first = first_at c.is_front.result b c.args.ended c.as_slice.result.now c.lines.buffer c.in-Some.line.now (c.is_front.ensures ∙ sym c.is_front-front.ensures) c.as_slice.ensures c.in-Some.ensures.some in
-    let ends : EndsRun d (b, c.in-Some.line.now) c.lines.run c.take_line.new.run c.in-Some-given.given =
-    subst (Takes d (b, c.in-Some.line.now) c.lines.run c.take_line.new.run) c.in-Some-given.is c.in_ok-given.ensures.ok in
-    subst (λ rest. GivesFirst d c.args.first c.args.ended c.args.run.now c.args.buffer.now c.take_line.new.run rest c.in-Some-given.given) (sym c.drop_front.ensures)
-    (GivesFirst-found d c.args.first c.args.ended c.args.run.now c.args.buffer.now c.lines.run c.take_line.new.run c.lines.buffer c.in-Some.line.now known b at first c.in-Some-given.given ends)
+    let last : IsLast d (b, c.in-Some.line.now) c.lines.run c.take_line.new.run c.take_line.new.columns.items c.in-Some-last.head =
+    subst (Takes d (b, c.in-Some.line.now) c.lines.run c.take_line.new.run c.take_line.new.columns.items) c.in-Some-last.is c.in_ok-last.ensures.ok in
+    let next : c.end_run.new.run ≡ run_of (c.take_line.new.run.first_line + length c.take_line.new.run.lines) c.in-Some-last.head.marked (line_with c.take_line.new.columns.items c.in-Some-last.head) =
+    subst (λ (cs : List ℕ). c.end_run.new.run ≡ run_of (c.take_line.new.run.first_line + length c.take_line.new.run.lines) c.in-Some-last.head.marked (line_with cs c.in-Some-last.head)) c.deref.ensures.value c.in_ok-given.ensures.next in
+    let ends : EndsRun d (b, c.in-Some.line.now) c.lines.run c.end_run.new.run c.in_ok-given.given =
+    EndsRun-last d (b, c.in-Some.line.now) c.lines.run c.take_line.new.run c.end_run.new.run c.in_ok-given.given c.take_line.new.columns.items c.in-Some-last.head last c.in_ok-given.ensures.given next in
+    subst (λ rest. GivesFirst d c.args.first c.args.ended c.args.run.now c.args.buffer.now c.end_run.new.run rest c.in_ok-given.given) (sym c.drop_front.ensures)
+    (GivesFirst-found d c.args.first c.args.ended c.args.run.now c.args.buffer.now c.lines.run c.end_run.new.run c.lines.buffer c.in-Some.line.now known b at first c.in_ok-given.given ends)
 
 pub lines-preserved : goal.lines-preserved
 lines-preserved c =
@@ -48,7 +69,7 @@ lines-preserved c =
     let at = front_at d c.args.first c.args.ended c.lines.run.first_line c.lines.run c.lines.buffer known.gathered b c.is_front-front.ensures in
     let first = first_at c.is_front.result b c.args.ended c.as_slice.result.now c.lines.buffer c.in-Some.line.now (c.is_front.ensures ∙ sym c.is_front-front.ensures) c.as_slice.ensures c.in-Some.ensures.some in
     let on : GoesOn d (b, c.in-Some.line.now) c.lines.run c.take_line.new.run =
-    subst (Takes d (b, c.in-Some.line.now) c.lines.run c.take_line.new.run) c.in_default-given.is c.in_ok-given.ensures.ok in
+    subst (Takes d (b, c.in-Some.line.now) c.lines.run c.take_line.new.run c.take_line.new.columns.items) c.in_default-last.is c.in_ok-last.ensures.ok in
     subst (Gathers d c.args.first c.args.ended c.args.run.now c.args.buffer.now c.take_line.new.run) (sym c.drop_front.ensures)
     (Gathers-more d c.args.first c.args.ended c.args.run.now c.args.buffer.now c.lines.run c.take_line.new.run c.lines.buffer c.in-Some.line.now known b at first on)
 

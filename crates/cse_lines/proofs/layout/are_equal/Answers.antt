@@ -1,4 +1,4 @@
-use Rattle.std.proofs.Common.{◌≡◌, ◌+◌, drop, sym, ◌∙◌, ap, false}
+use Rattle.std.proofs.Common.{◌+◌, drop, sym, ◌∙◌, ap}
 use Rattle.std.specs.Str.{bytes_eq}
 use Rattle.cse_lines.specs.Field.{fields_at}
 use Rattle.cse_lines.proofs.FieldLaws.{fields_eq-same, fields_eq-other, spans_at, ids_differ, ids_equal}

@@ -1,11 +1,8 @@
-use Rattle.std.proofs.Common.{◌≡◌, ◌<◌, ◌≤◌, ◌+◌, ◌∷◌, [], Bool, false, length, Some, ap, sym, ◌∙◌, arith, refl}
-use Rattle.cse_lines.specs.Line.{FileLine, is_marked}
-use Rattle.cse_lines.specs.Field.{id_spans, last_column, layout_of, least_width, fields_at}
+use Rattle.std.proofs.Common.{◌≡◌, ◌<◌, length, ap, sym, ◌∙◌, arith, refl}
+use Rattle.cse_lines.specs.Line.{FileLine}
 use Rattle.cse_lines.specs.Columns.{id_of, line_text}
-use Rattle.cse_lines.specs.Run.{line_at, with_line}
 use Rattle.cse_lines.specs.Taking.{run_id}
-use Rattle.std.specs.Str.{bytes_eq}
-use Rattle.cse_lines.proofs.TakeLaws.{fault_of-many, ids_fit, least_fits, other_ids, run_text-first, same_ids, test_of, with_line-read}
+use Rattle.cse_lines.proofs.TakeLaws.{fault_of-many, ids_fit, least_fits, other_ids, same_ids, test_of, with_line-read}
 use Rattle.cse_lines.proofs.take.take_line.Goals as goal
 use Rattle.cse_lines.proofs.take.take_line.Goals.{else-len-gt0-via-then-len-gt0+else-not-has_same_ids, else-len-gt0-via-else-len-gt0}
 
@@ -30,16 +27,11 @@ returns-then-not-has_same_ids-clause-ok c =
     let ok = c.in_ok-head.ensures.ok in
     let test = test_of d run line c.args.layout.now c.columns.result.now c.deref.result.now c.decode.new.columns.items c.in_ok-head.head c.has_same_ids.result
     c.has_same_ids.ensures c.requires.layout c.columns.ensures c.deref.ensures.value ok.is in
-    let first : c.in_ok-next.next.first_line ≡ run.first_line + length run.lines = c.in_ok-next.ensures.first_line ∙ omega (arith, c.first_line.ensures, c.len-len.ensures) in
     record {
-      sound = ok.sound;
+      decoded = ok;
       some = omega (arith, c.len-len.ensures, c.if-len-gt0.true);
       other = other_ids (run_id d run) (id_of d line) c.has_same_ids.result test c.if-not-has_same_ids.true;
-      is = c.replace.ensures.value;
-      next = c.replace.ensures.after
-          ∙ with_line-read d c.in_ok-next.next c.push.new.self line c.deref-then-not-has_same_ids.result.now c.decode.new.columns.items c.in_ok-head.head
-          c.in_ok-push.ensures c.deref-then-not-has_same_ids.ensures.value ok.is ok.marked
-          ∙ run_text-first d c.in_ok-next.next (run.first_line + length run.lines) line c.in_ok-next.ensures.lines c.in_ok-next.ensures.marked first;
+      same = refl;
     }
 
 pub returns-then-len-eq-MOST_LINES-clause-err : goal.returns-then-len-eq-MOST_LINES-clause-err
@@ -74,6 +66,6 @@ returns-clause-ok c =
       sound = ok.sound;
       same = same;
       room = omega (arith, c.len-len.ensures, c.if-len-eq-MOST_LINES.false, c.requires.few);
-      is = with_line-read d run c.push-2.new.self line c.deref-2.result.now c.decode.new.columns.items c.in_ok-head.head
-          c.in_ok-push-2.ensures c.deref-2.ensures.value ok.is ok.marked;
+      is = with_line-read d run c.push.new.self line c.deref-2.result.now c.decode.new.columns.items c.in_ok-head.head
+          c.in_ok-push.ensures c.deref-2.ensures.value ok.is ok.marked;
     }

@@ -1,4 +1,4 @@
-use Rattle.std.proofs.Common.{◌≡◌, ◌+◌, ◌-◌, max, map, filter, ap, ◌∙◌}
+use Rattle.std.proofs.Common.{◌+◌, ◌-◌, max, map, filter, ap, ◌∙◌}
 use Rattle.cse_lines.specs.Field.{last_column, span_of}
 use Rattle.std.specs.Prelude.{◌==◌}
 use Rattle.cse_lines.proofs.FieldLaws.{layout_is}

@@ -1,7 +1,7 @@
-use Rattle.std.proofs.Common.{◌≡◌, ◌<◌, length, ap, sym, ◌∙◌, arith}
+use Rattle.std.proofs.Common.{◌≡◌, length, ap, sym, ◌∙◌, arith}
 use Rattle.std.proofs.lemmas.List.{length-map}
 use Rattle.cse_lines.specs.Laid.{laid_line}
-use Rattle.cse_lines.proofs.LaidLaws.{laid_within, line_in}
+use Rattle.cse_lines.proofs.LaidLaws.{laid_within}
 use Rattle.cse_lines.proofs.run.Run.columns.Goals as goal
 
 pub part-requires : goal.part-requires

@@ -1,5 +1,5 @@
-use Rattle.std.proofs.Common.{◌≡◌, ◌++◌, ◌∷◌, [], ◌||◌, Bool, ap, sym, ◌∙◌, refl}
-use Rattle.cse_lines.specs.Laid.{IsLaid, laid_lines, line_behind}
+use Rattle.std.proofs.Common.{◌≡◌, ◌++◌, ◌∷◌, [], ◌||◌, ap, ◌∙◌, refl}
+use Rattle.cse_lines.specs.Laid.{laid_lines}
 use Rattle.cse_lines.specs.Run.{RunText, with_line}
 use Rattle.cse_lines.specs.Decoding.{line_with}
 use Rattle.cse_lines.proofs.LaidLaws.{IsLaid-push, laid_lines-push}

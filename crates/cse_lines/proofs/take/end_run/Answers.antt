@@ -1,0 +1,12 @@
+use Rattle.std.proofs.Common.{◌≡◌, ◌+◌, length, ◌∙◌, arith}
+use Rattle.cse_lines.specs.Decoding.{line_with}
+use Rattle.cse_lines.proofs.TakeLaws.{run_of-with}
+use Rattle.cse_lines.proofs.take.end_run.Goals as goal
+
+pub returns-clause-next : goal.returns-clause-next
+returns-clause-next c =
+    let run = c.args.run.now in
+    let head = c.args.head in
+    let first : c.in_ok-next.next.first_line ≡ run.first_line + length run.lines = c.in_ok-next.ensures.first_line ∙ omega (arith, c.first_line.ensures, c.len.ensures) in
+    c.replace.ensures.after ∙ c.in_ok-push.ensures
+    ∙ run_of-with c.in_ok-next.next (run.first_line + length run.lines) head.marked (line_with c.args.columns.now head) c.in_ok-next.ensures.lines c.in_ok-next.ensures.marked first
