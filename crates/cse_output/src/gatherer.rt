@@ -40,18 +40,9 @@ impl Gatherer {
     pub fn put<W: Output>(&mut self, out: &mut W, bytes: &[u8])
         ensures { Puts (going (W.contents out.old) (W.has_failed out.old) self.old.waiting.items self.old.gave_up) (going (W.contents out.new) (W.has_failed out.new) self.new.waiting.items self.new.gave_up) bytes.now }
     {
-        if bytes.len() > ROOM - self.waiting.len() {
-            self.flush(out);
-            self.keep(out, bytes);
+        if bytes.is_empty() {
             return;
         }
-        self.keep(out, bytes);
-    }
-
-    /// Lets bytes wait, where there is room for them; else writes what waits and then the bytes.
-    fn keep<W: Output>(&mut self, out: &mut W, bytes: &[u8])
-        ensures { Puts (going (W.contents out.old) (W.has_failed out.old) self.old.waiting.items self.old.gave_up) (going (W.contents out.new) (W.has_failed out.new) self.new.waiting.items self.new.gave_up) bytes.now }
-    {
         if self.gave_up {
             return;
         }
@@ -60,6 +51,22 @@ impl Gatherer {
             return;
         }
         self.flush(out);
+        self.put_first(out, bytes);
+    }
+
+    /// Puts bytes where none wait: they wait, unless they are more than there is room for.
+    #[cold]
+    fn put_first<W: Output>(&mut self, out: &mut W, bytes: &[u8])
+        requires { self.old.waiting.items ≡ [] }
+        ensures { Puts (going (W.contents out.old) (W.has_failed out.old) self.old.waiting.items self.old.gave_up) (going (W.contents out.new) (W.has_failed out.new) self.new.waiting.items self.new.gave_up) bytes.now }
+    {
+        if self.gave_up {
+            return;
+        }
+        if bytes.len() <= ROOM {
+            append(&mut self.waiting, bytes);
+            return;
+        }
         self.write(out, bytes);
     }
 
