@@ -1,10 +1,11 @@
 -- Laws of a line that is read as columns.
-use Rattle.std.proofs.Common.{◌≡◌, ℕ, ◌+◌, ◌-◌, ◌<◌, ◌≤◌, max, cond, ltb, Option, Some, None, Bool, true, false, List, ◌∷◌, ◌++◌, length, get_or, replicate, refl, ap, ◌∙◌, arith, append_assoc, length-append, inl, inr}
+use Rattle.std.proofs.Common.{◌≡◌, ℕ, ◌+◌, ◌-◌, ◌<◌, ◌≤◌, max, cond, ltb, Option, Some, None, Bool, true, false, List, ◌∷◌, ◌++◌, length, get_or, take, drop, replicate, refl, ap, sym, ◌∙◌, arith, append_assoc, append-nil, length-append, length-drop, inl, inr}
 use Rattle.std.specs.Str.{IsAscii, IsUtf8, is_utf8}
 use Rattle.std.proofs.lemmas.Str.{IsUtf8-from_is_utf8}
-use Rattle.std.proofs.lemmas.List.{get_or_past, length-replicate, replicate-append-replicate}
+use Rattle.std.proofs.lemmas.List.{drop-append-le, get_or_past, length-replicate, replicate-append-replicate, take-append-le, take_all, take_at}
 use Rattle.std.proofs.lemmas.Bool.{cases_lt, lt-ltb, ltb-true}
 use Rattle.cse_dict.specs.Dictionary.{DictionaryText, number_of_type}
+use Rattle.cse_lines.specs.declared.layout.Span.{Span}
 use Rattle.cse_lines.specs.declared.line.Ending.{Ending}
 use Rattle.cse_lines.specs.Line.{FileLine, ending_of, text_of}
 use Rattle.cse_lines.specs.Field.{field_at, id_spans, last_column, least_width, padded, record_len, record_of, type_span, width_of}
@@ -12,7 +13,7 @@ use Rattle.cse_lines.specs.Columns.{LineText, columns_of, line_text}
 use Rattle.cse_lines.specs.Runs.{line_fault}
 use Rattle.cse_lines.specs.declared.decode.Stop.{Stop}
 use Rattle.cse_lines.specs.declared.decode.Stop.TheVariants.{Memory, Fault}
-use Rattle.cse_lines.specs.Decoding.{IfFault}
+use Rattle.cse_lines.specs.Decoding.{Holds, IfFault}
 
 not_true : (b : Bool) → (b ≡ true → ⊥) → b ≡ false
 not_true true h = absurd (h refl)
@@ -42,10 +43,84 @@ pub record_of_is : (d : DictionaryText) (columns : List ℕ) → number_of_type 
 unfolding record_of
 record_of_is d columns = refl
 
-pub width_of_is : (d : DictionaryText) (columns : List ℕ)
-    → padded (record_len d (record_of d columns)) (padded (least_width d) columns) ≡ padded (width_of d columns) columns
+pub width_of_is : (d : DictionaryText) (columns : List ℕ) → max (max (length columns) (least_width d)) (record_len d (record_of d columns)) ≡ width_of d columns
 unfolding width_of
-width_of_is d columns = padded-padded (record_len d (record_of d columns)) (least_width d) columns
+width_of_is d columns = omega arith
+
+-- padded to no less than another width
+padded-wider : (wide least : ℕ) (text : List ℕ) → least ≤ wide → padded wide text ≡ padded wide (padded least text)
+padded-wider wide least text h =
+    let n = length text in
+    let same : wide - n ≡ max n (max least wide) - n = omega arith in
+    ap (λ k. text ++ replicate k 32) same ∙ sym (padded-padded wide least text)
+
+-- a field within the least width is the same however far the text is padded
+pub field_past : (s : Span) (wide least : ℕ) (text : List ℕ) → s.start - 1 + s.len ≤ least → least ≤ wide → field_at s (padded wide text) ≡ field_at s (padded least text)
+field_past s wide least text fits h =
+    let p = padded least text in
+    let len : length p ≡ max (length text) least = length-padded least text in
+    ap (field_at s) (padded-wider wide least text h)
+    ∙ ap (take s.len) (drop-append-le (s.start - 1) p (replicate (wide - length p) 32) (omega arith))
+    ∙ take-append-le s.len (drop (s.start - 1) p) (replicate (wide - length p) 32) (omega (arith, length-drop (s.start - 1) p))
+
+-- columns that have the width
+pub width_same : (width : ℕ) (columns : List ℕ) → length columns ≡ width → columns ≡ take width columns ++ replicate (width - length columns) 32
+width_same width columns h =
+    let none : width - length columns ≡ 0 = omega arith in
+    sym (ap (λ k. take width columns ++ replicate k 32) none ∙ append-nil (take width columns) ∙ take_all width columns (omega arith))
+
+-- a padded text of another width
+pub width_set : (wide width : ℕ) (text : List ℕ) → length text ≤ width → take width (padded wide text) ++ replicate (width - length (padded wide text)) 32 ≡ padded width text
+width_set wide width text fits =
+    let len : length (padded wide text) ≡ max (length text) wide = length-padded wide text in
+    elim (cases_lt width wide) [
+      | inl h ↦
+          let p = padded width text in
+          let here : length p ≡ width = omega (arith, length-padded width text) in
+          let none : width - length (padded wide text) ≡ 0 = omega arith in
+          ap (λ k. take width (padded wide text) ++ replicate k 32) none ∙ append-nil (take width (padded wide text))
+          ∙ ap (take width) (padded-wider wide width text (omega arith)) ∙ take_at p (replicate (wide - length p) 32) width here
+      | inr h ↦
+          let same : max (length text) (max wide width) - length text ≡ width - length text = omega arith in
+          ap (λ l. l ++ replicate (width - length (padded wide text)) 32) (take_all width (padded wide text) (omega arith))
+          ∙ padded-padded width wide text ∙ ap (λ k. text ++ replicate k 32) same
+    ]
+
+-- the field of the record type, in columns that hold a text and are padded to the least width
+pub type_held : (d : DictionaryText) (columns text : List ℕ) (n : ℕ) → Holds columns text n → field_at (type_span d) (padded (least_width d) columns) ≡ field_at (type_span d) (padded (least_width d) text)
+unfolding least_width
+type_held d columns text n held =
+    let least = last_column (type_span d ∷ id_spans d) in
+    let wide = max (length text) (max (length columns) least) in
+    ap (λ l. field_at (type_span d) (padded least l)) held.is ∙ ap (field_at (type_span d)) (padded-padded least (length columns) text)
+    ∙ field_past (type_span d) wide least text (omega arith) (omega arith)
+
+-- the columns of a line, which were cut or padded to its width
+pub columns_held : (d : DictionaryText) (columns text : List ℕ) (n width : ℕ) → Holds columns text n → width ≡ max (max n (least_width d)) (record_len d (record_of d text))
+    → take width (padded (least_width d) columns) ++ replicate (width - length (padded (least_width d) columns)) 32 ≡ padded (width_of d text) text
+columns_held d columns text n width held w =
+    let least = least_width d in
+    let is : padded least columns ≡ padded (max (length text) (max (length columns) least)) text = ap (padded least) held.is ∙ padded-padded least (length columns) text in
+    ap (λ l. take width l ++ replicate (width - length l) 32) is
+    ∙ width_set (max (length text) (max (length columns) least)) width text (omega (arith, held.count))
+    ∙ ap (λ k. padded k text) (w ∙ ap (λ m. max (max m least) (record_len d (record_of d text))) held.count ∙ width_of_is d text)
+
+-- bytes at the front of columns, and blanks behind them
+pub held_bytes : (width old : ℕ) (text : List ℕ) → width ≡ max (length text) old → text ++ replicate (width - length text) 32 ≡ padded old text
+held_bytes width old text h =
+    let same : width - length text ≡ old - length text = omega arith in
+    ap (λ k. text ++ replicate k 32) same
+
+pub Holds-padded : (columns text : List ℕ) (old n : ℕ) → columns ≡ padded old text → n ≡ length text → Holds columns text n
+Holds-padded columns text old n is count =
+    let len : length columns ≡ max (length text) old = ap length is ∙ length-padded old text in
+    let same : old - length text ≡ length columns - length text = omega arith in
+    record { count = count; is = is ∙ ap (λ k. text ++ replicate k 32) same }
+
+pub Holds-whole : (columns text : List ℕ) (n : ℕ) → columns ≡ text → n ≡ length columns → Holds columns text n
+Holds-whole columns text n is count =
+    let none : 0 ≡ length columns - length text = rw is (omega arith) in
+    record { count = count ∙ ap length is; is = is ∙ (sym (append-nil text) ∙ ap (λ k. text ++ replicate k 32) none) }
 
 pub line_fault-long : (line : FileLine) → 262144 < length (text_of line) → line_fault line ≡ Some 21
 unfolding line_fault

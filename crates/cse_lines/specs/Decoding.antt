@@ -5,6 +5,7 @@ use Rattle.cse_lines.specs.declared.decode.Stop.{Stop}
 use Rattle.cse_lines.specs.declared.decode.Stop.TheVariants.{Memory, Fault}
 use Rattle.cse_lines.specs.declared.decode.Head.{Head}
 use Rattle.cse_lines.specs.Line.{FileLine, is_marked}
+use Rattle.cse_lines.specs.Field.{padded}
 use Rattle.cse_lines.specs.Columns.{LineText, line_text}
 use Rattle.cse_lines.specs.Runs.{line_fault}
 
@@ -12,6 +13,11 @@ use Rattle.cse_lines.specs.Runs.{line_fault}
 abbrev pub IfFault : (ℕ → Type 0) → Stop → Type 0
 IfFault P Memory = Unit {0}
 IfFault P (Fault number) = P number
+
+-- the columns are a text of so many, and blanks behind it
+pub record Holds (columns text : List ℕ) (n : ℕ) : Type 0 where
+  pub count : n ≡ length text
+  pub is : columns ≡ padded (length columns) text
 
 -- a line with these columns
 abbrev pub line_with : List ℕ → Head → LineText

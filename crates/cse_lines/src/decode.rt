@@ -1,11 +1,11 @@
 //! A line of a file, as columns.
 
-ghost use Rattle.std.specs.Prelude.{◌≡◌, ◌<◌, ◌++◌, length, true, false, Some, IfOk, IfErr, OnOk};
+ghost use Rattle.std.specs.Prelude.{◌≡◌, ◌<◌, ◌≤◌, ◌-◌, ◌++◌, ℕ, List, length, replicate, take, true, false, Some, IfOk, IfErr, OnOk};
 ghost use Rattle.std.specs.Str.{IsAscii, chars, is_utf8};
 ghost use Rattle.cse_lines.specs.declared.decode.Stop.TheVariants.{Memory};
 ghost use Rattle.cse_lines.specs.Field.{layout_of, padded, record_len, record_of, width_of};
 ghost use Rattle.cse_lines.specs.Runs.{line_fault};
-ghost use Rattle.cse_lines.specs.Decoding.{IfFault, IsDecoded};
+ghost use Rattle.cse_lines.specs.Decoding.{Holds, IfFault, IsDecoded};
 
 use crate::cut::{MOST_BYTES, split_end, split_mark};
 use crate::layout::{Layout, field_at};
@@ -58,13 +58,35 @@ fn put_ascii(columns: &mut [char], text: &[u8]) -> bool
     greatest < 128
 }
 
-/// Bytes as characters, in place of what was there. Tells whether they are ASCII.
+/// Writes blanks over columns.
+fn put_blanks(columns: &mut [char])
+    ensures { columns.new ≡ replicate (length columns.old) 32 }
+{
+    columns.fill(' ');
+}
+
+/// Writes bytes as characters over the first of the columns, and blanks over the others. Tells whether the
+/// bytes are ASCII.
+fn put_padded(columns: &mut [char], text: &[u8]) -> bool
+    requires { length text.now ≤ length columns.old }
+    ensures columns { columns.new ≡ padded (length columns.old) text.now }
+    ensures ascii { result ≡ true → IsAscii text.now }
+{
+    let (front, rest) = columns.split_at_mut(text.len());
+    put_blanks(rest);
+    put_ascii(front, text)
+}
+
+/// Bytes as characters, in place of what was there, and blanks behind them, if there were more columns.
+/// Tells whether the bytes are ASCII.
 fn read_ascii(columns: &mut Vec<char>, text: &[u8]) -> Result<bool, AllocError>
-    ensures columns { OnOk result (columns.new.items ≡ text.now) }
+    ensures columns { OnOk result (columns.new.items ≡ padded (length columns.old.items) text.now) }
     ensures ascii { IfOk result (λ is_ascii. is_ascii ≡ true → IsAscii text.now) }
 {
-    columns.resize(text.len(), ' ')?;
-    Ok(put_ascii(columns, text))
+    if columns.len() < text.len() {
+        columns.resize(text.len(), ' ')?;
+    }
+    Ok(put_padded(columns, text))
 }
 
 /// Appends the characters of a text.
@@ -77,20 +99,21 @@ fn extend_chars(columns: &mut Vec<char>, text: &str) -> Result<(), AllocError>
     Ok(())
 }
 
-/// The characters of a text, in place of what was there.
-fn read_columns(text: &[u8], columns: &mut Vec<char>) -> Result<(), Stop>
-    ensures columns { OnOk result (columns.new.items ≡ chars text.now) }
+/// The characters of a text, in place of what was there, and maybe blanks behind them. Tells how many
+/// characters there are.
+fn read_columns(text: &[u8], columns: &mut Vec<char>) -> Result<usize, Stop>
+    ensures columns { IfOk result (λ len. Holds columns.new.items (chars text.now) len) }
     ensures utf8 { OnOk result (is_utf8 text.now ≡ true) }
     ensures err { IfErr result (IfFault (λ number. (number ≡ 20) × (is_utf8 text.now ≡ false))) }
 {
     if read_ascii(columns, text)? {
-        return Ok(());
+        return Ok(text.len());
     }
     columns.clear();
     match str::from_utf8(text) {
         Ok(text) => {
             extend_chars(columns, text)?;
-            Ok(())
+            Ok(columns.len())
         }
         Err(_) => Err(Stop::Fault(20)),
     }
@@ -101,6 +124,16 @@ fn pad(columns: &mut Vec<char>, width: usize) -> Result<(), AllocError>
     ensures { OnOk result (columns.new.items ≡ padded width columns.old.items) }
 {
     if columns.len() < width {
+        columns.resize(width, ' ')?;
+    }
+    Ok(())
+}
+
+/// Cuts columns to a width, or pads them to it with blanks.
+fn set_width(columns: &mut Vec<char>, width: usize) -> Result<(), AllocError>
+    ensures { OnOk result (columns.new.items ≡ take width columns.old.items ++ replicate (width - length columns.old.items) 32) }
+{
+    if columns.len() != width {
         columns.resize(width, ' ')?;
     }
     Ok(())
@@ -119,19 +152,23 @@ fn record_len(dictionary: &Dictionary, record_number: Option<u16>) -> usize
     }
 }
 
-/// Pads the columns of a line to its width, and tells the record that its type names.
+/// Cuts or pads the columns of a line, of which the file has so many and the others are blank, to its
+/// width, and tells the record that its type names.
 fn widen(
     dictionary: &Dictionary,
     layout: &Layout,
     columns: &mut Vec<char>,
+    len: usize,
 ) -> Result<Option<u16>, AllocError>
     requires { layout.now ≡ layout_of dictionary.now }
-    ensures number { IfOk result (λ number. number ≡ record_of dictionary.now columns.old.items) }
-    ensures columns { OnOk result (columns.new.items ≡ padded (width_of dictionary.now columns.old.items) columns.old.items) }
+    ensures number { IfOk result (λ number. (text : List ℕ) → Holds columns.old.items text len → number ≡ record_of dictionary.now text) }
+    ensures columns { OnOk result ((text : List ℕ) → Holds columns.old.items text len → columns.new.items ≡ padded (width_of dictionary.now text) text) }
 {
-    pad(columns, layout.least_width())?;
+    let least_width = layout.least_width();
+    pad(columns, least_width)?;
     let record_number = dictionary.record_of(field_at(columns, layout.record_type()));
-    pad(columns, record_len(dictionary, record_number))?;
+    let width = len.max(least_width);
+    set_width(columns, width.max(record_len(dictionary, record_number)))?;
     Ok(record_number)
 }
 
@@ -153,12 +190,11 @@ pub fn decode(
     if text.len() > MOST_BYTES {
         return Err(Stop::Fault(21));
     }
-    read_columns(text, columns)?;
-    let len = columns.len();
+    let len = read_columns(text, columns)?;
     if len > MOST_COLUMNS {
         return Err(Stop::Fault(21));
     }
-    let record_number = widen(dictionary, layout, columns)?;
+    let record_number = widen(dictionary, layout, columns, len)?;
     Ok(Head {
         len,
         ending,

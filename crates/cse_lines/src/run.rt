@@ -123,6 +123,7 @@ impl Run {
     }
 
     /// Appends a line that was read.
+    #[inline(always)]
     pub(crate) fn push(&mut self, columns: &[char], head: Head) -> Result<(), AllocError>
         requires { head.len ≤ length columns.now }
         ensures { OnOk result (self.new ≡ with_line self.old head.marked (line_with columns.now head)) }

@@ -1,12 +1,15 @@
-use Rattle.std.proofs.Common.{◌++◌, ap, sym, ◌∙◌, refl}
+use Rattle.std.proofs.Common.{◌++◌, length, ap, sym, ◌∙◌, refl}
 use Rattle.std.specs.Str.{chars}
 use Rattle.std.proofs.lemmas.Str.{chars-IsAscii, IsUtf8-from_ascii, is_utf8-from_IsUtf8}
-use Rattle.cse_lines.proofs.DecodeLaws.{not_utf8}
+use Rattle.cse_lines.specs.Field.{padded}
+use Rattle.cse_lines.proofs.DecodeLaws.{Holds-padded, Holds-whole, not_utf8}
 use Rattle.cse_lines.proofs.decode.read_columns.Goals as goal
 
 pub returns-in_ok-extend_chars-in-Ok-clause-columns : goal.returns-in_ok-extend_chars-in-Ok-clause-columns
 returns-in_ok-extend_chars-in-Ok-clause-columns c =
-    c.in_ok-extend_chars-in-Ok.ensures ∙ ap (λ l. l ++ chars c.in-Ok.text.now) c.clear.ensures.items ∙ ap chars c.in-Ok.ensures.cases.0
+    Holds-whole c.extend_chars.new.columns.items (chars c.args.text.now) c.len.result
+    (c.in_ok-extend_chars-in-Ok.ensures ∙ ap (λ l. l ++ chars c.in-Ok.text.now) c.clear.ensures.items ∙ ap chars c.in-Ok.ensures.cases.0)
+    (c.len.ensures ∙ c.extend_chars.new.columns.ok.0)
 
 pub returns-in_ok-extend_chars-in-Ok-clause-utf8 : goal.returns-in_ok-extend_chars-in-Ok-clause-utf8
 returns-in_ok-extend_chars-in-Ok-clause-utf8 c = is_utf8-from_IsUtf8 c.args.text.now c.in-Ok.ensures.cases.1
@@ -16,7 +19,9 @@ returns-in-Err-clause-err c = (refl, not_utf8 c.args.text.now c.in-Err.ensures.c
 
 pub returns-then-branch-clause-columns : goal.returns-then-branch-clause-columns
 returns-then-branch-clause-columns c =
-    c.in_ok-read_ascii.ensures.columns ∙ sym (chars-IsAscii c.args.text.now (c.in_ok-read_ascii.ensures.ascii c.if-branch.true))
+    let same = sym (chars-IsAscii c.args.text.now (c.in_ok-read_ascii.ensures.ascii c.if-branch.true)) in
+    Holds-padded c.read_ascii.new.columns.items (chars c.args.text.now) (length c.args.columns.now.items) (length c.args.text.now)
+    (c.in_ok-read_ascii.ensures.columns ∙ ap (padded (length c.args.columns.now.items)) same) (ap length same)
 
 pub returns-then-branch-clause-utf8 : goal.returns-then-branch-clause-utf8
 returns-then-branch-clause-utf8 c = is_utf8-from_IsUtf8 c.args.text.now (IsUtf8-from_ascii c.args.text.now (c.in_ok-read_ascii.ensures.ascii c.if-branch.true))
