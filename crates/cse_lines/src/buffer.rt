@@ -40,6 +40,8 @@ impl From<AllocError> for ReadFault {
 pub struct Buffer {
     bytes: Vec<u8>,
     at: usize,
+    /// What one read fills.
+    chunk: Vec<u8>,
 }
 
 impl Model for Buffer {
@@ -60,6 +62,7 @@ impl Buffer {
         Buffer {
             bytes: Vec::new(alloc),
             at: 0,
+            chunk: Vec::new(alloc),
         }
     }
 
@@ -96,10 +99,11 @@ impl Buffer {
     {
         let mut bytes = Vec::from_slice(alloc, self.as_slice())?;
         bytes.reserve(CHUNK)?;
-        let mut chunk = [0; CHUNK];
-        let n = input.read(&mut chunk)?;
-        bytes.extend_from_slice(&chunk[..n])?;
-        *self = Buffer { bytes, at: 0 };
+        self.chunk.resize(CHUNK, 0)?;
+        let n = input.read(&mut self.chunk)?;
+        bytes.extend_from_slice(&self.chunk[..n])?;
+        self.bytes = bytes;
+        self.at = 0;
         Ok(n)
     }
 }

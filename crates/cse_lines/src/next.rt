@@ -1,6 +1,6 @@
 //! One call of the reader, over its parts.
 
-ghost use Rattle.std.specs.Prelude.{◌≡◌, ◌≤◌, ◌+◌, ◌<◌, ◌^◌, ◌⊎◌, true, length, IfErr, IfOk, OnOk};
+ghost use Rattle.std.specs.Prelude.{◌≡◌, ◌≤◌, ◌+◌, ◌<◌, ◌^◌, ◌⊎◌, true, length, Some, IfErr, OnErr, OnOk};
 ghost use Rattle.std.specs.Io.KnownBytes.{IsAtEnd};
 ghost use Rattle.cse_lines.specs.Field.{layout_of};
 ghost use Rattle.cse_lines.specs.Reader.{Next, given_lines};
@@ -100,19 +100,21 @@ fn next_run<R: Input>(
     }
 }
 
-/// The layout that is kept, or else that of the dictionary.
-fn layout_or_read(
+/// Reads the layout of the dictionary, where none is kept.
+fn keep_layout(
     alloc: Global,
     dictionary: &Dictionary,
-    kept: Option<Layout>,
-) -> Result<Layout, AllocError>
-    requires { IsLayoutOf dictionary.now kept }
-    ensures { IfOk result (λ layout. layout ≡ layout_of dictionary.now) }
+    kept: &mut Option<Layout>,
+) -> Result<(), AllocError>
+    requires { IsLayoutOf dictionary.now kept.old }
+    ensures ok { OnOk result (kept.new ≡ Some (layout_of dictionary.now)) }
+    ensures err { OnErr result (kept.new ≡ kept.old) }
 {
     match kept {
-        Some(layout) => Ok(layout),
-        None => Layout::read(alloc, dictionary),
+        Some(_) => {}
+        None => *kept = Some(Layout::read(alloc, dictionary)?),
     }
+    Ok(())
 }
 
 /// The next run of what is held and read. The layout is read in the first call.
@@ -141,12 +143,13 @@ pub fn next_by_layout<R: Input>(
     ensures failed { IfErr result (λ error. error.number ≡ 70 → (R.has_failed input.new ≡ true) ⊎ (reads.new ≡ 2 ^ 40)) }
     ensures works { OnOk result (R.has_failed input.new ≡ R.has_failed input.old) }
 {
-    let Ok(known) = layout_or_read(alloc, dictionary, layout.take()) else {
+    let Ok(()) = keep_layout(alloc, dictionary, layout) else {
         return Err(error(90));
     };
-    let answer = next_run(
-        alloc, dictionary, &known, input, run, room, columns, buffer, ended, reads, lines,
-    );
-    *layout = Some(known);
-    answer
+    let Some(known) = layout else {
+        unreachable!();
+    };
+    next_run(
+        alloc, dictionary, known, input, run, room, columns, buffer, ended, reads, lines,
+    )
 }

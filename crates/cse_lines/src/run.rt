@@ -63,6 +63,7 @@ fn part(columns: &[char], first: usize, width: usize) -> &[char]
 }
 
 /// Appends a line and its columns.
+#[inline(always)]
 fn push_line(
     columns: &mut Vec<char>,
     lines: &mut Vec<Line>,

@@ -59,7 +59,8 @@ pub fn end_run(
 {
     let number = run.first_line() + run.len() as u64;
     let room = mem::replace(room, Room::new(alloc));
-    let mut next = Run::in_room(room, run, number)?;
-    next.push(columns, head)?;
-    Ok(mem::replace(run, next))
+    let next = Run::in_room(room, run, number)?;
+    let given = mem::replace(run, next);
+    run.push(columns, head)?;
+    Ok(given)
 }

@@ -1,5 +1,6 @@
-use Rattle.std.proofs.Common.{◌≡◌, ◌+◌, length, ◌∙◌, arith}
+use Rattle.std.proofs.Common.{◌≡◌, ◌+◌, length, ap, ◌∙◌, arith}
 use Rattle.cse_lines.specs.Decoding.{line_with}
+use Rattle.cse_lines.specs.Run.{with_line}
 use Rattle.cse_lines.proofs.TakeLaws.{run_of-with}
 use Rattle.cse_lines.proofs.take.end_run.Goals as goal
 
@@ -8,5 +9,5 @@ returns-clause-next c =
     let run = c.args.run.now in
     let head = c.args.head in
     let first : c.in_ok-next.next.first_line ≡ run.first_line + length run.lines = c.in_ok-next.ensures.first_line ∙ omega (arith, c.first_line.ensures, c.len.ensures) in
-    c.replace.ensures.after ∙ c.in_ok-push.ensures
+    c.in_ok-push.ensures ∙ ap (λ r. with_line r head.marked (line_with c.args.columns.now head)) c.replace-given.ensures.after
     ∙ run_of-with c.in_ok-next.next (run.first_line + length run.lines) head.marked (line_with c.args.columns.now head) c.in_ok-next.ensures.lines c.in_ok-next.ensures.marked first
