@@ -1,6 +1,6 @@
 -- Laws of seen and unseen lines: where the occurrences of a record stand, and which lines are unseen. Proofs of crates above cite the public ones.
-use Rattle.std.proofs.Common.{◌≡◌, ℕ, zero, suc, ◌+◌, ◌-◌, ◌<◌, ◌≤◌, Bool, true, false, cond, eqb, ltb, List, [], ◌∷◌, ◌++◌, length, take, drop, get_or, map, Option, None, Some, refl, ap, sym, ◌∙◌, inl, inr, arith, add-zero, append-nil, append_assoc, take-append-drop, length-append, nat_lt, subst}
-use Rattle.std.specs.Prelude.{◌⊎◌, ◌↔◌, count_by, slice_get}
+use Rattle.std.proofs.Common.{◌≡◌, ℕ, zero, suc, ◌+◌, ◌-◌, ◌<◌, Bool, true, false, cond, eqb, List, [], ◌∷◌, ◌++◌, length, take, drop, get_or, Option, None, Some, refl, ap, sym, ◌∙◌, inl, inr, arith, add-zero, append-nil, append_assoc, take-append-drop, length-append, subst}
+use Rattle.std.specs.Prelude.{◌⊎◌, count_by, slice_get}
 use Rattle.std.specs.Option.{option_map_or}
 use Rattle.std.proofs.lemmas.List.{get_or-map, length-map, get_or-take, length-take, length-take-le}
 use Rattle.std.proofs.lemmas.List.Sums.{sum_by-cons}
@@ -9,11 +9,11 @@ use Rattle.std.proofs.Math.Seq.{drop-cons, get_or-append_seam}
 use Rattle.cse_value.specs.declared.shape.RecordShape.{RecordShape}
 use Rattle.cse_value.specs.Occurrences.{most_occurrences}
 use Rattle.cse_dict.specs.declared.lookup.Unseen.{Unseen}
-use Rattle.cse_dict.specs.declared.lookup.Unseen.TheVariants.{Unknown, Extra}
+use Rattle.cse_dict.specs.declared.lookup.Unseen.TheVariants.{Extra}
 use Rattle.cse_lines.specs.Columns.{LineText, no_line}
 use Rattle.cse_lines.specs.Run.{line_at}
 use Rattle.cse_case.specs.Seen.{is_of, is_case, occurrence_places, onto_unseen, places_from, unseen_after, unseen_from, unseen_of}
-use Rattle.cse_case.specs.Case.{CaseText, IsOccurrence, place_of, places_of, records_of, types_of, unseen_lines}
+use Rattle.cse_case.specs.Case.{CaseText, IsOccurrence, place_of, places_of, records_of, types_of}
 use Rattle.cse_case.specs.Sight.{IsSeenAt, IsUnseenAt, SeenOrUnseen}
 use Rattle.cse_case.proofs.SeenLaws.{length-places_from, most_past, places_from-append}
 use Rattle.cse_case.proofs.CaseLaws.{unseen_from_below}

@@ -1,13 +1,14 @@
 -- Laws of written lines.
-use Rattle.std.proofs.Common.{◌≡◌, ℕ, ◌+◌, ◌-◌, ◌<◌, ◌≤◌, ◌%◌, false, eqb, List, [], ◌∷◌, ◌++◌, length, get_or, take, drop, refl, ap, sym, subst, ◌∙◌, arith, take-add, get_or-drop, length-drop, take_all, inl, inr}
+use Rattle.std.proofs.Common.{◌≡◌, ℕ, ◌+◌, ◌-◌, ◌<◌, ◌≤◌, ◌%◌, false, eqb, List, [], ◌∷◌, ◌++◌, length, get_or, set, take, drop, refl, ap, sym, subst, ◌∙◌, arith, take-add, get_or-drop, length-drop, take_all, bit_or, inl, inr}
 use Rattle.std.specs.Prelude.{encode_utf8, encode_utf8_all}
 use Rattle.std.proofs.lemmas.Bool.{cases_lt}
+use Rattle.std.proofs.lemmas.Nat.{le_or_l, le_or_r}
 use Rattle.std.specs.Str.{IsAscii}
 use Rattle.std.proofs.lemmas.Str.{encodes-IsAscii, encodes-append}
 use Rattle.std.proofs.Math.Nat.{mod-eq_of_lt}
 use Rattle.std.proofs.Math.Seq.{take-append-add}
 use borrow.Rule.Slice.PartMut.{put_mid, post_of}
-use Rattle.std.proofs.lemmas.List.{append-nil, get_or_past, take-append-le, take_rest, take_more, ext_get_or, get_or-take, length-take-le}
+use Rattle.std.proofs.lemmas.List.{append-nil, get_or_past, take-append-le, take_rest, take_more, ext_get_or, get_or-set_other, get_or-set_same, get_or-take, length-take-le}
 use Rattle.cse_lines.specs.Written.{onto_trimmed, without_blanks, kept_columns}
 
 without_blanks-blank : (xs : List ℕ) → without_blanks (xs ++ 32 ∷ []) ≡ without_blanks xs
@@ -85,6 +86,22 @@ low_bytes columns bytes greatest room same low ascii =
     let all : take (length columns) columns ≡ columns = take_all (length columns) columns (omega arith) in
     front_ascii columns bytes (length columns) (omega arith) room (λ k h. same k h ∙ mod-eq_of_lt {n = get_or columns k 0} {m = 256} (let at = low k h in omega arith))
     (subst IsAscii (sym all) (columns_below columns greatest low ascii)) ∙ ap encode_utf8_all all
+
+-- one more column goes into the bits of those before it
+pub bits_more : (columns : List ℕ) (i bits column : ℕ) → column ≡ get_or columns i 0 → ((k : ℕ) → k < i → get_or columns k 0 ≤ bits)
+    → (k : ℕ) → k < i + 1 → get_or columns k 0 ≤ bit_or bits column
+bits_more columns i bits column at low k h = elim (cases_lt k i) [
+  | inl below ↦ let before = low k below in omega (arith, le_or_l bits column)
+  | inr above ↦ let same : k ≡ i = omega arith in rw (same, ← at) (le_or_r bits column)
+]
+
+-- and its lowest byte behind theirs
+pub bytes_more : (columns bytes : List ℕ) (i column : ℕ) → i < length bytes → column ≡ get_or columns i 0 → ((k : ℕ) → k < i → get_or bytes k 0 ≡ get_or columns k 0 % 256)
+    → (k : ℕ) → k < i + 1 → get_or (set bytes i (column % 256)) k 0 ≡ get_or columns k 0 % 256
+bytes_more columns bytes i column room at before k h = elim (cases_lt k i) [
+  | inl below ↦ get_or-set_other bytes i k (column % 256) 0 (λ e. absurd (omega arith)) ∙ before k below
+  | inr above ↦ let same : k ≡ i = omega arith in rw (same, ← at) (get_or-set_same bytes i (column % 256) 0 room)
+]
 
 -- what is left of bytes from a place on
 pub length-rest : (xs : List ℕ) (a : ℕ) → length (take (length xs - a) (drop a xs)) ≡ length xs - a

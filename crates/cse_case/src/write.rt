@@ -37,13 +37,13 @@ fn write_ascii(columns: &[char], bytes: &mut [u8]) -> bool
     requires { length columns.now ≤ length bytes.old }
     ensures { result ≡ true → take (length columns.now) bytes.new ≡ encode_utf8_all columns.now }
 {
-    let mut greatest = 0u32;
+    let mut bits = 0u32;
     'columns: for (i, column) in columns.iter().enumerate() {
         let code = *column as u32;
         bytes[i] = (code % 256) as u8;
-        greatest = greatest.max(code);
+        bits |= code;
     }
-    greatest < 128
+    bits < 128
 }
 
 /// Writes a column in UTF-8, and tells how many bytes it takes.
