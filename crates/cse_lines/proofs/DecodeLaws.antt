@@ -1,8 +1,9 @@
 -- Laws of a line that is read as columns.
-use Rattle.std.proofs.Common.{◌≡◌, ℕ, ◌+◌, ◌-◌, ◌<◌, ◌≤◌, max, cond, ltb, Option, Some, None, Bool, true, false, List, ◌∷◌, ◌++◌, length, get_or, take, drop, replicate, refl, ap, sym, ◌∙◌, arith, append_assoc, append-nil, length-append, length-drop, inl, inr}
+use Rattle.std.proofs.Common.{◌≡◌, ℕ, ◌+◌, ◌-◌, ◌<◌, ◌≤◌, max, cond, ltb, Option, Some, None, Bool, true, false, List, ◌∷◌, ◌++◌, length, get_or, set, take, drop, replicate, refl, ap, sym, ◌∙◌, arith, append_assoc, append-nil, length-append, length-drop, bit_or, inl, inr}
 use Rattle.std.specs.Str.{IsAscii, IsUtf8, is_utf8}
 use Rattle.std.proofs.lemmas.Str.{IsUtf8-from_is_utf8}
-use Rattle.std.proofs.lemmas.List.{drop-append-le, get_or_past, length-replicate, replicate-append-replicate, take-append-le, take_all, take_at}
+use Rattle.std.proofs.lemmas.List.{drop-append-le, get_or-set_other, get_or-set_same, get_or_past, length-replicate, replicate-append-replicate, take-append-le, take_all, take_at}
+use Rattle.std.proofs.lemmas.Nat.{le_or_l, le_or_r}
 use Rattle.std.proofs.lemmas.Bool.{cases_lt, lt-ltb, ltb-true}
 use Rattle.cse_dict.specs.Dictionary.{DictionaryText, number_of_type}
 use Rattle.cse_lines.specs.declared.layout.Span.{Span}
@@ -166,6 +167,22 @@ line_text-is d line columns len ending number e n r c = rw (e, n, r, c) refl
 pub IfFault-more : (P Q : ℕ → Type 0) (stop : Stop) → ((number : ℕ) → P number → Q number) → IfFault P stop → IfFault Q stop
 IfFault-more P Q Memory h f = tt
 IfFault-more P Q (Fault number) h f = h number f
+
+-- one more byte goes into the bits of those before it
+pub bits_more : (text : List ℕ) (i bits byte : ℕ) → byte ≡ get_or text i 0 → ((k : ℕ) → k < i → get_or text k 0 ≤ bits)
+    → (k : ℕ) → k < i + 1 → get_or text k 0 ≤ bit_or bits byte
+bits_more text i bits byte at low k h = elim (cases_lt k i) [
+  | inl below ↦ let before = low k below in omega (arith, le_or_l bits byte)
+  | inr above ↦ let same : k ≡ i = omega arith in rw (same, ← at) (le_or_r bits byte)
+]
+
+-- and becomes a column behind theirs
+pub columns_more : (text columns : List ℕ) (i byte : ℕ) → i < length columns → byte ≡ get_or text i 0 → ((k : ℕ) → k < i → get_or columns k 0 ≡ get_or text k 0)
+    → (k : ℕ) → k < i + 1 → get_or (set columns i byte) k 0 ≡ get_or text k 0
+columns_more text columns i byte room at before k h = elim (cases_lt k i) [
+  | inl below ↦ get_or-set_other columns i k byte 0 (λ e. absurd (omega arith)) ∙ before k below
+  | inr above ↦ let same : k ≡ i = omega arith in rw (same, ← at) (get_or-set_same columns i byte 0 room)
+]
 
 -- bytes that are at most an ASCII one are ASCII
 pub ascii_below : (text : List ℕ) (greatest : ℕ) → ((k : ℕ) → k < length text → get_or text k 0 ≤ greatest) → greatest < 128 → IsAscii text

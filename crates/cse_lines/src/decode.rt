@@ -50,12 +50,12 @@ fn put_ascii(columns: &mut [char], text: &[u8]) -> bool
     ensures columns { columns.new ≡ text.now }
     ensures ascii { result ≡ true → IsAscii text.now }
 {
-    let mut greatest = 0u8;
+    let mut bits = 0u8;
     'bytes: for (i, byte) in text.iter().enumerate() {
         columns[i] = *byte as char;
-        greatest = greatest.max(*byte);
+        bits |= *byte;
     }
-    greatest < 128
+    bits < 128
 }
 
 /// Writes blanks over columns.
