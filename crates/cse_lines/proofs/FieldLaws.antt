@@ -1,13 +1,13 @@
 -- Laws of the columns that a dictionary names.
-use Rattle.std.proofs.Common.{◌≡◌, ℕ, ◌+◌, ◌-◌, ◌<◌, ◌≤◌, max, Bool, true, false, List, ◌∷◌, ◌++◌, length, get_or, take, drop, refl, ap, sym, ◌∙◌, arith, length-drop}
+use Rattle.std.proofs.Common.{◌≡◌, ℕ, ◌+◌, ◌-◌, ◌<◌, ◌≤◌, max, Bool, true, false, List, [], ◌∷◌, ◌++◌, length, get_or, take, drop, refl, ap, sym, ◌∙◌, arith, append_assoc, length-drop, take-add}
 use Rattle.std.specs.Prelude.{not}
 use Rattle.std.specs.Str.{bytes_eq}
 use Rattle.std.proofs.lemmas.Bool.{false≢true}
 use Rattle.std.proofs.lemmas.Slice.Eq.{bytes_eq-Decides}
-use Rattle.std.proofs.lemmas.List.{drop_more, take_at, drop_at, length-take-le}
+use Rattle.std.proofs.lemmas.List.{drop-drop, drop_more, take_at, drop_at, length-take-le}
 use Rattle.cse_dict.specs.Dictionary.{DictionaryText}
 use Rattle.cse_lines.specs.declared.layout.Span.{Span}
-use Rattle.cse_lines.specs.Field.{LayoutText, field_at, fields_at, id_spans, last_column, layout_of, least_width}
+use Rattle.cse_lines.specs.Field.{HaveSame, LayoutText, field_at, fields_at, id_spans, last_column, layout_of, least_width}
 
 same_tests : (b c : Bool) → (b ≡ true → c ≡ true) → (c ≡ true → b ≡ true) → b ≡ c
 same_tests true c h k = sym (h refl)
@@ -87,3 +87,45 @@ ids_equal xs ys b e f = (bytes_eq-Decides xs ys).0 (from_not (bytes_eq xs ys) (s
     from_not : (t : Bool) → not t ≡ false → t ≡ true
     from_not true h = refl
     from_not false h = sym h
+
+fields_at-append : (ss ts : List Span) (columns : List ℕ) → fields_at (ss ++ ts) columns ≡ fields_at ss columns ++ fields_at ts columns
+fields_at-append [] ts columns = refl
+fields_at-append (s ∷ ss) ts columns = ap (λ l. field_at s columns ++ l) (fields_at-append ss ts columns) ∙ sym (append_assoc (field_at s columns) (fields_at ss columns) (fields_at ts columns))
+
+last_column-append : (ss ts : List Span) → last_column (ss ++ ts) ≡ max (last_column ss) (last_column ts)
+last_column-append [] ts = omega arith
+last_column-append (s ∷ ss) ts = omega (arith, last_column-append ss ts)
+
+pub HaveSame-trans : (ss ts us : List Span) → HaveSame ss ts → HaveSame ts us → HaveSame ss us
+HaveSame-trans ss ts us h k = record { fields = λ columns. h.fields columns ∙ k.fields columns; last = h.last ∙ k.last }
+
+-- before and behind others
+pub HaveSame-behind : (front ss ts : List Span) → HaveSame ss ts → HaveSame (front ++ ss) (front ++ ts)
+HaveSame-behind front ss ts h = record {
+  fields = λ columns. fields_at-append front ss columns ∙ ap (λ l. fields_at front columns ++ l) (h.fields columns) ∙ sym (fields_at-append front ts columns);
+  last = last_column-append front ss ∙ ap (max (last_column front)) h.last ∙ sym (last_column-append front ts);
+}
+
+pub HaveSame-before : (ss ts back : List Span) → HaveSame ss ts → HaveSame (ss ++ back) (ts ++ back)
+HaveSame-before ss ts back h = record {
+  fields = λ columns. fields_at-append ss back columns ∙ ap (λ l. l ++ fields_at back columns) (h.fields columns) ∙ sym (fields_at-append ts back columns);
+  last = last_column-append ss back ∙ ap (λ n. max n (last_column back)) h.last ∙ sym (last_column-append ts back);
+}
+
+pub HaveSame-refl : (ss ts : List Span) → ss ≡ ts → HaveSame ss ts
+HaveSame-refl ss ts e = record { fields = λ columns. ap (λ l. fields_at l columns) e; last = ap last_column e }
+
+-- two places side by side are one
+pub HaveSame-joined : (both first second : Span) → 0 < first.start → both.start ≡ first.start → both.len ≡ first.len + second.len → first.start + first.len ≡ second.start
+    → HaveSame (both ∷ []) (first ∷ second ∷ [])
+HaveSame-joined both first second some start len side = record {
+  fields = λ columns.
+      let at : both.start - 1 ≡ first.start - 1 = omega arith in
+      let next : first.start - 1 + first.len ≡ second.start - 1 = omega arith in
+      let whole : field_at both columns ≡ take (first.len + second.len) (drop (first.start - 1) columns) = ap (λ n. take n (drop (both.start - 1) columns)) len ∙ ap (λ n. take (first.len + second.len) (drop n columns)) at in
+      let rest : take second.len (drop first.len (drop (first.start - 1) columns)) ≡ field_at second columns =
+      ap (take second.len) (drop-drop first.len (first.start - 1) columns) ∙ ap (λ n. take second.len (drop n columns)) next in
+      ap (λ l. l ++ []) (whole ∙ take-add first.len second.len (drop (first.start - 1) columns) ∙ ap (λ l. field_at first columns ++ l) rest)
+      ∙ append_assoc (field_at first columns) (field_at second columns) [];
+  last = omega arith;
+}

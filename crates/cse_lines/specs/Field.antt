@@ -1,6 +1,6 @@
 -- The columns that a dictionary names: those of the id items and of the record type, and the width of a line. Columns count from 1; what stands
 -- past the last column is a blank.
-use Rattle.std.specs.Prelude.{ℕ, ◌+◌, ◌-◌, ◌==◌, max, map, List, [], ◌∷◌, ◌++◌, length, take, drop, replicate, filter, slice_get, Option, None, Some}
+use Rattle.std.specs.Prelude.{◌≡◌, ℕ, ◌+◌, ◌-◌, ◌==◌, max, map, List, [], ◌∷◌, ◌++◌, length, take, drop, replicate, filter, slice_get, Option, None, Some}
 use Rattle.std.specs.Option.{option_map_or}
 use Rattle.cse_dict.specs.Dictionary.{DictionaryText, number_of_type, shape_of}
 use Rattle.cse_value.specs.declared.shape.ItemShape.{ItemShape}
@@ -38,6 +38,11 @@ ids_of d columns = fields_at (id_spans d) columns
 abbrev pub last_column : List Span → ℕ
 last_column [] = 0
 last_column (s ∷ ss) = max (s.start - 1 + s.len) (last_column ss)
+
+-- at these places stands what stands at others, one after the other, and they end in the same column
+pub record HaveSame (spans others : List Span) : Type 0 where
+  pub fields : (columns : List ℕ) → fields_at spans columns ≡ fields_at others columns
+  pub last : last_column spans ≡ last_column others
 
 -- each line has the columns of the id items and of the record type
 unfoldable pub least_width : DictionaryText → ℕ

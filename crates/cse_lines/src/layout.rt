@@ -1,8 +1,8 @@
 //! The columns that a dictionary names on each line.
 
-ghost use Rattle.std.specs.Prelude.{◌≡◌, ◌==◌, ◌+◌, ◌-◌, ◌≤◌, [], ◌∷◌, filter, length, map, IfOk};
+ghost use Rattle.std.specs.Prelude.{◌≡◌, ◌==◌, ◌+◌, ◌-◌, ◌≤◌, ◌++◌, [], ◌∷◌, filter, length, map, IfOk, IfSome, OnOk};
 ghost use Rattle.std.specs.Str.{bytes_eq};
-ghost use Rattle.cse_lines.specs.Field.{field_at, fields_at, last_column, layout_of, span_of};
+ghost use Rattle.cse_lines.specs.Field.{HaveSame, field_at, fields_at, last_column, layout_of, span_of};
 
 use cse_dict::Dictionary;
 use cse_value::shape::{ID_OWNER, ItemShape};
@@ -21,6 +21,8 @@ pub struct Span {
 #[derive(Drop)]
 pub struct Layout {
     ids: Vec<Span>,
+    /// The same columns, those that lie side by side as one place.
+    blocks: Vec<Span>,
     record_type: Span,
     least_width: usize,
 }
@@ -31,6 +33,10 @@ impl Model for Layout {
     ghost Value = { LayoutText };
 
     ghost view = { λ l. record { ids = l.ids.items; record_type = l.record_type; least_width = l.least_width } };
+
+    ghost use Rattle.cse_lines.specs.Field.{HaveSame};
+
+    ghost invariant = { λ l. HaveSame l.blocks.items l.ids.items };
 }
 
 /// The columns of an item.
@@ -72,6 +78,47 @@ fn last_column(spans: &[Span]) -> usize
     last
 }
 
+/// Two places as one, if the second one lies behind the first.
+fn join(first: Span, second: Span) -> Option<Span>
+    ensures { IfSome result (λ both. HaveSame (both ∷ []) (first ∷ second ∷ [])) }
+{
+    let end = first.start.checked_add(first.len)?;
+    if first.start == 0 || end != second.start {
+        return None;
+    }
+    let len = first.len.checked_add(second.len)?;
+    Some(Span {
+        start: first.start,
+        len,
+    })
+}
+
+/// Adds a place behind others: as one with the last of them, where the two lie side by side.
+fn add_block(blocks: &mut Vec<Span>, span: Span) -> Result<(), AllocError>
+    ensures { OnOk result (HaveSame blocks.new.items (blocks.old.items ++ span ∷ [])) }
+{
+    if let Some(last) = blocks.pop() {
+        if let Some(both) = join(last, span) {
+            blocks.push(both)?;
+            return Ok(());
+        }
+        blocks.push(last)?;
+    }
+    blocks.push(span)?;
+    Ok(())
+}
+
+/// The same columns, those that lie side by side as one place.
+fn blocks_of(alloc: Global, spans: &[Span]) -> Result<Vec<Span>, AllocError>
+    ensures { IfOk result (λ blocks. HaveSame blocks.items spans.now) }
+{
+    let mut blocks = Vec::new(alloc);
+    'spans: for span in spans {
+        add_block(&mut blocks, *span)?;
+    }
+    Ok(blocks)
+}
+
 /// What stands at a place.
 pub fn field_at(columns: &[char], span: Span) -> &[char]
     requires { last_column (span ∷ []) ≤ length columns.now }
@@ -104,8 +151,10 @@ impl Layout {
         let (start, len) = dictionary.type_columns();
         let record_type = Span { start, len };
         let least_width = last_of(record_type).max(last_column(&ids));
+        let blocks = blocks_of(alloc, &ids)?;
         Ok(Layout {
             ids,
+            blocks,
             record_type,
             least_width,
         })
@@ -131,6 +180,6 @@ impl Layout {
         requires right { last_column self.now.ids ≤ length b.now }
         ensures { result ≡ bytes_eq (fields_at self.now.ids a.now) (fields_at self.now.ids b.now) }
     {
-        are_equal(&self.ids, a, b)
+        are_equal(&self.blocks, a, b)
     }
 }
