@@ -1,10 +1,11 @@
 //! A line that comes to the run that is gathered.
 
-ghost use Rattle.std.specs.Prelude.{◌≡◌, ◌+◌, ◌<◌, ◌≤◌, ◌^◌, length, IfErr, IfOk, OnOk};
+ghost use Rattle.std.specs.Prelude.{◌≡◌, ◌+◌, ◌++◌, ◌<◌, ◌≤◌, ◌^◌, length, IfErr, IfOk, OnOk};
 ghost use Rattle.cse_lines.specs.Decoding.{IfFault, line_with};
 ghost use Rattle.cse_lines.specs.Field.{layout_of, least_width};
 ghost use Rattle.cse_lines.specs.Run.{line_at, run_of};
 ghost use Rattle.cse_lines.specs.Taking.{Refuses, Takes};
+ghost use Rattle.cse_lines.specs.Written.{mark_bytes, written_line};
 
 use crate::decode::{Head, Stop, decode};
 use crate::layout::Layout;
@@ -40,7 +41,7 @@ pub fn take_line(
     if len == MOST_LINES {
         return Err(Stop::Fault(22));
     }
-    run.push(columns, head)?;
+    run.push(columns, head, line)?;
     Ok(None)
 }
 
@@ -51,8 +52,10 @@ pub fn end_run(
     room: &mut Room,
     columns: &[char],
     head: Head,
+    line: &[u8],
 ) -> Result<Run, AllocError>
     requires fits { head.len ≤ length columns.now }
+    requires bytes { line.now ≡ mark_bytes head.marked ++ written_line (line_with columns.now head) }
     requires number { run.old.first_line + length run.old.lines < 2 ^ 64 }
     ensures given { IfOk result (λ given. given ≡ run.old) }
     ensures next { OnOk result (run.new ≡ run_of (run.old.first_line + length run.old.lines) head.marked (line_with columns.now head)) }
@@ -61,6 +64,6 @@ pub fn end_run(
     let room = mem::replace(room, Room::new(alloc));
     let next = Run::in_room(room, run, number)?;
     let given = mem::replace(run, next);
-    run.push(columns, head)?;
+    run.push(columns, head, line)?;
     Ok(given)
 }

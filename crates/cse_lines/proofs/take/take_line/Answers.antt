@@ -1,7 +1,10 @@
-use Rattle.std.proofs.Common.{◌≡◌, ◌<◌, length, ap, sym, ◌∙◌, arith, refl}
+use Rattle.std.proofs.Common.{◌≡◌, ◌++◌, ◌<◌, length, ap, sym, ◌∙◌, arith, refl}
 use Rattle.cse_lines.specs.Line.{FileLine}
 use Rattle.cse_lines.specs.Columns.{id_of, line_text}
 use Rattle.cse_lines.specs.Taking.{run_id}
+use Rattle.cse_lines.specs.Decoding.{line_with}
+use Rattle.cse_lines.specs.Written.{mark_bytes, written_line}
+use Rattle.cse_lines.proofs.WrittenLaws.{line-bytes}
 use Rattle.cse_lines.proofs.TakeLaws.{fault_of-many, ids_fit, least_fits, other_ids, same_ids, test_of, with_line-read}
 use Rattle.cse_lines.proofs.take.take_line.Goals as goal
 use Rattle.cse_lines.proofs.take.take_line.Goals.{else-len-gt0-via-then-len-gt0+else-not-has_same_ids, else-len-gt0-via-else-len-gt0}
@@ -48,6 +51,13 @@ returns-then-len-eq-MOST_LINES-clause-err c =
       | else-len-gt0-via-else-len-gt0 w ↦ absurd (omega (arith, w.if-len-gt0.false))
     ] in
     record { same = refl; fault = fault_of-many d (run_id d run) (length run.lines) line c.in_ok-head.ensures.ok.sound full same; low = omega arith }
+
+pub push-requires-clause-bytes : goal.push-requires-clause-bytes
+push-requires-clause-bytes c =
+    let d = c.args.dictionary.now in
+    let line : FileLine = (c.args.front, c.args.line.now) in
+    let own = line-bytes d line c.decode.new.columns.items c.in_ok-head.head c.in_ok-head.ensures.ok in
+    own ∙ ap (λ cs. mark_bytes c.in_ok-head.head.marked ++ written_line (line_with cs c.in_ok-head.head)) (sym c.deref-2.ensures.value)
 
 pub returns-clause-ok : goal.returns-clause-ok
 returns-clause-ok c =
