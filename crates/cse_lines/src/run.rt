@@ -1,10 +1,10 @@
 //! Runs of lines.
 
-ghost use Rattle.std.specs.Prelude.{◌≡◌, ◌<◌, ◌≤◌, ◌+◌, ◌++◌, ◌∷◌, [], ℕ, List, IfOk, OnErr, OnOk, drop, false, length, take};
+ghost use Rattle.std.specs.Prelude.{◌≡◌, ◌<◌, ◌≤◌, ◌+◌, ◌++◌, ◌∷◌, [], ℕ, List, IfNone, IfOk, IfSome, OnErr, OnOk, drop, false, length, take};
 ghost use Rattle.std.specs.List.{flat_map};
 ghost use Rattle.cse_lines.specs.Decoding.{line_with};
 ghost use Rattle.cse_lines.specs.Laid.{IsLaid, laid_lines, line_behind};
-ghost use Rattle.cse_lines.specs.Run.{line_at, with_line};
+ghost use Rattle.cse_lines.specs.Run.{IsLastLine, line_at, with_line};
 ghost use Rattle.cse_lines.specs.Written.{mark_bytes, written_line};
 
 use crate::decode::Head;
@@ -199,6 +199,22 @@ impl Run {
         ensures { result ≡ self.now.first_line }
     {
         self.first_line
+    }
+
+    /// The columns of the last line and the number of its record, if there is a line.
+    pub(crate) fn last(&self) -> Option<(&[char], Option<u16>)>
+        ensures none { IfNone result (self.now.lines ≡ []) }
+        ensures some { IfSome result (λ last. IsLastLine self.now last.0.now last.1) }
+    {
+        let len = self.lines.len();
+        if len == 0 {
+            return None;
+        }
+        let line = self.lines[len - 1];
+        Some((
+            part(&self.columns, line.first, line.width),
+            line.record_number,
+        ))
     }
 
     /// The columns of a line, by its place from 0, padded with blanks to its width.

@@ -4,7 +4,7 @@ ghost use Rattle.std.specs.Prelude.{◌≡◌, ◌+◌, ◌++◌, ◌<◌, ◌�
 ghost use Rattle.cse_lines.specs.Decoding.{IfFault, line_with};
 ghost use Rattle.cse_lines.specs.Field.{layout_of, least_width};
 ghost use Rattle.cse_lines.specs.Run.{line_at, run_of};
-ghost use Rattle.cse_lines.specs.Taking.{Refuses, Takes};
+ghost use Rattle.cse_lines.specs.Taking.{LastIsLike, Refuses, Takes};
 ghost use Rattle.cse_lines.specs.Written.{mark_bytes, written_line};
 
 use crate::decode::{Head, Stop, decode};
@@ -29,13 +29,15 @@ pub fn take_line(
 ) -> Result<Option<Head>, Stop>
     requires layout { layout.now ≡ layout_of dictionary.now }
     requires width { 0 < length run.old.lines → least_width dictionary.now ≤ length (line_at run.old 0).columns }
+    requires last { LastIsLike dictionary.now run.old }
     requires few { length run.old.lines ≤ 10000 }
     ensures ok { IfOk result (λ last. Takes dictionary.now (front, line.now) run.old run.new columns.new.items last) }
     ensures err { IfErr result (IfFault (λ number. Refuses dictionary.now (front, line.now) run.old run.new number)) }
 {
-    let head = decode(dictionary, layout, line, front, columns)?;
+    let last = run.last();
+    let head = decode(dictionary, layout, line, front, last, columns)?;
     let len = run.len();
-    if len > 0 && !layout.has_same_ids(run.columns(0), columns) {
+    if len > 0 && !head.begins_as_last && !layout.has_same_ids(run.columns(0), columns) {
         return Ok(Some(head));
     }
     if len == MOST_LINES {

@@ -7,6 +7,7 @@ use Rattle.cse_lines.specs.Run.{run_of}
 use Rattle.cse_lines.specs.Written.{mark_bytes, written_line}
 use Rattle.cse_lines.proofs.DecodeLaws.{IfFault-more}
 use Rattle.cse_lines.proofs.GatherLaws.{Gathers-more, Gathers-none, GivesFirst-found, RefusesAt-found, first_at, front_at, wide_line}
+use Rattle.cse_lines.proofs.LastLaws.{last_line}
 use Rattle.cse_lines.proofs.TakeLaws.{EndsRun-last}
 use Rattle.cse_lines.proofs.WrittenLaws.{line-bytes}
 use Rattle.cse_lines.proofs.gather.gather.Goals as goal
@@ -16,6 +17,9 @@ lines-init c = Gathers-none _ _ _ _ _ c.requires.gathered
 
 pub take_line-requires-clause-width : goal.take_line-requires-clause-width
 take_line-requires-clause-width c = wide_line c.args.dictionary.now c.args.first c.args.ended c.lines.run.first_line c.lines.run c.lines.buffer c.lines.invariant.gathered
+
+pub take_line-requires-clause-last : goal.take_line-requires-clause-last
+take_line-requires-clause-last c = last_line c.args.dictionary.now c.args.first c.args.ended c.lines.run.first_line c.lines.run c.lines.buffer c.lines.invariant.gathered
 
 pub returns-in_err-last-clause-err : goal.returns-in_err-last-clause-err
 returns-in_err-last-clause-err c =
