@@ -122,11 +122,11 @@ impl Run {
         }
     }
 
-    /// A run without lines in this room, which is made large enough for as much as another one has.
-    pub(crate) fn in_room(room: Room, other: &Run, first_line: u64) -> Result<Run, AllocError>
-        ensures lines { IfOk result (λ run. run.lines ≡ []) }
-        ensures marked { IfOk result (λ run. run.marked ≡ false) }
-        ensures first_line { IfOk result (λ run. run.first_line ≡ first_line) }
+    /// A run without lines in this room.
+    pub(crate) fn in_room(room: Room, first_line: u64) -> Run
+        ensures lines { result.lines ≡ [] }
+        ensures marked { result.marked ≡ false }
+        ensures first_line { result.first_line ≡ first_line }
     {
         let Room {
             mut columns,
@@ -134,18 +134,15 @@ impl Run {
             mut bytes,
         } = room;
         columns.clear();
-        columns.reserve(other.columns.len())?;
         lines.clear();
-        lines.reserve(other.lines.len())?;
         bytes.clear();
-        bytes.reserve(other.bytes.len())?;
-        Ok(Run {
+        Run {
             columns,
             lines,
             bytes,
             marked: false,
             first_line,
-        })
+        }
     }
 
     /// Appends a line that was read: its columns and its bytes, with the mark.
