@@ -1,6 +1,6 @@
 //! A line of a file, as columns.
 
-ghost use Rattle.std.specs.Prelude.{◌≡◌, ◌<◌, ◌≤◌, ◌-◌, ◌++◌, ℕ, List, length, replicate, take, true, false, Some, IfOk, IfErr, IfSome, OnOk};
+ghost use Rattle.std.specs.Prelude.{◌≡◌, ◌<◌, ◌≤◌, ◌-◌, ◌++◌, ℕ, List, drop, length, replicate, take, true, false, Some, IfOk, IfErr, IfSome, OnOk};
 ghost use Rattle.cse_dict.specs.Dictionary.{number_of_type};
 ghost use Rattle.std.specs.Str.{IsAscii, chars, is_utf8};
 ghost use Rattle.cse_lines.specs.declared.decode.Stop.TheVariants.{Memory};
@@ -92,14 +92,30 @@ fn read_ascii(columns: &mut Vec<char>, text: &[u8]) -> Result<bool, AllocError>
     Ok(put_padded(columns, text))
 }
 
-/// Appends the characters of a text.
-fn extend_chars(columns: &mut Vec<char>, text: &str) -> Result<(), AllocError>
-    ensures { OnOk result (columns.new.items ≡ columns.old.items ++ chars text.now) }
+/// Writes the characters of a text over the first of the columns, and tells how many there are.
+fn put_chars(columns: &mut [char], text: &str) -> usize
+    requires { length (chars text.now) ≤ length columns.old }
+    ensures count { result ≡ length (chars text.now) }
+    ensures columns { columns.new ≡ chars text.now ++ drop (length (chars text.now)) columns.old }
 {
+    let mut len = 0;
     'chars: for column in text.chars() {
-        columns.push(column)?;
+        columns[len] = column;
+        len += 1;
     }
-    Ok(())
+    len
+}
+
+/// The same, and blanks over the other columns.
+fn put_text(columns: &mut [char], text: &str) -> usize
+    requires { length (chars text.now) ≤ length columns.old }
+    ensures count { result ≡ length (chars text.now) }
+    ensures columns { columns.new ≡ padded (length columns.old) (chars text.now) }
+{
+    let len = put_chars(columns, text);
+    let (_, rest) = columns.split_at_mut(len);
+    put_blanks(rest);
+    len
 }
 
 /// The characters of a text, in place of what was there, and maybe blanks behind them. Tells how many
@@ -112,12 +128,8 @@ fn read_columns(text: &[u8], columns: &mut Vec<char>) -> Result<usize, Stop>
     if read_ascii(columns, text)? {
         return Ok(text.len());
     }
-    columns.clear();
     match str::from_utf8(text) {
-        Ok(text) => {
-            extend_chars(columns, text)?;
-            Ok(columns.len())
-        }
+        Ok(text) => Ok(put_text(columns, text)),
         Err(_) => Err(Stop::Fault(20)),
     }
 }
