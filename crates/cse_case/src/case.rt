@@ -34,6 +34,10 @@ pub struct Case<'a> {
     ids: Vec<char>,
     columns: Vec<char>,
     lines: Vec<Line>,
+    /// The bytes of the lines, as they came.
+    bytes: Vec<u8>,
+    /// Whether a line was written into.
+    is_set: bool,
     marked: bool,
     first_line: u64,
     table: Table,
@@ -53,7 +57,7 @@ impl<'a> Model for Case<'a> {
       run = record { lines = laid_lines c.columns.items c.lines.items; marked = c.marked; first_line = c.first_line };
     } };
 
-    ghost invariant = { λ c. IsKept c.dictionary.now c.columns.items c.lines.items c.first_line c.table.places.items c.table.spans.items c.table.unseen.items };
+    ghost invariant = { λ c. IsKept c.dictionary.now c.columns.items c.lines.items c.bytes.items c.is_set c.first_line c.table.places.items c.table.spans.items c.table.unseen.items };
 }
 
 impl<'a> Case<'a> {
@@ -74,7 +78,7 @@ impl<'a> Case<'a> {
         requires few { run.first_line + length run.lines < 2 ^ 64 }
         ensures { IfOk result (λ c. c ≡ record { dictionary = dictionary.now; ids = ids.items; run = run }) }
     {
-        let (columns, lines, marked, first_line) = run.into_parts();
+        let (columns, lines, bytes, marked, first_line) = run.into_parts();
         let table = table_of(
             room,
             counts,
@@ -87,6 +91,8 @@ impl<'a> Case<'a> {
             ids,
             columns,
             lines,
+            bytes,
+            is_set: false,
             marked,
             first_line,
             table,
@@ -94,17 +100,19 @@ impl<'a> Case<'a> {
     }
 
     /// Its vectors, which are no longer needed: those of its ids, of its table and of its run.
-    pub(crate) fn into_room(self) -> (Vec<char>, Table, Vec<char>, Vec<Line>) {
+    pub(crate) fn into_room(self) -> (Vec<char>, Table, Vec<char>, Vec<Line>, Vec<u8>) {
         let Case {
             dictionary: _,
             ids,
             columns,
             lines,
+            bytes,
+            is_set: _,
             marked: _,
             first_line: _,
             table,
         } = self;
-        (ids, table, columns, lines)
+        (ids, table, columns, lines, bytes)
     }
 
     /// Whether the run has a line that is an occurrence of a record.
@@ -298,6 +306,7 @@ impl<'a> Case<'a> {
     {
         let shape = *self.item(item);
         let line = self.lines[place];
+        self.is_set = true;
         write_in_line(&mut self.columns, line, &shape, entry);
     }
 
@@ -333,12 +342,16 @@ impl<'a> Case<'a> {
         let _lines = self.lines();
     }
 
-    /// Puts the lines of the run into a buffer before a device.
+    /// Puts the lines of the run into a buffer before a device: their bytes, where no line was written into.
     pub fn put_to<W: Output>(&self, gatherer: &mut Gatherer, out: &mut W)
         ensures { Puts (going (W.contents out.old) (W.has_failed out.old) gatherer.old.waiting.items gatherer.old.gave_up) (going (W.contents out.new) (W.has_failed out.new) gatherer.new.waiting.items gatherer.new.gave_up) (written_run self.now.run) }
     {
         gatherer.put(out, mark(self.marked));
-        put_lines(gatherer, out, &self.columns, &self.lines);
+        if self.is_set {
+            put_lines(gatherer, out, &self.columns, &self.lines);
+        } else {
+            gatherer.put(out, &self.bytes);
+        }
     }
 
     /// Writes the lines of the run: each as its columns without trailing blanks past its length in the

@@ -111,9 +111,7 @@ fn place_lines(
     ensures spans { IfOk result (λ p. AreSpans (map (λ l. l.record_number) lines.now) counts.now p.1.items p.0.items) }
 {
     let mut spans = emptied(span_room);
-    spans.reserve(counts.len())?;
     let mut places = emptied(place_room);
-    places.reserve(lines.len())?;
     'records: for (number, count) in counts.iter().enumerate() {
         let start = places.len();
         place_record(&mut places, lines, number, *count)?;

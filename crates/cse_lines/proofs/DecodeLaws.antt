@@ -1,8 +1,8 @@
 -- Laws of a line that is read as columns.
-use Rattle.std.proofs.Common.{◌≡◌, ℕ, ◌+◌, ◌-◌, ◌<◌, ◌≤◌, max, cond, ltb, Option, Some, None, Bool, true, false, List, ◌∷◌, ◌++◌, length, get_or, set, take, drop, replicate, refl, ap, sym, ◌∙◌, arith, append_assoc, append-nil, length-append, length-drop, bit_or, inl, inr}
-use Rattle.std.specs.Str.{IsAscii, IsUtf8, is_utf8}
-use Rattle.std.proofs.lemmas.Str.{IsUtf8-from_is_utf8}
-use Rattle.std.proofs.lemmas.List.{drop-append-le, get_or-set_other, get_or-set_same, get_or_past, length-replicate, replicate-append-replicate, take-append-le, take_all, take_at}
+use Rattle.std.proofs.Common.{◌≡◌, ℕ, ◌+◌, ◌-◌, ◌<◌, ◌≤◌, max, cond, ltb, Option, Some, None, Bool, true, false, List, [], ◌∷◌, ◌++◌, length, get_or, set, take, drop, replicate, refl, ap, sym, ◌∙◌, arith, append_assoc, append-nil, length-append, length-drop, bit_or, inl, inr}
+use Rattle.std.specs.Str.{IsAscii, IsUtf8, chars, is_utf8}
+use Rattle.std.proofs.lemmas.Str.{IsUtf8-from_is_utf8, encodes-chars, length-le-encodes}
+use Rattle.std.proofs.lemmas.List.{drop-append-le, drop_more, get_or-set_other, get_or-set_same, get_or_past, length-replicate, replicate-append-replicate, take-append-le, take_all, take_at}
 use Rattle.std.proofs.lemmas.Nat.{le_or_l, le_or_r}
 use Rattle.std.proofs.lemmas.Bool.{cases_lt, lt-ltb, ltb-true}
 use Rattle.cse_dict.specs.Dictionary.{DictionaryText, number_of_type}
@@ -118,11 +118,6 @@ Holds-padded columns text old n is count =
     let same : old - length text ≡ length columns - length text = omega arith in
     record { count = count; is = is ∙ ap (λ k. text ++ replicate k 32) same }
 
-pub Holds-whole : (columns text : List ℕ) (n : ℕ) → columns ≡ text → n ≡ length columns → Holds columns text n
-Holds-whole columns text n is count =
-    let none : 0 ≡ length columns - length text = rw is (omega arith) in
-    record { count = count ∙ ap length is; is = is ∙ (sym (append-nil text) ∙ ap (λ k. text ++ replicate k 32) none) }
-
 pub line_fault-long : (line : FileLine) → 262144 < length (text_of line) → line_fault line ≡ Some 21
 unfolding line_fault
 line_fault-long line h = rw (lt-ltb 262144 (length (text_of line)) h) refl
@@ -191,3 +186,15 @@ ascii_below text greatest low ascii k =
       | inl h ↦ let at = low k h in omega arith
       | inr h ↦ rw (get_or_past text k 0 (omega arith)) (omega arith)
     ]
+
+-- a column is written behind others
+set_front : (front rest : List ℕ) (n x y : ℕ) → n ≡ length front → set (front ++ y ∷ rest) n x ≡ (front ++ x ∷ []) ++ rest
+set_front [] rest n x y e = rw e refl
+set_front (f ∷ front) rest n x y e = rw e (ap (λ l. f ∷ l) (set_front front rest (length front) x y refl))
+
+pub set_behind : (front columns : List ℕ) (n x : ℕ) → n ≡ length front → n < length columns → set (front ++ drop n columns) n x ≡ (front ++ x ∷ []) ++ drop (n + 1) columns
+set_behind front columns n x e h = ap (λ l. set (front ++ l) n x) (drop_more columns n 0 h) ∙ set_front front (drop (n + 1) columns) n x (get_or columns n 0) e
+
+-- a text has no more characters than bytes
+pub chars_fit : (bytes : List ℕ) → IsUtf8 bytes → length (chars bytes) ≤ length bytes
+chars_fit bytes utf8 = omega (arith, length-le-encodes (chars bytes), ap length (encodes-chars bytes utf8))

@@ -1,8 +1,6 @@
 -- Laws of the columns that a dictionary names.
 use Rattle.std.proofs.Common.{◌≡◌, ℕ, ◌+◌, ◌-◌, ◌<◌, ◌≤◌, max, Bool, true, false, List, [], ◌∷◌, ◌++◌, length, get_or, take, drop, refl, ap, sym, ◌∙◌, arith, append_assoc, length-drop, take-add}
-use Rattle.std.specs.Prelude.{not}
 use Rattle.std.specs.Str.{bytes_eq}
-use Rattle.std.proofs.lemmas.Bool.{false≢true}
 use Rattle.std.proofs.lemmas.Slice.Eq.{bytes_eq-Decides}
 use Rattle.std.proofs.lemmas.List.{drop-drop, drop_more, take_at, drop_at, length-take-le}
 use Rattle.cse_dict.specs.Dictionary.{DictionaryText}
@@ -76,17 +74,6 @@ spans_at spans i a b l h k =
       left_rest = omega arith;
       right_rest = omega arith;
     }
-
--- what `!=` says of two lists of columns
-pub ids_differ : (xs ys : List ℕ) (b : Bool) → b ≡ not (bytes_eq xs ys) → b ≡ true → (xs ≡ ys → ⊥)
-ids_differ xs ys b e t same = let h = (bytes_eq-Decides xs ys).1 same in false≢true (cc (ap not h))
-
-pub ids_equal : (xs ys : List ℕ) (b : Bool) → b ≡ not (bytes_eq xs ys) → b ≡ false → xs ≡ ys
-ids_equal xs ys b e f = (bytes_eq-Decides xs ys).0 (from_not (bytes_eq xs ys) (sym e ∙ f))
-  where
-    from_not : (t : Bool) → not t ≡ false → t ≡ true
-    from_not true h = refl
-    from_not false h = sym h
 
 fields_at-append : (ss ts : List Span) (columns : List ℕ) → fields_at (ss ++ ts) columns ≡ fields_at ss columns ++ fields_at ts columns
 fields_at-append [] ts columns = refl

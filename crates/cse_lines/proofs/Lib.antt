@@ -6,4 +6,5 @@ pub mod DecodeLaws
 pub mod WrittenLaws
 pub mod TakeLaws
 pub mod GatherLaws
+pub mod LastLaws
 pub mod ReadLaws

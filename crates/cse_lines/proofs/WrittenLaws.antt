@@ -3,16 +3,19 @@ use Rattle.std.proofs.Common.{◌≡◌, ℕ, zero, suc, ◌+◌, ◌-◌, ◌<�
 use Rattle.std.specs.Prelude.{encode_utf8_all, ◌&&◌}
 use Rattle.std.specs.List.{flat_map}
 use Rattle.std.proofs.lemmas.Bool.{eqb-true, false≢true}
+use Rattle.std.proofs.lemmas.Grind.{flat_map-append}
 use Rattle.std.proofs.lemmas.List.{drop_all, drop_at, drop_more, take_all, take_at}
 use Rattle.std.proofs.lemmas.Str.{encodes-chars, IsUtf8-from_is_utf8}
 use Rattle.cse_dict.specs.Dictionary.{DictionaryText}
 use Rattle.cse_lines.specs.Line.{FileLine, before_end, end_bytes, ending_of, has_mark, is_marked, is_whole, text_of, without_mark}
 use Rattle.cse_lines.specs.Field.{padded, width_of}
-use Rattle.cse_lines.specs.Columns.{columns_of, line_text}
+use Rattle.cse_lines.specs.Columns.{LineText, columns_of, line_text}
 use Rattle.cse_lines.specs.Written.{kept_columns, mark_bytes, onto_trimmed, without_blanks, written_line}
 use Rattle.cse_lines.specs.Run.{run_text, written_run}
 use Rattle.cse_lines.specs.Runs.{AreSound, line_fault}
 use Rattle.cse_lines.specs.Gathering.{StandsFrom, bytes_of}
+use Rattle.cse_lines.specs.declared.decode.Head.{Head}
+use Rattle.cse_lines.specs.Decoding.{IsDecoded, line_with}
 use Rattle.cse_lines.proofs.DecodeLaws.{text_is_utf8}
 
 -- the last byte, and the one before it
@@ -107,3 +110,14 @@ written-run d front number [] s f = refl
 written-run d front number (line ∷ lines) s f =
     sym (append_assoc (mark_bytes (is_marked line)) (written_line (line_text d line)) (flat_map written_line (map (line_text d) lines)))
     ∙ ap (λ l. l ++ flat_map written_line (map (line_text d) lines)) (written-line d line s.0) ∙ ap (λ l. line.1 ++ l) (written-inside d lines s.1 f.1)
+
+-- the bytes of a line that was read
+pub line-bytes : (d : DictionaryText) (line : FileLine) (columns : List ℕ) (head : Head) → IsDecoded d line columns head → line.1 ≡ mark_bytes head.marked ++ written_line (line_with columns head)
+line-bytes d line columns head h =
+    sym (ap (λ m. mark_bytes m ++ written_line (line_with columns head)) h.marked ∙ ap (λ l. mark_bytes (is_marked line) ++ written_line l) h.is ∙ written-line d line h.sound)
+
+-- the bytes of lines, and of one line more
+pub written-push : (a b : List LineText) (line : LineText) (bytes all more : List ℕ) → bytes ≡ flat_map written_line a → more ≡ written_line line → all ≡ bytes ++ more → b ≡ a ++ line ∷ []
+    → all ≡ flat_map written_line b
+written-push a b line bytes all more e f g h =
+    g ∙ ap (λ l. l ++ more) e ∙ ap (λ l. flat_map written_line a ++ l) (f ∙ sym (append-nil (written_line line))) ∙ sym (flat_map-append written_line a (line ∷ [])) ∙ ap (flat_map written_line) (sym h)

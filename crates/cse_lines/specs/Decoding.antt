@@ -1,11 +1,11 @@
 -- A line that was read as columns.
-use Rattle.std.specs.Prelude.{◌≡◌, ◌≤◌, ℕ, List, length, None}
-use Rattle.cse_dict.specs.Dictionary.{DictionaryText}
+use Rattle.std.specs.Prelude.{◌≡◌, ◌≤◌, ℕ, List, length, take, Option, None, Bool, true}
+use Rattle.cse_dict.specs.Dictionary.{DictionaryText, number_of_type}
 use Rattle.cse_lines.specs.declared.decode.Stop.{Stop}
 use Rattle.cse_lines.specs.declared.decode.Stop.TheVariants.{Memory, Fault}
 use Rattle.cse_lines.specs.declared.decode.Head.{Head}
 use Rattle.cse_lines.specs.Line.{FileLine, is_marked}
-use Rattle.cse_lines.specs.Field.{padded}
+use Rattle.cse_lines.specs.Field.{field_at, least_width, padded, type_span}
 use Rattle.cse_lines.specs.Columns.{LineText, line_text}
 use Rattle.cse_lines.specs.Runs.{line_fault}
 
@@ -29,3 +29,12 @@ pub record IsDecoded (d : DictionaryText) (line : FileLine) (columns : List ℕ)
   pub is : line_with columns head ≡ line_text d line
   pub marked : head.marked ≡ is_marked line
   pub fits : head.len ≤ length columns
+
+-- the columns of a line that came before: they reach as far as each line's, and their record type names this record
+pub record IsTyped (d : DictionaryText) (columns : List ℕ) (number : Option ℕ) : Type 0 where
+  pub wide : least_width d ≤ length columns
+  pub names : number ≡ number_of_type (field_at (type_span d) columns) d
+
+-- where the test says so, the columns begin as those
+abbrev pub BeginsAs : DictionaryText → Bool → List ℕ → List ℕ → Type 0
+BeginsAs d test columns those = test ≡ true → take (least_width d) columns ≡ take (least_width d) those

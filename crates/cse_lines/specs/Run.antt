@@ -1,5 +1,5 @@
 -- A run: lines that follow one another and have the same id columns.
-use Rattle.std.specs.Prelude.{ℕ, ◌+◌, ◌||◌, Bool, false, map, List, [], ◌∷◌, ◌++◌, take, drop, length, slice_index_or}
+use Rattle.std.specs.Prelude.{◌≡◌, ◌<◌, ℕ, ◌+◌, ◌-◌, ◌||◌, Bool, false, map, List, [], ◌∷◌, ◌++◌, take, drop, length, slice_index_or, Option}
 use Rattle.std.specs.List.{flat_map}
 use Rattle.cse_dict.specs.Dictionary.{DictionaryText}
 use Rattle.cse_lines.specs.Line.{FileLine, is_marked}
@@ -15,6 +15,12 @@ pub record RunText : Type 0 where
 -- a line of a run, by its place from 0
 abbrev pub line_at : RunText → ℕ → LineText
 line_at run i = slice_index_or run.lines i no_line
+
+-- these are the columns of the last line of a run, and the number of its record
+pub record IsLastLine (run : RunText) (columns : List ℕ) (number : Option ℕ) : Type 0 where
+  pub some : 0 < length run.lines
+  pub columns_are : columns ≡ (line_at run (length run.lines - 1)).columns
+  pub number_is : number ≡ (line_at run (length run.lines - 1)).record_number
 
 -- the first of some lines begins with the mark
 abbrev pub begins_marked : List FileLine → Bool

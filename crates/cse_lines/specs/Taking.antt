@@ -2,11 +2,11 @@
 use Rattle.std.specs.Prelude.{◌≡◌, ◌+◌, ◌<◌, ◌≤◌, ◌⊎◌, ℕ, Bool, true, false, List, [], ◌∷◌, ◌++◌, length, take, Option, None, Some}
 use Rattle.cse_dict.specs.Dictionary.{DictionaryText}
 use Rattle.cse_lines.specs.declared.decode.Head.{Head}
-use Rattle.cse_lines.specs.Decoding.{IsDecoded}
+use Rattle.cse_lines.specs.Decoding.{IsDecoded, IsTyped}
 use Rattle.cse_lines.specs.Line.{FileLine, is_marked, lines_in}
 use Rattle.cse_lines.specs.Field.{ids_of}
 use Rattle.cse_lines.specs.Columns.{id_of, line_text}
-use Rattle.cse_lines.specs.Run.{RunText, line_at, run_text, with_line, written_run}
+use Rattle.cse_lines.specs.Run.{IsLastLine, RunText, line_at, run_text, with_line, written_run}
 use Rattle.cse_lines.specs.Runs.{fault_in, fault_of, given, line_fault, place_after}
 use Rattle.cse_lines.specs.Reader.{GivesRun}
 use Rattle.cse_lines.specs.Cutting.{HasNoFeed}
@@ -15,6 +15,10 @@ use Rattle.cse_lines.specs.Gathering.{Gathered, front_after}
 -- the id columns of the first line of a run
 abbrev pub run_id : DictionaryText → RunText → List ℕ
 run_id d run = ids_of d (line_at run 0).columns
+
+-- the last line of a run, if it has one, is as wide as each line, its record is the one that its type names, and it has the id of the first
+abbrev pub LastIsLike : DictionaryText → RunText → Type 0
+LastIsLike d run = (columns : List ℕ) (number : Option ℕ) → IsLastLine run columns number → IsTyped d columns number × (ids_of d columns ≡ run_id d run)
 
 -- the line goes on the run
 pub record GoesOn (d : DictionaryText) (line : FileLine) (old new : RunText) : Type 0 where

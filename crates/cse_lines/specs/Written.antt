@@ -1,7 +1,10 @@
 -- How a line is written: its columns without trailing blanks past its length in the file, in UTF-8, and then its own end.
-use Rattle.std.specs.Prelude.{Bool, true, false, ℕ, ◌==◌, List, [], ◌∷◌, ◌++◌, take, drop, encode_utf8_all, if◌then◌else◌}
+use Rattle.std.specs.Prelude.{◌≡◌, Bool, true, false, ℕ, ◌==◌, List, [], ◌∷◌, ◌++◌, take, drop, encode_utf8_all, if◌then◌else◌}
+use Rattle.std.specs.List.{flat_map}
 use Rattle.cse_lines.specs.Line.{end_bytes}
+use Rattle.cse_lines.specs.declared.line.Line.{Line}
 use Rattle.cse_lines.specs.Columns.{LineText}
+use Rattle.cse_lines.specs.Laid.{IsLaid, laid_lines}
 
 -- the bytes of the mark, where it is there
 abbrev pub mark_bytes : Bool → List ℕ
@@ -25,3 +28,8 @@ kept_columns len columns = take len columns ++ without_blanks (drop len columns)
 -- the bytes of a line as it is written
 unfoldable pub written_line : LineText → List ℕ
 written_line line = encode_utf8_all (kept_columns line.len line.columns) ++ end_bytes line.ending
+
+-- lines that lie in these columns, and are written as these bytes
+pub record IsWhole (columns : List ℕ) (lines : List Line) (bytes : List ℕ) : Type 0 where
+  pub laid : IsLaid 0 columns lines
+  pub written : bytes ≡ flat_map written_line (laid_lines columns lines)

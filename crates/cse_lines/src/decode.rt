@@ -1,14 +1,15 @@
 //! A line of a file, as columns.
 
-ghost use Rattle.std.specs.Prelude.{◌≡◌, ◌<◌, ◌≤◌, ◌-◌, ◌++◌, ℕ, List, length, replicate, take, true, false, Some, IfOk, IfErr, OnOk};
+ghost use Rattle.std.specs.Prelude.{◌≡◌, ◌<◌, ◌≤◌, ◌-◌, ◌++◌, ℕ, List, drop, length, replicate, take, true, false, Some, IfOk, IfErr, IfSome, OnOk};
+ghost use Rattle.cse_dict.specs.Dictionary.{number_of_type};
 ghost use Rattle.std.specs.Str.{IsAscii, chars, is_utf8};
 ghost use Rattle.cse_lines.specs.declared.decode.Stop.TheVariants.{Memory};
-ghost use Rattle.cse_lines.specs.Field.{layout_of, padded, record_len, record_of, width_of};
+ghost use Rattle.cse_lines.specs.Field.{field_at, layout_of, least_width, padded, record_len, record_of, type_span, width_of};
 ghost use Rattle.cse_lines.specs.Runs.{line_fault};
-ghost use Rattle.cse_lines.specs.Decoding.{Holds, IfFault, IsDecoded};
+ghost use Rattle.cse_lines.specs.Decoding.{BeginsAs, Holds, IfFault, IsDecoded, IsTyped};
 
 use crate::cut::{MOST_BYTES, split_end, split_mark};
-use crate::layout::{Layout, field_at};
+use crate::layout::{Layout, field_at, is_same};
 use crate::line::Ending;
 use cse_dict::Dictionary;
 use std::alloc::AllocError;
@@ -41,6 +42,8 @@ pub struct Head {
     pub record_number: Option<u16>,
     /// Whether the byte order mark stands before it.
     pub marked: bool,
+    /// Whether it begins as the line before it, up to the least width of a line.
+    pub begins_as_last: bool,
 }
 
 /// Writes bytes as characters over columns, and tells whether all are ASCII. It tests none by itself, so
@@ -89,14 +92,30 @@ fn read_ascii(columns: &mut Vec<char>, text: &[u8]) -> Result<bool, AllocError>
     Ok(put_padded(columns, text))
 }
 
-/// Appends the characters of a text.
-fn extend_chars(columns: &mut Vec<char>, text: &str) -> Result<(), AllocError>
-    ensures { OnOk result (columns.new.items ≡ columns.old.items ++ chars text.now) }
+/// Writes the characters of a text over the first of the columns, and tells how many there are.
+fn put_chars(columns: &mut [char], text: &str) -> usize
+    requires { length (chars text.now) ≤ length columns.old }
+    ensures count { result ≡ length (chars text.now) }
+    ensures columns { columns.new ≡ chars text.now ++ drop (length (chars text.now)) columns.old }
 {
+    let mut len = 0;
     'chars: for column in text.chars() {
-        columns.push(column)?;
+        columns[len] = column;
+        len += 1;
     }
-    Ok(())
+    len
+}
+
+/// The same, and blanks over the other columns.
+fn put_text(columns: &mut [char], text: &str) -> usize
+    requires { length (chars text.now) ≤ length columns.old }
+    ensures count { result ≡ length (chars text.now) }
+    ensures columns { columns.new ≡ padded (length columns.old) (chars text.now) }
+{
+    let len = put_chars(columns, text);
+    let (_, rest) = columns.split_at_mut(len);
+    put_blanks(rest);
+    len
 }
 
 /// The characters of a text, in place of what was there, and maybe blanks behind them. Tells how many
@@ -109,12 +128,8 @@ fn read_columns(text: &[u8], columns: &mut Vec<char>) -> Result<usize, Stop>
     if read_ascii(columns, text)? {
         return Ok(text.len());
     }
-    columns.clear();
     match str::from_utf8(text) {
-        Ok(text) => {
-            extend_chars(columns, text)?;
-            Ok(columns.len())
-        }
+        Ok(text) => Ok(put_text(columns, text)),
         Err(_) => Err(Stop::Fault(20)),
     }
 }
@@ -152,36 +167,67 @@ fn record_len(dictionary: &Dictionary, record_number: Option<u16>) -> usize
     }
 }
 
+/// The record that the type of a line names, by its columns, and whether these begin as those of the line
+/// before it; then its record is that line's.
+fn record_in(
+    dictionary: &Dictionary,
+    layout: &Layout,
+    columns: &[char],
+    last: Option<(&[char], Option<u16>)>,
+) -> (Option<u16>, bool)
+    requires layout { layout.now ≡ layout_of dictionary.now }
+    requires wide { least_width dictionary.now ≤ length columns.now }
+    requires last { IfSome last (λ l. IsTyped dictionary.now l.0.now l.1) }
+    ensures number { result.0 ≡ number_of_type (field_at (type_span dictionary.now) columns.now) dictionary.now }
+    ensures same { IfSome last.entry (λ l. BeginsAs dictionary.now result.1 columns.now l.0.now) }
+{
+    let width = layout.least_width();
+    if let Some((before, number)) = last {
+        if is_same(&columns[..width], &before[..width]) {
+            return (number, true);
+        }
+    }
+    let number = dictionary.record_of(field_at(columns, layout.record_type()));
+    (number, false)
+}
+
 /// Cuts or pads the columns of a line, of which the file has so many and the others are blank, to its
-/// width, and tells the record that its type names.
+/// width, and tells the record that its type names, and whether it begins as the line before it.
 fn widen(
     dictionary: &Dictionary,
     layout: &Layout,
     columns: &mut Vec<char>,
     len: usize,
-) -> Result<Option<u16>, AllocError>
-    requires { layout.now ≡ layout_of dictionary.now }
-    ensures number { IfOk result (λ number. (text : List ℕ) → Holds columns.old.items text len → number ≡ record_of dictionary.now text) }
+    last: Option<(&[char], Option<u16>)>,
+) -> Result<(Option<u16>, bool), AllocError>
+    requires layout { layout.now ≡ layout_of dictionary.now }
+    requires last { IfSome last (λ l. IsTyped dictionary.now l.0.now l.1) }
+    ensures number { IfOk result (λ known. (text : List ℕ) → Holds columns.old.items text len → known.0 ≡ record_of dictionary.now text) }
+    ensures same { IfOk result (λ known. IfSome last.entry (λ l. BeginsAs dictionary.now known.1 columns.new.items l.0.now)) }
     ensures columns { OnOk result ((text : List ℕ) → Holds columns.old.items text len → columns.new.items ≡ padded (width_of dictionary.now text) text) }
 {
     let least_width = layout.least_width();
     pad(columns, least_width)?;
-    let record_number = dictionary.record_of(field_at(columns, layout.record_type()));
+    let (record_number, begins_as_last) = record_in(dictionary, layout, columns, last);
     let width = len.max(least_width);
     set_width(columns, width.max(record_len(dictionary, record_number)))?;
-    Ok(record_number)
+    Ok((record_number, begins_as_last))
 }
 
-/// A line with its end, at the front of the file or not, as columns in place of what was there.
+/// A line with its end, at the front of the file or not, as columns in place of what was there. The last
+/// line before it may be told by its columns and the number of its record.
 pub fn decode(
     dictionary: &Dictionary,
     layout: &Layout,
     line: &[u8],
     front: bool,
+    last: Option<(&[char], Option<u16>)>,
     columns: &mut Vec<char>,
 ) -> Result<Head, Stop>
-    requires { layout.now ≡ layout_of dictionary.now }
+    requires layout { layout.now ≡ layout_of dictionary.now }
+    requires last { IfSome last (λ l. IsTyped dictionary.now l.0.now l.1) }
     ensures ok { IfOk result (λ head. IsDecoded dictionary.now (front, line.now) columns.new.items head) }
+    ensures same { IfOk result (λ head. IfSome last.entry (λ l. BeginsAs dictionary.now head.begins_as_last columns.new.items l.0.now)) }
     ensures err { IfErr result (IfFault (λ number. line_fault (front, line.now) ≡ Some number)) }
     ensures low { IfErr result (IfFault (λ number. number < 70)) }
 {
@@ -194,11 +240,12 @@ pub fn decode(
     if len > MOST_COLUMNS {
         return Err(Stop::Fault(21));
     }
-    let record_number = widen(dictionary, layout, columns, len)?;
+    let (record_number, begins_as_last) = widen(dictionary, layout, columns, len, last)?;
     Ok(Head {
         len,
         ending,
         record_number,
         marked,
+        begins_as_last,
     })
 }

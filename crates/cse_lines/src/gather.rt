@@ -45,11 +45,12 @@ pub fn gather(
         let front = is_front(first, run);
         let len = line.len();
         let last = take_line(dictionary, layout, run, columns, line, front)?;
-        buffer.drop_front(len);
         if let Some(head) = last {
-            let given = end_run(alloc, run, room, columns, head)?;
+            let given = end_run(alloc, run, room, columns, head, line)?;
+            buffer.drop_front(len);
             return Ok(Some(given));
         }
+        buffer.drop_front(len);
     }
     Ok(None)
 }

@@ -128,6 +128,21 @@ pub fn field_at(columns: &[char], span: Span) -> &[char]
     &columns[first..first + span.len as usize]
 }
 
+/// Whether columns are the same. Those that are compared here are few, so it takes one by one.
+pub fn is_same(a: &[char], b: &[char]) -> bool
+    ensures { result ≡ bytes_eq a.now b.now }
+{
+    if a.len() != b.len() {
+        return false;
+    }
+    'columns: for (i, column) in a.iter().enumerate() {
+        if *column != b[i] {
+            return false;
+        }
+    }
+    true
+}
+
 /// Whether the same stands at these places.
 fn are_equal(spans: &[Span], a: &[char], b: &[char]) -> bool
     requires left { last_column spans.now ≤ length a.now }
@@ -135,7 +150,7 @@ fn are_equal(spans: &[Span], a: &[char], b: &[char]) -> bool
     ensures { result ≡ bytes_eq (fields_at spans.now a.now) (fields_at spans.now b.now) }
 {
     'spans: for span in spans {
-        if field_at(a, *span) != field_at(b, *span) {
+        if !is_same(field_at(a, *span), field_at(b, *span)) {
             return false;
         }
     }

@@ -109,11 +109,11 @@ impl<'a> RunReader<'a> {
     /// Takes back the vectors of a run that was given: their memory, unless it is large, serves a later
     /// run. A caller who gives each run back before the next but one lets the reader read on in the memory
     /// that it has.
-    pub fn take_back(&mut self, columns: Vec<char>, lines: Vec<Line>)
+    pub fn take_back(&mut self, columns: Vec<char>, lines: Vec<Line>, bytes: Vec<u8>)
         ensures { self.new ≡ self.old }
     {
         if columns.len() <= MOST_ROOM {
-            self.room = Room::of(columns, lines);
+            self.room = Room::of(columns, lines, bytes);
         }
     }
 

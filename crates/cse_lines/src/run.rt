@@ -1,9 +1,11 @@
 //! Runs of lines.
 
-ghost use Rattle.std.specs.Prelude.{◌≡◌, ◌<◌, ◌≤◌, ◌+◌, ◌++◌, ◌∷◌, [], IfOk, OnErr, OnOk, drop, false, length, take};
+ghost use Rattle.std.specs.Prelude.{◌≡◌, ◌<◌, ◌≤◌, ◌+◌, ◌++◌, ◌∷◌, [], ℕ, List, IfNone, IfOk, IfSome, OnErr, OnOk, drop, false, length, take};
+ghost use Rattle.std.specs.List.{flat_map};
 ghost use Rattle.cse_lines.specs.Decoding.{line_with};
 ghost use Rattle.cse_lines.specs.Laid.{IsLaid, laid_lines, line_behind};
-ghost use Rattle.cse_lines.specs.Run.{line_at, with_line};
+ghost use Rattle.cse_lines.specs.Run.{IsLastLine, line_at, with_line};
+ghost use Rattle.cse_lines.specs.Written.{mark_bytes, written_line};
 
 use crate::decode::Head;
 use crate::line::Line;
@@ -11,11 +13,12 @@ use std::alloc::{AllocError, Global};
 use std::marker::Model;
 
 /// Consecutive lines with equal id columns. The columns of all lines stand in one list, one line after
-/// the other, each padded with blanks to its width.
+/// the other, each padded with blanks to its width; and their bytes, as they came, in another.
 #[derive(Drop)]
 pub struct Run {
     columns: Vec<char>,
     lines: Vec<Line>,
+    bytes: Vec<u8>,
     marked: bool,
     first_line: u64,
 }
@@ -25,18 +28,20 @@ impl Model for Run {
 
     ghost Value = { RunText };
 
-    ghost use Rattle.cse_lines.specs.Laid.{IsLaid, laid_lines};
+    ghost use Rattle.cse_lines.specs.Laid.{laid_lines};
+    ghost use Rattle.cse_lines.specs.Written.{IsWhole};
 
     ghost view = { λ r. record { lines = laid_lines r.columns.items r.lines.items; marked = r.marked; first_line = r.first_line } };
 
-    ghost invariant = { λ r. IsLaid 0 r.columns.items r.lines.items };
+    ghost invariant = { λ r. IsWhole r.columns.items r.lines.items r.bytes.items };
 }
 
-/// Room for the columns and the lines of a run.
+/// Room for the columns, the lines and the bytes of a run.
 #[derive(Drop)]
 pub struct Room {
     columns: Vec<char>,
     lines: Vec<Line>,
+    bytes: Vec<u8>,
 }
 
 impl Room {
@@ -45,12 +50,17 @@ impl Room {
         Room {
             columns: Vec::new(alloc),
             lines: Vec::new(alloc),
+            bytes: Vec::new(alloc),
         }
     }
 
     /// The room of a run that is no longer needed.
-    pub(crate) fn of(columns: Vec<char>, lines: Vec<Line>) -> Room {
-        Room { columns, lines }
+    pub(crate) fn of(columns: Vec<char>, lines: Vec<Line>, bytes: Vec<u8>) -> Room {
+        Room {
+            columns,
+            lines,
+            bytes,
+        }
     }
 }
 
@@ -60,6 +70,16 @@ fn part(columns: &[char], first: usize, width: usize) -> &[char]
     ensures { result.now ≡ take width (drop first columns.now) }
 {
     &columns[first..first + width]
+}
+
+/// The bytes of a line behind the mark, where that stands before it.
+fn behind_mark(line: &[u8], marked: bool) -> &[u8]
+    ensures { (bytes : List ℕ) → line.now ≡ mark_bytes marked ++ bytes → result.now ≡ bytes }
+{
+    match line {
+        [_, _, _, bytes @ ..] if marked => bytes,
+        _ => line,
+    }
 }
 
 /// Appends a line and its columns.
@@ -96,59 +116,72 @@ impl Run {
         Run {
             columns: Vec::new(alloc),
             lines: Vec::new(alloc),
+            bytes: Vec::new(alloc),
             marked: false,
             first_line,
         }
     }
 
-    /// A run without lines in this room, which is made large enough for as much as another one has.
-    pub(crate) fn in_room(room: Room, other: &Run, first_line: u64) -> Result<Run, AllocError>
-        ensures lines { IfOk result (λ run. run.lines ≡ []) }
-        ensures marked { IfOk result (λ run. run.marked ≡ false) }
-        ensures first_line { IfOk result (λ run. run.first_line ≡ first_line) }
+    /// A run without lines in this room.
+    pub(crate) fn in_room(room: Room, first_line: u64) -> Run
+        ensures lines { result.lines ≡ [] }
+        ensures marked { result.marked ≡ false }
+        ensures first_line { result.first_line ≡ first_line }
     {
         let Room {
             mut columns,
             mut lines,
+            mut bytes,
         } = room;
         columns.clear();
-        columns.reserve(other.columns.len())?;
         lines.clear();
-        lines.reserve(other.lines.len())?;
-        Ok(Run {
+        bytes.clear();
+        Run {
             columns,
             lines,
+            bytes,
             marked: false,
             first_line,
-        })
+        }
     }
 
-    /// Appends a line that was read.
+    /// Appends a line that was read: its columns and its bytes, with the mark.
     #[inline(always)]
-    pub(crate) fn push(&mut self, columns: &[char], head: Head) -> Result<(), AllocError>
-        requires { head.len ≤ length columns.now }
+    pub(crate) fn push(
+        &mut self,
+        columns: &[char],
+        head: Head,
+        line: &[u8],
+    ) -> Result<(), AllocError>
+        requires fits { head.len ≤ length columns.now }
+        requires bytes { line.now ≡ mark_bytes head.marked ++ written_line (line_with columns.now head) }
         ensures { OnOk result (self.new ≡ with_line self.old head.marked (line_with columns.now head)) }
     {
+        let bytes = behind_mark(line, head.marked);
+        self.bytes.reserve(bytes.len())?;
         push_line(&mut self.columns, &mut self.lines, columns, head)?;
+        self.bytes.extend_from_slice(bytes)?;
         self.marked = self.marked || head.marked;
         Ok(())
     }
 
-    /// Its columns and its lines, whether it is marked, and the number of its first line. The lines lie
-    /// one after the other in the columns.
-    pub fn into_parts(self) -> (Vec<char>, Vec<Line>, bool, u64)
+    /// Its columns, its lines and their bytes, whether it is marked, and the number of its first line. The
+    /// lines lie one after the other in the columns, and are written as these bytes.
+    pub fn into_parts(self) -> (Vec<char>, Vec<Line>, Vec<u8>, bool, u64)
         ensures lines { laid_lines result.0.items result.1.items ≡ self.lines }
         ensures laid { IsLaid 0 result.0.items result.1.items }
-        ensures marked { result.2 ≡ self.marked }
-        ensures first_line { result.3 ≡ self.first_line }
+        ensures bytes { result.2.items ≡ flat_map written_line self.lines }
+        ensures marked { result.3 ≡ self.marked }
+        ensures first_line { result.4 ≡ self.first_line }
     {
         let Run {
             columns,
             lines,
+            bytes,
             marked,
             first_line,
         } = self;
-        (columns, lines, marked, first_line)
+        (columns, lines, bytes, marked, first_line)
     }
 
     /// How many lines it has.
@@ -163,6 +196,22 @@ impl Run {
         ensures { result ≡ self.now.first_line }
     {
         self.first_line
+    }
+
+    /// The columns of the last line and the number of its record, if there is a line.
+    pub(crate) fn last(&self) -> Option<(&[char], Option<u16>)>
+        ensures none { IfNone result (self.now.lines ≡ []) }
+        ensures some { IfSome result (λ last. IsLastLine self.now last.0.now last.1) }
+    {
+        let len = self.lines.len();
+        if len == 0 {
+            return None;
+        }
+        let line = self.lines[len - 1];
+        Some((
+            part(&self.columns, line.first, line.width),
+            line.record_number,
+        ))
     }
 
     /// The columns of a line, by its place from 0, padded with blanks to its width.

@@ -1,10 +1,11 @@
 //! A line that comes to the run that is gathered.
 
-ghost use Rattle.std.specs.Prelude.{◌≡◌, ◌+◌, ◌<◌, ◌≤◌, ◌^◌, length, IfErr, IfOk, OnOk};
+ghost use Rattle.std.specs.Prelude.{◌≡◌, ◌+◌, ◌++◌, ◌<◌, ◌≤◌, ◌^◌, length, IfErr, IfOk, OnOk};
 ghost use Rattle.cse_lines.specs.Decoding.{IfFault, line_with};
 ghost use Rattle.cse_lines.specs.Field.{layout_of, least_width};
 ghost use Rattle.cse_lines.specs.Run.{line_at, run_of};
-ghost use Rattle.cse_lines.specs.Taking.{Refuses, Takes};
+ghost use Rattle.cse_lines.specs.Taking.{LastIsLike, Refuses, Takes};
+ghost use Rattle.cse_lines.specs.Written.{mark_bytes, written_line};
 
 use crate::decode::{Head, Stop, decode};
 use crate::layout::Layout;
@@ -28,19 +29,21 @@ pub fn take_line(
 ) -> Result<Option<Head>, Stop>
     requires layout { layout.now ≡ layout_of dictionary.now }
     requires width { 0 < length run.old.lines → least_width dictionary.now ≤ length (line_at run.old 0).columns }
+    requires last { LastIsLike dictionary.now run.old }
     requires few { length run.old.lines ≤ 10000 }
     ensures ok { IfOk result (λ last. Takes dictionary.now (front, line.now) run.old run.new columns.new.items last) }
     ensures err { IfErr result (IfFault (λ number. Refuses dictionary.now (front, line.now) run.old run.new number)) }
 {
-    let head = decode(dictionary, layout, line, front, columns)?;
+    let last = run.last();
+    let head = decode(dictionary, layout, line, front, last, columns)?;
     let len = run.len();
-    if len > 0 && !layout.has_same_ids(run.columns(0), columns) {
+    if len > 0 && !head.begins_as_last && !layout.has_same_ids(run.columns(0), columns) {
         return Ok(Some(head));
     }
     if len == MOST_LINES {
         return Err(Stop::Fault(22));
     }
-    run.push(columns, head)?;
+    run.push(columns, head, line)?;
     Ok(None)
 }
 
@@ -51,16 +54,18 @@ pub fn end_run(
     room: &mut Room,
     columns: &[char],
     head: Head,
+    line: &[u8],
 ) -> Result<Run, AllocError>
     requires fits { head.len ≤ length columns.now }
+    requires bytes { line.now ≡ mark_bytes head.marked ++ written_line (line_with columns.now head) }
     requires number { run.old.first_line + length run.old.lines < 2 ^ 64 }
     ensures given { IfOk result (λ given. given ≡ run.old) }
     ensures next { OnOk result (run.new ≡ run_of (run.old.first_line + length run.old.lines) head.marked (line_with columns.now head)) }
 {
     let number = run.first_line() + run.len() as u64;
     let room = mem::replace(room, Room::new(alloc));
-    let next = Run::in_room(room, run, number)?;
+    let next = Run::in_room(room, number);
     let given = mem::replace(run, next);
-    run.push(columns, head)?;
+    run.push(columns, head, line)?;
     Ok(given)
 }

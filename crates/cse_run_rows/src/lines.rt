@@ -63,7 +63,7 @@ fn tell_run(alloc: Global, told: &mut String, run: Run) -> Result<(), Fail> {
         }
         told.push('|')?;
     }
-    let (_, lines, marked, first_line) = run.into_parts();
+    let (_, lines, _, marked, first_line) = run.into_parts();
     let mark = if marked { "m" } else { "" };
     let head = format!(in alloc; "{first_line}{mark}")?;
     told.push_str(head.as_str())?;

@@ -1,12 +1,15 @@
-use Rattle.std.proofs.Common.{◌≡◌, ◌+◌, ◌∙◌, ℕ, List, sym, subst, arith, length, []}
+use Rattle.std.proofs.Common.{◌≡◌, ◌+◌, ◌++◌, ◌∙◌, ℕ, List, ap, sym, subst, arith, length, []}
 use Rattle.std.proofs.lemmas.Result.{err_from_is_err_and}
 use Rattle.cse_lines.specs.Decoding.{line_with}
 use Rattle.cse_lines.specs.Line.{lines_in}
 use Rattle.cse_lines.specs.Taking.{GoesOn, EndsRun, GivesFirst, Gathers, IsLast, Refuses, RefusesAt, Takes}
 use Rattle.cse_lines.specs.Run.{run_of}
+use Rattle.cse_lines.specs.Written.{mark_bytes, written_line}
 use Rattle.cse_lines.proofs.DecodeLaws.{IfFault-more}
 use Rattle.cse_lines.proofs.GatherLaws.{Gathers-more, Gathers-none, GivesFirst-found, RefusesAt-found, first_at, front_at, wide_line}
+use Rattle.cse_lines.proofs.LastLaws.{last_line}
 use Rattle.cse_lines.proofs.TakeLaws.{EndsRun-last}
+use Rattle.cse_lines.proofs.WrittenLaws.{line-bytes}
 use Rattle.cse_lines.proofs.gather.gather.Goals as goal
 
 pub lines-init : goal.lines-init
@@ -14,6 +17,9 @@ lines-init c = Gathers-none _ _ _ _ _ c.requires.gathered
 
 pub take_line-requires-clause-width : goal.take_line-requires-clause-width
 take_line-requires-clause-width c = wide_line c.args.dictionary.now c.args.first c.args.ended c.lines.run.first_line c.lines.run c.lines.buffer c.lines.invariant.gathered
+
+pub take_line-requires-clause-last : goal.take_line-requires-clause-last
+take_line-requires-clause-last c = last_line c.args.dictionary.now c.args.first c.args.ended c.lines.run.first_line c.lines.run c.lines.buffer c.lines.invariant.gathered
 
 pub returns-in_err-last-clause-err : goal.returns-in_err-last-clause-err
 returns-in_err-last-clause-err c =
@@ -35,6 +41,15 @@ end_run-requires-clause-fits c =
     let last : IsLast d (b, c.in-Some.line.now) c.lines.run c.take_line.new.run c.take_line.new.columns.items c.in-Some-last.head =
     subst (Takes d (b, c.in-Some.line.now) c.lines.run c.take_line.new.run c.take_line.new.columns.items) c.in-Some-last.is c.in_ok-last.ensures.ok in
     rw c.deref.ensures.value last.decoded.fits
+
+pub end_run-requires-clause-bytes : goal.end_run-requires-clause-bytes
+end_run-requires-clause-bytes c =
+    let d = c.args.dictionary.now in
+    let b = c.is_front-front.result in
+    let head = c.in-Some-last.head in
+    let last : IsLast d (b, c.in-Some.line.now) c.lines.run c.take_line.new.run c.take_line.new.columns.items head =
+    subst (Takes d (b, c.in-Some.line.now) c.lines.run c.take_line.new.run c.take_line.new.columns.items) c.in-Some-last.is c.in_ok-last.ensures.ok in
+    line-bytes d (b, c.in-Some.line.now) c.take_line.new.columns.items head last.decoded ∙ ap (λ cs. mark_bytes head.marked ++ written_line (line_with cs head)) (sym c.deref.ensures.value)
 
 pub end_run-requires-clause-number : goal.end_run-requires-clause-number
 end_run-requires-clause-number c =
@@ -70,7 +85,7 @@ lines-preserved c =
     let first = first_at c.is_front.result b c.args.ended c.as_slice.result.now c.lines.buffer c.in-Some.line.now (c.is_front.ensures ∙ sym c.is_front-front.ensures) c.as_slice.ensures c.in-Some.ensures.some in
     let on : GoesOn d (b, c.in-Some.line.now) c.lines.run c.take_line.new.run =
     subst (Takes d (b, c.in-Some.line.now) c.lines.run c.take_line.new.run c.take_line.new.columns.items) c.in_default-last.is c.in_ok-last.ensures.ok in
-    subst (Gathers d c.args.first c.args.ended c.args.run.now c.args.buffer.now c.take_line.new.run) (sym c.drop_front.ensures)
+    subst (Gathers d c.args.first c.args.ended c.args.run.now c.args.buffer.now c.take_line.new.run) (sym c.drop_front-in-Some.ensures)
     (Gathers-more d c.args.first c.args.ended c.args.run.now c.args.buffer.now c.lines.run c.take_line.new.run c.lines.buffer c.in-Some.line.now known b at first on)
 
 pub returns-clause-ok : goal.returns-clause-ok

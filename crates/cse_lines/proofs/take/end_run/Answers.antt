@@ -8,6 +8,6 @@ pub returns-clause-next : goal.returns-clause-next
 returns-clause-next c =
     let run = c.args.run.now in
     let head = c.args.head in
-    let first : c.in_ok-next.next.first_line ≡ run.first_line + length run.lines = c.in_ok-next.ensures.first_line ∙ omega (arith, c.first_line.ensures, c.len.ensures) in
+    let first : c.in_room-next.result.first_line ≡ run.first_line + length run.lines = c.in_room-next.ensures.first_line ∙ omega (arith, c.first_line.ensures, c.len.ensures) in
     c.in_ok-push.ensures ∙ ap (λ r. with_line r head.marked (line_with c.args.columns.now head)) c.replace-given.ensures.after
-    ∙ run_of-with c.in_ok-next.next (run.first_line + length run.lines) head.marked (line_with c.args.columns.now head) c.in_ok-next.ensures.lines c.in_ok-next.ensures.marked first
+    ∙ run_of-with c.in_room-next.result (run.first_line + length run.lines) head.marked (line_with c.args.columns.now head) c.in_room-next.ensures.lines c.in_room-next.ensures.marked first

@@ -1,5 +1,6 @@
 use Rattle.std.proofs.Common.{◌≡◌, ◌<◌, ◌≤◌, ◌+◌, ◌-◌, refl, length, take, drop, set, ap, sym, ◌∙◌, arith, add-zero, subst}
 use Rattle.std.specs.Vec.{with_items}
+use Rattle.std.proofs.lemmas.Bool.{true≢false}
 use Rattle.std.proofs.lemmas.List.{length-map, with_items_is}
 use Rattle.cse_lines.specs.Columns.{LineText}
 use Rattle.cse_lines.specs.Laid.{laid_line, laid_lines}
@@ -29,6 +30,7 @@ invariant_of-self c =
       some = c.self.invariant.some;
       wide = c.self.invariant.wide;
       laid = IsLaid-len 0 v.columns.items (with_items v.columns c.write_in_line.new.columns).items v.lines.items (ap length items ∙ (c.write_in_line.auto.columns ∙ ap length c.deref_mut.ensures.value)) c.self.invariant.laid;
+      came = λ e. absurd (true≢false e);
       table = c.self.invariant.table;
       unseen_are = c.self.invariant.unseen_are;
     }

@@ -1,15 +1,32 @@
-use Rattle.std.proofs.Common.{◌≡◌, ◌++◌, ◌∷◌, [], ◌||◌, ap, ◌∙◌, refl}
-use Rattle.cse_lines.specs.Laid.{laid_lines}
+use Rattle.std.proofs.Common.{◌≡◌, ℕ, List, ◌++◌, ◌∷◌, [], ◌||◌, ap, ◌∙◌, refl}
+use Rattle.cse_lines.specs.declared.line.Line.{Line}
+use Rattle.cse_lines.specs.declared.decode.Head.{Head}
+use Rattle.cse_lines.specs.Laid.{IsLaid, laid_lines, line_behind}
+use Rattle.cse_lines.specs.Written.{written_line}
 use Rattle.cse_lines.specs.Run.{RunText, with_line}
 use Rattle.cse_lines.specs.Decoding.{line_with}
 use Rattle.cse_lines.proofs.LaidLaws.{IsLaid-push, laid_lines-push}
+use Rattle.cse_lines.proofs.WrittenLaws.{written-push}
 use Rattle.cse_lines.proofs.run.Run.push.Goals as goal
 use Rattle.cse_lines.proofs.run.Run.push.Goals.{then-self, else-self}
 
+-- the lines after the push
+pushed : (now : List ℕ) (all : List Line) (columns text : List ℕ) (lines : List Line) (head : Head) → now ≡ columns ++ text → all ≡ lines ++ line_behind columns text head ∷ [] → IsLaid 0 columns lines
+    → laid_lines now all ≡ laid_lines columns lines ++ line_with text head ∷ []
+pushed now all columns text lines head e f h =
+    ap (λ cs. laid_lines cs all) e ∙ ap (laid_lines (columns ++ text)) f ∙ laid_lines-push 0 columns text lines head h
+
 pub invariant_of-self-2 : goal.invariant_of-self-2
 invariant_of-self-2 c =
-    rw (c.in_ok-push_line.ensures.columns, c.in_ok-push_line.ensures.lines)
-    (IsLaid-push 0 c.self.inside.columns.items c.args.columns.now c.self.inside.lines.items c.args.head c.requires c.self.invariant)
+    let columns = c.self.inside.columns.items in
+    let lines = c.self.inside.lines.items in
+    record {
+      laid = rw (c.in_ok-push_line.ensures.columns, c.in_ok-push_line.ensures.lines) (IsLaid-push 0 columns c.args.columns.now lines c.args.head c.requires.fits c.self.invariant.laid);
+      written = written-push (laid_lines columns lines) _ (line_with c.args.columns.now c.args.head) c.self.inside.bytes.items _ c.behind_mark-bytes.result.now c.self.invariant.written
+          (c.behind_mark-bytes.ensures (written_line (line_with c.args.columns.now c.args.head)) c.requires.bytes)
+          (c.in_ok-extend_from_slice.ensures.items ∙ ap (λ l. l ++ c.behind_mark-bytes.result.now) c.in_ok-reserve.ensures.items)
+          (pushed c.push_line.new.columns.items c.push_line.new.lines.items columns c.args.columns.now lines c.args.head c.in_ok-push_line.ensures.columns c.in_ok-push_line.ensures.lines c.self.invariant.laid);
+    }
 
 pub returns : goal.returns
 returns c =
@@ -19,10 +36,7 @@ returns c =
       | then-self w ↦ w.self-is ∙ rw w.if-self.true refl
       | else-self w ↦ w.self-is ∙ rw w.if-self.false refl
     ] in
-    let laid : laid_lines c.push_line.new.columns.items c.push_line.new.lines.items ≡ laid_lines columns lines ++ line_with c.args.columns.now c.args.head ∷ [] =
-    ap (λ cs. laid_lines cs c.push_line.new.lines.items) c.in_ok-push_line.ensures.columns
-    ∙ ap (laid_lines (columns ++ c.args.columns.now)) c.in_ok-push_line.ensures.lines
-    ∙ laid_lines-push 0 columns c.args.columns.now lines c.args.head c.self.invariant in
+    let laid = pushed c.push_line.new.columns.items c.push_line.new.lines.items columns c.args.columns.now lines c.args.head c.in_ok-push_line.ensures.columns c.in_ok-push_line.ensures.lines c.self.invariant.laid in
     let old : RunText = record { lines = laid_lines columns lines; marked = c.self.inside.marked; first_line = c.self.inside.first_line } in
     ap (λ ls. (let r : RunText = record { lines = ls; marked = c.if-self.self; first_line = c.self.inside.first_line } in r)) laid
     ∙ ap (λ m. (let r : RunText = record { lines = laid_lines columns lines ++ line_with c.args.columns.now c.args.head ∷ []; marked = m; first_line = c.self.inside.first_line } in r)) marked

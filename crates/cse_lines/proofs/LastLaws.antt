@@ -1,0 +1,110 @@
+-- Laws of the last line of a run, with which a line is compared that comes to it.
+use Rattle.std.proofs.Common.{◌≡◌, ℕ, suc, ◌+◌, ◌-◌, ◌<◌, ◌≤◌, Bool, true, false, List, [], ◌∷◌, ◌++◌, length, get_or, map, take, drop, refl, ap, sym, subst, ◌∙◌, arith, Option, None, Some}
+use Rattle.std.specs.Prelude.{IfNone, IfSome, not}
+use Rattle.std.proofs.lemmas.List.{drop-take, length-take, take-append-le, take-take}
+use Rattle.cse_dict.specs.Dictionary.{DictionaryText, number_of_type}
+use Rattle.cse_lines.specs.declared.layout.Span.{Span}
+use Rattle.cse_lines.specs.declared.decode.Head.{Head}
+use Rattle.cse_lines.specs.Decoding.{BeginsAs, IsTyped, line_with}
+use Rattle.cse_lines.specs.Line.{FileLine}
+use Rattle.cse_lines.specs.Field.{field_at, fields_at, id_spans, ids_of, last_column, least_width, type_span, width_of}
+use Rattle.cse_lines.specs.Columns.{columns_of, id_of, line_text, no_line}
+use Rattle.cse_lines.specs.Gathering.{Gathered, IsRunOf, first_id}
+use Rattle.cse_lines.specs.Run.{IsLastLine, RunText, line_at}
+use Rattle.cse_lines.specs.Taking.{LastIsLike, run_id}
+use Rattle.cse_lines.proofs.DecodeLaws.{field_past, record_of_is}
+use Rattle.cse_lines.proofs.TakeLaws.{id_of_is, ids_fit, least_fits}
+use Rattle.cse_lines.proofs.GatherLaws.{length-done, run_id-done}
+
+-- what holds of the answer where there is one
+pub IfSome-more : {A : Type 0} (P Q : A → Type 0) (o : Option A) → ((a : A) → P a → Q a) → IfSome o P → IfSome o Q
+IfSome-more P Q None f h = tt
+IfSome-more P Q (Some a) f h = f a h
+
+-- the fields within a front
+field_at-take : (s : Span) (n : ℕ) (columns : List ℕ) → s.start - 1 + s.len ≤ n → field_at s (take n columns) ≡ field_at s columns
+field_at-take s n columns h =
+    let k = s.start - 1 in
+    let e : n ≡ k + (n - k) = omega arith in
+    ap (λ m. take s.len (drop k (take m columns))) e ∙ ap (take s.len) (drop-take k (n - k) columns) ∙ take-take s.len (n - k) (drop k columns) (omega arith)
+
+fields_at-take : (ss : List Span) (n : ℕ) (columns : List ℕ) → last_column ss ≤ n → fields_at ss (take n columns) ≡ fields_at ss columns
+fields_at-take [] n columns h = refl
+fields_at-take (s ∷ ss) n columns h =
+    ap (λ l. l ++ fields_at ss (take n columns)) (field_at-take s n columns (omega arith)) ∙ ap (λ l. field_at s columns ++ l) (fields_at-take ss n columns (omega arith))
+
+-- columns that begin alike have the same id
+pub ids_begin : (d : DictionaryText) (xs ys : List ℕ) → take (least_width d) xs ≡ take (least_width d) ys → ids_of d xs ≡ ids_of d ys
+unfolding ids_of
+ids_begin d xs ys e =
+    sym (fields_at-take (id_spans d) (least_width d) xs (ids_fit d)) ∙ ap (fields_at (id_spans d)) e ∙ fields_at-take (id_spans d) (least_width d) ys (ids_fit d)
+
+-- and their record type names the same record
+pub type_in : (d : DictionaryText) → (type_span d).start - 1 + (type_span d).len ≤ least_width d
+unfolding least_width
+type_in d = omega arith
+
+pub type_begins : (d : DictionaryText) (xs ys : List ℕ) → take (least_width d) xs ≡ take (least_width d) ys → field_at (type_span d) xs ≡ field_at (type_span d) ys
+type_begins d xs ys e =
+    sym (field_at-take (type_span d) (least_width d) xs (type_in d)) ∙ ap (field_at (type_span d)) e ∙ field_at-take (type_span d) (least_width d) ys (type_in d)
+
+-- columns that are cut no shorter begin as they were
+pub take_cut : (least width : ℕ) (columns blanks : List ℕ) → least ≤ width → least ≤ length columns → take least (take width columns ++ blanks) ≡ take least columns
+take_cut least width columns blanks h k =
+    take-append-le least (take width columns) blanks (omega (arith, length-take width columns)) ∙ take-take least width columns h
+
+-- a line of the file, as it was read
+least_in : (d : DictionaryText) (text : List ℕ) → least_width d ≤ width_of d text
+unfolding width_of
+least_in d text = omega arith
+
+type_named : (d : DictionaryText) (line : FileLine) → (line_text d line).record_number ≡ number_of_type (field_at (type_span d) (line_text d line).columns) d
+unfolding line_text
+type_named d line =
+    sym (record_of_is d (columns_of line))
+    ∙ ap (λ t. number_of_type t d) (sym (field_past (type_span d) (width_of d (columns_of line)) (least_width d) (columns_of line) (type_in d) (least_in d (columns_of line))))
+
+typed : (d : DictionaryText) (line : FileLine) → IsTyped d (line_text d line).columns (line_text d line).record_number
+typed d line = record { wide = least_fits d line; names = type_named d line }
+
+-- the last of the lines of a run
+last_of : (d : DictionaryText) (id : List ℕ) (n : ℕ) (done : List FileLine) → IsRunOf d id n done → 0 < length done
+    → (line : FileLine) × ((get_or (map (line_text d) done) (length done - 1) no_line ≡ line_text d line) × (id_of d line ≡ id))
+last_of d id n [] r some = absurd (omega arith)
+last_of d id n (x ∷ []) r some = (x, (refl, r.0))
+last_of d id n (x ∷ y ∷ zs) r some =
+    let last = last_of d id (n + 1) (y ∷ zs) r.2 (omega arith) in
+    let all : length (x ∷ y ∷ zs) - 1 ≡ suc (length zs) = omega arith in
+    let rest : length (y ∷ zs) - 1 ≡ length zs = omega arith in
+    (last.0, (ap (λ k. get_or (map (line_text d) (x ∷ y ∷ zs)) k no_line) all ∙ (ap (λ k. get_or (map (line_text d) (y ∷ zs)) k no_line) (sym rest) ∙ (last.1).0), (last.1).1))
+
+pub last_line : (d : DictionaryText) (front ended : Bool) (number : ℕ) (run : RunText) (uncut : List ℕ) → Gathered d front ended number run uncut → LastIsLike d run
+last_line d front ended number run uncut g columns own is =
+    let some = is.some in
+    let len = length-done d front ended number run uncut g in
+    let last = last_of d (first_id d g.done) 0 g.done g.same (subst (λ (n : ℕ). 0 < n) len some) in
+    let line = last.0 in
+    let at : line_at run (length run.lines - 1) ≡ line_text d line = ap (λ n. line_at run (n - 1)) len ∙ ap (λ r. line_at r (length g.done - 1)) g.is ∙ (last.1).0 in
+    let these : columns ≡ (line_text d line).columns = is.columns_are ∙ ap (λ l. l.columns) at in
+    let named : own ≡ (line_text d line).record_number = is.number_is ∙ ap (λ l. l.record_number) at in
+    let typed_is : IsTyped d columns own = subst (λ (cs : List ℕ). IsTyped d cs own) (sym these) (subst (λ (n : Option ℕ). IsTyped d (line_text d line).columns n) (sym named) (typed d line)) in
+    (typed_is, ap (ids_of d) these ∙ id_of_is d line ∙ (last.1).1 ∙ sym (run_id-done d front ended number run uncut g (subst (λ (n : ℕ). 0 < n) len some)))
+
+-- the last line of a run, where it is told by its columns and its record
+pub last_typed : {A : Type 0} (d : DictionaryText) (run : RunText) (last : Option A) (columns : A → List ℕ) (number : A → Option ℕ) → LastIsLike d run
+    → IfSome last (λ l. IsLastLine run (columns l) (number l)) → IfSome last (λ l. IsTyped d (columns l) (number l))
+last_typed d run None columns number like some = tt
+last_typed d run (Some l) columns number like some = (like (columns l) (number l) some).0
+
+-- a line that begins as the last one goes on the run
+pub same_last : {A : Type 0} (d : DictionaryText) (run : RunText) (line : FileLine) (last : Option A) (columns : A → List ℕ) (number : A → Option ℕ) (head : Head) (now : List ℕ)
+    → 0 < length run.lines → LastIsLike d run → IfNone last (run.lines ≡ []) → IfSome last (λ l. IsLastLine run (columns l) (number l))
+    → IfSome last (λ l. BeginsAs d head.begins_as_last now (columns l)) → line_with now head ≡ line_text d line → not head.begins_as_last ≡ false → run_id d run ≡ id_of d line
+same_last d run line None columns number head now some like none l begins is test = let empty : length run.lines ≡ 0 = ap length none in absurd (omega arith)
+same_last d run line (Some l) columns number head now some like none own begins is test =
+    let same : ids_of d now ≡ ids_of d (columns l) = ids_begin d now (columns l) (begins (from_not head.begins_as_last test)) in
+    sym ((like (columns l) (number l) own).1) ∙ sym same ∙ ap (λ x. ids_of d x.columns) is ∙ id_of_is d line
+  where
+    from_not : (t : Bool) → not t ≡ false → t ≡ true
+    from_not true h = refl
+    from_not false h = sym h

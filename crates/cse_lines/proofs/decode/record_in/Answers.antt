@@ -1,0 +1,33 @@
+use Rattle.std.proofs.Common.{◌≡◌, ap, sym, subst, take, ◌∙◌, arith}
+use Rattle.std.specs.Prelude.{IfSome}
+use Rattle.cse_dict.specs.Dictionary.{number_of_type}
+use Rattle.cse_lines.specs.Decoding.{IsTyped}
+use Rattle.cse_lines.specs.Field.{field_at, least_width, type_span}
+use Rattle.cse_lines.proofs.LastLaws.{type_begins, type_in}
+use Rattle.cse_lines.proofs.TakeLaws.{same_ids}
+use Rattle.cse_lines.proofs.decode.record_in.Goals as goal
+
+pub returns-then-is_same-clause-number : goal.returns-then-is_same-clause-number
+returns-then-is_same-clause-number c =
+    let d = c.args.dictionary.now in
+    let typed = subst (λ o. IfSome o (λ l. IsTyped d l.0.now l.1)) c.in-Some.is c.requires.last in
+    let columns = c.args.columns.now in
+    let before = c.in-Some.before.now in
+    let width = c.least_width-width.result in
+    let least : width ≡ least_width d = c.least_width-width.ensures ∙ ap (λ l. l.least_width) c.requires.layout in
+    let same = same_ids (take width columns) (take width before) c.is_same.result c.is_same.ensures c.if-is_same.true in
+    let begins : take (least_width d) before ≡ take (least_width d) columns = ap (λ n. take n before) (sym least) ∙ sym same ∙ ap (λ n. take n columns) least in
+    typed.names ∙ ap (λ t. number_of_type t d) (type_begins d before columns begins)
+
+pub field_at-requires : goal.field_at-requires
+field_at-requires c =
+    let d = c.args.dictionary.now in
+    let span : c.record_type.result ≡ type_span d = c.record_type.ensures ∙ ap (λ l. l.record_type) c.requires.layout in
+    let fits = type_in d in
+    rw span (omega (arith, c.requires.wide))
+
+pub returns-clause-number : goal.returns-clause-number
+returns-clause-number c =
+    let d = c.args.dictionary.now in
+    let span : c.record_type.result ≡ type_span d = c.record_type.ensures ∙ ap (λ l. l.record_type) c.requires.layout in
+    c.record_of-number.ensures.record ∙ ap (λ t. number_of_type t d) (c.field_at.ensures ∙ ap (λ s. field_at s c.args.columns.now) span)
