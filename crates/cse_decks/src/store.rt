@@ -16,7 +16,6 @@ use std::marker::Model;
 
 /// What a program keeps over the whole run: the values of its globals, and the cells of its arrays, the
 /// last index fastest.
-#[derive(Drop)]
 pub struct Store {
     globals: Vec<GlobalValue>,
     arrays: Vec<ArrayCells>,
@@ -32,6 +31,15 @@ impl Model for Store {
     ghost use Rattle.cse_decks.specs.Store.{ArraysFit};
 
     ghost invariant = { λ s. ArraysFit s.arrays.items };
+}
+
+impl Drop for Store {
+    fn drop(self) {
+        let Store {
+            globals: _globals,
+            arrays: _arrays,
+        } = self;
+    }
 }
 
 impl Store {

@@ -17,10 +17,18 @@ use cse_value::{Num, OutOfMemory};
 use std::alloc::Global;
 
 /// What a run reports: its listing, and how often values were imputed.
-#[derive(Drop)]
 pub struct Reports {
     pub listing: Listing,
     pub frequencies: Frequencies,
+}
+
+impl Drop for Reports {
+    fn drop(self) {
+        let Reports {
+            listing: _listing,
+            frequencies: _frequencies,
+        } = self;
+    }
 }
 
 impl Reports {
