@@ -1,0 +1,159 @@
+//! The columns of a run, in a vector that is filled further than they reach.
+
+ghost use Rattle.std.specs.Prelude.{◌≡◌, ◌≤◌, ◌+◌, ◌-◌, ◌++◌, [], length, take, true, false, OnErr, OnOk};
+ghost use Rattle.cse_lines.specs.Field.{padded};
+ghost use Rattle.cse_lines.specs.Alike.{IsPlain};
+ghost use Rattle.cse_lines.specs.Run.{with_columns};
+
+use std::alloc::{AllocError, Global};
+use std::marker::Model;
+
+/// Columns one after the other. What stood behind them before stays there, so that a line is written over
+/// it, and no column is blanked first.
+#[derive(Drop)]
+pub struct Filled {
+    columns: Vec<char>,
+    len: usize,
+}
+
+impl Model for Filled {
+    ghost use Rattle.std.specs.Prelude.{ℕ, List, ◌≤◌, take, vec_len};
+
+    ghost Value = { List ℕ };
+
+    ghost view = { λ f. take f.len f.columns.items };
+
+    ghost invariant = { λ f. f.len ≤ vec_len f.columns };
+}
+
+/// Writes bytes as characters over columns, and tells whether all are ASCII and none is a line feed. It
+/// tests none by itself, so that the compiler takes many at once.
+fn put_plain(columns: &mut [char], text: &[u8]) -> bool
+    requires { length columns.old ≡ length text.now }
+    ensures columns { columns.new ≡ text.now }
+    ensures plain { result ≡ true → IsPlain text.now }
+{
+    let mut bits = 0u8;
+    'bytes: for (i, byte) in text.iter().enumerate() {
+        columns[i] = *byte as char;
+        bits |= if *byte == b'\n' { 128 } else { *byte };
+    }
+    bits < 128
+}
+
+/// The same over the first of the columns, and blanks over the others.
+fn put_line(columns: &mut [char], text: &[u8]) -> bool
+    requires { length text.now ≤ length columns.old }
+    ensures columns { columns.new ≡ padded (length columns.old) text.now }
+    ensures plain { result ≡ true → IsPlain text.now }
+{
+    let (front, rest) = columns.split_at_mut(text.len());
+    rest.fill(' ');
+    put_plain(front, text)
+}
+
+/// Writes a line over the columns from a place up to another.
+fn put_between(columns: &mut Vec<char>, first: usize, end: usize, text: &[u8]) -> bool
+    requires fits { first ≤ end }
+    requires room { end ≤ length columns.old.items }
+    requires wide { first + length text.now ≤ end }
+    ensures columns { columns.new.items ≡ with_columns first (padded (end - first) text.now) columns.old.items }
+    ensures plain { result ≡ true → IsPlain text.now }
+{
+    put_line(&mut columns[first..end], text)
+}
+
+/// Fills a vector up to a length, where it is shorter.
+fn fill_up(columns: &mut Vec<char>, len: usize) -> Result<(), AllocError>
+    ensures room { OnOk result (len ≤ length columns.new.items) }
+    ensures same { take (length columns.old.items) columns.new.items ≡ columns.old.items }
+{
+    if columns.len() < len {
+        columns.resize(len, ' ')?;
+    }
+    Ok(())
+}
+
+impl Filled {
+    /// No columns, which take no memory.
+    pub fn new(alloc: Global) -> Filled
+        ensures { result ≡ [] }
+    {
+        Filled {
+            columns: Vec::new(alloc),
+            len: 0,
+        }
+    }
+
+    /// No columns, over those that are there.
+    pub fn over(columns: Vec<char>) -> Filled
+        ensures { result ≡ [] }
+    {
+        Filled { columns, len: 0 }
+    }
+
+    /// How many there are.
+    pub fn len(&self) -> usize
+        ensures { result ≡ length self.now }
+    {
+        self.len
+    }
+
+    /// The columns.
+    pub fn as_slice(&self) -> &[char]
+        ensures { result.now ≡ self.now }
+    {
+        &self.columns[..self.len]
+    }
+
+    /// Gives up those from a place on.
+    pub fn truncate(&mut self, len: usize)
+        requires { len ≤ length self.old }
+        ensures { self.new ≡ take len self.old }
+    {
+        self.len = len;
+    }
+
+    /// The columns alone.
+    pub fn into_columns(self) -> Vec<char>
+        ensures { result.items ≡ self }
+    {
+        let Filled { mut columns, len } = self;
+        columns.truncate(len);
+        columns
+    }
+
+    /// Appends columns.
+    pub fn push(&mut self, text: &[char]) -> Result<(), AllocError>
+        ensures pushed { OnOk result (self.new ≡ self.old ++ text.now) }
+        ensures same { OnErr result (self.new ≡ self.old) }
+    {
+        let end = self.len + text.len();
+        fill_up(&mut self.columns, end)?;
+        self.columns[self.len..end].copy_from_slice(text);
+        self.len = end;
+        Ok(())
+    }
+
+    /// Appends bytes as characters and blanks up to a width, if all bytes are ASCII, none is a line feed, and
+    /// there is room.
+    pub fn push_plain(&mut self, text: &[u8], width: usize) -> bool
+        requires { length text.now ≤ width }
+        ensures pushed { result ≡ true → self.new ≡ self.old ++ padded width text.now }
+        ensures plain { result ≡ true → IsPlain text.now }
+        ensures same { result ≡ false → self.new ≡ self.old }
+    {
+        let first = self.len;
+        let Some(end) = first.checked_add(width) else {
+            return false;
+        };
+        let Ok(()) = fill_up(&mut self.columns, end) else {
+            return false;
+        };
+        let is_plain = put_between(&mut self.columns, first, end, text);
+        if is_plain {
+            self.len = end;
+        }
+        is_plain
+    }
+}
