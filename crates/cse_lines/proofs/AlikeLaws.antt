@@ -1,8 +1,13 @@
 -- Laws of lines like the one before them.
-use Rattle.std.proofs.Common.{◌≡◌, ℕ, ◌+◌, ◌-◌, ◌<◌, ◌≤◌, max, Bool, true, false, cond, eqb, List, [], ◌∷◌, ◌++◌, length, get_or, get_or-take, take, drop, replicate, refl, ap, sym, ◌∙◌, subst, arith, bit_or, inl, inr, None, length-take, length-drop, append-nil, encode_utf8_all}
+use Rattle.std.proofs.Common.{◌≡◌, ℕ, ◌+◌, ◌-◌, ◌<◌, ◌≤◌, max, Bool, true, false, cond, eqb, map, List, [], ◌∷◌, ◌++◌, length, get_or, get_or-take, take, drop, replicate, refl, ap, sym, ◌∙◌, subst, arith, bit_or, inl, inr, None, length-take, length-drop, append-nil, encode_utf8_all}
 use Rattle.std.proofs.Common.{drop-drop}
 use Rattle.std.proofs.lemmas.Bool.{cases_lt, eqb-true, false≢true}
-use Rattle.std.proofs.lemmas.List.{get_or_past, take-append-le, get_or_push, length_push, length-map, length-take-le, take-take}
+use Rattle.std.proofs.lemmas.List.{get_or_past, get_or-append_right, get_or_append_left, get_or-drop, take-append-le, get_or_push, length_push, length-map, length-take-le, take-take}
+use Rattle.std.proofs.lemmas.Bool.{leb-false}
+use Rattle.std.proofs.lemmas.Simd.{none_from_empty_mask}
+use Rattle.std.specs.Simd.Lanes.{chunk, mask_l}
+use Rattle.memchr.proofs.lemmas.LaneLemmas.{is_set}
+use Rattle.std.specs.Prelude.{◌⊎◌}
 use Rattle.std.proofs.lemmas.Nat.{le_or_l, le_or_r}
 use Rattle.std.proofs.lemmas.Str.{chars-IsAscii, IsUtf8-from_ascii, encodes-chars, is_utf8-from_IsUtf8}
 use Rattle.std.proofs.lemmas.Grind.{flat_map-append}
@@ -16,7 +21,7 @@ use Rattle.cse_lines.specs.Alike.{GathersOn, IsLastOf, IsLike, IsPlain, laid_run
 use Rattle.cse_lines.specs.Decoding.{line_with}
 use Rattle.cse_lines.specs.Gathering.{Gathered, first_id}
 use Rattle.cse_lines.specs.Laid.{IsLaid, laid_line, laid_lines, line_behind}
-use Rattle.cse_lines.specs.Run.{RunText, line_at}
+use Rattle.cse_lines.specs.Run.{RunText, line_at, with_columns}
 use Rattle.cse_lines.specs.Taking.{Gathers, GoesOn}
 use Rattle.cse_lines.specs.Written.{kept_columns, written_line}
 use Rattle.cse_lines.specs.Columns.{LineText, columns_of, id_of, line_text}
@@ -293,3 +298,97 @@ GathersOn-like width begun_columns begun_lines bytes columns lines last at len l
 -- what stood before stays in front
 pub keeps_front : {A : Type 0} (begun now more : List A) → take (length begun) now ≡ begun → take (length begun) (now ++ more) ≡ begun
 keeps_front begun now more h = take-append-le (length begun) now more (omega (arith, ap length h, length-take (length begun) now)) ∙ h
+
+-- eight bytes, by the masks of those that are line feeds and of those that aren't ASCII
+pub plain_masks : (text : List ℕ) (feeds others : ℕ) → length text ≡ 8 → feeds ≡ mask_l (map (λ x. eqb x 10) (chunk 0 8 text)) → others ≡ mask_l (map is_set (chunk 0 8 text)) → eqb (bit_or feeds others) 0 ≡ true
+    → IsPlain text
+plain_masks text feeds others len f o none =
+    let both : bit_or feeds others ≡ 0 = eqb-true _ _ none in
+    let no_feeds : feeds ≡ 0 = omega (arith, both, le_or_l feeds others) in
+    let no_others : others ≡ 0 = omega (arith, both, le_or_r feeds others) in
+    record {
+      ascii = λ k. elim (cases_lt k 8) [
+        | inl h ↦ leb-false 128 (get_or text k 0) (none_from_empty_mask is_set text 0 8 0 (omega (arith, len)) (sym o ∙ no_others) k (omega arith) (omega arith))
+        | inr h ↦ rw (get_or_past text k 0 (omega (arith, len))) (omega arith)
+      ];
+      none = λ k h. none_from_empty_mask (λ x. eqb x 10) text 0 8 0 (omega (arith, len)) (sym f ∙ no_feeds) k (omega arith) (omega (arith, len));
+    }
+
+-- the bytes of a text that are written over columns
+pub put_over : (columns text : List ℕ) (at k : ℕ) → length columns ≡ length text → at + 8 ≤ length text → at ≤ k → k < at + 8 → get_or (with_columns at (take 8 (drop at text)) columns) k 0 ≡ get_or text k 0
+put_over columns text at k same fits low high =
+    let field = take 8 (drop at text) in
+    let front : length (take at columns) ≡ at = length-take-le at columns (omega arith) in
+    let n : length field ≡ 8 = length-take-le 8 (drop at text) (omega (arith, length-drop at text)) in
+    let all : at + (k - at) ≡ k = omega arith in
+    get_or-append_right (take at columns) (field ++ drop (at + length field) columns) at k 0 front low
+    ∙ get_or_append_left field (drop (at + length field) columns) 0 (k - at) (omega arith)
+    ∙ get_or-take 8 (drop at text) (k - at) 0 (omega arith) ∙ get_or-drop at text (k - at) 0 ∙ ap (λ i. get_or text i 0) all
+
+-- and the columns before and behind them
+pub put_before : (columns field : List ℕ) (at k : ℕ) → at ≤ length columns → k < at → get_or (with_columns at field columns) k 0 ≡ get_or columns k 0
+put_before columns field at k fits low =
+    get_or_append_left (take at columns) (field ++ drop (at + length field) columns) 0 k (omega (arith, length-take-le at columns fits)) ∙ get_or-take at columns k 0 low
+
+pub put_behind : (columns field : List ℕ) (at k : ℕ) → at ≤ length columns → at + length field ≤ k → get_or (with_columns at field columns) k 0 ≡ get_or columns k 0
+put_behind columns field at k fits high =
+    let all : at + length field + (k - at - length field) ≡ k = omega arith in
+    get_or-append_right (take at columns) (field ++ drop (at + length field) columns) at k 0 (length-take-le at columns fits) (omega arith)
+    ∙ get_or-append_right field (drop (at + length field) columns) (length field) (k - at) 0 refl (omega arith)
+    ∙ get_or-drop (at + length field) columns (k - at - length field) 0 ∙ ap (λ i. get_or columns i 0) all
+
+-- which bytes were written
+abbrev pub Done : ℕ → ℕ → ℕ → Type 0
+Done at last k = (k < at) ⊎ (last ≤ k)
+
+pub put_more : (columns text : List ℕ) (at last : ℕ) → length columns ≡ length text → at + 8 ≤ length text → ((k : ℕ) → Done at last k → k < length text → get_or columns k 0 ≡ get_or text k 0)
+    → (k : ℕ) → Done (at + 8) last k → k < length text → get_or (with_columns at (take 8 (drop at text)) columns) k 0 ≡ get_or text k 0
+put_more columns text at last same fits before k done below =
+    let n : length (take 8 (drop at text)) ≡ 8 = length-take-le 8 (drop at text) (omega (arith, length-drop at text)) in
+    elim (cases_lt k at) [
+      | inl low ↦ put_before columns (take 8 (drop at text)) at k (omega arith) low ∙ before k (inl low) below
+      | inr high ↦ elim (cases_lt k (at + 8)) [
+        | inl here ↦ put_over columns text at k same fits high here
+        | inr past ↦ put_behind columns (take 8 (drop at text)) at k (omega arith) (omega (arith, n)) ∙ before k (inr (behind done past)) below
+      ]
+    ]
+  where
+    behind : Done (at + 8) last k → at + 8 ≤ k → last ≤ k
+    behind (inl low) past = absurd (omega arith)
+    behind (inr high) past = high
+
+-- a byte that isn't a line feed and is ASCII
+abbrev pub PlainAt : List ℕ → ℕ → Type 0
+PlainAt text k = (get_or text k 0 < 128) × (eqb (get_or text k 0) 10 ≡ false)
+
+pub plain_here : (text : List ℕ) (at k : ℕ) → at + 8 ≤ length text → IsPlain (take 8 (drop at text)) → at ≤ k → k < at + 8 → PlainAt text k
+plain_here text at k fits plain low high =
+    let field = take 8 (drop at text) in
+    let n : length field ≡ 8 = length-take-le 8 (drop at text) (omega (arith, length-drop at text)) in
+    let all : at + (k - at) ≡ k = omega arith in
+    let same : get_or field (k - at) 0 ≡ get_or text k 0 = get_or-take 8 (drop at text) (k - at) 0 (omega arith) ∙ get_or-drop at text (k - at) 0 ∙ ap (λ i. get_or text i 0) all in
+    (rw (← same) (plain.ascii (k - at)), ap (λ x. eqb x 10) (sym same) ∙ plain.none (k - at) (omega (arith, n)))
+
+pub plain_more : (text : List ℕ) (at last : ℕ) → at + 8 ≤ length text → IsPlain (take 8 (drop at text)) → ((k : ℕ) → Done at last k → k < length text → PlainAt text k)
+    → (k : ℕ) → Done (at + 8) last k → k < length text → PlainAt text k
+plain_more text at last fits plain before k done below = elim (cases_lt k at) [
+  | inl low ↦ before k (inl low) below
+  | inr high ↦ elim (cases_lt k (at + 8)) [
+    | inl here ↦ plain_here text at k fits plain high here
+    | inr past ↦ before k (inr (behind done past)) below
+  ]
+]
+  where
+    behind : Done (at + 8) last k → at + 8 ≤ k → last ≤ k
+    behind (inl low) past = absurd (omega arith)
+    behind (inr high) past = high
+
+-- all bytes
+pub plain_all : (text : List ℕ) → ((k : ℕ) → k < length text → PlainAt text k) → IsPlain text
+plain_all text h = record {
+  ascii = λ k. elim (cases_lt k (length text)) [
+    | inl low ↦ (h k low).0
+    | inr high ↦ rw (get_or_past text k 0 (omega arith)) (omega arith)
+  ];
+  none = λ k low. (h k low).1;
+}

@@ -102,6 +102,9 @@ pub fn push_lines(
         return 0;
     }
     let len = last.len + last.ending.bytes().len();
+    if bytes.len() < len || bytes[len - 1] != b'\n' {
+        return 0;
+    }
     'lines: while lines.len() < MOST_LINES && len <= bytes.len() - at {
         let first = columns.len();
         if !push_like(columns, lines, last, width, piece(bytes, at, len)) {

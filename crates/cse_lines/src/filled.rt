@@ -1,12 +1,13 @@
 //! The columns of a run, in a vector that is filled further than they reach.
 
-ghost use Rattle.std.specs.Prelude.{◌≡◌, ◌≤◌, ◌+◌, ◌-◌, ◌++◌, [], length, take, true, false, OnErr, OnOk};
+ghost use Rattle.std.specs.Prelude.{◌≡◌, ◌≤◌, ◌+◌, ◌-◌, ◌++◌, [], drop, length, replicate, take, true, false, OnErr, OnOk};
 ghost use Rattle.cse_lines.specs.Field.{padded};
 ghost use Rattle.cse_lines.specs.Alike.{IsPlain};
 ghost use Rattle.cse_lines.specs.Run.{with_columns};
 
 use std::alloc::{AllocError, Global};
 use std::marker::Model;
+use std::simd::prelude::*;
 
 /// Columns one after the other. What stood behind them before stays there, so that a line is written over
 /// it, and no column is blanked first.
@@ -41,15 +42,96 @@ fn put_plain(columns: &mut [char], text: &[u8]) -> bool
     bits < 128
 }
 
-/// The same over the first of the columns, and blanks over the others.
-fn put_line(columns: &mut [char], text: &[u8]) -> bool
+/// The same of eight bytes, which are read first: so no column can lie among them, and the compiler takes
+/// them at once.
+#[inline(always)]
+fn put_eight(columns: &mut [char], text: &[u8]) -> bool
+    requires columns { length columns.old ≡ 8 }
+    requires text { length text.now ≡ 8 }
+    ensures columns { columns.new ≡ text.now }
+    ensures plain { result ≡ true → IsPlain text.now }
+{
+    let bytes = u8x8::from_slice(text);
+    'bytes: for i in 0..8 {
+        columns[i] = bytes[i] as char;
+    }
+    let feeds = bytes.simd_eq(u8x8::splat(b'\n')).to_bitmask();
+    let others = bytes.simd_ge(u8x8::splat(128)).to_bitmask();
+    feeds | others == 0
+}
+
+/// The same of eight bytes from a place on.
+#[inline(always)]
+fn put_eight_at(columns: &mut [char], text: &[u8], at: usize) -> bool
+    requires fits { length columns.old ≡ length text.now }
+    requires some { at + 8 ≤ length text.now }
+    ensures columns { columns.new ≡ with_columns at (take 8 (drop at text.now)) columns.old }
+    ensures plain { result ≡ true → IsPlain (take 8 (drop at text.now)) }
+{
+    put_eight(&mut columns[at..at + 8], &text[at..at + 8])
+}
+
+/// The same of no fewer than eight bytes: the last eight, and then eight by eight from the front.
+#[inline(always)]
+fn put_eights(columns: &mut [char], text: &[u8]) -> bool
+    requires some { 8 ≤ length text.now }
+    requires fits { length columns.old ≡ length text.now }
+    ensures columns { columns.new ≡ text.now }
+    ensures plain { result ≡ true → IsPlain text.now }
+{
+    let last = text.len() - 8;
+    let mut is_plain = put_eight_at(columns, text, last);
+    let mut at = 0;
+    'eights: while at < last {
+        let is_next = put_eight_at(columns, text, at);
+        is_plain = is_next && is_plain;
+        at += 8;
+    }
+    is_plain
+}
+
+/// Eight blanks.
+#[inline(always)]
+fn put_eight_blanks(columns: &mut [char])
+    requires { length columns.old ≡ 8 }
+    ensures { columns.new ≡ replicate 8 32 }
+{
+    'columns: for i in 0..8 {
+        columns[i] = ' ';
+    }
+}
+
+/// Writes blanks over the columns from a place on. Where they are few, some before that place are
+/// overwritten too.
+#[inline(always)]
+fn put_blanks_from(columns: &mut [char], len: usize)
+    requires { len ≤ length columns.old }
+    ensures len { length columns.new ≡ length columns.old }
+    ensures blanks { drop len columns.new ≡ replicate (length columns.old - len) 32 }
+{
+    let width = columns.len();
+    if width - len <= 8 && 8 <= width {
+        put_eight_blanks(&mut columns[width - 8..]);
+    } else {
+        let (_, rest) = columns.split_at_mut(len);
+        rest.fill(' ');
+    }
+}
+
+/// Writes bytes as characters over the first of the columns, and blanks over the others.
+#[inline(always)]
+pub fn put_line(columns: &mut [char], text: &[u8]) -> bool
     requires { length text.now ≤ length columns.old }
     ensures columns { columns.new ≡ padded (length columns.old) text.now }
     ensures plain { result ≡ true → IsPlain text.now }
 {
-    let (front, rest) = columns.split_at_mut(text.len());
-    rest.fill(' ');
-    put_plain(front, text)
+    put_blanks_from(columns, text.len());
+    let (front, _) = columns.split_at_mut(text.len());
+    if text.len() < 8 {
+        put_plain(front, text)
+    } else {
+        put_eights(front, text)
+    }
 }
 
 /// Writes a line over the columns from a place up to another.
