@@ -42,8 +42,8 @@ fn put_plain(columns: &mut [char], text: &[u8]) -> bool
     bits < 128
 }
 
-/// The same of eight bytes, which are read first: so no column can lie among them, and the compiler takes
-/// them at once.
+/// The same of eight bytes. All are read before a column is written: of bytes that may lie where a column
+/// does, the compiler would take one at a time.
 #[inline(always)]
 fn put_eight(columns: &mut [char], text: &[u8]) -> bool
     requires columns { length columns.old ≡ 8 }
