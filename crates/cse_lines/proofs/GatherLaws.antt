@@ -42,7 +42,7 @@ pub bytes_of-push : (lines : List FileLine) (line : FileLine) → bytes_of (line
 bytes_of-push [] line = append-nil (line.1)
 bytes_of-push (l ∷ ls) line = ap (λ rest. l.1 ++ rest) (bytes_of-push ls line) ∙ sym (append_assoc (l.1) (bytes_of ls) (line.1))
 
-or_false : (b : Bool) → b ≡ b || false
+pub or_false : (b : Bool) → b ≡ b || false
 or_false true = refl
 or_false false = refl
 
@@ -63,7 +63,7 @@ front_after-push : (front : Bool) (done : List FileLine) (line : FileLine) → f
 front_after-push front [] line = refl
 front_after-push front (x ∷ xs) line = refl
 
-front_after-some : (front : Bool) (done : List FileLine) → 0 < length done → front_after front done ≡ false
+pub front_after-some : (front : Bool) (done : List FileLine) → 0 < length done → front_after front done ≡ false
 front_after-some front [] some = absurd (omega arith)
 front_after-some front (x ∷ xs) some = refl
 
@@ -283,3 +283,20 @@ first_at b other ended bytes buffer line e f h = subst (λ x. IsFirstLine x ende
 pub front_at : (d : DictionaryText) (front ended : Bool) (number : ℕ) (run : RunText) (uncut : List ℕ) (g : Gathered d front ended number run uncut) (b : Bool)
     → b ≡ front && eqb (length run.lines) 0 → b ≡ front_after front g.done
 front_at d front ended number run uncut g b e = e ∙ ap (λ n. front && eqb n 0) (length-done d front ended number run uncut g) ∙ front_is front g.done
+
+-- lines that were gathered after others
+past_more : (begun uncut rest : List ℕ) → (uncut ≡ begun) ⊎ CutsPast begun uncut → (rest ≡ uncut) ⊎ CutsPast uncut rest → (rest ≡ begun) ⊎ CutsPast begun rest
+past_more begun uncut rest (inl same) (inl last) = inl (last ∙ same)
+past_more begun uncut rest (inl same) (inr past) = inr (subst (λ x. CutsPast x rest) same past)
+past_more begun uncut rest (inr before) (inl last) = inr (subst (CutsPast begun) (sym last) before)
+past_more begun uncut rest (inr before) (inr past) = inr (λ n fits none. (let no_more : length rest + 0 ≤ length uncut = past 0 (omega arith) (λ k h. absurd (omega arith)) in omega (arith, before n fits none)))
+
+pub Gathers-trans : (d : DictionaryText) (front ended : Bool) (start : RunText) (begun : List ℕ) (old : RunText) (uncut : List ℕ) (new : RunText) (rest : List ℕ)
+    → Gathers d front ended start begun old uncut → Gathers d front ended old uncut new rest → Gathers d front ended start begun new rest
+Gathers-trans d front ended start begun old uncut new rest h k = record {
+  gathered = k.gathered;
+  held = k.held ∙ h.held;
+  first_line = k.first_line ∙ h.first_line;
+  fewer = omega (arith, h.fewer, k.fewer);
+  past = past_more begun uncut rest h.past k.past;
+}

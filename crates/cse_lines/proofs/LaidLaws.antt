@@ -23,6 +23,16 @@ laid_within at columns (x ∷ xs) zero line h l e =
     omega (arith, laid_top (at + x.width) columns xs h.2)
 laid_within at columns (x ∷ xs) (suc i) line h l e = laid_within (at + x.width) columns xs i line h.2 (omega arith) e
 
+-- its own columns are no more than it is wide
+pub laid_fits : (at : ℕ) (columns : List ℕ) (lines : List Line) (i : ℕ) (line : Line) → IsLaid at columns lines → i < length lines
+    → line ≡ get_or lines i line → line.len ≤ line.width
+laid_fits at columns [] i line h l e = absurd (omega arith)
+laid_fits at columns (x ∷ xs) zero line h l e =
+    let len : line.len ≡ x.len = ap (λ y. y.len) e in
+    let width : line.width ≡ x.width = ap (λ y. y.width) e in
+    omega (arith, h.1)
+laid_fits at columns (x ∷ xs) (suc i) line h l e = laid_fits (at + x.width) columns xs i line h.2 (omega arith) e
+
 pub laid_from : (at : ℕ) (columns : List ℕ) (lines : List Line) (i : ℕ) (line : Line) → IsLaid at columns lines → i < length lines
     → line ≡ get_or lines i line → at ≤ line.first
 laid_from at columns [] i line h l e = absurd (omega arith)

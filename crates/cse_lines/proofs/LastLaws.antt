@@ -58,7 +58,7 @@ least_in : (d : DictionaryText) (text : List ℕ) → least_width d ≤ width_of
 unfolding width_of
 least_in d text = omega arith
 
-type_named : (d : DictionaryText) (line : FileLine) → (line_text d line).record_number ≡ number_of_type (field_at (type_span d) (line_text d line).columns) d
+pub type_named : (d : DictionaryText) (line : FileLine) → (line_text d line).record_number ≡ number_of_type (field_at (type_span d) (line_text d line).columns) d
 unfolding line_text
 type_named d line =
     sym (record_of_is d (columns_of line))
@@ -68,7 +68,7 @@ typed : (d : DictionaryText) (line : FileLine) → IsTyped d (line_text d line).
 typed d line = record { wide = least_fits d line; names = type_named d line }
 
 -- the last of the lines of a run
-last_of : (d : DictionaryText) (id : List ℕ) (n : ℕ) (done : List FileLine) → IsRunOf d id n done → 0 < length done
+pub last_of : (d : DictionaryText) (id : List ℕ) (n : ℕ) (done : List FileLine) → IsRunOf d id n done → 0 < length done
     → (line : FileLine) × ((get_or (map (line_text d) done) (length done - 1) no_line ≡ line_text d line) × (id_of d line ≡ id))
 last_of d id n [] r some = absurd (omega arith)
 last_of d id n (x ∷ []) r some = (x, (refl, r.0))

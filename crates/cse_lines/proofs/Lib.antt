@@ -8,3 +8,4 @@ pub mod TakeLaws
 pub mod GatherLaws
 pub mod LastLaws
 pub mod ReadLaws
+pub mod AlikeLaws

@@ -12,4 +12,5 @@ pub mod Gathering
 pub mod Cutting
 pub mod Decoding
 pub mod Taking
+pub mod Alike
 pub mod Reading

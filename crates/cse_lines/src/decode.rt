@@ -9,6 +9,7 @@ ghost use Rattle.cse_lines.specs.Runs.{line_fault};
 ghost use Rattle.cse_lines.specs.Decoding.{BeginsAs, Holds, IfFault, IsDecoded, IsTyped};
 
 use crate::cut::{MOST_BYTES, split_end, split_mark};
+use crate::filled::put_line;
 use crate::layout::{Layout, field_at, is_same};
 use crate::line::Ending;
 use cse_dict::Dictionary;
@@ -46,38 +47,11 @@ pub struct Head {
     pub begins_as_last: bool,
 }
 
-/// Writes bytes as characters over columns, and tells whether all are ASCII. It tests none by itself, so
-/// that the compiler takes many at once.
-fn put_ascii(columns: &mut [char], text: &[u8]) -> bool
-    requires { length columns.old ≡ length text.now }
-    ensures columns { columns.new ≡ text.now }
-    ensures ascii { result ≡ true → IsAscii text.now }
-{
-    let mut bits = 0u8;
-    'bytes: for (i, byte) in text.iter().enumerate() {
-        columns[i] = *byte as char;
-        bits |= *byte;
-    }
-    bits < 128
-}
-
 /// Writes blanks over columns.
 fn put_blanks(columns: &mut [char])
     ensures { columns.new ≡ replicate (length columns.old) 32 }
 {
     columns.fill(' ');
-}
-
-/// Writes bytes as characters over the first of the columns, and blanks over the others. Tells whether the
-/// bytes are ASCII.
-fn put_padded(columns: &mut [char], text: &[u8]) -> bool
-    requires { length text.now ≤ length columns.old }
-    ensures columns { columns.new ≡ padded (length columns.old) text.now }
-    ensures ascii { result ≡ true → IsAscii text.now }
-{
-    let (front, rest) = columns.split_at_mut(text.len());
-    put_blanks(rest);
-    put_ascii(front, text)
 }
 
 /// Bytes as characters, in place of what was there, and blanks behind them, if there were more columns.
@@ -89,7 +63,7 @@ fn read_ascii(columns: &mut Vec<char>, text: &[u8]) -> Result<bool, AllocError>
     if columns.len() < text.len() {
         columns.resize(text.len(), ' ')?;
     }
-    Ok(put_padded(columns, text))
+    Ok(put_line(columns, text))
 }
 
 /// Writes the characters of a text over the first of the columns, and tells how many there are.
@@ -182,12 +156,16 @@ fn record_in(
     ensures same { IfSome last.entry (λ l. BeginsAs dictionary.now result.1 columns.now l.0.now) }
 {
     let width = layout.least_width();
+    let span = layout.record_type();
     if let Some((before, number)) = last {
         if is_same(&columns[..width], &before[..width]) {
             return (number, true);
         }
+        if is_same(field_at(columns, span), field_at(before, span)) {
+            return (number, false);
+        }
     }
-    let number = dictionary.record_of(field_at(columns, layout.record_type()));
+    let number = dictionary.record_of(field_at(columns, span));
     (number, false)
 }
 

@@ -1,6 +1,7 @@
 //! The lines that are there, cut and gathered into a run.
 
-ghost use Rattle.std.specs.Prelude.{◌≡◌, ◌==◌, ◌&&◌, ◌+◌, ◌<◌, ◌^◌, length, IfErr, IfOk};
+ghost use Rattle.std.specs.Prelude.{◌≡◌, ◌==◌, ◌&&◌, ◌+◌, ◌<◌, ◌≤◌, ◌^◌, length, IfErr, IfOk, OnOk};
+ghost use Rattle.cse_lines.specs.Alike.{GoesOnFrom};
 ghost use Rattle.cse_lines.specs.Decoding.{IfFault};
 ghost use Rattle.cse_lines.specs.Field.{layout_of};
 ghost use Rattle.cse_lines.specs.Gathering.{Gathered};
@@ -13,13 +14,23 @@ use crate::layout::Layout;
 use crate::run::{Room, Run};
 use crate::take::{end_run, take_line};
 use cse_dict::Dictionary;
-use std::alloc::Global;
+use std::alloc::{AllocError, Global};
 
 /// Whether the next line stands at the front of the file.
 fn is_front(first: bool, run: &Run) -> bool
     ensures { result ≡ (first && (length run.now.lines == 0)) }
 {
     first && run.len() == 0
+}
+
+/// Cuts the lines that are like the last one of the run, which they follow.
+fn take_alike(layout: &Layout, run: &mut Run, buffer: &mut Buffer) -> Result<(), AllocError>
+    ensures more { OnOk result (GoesOnFrom layout.now.least_width run.old buffer.old run.new buffer.new) }
+    ensures shorter { OnOk result (length buffer.new ≤ length buffer.old) }
+{
+    let alike = run.push_alike(layout.least_width(), buffer.as_slice())?;
+    buffer.drop_front(alike);
+    Ok(())
 }
 
 /// Cuts the lines that are there, until the run is whole. Lines from the front of the file on are cut
@@ -41,8 +52,12 @@ pub fn gather(
     ensures ok { IfOk result (λ given. Cuts dictionary.now first ended run.old buffer.old run.new buffer.new given) }
     ensures err { IfErr result (IfFault (λ number. RefusesAt dictionary.now first ended run.old buffer.old run.new number)) }
 {
-    'lines: while let Some(line) = first_line(buffer.as_slice(), is_front(first, run), ended) {
+    'lines: loop {
+        take_alike(layout, run, buffer)?;
         let front = is_front(first, run);
+        let Some(line) = first_line(buffer.as_slice(), front, ended) else {
+            return Ok(None);
+        };
         let len = line.len();
         let last = take_line(dictionary, layout, run, columns, line, front)?;
         if let Some(head) = last {
@@ -52,5 +67,4 @@ pub fn gather(
         }
         buffer.drop_front(len);
     }
-    Ok(None)
 }

@@ -7,10 +7,12 @@
 //! - `untouched`: the law that a line which was not set is written as it came.
 #![tactic(auto)]
 
+mod alike;
 mod buffer;
 mod cut;
 mod decode;
 pub mod error;
+mod filled;
 mod gather;
 pub mod layout;
 pub mod line;

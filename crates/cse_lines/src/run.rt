@@ -2,12 +2,15 @@
 
 ghost use Rattle.std.specs.Prelude.{◌≡◌, ◌<◌, ◌≤◌, ◌+◌, ◌++◌, ◌∷◌, [], ℕ, List, IfNone, IfOk, IfSome, OnErr, OnOk, drop, false, length, take};
 ghost use Rattle.std.specs.List.{flat_map};
+ghost use Rattle.cse_lines.specs.Alike.{GoesOnFrom};
 ghost use Rattle.cse_lines.specs.Decoding.{line_with};
 ghost use Rattle.cse_lines.specs.Laid.{IsLaid, laid_lines, line_behind};
 ghost use Rattle.cse_lines.specs.Run.{IsLastLine, line_at, with_line};
 ghost use Rattle.cse_lines.specs.Written.{mark_bytes, written_line};
 
+use crate::alike::{part, push_lines};
 use crate::decode::Head;
+use crate::filled::Filled;
 use crate::line::Line;
 use std::alloc::{AllocError, Global};
 use std::marker::Model;
@@ -16,7 +19,7 @@ use std::marker::Model;
 /// the other, each padded with blanks to its width; and their bytes, as they came, in another.
 #[derive(Drop)]
 pub struct Run {
-    columns: Vec<char>,
+    columns: Filled,
     lines: Vec<Line>,
     bytes: Vec<u8>,
     marked: bool,
@@ -31,9 +34,9 @@ impl Model for Run {
     ghost use Rattle.cse_lines.specs.Laid.{laid_lines};
     ghost use Rattle.cse_lines.specs.Written.{IsWhole};
 
-    ghost view = { λ r. record { lines = laid_lines r.columns.items r.lines.items; marked = r.marked; first_line = r.first_line } };
+    ghost view = { λ r. record { lines = laid_lines r.columns r.lines.items; marked = r.marked; first_line = r.first_line } };
 
-    ghost invariant = { λ r. IsWhole r.columns.items r.lines.items r.bytes.items };
+    ghost invariant = { λ r. IsWhole r.columns r.lines.items r.bytes.items };
 }
 
 /// Room for the columns, the lines and the bytes of a run.
@@ -64,14 +67,6 @@ impl Room {
     }
 }
 
-/// So many columns from a place on.
-fn part(columns: &[char], first: usize, width: usize) -> &[char]
-    requires { first + width ≤ length columns.now }
-    ensures { result.now ≡ take width (drop first columns.now) }
-{
-    &columns[first..first + width]
-}
-
 /// The bytes of a line behind the mark, where that stands before it.
 fn behind_mark(line: &[u8], marked: bool) -> &[u8]
     ensures { (bytes : List ℕ) → line.now ≡ mark_bytes marked ++ bytes → result.now ≡ bytes }
@@ -85,25 +80,30 @@ fn behind_mark(line: &[u8], marked: bool) -> &[u8]
 /// Appends a line and its columns.
 #[inline(always)]
 fn push_line(
-    columns: &mut Vec<char>,
+    columns: &mut Filled,
     lines: &mut Vec<Line>,
     text: &[char],
     head: Head,
 ) -> Result<(), AllocError>
-    ensures columns { OnOk result (columns.new.items ≡ columns.old.items ++ text.now) }
-    ensures lines { OnOk result (lines.new.items ≡ lines.old.items ++ line_behind columns.old.items text.now head ∷ []) }
-    ensures same_columns { OnErr result (columns.new.items ≡ columns.old.items) }
+    ensures columns { OnOk result (columns.new ≡ columns.old ++ text.now) }
+    ensures lines { OnOk result (lines.new.items ≡ lines.old.items ++ line_behind columns.old text.now head ∷ []) }
+    ensures same_columns { OnErr result (columns.new ≡ columns.old) }
     ensures same_lines { OnErr result (lines.new.items ≡ lines.old.items) }
 {
-    columns.reserve(text.len())?;
-    lines.push(Line {
-        first: columns.len(),
+    let first = columns.len();
+    columns.push(text)?;
+    let line = Line {
+        first,
         width: text.len(),
         len: head.len,
         ending: head.ending,
         record_number: head.record_number,
-    })?;
-    columns.extend_from_slice(text)
+    };
+    if let Err(refused) = lines.push(line) {
+        columns.truncate(first);
+        return Err(refused.into());
+    }
+    Ok(())
 }
 
 impl Run {
@@ -114,7 +114,7 @@ impl Run {
         ensures first_line { result.first_line ≡ first_line }
     {
         Run {
-            columns: Vec::new(alloc),
+            columns: Filled::new(alloc),
             lines: Vec::new(alloc),
             bytes: Vec::new(alloc),
             marked: false,
@@ -129,15 +129,14 @@ impl Run {
         ensures first_line { result.first_line ≡ first_line }
     {
         let Room {
-            mut columns,
+            columns,
             mut lines,
             mut bytes,
         } = room;
-        columns.clear();
         lines.clear();
         bytes.clear();
         Run {
-            columns,
+            columns: Filled::over(columns),
             lines,
             bytes,
             marked: false,
@@ -165,6 +164,30 @@ impl Run {
         Ok(())
     }
 
+    /// Appends the first of the bytes that are lines like the last one, which they follow. Tells how many
+    /// bytes.
+    #[inline(always)]
+    pub(crate) fn push_alike(&mut self, width: usize, bytes: &[u8]) -> Result<usize, AllocError>
+        ensures fits { IfOk result (λ n. n ≤ length bytes.now) }
+        ensures more { IfOk result (λ n. GoesOnFrom width self.old bytes.now self.new (drop n bytes.now)) }
+    {
+        let count = self.lines.len();
+        if count == 0 {
+            return Ok(0);
+        }
+        let last = self.lines[count - 1];
+        let len = self.columns.len();
+        let taken = push_lines(&mut self.columns, &mut self.lines, last, width, bytes);
+        if taken > 0 {
+            if let Err(refused) = self.bytes.extend_from_slice(&bytes[..taken]) {
+                self.columns.truncate(len);
+                self.lines.truncate(count);
+                return Err(refused);
+            }
+        }
+        Ok(taken)
+    }
+
     /// Its columns, its lines and their bytes, whether it is marked, and the number of its first line. The
     /// lines lie one after the other in the columns, and are written as these bytes.
     pub fn into_parts(self) -> (Vec<char>, Vec<Line>, Vec<u8>, bool, u64)
@@ -181,7 +204,7 @@ impl Run {
             marked,
             first_line,
         } = self;
-        (columns, lines, bytes, marked, first_line)
+        (columns.into_columns(), lines, bytes, marked, first_line)
     }
 
     /// How many lines it has.
@@ -209,7 +232,7 @@ impl Run {
         }
         let line = self.lines[len - 1];
         Some((
-            part(&self.columns, line.first, line.width),
+            part(self.columns.as_slice(), line.first, line.width),
             line.record_number,
         ))
     }
@@ -220,6 +243,6 @@ impl Run {
         ensures { result.now ≡ (line_at self.now i).columns }
     {
         let line = self.lines[i];
-        part(&self.columns, line.first, line.width)
+        part(self.columns.as_slice(), line.first, line.width)
     }
 }

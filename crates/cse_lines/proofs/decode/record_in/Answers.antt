@@ -19,15 +19,39 @@ returns-then-is_same-clause-number c =
     let begins : take (least_width d) before ≡ take (least_width d) columns = ap (λ n. take n before) (sym least) ∙ sym same ∙ ap (λ n. take n columns) least in
     typed.names ∙ ap (λ t. number_of_type t d) (type_begins d before columns begins)
 
+pub field_at-requires-in-Some : goal.field_at-requires-in-Some
+field_at-requires-in-Some c =
+    let d = c.args.dictionary.now in
+    let typed = subst (λ o. IfSome o (λ l. IsTyped d l.0.now l.1)) c.in-Some.is c.requires.last in
+    let span : c.record_type-span.result ≡ type_span d = c.record_type-span.ensures ∙ ap (λ l. l.record_type) c.requires.layout in
+    let fits = type_in d in
+    rw span (omega (arith, typed.wide))
+
+pub field_at-requires-2 : goal.field_at-requires-2
+field_at-requires-2 c =
+    let d = c.args.dictionary.now in
+    let span : c.record_type-span.result ≡ type_span d = c.record_type-span.ensures ∙ ap (λ l. l.record_type) c.requires.layout in
+    let fits = type_in d in
+    rw span (omega (arith, c.requires.wide))
+
 pub field_at-requires : goal.field_at-requires
 field_at-requires c =
     let d = c.args.dictionary.now in
-    let span : c.record_type.result ≡ type_span d = c.record_type.ensures ∙ ap (λ l. l.record_type) c.requires.layout in
+    let span : c.record_type-span.result ≡ type_span d = c.record_type-span.ensures ∙ ap (λ l. l.record_type) c.requires.layout in
     let fits = type_in d in
     rw span (omega (arith, c.requires.wide))
+
+pub returns-then-is_same-2-clause-number : goal.returns-then-is_same-2-clause-number
+returns-then-is_same-2-clause-number c =
+    let d = c.args.dictionary.now in
+    let typed = subst (λ o. IfSome o (λ l. IsTyped d l.0.now l.1)) c.in-Some.is c.requires.last in
+    let span : c.record_type-span.result ≡ type_span d = c.record_type-span.ensures ∙ ap (λ l. l.record_type) c.requires.layout in
+    let same = same_ids c.field_at.result.now c.field_at-in-Some.result.now c.is_same-in-Some.result c.is_same-in-Some.ensures c.if-is_same-2.true in
+    typed.names
+    ∙ ap (λ t. number_of_type t d) (ap (λ s. field_at s c.in-Some.before.now) (sym span) ∙ sym c.field_at-in-Some.ensures ∙ sym same ∙ c.field_at.ensures ∙ ap (λ s. field_at s c.args.columns.now) span)
 
 pub returns-clause-number : goal.returns-clause-number
 returns-clause-number c =
     let d = c.args.dictionary.now in
-    let span : c.record_type.result ≡ type_span d = c.record_type.ensures ∙ ap (λ l. l.record_type) c.requires.layout in
-    c.record_of-number.ensures.record ∙ ap (λ t. number_of_type t d) (c.field_at.ensures ∙ ap (λ s. field_at s c.args.columns.now) span)
+    let span : c.record_type-span.result ≡ type_span d = c.record_type-span.ensures ∙ ap (λ l. l.record_type) c.requires.layout in
+    c.record_of-number.ensures.record ∙ ap (λ t. number_of_type t d) (c.field_at-2.ensures ∙ ap (λ s. field_at s c.args.columns.now) span)

@@ -6,5 +6,5 @@ use Rattle.cse_lines.proofs.run.Run.columns.Goals as goal
 
 pub part-requires : goal.part-requires
 part-requires c =
-    let len : length c.args.self.now.lines ≡ length c.self.inside.lines.items = ap (λ r. length r.lines) (sym c.self.view_is) ∙ length-map c.self.inside.lines.items (laid_line c.self.inside.columns.items) in
-    rw c.deref.ensures.value (laid_within 0 c.self.inside.columns.items c.self.inside.lines.items c.args.i c.index-line.result.now c.self.invariant.laid (omega arith) c.index-line.ensures)
+    let len : length c.args.self.now.lines ≡ length c.self.inside.lines.items = ap (λ r. length r.lines) (sym c.self.view_is) ∙ length-map c.self.inside.lines.items (laid_line c.self.inside.columns) in
+    rw c.as_slice.ensures (laid_within 0 c.self.inside.columns c.self.inside.lines.items c.args.i c.index-line.result.now c.self.invariant.laid (omega arith) c.index-line.ensures)

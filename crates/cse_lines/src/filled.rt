@@ -1,0 +1,241 @@
+//! The columns of a run, in a vector that is filled further than they reach.
+
+ghost use Rattle.std.specs.Prelude.{◌≡◌, ◌≤◌, ◌+◌, ◌-◌, ◌++◌, [], drop, length, replicate, take, true, false, OnErr, OnOk};
+ghost use Rattle.cse_lines.specs.Field.{padded};
+ghost use Rattle.cse_lines.specs.Alike.{IsPlain};
+ghost use Rattle.cse_lines.specs.Run.{with_columns};
+
+use std::alloc::{AllocError, Global};
+use std::marker::Model;
+use std::simd::prelude::*;
+
+/// Columns one after the other. What stood behind them before stays there, so that a line is written over
+/// it, and no column is blanked first.
+#[derive(Drop)]
+pub struct Filled {
+    columns: Vec<char>,
+    len: usize,
+}
+
+impl Model for Filled {
+    ghost use Rattle.std.specs.Prelude.{ℕ, List, ◌≤◌, take, vec_len};
+
+    ghost Value = { List ℕ };
+
+    ghost view = { λ f. take f.len f.columns.items };
+
+    ghost invariant = { λ f. f.len ≤ vec_len f.columns };
+}
+
+/// Writes bytes as characters over columns, and tells whether all are ASCII and none is a line feed. It
+/// tests none by itself, so that the compiler takes many at once.
+fn put_plain(columns: &mut [char], text: &[u8]) -> bool
+    requires { length columns.old ≡ length text.now }
+    ensures columns { columns.new ≡ text.now }
+    ensures plain { result ≡ true → IsPlain text.now }
+{
+    let mut bits = 0u8;
+    'bytes: for (i, byte) in text.iter().enumerate() {
+        columns[i] = *byte as char;
+        bits |= if *byte == b'\n' { 128 } else { *byte };
+    }
+    bits < 128
+}
+
+/// The same of eight bytes. All are read before a column is written: of bytes that may lie where a column
+/// does, the compiler would take one at a time.
+#[inline(always)]
+fn put_eight(columns: &mut [char], text: &[u8]) -> bool
+    requires columns { length columns.old ≡ 8 }
+    requires text { length text.now ≡ 8 }
+    ensures columns { columns.new ≡ text.now }
+    ensures plain { result ≡ true → IsPlain text.now }
+{
+    let bytes = u8x8::from_slice(text);
+    'bytes: for i in 0..8 {
+        columns[i] = bytes[i] as char;
+    }
+    let feeds = bytes.simd_eq(u8x8::splat(b'\n')).to_bitmask();
+    let others = bytes.simd_ge(u8x8::splat(128)).to_bitmask();
+    feeds | others == 0
+}
+
+/// The same of eight bytes from a place on.
+#[inline(always)]
+fn put_eight_at(columns: &mut [char], text: &[u8], at: usize) -> bool
+    requires fits { length columns.old ≡ length text.now }
+    requires some { at + 8 ≤ length text.now }
+    ensures columns { columns.new ≡ with_columns at (take 8 (drop at text.now)) columns.old }
+    ensures plain { result ≡ true → IsPlain (take 8 (drop at text.now)) }
+{
+    put_eight(&mut columns[at..at + 8], &text[at..at + 8])
+}
+
+/// The same of no fewer than eight bytes: the last eight, and then eight by eight from the front.
+#[inline(always)]
+fn put_eights(columns: &mut [char], text: &[u8]) -> bool
+    requires some { 8 ≤ length text.now }
+    requires fits { length columns.old ≡ length text.now }
+    ensures columns { columns.new ≡ text.now }
+    ensures plain { result ≡ true → IsPlain text.now }
+{
+    let last = text.len() - 8;
+    let mut is_plain = put_eight_at(columns, text, last);
+    let mut at = 0;
+    'eights: while at < last {
+        let is_next = put_eight_at(columns, text, at);
+        is_plain = is_next && is_plain;
+        at += 8;
+    }
+    is_plain
+}
+
+/// Eight blanks.
+#[inline(always)]
+fn put_eight_blanks(columns: &mut [char])
+    requires { length columns.old ≡ 8 }
+    ensures { columns.new ≡ replicate 8 32 }
+{
+    'columns: for i in 0..8 {
+        columns[i] = ' ';
+    }
+}
+
+/// Writes blanks over the columns from a place on. Where they are few, some before that place are
+/// overwritten too.
+#[inline(always)]
+fn put_blanks_from(columns: &mut [char], len: usize)
+    requires { len ≤ length columns.old }
+    ensures len { length columns.new ≡ length columns.old }
+    ensures blanks { drop len columns.new ≡ replicate (length columns.old - len) 32 }
+{
+    let width = columns.len();
+    if width - len <= 8 && 8 <= width {
+        put_eight_blanks(&mut columns[width - 8..]);
+    } else {
+        let (_, rest) = columns.split_at_mut(len);
+        rest.fill(' ');
+    }
+}
+
+/// Writes bytes as characters over the first of the columns, and blanks over the others.
+#[inline(always)]
+pub fn put_line(columns: &mut [char], text: &[u8]) -> bool
+    requires { length text.now ≤ length columns.old }
+    ensures columns { columns.new ≡ padded (length columns.old) text.now }
+    ensures plain { result ≡ true → IsPlain text.now }
+{
+    put_blanks_from(columns, text.len());
+    let (front, _) = columns.split_at_mut(text.len());
+    if text.len() < 8 {
+        put_plain(front, text)
+    } else {
+        put_eights(front, text)
+    }
+}
+
+/// Writes a line over the columns from a place up to another.
+fn put_between(columns: &mut Vec<char>, first: usize, end: usize, text: &[u8]) -> bool
+    requires fits { first ≤ end }
+    requires room { end ≤ length columns.old.items }
+    requires wide { first + length text.now ≤ end }
+    ensures columns { columns.new.items ≡ with_columns first (padded (end - first) text.now) columns.old.items }
+    ensures plain { result ≡ true → IsPlain text.now }
+{
+    put_line(&mut columns[first..end], text)
+}
+
+/// Fills a vector up to a length, where it is shorter.
+fn fill_up(columns: &mut Vec<char>, len: usize) -> Result<(), AllocError>
+    ensures room { OnOk result (len ≤ length columns.new.items) }
+    ensures same { take (length columns.old.items) columns.new.items ≡ columns.old.items }
+{
+    if columns.len() < len {
+        columns.resize(len, ' ')?;
+    }
+    Ok(())
+}
+
+impl Filled {
+    /// No columns, which take no memory.
+    pub fn new(alloc: Global) -> Filled
+        ensures { result ≡ [] }
+    {
+        Filled {
+            columns: Vec::new(alloc),
+            len: 0,
+        }
+    }
+
+    /// No columns, over those that are there.
+    pub fn over(columns: Vec<char>) -> Filled
+        ensures { result ≡ [] }
+    {
+        Filled { columns, len: 0 }
+    }
+
+    /// How many there are.
+    pub fn len(&self) -> usize
+        ensures { result ≡ length self.now }
+    {
+        self.len
+    }
+
+    /// The columns.
+    pub fn as_slice(&self) -> &[char]
+        ensures { result.now ≡ self.now }
+    {
+        &self.columns[..self.len]
+    }
+
+    /// Gives up those from a place on.
+    pub fn truncate(&mut self, len: usize)
+        requires { len ≤ length self.old }
+        ensures { self.new ≡ take len self.old }
+    {
+        self.len = len;
+    }
+
+    /// The columns alone.
+    pub fn into_columns(self) -> Vec<char>
+        ensures { result.items ≡ self }
+    {
+        let Filled { mut columns, len } = self;
+        columns.truncate(len);
+        columns
+    }
+
+    /// Appends columns.
+    pub fn push(&mut self, text: &[char]) -> Result<(), AllocError>
+        ensures pushed { OnOk result (self.new ≡ self.old ++ text.now) }
+        ensures same { OnErr result (self.new ≡ self.old) }
+    {
+        let end = self.len + text.len();
+        fill_up(&mut self.columns, end)?;
+        self.columns[self.len..end].copy_from_slice(text);
+        self.len = end;
+        Ok(())
+    }
+
+    /// Appends bytes as characters and blanks up to a width, if all bytes are ASCII, none is a line feed, and
+    /// there is room.
+    pub fn push_plain(&mut self, text: &[u8], width: usize) -> bool
+        requires { length text.now ≤ width }
+        ensures pushed { result ≡ true → self.new ≡ self.old ++ padded width text.now }
+        ensures plain { result ≡ true → IsPlain text.now }
+        ensures same { result ≡ false → self.new ≡ self.old }
+    {
+        let first = self.len;
+        let Some(end) = first.checked_add(width) else {
+            return false;
+        };
+        let Ok(()) = fill_up(&mut self.columns, end) else {
+            return false;
+        };
+        let is_plain = put_between(&mut self.columns, first, end, text);
+        if is_plain {
+            self.len = end;
+        }
+        is_plain
+    }
+}
