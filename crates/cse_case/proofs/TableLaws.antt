@@ -22,6 +22,12 @@ counts_in spans = map (λ s. s.count) spans
 pub count_at : (spans : List Span) (r : ℕ) (span : Span) → r < length spans → span ≡ get_or spans r span → get_or (map (λ s. s.count) spans) r 0 ≡ span.count
 count_at spans r span h e = get_or-map (λ s. s.count) spans r span 0 h ∙ ap (λ (s : Span). s.count) (sym e)
 
+-- a span that is read twice is one
+pub span_same : (spans : List Span) (r : ℕ) (a b : Span) → r < length spans → a ≡ get_or spans r a → b ≡ get_or spans r b → a ≡ b
+span_same [] r a b h e f = absurd (omega arith)
+span_same (s ∷ ss) zero a b h e f = e ∙ sym f
+span_same (s ∷ ss) (suc r) a b h e f = span_same ss r a b (omega arith) e f
+
 -- a span holds what it held after another line was added
 IsSpan-more : (lines : List Line) (firsts : List ℕ) (r first : ℕ) (span : Span) → IsSpan lines firsts r span → IsSpan lines (firsts ++ first ∷ []) r span
 IsSpan-more lines firsts r first span is =

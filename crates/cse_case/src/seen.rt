@@ -134,30 +134,22 @@ pub enum Found {
     Apart,
 }
 
-/// The span of a record with an occurrence more, which begins at this column, where the span stands at the
-/// end of the list.
-fn with_occurrence(
-    span: Span,
-    firsts: &mut Vec<usize>,
-    first: usize,
-) -> Result<Option<Span>, AllocError>
-    requires few { span.count < 65535 }
-    requires fits { span.start + span.count ≤ length firsts.old.items }
-    ensures { IfOk result (λ found. IfSome found (IsLonger span first firsts.old.items firsts.new.items)) }
+/// Adds an occurrence, which begins at this column, to the span of its record, where that stands at the end
+/// of the list. Tells whether it does.
+fn add_occurrence(span: &mut Span, firsts: &mut Vec<usize>, first: usize) -> Result<bool, AllocError>
+    requires few { span.old.count < 65535 }
+    requires fits { span.old.start + span.old.count ≤ length firsts.old.items }
+    ensures { IfOk result (λ added. added ≡ true → IsLonger span.old first firsts.old.items firsts.new.items span.new) }
 {
-    let start = if span.count == 0 {
-        firsts.len()
-    } else {
-        span.start
-    };
-    if start + span.count as usize != firsts.len() {
-        return Ok(None);
+    if span.count == 0 {
+        span.start = firsts.len();
+    }
+    if span.start + span.count as usize != firsts.len() {
+        return Ok(false);
     }
     firsts.push(first)?;
-    Ok(Some(Span {
-        start,
-        count: span.count + 1,
-    }))
+    span.count += 1;
+    Ok(true)
 }
 
 /// Adds a line to the occurrences of its record, if it is one and follows them.
@@ -181,11 +173,10 @@ fn see_line(
         let most = records[record].max_records;
         let span = spans[record];
         if span.count < most {
-            let Some(longer) = with_occurrence(span, firsts, line.first)? else {
-                return Ok(Found::Apart);
-            };
-            spans[record] = longer;
-            return Ok(Found::Occurrence);
+            if add_occurrence(&mut spans[record], firsts, line.first)? {
+                return Ok(Found::Occurrence);
+            }
+            return Ok(Found::Apart);
         }
     }
     Ok(Found::Unseen(Unseen::Extra))

@@ -1,12 +1,12 @@
 //! A dictionary with its id items, which are listed when they are first needed.
 
-ghost use Rattle.std.specs.Prelude.{◌≡◌, ◌==◌, ◌<◌, ◌+◌, ◌^◌, ℕ, filter, length, map, IfOk};
+ghost use Rattle.std.specs.Prelude.{◌≡◌, ◌==◌, ◌<◌, ◌≤◌, ◌+◌, ◌-◌, ◌++◌, ◌^◌, ℕ, drop, filter, length, map, take, IfOk, OnOk};
 ghost use Rattle.cse_lines.specs.Field.{fields_at, ids_of, span_of};
 ghost use Rattle.cse_lines.specs.Run.{line_at};
 ghost use Rattle.cse_case.specs.Fit.{line_width};
 
 use crate::case::Case;
-use crate::field::field_of;
+use crate::field::place_in;
 use crate::seen::Table;
 use cse_dict::Dictionary;
 use cse_lines::Run;
@@ -50,7 +50,25 @@ fn id_items(alloc: Global, items: &[ItemShape]) -> Result<Vec<ItemShape>, AllocE
         .collect(alloc)
 }
 
-/// What stands at these items, one after the other, in this room.
+/// Appends the columns from one place to another, if there are any.
+fn put_columns(
+    fields: &mut Vec<char>,
+    columns: &[char],
+    from: usize,
+    to: usize,
+) -> Result<(), AllocError>
+    requires order { from ≤ to }
+    requires within { to ≤ length columns.now }
+    ensures { OnOk result (fields.new.items ≡ fields.old.items ++ take (to - from) (drop from columns.now)) }
+{
+    if from < to {
+        fields.extend_from_slice(&columns[from..to])?;
+    }
+    Ok(())
+}
+
+/// What stands at these items, one after the other, in this room. Items that stand side by side, as those
+/// of ids mostly do, are put together.
 fn fields_of(
     room: Vec<char>,
     items: &[ItemShape],
@@ -60,9 +78,17 @@ fn fields_of(
 {
     let mut fields = room;
     fields.clear();
+    let mut from = 0;
+    let mut to = 0;
     'items: for item in items {
-        fields.extend_from_slice(field_of(item, columns))?;
+        let (start, end) = place_in(item, columns.len());
+        if start != to {
+            put_columns(&mut fields, columns, from, to)?;
+            from = start;
+        }
+        to = end;
     }
+    put_columns(&mut fields, columns, from, to)?;
     Ok(fields)
 }
 
