@@ -99,9 +99,9 @@ pub no_code : (columns spelled : List ℕ) (n : ℕ) (code : Option ℤ) → spe
     → is_code code (pos n) ≡ false → Whole (pos n) ≡ field columns code
 no_code columns spelled n code e is low other = sym (cond-false (is_code code (pos n)) Missing (Whole (pos n)) other) ∙ field_of_digits columns spelled n code e is low
 
--- the value of digits behind blanks
-pub value_of_field : (columns : List ℕ) (n : ℕ) (code : Option ℤ) → digits_number (without_blanks columns) ≡ Some n → n < 1000 → value_of (Some (pos n)) code ≡ field columns code
-value_of_field columns n code is low = field_of_digits columns (without_blanks columns) n code refl is (omega arith)
+-- the value of digits behind blanks that aren't the code
+pub number_of_field : (columns : List ℕ) (n : ℕ) (code : Option ℤ) → digits_number (without_blanks columns) ≡ Some n → n < 1000 → is_code code (pos n) ≡ false → Whole (pos n) ≡ field columns code
+number_of_field columns n code is low other = no_code columns (without_blanks columns) n code refl is (omega arith) other
 
 -- digits without blanks
 spelled : (c : ℕ) (cs : List ℕ) → list_all is_ascii_digit (c ∷ cs) ≡ true → digits_number (without_blanks (c ∷ cs)) ≡ Some (digits_value (c ∷ cs))

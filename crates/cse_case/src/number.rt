@@ -6,40 +6,25 @@
 
 ghost use Rattle.std.specs.Prelude.{◌≡◌, ◌<◌, ◌≤◌, ◌-◌, ◌∷◌, [], Some, IfSome, length, pos, true};
 ghost use Rattle.std.specs.Char.{is_ascii_digit};
-ghost use Rattle.cse_value.specs.Field.{digits_number, field, is_code, value_of, without_blanks};
+ghost use Rattle.cse_value.specs.Field.{digits_number, field, is_code, without_blanks};
 ghost use Rattle.cse_dict.specs.Dictionary.{code_at};
 
 use cse_dict::Dictionary;
 use cse_value::{Num, read_num};
 
 /// The value of the columns of a number's item, at most 18. The item's code, which stands for `missing`, is
-/// looked up behind the digits: few items have one, and few columns spell it.
+/// looked up behind the digits: few items have one, and few columns spell it. Where they do, the columns are
+/// gone through again, so that all other numbers take the shortest way.
 #[inline(always)]
 pub fn number_in(columns: &[char], dictionary: &Dictionary, item: u16) -> Num
     requires few { length columns.now ≤ 18 }
     requires item { item < length dictionary.now.items }
     ensures { result ≡ field columns.now (code_at dictionary.now item) }
 {
-    let Some(number) = few_digits(columns) else {
-        return number_in_columns(columns, dictionary.code(item));
-    };
-    match dictionary.code(item) {
-        Some(code) => number_or_missing(number, code),
-        None => Num::Whole(number as i64),
+    match few_digits(columns) {
+        Some(number) if !is_code(number, dictionary.code(item)) => Num::Whole(number as i64),
+        _ => number_in_columns(columns, dictionary.code(item)),
     }
-}
-
-/// The value of a number where a code stands for `missing`. It is a call of its own, so that the items
-/// without a code are the shortest way.
-#[inline(never)]
-fn number_or_missing(number: u64, code: i64) -> Num
-    requires { number < 1_000 }
-    ensures { result ≡ value_of (Some (pos number)) (Some code) }
-{
-    if code == number as i64 {
-        return Num::Missing;
-    }
-    Num::Whole(number as i64)
 }
 
 /// The number of one to three columns, where they are blanks and then digits.
