@@ -16,15 +16,6 @@ fn start_in(item: &ItemShape, width: usize) -> usize
     (item.start as usize).saturating_sub(1).min(width)
 }
 
-/// Where the columns of an item begin and end among those of a line, as many as there are.
-pub fn place_in(item: &ItemShape, width: usize) -> (usize, usize)
-    ensures start { result.0 ≡ min (item.now.start - 1) width }
-    ensures end { result.1 ≡ result.0 + min item.now.len (width - result.0) }
-{
-    let start = start_in(item, width);
-    (start, start + (item.len as usize).min(width - start))
-}
-
 /// The item's columns, as many as there are.
 pub fn field_of<'a>(item: &ItemShape, columns: &'a [char]) -> &'a [char]
     ensures { result.now ≡ field_of item.now columns.now }

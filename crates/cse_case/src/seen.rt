@@ -136,7 +136,11 @@ pub enum Found {
 
 /// Adds an occurrence, which begins at this column, to the span of its record, where that stands at the end
 /// of the list. Tells whether it does.
-fn add_occurrence(span: &mut Span, firsts: &mut Vec<usize>, first: usize) -> Result<bool, AllocError>
+fn add_occurrence(
+    span: &mut Span,
+    firsts: &mut Vec<usize>,
+    first: usize,
+) -> Result<bool, AllocError>
     requires few { span.old.count < 65535 }
     requires fits { span.old.start + span.old.count ≤ length firsts.old.items }
     ensures { IfOk result (λ added. added ≡ true → IsLonger span.old first firsts.old.items firsts.new.items span.new) }

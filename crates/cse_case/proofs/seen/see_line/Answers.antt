@@ -43,7 +43,7 @@ returns-then-branch c =
     let more : IsLonger span (first_at lines place) firsts c.add_occurrence.new.firsts.items c.add_occurrence.new.span = rw (first_here lines place no_line c.requires.place) longer in (
       seen_here records lines place firsts spans r span c.requires.seen own c.if-record-records.true low c.index_mut.ensures.value room,
       AreSeen-occurrence records lines place firsts c.add_occurrence.new.firsts.items spans r span c.add_occurrence.new.span c.requires.place c.requires.seen own c.if-record-records.true low
-      c.index_mut.ensures.value room more,
+          c.index_mut.ensures.value room more,
     )
 
 pub returns-else-span-most : goal.returns-else-span-most
