@@ -62,7 +62,7 @@ wide_from d run columns lines e laid wide =
 pub some_from : (run : RunText) (columns : List ℕ) (lines : List Line) → laid_lines columns lines ≡ run.lines → 0 < length run.lines → 0 < length lines
 some_from run columns lines e some = omega (arith, length-map lines (laid_line columns), ap length e)
 
-found : (lines : List Line) (place : ℕ) (d : Line) → place < length lines → get_or lines place d ≡ get_or lines place (get_or lines place d)
+pub found : (lines : List Line) (place : ℕ) (d : Line) → place < length lines → get_or lines place d ≡ get_or lines place (get_or lines place d)
 found [] place d h = absurd (omega arith)
 found (l ∷ ls) zero d h = refl
 found (l ∷ ls) (suc place) d h = found ls place d (omega arith)

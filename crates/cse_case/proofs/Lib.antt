@@ -7,4 +7,6 @@ pub mod FitLaws
 pub mod ReadLaws
 pub mod SightLaws
 pub mod SetLaws
+pub mod TableLaws
+pub mod OwnLaws
 pub mod NumberLaws

@@ -1,6 +1,6 @@
 -- Laws of fields of blanks and then digits.
-use Rattle.std.proofs.Common.{◌≡◌, ℕ, ◌<◌, ◌≤◌, ◌^◌, ◌-◌, Bool, true, false, not, cond, eqb, ltb, List, [], ◌∷◌, length, get_or, reverse, Option, Some, None, pos, neg_ℤ, refl, ap, sym, ◌∙◌, arith}
-use Rattle.std.specs.Prelude.{ℤ}
+use Rattle.std.proofs.Common.{◌≡◌, ℕ, ◌<◌, ◌≤◌, ◌^◌, ◌-◌, ◌+◌, ◌*◌, Bool, true, false, not, cond, eqb, ltb, List, [], ◌∷◌, length, get_or, reverse, Option, Some, None, pos, neg_ℤ, refl, ap, sym, ◌∙◌, arith}
+use Rattle.std.specs.Prelude.{ℤ, IfSome}
 use Rattle.std.specs.Option.{option_map}
 use Rattle.std.specs.List.{list_all}
 use Rattle.std.specs.Char.{is_ascii_digit}
@@ -99,19 +99,44 @@ pub no_code : (columns spelled : List ℕ) (n : ℕ) (code : Option ℤ) → spe
     → is_code code (pos n) ≡ false → Whole (pos n) ≡ field columns code
 no_code columns spelled n code e is low other = sym (cond-false (is_code code (pos n)) Missing (Whole (pos n)) other) ∙ field_of_digits columns spelled n code e is low
 
--- a field of one digit
-one_column : (columns : List ℕ) (c : ℕ) → length columns ≡ 1 → c ≡ get_or columns 0 c → columns ≡ c ∷ []
-one_column [] c h e = absurd (omega arith)
-one_column (x ∷ []) c h e = ap (λ d. d ∷ []) (sym e)
-one_column (x ∷ y ∷ xs) c h e = absurd (omega arith)
+-- the value of digits behind blanks that aren't the code
+pub number_of_field : (columns : List ℕ) (n : ℕ) (code : Option ℤ) → digits_number (without_blanks columns) ≡ Some n → n < 1000 → is_code code (pos n) ≡ false → Whole (pos n) ≡ field columns code
+number_of_field columns n code is low other = no_code columns (without_blanks columns) n code refl is (omega arith) other
 
-pub a_digit : (columns : List ℕ) (digit : ℕ) (code : Option ℤ) → length columns ≡ 1 → digit ≡ get_or columns 0 digit → is_ascii_digit digit ≡ true
-    → is_code code (pos (digit - 48)) ≡ false → Whole (pos (digit - 48)) ≡ field columns code
+-- digits without blanks
+spelled : (c : ℕ) (cs : List ℕ) → list_all is_ascii_digit (c ∷ cs) ≡ true → digits_number (without_blanks (c ∷ cs)) ≡ Some (digits_value (c ∷ cs))
 unfolding digits_number
-a_digit columns digit code one at h other =
-    let own : columns ≡ digit ∷ [] = one_column columns digit one at in
-    let front : digit ∷ [] ≡ without_blanks columns = sym (ap without_blanks own ∙ without_blanks-none (digit ∷ []) (and_from (not_blank digit) true (digit_is_no_blank digit h) refl)) in
-    let value : digits_value (digit ∷ []) ≡ digit - 48 = omega arith in
-    let number : digits_number (digit ∷ []) ≡ Some (digit - 48) =
-    cond-true (list_all is_ascii_digit (digit ∷ [])) (Some (digits_value (digit ∷ []))) None (and_from (is_ascii_digit digit) true h refl) ∙ ap Some value in
-    no_code columns (digit ∷ []) (digit - 48) code front number (digit_is_low digit h) other
+spelled c cs h =
+    ap digits_number (without_blanks-none (c ∷ cs) (digits_have_no_blank (c ∷ cs) h))
+    ∙ cond-true (list_all is_ascii_digit (c ∷ cs)) (Some (digits_value (c ∷ cs))) None h
+
+pub one_digit : (a : ℕ) → is_ascii_digit a ≡ true → digits_number (without_blanks (a ∷ [])) ≡ Some (a - 48)
+one_digit a h = spelled a [] (and_from (is_ascii_digit a) true h refl) ∙ ap Some (let value : digits_value (a ∷ []) ≡ a - 48 = omega arith in value)
+
+pub two_digits : (a b : ℕ) → is_ascii_digit a ≡ true → is_ascii_digit b ≡ true → digits_number (without_blanks (a ∷ b ∷ [])) ≡ Some (10 * (a - 48) + (b - 48))
+two_digits a b h k =
+    spelled a (b ∷ []) (and_from (is_ascii_digit a) (list_all is_ascii_digit (b ∷ [])) h (and_from (is_ascii_digit b) true k refl))
+    ∙ ap Some (let value : digits_value (a ∷ b ∷ []) ≡ 10 * (a - 48) + (b - 48) = omega arith in value)
+
+pub three_digits : (a b c : ℕ) → is_ascii_digit a ≡ true → is_ascii_digit b ≡ true → is_ascii_digit c ≡ true
+    → digits_number (without_blanks (a ∷ b ∷ c ∷ [])) ≡ Some (100 * (a - 48) + 10 * (b - 48) + (c - 48))
+three_digits a b c h k l =
+    spelled a (b ∷ c ∷ []) (and_from (is_ascii_digit a) (list_all is_ascii_digit (b ∷ c ∷ [])) h (and_from (is_ascii_digit b) (list_all is_ascii_digit (c ∷ [])) k (and_from (is_ascii_digit c) true l refl)))
+    ∙ ap Some (let value : digits_value (a ∷ b ∷ c ∷ []) ≡ 100 * (a - 48) + 10 * (b - 48) + (c - 48) = omega arith in value)
+
+-- a blank in front
+pub blank_before : (a : ℕ) (cs : List ℕ) → a ≡ 32 → without_blanks (a ∷ cs) ≡ without_blanks cs
+blank_before a cs e = ap (λ b. without_blanks (b ∷ cs)) e
+
+-- a column alone
+pub one_column : (columns : List ℕ) (d : ℕ) → length columns ≡ 1 → columns ≡ get_or columns 0 d ∷ []
+one_column [] d h = absurd (omega arith)
+one_column (x ∷ []) d h = refl
+one_column (x ∷ y ∷ xs) d h = absurd (omega arith)
+
+-- a column alone that is a digit
+pub digit_alone : (columns : List ℕ) (a d : ℕ) (found : Option ℕ) → length columns ≡ 1 → a ≡ get_or columns 0 d → IfSome found (λ n. (is_ascii_digit a ≡ true) × (n ≡ a - 48))
+    → IfSome found (λ n. digits_number (without_blanks columns) ≡ Some n)
+digit_alone columns a d None one at h = tt
+digit_alone columns a d (Some n) one at h =
+    ap (λ l. digits_number (without_blanks l)) (one_column columns d one ∙ ap (λ b. b ∷ []) (sym at)) ∙ one_digit a h.0 ∙ ap Some (sym h.1)

@@ -15,7 +15,7 @@ use Rattle.cse_dict.specs.declared.lookup.Unseen.TheVariants.{Extra}
 use Rattle.cse_case.specs.declared.seen.Span.{Span}
 use Rattle.cse_value.specs.Occurrences.{most_occurrences}
 use Rattle.cse_case.specs.Seen.{is_of, places_from, occurrence_places, unseen_after, unseen_from, onto_unseen}
-use Rattle.cse_case.specs.Table.{AreCounts, AreSpans, IsTable}
+use Rattle.cse_case.specs.Table.{AreCounts, AreSpans, IsTable, first_at, type_at, types_in}
 
 -- one line more is counted
 pub count_by-more : (p : Option ℕ → Bool) (xs : List (Option ℕ)) (y : Option ℕ) → count_by p (xs ++ y ∷ []) ≡ count_by p xs + cond (p y) 1 0
@@ -72,6 +72,13 @@ AreCounts-extra records before counts r are full = record {
   ];
 }
 
+-- nor does a line of no record
+pub AreCounts-unknown : (records : List RecordShape) (before : List (Option ℕ)) (counts : List ℕ) → AreCounts records before counts → AreCounts records (before ++ None ∷ []) counts
+AreCounts-unknown records before counts are = record {
+  size = are.size;
+  each = λ q h. are.each q h ∙ ap (λ k. min k (most_occurrences records q)) (sym (not_counted q before None refl));
+}
+
 -- a line is seen where its record has room
 pub seen_if_room : (records : List RecordShape) (before : List (Option ℕ)) (counts : List ℕ) (r : ℕ) → AreCounts records before counts → r < length records
     → get_or counts r 0 < most_occurrences records r → unseen_after records before (Some r) ≡ None
@@ -119,16 +126,16 @@ length-places_from n r (x ∷ xs) = onto (is_of r x) (length-places_from (n + 1)
     onto true e = omega (arith, e)
     onto false e = e ∙ sym (zero-add (count_by (is_of r) xs))
 
-abbrev pub types_in : List Line → List (Option ℕ)
-types_in lines = map (λ x. x.record_number) lines
-
 -- the record of the line at a place
-pub type_at : (lines : List Line) (k : ℕ) (d : Line) → k < length lines → get_or (types_in lines) k None ≡ (get_or lines k d).record_number
-type_at lines k d h = get_or-map (λ x. x.record_number) lines k d None h
+pub type_is : (lines : List Line) (k : ℕ) (d : Line) → k < length lines → get_or (types_in lines) k None ≡ (get_or lines k d).record_number
+type_is lines k d h = get_or-map (λ x. x.record_number) lines k d None h
+
+pub take-more : (lines : List Line) (k : ℕ) → k < length lines → take (k + 1) (types_in lines) ≡ take k (types_in lines) ++ type_at lines k ∷ []
+take-more lines k h = take_more (types_in lines) k None (rw (length-map lines (λ x. x.record_number)) h)
 
 pub take-types : (lines : List Line) (k : ℕ) (d : Line) → k < length lines → take (k + 1) (types_in lines) ≡ take k (types_in lines) ++ (get_or lines k d).record_number ∷ []
 take-types lines k d h =
-    take_more (types_in lines) k None (rw (length-map lines (λ x. x.record_number)) h) ∙ ap (λ t. take k (types_in lines) ++ t ∷ []) (type_at lines k d h)
+    take_more (types_in lines) k None (rw (length-map lines (λ x. x.record_number)) h) ∙ ap (λ t. take k (types_in lines) ++ t ∷ []) (type_is lines k d h)
 
 -- the unseen lines from a place on
 pub unseen_from-next : (records : List RecordShape) (number : ℕ) (lines : List Line) (k : ℕ) (d : Line) → k < length lines
@@ -139,7 +146,7 @@ unseen_from-next records number lines k d h =
     let types = types_in lines in
     let y = (get_or lines k d).record_number in
     let within : k < length types = rw (length-map lines (λ x. x.record_number)) h in
-    let cut : drop k types ≡ y ∷ drop (k + 1) types = drop-cons types k None within ∙ (ap (λ t. t ∷ drop (suc k) types) (type_at lines k d h) ∙ ap (λ n. y ∷ drop n types) (sym (add-one k))) in
+    let cut : drop k types ≡ y ∷ drop (k + 1) types = drop-cons types k None within ∙ (ap (λ t. t ∷ drop (suc k) types) (type_is lines k d h) ∙ ap (λ n. y ∷ drop n types) (sym (add-one k))) in
     ap (unseen_from records (number + k) (take k types)) cut
     ∙ (ap (λ b. onto_unseen (number + k) (unseen_after records (take k types) y) (unseen_from records (number + k + 1) b (drop (k + 1) types))) (sym (take-types lines k d h))
     ∙ ap (λ n. onto_unseen (number + k) (unseen_after records (take k types) y) (unseen_from records n (take (k + 1) types) (drop (k + 1) types))) (add_assoc number k 1))
@@ -173,33 +180,36 @@ counts_there records lines counts are r h =
     omega (arith, length-places_from 0 r lines)
 
 -- spans of what was counted are the table
-pub IsTable-spans : (records : List RecordShape) (lines : List (Option ℕ)) (counts places : List ℕ) (spans : List Span) → AreCounts records lines counts → length spans ≡ length counts
-    → AreSpans lines counts places spans → IsTable records lines places spans
+pub IsTable-spans : (records : List RecordShape) (lines : List Line) (counts firsts : List ℕ) (spans : List Span) → AreCounts records (types_in lines) counts → length spans ≡ length counts
+    → AreSpans lines counts firsts spans → IsTable records lines firsts spans
 unfolding occurrence_places
-IsTable-spans records lines counts places spans are size here = record {
+IsTable-spans records lines counts firsts spans are size here = record {
   size = size ∙ are.size;
-  places_are = λ r span h e.
+  firsts_are = λ r span h e.
       let found = here r span h e in
       let there : r < length records = omega (arith, size, are.size) in
-      let all = places_from 0 r lines in
-      let count : span.count ≡ min (most_occurrences records r) (length all) = omega (arith, found.1, are.each r there, length-places_from 0 r lines) in
-      found.0.places_are ∙ (ap (λ n. take n all) count ∙ take_min (most_occurrences records r) all);
+      let all = places_from 0 r (types_in lines) in
+      let count : span.count ≡ min (most_occurrences records r) (length all) = omega (arith, found.1, are.each r there, length-places_from 0 r (types_in lines)) in
+      found.0.firsts_are ∙ ap (map (first_at lines)) (ap (λ n. take n all) count ∙ take_min (most_occurrences records r) all);
   fits = λ r span h e. (here r span h e).0.fits;
 }
 
 -- how many occurrences a record has
-pub count_is : (records : List RecordShape) (lines : List (Option ℕ)) (places : List ℕ) (spans : List Span) (r : ℕ) (span : Span) → IsTable records lines places spans → r < length spans
-    → span ≡ get_or spans r span → span.count ≡ length (occurrence_places records r lines)
-count_is records lines places spans r span t h e =
+pub count_is : (records : List RecordShape) (lines : List Line) (firsts : List ℕ) (spans : List Span) (r : ℕ) (span : Span) → IsTable records lines firsts spans → r < length spans
+    → span ≡ get_or spans r span → span.count ≡ length (occurrence_places records r (types_in lines))
+count_is records lines firsts spans r span t h e =
     let fits = t.fits r span h e in
-    let len : length (take span.count (drop span.start places)) ≡ span.count = length-take-le span.count (drop span.start places) (omega (arith, length-drop span.start places)) in
-    sym len ∙ ap length (t.places_are r span h e)
+    let len : length (take span.count (drop span.start firsts)) ≡ span.count = length-take-le span.count (drop span.start firsts) (omega (arith, length-drop span.start firsts)) in
+    sym len ∙ (ap length (t.firsts_are r span h e) ∙ length-map (occurrence_places records r (types_in lines)) (first_at lines))
 
--- the place of an occurrence
-pub place_is : (records : List RecordShape) (lines : List (Option ℕ)) (places : List ℕ) (spans : List Span) (r o : ℕ) (span : Span) → IsTable records lines places spans → r < length spans
-    → span ≡ get_or spans r span → o < span.count → get_or places (span.start + o) 0 ≡ slice_index (occurrence_places records r lines) o
-place_is records lines places spans r o span t h e below =
-    sym (get_or-drop span.start places o 0) ∙ (sym (get_or-take span.count (drop span.start places) o 0 below) ∙ ap (λ l. get_or l o 0) (t.places_are r span h e))
+-- where an occurrence begins
+pub first_is : (records : List RecordShape) (lines : List Line) (firsts : List ℕ) (spans : List Span) (r o : ℕ) (span : Span) → IsTable records lines firsts spans → r < length spans
+    → span ≡ get_or spans r span → o < span.count → get_or firsts (span.start + o) 0 ≡ first_at lines (slice_index (occurrence_places records r (types_in lines)) o)
+first_is records lines firsts spans r o span t h e below =
+    let places = occurrence_places records r (types_in lines) in
+    let within : o < length places = omega (arith, count_is records lines firsts spans r span t h e) in
+    sym (get_or-drop span.start firsts o 0) ∙ (sym (get_or-take span.count (drop span.start firsts) o 0 below) ∙ (ap (λ l. get_or l o 0) (t.firsts_are r span h e)
+    ∙ get_or-map (first_at lines) places o 0 0 within))
 
 -- each place is one of a line
 places_below : (n r k : ℕ) (lines : List (Option ℕ)) → k < length (places_from n r lines) → get_or (places_from n r lines) k 0 < n + length lines

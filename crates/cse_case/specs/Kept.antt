@@ -16,10 +16,10 @@ use Rattle.cse_case.specs.Table.{IsTable}
 abbrev pub AreWide : DictionaryText → List Line → Type 0
 AreWide d lines = (place : ℕ) (line : Line) → place < length lines → line ≡ slice_index_or lines place line → line.width ≡ max line.len (max (least_width d) (record_len d line.record_number))
 
-pub record IsKept (d : DictionaryText) (columns : List ℕ) (lines : List Line) (bytes : List ℕ) (is_set : Bool) (first_line : ℕ) (places : List ℕ) (spans : List Span) (unseen : List (ℕ × Unseen)) : Type 0 where
+pub record IsKept (d : DictionaryText) (columns : List ℕ) (lines : List Line) (bytes : List ℕ) (is_set : Bool) (first_line : ℕ) (firsts : List ℕ) (spans : List Span) (unseen : List (ℕ × Unseen)) : Type 0 where
   pub some : 0 < length lines
   pub wide : AreWide d lines
   pub laid : IsLaid 0 columns lines
   pub came : is_set ≡ false → bytes ≡ flat_map written_line (laid_lines columns lines)
-  pub table : IsTable (shape_of d).records (map (λ l. l.record_number) lines) places spans
+  pub table : IsTable (shape_of d).records lines firsts spans
   pub unseen_are : unseen ≡ unseen_of (shape_of d).records first_line (map (λ l. l.record_number) lines)

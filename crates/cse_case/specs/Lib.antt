@@ -1,5 +1,6 @@
 pub mod Seen
 pub mod Table
+pub mod Found
 pub mod Field
 pub mod Entry
 pub mod Kept

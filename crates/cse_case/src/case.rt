@@ -11,7 +11,7 @@ ghost use Rattle.cse_case.specs.Seen.{is_case};
 ghost use Rattle.cse_case.specs.Field.{IsItem, item_at};
 ghost use Rattle.cse_case.specs.Entry.{entry_columns};
 
-use crate::field::{Entry, field_of, line_columns, whole_field, write_in_line};
+use crate::field::{Entry, field_of, line_columns, whole_field, write_field};
 use crate::number::number_in;
 use crate::seen::{Table, table_of};
 use crate::write::{mark, put_lines};
@@ -57,7 +57,7 @@ impl<'a> Model for Case<'a> {
       run = record { lines = laid_lines c.columns.items c.lines.items; marked = c.marked; first_line = c.first_line };
     } };
 
-    ghost invariant = { λ c. IsKept c.dictionary.now c.columns.items c.lines.items c.bytes.items c.is_set c.first_line c.table.places.items c.table.spans.items c.table.unseen.items };
+    ghost invariant = { λ c. IsKept c.dictionary.now c.columns.items c.lines.items c.bytes.items c.is_set c.first_line c.table.firsts.items c.table.spans.items c.table.unseen.items };
 }
 
 impl<'a> Case<'a> {
@@ -178,18 +178,6 @@ impl<'a> Case<'a> {
         u16::from(found.owner) == owner && found.kind == kind
     }
 
-    /// The place of an occurrence's line, from 0.
-    fn place(&self, number: u16, occurrence: u16) -> usize
-        requires there { number < length (records_of self.now) }
-        requires occurrence { IsOccurrence self.now number occurrence }
-        ensures value { result ≡ place_of self.now number occurrence }
-        ensures within { result < length self.now.run.lines }
-        ensures own { (line_at self.now.run result).record_number ≡ Some number }
-    {
-        let span = self.table.spans[number as usize];
-        self.table.places[span.start + occurrence as usize - 1]
-    }
-
     /// An item of the dictionary, which is sound.
     fn item(&self, item: u16) -> &ItemShape
         requires { item < length (items_of self.now) }
@@ -211,18 +199,20 @@ impl<'a> Case<'a> {
         field_of(self.item(item), line_columns(&self.columns, line))
     }
 
-    /// The columns of an item in the line at a place, which is one of the item's record and so has them
-    /// all.
-    fn own_columns(&self, place: usize, item: u16) -> &[char]
-        requires place { place < length self.now.run.lines }
+    /// The columns of an item in an occurrence of its record: the line has them all.
+    #[inline(always)]
+    fn own_columns(&self, number: u16, occurrence: u16, item: u16) -> &[char]
+        requires there { number < length (records_of self.now) }
+        requires occurrence { IsOccurrence self.now number occurrence }
         requires item { item < length (items_of self.now) }
-        requires own { (line_at self.now.run place).record_number ≡ Some (item_at (items_of self.now) item).owner }
-        requires there { (item_at (items_of self.now) item).owner < length (records_of self.now) }
-        ensures columns { result.now ≡ columns_at self.now place item }
+        requires owns { (item_at (items_of self.now) item).owner ≡ number }
+        ensures columns { result.now ≡ columns_at self.now (place_of self.now number occurrence) item }
         ensures number { (item_at (items_of self.now) item).kind ≡ ANumber → length result.now ≤ 15 }
         ensures text { (item_at (items_of self.now) item).kind ≡ AText → length result.now ≤ 255 }
     {
-        whole_field(self.item(item), &self.columns, &self.lines[place])
+        let span = self.table.spans[number as usize];
+        let first = self.table.firsts[span.start + occurrence as usize - 1];
+        whole_field(self.item(item), &self.columns, first)
     }
 
     /// The number in an item's columns, in the line at a place.
@@ -243,8 +233,8 @@ impl<'a> Case<'a> {
         requires item { IsItem (items_of self.now) number ANumber item }
         ensures { result ≡ number_at self.now (place_of self.now number occurrence) item }
     {
-        let columns = self.own_columns(self.place(number, occurrence), item);
-        number_in(columns, self.dictionary.code(item))
+        let columns = self.own_columns(number, occurrence, item);
+        number_in(columns, self.dictionary, item)
     }
 
     /// The columns of a text item in an occurrence of its record, where they stand: at most 255.
@@ -255,7 +245,7 @@ impl<'a> Case<'a> {
         ensures columns { result.now ≡ text_at self.now (place_of self.now number occurrence) item }
         ensures few { length result.now ≤ 255 }
     {
-        self.own_columns(self.place(number, occurrence), item)
+        self.own_columns(number, occurrence, item)
     }
 
     /// The text of an item in an occurrence of its record: all its columns.
@@ -295,19 +285,19 @@ impl<'a> Case<'a> {
         read_text(self.id_columns(item))
     }
 
-    /// Writes into an item of the line at a place, which is one of the item's record and so has all its
-    /// columns.
-    fn set(&mut self, place: usize, item: u16, entry: Entry<'_>)
-        requires place { place < length self.old.run.lines }
+    /// Writes into an item of an occurrence of its record: the line has all its columns.
+    fn set(&mut self, number: u16, occurrence: u16, item: u16, entry: Entry<'_>)
+        requires there { number < length (records_of self.old) }
+        requires occurrence { IsOccurrence self.old number occurrence }
         requires item { item < length (items_of self.old) }
-        requires own { (line_at self.old.run place).record_number ≡ Some (item_at (items_of self.old) item).owner }
-        requires there { (item_at (items_of self.old) item).owner < length (records_of self.old) }
-        ensures { self.new ≡ with_item self.old place item (entry_columns entry.entry (item_at (items_of self.old) item).len) }
+        requires owns { (item_at (items_of self.old) item).owner ≡ number }
+        ensures { self.new ≡ with_item self.old (place_of self.old number occurrence) item (entry_columns entry.entry (item_at (items_of self.old) item).len) }
     {
         let shape = *self.item(item);
-        let line = self.lines[place];
+        let span = self.table.spans[number as usize];
+        let first = self.table.firsts[span.start + occurrence as usize - 1];
         self.is_set = true;
-        write_in_line(&mut self.columns, line, &shape, entry);
+        write_field(&mut self.columns, first, &shape, entry);
     }
 
     /// Writes a number into an item of an occurrence of its record, and changes nothing else.
@@ -318,13 +308,12 @@ impl<'a> Case<'a> {
         ensures changed { self.new ≡ with_number self.old number occurrence item value }
         ensures fits { IsFit self.new }
     {
-        let place = self.place(number, occurrence);
         let entry = Entry::Number {
             value,
             zero_fill: self.dictionary.zero_fill(item),
             code: self.dictionary.code(item),
         };
-        self.set(place, item, entry);
+        self.set(number, occurrence, item, entry);
         let _lines = self.lines();
     }
 
@@ -337,8 +326,7 @@ impl<'a> Case<'a> {
         ensures changed { self.new ≡ with_text self.old number occurrence item text.now.items }
         ensures fits { IsFit self.new }
     {
-        let place = self.place(number, occurrence);
-        self.set(place, item, Entry::Words(text));
+        self.set(number, occurrence, item, Entry::Words(text));
         let _lines = self.lines();
     }
 

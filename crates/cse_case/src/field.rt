@@ -25,15 +25,17 @@ pub fn field_of<'a>(item: &ItemShape, columns: &'a [char]) -> &'a [char]
     &rest[..count]
 }
 
-/// The item's columns in a line that has them all, among the columns of its run.
-pub fn whole_field<'a>(item: &ItemShape, columns: &'a [char], line: &Line) -> &'a [char]
+/// The item's columns in a line that has them all, among the columns of its run, of which the line's begin
+/// at this place.
+#[inline(always)]
+pub fn whole_field<'a>(item: &ItemShape, columns: &'a [char], first: usize) -> &'a [char]
     requires start { 1 ≤ item.now.start }
-    requires whole { item.now.start - 1 + item.now.len ≤ line.now.width }
-    requires laid { line.now.first + line.now.width ≤ length columns.now }
-    ensures { result.now ≡ field_of item.now (take line.now.width (drop line.now.first columns.now)) }
+    requires whole { first + (item.now.start - 1) + item.now.len ≤ length columns.now }
+    ensures { result.now ≡ field_of item.now (drop first columns.now) }
 {
-    let start = line.first + (item.start as usize - 1);
-    &columns[start..start + item.len as usize]
+    let line = &columns[first..];
+    let start = item.start as usize - 1;
+    &line[start..start + item.len as usize]
 }
 
 /// What is written into an item: a number, with the item's zeros and code, or a text.
@@ -46,32 +48,23 @@ pub enum Entry<'t> {
     Words(&'t Text),
 }
 
-/// Writes into the item's columns, as many as there are.
-pub fn write_field(columns: &mut [char], item: &ItemShape, entry: Entry<'_>)
-    ensures { columns.new ≡ rewritten item.now (entry_columns entry.entry) columns.old }
+/// Writes into an item of a line that has all its columns, among the columns of its run, of which the
+/// line's begin at this place.
+pub fn write_field(columns: &mut [char], first: usize, item: &ItemShape, entry: Entry<'_>)
+    requires start { 1 ≤ item.now.start }
+    requires whole { first + (item.now.start - 1) + item.now.len ≤ length columns.old }
+    ensures { columns.new ≡ with_columns (first + (item.now.start - 1)) (entry_columns entry.entry item.now.len) columns.old }
 {
-    let width = columns.len();
-    let start = start_in(item, width);
-    let count = (item.len as usize).min(width - start);
-    let end = start + count;
+    let start = first + (item.start as usize - 1);
+    let field = &mut columns[start..start + item.len as usize];
     match entry {
         Entry::Number {
             value,
             zero_fill,
             code,
-        } => put_num(&mut columns[start..end], value, zero_fill, code),
-        Entry::Words(text) => put_text(&mut columns[start..end], text),
+        } => put_num(field, value, zero_fill, code),
+        Entry::Words(text) => put_text(field, text),
     }
-}
-
-/// Writes into an item of a line among the columns of its run.
-pub fn write_in_line(columns: &mut [char], line: Line, item: &ItemShape, entry: Entry<'_>)
-    requires { line.first + line.width ≤ length columns.old }
-    ensures columns { columns.new ≡ with_columns line.first (rewritten item.now (entry_columns entry.entry) (take line.width (drop line.first columns.old))) columns.old }
-    ensures width { length (rewritten item.now (entry_columns entry.entry) (take line.width (drop line.first columns.old))) ≡ line.width }
-{
-    let end = line.first + line.width;
-    write_field(&mut columns[line.first..end], item, entry);
 }
 
 /// The columns of a line among those of its run.

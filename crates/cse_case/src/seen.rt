@@ -1,8 +1,9 @@
 //! Which lines of a run are seen, and as which occurrence of their record.
 
-ghost use Rattle.std.specs.Prelude.{◌≡◌, ◌≤◌, ◌<◌, ◌+◌, ◌++◌, ◌∷◌, [], ◌^◌, ℕ, List, Option, IfOk, OnOk, map, take, length, slice_index, vec_len};
+ghost use Rattle.std.specs.Prelude.{◌≡◌, ◌≤◌, ◌<◌, ◌+◌, ◌++◌, ◌∷◌, [], ◌^◌, ℕ, List, Option, IfOk, IfSome, OnOk, map, take, length, slice_index, true, vec_len};
 ghost use Rattle.cse_case.specs.Seen.{is_of, places_from, unseen_after, unseen_of};
-ghost use Rattle.cse_case.specs.Table.{AreCounts, AreSpans, IsTable};
+ghost use Rattle.cse_case.specs.Table.{AreCounts, AreSeen, AreSpans, IsTable, first_at, types_in};
+ghost use Rattle.cse_case.specs.Found.{IsFound, IsLonger};
 
 use cse_dict::Unseen;
 use cse_lines::Line;
@@ -18,7 +19,7 @@ fn emptied<T: Drop>(mut room: Vec<T>) -> Vec<T>
     room
 }
 
-/// The occurrences of a record: where their places begin in the table, and how many there are.
+/// The occurrences of a record: where they begin in the table, and how many there are.
 #[derive(Clone, Copy, Debug, PartialEq, Eq)]
 pub struct Span {
     pub start: usize,
@@ -52,8 +53,8 @@ fn count_lines(
     number: u64,
 ) -> Result<Vec<(u64, Unseen)>, AllocError>
     requires { number + length lines.now < 2 ^ 64 }
-    ensures counts { OnOk result (AreCounts records.now (map (λ l. l.record_number) lines.now) counts.new.items) }
-    ensures unseen { IfOk result (λ v. v.items ≡ unseen_of records.now number (map (λ l. l.record_number) lines.now)) }
+    ensures counts { OnOk result (AreCounts records.now (types_in lines.now) counts.new.items) }
+    ensures unseen { IfOk result (λ v. v.items ≡ unseen_of records.now number (types_in lines.now)) }
 {
     counts.clear();
     counts.resize(records.len(), 0)?;
@@ -77,58 +78,148 @@ fn is_of(number: usize, line: Option<u16>) -> bool
     }
 }
 
-/// Adds the places of the first lines of a record.
+/// Adds where the first lines of a record begin.
 fn place_record(
-    places: &mut Vec<usize>,
+    firsts: &mut Vec<usize>,
     lines: &[Line],
     number: usize,
     count: u16,
 ) -> Result<(), AllocError>
-    ensures { OnOk result (places.new.items ≡ places.old.items ++ take count (places_from 0 number (map (λ l. l.record_number) lines.now))) }
+    ensures { OnOk result (firsts.new.items ≡ firsts.old.items ++ map (first_at lines.now) (take count (places_from 0 number (types_in lines.now)))) }
 {
     let mut left = count;
-    'lines: for (i, line) in lines.iter().enumerate() {
+    'lines: for line in lines {
         if left == 0 {
             return Ok(());
         }
         if is_of(number, line.record_number) {
-            places.push(i)?;
+            firsts.push(line.first)?;
             left -= 1;
         }
     }
     Ok(())
 }
 
-/// The places of the occurrences of each record, in this room.
+/// Where the occurrences of each record begin, in this room.
 fn place_lines(
     span_room: Vec<Span>,
-    place_room: Vec<usize>,
+    first_room: Vec<usize>,
     lines: &[Line],
     counts: &[u16],
 ) -> Result<(Vec<Span>, Vec<usize>), AllocError>
-    requires { (r : ℕ) → r < length counts.now → slice_index counts.now r ≤ length (places_from 0 r (map (λ l. l.record_number) lines.now)) }
+    requires { (r : ℕ) → r < length counts.now → slice_index counts.now r ≤ length (places_from 0 r (types_in lines.now)) }
     ensures size { IfOk result (λ p. length p.0.items ≡ length counts.now) }
-    ensures spans { IfOk result (λ p. AreSpans (map (λ l. l.record_number) lines.now) counts.now p.1.items p.0.items) }
+    ensures spans { IfOk result (λ p. AreSpans lines.now counts.now p.1.items p.0.items) }
 {
     let mut spans = emptied(span_room);
-    let mut places = emptied(place_room);
+    let mut firsts = emptied(first_room);
     'records: for (number, count) in counts.iter().enumerate() {
-        let start = places.len();
-        place_record(&mut places, lines, number, *count)?;
+        let start = firsts.len();
+        place_record(&mut firsts, lines, number, *count)?;
         spans.push(Span {
             start,
             count: *count,
         })?;
     }
-    Ok((spans, places))
+    Ok((spans, firsts))
 }
 
-/// The seen and unseen lines of a run: the spans of its records, the places of their occurrences, and
-/// the unseen lines with their numbers in the file.
+/// What a line is found to be in the table of its run.
+pub enum Found {
+    /// An occurrence that follows those of its record.
+    Occurrence,
+    /// No occurrence.
+    Unseen(Unseen),
+    /// An occurrence with lines of other records between it and those of its own.
+    Apart,
+}
+
+/// Adds an occurrence, which begins at this column, to the span of its record, where that stands at the end
+/// of the list. Tells whether it does.
+fn add_occurrence(
+    span: &mut Span,
+    firsts: &mut Vec<usize>,
+    first: usize,
+) -> Result<bool, AllocError>
+    requires few { span.old.count < 65535 }
+    requires fits { span.old.start + span.old.count ≤ length firsts.old.items }
+    ensures { IfOk result (λ added. added ≡ true → IsLonger span.old first firsts.old.items firsts.new.items span.new) }
+{
+    if span.count == 0 {
+        span.start = firsts.len();
+    }
+    if span.start + span.count as usize != firsts.len() {
+        return Ok(false);
+    }
+    firsts.push(first)?;
+    span.count += 1;
+    Ok(true)
+}
+
+/// Adds a line to the occurrences of its record, if it is one and follows them.
+fn see_line(
+    spans: &mut Vec<Span>,
+    firsts: &mut Vec<usize>,
+    records: &[RecordShape],
+    lines: &[Line],
+    place: usize,
+) -> Result<Found, AllocError>
+    requires place { place < length lines.now }
+    requires seen { AreSeen records.now lines.now place firsts.old.items spans.old.items }
+    ensures { IfOk result (IsFound records.now lines.now place firsts.new.items spans.new.items) }
+{
+    let line = &lines[place];
+    let Some(record) = line.record_number else {
+        return Ok(Found::Unseen(Unseen::Unknown));
+    };
+    let record = record as usize;
+    if record < records.len() {
+        let most = records[record].max_records;
+        let span = spans[record];
+        if span.count < most {
+            if add_occurrence(&mut spans[record], firsts, line.first)? {
+                return Ok(Found::Occurrence);
+            }
+            return Ok(Found::Apart);
+        }
+    }
+    Ok(Found::Unseen(Unseen::Extra))
+}
+
+/// Fills the table of a run whose lines follow one another record by record, and tells whether they do. The
+/// first line has this number.
+fn see_lines(
+    spans: &mut Vec<Span>,
+    firsts: &mut Vec<usize>,
+    unseen: &mut Vec<(u64, Unseen)>,
+    records: &[RecordShape],
+    lines: &[Line],
+    number: u64,
+) -> Result<bool, AllocError>
+    requires { number + length lines.now < 2 ^ 64 }
+    ensures table { IfOk result (λ whole. whole ≡ true → IsTable records.now lines.now firsts.new.items spans.new.items) }
+    ensures unseen { IfOk result (λ whole. whole ≡ true → unseen.new.items ≡ unseen_of records.now number (types_in lines.now)) }
+{
+    spans.clear();
+    spans.resize(records.len(), Span { start: 0, count: 0 })?;
+    firsts.clear();
+    unseen.clear();
+    'lines: for place in 0..lines.len() {
+        match see_line(spans, firsts, records, lines, place)? {
+            Found::Occurrence => {}
+            Found::Unseen(why) => unseen.push((number + place as u64, why))?,
+            Found::Apart => return Ok(false),
+        }
+    }
+    Ok(true)
+}
+
+/// The seen and unseen lines of a run: the spans of its records, where the lines of their occurrences begin
+/// among its columns, and the unseen lines with their numbers in the file.
 #[derive(Drop)]
 pub struct Table {
     pub spans: Vec<Span>,
-    pub places: Vec<usize>,
+    pub firsts: Vec<usize>,
     pub unseen: Vec<(u64, Unseen)>,
 }
 
@@ -137,14 +228,15 @@ impl Table {
     pub fn new(alloc: Global) -> Table {
         Table {
             spans: Vec::new(alloc),
-            places: Vec::new(alloc),
+            firsts: Vec::new(alloc),
             unseen: Vec::new(alloc),
         }
     }
 }
 
-/// The table of a run's lines, of which the first has this number, in the memory of another one. The counts
-/// are made anew, in the memory that they have.
+/// The table of a run's lines, of which the first has this number, in the memory of another one. Most runs
+/// have the lines of each record together, and are gone through once. For the others the lines are counted
+/// first, anew in the memory that the counts have.
 pub fn table_of(
     room: Table,
     counts: &mut Vec<u16>,
@@ -153,14 +245,26 @@ pub fn table_of(
     number: u64,
 ) -> Result<Table, AllocError>
     requires { number + length lines.now < 2 ^ 64 }
-    ensures table { IfOk result (λ t. IsTable records.now (map (λ l. l.record_number) lines.now) t.places.items t.spans.items) }
-    ensures unseen { IfOk result (λ t. t.unseen.items ≡ unseen_of records.now number (map (λ l. l.record_number) lines.now)) }
+    ensures table { IfOk result (λ t. IsTable records.now lines.now t.firsts.items t.spans.items) }
+    ensures unseen { IfOk result (λ t. t.unseen.items ≡ unseen_of records.now number (types_in lines.now)) }
 {
-    let unseen = count_lines(room.unseen, counts, records, lines, number)?;
-    let (spans, places) = place_lines(room.spans, room.places, lines, counts)?;
+    let Table {
+        mut spans,
+        mut firsts,
+        mut unseen,
+    } = room;
+    if see_lines(&mut spans, &mut firsts, &mut unseen, records, lines, number)? {
+        return Ok(Table {
+            spans,
+            firsts,
+            unseen,
+        });
+    }
+    let unseen = count_lines(unseen, counts, records, lines, number)?;
+    let (spans, firsts) = place_lines(spans, firsts, lines, counts)?;
     Ok(Table {
         spans,
-        places,
+        firsts,
         unseen,
     })
 }

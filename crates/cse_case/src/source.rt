@@ -1,7 +1,7 @@
 //! A dictionary with its id items, which are listed when they are first needed.
 
-ghost use Rattle.std.specs.Prelude.{◌≡◌, ◌==◌, ◌<◌, ◌+◌, ◌^◌, ℕ, filter, length, map, IfOk};
-ghost use Rattle.cse_lines.specs.Field.{fields_at, ids_of, span_of};
+ghost use Rattle.std.specs.Prelude.{◌≡◌, ◌==◌, ◌<◌, ◌+◌, ◌++◌, ◌^◌, [], ◌∷◌, ℕ, filter, length, map, IfOk, IfSome, OnOk};
+ghost use Rattle.cse_lines.specs.Field.{HaveSame, fields_at, ids_of, span_of};
 ghost use Rattle.cse_lines.specs.Run.{line_at};
 ghost use Rattle.cse_case.specs.Fit.{line_width};
 
@@ -20,7 +20,8 @@ use std::mem;
 #[derive(Drop)]
 pub struct Source<'a> {
     dictionary: &'a Dictionary,
-    id_items: Vec<ItemShape>,
+    /// Its id items, those that lie side by side as one.
+    id_blocks: Vec<ItemShape>,
     is_known: bool,
     counts: Vec<u16>,
     ids: Vec<char>,
@@ -28,15 +29,15 @@ pub struct Source<'a> {
 }
 
 impl<'a> Model for Source<'a> {
-    ghost use Rattle.std.specs.Prelude.{◌≡◌, true};
+    ghost use Rattle.std.specs.Prelude.{◌≡◌, map, true};
     ghost use Rattle.cse_dict.specs.Dictionary.{DictionaryText};
-    ghost use Rattle.cse_case.specs.Streaming.{id_items_of};
+    ghost use Rattle.cse_lines.specs.Field.{HaveSame, id_spans, span_of};
 
     ghost Value = { DictionaryText };
 
     ghost view = { λ s. s.dictionary.now };
 
-    ghost invariant = { λ s. s.is_known ≡ true → s.id_items.items ≡ id_items_of s.dictionary.now };
+    ghost invariant = { λ s. s.is_known ≡ true → HaveSame (map span_of s.id_blocks.items) (id_spans s.dictionary.now) };
 }
 
 /// The id items among items.
@@ -48,6 +49,51 @@ fn id_items(alloc: Global, items: &[ItemShape]) -> Result<Vec<ItemShape>, AllocE
         .filter(|item| item.owner == ID_OWNER)
         .copied()
         .collect(alloc)
+}
+
+/// Two items as one, if the second one lies behind the first.
+fn join(first: ItemShape, second: ItemShape) -> Option<ItemShape>
+    ensures { IfSome result (λ both. HaveSame (span_of both ∷ []) (span_of first ∷ span_of second ∷ [])) }
+{
+    let end = first.start.checked_add(u32::from(first.len))?;
+    if first.start == 0 || end != second.start {
+        return None;
+    }
+    let len = first.len.checked_add(second.len)?;
+    Some(ItemShape {
+        owner: first.owner,
+        kind: first.kind,
+        len,
+        start: first.start,
+    })
+}
+
+/// Adds an item behind others: as one with the last of them, where the two lie side by side.
+fn add_block(blocks: &mut Vec<ItemShape>, item: ItemShape) -> Result<(), AllocError>
+    ensures { OnOk result (HaveSame (map span_of blocks.new.items) (map span_of (blocks.old.items ++ item ∷ []))) }
+{
+    if let Some(last) = blocks.pop() {
+        if let Some(both) = join(last, item) {
+            blocks.push(both)?;
+            return Ok(());
+        }
+        blocks.push(last)?;
+    }
+    blocks.push(item)?;
+    Ok(())
+}
+
+/// The columns of these items, those that lie side by side as one item. It runs once for a stream, and so
+/// stays a call.
+#[inline(never)]
+fn blocks_of(alloc: Global, items: &[ItemShape]) -> Result<Vec<ItemShape>, AllocError>
+    ensures { IfOk result (λ blocks. HaveSame (map span_of blocks.items) (map span_of items.now)) }
+{
+    let mut blocks = Vec::new(alloc);
+    'items: for item in items {
+        add_block(&mut blocks, *item)?;
+    }
+    Ok(blocks)
 }
 
 /// What stands at these items, one after the other, in this room.
@@ -73,7 +119,7 @@ impl<'a> Source<'a> {
     {
         Source {
             dictionary,
-            id_items: Vec::new(alloc),
+            id_blocks: Vec::new(alloc),
             is_known: false,
             counts: Vec::new(alloc),
             ids: Vec::new(alloc),
@@ -92,10 +138,11 @@ impl<'a> Source<'a> {
         ensures ids { IfOk result (λ v. v.items ≡ ids_of self.old columns.now) }
     {
         if !self.is_known {
-            self.id_items = id_items(alloc, &self.dictionary.shape().items)?;
+            let items = id_items(alloc, &self.dictionary.shape().items)?;
+            self.id_blocks = blocks_of(alloc, &items)?;
             self.is_known = true;
         }
-        fields_of(room, &self.id_items, columns)
+        fields_of(room, &self.id_blocks, columns)
     }
 
     /// Takes back the memory of a case's ids and table.

@@ -1,6 +1,8 @@
-use Rattle.std.proofs.Common.{refl, arith}
+use Rattle.std.proofs.Common.{refl, arith, ap, ◌∙◌}
+use Rattle.std.proofs.lemmas.List.{take_rest}
+use Rattle.cse_case.specs.Field.{field_of}
 use Rattle.cse_case.proofs.FieldLaws.{whole_here}
 use Rattle.cse_case.proofs.field.whole_field.Goals as goal
 
 pub returns : goal.returns
-returns c = whole_here c.args.item.now c.args.columns.now c.args.line.now.first c.args.line.now.width _ _ c.requires.whole refl (omega arith)
+returns c = whole_here c.args.item.now _ _ _ refl (omega arith) ∙ ap (field_of c.args.item.now) (take_rest c.args.columns.now c.args.first)

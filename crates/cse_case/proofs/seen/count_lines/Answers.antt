@@ -4,7 +4,8 @@ use Rattle.cse_lines.specs.declared.line.Ending.TheVariants.{FileEnd}
 use Rattle.std.specs.Vec.{with_items}
 use Rattle.std.proofs.lemmas.List.{with_items_is}
 use Rattle.cse_case.specs.Seen.{onto_unseen, unseen_from, unseen_of}
-use Rattle.cse_case.proofs.SeenLaws.{AreCounts-none, take-types, unseen_from-next, types_in}
+use Rattle.cse_case.proofs.SeenLaws.{AreCounts-none, take-types, unseen_from-next}
+use Rattle.cse_case.specs.Table.{types_in}
 use Rattle.cse_case.proofs.seen.count_lines.Goals as goal
 use Rattle.cse_case.proofs.seen.count_lines.Goals.{in-Some+in_ok-push-in-Some, in-None}
 

@@ -1,4 +1,4 @@
-use Rattle.std.proofs.Common.{◌≡◌, ◌<◌, ap, sym, ◌∙◌, length, arith, map}
+use Rattle.std.proofs.Common.{◌≡◌, ◌<◌, ap, sym, ◌∙◌, length, arith}
 use Rattle.cse_dict.specs.Dictionary.{shape_of}
 use Rattle.cse_case.specs.Seen.{occurrence_places}
 use Rattle.cse_case.specs.Case.{CaseText, records_of, places_of}
@@ -14,5 +14,5 @@ returns c =
     let r = c.args.number in
     let size : length (records_of c.args.self.now) ≡ length records = ap (λ (x : CaseText). length (records_of x)) (sym c.self.view_is) in
     let within : r < length v.table.spans.items = omega (arith, c.requires, c.self.invariant.table.size) in
-    count_is records (map (λ l. l.record_number) v.lines.items) v.table.places.items v.table.spans.items r c.index-span.result.now c.self.invariant.table within c.index-span.ensures
+    count_is records v.lines.items v.table.firsts.items v.table.spans.items r c.index-span.result.now c.self.invariant.table within c.index-span.ensures
     ∙ (ap (λ ts. length (occurrence_places records r ts)) (sym (types_laid v.columns.items v.lines.items)) ∙ ap (λ (x : CaseText). length (places_of x r)) c.self.view_is)

@@ -1,35 +1,48 @@
-use Rattle.std.proofs.Common.{◌≡◌, ◌<◌, ◌≤◌, ◌+◌, ◌-◌, refl, length, take, drop, set, ap, sym, ◌∙◌, arith, add-zero, subst}
+use Rattle.std.proofs.Common.{◌≡◌, ◌≤◌, ◌+◌, ◌-◌, length, set, ap, sym, ◌∙◌, arith, subst}
 use Rattle.std.specs.Vec.{with_items}
 use Rattle.std.proofs.lemmas.Bool.{true≢false}
-use Rattle.std.proofs.lemmas.List.{length-map, with_items_is}
+use Rattle.std.proofs.lemmas.List.{get_or_read, with_items_is}
+use Rattle.cse_value.specs.declared.shape.ItemShape.{ItemShape}
 use Rattle.cse_lines.specs.Columns.{LineText}
 use Rattle.cse_lines.specs.Laid.{laid_line, laid_lines}
 use Rattle.cse_lines.specs.Run.{line_at, with_columns}
-use Rattle.cse_lines.proofs.LaidLaws.{laid_within, line_in, laid_lines-with, IsLaid-len}
-use Rattle.cse_case.specs.Field.{rewritten, item_at}
+use Rattle.cse_lines.proofs.LaidLaws.{IsLaid-len, laid_lines-with}
+use Rattle.cse_case.specs.Field.{item_at}
 use Rattle.cse_case.specs.Entry.{entry_columns}
-use Rattle.cse_case.specs.Case.{CaseText, items_of, with_item}
-use Rattle.cse_case.specs.Fit.{IsFit}
-use Rattle.cse_case.proofs.CaseLaws.{with_columns-all, width_of_line}
-use Rattle.cse_case.proofs.FieldLaws.{entry_wide, rewritten_whole}
-use Rattle.cse_case.proofs.FitLaws.{kept_fits}
-use Rattle.cse_case.proofs.SetLaws.{item_within}
+use Rattle.cse_case.specs.Case.{CaseText, items_of, place_of}
+use Rattle.cse_case.proofs.FieldLaws.{entry_wide}
+use Rattle.cse_case.proofs.OwnLaws.{case_in, first_within, own_item}
+use Rattle.cse_case.proofs.SetLaws.{item_starts}
 use Rattle.cse_case.proofs.case.Case.set.Goals as goal
 
-pub write_in_line-requires : goal.write_in_line-requires
-write_in_line-requires c =
+pub index-first-requires : goal.index-first-requires
+index-first-requires c =
     let v = c.self.inside in
-    let len : length c.args.self.now.run.lines ≡ length v.lines.items = ap (λ x. length x.run.lines) (sym c.self.view_is) ∙ length-map v.lines.items (laid_line v.columns.items) in
-    rw c.deref_mut.ensures.value (laid_within 0 v.columns.items v.lines.items c.args.place c.index-line.result.now c.self.invariant.laid (omega (arith, c.requires.place)) c.index-line.ensures)
+    let fits = first_within c.args.self.now _ _ _ _ _ _ _ _ _ _ _ c.args.number c.args.occurrence c.index-span.result.now c.self.view_is c.self.invariant c.requires.there c.index-span.ensures c.requires.occurrence in
+    omega (arith, c.requires.occurrence.0, v.table.firsts.ok.0)
+
+pub write_field-requires-clause-start : goal.write_field-requires-clause-start
+write_field-requires-clause-start c =
+    subst (λ (i : ItemShape). 1 ≤ i.start) (sym c.item.ensures.item) (item_starts c.args.self.now c.args.item c.item.ensures.sound c.requires.item)
+
+pub write_field-requires-clause-whole : goal.write_field-requires-clause-whole
+write_field-requires-clause-whole c =
+    let v = c.self.inside in
+    let span = c.index-span.result.now in
+    let fits = first_within c.args.self.now _ _ _ _ _ _ _ _ _ _ _ c.args.number c.args.occurrence span c.self.view_is c.self.invariant c.requires.there c.index-span.ensures c.requires.occurrence in
+    let begins = get_or_read v.table.firsts.items (span.start + c.args.occurrence - 1) c.index-first.result.now (omega (arith, c.requires.occurrence.0)) c.index-first.ensures 0 in
+    let at = own_item c.args.self.now _ _ _ _ _ _ _ _ _ _ _ c.args.number c.args.occurrence c.index-first.result.now c.args.item span c.self.view_is c.self.invariant c.item.ensures.sound c.requires.there
+    c.index-span.ensures c.requires.occurrence c.requires.item c.requires.owns begins in
+    omega (arith, at.whole, at.own.begins, at.own.within, ap length c.deref_mut.ensures.value, ap (λ (i : ItemShape). i.start) c.item.ensures.item, ap (λ (i : ItemShape). i.len) c.item.ensures.item)
 
 pub invariant_of-self : goal.invariant_of-self
 invariant_of-self c =
     let v = c.self.inside in
-    let items : (with_items v.columns c.write_in_line.new.columns).items ≡ c.write_in_line.new.columns = with_items_is v.columns c.write_in_line.new.columns (c.write_in_line.auto.columns ∙ c.deref_mut.ensures.len) in
+    let items : (with_items v.columns c.write_field.new.columns).items ≡ c.write_field.new.columns = with_items_is v.columns c.write_field.new.columns (c.write_field.auto.columns ∙ c.deref_mut.ensures.len) in
     record {
       some = c.self.invariant.some;
       wide = c.self.invariant.wide;
-      laid = IsLaid-len 0 v.columns.items (with_items v.columns c.write_in_line.new.columns).items v.lines.items (ap length items ∙ (c.write_in_line.auto.columns ∙ ap length c.deref_mut.ensures.value)) c.self.invariant.laid;
+      laid = IsLaid-len 0 v.columns.items (with_items v.columns c.write_field.new.columns).items v.lines.items (ap length items ∙ (c.write_field.auto.columns ∙ ap length c.deref_mut.ensures.value)) c.self.invariant.laid;
       came = λ e. absurd (true≢false e);
       table = c.self.invariant.table;
       unseen_are = c.self.invariant.unseen_are;
@@ -40,34 +53,32 @@ returns c =
     let v = c.self.inside in
     let columns = v.columns.items in
     let lines = v.lines.items in
-    let line = c.index-line.result.now in
-    let put = entry_columns c.args.entry in
-    let own = take line.width (drop line.first columns) in
-    let field = rewritten c.item.result.now put own in
-    let len : length c.args.self.now.run.lines ≡ length lines = ap (λ x. length x.run.lines) (sym c.self.view_is) ∙ length-map lines (laid_line columns) in
-    let within : c.args.place < length lines = omega (arith, c.requires.place) in
-    let high = laid_within 0 columns lines c.args.place line c.self.invariant.laid within c.index-line.ensures in
-    let width : length field ≡ line.width = rw c.deref_mut.ensures.value at c.write_in_line.ensures.width in
-    let items : (with_items v.columns c.write_in_line.new.columns).items ≡ with_columns line.first field columns =
-    with_items_is v.columns c.write_in_line.new.columns (c.write_in_line.auto.columns ∙ c.deref_mut.ensures.len) ∙ (rw c.deref_mut.ensures.value at c.write_in_line.ensures.columns) in
-    let changed = laid_lines-with 0 columns field lines c.args.place 0 line c.self.invariant.laid within c.index-line.ensures (omega arith) in
-    let now : laid_lines (with_items v.columns c.write_in_line.new.columns).items lines ≡ set (laid_lines columns lines) c.args.place (record (laid_line columns line) { columns = field }) =
-    ap (λ cs. laid_lines cs lines) items ∙ (ap (λ n. laid_lines (with_columns n field columns) lines) (sym (add-zero line.first))
-    ∙ (changed ∙ ap (λ cs. set (laid_lines columns lines) c.args.place (record (laid_line columns line) { columns = cs })) (with_columns-all field own (width ∙ sym (width_of_line columns line.first line.width high))))) in
-    let there : line_at (record { lines = laid_lines columns lines; marked = v.marked; first_line = v.first_line }) c.args.place ≡ laid_line columns line = line_in columns lines c.args.place line within c.index-line.ensures in
-    let old : CaseText = record { dictionary = v.dictionary.now; ids = v.ids.items; run = record { lines = laid_lines columns lines; marked = v.marked; first_line = v.first_line } } in
+    let span = c.index-span.result.now in
+    let first = c.index-first.result.now in
     let n = c.args.item in
-    let item : c.item.result.now ≡ item_at (items_of old) n = c.item.ensures.item ∙ ap (λ x. item_at (items_of x) n) (sym c.self.view_is) in
-    let inside : (item_at (items_of c.args.self.now) n).start - 1 + (item_at (items_of c.args.self.now) n).len ≤ length (line_at c.args.self.now.run c.args.place).columns =
-    item_within c.args.self.now (item_at (items_of c.args.self.now) n).owner n c.args.place
-    (subst IsFit c.self.view_is (kept_fits v.dictionary.now v.ids.items columns lines v.marked v.first_line c.self.invariant.some c.self.invariant.wide c.self.invariant.laid))
-    c.item.ensures.sound c.requires.place c.requires.own c.requires.there c.requires.item refl in
-    let inside_old : (item_at (items_of old) n).start - 1 + (item_at (items_of old) n).len ≤ length (line_at old.run c.args.place).columns =
-    subst (λ (x : CaseText). (item_at (items_of x) n).start - 1 + (item_at (items_of x) n).len ≤ length (line_at x.run c.args.place).columns) (sym c.self.view_is) inside in
-    let room : (item_at (items_of old) n).start - 1 + (item_at (items_of old) n).len ≤ length own =
-    subst (λ (l : LineText). (item_at (items_of old) n).start - 1 + (item_at (items_of old) n).len ≤ length l.columns) there inside_old in
-    let field_is : field ≡ with_columns ((item_at (items_of old) n).start - 1) (put (item_at (items_of old) n).len) own =
-    ap (λ i. rewritten i put own) item ∙ rewritten_whole (item_at (items_of old) n) put own room (entry_wide c.args.entry (item_at (items_of old) n).len) in
-    ap (λ ls. record old { run = record old.run { lines = ls } }) (now ∙ (ap (λ cs. set (laid_lines columns lines) c.args.place (record (laid_line columns line) { columns = cs })) field_is
-    ∙ ap (λ (l : LineText). set (laid_lines columns lines) c.args.place (record l { columns = with_columns ((item_at (items_of old) n).start - 1) (put (item_at (items_of old) n).len) l.columns })) (sym there)))
-    ∙ ap (λ x. with_item x c.args.place n (put (item_at (items_of x) n).len)) c.self.view_is
+    let shape = item_at (items_of c.args.self.now) n in
+    let from = shape.start - 1 in
+    let field = entry_columns c.args.entry shape.len in
+    let place = place_of c.args.self.now c.args.number c.args.occurrence in
+    let fits = first_within c.args.self.now _ _ _ _ _ _ _ _ _ _ _ c.args.number c.args.occurrence span c.self.view_is c.self.invariant c.requires.there c.index-span.ensures c.requires.occurrence in
+    let begins = get_or_read v.table.firsts.items (span.start + c.args.occurrence - 1) first (omega (arith, c.requires.occurrence.0)) c.index-first.ensures 0 in
+    let at = own_item c.args.self.now _ _ _ _ _ _ _ _ _ _ _ c.args.number c.args.occurrence first n span c.self.view_is c.self.invariant c.item.ensures.sound c.requires.there
+    c.index-span.ensures c.requires.occurrence c.requires.item c.requires.owns begins in
+    let line = at.own.line in
+    let wide : length field ≡ shape.len = entry_wide c.args.entry shape.len in
+    let wrote : c.write_field.new.columns ≡ with_columns (line.first + from) field columns =
+    c.write_field.ensures ∙ (ap (λ (i : ItemShape). with_columns (first + (i.start - 1)) (entry_columns c.args.entry i.len) c.deref_mut.result.now) c.item.ensures.item
+    ∙ (ap (λ cs. with_columns (first + from) field cs) c.deref_mut.ensures.value ∙ ap (λ k. with_columns (k + from) field columns) at.own.begins)) in
+    let items : (with_items v.columns c.write_field.new.columns).items ≡ with_columns (line.first + from) field columns =
+    with_items_is v.columns c.write_field.new.columns (c.write_field.auto.columns ∙ c.deref_mut.ensures.len) ∙ wrote in
+    let changed = laid_lines-with 0 columns field lines place from line c.self.invariant.laid at.own.there at.own.at (omega (arith, at.whole)) in
+    let now : laid_lines (with_items v.columns c.write_field.new.columns).items lines ≡ set (laid_lines columns lines) place (record (laid_line columns line) { columns = with_columns from field (laid_line columns line).columns }) =
+    ap (λ cs. laid_lines cs lines) items ∙ changed in
+    let old : CaseText = case_in v.dictionary.now v.ids.items columns lines v.marked v.first_line in
+    ap (λ ls. record old { run = record old.run { lines = ls } })
+    (now ∙ ap (λ (l : LineText). set (laid_lines columns lines) place (record l { columns = with_columns from field l.columns })) (sym at.own.is))
+    ∙ ap (λ (x : CaseText). record x {
+      run = record x.run {
+        lines = set x.run.lines place (record (line_at c.args.self.now.run place) { columns = with_columns from field (line_at c.args.self.now.run place).columns });
+      };
+    }) c.self.view_is

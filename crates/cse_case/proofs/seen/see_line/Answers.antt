@@ -1,0 +1,74 @@
+use Rattle.std.proofs.Common.{subst, ◌≡◌, ◌<◌, ◌≤◌, length, map, take, get_or, None, Some, ap, ◌∙◌, arith}
+use Rattle.cse_value.specs.declared.shape.RecordShape.{RecordShape}
+use Rattle.cse_value.specs.Occurrences.{most_occurrences}
+use Rattle.cse_lines.specs.declared.line.Line.{Line}
+use Rattle.cse_case.specs.declared.seen.Span.{Span}
+use Rattle.cse_lines.specs.declared.line.Ending.TheVariants.{FileEnd}
+use Rattle.std.proofs.lemmas.List.{length-map}
+use Rattle.cse_case.specs.Seen.{unseen_after}
+use Rattle.cse_case.specs.Table.{first_at, type_at, types_in}
+use Rattle.cse_case.specs.Found.{IsLonger}
+use Rattle.cse_case.proofs.SeenLaws.{most_at, type_is}
+use Rattle.cse_case.proofs.TableLaws.{AreSeen-extra, AreSeen-occurrence, AreSeen-unknown, count_at, extra_here, first_here, seen_here, span_same}
+use Rattle.cse_case.proofs.seen.see_line.Goals as goal
+
+abbrev no_line : Line
+no_line = record { first = 0; width = 0; len = 0; ending = FileEnd; record_number = None }
+
+abbrev no_record : RecordShape
+no_record = record { max_records = 0; record_len = 0 }
+
+pub returns-in_default : goal.returns-in_default
+returns-in_default c =
+    let own : type_at c.args.lines.now c.args.place ≡ None = type_is c.args.lines.now c.args.place no_line c.requires.place ∙ c.in_default.is in (
+      ap (unseen_after c.args.records.now (take c.args.place (types_in c.args.lines.now))) own,
+      AreSeen-unknown c.args.records.now c.args.lines.now c.args.place c.args.firsts.now.items c.args.spans.now.items c.requires.place c.requires.seen own,
+    )
+
+pub returns-then-branch : goal.returns-then-branch
+returns-then-branch c =
+    let records = c.args.records.now in
+    let lines = c.args.lines.now in
+    let place = c.args.place in
+    let firsts = c.args.firsts.now.items in
+    let spans = c.args.spans.now.items in
+    let r = c.in-Some.record in
+    let span = c.index_mut.result.now in
+    let own : type_at lines place ≡ Some r = type_is lines place no_line c.requires.place ∙ c.in-Some.is in
+    let low : r < length spans = omega (arith, c.if-record-records.true, c.requires.seen.counts.size, length-map spans (λ s. s.count)) in
+    let same = span_same spans r c.index-span.result.now span low c.index-span.ensures c.index_mut.ensures.value in
+    let most : c.index-span.result.now.count < most_occurrences records r = rw (most_at records r no_record c.if-record-records.true) c.if-span-most.true in
+    let room : span.count < most_occurrences records r = subst (λ (s : Span). s.count < most_occurrences records r) same most in
+    let longer = c.in_ok-add_occurrence.ensures c.if-branch.true in
+    let more : IsLonger span (first_at lines place) firsts c.add_occurrence.new.firsts.items c.add_occurrence.new.span = rw (first_here lines place no_line c.requires.place) longer in (
+      seen_here records lines place firsts spans r span c.requires.seen own c.if-record-records.true low c.index_mut.ensures.value room,
+      AreSeen-occurrence records lines place firsts c.add_occurrence.new.firsts.items spans r span c.add_occurrence.new.span c.requires.place c.requires.seen own c.if-record-records.true low
+          c.index_mut.ensures.value room more,
+    )
+
+pub returns-else-span-most : goal.returns-else-span-most
+returns-else-span-most c =
+    let records = c.args.records.now in
+    let lines = c.args.lines.now in
+    let place = c.args.place in
+    let firsts = c.args.firsts.now.items in
+    let spans = c.args.spans.now.items in
+    let r = c.in-Some.record in
+    let span = c.index-span.result.now in
+    let own : type_at lines place ≡ Some r = type_is lines place no_line c.requires.place ∙ c.in-Some.is in
+    let low : r < length spans = omega (arith, c.if-record-records.true, c.requires.seen.counts.size, length-map spans (λ s. s.count)) in
+    let most : most_occurrences records r ≤ span.count = rw (most_at records r no_record c.if-record-records.true) c.if-span-most.false in
+    let full : r < length records → most_occurrences records r ≤ get_or (map (λ s. s.count) spans) r 0 = λ _. rw (count_at spans r span low c.index-span.ensures) most in
+    (extra_here records lines place firsts spans r c.requires.seen own full, AreSeen-extra records lines place firsts spans r c.requires.place c.requires.seen own full)
+
+pub returns-else-record-records : goal.returns-else-record-records
+returns-else-record-records c =
+    let records = c.args.records.now in
+    let lines = c.args.lines.now in
+    let place = c.args.place in
+    let firsts = c.args.firsts.now.items in
+    let spans = c.args.spans.now.items in
+    let r = c.in-Some.record in
+    let own : type_at lines place ≡ Some r = type_is lines place no_line c.requires.place ∙ c.in-Some.is in
+    let full : r < length records → most_occurrences records r ≤ get_or (map (λ s. s.count) spans) r 0 = λ low. absurd (omega (arith, c.if-record-records.false)) in
+    (extra_here records lines place firsts spans r c.requires.seen own full, AreSeen-extra records lines place firsts spans r c.requires.place c.requires.seen own full)
