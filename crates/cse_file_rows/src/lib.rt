@@ -1,0 +1,19 @@
+//! Worked rows of the files that a run reads and writes: tests of public calls, of what no clause says. They stand apart
+//! so that each of these libraries is proved once, and not a second time with its tests; and apart from the rows of the
+//! machine and of whole runs, so that they are not proved again where only these change.
+//!
+//! - `lines`, `cases`: files as runs of lines, and as cases.
+//! - `decks`: deck files.
+//! - `reports`, `failing`: listings and frequencies; writers that fail, and growths that are refused.
+#![tactic(auto)]
+
+#[cfg(test)]
+mod cases;
+#[cfg(test)]
+mod decks;
+#[cfg(test)]
+mod failing;
+#[cfg(test)]
+mod lines;
+#[cfg(test)]
+mod reports;
