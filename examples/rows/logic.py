@@ -48,6 +48,12 @@ def fields():
         of_age("a negative number with zeros", b"AGE = -5;", line, b"P00111-05", sample(b"AGE", b"ZeroFill=Yes")),
         of_age("missing without a code", b"AGE = missing;", line, b"P00111***"),
         of_age("missing with a code", b"AGE = missing;", line, b"P00111999", sample(b"AGE", b"EditMissing=999")),
+        of_age("a number in a line that ends before it", b"AGE = 35;", b"P00211", b"P00211 35"),
+        of_age("a number that is taken away", b"AGE = notappl;", b"P00111 35", b"P00111   "),
+        Row("a number too long, before CR and LF", b"PROC AGE AGE = 1000;", [Run(b"P00111 35\r\n", {"OUT": b"P00111***\r\n"})]),
+        Row("a number in a line at the end of the file", b"PROC AGE AGE = -5;", [Run(b"P001", {"OUT": b"P001   -5"})]),
+        of_age("a text in place of another, a character a column", 'if AGE = "\u00e9 " then AGE = "\U0001f600"; endif;'.encode(),
+               "P00111\u00e9 35".encode(), "P00111\U0001f600 35".encode(), sample(b"AGE", b"DataType=Alpha").replace(b"Len=3\r\nDataType", b"Len=2\r\nDataType")),
     ]
 
 

@@ -1,22 +1,20 @@
-//! Cases of files: fields that are set, and readers that fail.
+//! Cases of files: their lines, and readers that fail. What is written into fields is told by clauses and by the rows of
+//! `examples/rows`.
 ghost use Rattle.std.specs.Prelude.{None};
 
-use cse_case::{Case, CaseReader, DataError};
+use cse_case::{CaseReader, DataError};
 use cse_dict::{Dictionary, Unseen};
 use cse_value::shape::{ID_OWNER, ItemKind};
-use cse_value::{Failed, Input, Num, Reads, Writes};
+use cse_value::{Failed, Input, Num, Reads};
 use std::alloc::Global;
-use std::process::Abort;
 use std::test::Fail;
 
-/// A dictionary of persons in households, three at most, with a name.
+/// A dictionary of persons in households, three at most.
 const SAMPLE: &str =
-    "[Dictionary]\nName=SAMPLE_DICT\nRecordTypeStart=1\nRecordTypeLen=1\n[Level]\nName=QUEST\n[IdItems]\n[Item]\nName=HH\nStart=2\nLen=3\nZeroFill=Yes\n[Record]\nName=PERSON\nRecordTypeValue='P'\nRecordLen=12\nMaxRecords=3\n[Item]\nName=SEX\nStart=5\nLen=1\n[Item]\nName=NAME\nStart=6\nLen=1\nDataType=Alpha\n[Item]\nName=AGE\nStart=7\nLen=3\n";
+    "[Dictionary]\nName=SAMPLE_DICT\nRecordTypeStart=1\nRecordTypeLen=1\n[Level]\nName=QUEST\n[IdItems]\n[Item]\nName=HH\nStart=2\nLen=3\nZeroFill=Yes\n[Record]\nName=PERSON\nRecordTypeValue='P'\nRecordLen=12\nMaxRecords=3\n[Item]\nName=SEX\nStart=5\nLen=1\n[Item]\nName=REL\nStart=6\nLen=1\n[Item]\nName=AGE\nStart=7\nLen=3\n";
 
 /// The numbers of the items.
 const HH: u16 = 0;
-
-const NAME: u16 = 2;
 
 const AGE: u16 = 3;
 
@@ -51,62 +49,6 @@ fn dictionary(alloc: Global) -> Result<Dictionary, Fail> {
         Ok(d) => Ok(d),
         Err(_) => Err("a fault of the dictionary".into()),
     }
-}
-
-/// What is written of a case.
-fn written(alloc: Global, case: &Case<'_>) -> Result<Vec<u8>, Fail> {
-    let mut output = Writes::new(Vec::new(alloc));
-    match case.write_to(&mut output) {
-        Ok(()) => Ok(output.into_inner()),
-        Err(_) => Err("a write failed".into()),
-    }
-}
-
-/// A line after AGE was set in it.
-fn with_age(rt: &impl Abort, alloc: Global, line: &str, value: Num) -> Result<Vec<u8>, Fail> {
-    let d = dictionary(alloc)?;
-    let mut input = Reads::new(line.as_bytes());
-    let mut reader = CaseReader::new(alloc, &d, &mut input);
-    let Ok(Some(mut case)) = reader.next() else {
-        return Err("no case".into());
-    };
-    assert!(rt; case.has_occurrence(0, 1));
-    assert!(rt; case.has_item(0, ItemKind::Number, AGE));
-    case.set_num(0, 1, AGE, value);
-    written(alloc, &case)
-}
-
-#[test]
-fn a_number_is_written_into_its_columns(rt: HostRuntime) -> Result<(), Fail> {
-    let line = with_age(&rt, rt.alloc(), "P00211\n", Num::Whole(35))?;
-    assert_eq!(rt; line.as_slice(), b"P00211 35\n".as_slice());
-    let line = with_age(&rt, rt.alloc(), "P00111 35\n", Num::NotAppl)?;
-    assert_eq!(rt; line.as_slice(), b"P00111   \n".as_slice());
-    let line = with_age(&rt, rt.alloc(), "P00111 35\r\n", Num::Whole(1000))?;
-    assert_eq!(rt; line.as_slice(), b"P00111***\r\n".as_slice());
-    let line = with_age(&rt, rt.alloc(), "P001", Num::Whole(-5))?;
-    assert_eq!(rt; line.as_slice(), b"P001   -5".as_slice());
-    Ok(())
-}
-
-#[test]
-fn a_text_is_one_character_a_column(rt: HostRuntime) -> Result<(), Fail> {
-    let d = dictionary(rt.alloc())?;
-    let mut input = Reads::new("P0011\u{e9} 35\n".as_bytes());
-    let mut reader = CaseReader::new(rt.alloc(), &d, &mut input);
-    let Ok(Some(mut case)) = reader.next() else {
-        return Err("no case".into());
-    };
-    assert!(rt; case.has_occurrence(0, 1));
-    assert!(rt; case.has_item(0, ItemKind::Text, NAME));
-    let mut text = case.get_text(0, 1, NAME);
-    assert_eq!(rt; text.as_slice(), ['\u{e9}'].as_slice());
-    assert!(rt; text.pop().is_some());
-    assert!(rt; text.try_push('\u{1f600}').is_ok());
-    case.set_text(0, 1, NAME, &text);
-    let line = written(rt.alloc(), &case)?;
-    assert_eq!(rt; line.as_slice(), "P0011\u{1f600} 35\n".as_bytes());
-    Ok(())
 }
 
 #[test]
