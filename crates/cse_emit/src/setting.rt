@@ -16,7 +16,7 @@ pub struct Setting<'a> {
 }
 
 /// The innermost loop around: where its turn ends, and its `END`.
-#[derive(Clone, Copy, Debug, PartialEq, Eq)]
+#[derive(Clone, Copy, PartialEq, Eq)]
 pub struct Loop {
     pub turn_end: usize,
     pub end: usize,

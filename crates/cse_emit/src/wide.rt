@@ -3,7 +3,7 @@
 use cse_parts::instruction::Op;
 
 /// An instruction that has no place in a table yet.
-#[derive(Clone, Copy, Debug)]
+#[derive(Clone, Copy)]
 pub enum Wide<'a> {
     Constant(i64),
     /// A text with its quotes.

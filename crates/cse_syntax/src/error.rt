@@ -28,7 +28,7 @@ pub struct SyntaxError {
 }
 
 /// What is wrong, with its number.
-#[derive(Clone, Copy, Debug, PartialEq, Eq)]
+#[derive(Clone, Copy, PartialEq, Eq)]
 pub enum Cause {
     Character = 30,
     Comment = 31,
@@ -39,13 +39,13 @@ pub enum Cause {
 }
 
 /// What is wrong, and the byte of the text at which it is.
-#[derive(Clone, Copy, Debug)]
+#[derive(Clone, Copy)]
 pub struct Fault {
     pub cause: Cause,
     pub place: usize,
 }
 
-#[derive(Debug, Drop)]
+#[derive(Drop)]
 pub enum ReadError {
     Memory,
     Found(Fault),

@@ -14,7 +14,7 @@ use crate::word::word_kind;
 use std::alloc::{AllocError, Global};
 
 /// Where a byte of blanks and comments is.
-#[derive(Clone, Copy, Debug, PartialEq, Eq)]
+#[derive(Clone, Copy, PartialEq, Eq)]
 pub enum Gap {
     /// In none.
     Between,

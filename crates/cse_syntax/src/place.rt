@@ -8,7 +8,7 @@ use crate::lexer::{characters, past_mark};
 
 /// A line and a column, both from 1. Only LF ends a line; each character is a column, but a byte order mark at the front
 /// is none. What a `u32` can't hold is its greatest.
-#[derive(Clone, Copy, Debug, PartialEq, Eq)]
+#[derive(Clone, Copy, PartialEq, Eq)]
 pub struct Position {
     pub line: u32,
     pub column: u32,

@@ -6,7 +6,7 @@ ghost use Rattle.cse_syntax.specs.Leaf.{is_token};
 use crate::tree::{Jump, Special};
 
 /// A reserved word or a symbol.
-#[derive(Clone, Copy, Debug, PartialEq, Eq)]
+#[derive(Clone, Copy, PartialEq, Eq)]
 pub enum Mark {
     Proc,
     Global,
@@ -61,7 +61,7 @@ pub enum Mark {
     Percent,
 }
 
-#[derive(Clone, Copy, Debug, PartialEq, Eq)]
+#[derive(Clone, Copy, PartialEq, Eq)]
 pub enum Kind {
     /// A word of at most 32 characters that isn't reserved.
     Name,
@@ -80,7 +80,7 @@ pub enum Kind {
 }
 
 /// A token: the bytes of the source from `start` up to `end`.
-#[derive(Clone, Copy, Debug)]
+#[derive(Clone, Copy)]
 pub struct Token<'a> {
     /// How many tokens stand before it.
     pub index: usize,

@@ -8,7 +8,7 @@ ghost use Rattle.cse_syntax.specs.Tree.{expr, literal, message, stmt};
 ghost use Rattle.cse_syntax.specs.First.{expr_token, literal_token, message_token, stmt_token};
 
 /// A name, a number or a text (its quotes included), as written.
-#[derive(Clone, Copy, Debug)]
+#[derive(Clone, Copy)]
 pub struct Lexeme<'a> {
     pub token: usize,
     pub text: &'a str,
@@ -17,7 +17,7 @@ pub struct Lexeme<'a> {
 // ---- expressions
 
 /// The operators that group to the left.
-#[derive(Clone, Copy, Debug, PartialEq, Eq)]
+#[derive(Clone, Copy, PartialEq, Eq)]
 pub enum Operator {
     Or,
     And,
@@ -28,7 +28,7 @@ pub enum Operator {
     Remainder,
 }
 
-#[derive(Clone, Copy, Debug, PartialEq, Eq)]
+#[derive(Clone, Copy, PartialEq, Eq)]
 pub enum Relation {
     Equal,
     Differs,
@@ -39,7 +39,7 @@ pub enum Relation {
 }
 
 /// The special values.
-#[derive(Clone, Copy, Debug, PartialEq, Eq)]
+#[derive(Clone, Copy, PartialEq, Eq)]
 pub enum Special {
     NotAppl,
     Missing,
@@ -47,14 +47,14 @@ pub enum Special {
 }
 
 /// The functions of one value.
-#[derive(Clone, Copy, Debug, PartialEq, Eq)]
+#[derive(Clone, Copy, PartialEq, Eq)]
 pub enum Function {
     Int,
     Special,
 }
 
 /// The functions of one name.
-#[derive(Clone, Copy, Debug, PartialEq, Eq)]
+#[derive(Clone, Copy, PartialEq, Eq)]
 pub enum Query {
     GetDeck,
     TotOcc,
@@ -104,28 +104,28 @@ pub struct Place<'a> {
 }
 
 /// A number with its sign.
-#[derive(Clone, Copy, Debug)]
+#[derive(Clone, Copy)]
 pub struct Literal<'a> {
     pub is_negative: bool,
     pub digits: Lexeme<'a>,
 }
 
 /// What a limit of a `do` counts.
-#[derive(Clone, Copy, Debug, PartialEq, Eq)]
+#[derive(Clone, Copy, PartialEq, Eq)]
 pub enum Count {
     TotOcc,
     MaxOcc,
 }
 
 /// Where a `do` begins and ends.
-#[derive(Clone, Copy, Debug)]
+#[derive(Clone, Copy)]
 pub enum Limit<'a> {
     Literal(Literal<'a>),
     Count(Count, Lexeme<'a>),
 }
 
 /// The head of a `do varying`. The two names of its variable are the same but for letter case.
-#[derive(Clone, Copy, Debug)]
+#[derive(Clone, Copy)]
 pub struct Counting<'a> {
     pub variable: Lexeme<'a>,
     pub from: Limit<'a>,
@@ -134,7 +134,7 @@ pub struct Counting<'a> {
     pub by: Option<Lexeme<'a>>,
 }
 
-#[derive(Clone, Copy, Debug, PartialEq, Eq)]
+#[derive(Clone, Copy, PartialEq, Eq)]
 pub enum Jump {
     Break,
     Next,
@@ -142,7 +142,7 @@ pub enum Jump {
 }
 
 /// What a message says: a text of its own, or the number of one.
-#[derive(Clone, Copy, Debug)]
+#[derive(Clone, Copy)]
 pub enum Message<'a> {
     Text(Lexeme<'a>),
     Number(Lexeme<'a>),
@@ -178,14 +178,14 @@ pub struct Arm<'a> {
 // ---- sources
 
 /// The size of an array in one direction: a number, or the rows of a value set, with one more where `(+)` stands.
-#[derive(Clone, Copy, Debug)]
+#[derive(Clone, Copy)]
 pub enum Dimension<'a> {
     Number(Lexeme<'a>),
     Set(Lexeme<'a>, bool),
 }
 
 /// A parameter of a function, and whether `numeric` stands before it.
-#[derive(Clone, Copy, Debug)]
+#[derive(Clone, Copy)]
 pub struct Parameter<'a> {
     pub is_declared: bool,
     pub name: Lexeme<'a>,

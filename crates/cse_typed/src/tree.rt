@@ -9,7 +9,7 @@ use cse_syntax::{Count, Jump, Lexeme, Literal, Message, Operator, Parameter, Rel
 // ---- what names mean
 
 /// A variable that holds a number.
-#[derive(Clone, Copy, Debug, PartialEq, Eq)]
+#[derive(Clone, Copy, PartialEq, Eq)]
 pub enum Variable {
     Global(usize),
     /// By its place among the parameters, from 0.
@@ -19,7 +19,7 @@ pub enum Variable {
 }
 
 /// Which occurrence an item of a record means where no subscript stands.
-#[derive(Clone, Copy, Debug, PartialEq, Eq)]
+#[derive(Clone, Copy, PartialEq, Eq)]
 pub enum Found {
     /// That of the innermost `for` over the record.
     Loop,
@@ -30,7 +30,7 @@ pub enum Found {
 }
 
 /// An item of a record.
-#[derive(Clone, Copy, Debug, PartialEq, Eq)]
+#[derive(Clone, Copy, PartialEq, Eq)]
 pub struct Field {
     /// The number of its record.
     pub owner: u8,
@@ -38,7 +38,7 @@ pub struct Field {
 }
 
 /// An item without a subscript.
-#[derive(Clone, Copy, Debug, PartialEq, Eq)]
+#[derive(Clone, Copy, PartialEq, Eq)]
 pub enum Present {
     /// An id item.
     Id(u16),
@@ -46,7 +46,7 @@ pub enum Present {
 }
 
 /// What picks one index of a hot deck: the row of an item's value in a value set.
-#[derive(Clone, Copy, Debug, PartialEq, Eq)]
+#[derive(Clone, Copy, PartialEq, Eq)]
 pub struct Pick {
     pub item: Present,
     pub set: u16,
@@ -129,14 +129,14 @@ pub enum Argument<'a> {
 }
 
 /// A number with its sign, and what it is.
-#[derive(Clone, Copy, Debug)]
+#[derive(Clone, Copy)]
 pub struct Whole<'a> {
     pub literal: Literal<'a>,
     pub value: i64,
 }
 
 /// Where a `do` begins and ends.
-#[derive(Clone, Copy, Debug)]
+#[derive(Clone, Copy)]
 pub enum Limit<'a> {
     Literal(Whole<'a>),
     /// The occurrences of a record, by its number.
@@ -144,7 +144,7 @@ pub enum Limit<'a> {
 }
 
 /// The head of a `do varying`.
-#[derive(Clone, Copy, Debug)]
+#[derive(Clone, Copy)]
 pub struct Counting<'a> {
     pub name: Lexeme<'a>,
     pub variable: Variable,
@@ -191,7 +191,7 @@ pub struct Arm<'a> {
 // ---- sources
 
 /// The size of an array in one direction: a number, or the rows of a value set, with one more where `(+)` stands.
-#[derive(Clone, Copy, Debug)]
+#[derive(Clone, Copy)]
 pub enum Dimension<'a> {
     Number(Lexeme<'a>, u16),
     /// The set's name, its number, whether `(+)` stands there, and the size.
@@ -235,7 +235,7 @@ pub enum Body<'a> {
 }
 
 /// What a procedure belongs to.
-#[derive(Clone, Copy, Debug, PartialEq, Eq)]
+#[derive(Clone, Copy, PartialEq, Eq)]
 pub enum Owner {
     Application,
     Level,
@@ -252,7 +252,7 @@ pub struct Procedure<'a> {
 
 /// A message of the source: its number, 0 for a text that stands in the source, its text, and whether it is only
 /// counted.
-#[derive(Clone, Copy, Debug)]
+#[derive(Clone, Copy)]
 pub struct Entry<'a> {
     pub number: u32,
     pub text: &'a str,

@@ -3,7 +3,7 @@
 ghost use Rattle.std.specs.Prelude.{◌≤◌};
 
 /// A fault of logic: its number, from 40 to 49, and the index of its token.
-#[derive(Clone, Copy, Debug)]
+#[derive(Clone, Copy)]
 pub struct Fault {
     pub number: u8,
     pub token: usize,
@@ -12,7 +12,7 @@ pub struct Fault {
 }
 
 /// The least fault so far.
-#[derive(Clone, Copy, Debug)]
+#[derive(Clone, Copy)]
 pub struct Faults {
     pub worst: Option<Fault>,
 }

@@ -3,7 +3,7 @@
 use cse_typed::{Owner, Variable};
 
 /// What a name means.
-#[derive(Clone, Copy, Debug, PartialEq, Eq)]
+#[derive(Clone, Copy, PartialEq, Eq)]
 pub enum Meaning {
     /// A number: a global or a parameter.
     Variable(Variable),
@@ -20,7 +20,7 @@ pub enum Meaning {
 }
 
 /// The routine in which logic stands.
-#[derive(Clone, Copy, Debug, PartialEq, Eq)]
+#[derive(Clone, Copy, PartialEq, Eq)]
 pub enum Routine {
     Procedure(Owner),
     Function(usize),

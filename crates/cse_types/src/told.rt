@@ -3,7 +3,7 @@
 use cse_syntax::Message;
 
 /// A message of the source.
-#[derive(Clone, Copy, Debug)]
+#[derive(Clone, Copy)]
 pub struct Told<'a> {
     pub message: Message<'a>,
     /// Whether it is only counted.
