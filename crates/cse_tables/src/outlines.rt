@@ -9,7 +9,7 @@ use cse_typed::{Body, Declaration, Owner, Procedure, Statement};
 use std::alloc::{AllocError, Global};
 
 /// What a routine is made of.
-#[derive(Clone, Copy, Debug, PartialEq, Eq)]
+#[derive(Clone, Copy, PartialEq, Eq)]
 pub enum Sort {
     /// A function: how many parameters it has, and whether it needs a case.
     Function(usize, bool),
