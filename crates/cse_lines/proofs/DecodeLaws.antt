@@ -1,7 +1,8 @@
 -- Laws of a line that is read as columns.
-use Rattle.std.proofs.Common.{◌≡◌, ℕ, ◌+◌, ◌-◌, ◌<◌, ◌≤◌, max, cond, ltb, Option, Some, None, Bool, true, false, List, [], ◌∷◌, ◌++◌, length, get_or, set, take, drop, replicate, refl, ap, sym, ◌∙◌, arith, append_assoc, append-nil, length-append, length-drop, bit_or, inl, inr}
+use Rattle.std.proofs.Common.{◌≡◌, ℕ, zero, suc, ◌+◌, ◌-◌, ◌<◌, ◌≤◌, max, cond, ltb, Option, Some, None, Bool, true, false, List, [], ◌∷◌, ◌++◌, length, get_or, set, take, drop, replicate, refl, ap, sym, ◌∙◌, arith, append_assoc, append-nil, length-append, length-drop, bit_or, inl, inr, subst, take-append-drop, get_or-take, length-take-le}
 use Rattle.std.specs.Str.{IsAscii, IsUtf8, chars, is_utf8}
-use Rattle.std.proofs.lemmas.Str.{IsUtf8-from_is_utf8, encodes-chars, length-le-encodes}
+use Rattle.std.proofs.lemmas.Str.{IsCharBoundary-after_ascii, IsUtf8-append, IsUtf8-drop, IsUtf8-from_ascii, IsUtf8-from_is_utf8, chars-IsAscii, chars-append, encodes-chars, length-le-encodes}
+use Rattle.std.specs.Str.{IsCharBoundary}
 use Rattle.std.proofs.lemmas.List.{drop-append-le, drop_more, get_or-set_other, get_or-set_same, get_or_past, length-replicate, replicate-append-replicate, take-append-le, take_all, take_at}
 use Rattle.std.proofs.lemmas.Nat.{le_or_l, le_or_r}
 use Rattle.std.proofs.lemmas.Bool.{cases_lt, lt-ltb, ltb-true}
@@ -198,3 +199,39 @@ set_behind front columns n x e h = ap (λ l. set (front ++ l) n x) (drop_more co
 -- a text has no more characters than bytes
 pub chars_fit : (bytes : List ℕ) → IsUtf8 bytes → length (chars bytes) ≤ length bytes
 chars_fit bytes utf8 = omega (arith, length-le-encodes (chars bytes), ap length (encodes-chars bytes utf8))
+
+-- bytes of which those in front are ASCII
+chars_front : (text : List ℕ) (at : ℕ) → IsAscii (take at text) → chars text ≡ take at text ++ chars (drop at text)
+chars_front text at ascii =
+    let front = take at text in
+    ap chars (sym (take-append-drop at text)) ∙ chars-append front (drop at text) (IsUtf8-from_ascii front ascii) ∙ ap (λ l. l ++ chars (drop at text)) (chars-IsAscii front ascii)
+
+pub utf8_front : (text : List ℕ) (at : ℕ) → IsAscii (take at text) → IsUtf8 (drop at text) → IsUtf8 text
+utf8_front text at ascii h = subst IsUtf8 (take-append-drop at text) (IsUtf8-append (take at text) (drop at text) (IsUtf8-from_ascii (take at text) ascii) h)
+
+pub utf8_behind : (text : List ℕ) (at : ℕ) → at ≤ length text → IsAscii (take at text) → IsUtf8 text → IsUtf8 (drop at text)
+utf8_behind text zero fits ascii h = h
+utf8_behind text (suc i) fits ascii h =
+    let next : i + 1 ≡ suc i = omega arith in
+    let low : get_or text i 0 < 128 = subst (λ b. b < 128) (get_or-take (suc i) text i 0 (omega arith)) (ascii i) in
+    IsUtf8-drop text (suc i) h (subst (IsCharBoundary text) next (IsCharBoundary-after_ascii text i h (omega arith) low))
+
+-- the characters of a text over columns that hold its bytes: those in front that are ASCII stayed
+pub Holds-beyond : (columns text new : List ℕ) (at n : ℕ) → columns ≡ padded (length columns) text → at ≤ length text → IsAscii (take at text) → length (chars (drop at text)) ≤ length (drop at columns)
+    → n ≡ length (chars (drop at text)) → new ≡ padded (length (drop at columns)) (chars (drop at text)) → Holds (take at columns ++ new) (chars text) (at + n)
+Holds-beyond columns text new at n over fits ascii low count is =
+    let front = take at text in
+    let rest = chars (drop at text) in
+    let wide = length (drop at columns) in
+    let front_is : take at columns ≡ front = ap (take at) over ∙ take-append-le at text (replicate (length columns - length text) 32) fits in
+    let front_len : length front ≡ at = length-take-le at text fits in
+    let all : chars text ≡ front ++ rest = chars_front text at ascii in
+    let all_len : length (chars text) ≡ length front + length rest = ap length all ∙ length-append front rest in
+    let new_len : length new ≡ max (length rest) wide = ap length is ∙ length-padded wide rest in
+    let whole : length (take at columns ++ new) ≡ length front + length new = ap (λ l. length (l ++ new)) front_is ∙ length-append front new in
+    let blanks : wide - length rest ≡ length (take at columns ++ new) - length (chars text) = omega (arith, whole, all_len, new_len, low) in
+    record {
+      count = omega (arith, count, all_len, front_len);
+      is = ap (λ l. l ++ new) front_is ∙ ap (λ l. front ++ l) is ∙ sym (append_assoc front rest (replicate (wide - length rest) 32))
+          ∙ ap (λ l. l ++ replicate (wide - length rest) 32) (sym all) ∙ ap (λ k. chars text ++ replicate k 32) blanks;
+    }

@@ -14,6 +14,7 @@ use crate::layout::{Layout, field_at, is_same};
 use crate::line::Ending;
 use cse_dict::Dictionary;
 use std::alloc::AllocError;
+use std::simd::prelude::*;
 
 /// The most columns of a line.
 pub const MOST_COLUMNS: usize = 65_536;
@@ -92,6 +93,50 @@ fn put_text(columns: &mut [char], text: &str) -> usize
     len
 }
 
+/// Whether eight bytes are ASCII.
+#[inline(always)]
+fn are_ascii(text: &[u8]) -> bool
+    requires { length text.now ≡ 8 }
+    ensures { result ≡ true → IsAscii text.now }
+{
+    u8x8::from_slice(text)
+        .simd_ge(u8x8::splat(128))
+        .to_bitmask()
+        == 0
+}
+
+/// How many bytes from the front are ASCII, as far as eight at once are.
+fn ascii_front(text: &[u8]) -> usize
+    ensures fits { result ≤ length text.now }
+    ensures ascii { IsAscii (take result text.now) }
+{
+    let mut at = 0;
+    'eights: while 8 <= text.len() - at && are_ascii(&text[at..at + 8]) {
+        at += 8;
+    }
+    at
+}
+
+/// The characters of a text over columns that hold its bytes as characters: those in front that are ASCII
+/// stay. Tells how many characters there are.
+#[inline(never)]
+fn put_beyond(columns: &mut [char], text: &[u8]) -> Result<usize, Stop>
+    requires over { columns.old ≡ padded (length columns.old) text.now }
+    requires fits { length text.now ≤ length columns.old }
+    ensures len { length columns.new ≡ length columns.old }
+    ensures columns { IfOk result (λ len. Holds columns.new (chars text.now) len) }
+    ensures utf8 { OnOk result (is_utf8 text.now ≡ true) }
+    ensures err { IfErr result (IfFault (λ number. (number ≡ 20) × (is_utf8 text.now ≡ false))) }
+{
+    let at = ascii_front(text);
+    let (_, bytes) = text.split_at(at);
+    let (_, rest) = columns.split_at_mut(at);
+    match str::from_utf8(bytes) {
+        Ok(text) => Ok(at + put_text(rest, text)),
+        Err(_) => Err(Stop::Fault(20)),
+    }
+}
+
 /// The characters of a text, in place of what was there, and maybe blanks behind them. Tells how many
 /// characters there are.
 fn read_columns(text: &[u8], columns: &mut Vec<char>) -> Result<usize, Stop>
@@ -102,10 +147,7 @@ fn read_columns(text: &[u8], columns: &mut Vec<char>) -> Result<usize, Stop>
     if read_ascii(columns, text)? {
         return Ok(text.len());
     }
-    match str::from_utf8(text) {
-        Ok(text) => Ok(put_text(columns, text)),
-        Err(_) => Err(Stop::Fault(20)),
-    }
+    put_beyond(columns, text)
 }
 
 /// Pads columns with blanks to a width.
@@ -122,7 +164,9 @@ fn pad(columns: &mut Vec<char>, width: usize) -> Result<(), AllocError>
 fn set_width(columns: &mut Vec<char>, width: usize) -> Result<(), AllocError>
     ensures { OnOk result (columns.new.items ≡ take width columns.old.items ++ replicate (width - length columns.old.items) 32) }
 {
-    if columns.len() != width {
+    if width < columns.len() {
+        columns.truncate(width);
+    } else if columns.len() < width {
         columns.resize(width, ' ')?;
     }
     Ok(())

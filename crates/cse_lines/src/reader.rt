@@ -26,7 +26,6 @@ pub struct Kept {
 }
 
 /// Reads a data file run by run.
-#[derive(Drop)]
 pub struct RunReader<'a> {
     alloc: Global,
     dictionary: &'a Dictionary,
@@ -59,6 +58,24 @@ impl<'a> Model for RunReader<'a> {
     } };
 
     ghost invariant = { λ r. IsKept r.dictionary.now r.layout r.run r.buffer r.ended r.reads r.lines };
+}
+
+impl<'a> Drop for RunReader<'a> {
+    fn drop(self) {
+        let RunReader {
+            alloc: _alloc,
+            dictionary: _dictionary,
+            layout: _layout,
+            run: _run,
+            room: _room,
+            columns: _columns,
+            buffer: _buffer,
+            ended: _ended,
+            reads: _reads,
+            lines: _lines,
+            error: _error,
+        } = self;
+    }
 }
 
 impl<'a> RunReader<'a> {

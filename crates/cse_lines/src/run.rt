@@ -17,7 +17,6 @@ use std::marker::Model;
 
 /// Consecutive lines with equal id columns. The columns of all lines stand in one list, one line after
 /// the other, each padded with blanks to its width; and their bytes, as they came, in another.
-#[derive(Drop)]
 pub struct Run {
     columns: Filled,
     lines: Vec<Line>,
@@ -37,6 +36,18 @@ impl Model for Run {
     ghost view = { λ r. record { lines = laid_lines r.columns r.lines.items; marked = r.marked; first_line = r.first_line } };
 
     ghost invariant = { λ r. IsWhole r.columns r.lines.items r.bytes.items };
+}
+
+impl Drop for Run {
+    fn drop(self) {
+        let Run {
+            columns: _columns,
+            lines: _lines,
+            bytes: _bytes,
+            marked: _marked,
+            first_line: _first_line,
+        } = self;
+    }
 }
 
 /// Room for the columns, the lines and the bytes of a run.
