@@ -12,6 +12,7 @@
 
 mod case;
 mod field;
+mod items;
 mod laws;
 mod number;
 mod reader;

@@ -7,6 +7,7 @@ ghost use Rattle.cse_case.specs.Fit.{line_width};
 
 use crate::case::Case;
 use crate::field::field_of;
+use crate::items::Items;
 use crate::seen::Table;
 use cse_dict::Dictionary;
 use cse_lines::Run;
@@ -19,7 +20,7 @@ use std::mem;
 /// ids and for its table.
 #[derive(Drop)]
 pub struct Source<'a> {
-    dictionary: &'a Dictionary,
+    items: Items<'a>,
     /// Its id items, those that lie side by side as one.
     id_blocks: Vec<ItemShape>,
     is_known: bool,
@@ -35,9 +36,9 @@ impl<'a> Model for Source<'a> {
 
     ghost Value = { DictionaryText };
 
-    ghost view = { λ s. s.dictionary.now };
+    ghost view = { λ s. s.items };
 
-    ghost invariant = { λ s. s.is_known ≡ true → HaveSame (map span_of s.id_blocks.items) (id_spans s.dictionary.now) };
+    ghost invariant = { λ s. s.is_known ≡ true → HaveSame (map span_of s.id_blocks.items) (id_spans s.items) };
 }
 
 /// The id items among items.
@@ -118,7 +119,7 @@ impl<'a> Source<'a> {
         ensures { result ≡ dictionary.now }
     {
         Source {
-            dictionary,
+            items: Items::new(dictionary),
             id_blocks: Vec::new(alloc),
             is_known: false,
             counts: Vec::new(alloc),
@@ -138,7 +139,7 @@ impl<'a> Source<'a> {
         ensures ids { IfOk result (λ v. v.items ≡ ids_of self.old columns.now) }
     {
         if !self.is_known {
-            let items = id_items(alloc, &self.dictionary.shape().items)?;
+            let items = id_items(alloc, &self.items.dictionary().shape().items)?;
             self.id_blocks = blocks_of(alloc, &items)?;
             self.is_known = true;
         }
@@ -165,6 +166,6 @@ impl<'a> Source<'a> {
         let room = mem::replace(&mut self.ids, Vec::new(alloc));
         let ids = self.ids_of(alloc, room, run.columns(0))?;
         let table = mem::replace(&mut self.table, Table::new(alloc));
-        Case::new(self.dictionary, &mut self.counts, table, ids, run)
+        Case::new(self.items.again(), &mut self.counts, table, ids, run)
     }
 }

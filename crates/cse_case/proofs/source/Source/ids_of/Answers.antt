@@ -13,7 +13,7 @@ listed c = elim c.if-not-self.branch [
   | then-not-self+in_ok-items+in_ok-self-inside w ↦
       let items : w.deref-then-not-self.result.now ≡ id_items_of c.args.self.now =
       w.deref-then-not-self.ensures.value ∙ (w.in_ok-items.ensures ∙ (ap (filter (λ item. item.owner == 255)) w.deref.ensures.value
-      ∙ (ap (λ (s : ShapeLists). filter (λ item. item.owner == 255) s.items) w.shape.ensures.shape ∙ ap id_items_of c.self.view_is))) in
+      ∙ (ap (λ (s : ShapeLists). filter (λ item. item.owner == 255) s.items) w.shape.ensures.shape ∙ ap id_items_of (w.dictionary.ensures ∙ c.self.view_is)))) in
       HaveSame-trans _ _ _ (HaveSame-refl _ _ (ap (λ s. map span_of s.id_blocks.items) w.self-inside-is)) (HaveSame-trans _ _ _ w.in_ok-self-inside.ensures (HaveSame-refl _ _ (ap (map span_of) items)))
   | else-not-self w ↦
       HaveSame-trans _ _ _ (HaveSame-refl _ _ (ap (λ s. map span_of s.id_blocks.items) w.self-inside-is))
