@@ -2,7 +2,7 @@
 
 ghost use Rattle.std.specs.Prelude.{◌≡◌, ◌==◌, ◌+◌, ◌-◌, ◌≤◌, ◌++◌, [], ◌∷◌, filter, length, map, IfOk, IfSome, OnOk};
 ghost use Rattle.std.specs.Str.{bytes_eq};
-ghost use Rattle.cse_lines.specs.Field.{HaveSame, field_at, fields_at, last_column, layout_of, span_of};
+ghost use Rattle.cse_lines.specs.Field.{HaveSame, field_at, fields_at, id_spans, last_column, layout_of, span_of};
 
 use cse_dict::Dictionary;
 use cse_value::shape::{ID_OWNER, ItemShape};
@@ -49,8 +49,8 @@ fn span_of(item: &ItemShape) -> Span
     }
 }
 
-/// The columns of the id items.
-fn id_spans(alloc: Global, items: &[ItemShape]) -> Result<Vec<Span>, AllocError>
+/// The columns of the id items among items, in their order.
+pub fn id_spans(alloc: Global, items: &[ItemShape]) -> Result<Vec<Span>, AllocError>
     ensures { IfOk result (λ v. v.items ≡ map span_of (filter (λ item. item.owner == 255) items.now)) }
 {
     items
@@ -79,7 +79,7 @@ fn last_column(spans: &[Span]) -> usize
 }
 
 /// Two places as one, if the second one lies behind the first.
-fn join(first: Span, second: Span) -> Option<Span>
+pub fn join(first: Span, second: Span) -> Option<Span>
     ensures { IfSome result (λ both. HaveSame (both ∷ []) (first ∷ second ∷ [])) }
 {
     let end = first.start.checked_add(first.len)?;
@@ -94,7 +94,7 @@ fn join(first: Span, second: Span) -> Option<Span>
 }
 
 /// Adds a place behind others: as one with the last of them, where the two lie side by side.
-fn add_block(blocks: &mut Vec<Span>, span: Span) -> Result<(), AllocError>
+pub fn add_block(blocks: &mut Vec<Span>, span: Span) -> Result<(), AllocError>
     ensures { OnOk result (HaveSame blocks.new.items (blocks.old.items ++ span ∷ [])) }
 {
     if let Some(last) = blocks.pop() {
@@ -109,7 +109,7 @@ fn add_block(blocks: &mut Vec<Span>, span: Span) -> Result<(), AllocError>
 }
 
 /// The same columns, those that lie side by side as one place.
-fn blocks_of(alloc: Global, spans: &[Span]) -> Result<Vec<Span>, AllocError>
+pub fn blocks_of(alloc: Global, spans: &[Span]) -> Result<Vec<Span>, AllocError>
     ensures { IfOk result (λ blocks. HaveSame blocks.items spans.now) }
 {
     let mut blocks = Vec::new(alloc);
@@ -117,6 +117,14 @@ fn blocks_of(alloc: Global, spans: &[Span]) -> Result<Vec<Span>, AllocError>
         add_block(&mut blocks, *span)?;
     }
     Ok(blocks)
+}
+
+/// The columns of the id items of a dictionary, those that lie side by side as one place.
+pub fn id_blocks(alloc: Global, dictionary: &Dictionary) -> Result<Vec<Span>, AllocError>
+    ensures { IfOk result (λ blocks. HaveSame blocks.items (id_spans dictionary.now)) }
+{
+    let ids = id_spans(alloc, &dictionary.shape().items)?;
+    blocks_of(alloc, &ids)
 }
 
 /// What stands at a place.
