@@ -29,7 +29,6 @@ use std::marker::Model;
 ///
 /// Occurrences count from 1, and records and items have the numbers of the dictionary. No call takes
 /// memory.
-#[derive(Drop)]
 pub struct Case<'a> {
     items: Items<'a>,
     ids: Vec<char>,
@@ -59,6 +58,23 @@ impl<'a> Model for Case<'a> {
     } };
 
     ghost invariant = { λ c. IsKept c.items c.columns.items c.lines.items c.bytes.items c.is_set c.first_line c.table.firsts.items c.table.spans.items c.table.unseen.items };
+}
+
+// Written out, so that a crate that owns a case calls this drop and does not prove one for each part.
+impl<'a> Drop for Case<'a> {
+    fn drop(self) {
+        let Case {
+            items: _items,
+            ids: _ids,
+            columns: _columns,
+            lines: _lines,
+            bytes: _bytes,
+            is_set: _is_set,
+            marked: _marked,
+            first_line: _first_line,
+            table: _table,
+        } = self;
+    }
 }
 
 impl<'a> Case<'a> {
