@@ -3,6 +3,8 @@ use Rattle.std.proofs.Common.{◌≡◌, ℕ, zero, suc, ◌+◌, ◌-◌, ◌�
 use Rattle.std.proofs.lemmas.List.{drop-take, length-take, take_rest, take_min, drop_min}
 use Rattle.cse_value.specs.declared.shape.ItemShape.{ItemShape}
 use Rattle.cse_value.proofs.WidthLaws.{length-put, length-put_text}
+use Rattle.cse_lines.specs.declared.layout.Span.{Span}
+use Rattle.cse_lines.specs.Field.{field_at}
 use Rattle.cse_case.specs.declared.field.Entry.{Entry}
 use Rattle.cse_case.specs.declared.field.Entry.TheVariants.{Number, Words}
 use Rattle.cse_case.specs.Entry.{entry_columns}
@@ -22,6 +24,14 @@ field_here item columns s n e f =
     let rest : take (length columns - s) (drop s columns) ≡ drop (item.start - 1) columns =
     take_rest columns s ∙ (ap (λ k. drop k columns) e ∙ drop_min (item.start - 1) columns) in
     ap (λ k. take k (take (length columns - s) (drop s columns))) f ∙ (take_min item.len (take (length columns - s) (drop s columns)) ∙ ap (take item.len) rest)
+
+-- the columns of a place that are there
+pub place_here : (span : Span) (columns : List ℕ) (s n : ℕ) → s ≡ min (span.start - 1) (length columns)
+    → n ≡ min span.len (length (take (length columns - s) (drop s columns))) → take n (take (length columns - s) (drop s columns)) ≡ field_at span columns
+place_here span columns s n e f =
+    let rest : take (length columns - s) (drop s columns) ≡ drop (span.start - 1) columns =
+    take_rest columns s ∙ (ap (λ k. drop k columns) e ∙ drop_min (span.start - 1) columns) in
+    ap (λ k. take k (take (length columns - s) (drop s columns))) f ∙ (take_min span.len (take (length columns - s) (drop s columns)) ∙ ap (take span.len) rest)
 
 -- all columns of an item
 pub whole_here : (item : ItemShape) (columns : List ℕ) (start n : ℕ) → start ≡ item.start - 1 → n ≡ item.len → take n (drop start columns) ≡ field_of item columns

@@ -1,5 +1,5 @@
 -- Laws of fields of blanks and then digits.
-use Rattle.std.proofs.Common.{◌≡◌, ℕ, ◌<◌, ◌≤◌, ◌^◌, ◌-◌, ◌+◌, ◌*◌, Bool, true, false, not, cond, eqb, ltb, List, [], ◌∷◌, length, get_or, reverse, Option, Some, None, pos, neg_ℤ, refl, ap, sym, ◌∙◌, arith}
+use Rattle.std.proofs.Common.{◌≡◌, ℕ, ◌<◌, ◌≤◌, ◌^◌, ◌-◌, ◌+◌, ◌*◌, Bool, true, false, not, cond, eqb, ltb, List, [], ◌∷◌, length, get_or, reverse, Option, Some, None, pos, neg_ℤ, refl, ap, sym, ◌∙◌, arith, subst}
 use Rattle.std.specs.Prelude.{ℤ, IfSome}
 use Rattle.std.specs.Option.{option_map}
 use Rattle.std.specs.List.{list_all}
@@ -10,6 +10,7 @@ use Rattle.std.proofs.lemmas.List.{reverse-append, reverse-reverse}
 use Rattle.std.proofs.lemmas.List.Folds.{list_all-append}
 use Rattle.std.proofs.Math.Nat.{pow-le-pow_right}
 use Rattle.cse_value.specs.declared.number.Num.TheVariants.{Missing, NotAppl, Whole}
+use Rattle.cse_case.specs.Limits.{IsKept}
 use Rattle.cse_value.specs.Field.{without_blanks, trimmed, digits_value, digits_number, numeral, in_i64, is_code, value_of, value_of_trimmed, field}
 
 raised : (i j : ℕ) → i ≤ j → 10 ^ i ≤ 10 ^ j
@@ -103,6 +104,18 @@ no_code columns spelled n code e is low other = sym (cond-false (is_code code (p
 pub number_of_field : (columns : List ℕ) (n : ℕ) (code : Option ℤ) → digits_number (without_blanks columns) ≡ Some n → n < 1000 → is_code code (pos n) ≡ false → Whole (pos n) ≡ field columns code
 number_of_field columns n code is low other = no_code columns (without_blanks columns) n code refl is (omega arith) other
 
+-- the value of digits behind blanks below a limit of codes
+pub below_codes : (columns : List ℕ) (n limit : ℕ) (code : Option ℤ) → digits_number (without_blanks columns) ≡ Some n → n < limit → n < 1000 → IsKept limit code → Whole (pos n) ≡ field columns code
+below_codes columns n limit code is below low kept = number_of_field columns n code is low (kept n below)
+
+-- the same of what was found in the columns, if a number was
+pub found_below_codes : (columns own : List ℕ) (found : Option ℕ) (n most limit : ℕ) (code : Option ℤ) → columns ≡ own → IfSome found (λ m. digits_number (without_blanks own) ≡ Some m)
+    → IfSome found (λ m. m < most) → most ≤ 1000 → found ≡ Some n → n < limit → IsKept limit code → Whole (pos n) ≡ field columns code
+found_below_codes columns own found n most limit code same is low few e below kept =
+    let its = subst (λ (o : Option ℕ). IfSome o (λ m. digits_number (without_blanks own) ≡ Some m)) e is in
+    let under : n < most = subst (λ (o : Option ℕ). IfSome o (λ m. m < most)) e low in
+    below_codes columns n limit code (ap (λ l. digits_number (without_blanks l)) same ∙ its) below (omega arith) kept
+
 -- digits without blanks
 spelled : (c : ℕ) (cs : List ℕ) → list_all is_ascii_digit (c ∷ cs) ≡ true → digits_number (without_blanks (c ∷ cs)) ≡ Some (digits_value (c ∷ cs))
 unfolding digits_number
@@ -133,6 +146,20 @@ pub one_column : (columns : List ℕ) (d : ℕ) → length columns ≡ 1 → col
 one_column [] d h = absurd (omega arith)
 one_column (x ∷ []) d h = refl
 one_column (x ∷ y ∷ xs) d h = absurd (omega arith)
+
+-- two columns, and three
+pub two_columns : (columns : List ℕ) (a b : ℕ) → length columns ≡ 2 → a ≡ get_or columns 0 a → b ≡ get_or columns 1 b → columns ≡ a ∷ b ∷ []
+two_columns [] a b h e f = absurd (omega arith)
+two_columns (x ∷ []) a b h e f = absurd (omega arith)
+two_columns (x ∷ y ∷ []) a b h e f = ap (λ k. k ∷ y ∷ []) (sym e) ∙ ap (λ k. a ∷ k ∷ []) (sym f)
+two_columns (x ∷ y ∷ z ∷ zs) a b h e f = absurd (omega arith)
+
+pub three_columns : (columns : List ℕ) (a b c : ℕ) → length columns ≡ 3 → a ≡ get_or columns 0 a → b ≡ get_or columns 1 b → c ≡ get_or columns 2 c → columns ≡ a ∷ b ∷ c ∷ []
+three_columns [] a b c h e f g = absurd (omega arith)
+three_columns (x ∷ []) a b c h e f g = absurd (omega arith)
+three_columns (x ∷ y ∷ []) a b c h e f g = absurd (omega arith)
+three_columns (x ∷ y ∷ z ∷ []) a b c h e f g = ap (λ k. k ∷ y ∷ z ∷ []) (sym e) ∙ ap (λ k. a ∷ k ∷ z ∷ []) (sym f) ∙ ap (λ k. a ∷ b ∷ k ∷ []) (sym g)
+three_columns (x ∷ y ∷ z ∷ w ∷ ws) a b c h e f g = absurd (omega arith)
 
 -- a column alone that is a digit
 pub digit_alone : (columns : List ℕ) (a d : ℕ) (found : Option ℕ) → length columns ≡ 1 → a ≡ get_or columns 0 d → IfSome found (λ n. (is_ascii_digit a ≡ true) × (n ≡ a - 48))

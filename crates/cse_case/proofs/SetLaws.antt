@@ -82,7 +82,13 @@ text_short c n sound h text =
     let size : (item_at (items_of c) n).len ≡ s.item.shape.len = ap (λ (i : ItemShape). i.len) s.shape in
     omega (arith, s.sound.text (ap (λ (i : ItemShape). i.kind) (sym s.shape) ∙ text))
 
--- an item starts at the first column or after it, and a number has 15 columns at most
+-- an item has a column, starts at the first column or after it, and a number has 15 columns at most
+pub item_wide : (c : CaseText) (n : ℕ) → IsSound c.dictionary → n < length (items_of c) → 1 ≤ (item_at (items_of c) n).len
+item_wide c n sound h =
+    let s = sound_item c.dictionary n sound h in
+    let size : (item_at (items_of c) n).len ≡ s.item.shape.len = ap (λ (i : ItemShape). i.len) s.shape in
+    omega (arith, s.sound.len)
+
 pub item_starts : (c : CaseText) (n : ℕ) → IsSound c.dictionary → n < length (items_of c) → 1 ≤ (item_at (items_of c) n).start
 item_starts c n sound h =
     let s = sound_item c.dictionary n sound h in

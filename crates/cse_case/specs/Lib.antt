@@ -2,6 +2,7 @@ pub mod Seen
 pub mod Table
 pub mod Found
 pub mod Field
+pub mod Limits
 pub mod Entry
 pub mod Kept
 pub mod Case

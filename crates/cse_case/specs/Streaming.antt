@@ -1,13 +1,8 @@
 -- What holds of a reader of cases between calls.
-use Rattle.std.specs.Prelude.{◌≡◌, ◌≤◌, ◌*◌, ◌^◌, ◌==◌, List, filter, Option, None}
-use Rattle.cse_value.specs.declared.shape.ItemShape.{ItemShape}
-use Rattle.cse_dict.specs.Dictionary.{DictionaryText, shape_of}
+use Rattle.std.specs.Prelude.{◌≡◌, ◌≤◌, ◌*◌, ◌^◌, Option, None}
+use Rattle.cse_dict.specs.Dictionary.{DictionaryText}
 use Rattle.cse_lines.specs.declared.error.DataError.{DataError}
 use Rattle.cse_lines.specs.Reader.{ReaderText}
-
--- the id items of a dictionary
-abbrev pub id_items_of : DictionaryText → List ItemShape
-id_items_of d = filter (λ item. item.owner == 255) (shape_of d).items
 
 -- Its runs are read by its dictionary, and a reader without an error has one of runs without an error. Its reads are few, and so are its lines.
 pub record IsSound (runs : ReaderText) (dictionary : DictionaryText) (error : Option DataError) : Type 0 where

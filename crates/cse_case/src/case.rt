@@ -12,10 +12,11 @@ ghost use Rattle.cse_case.specs.Field.{IsItem, item_at};
 ghost use Rattle.cse_case.specs.Entry.{entry_columns};
 
 use crate::field::{Entry, field_of, line_columns, whole_field, write_field};
+use crate::items::Items;
 use crate::number::number_in;
 use crate::seen::{Table, table_of};
 use crate::write::{mark, put_lines};
-use cse_dict::{Dictionary, Unseen};
+use cse_dict::Unseen;
 use cse_lines::{Line, Run};
 use cse_output::Gatherer;
 use cse_value::shape::{ID_OWNER, ItemKind, ItemShape};
@@ -28,9 +29,8 @@ use std::marker::Model;
 ///
 /// Occurrences count from 1, and records and items have the numbers of the dictionary. No call takes
 /// memory.
-#[derive(Drop)]
 pub struct Case<'a> {
-    dictionary: &'a Dictionary,
+    items: Items<'a>,
     ids: Vec<char>,
     columns: Vec<char>,
     lines: Vec<Line>,
@@ -52,12 +52,29 @@ impl<'a> Model for Case<'a> {
     ghost Value = { CaseText };
 
     ghost view = { λ c. record {
-      dictionary = c.dictionary.now;
+      dictionary = c.items;
       ids = c.ids.items;
       run = record { lines = laid_lines c.columns.items c.lines.items; marked = c.marked; first_line = c.first_line };
     } };
 
-    ghost invariant = { λ c. IsKept c.dictionary.now c.columns.items c.lines.items c.bytes.items c.is_set c.first_line c.table.firsts.items c.table.spans.items c.table.unseen.items };
+    ghost invariant = { λ c. IsKept c.items c.columns.items c.lines.items c.bytes.items c.is_set c.first_line c.table.firsts.items c.table.spans.items c.table.unseen.items };
+}
+
+// Written out, so that a crate that owns a case calls this drop and does not prove one for each part.
+impl<'a> Drop for Case<'a> {
+    fn drop(self) {
+        let Case {
+            items: _items,
+            ids: _ids,
+            columns: _columns,
+            lines: _lines,
+            bytes: _bytes,
+            is_set: _is_set,
+            marked: _marked,
+            first_line: _first_line,
+            table: _table,
+        } = self;
+    }
 }
 
 impl<'a> Case<'a> {
@@ -67,27 +84,27 @@ impl<'a> Case<'a> {
     /// The case of a run, with these id columns. Its occurrences are counted in `counts`, and its table has
     /// the memory of another one.
     pub(crate) fn new(
-        dictionary: &'a Dictionary,
+        items: Items<'a>,
         counts: &mut Vec<u16>,
         room: Table,
         ids: Vec<char>,
         run: Run,
     ) -> Result<Case<'a>, AllocError>
         requires some { 0 < length run.lines }
-        requires wide { (place : ℕ) → place < length run.lines → length (line_at run place).columns ≡ line_width dictionary.now (line_at run place) }
+        requires wide { (place : ℕ) → place < length run.lines → length (line_at run place).columns ≡ line_width items (line_at run place) }
         requires few { run.first_line + length run.lines < 2 ^ 64 }
-        ensures { IfOk result (λ c. c ≡ record { dictionary = dictionary.now; ids = ids.items; run = run }) }
+        ensures { IfOk result (λ c. c ≡ record { dictionary = items.entry; ids = ids.items; run = run }) }
     {
         let (columns, lines, bytes, marked, first_line) = run.into_parts();
         let table = table_of(
             room,
             counts,
-            &dictionary.shape().records,
+            &items.dictionary().shape().records,
             &lines,
             first_line,
         )?;
         Ok(Case {
-            dictionary,
+            items,
             ids,
             columns,
             lines,
@@ -102,7 +119,7 @@ impl<'a> Case<'a> {
     /// Its vectors, which are no longer needed: those of its ids, of its table and of its run.
     pub(crate) fn into_room(self) -> (Vec<char>, Table, Vec<char>, Vec<Line>, Vec<u8>) {
         let Case {
-            dictionary: _,
+            items: _,
             ids,
             columns,
             lines,
@@ -159,7 +176,7 @@ impl<'a> Case<'a> {
         ensures occurrence { OnTrue result (IsOccurrence self.now number occurrence) }
         ensures none { OnFalse result (number < length (records_of self.now) → IsOccurrence self.now number occurrence → ⊥) }
     {
-        let records = &self.dictionary.shape().records;
+        let records = &self.items.dictionary().shape().records;
         (number as usize) < records.len()
             && 0 < occurrence
             && occurrence <= self.occurrences(number)
@@ -170,7 +187,7 @@ impl<'a> Case<'a> {
         ensures item { OnTrue result (IsItem (items_of self.now) owner kind item) }
         ensures none { OnFalse result (IsItem (items_of self.now) owner kind item → ⊥) }
     {
-        let items = &self.dictionary.shape().items;
+        let items = &self.items.dictionary().shape().items;
         if item as usize >= items.len() {
             return false;
         }
@@ -184,8 +201,7 @@ impl<'a> Case<'a> {
         ensures item { result.now ≡ item_at (items_of self.now) item }
         ensures sound { IsSound self.now.dictionary }
     {
-        let shape = self.dictionary.shape();
-        &shape.items[item as usize]
+        &self.items.dictionary().shape().items[item as usize]
     }
 
     /// The columns of an item in the line at a place.
@@ -207,6 +223,8 @@ impl<'a> Case<'a> {
         requires item { item < length (items_of self.now) }
         requires owns { (item_at (items_of self.now) item).owner ≡ number }
         ensures columns { result.now ≡ columns_at self.now (place_of self.now number occurrence) item }
+        ensures whole { length result.now ≡ (item_at (items_of self.now) item).len }
+        ensures some { 0 < length result.now }
         ensures number { (item_at (items_of self.now) item).kind ≡ ANumber → length result.now ≤ 15 }
         ensures text { (item_at (items_of self.now) item).kind ≡ AText → length result.now ≤ 255 }
     {
@@ -222,7 +240,10 @@ impl<'a> Case<'a> {
         requires item { item < length (items_of self.now) }
         ensures { result ≡ number_at self.now place item }
     {
-        read_num(self.columns_at(place, item), self.dictionary.code(item))
+        read_num(
+            self.columns_at(place, item),
+            self.items.dictionary().code(item),
+        )
     }
 
     /// The number of an item in an occurrence of its record.
@@ -234,7 +255,7 @@ impl<'a> Case<'a> {
         ensures { result ≡ number_at self.now (place_of self.now number occurrence) item }
     {
         let columns = self.own_columns(number, occurrence, item);
-        number_in(columns, self.dictionary, item)
+        number_in(columns, &self.items, item)
     }
 
     /// The columns of a text item in an occurrence of its record, where they stand: at most 255.
@@ -310,8 +331,8 @@ impl<'a> Case<'a> {
     {
         let entry = Entry::Number {
             value,
-            zero_fill: self.dictionary.zero_fill(item),
-            code: self.dictionary.code(item),
+            zero_fill: self.items.dictionary().zero_fill(item),
+            code: self.items.dictionary().code(item),
         };
         self.set(number, occurrence, item, entry);
         let _lines = self.lines();

@@ -31,7 +31,8 @@ pub fn field_of<'a>(item: &ItemShape, columns: &'a [char]) -> &'a [char]
 pub fn whole_field<'a>(item: &ItemShape, columns: &'a [char], first: usize) -> &'a [char]
     requires start { 1 ≤ item.now.start }
     requires whole { first + (item.now.start - 1) + item.now.len ≤ length columns.now }
-    ensures { result.now ≡ field_of item.now (drop first columns.now) }
+    ensures columns { result.now ≡ field_of item.now (drop first columns.now) }
+    ensures whole { length result.now ≡ item.now.len }
 {
     let line = &columns[first..];
     let start = item.start as usize - 1;

@@ -1,6 +1,7 @@
 //! Cases in and out: the lines of a data file with equal id columns, read by a dictionary.
 //!
 //! - `field`: the columns of an item in a line.
+//! - `items`: a dictionary, and which numbers are no codes of its items.
 //! - `number`: the number in a few columns.
 //! - `seen`: which lines of a run are seen, and as which occurrence of their record.
 //! - `case`: a case, and its fields.
@@ -12,6 +13,7 @@
 
 mod case;
 mod field;
+mod items;
 mod laws;
 mod number;
 mod reader;

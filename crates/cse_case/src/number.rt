@@ -7,47 +7,64 @@
 ghost use Rattle.std.specs.Prelude.{◌≡◌, ◌<◌, ◌≤◌, ◌-◌, ◌∷◌, [], Some, IfSome, length, pos, true};
 ghost use Rattle.std.specs.Char.{is_ascii_digit};
 ghost use Rattle.cse_value.specs.Field.{digits_number, field, is_code, without_blanks};
-ghost use Rattle.cse_dict.specs.Dictionary.{code_at};
+ghost use Rattle.cse_dict.specs.Dictionary.{code_at, shape_of};
+ghost use Rattle.cse_case.specs.Field.{item_at};
 
-use cse_dict::Dictionary;
+use crate::items::Items;
 use cse_value::{Num, read_num};
 
-/// The value of the columns of a number's item, at most 18. The item's code, which stands for `missing`, is
-/// looked up behind the digits: few items have one, and few columns spell it. Where they do, the columns are
-/// gone through again, so that all other numbers take the shortest way.
+/// The value of the columns of a number's item, at least one and at most 18. Few numbers are as high as the
+/// least code of items of so many columns, and only for these the item's own code is looked up.
 #[inline(always)]
-pub fn number_in(columns: &[char], dictionary: &Dictionary, item: u16) -> Num
+pub fn number_in(columns: &[char], items: &Items<'_>, item: u16) -> Num
+    requires some { 0 < length columns.now }
     requires few { length columns.now ≤ 18 }
-    requires item { item < length dictionary.now.items }
-    ensures { result ≡ field columns.now (code_at dictionary.now item) }
+    requires item { item < length items.now.items }
+    requires fits { length columns.now ≡ (item_at (shape_of items.now).items item).len }
+    ensures { result ≡ field columns.now (code_at items.now item) }
 {
-    match few_digits(columns) {
-        Some(number) if !is_code(number, dictionary.code(item)) => Num::Whole(number as i64),
-        _ => number_in_columns(columns, dictionary.code(item)),
+    if columns.len() < 2 {
+        if let Some(number) = digit_below(columns[0], items.digit_limit()) {
+            return Num::Whole(number as i64);
+        }
+    } else if columns.len() < 3 {
+        if let Some(number) = below(two_columns(columns[0], columns[1]), items.limit()) {
+            return Num::Whole(number as i64);
+        }
+    } else if columns.len() < 4 {
+        let number = three_columns(columns[0], columns[1], columns[2]);
+        if let Some(number) = below(number, items.limit()) {
+            return Num::Whole(number as i64);
+        }
     }
+    number_in_columns(columns, items.dictionary().code(item))
 }
 
-/// The number of one to three columns, where they are blanks and then digits.
+/// The number of a column that is a digit, if it is below a limit.
 #[inline(always)]
-fn few_digits(columns: &[char]) -> Option<u64>
-    ensures number { IfSome result (λ n. digits_number (without_blanks columns.now) ≡ Some n) }
-    ensures low { IfSome result (λ n. n < 1_000) }
+fn digit_below(column: char, limit: u32) -> Option<u32>
+    requires digits { limit ≤ 10 }
+    ensures digit { IfSome result (λ n. (is_ascii_digit column ≡ true) × (n ≡ column - 48)) }
+    ensures low { IfSome result (λ n. n < limit) }
 {
-    if columns.len() == 1 {
-        return digit(columns[0]);
+    let number = (column as u32).wrapping_sub(48);
+    if number < limit { Some(number) } else { None }
+}
+
+/// The number, if there is one and it is below a limit.
+#[inline(always)]
+fn below(found: Option<u32>, limit: u32) -> Option<u32>
+    ensures { IfSome result (λ n. (found ≡ Some n) × (n < limit)) }
+{
+    match found {
+        Some(number) if number < limit => Some(number),
+        _ => None,
     }
-    if columns.len() == 3 {
-        return three_columns(columns[0], columns[1], columns[2]);
-    }
-    if columns.len() == 2 {
-        return two_columns(columns[0], columns[1]);
-    }
-    None
 }
 
 /// The number of three columns, where they are blanks and then digits.
 #[inline(always)]
-fn three_columns(first: char, second: char, last: char) -> Option<u64>
+fn three_columns(first: char, second: char, last: char) -> Option<u32>
     ensures number { IfSome result (λ n. digits_number (without_blanks (first ∷ second ∷ last ∷ [])) ≡ Some n) }
     ensures low { IfSome result (λ n. n < 1_000) }
 {
@@ -62,7 +79,7 @@ fn three_columns(first: char, second: char, last: char) -> Option<u64>
 
 /// The number of two columns, where they are a blank or a digit and a digit.
 #[inline(always)]
-fn two_columns(first: char, last: char) -> Option<u64>
+fn two_columns(first: char, last: char) -> Option<u32>
     ensures number { IfSome result (λ n. digits_number (without_blanks (first ∷ last ∷ [])) ≡ Some n) }
     ensures low { IfSome result (λ n. n < 100) }
 {
@@ -76,14 +93,14 @@ fn two_columns(first: char, last: char) -> Option<u64>
 
 /// The number of a column that is a digit.
 #[inline(always)]
-fn digit(column: char) -> Option<u64>
+fn digit(column: char) -> Option<u32>
     ensures digit { IfSome result (λ n. (is_ascii_digit column ≡ true) × (n ≡ column - 48)) }
     ensures low { IfSome result (λ n. n < 10) }
 {
     if !column.is_ascii_digit() {
         return None;
     }
-    Some(column as u64 - 48)
+    Some(column as u32 - 48)
 }
 
 /// The value of a number's columns, at most 18, column by column, where `code` stands for `missing`.

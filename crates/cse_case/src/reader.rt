@@ -12,13 +12,22 @@ use cse_value::Input;
 use std::alloc::Global;
 
 /// Reads an input case by case. Its faults are those of `DataError`; after one the same is answered.
-#[derive(Drop)]
 pub struct CaseReader<'a, R: Input> {
     /// What is read.
     pub input: &'a mut R,
     /// What was read and not yet given.
     pub stream: CaseStream<'a>,
     ghost end: { stream.ended ≡ true → IsAtEnd (R.remaining input.now) } by { ended-prop stream.ended (R.remaining input.now) },
+}
+
+// Written out, so that a crate that owns a reader calls this drop and does not prove one for each part.
+impl<'a, R: Input> Drop for CaseReader<'a, R> {
+    fn drop(self) {
+        let CaseReader {
+            input: _input,
+            stream: _stream,
+        } = self;
+    }
 }
 
 impl<'a, R: Input> CaseReader<'a, R> {

@@ -1,16 +1,16 @@
 //! A dictionary with its id items, which are listed when they are first needed.
 
-ghost use Rattle.std.specs.Prelude.{◌≡◌, ◌==◌, ◌<◌, ◌+◌, ◌++◌, ◌^◌, [], ◌∷◌, ℕ, filter, length, map, IfOk, IfSome, OnOk};
-ghost use Rattle.cse_lines.specs.Field.{HaveSame, fields_at, ids_of, span_of};
+ghost use Rattle.std.specs.Prelude.{◌≡◌, ◌<◌, ◌+◌, ◌-◌, ◌^◌, ℕ, length, min, IfOk};
+ghost use Rattle.cse_lines.specs.Field.{field_at, fields_at, ids_of};
 ghost use Rattle.cse_lines.specs.Run.{line_at};
 ghost use Rattle.cse_case.specs.Fit.{line_width};
 
 use crate::case::Case;
-use crate::field::field_of;
+use crate::items::Items;
 use crate::seen::Table;
 use cse_dict::Dictionary;
 use cse_lines::Run;
-use cse_value::shape::{ID_OWNER, ItemShape};
+use cse_lines::layout::{Span, id_blocks};
 use std::alloc::{AllocError, Global};
 use std::marker::Model;
 use std::mem;
@@ -19,9 +19,9 @@ use std::mem;
 /// ids and for its table.
 #[derive(Drop)]
 pub struct Source<'a> {
-    dictionary: &'a Dictionary,
-    /// Its id items, those that lie side by side as one.
-    id_blocks: Vec<ItemShape>,
+    items: Items<'a>,
+    /// The places of its id items, those that lie side by side as one.
+    id_blocks: Vec<Span>,
     is_known: bool,
     counts: Vec<u16>,
     ids: Vec<char>,
@@ -29,85 +29,41 @@ pub struct Source<'a> {
 }
 
 impl<'a> Model for Source<'a> {
-    ghost use Rattle.std.specs.Prelude.{◌≡◌, map, true};
+    ghost use Rattle.std.specs.Prelude.{◌≡◌, true};
     ghost use Rattle.cse_dict.specs.Dictionary.{DictionaryText};
-    ghost use Rattle.cse_lines.specs.Field.{HaveSame, id_spans, span_of};
+    ghost use Rattle.cse_lines.specs.Field.{HaveSame, id_spans};
 
     ghost Value = { DictionaryText };
 
-    ghost view = { λ s. s.dictionary.now };
+    ghost view = { λ s. s.items };
 
-    ghost invariant = { λ s. s.is_known ≡ true → HaveSame (map span_of s.id_blocks.items) (id_spans s.dictionary.now) };
+    ghost invariant = { λ s. s.is_known ≡ true → HaveSame s.id_blocks.items (id_spans s.items) };
 }
 
-/// The id items among items.
-fn id_items(alloc: Global, items: &[ItemShape]) -> Result<Vec<ItemShape>, AllocError>
-    ensures { IfOk result (λ v. v.items ≡ filter (λ item. item.owner == 255) items.now) }
+/// Where a place begins among the columns of a line, from 0; at most their number.
+fn start_of(span: Span, width: usize) -> usize
+    ensures { result ≡ min (span.start - 1) width }
 {
-    items
-        .iter()
-        .filter(|item| item.owner == ID_OWNER)
-        .copied()
-        .collect(alloc)
+    (span.start as usize).saturating_sub(1).min(width)
 }
 
-/// Two items as one, if the second one lies behind the first.
-fn join(first: ItemShape, second: ItemShape) -> Option<ItemShape>
-    ensures { IfSome result (λ both. HaveSame (span_of both ∷ []) (span_of first ∷ span_of second ∷ [])) }
+/// The columns of a place in a line, as many as there are.
+fn columns_of(span: Span, columns: &[char]) -> &[char]
+    ensures { result.now ≡ field_at span columns.now }
 {
-    let end = first.start.checked_add(u32::from(first.len))?;
-    if first.start == 0 || end != second.start {
-        return None;
-    }
-    let len = first.len.checked_add(second.len)?;
-    Some(ItemShape {
-        owner: first.owner,
-        kind: first.kind,
-        len,
-        start: first.start,
-    })
+    let rest = &columns[start_of(span, columns.len())..];
+    let count = (span.len as usize).min(rest.len());
+    &rest[..count]
 }
 
-/// Adds an item behind others: as one with the last of them, where the two lie side by side.
-fn add_block(blocks: &mut Vec<ItemShape>, item: ItemShape) -> Result<(), AllocError>
-    ensures { OnOk result (HaveSame (map span_of blocks.new.items) (map span_of (blocks.old.items ++ item ∷ []))) }
-{
-    if let Some(last) = blocks.pop() {
-        if let Some(both) = join(last, item) {
-            blocks.push(both)?;
-            return Ok(());
-        }
-        blocks.push(last)?;
-    }
-    blocks.push(item)?;
-    Ok(())
-}
-
-/// The columns of these items, those that lie side by side as one item. It runs once for a stream, and so
-/// stays a call.
-#[inline(never)]
-fn blocks_of(alloc: Global, items: &[ItemShape]) -> Result<Vec<ItemShape>, AllocError>
-    ensures { IfOk result (λ blocks. HaveSame (map span_of blocks.items) (map span_of items.now)) }
-{
-    let mut blocks = Vec::new(alloc);
-    'items: for item in items {
-        add_block(&mut blocks, *item)?;
-    }
-    Ok(blocks)
-}
-
-/// What stands at these items, one after the other, in this room.
-fn fields_of(
-    room: Vec<char>,
-    items: &[ItemShape],
-    columns: &[char],
-) -> Result<Vec<char>, AllocError>
-    ensures { IfOk result (λ v. v.items ≡ fields_at (map span_of items.now) columns.now) }
+/// What stands at these places, one after the other, in this room.
+fn fields_of(room: Vec<char>, spans: &[Span], columns: &[char]) -> Result<Vec<char>, AllocError>
+    ensures { IfOk result (λ v. v.items ≡ fields_at spans.now columns.now) }
 {
     let mut fields = room;
     fields.clear();
-    'items: for item in items {
-        fields.extend_from_slice(field_of(item, columns))?;
+    'spans: for span in spans {
+        fields.extend_from_slice(columns_of(*span, columns))?;
     }
     Ok(fields)
 }
@@ -118,7 +74,7 @@ impl<'a> Source<'a> {
         ensures { result ≡ dictionary.now }
     {
         Source {
-            dictionary,
+            items: Items::new(dictionary),
             id_blocks: Vec::new(alloc),
             is_known: false,
             counts: Vec::new(alloc),
@@ -138,8 +94,7 @@ impl<'a> Source<'a> {
         ensures ids { IfOk result (λ v. v.items ≡ ids_of self.old columns.now) }
     {
         if !self.is_known {
-            let items = id_items(alloc, &self.dictionary.shape().items)?;
-            self.id_blocks = blocks_of(alloc, &items)?;
+            self.id_blocks = id_blocks(alloc, self.items.dictionary())?;
             self.is_known = true;
         }
         fields_of(room, &self.id_blocks, columns)
@@ -165,6 +120,6 @@ impl<'a> Source<'a> {
         let room = mem::replace(&mut self.ids, Vec::new(alloc));
         let ids = self.ids_of(alloc, room, run.columns(0))?;
         let table = mem::replace(&mut self.table, Table::new(alloc));
-        Case::new(self.dictionary, &mut self.counts, table, ids, run)
+        Case::new(self.items.again(), &mut self.counts, table, ids, run)
     }
 }

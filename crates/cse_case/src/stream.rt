@@ -14,7 +14,6 @@ use std::alloc::Global;
 use std::marker::Model;
 
 /// Reads a data file case by case. It answers after an error the same error.
-#[derive(Drop)]
 pub struct CaseStream<'a> {
     alloc: Global,
     source: Source<'a>,
@@ -31,6 +30,18 @@ impl<'a> Model for CaseStream<'a> {
     ghost view = { λ s. record s.runs { error = s.error } };
 
     ghost invariant = { λ s. IsSound s.runs s.source s.error };
+}
+
+// Written out, so that a crate that owns a stream calls this drop and does not prove one for each part.
+impl<'a> Drop for CaseStream<'a> {
+    fn drop(self) {
+        let CaseStream {
+            alloc: _alloc,
+            source: _source,
+            runs: _runs,
+            error: _error,
+        } = self;
+    }
 }
 
 /// Want of memory.

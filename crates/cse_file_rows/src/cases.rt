@@ -44,16 +44,13 @@ impl Input for Pieces<'_> {
     }
 }
 
-fn dictionary(alloc: Global) -> Result<Dictionary, Fail> {
-    match Dictionary::read(alloc, SAMPLE.as_bytes()) {
-        Ok(d) => Ok(d),
-        Err(_) => Err("a fault of the dictionary".into()),
-    }
+fn dictionary(alloc: Global) -> Option<Dictionary> {
+    Dictionary::read(alloc, SAMPLE.as_bytes()).ok()
 }
 
 #[test]
 fn a_case_tells_its_lines(rt: HostRuntime) -> Result<(), Fail> {
-    let d = dictionary(rt.alloc())?;
+    let d = dictionary(rt.alloc()).ok_or("no dictionary")?;
     let mut input = Reads::new(
         b"P000\nP00111 35\nX001\nP00121 30\nP00131  5\nP00141  4\n".as_slice(),
     );
@@ -85,7 +82,7 @@ fn a_case_tells_its_lines(rt: HostRuntime) -> Result<(), Fail> {
 
 #[test]
 fn an_error_is_for_good(rt: HostRuntime) -> Result<(), Fail> {
-    let d = dictionary(rt.alloc())?;
+    let d = dictionary(rt.alloc()).ok_or("no dictionary")?;
     let fault = DataError {
         number: 20,
         line: 2,
@@ -107,7 +104,7 @@ fn an_error_is_for_good(rt: HostRuntime) -> Result<(), Fail> {
 
 #[test]
 fn an_input_fails_for_good(rt: HostRuntime) -> Result<(), Fail> {
-    let d = dictionary(rt.alloc())?;
+    let d = dictionary(rt.alloc()).ok_or("no dictionary")?;
     let fault = DataError {
         number: 70,
         line: 0,

@@ -44,13 +44,13 @@ static ARRAYS: [ArrayOutline; 3] = [
     },
 ];
 
-fn sample(alloc: Global) -> Result<Program, Fail> {
+fn sample(alloc: Global) -> Option<Program> {
     let outline = Outline {
         globals: &GLOBALS,
         arrays: &ARRAYS,
         ..NOTHING
     };
-    Ok(Program::from_parts(parts_of(alloc, &outline)?).ok_or("no program")?)
+    Program::from_parts(parts_of(alloc, &outline).ok()?)
 }
 
 /// What a first store of `sample` is saved as.
@@ -61,25 +61,25 @@ const FIRST: &str =
 const AGES: &str = "CSEB DECKS 1\nARRAY AGE_HD 2 4\n35\n0\n0\n0\n0\n0\n0\n0\nEND\n";
 
 /// What is saved of a store.
-fn saved(alloc: Global, program: &Program, store: &Store) -> Result<Vec<u8>, Fail>
+fn saved(alloc: Global, program: &Program, store: &Store) -> Option<Vec<u8>>
     requires { StoreFits program.now store.now }
 {
     let mut out = Writes::new(Vec::new(alloc));
-    save(program, store, &mut out)?;
-    Ok(out.into_inner())
+    save(program, store, &mut out).ok()?;
+    Some(out.into_inner())
 }
 
 /// What is saved where this text was loaded.
-fn saved_again(alloc: Global, program: &Program, text: &str) -> Result<Vec<u8>, Fail> {
-    let store = load(alloc, program, text.as_bytes())?;
+fn saved_again(alloc: Global, program: &Program, text: &str) -> Option<Vec<u8>> {
+    let store = load(alloc, program, text.as_bytes()).ok()?;
     saved(alloc, program, &store)
 }
 
 #[test]
 fn saves_a_first_store(rt: HostRuntime) -> Result<(), Fail> {
-    let program = sample(rt.alloc())?;
+    let program = sample(rt.alloc()).ok_or("no program")?;
     let store = Store::new(rt.alloc(), &program)?;
-    let text = saved(rt.alloc(), &program, &store)?;
+    let text = saved(rt.alloc(), &program, &store).ok_or("not saved")?;
     assert_eq!(rt; text.as_slice(), FIRST.as_bytes());
     Ok(())
 }
@@ -102,9 +102,9 @@ static SAVED: [(&str, &str); 3] = [
 
 #[test]
 fn saves_what_was_loaded(rt: HostRuntime) -> Result<(), Fail> {
-    let program = sample(rt.alloc())?;
+    let program = sample(rt.alloc()).ok_or("no program")?;
     for (text, want) in &SAVED {
-        let again = saved_again(rt.alloc(), &program, text)?;
+        let again = saved_again(rt.alloc(), &program, text).ok_or("not saved")?;
         assert_eq!(rt; again.as_slice(), want.as_bytes());
     }
     Ok(())
@@ -133,7 +133,7 @@ static CELLS: [(usize, usize, Option<Num>); 8] = [
 
 #[test]
 fn keeps_starting_cells_of_arrays_that_lack(rt: HostRuntime) -> Result<(), Fail> {
-    let program = sample(rt.alloc())?;
+    let program = sample(rt.alloc()).ok_or("no program")?;
     let store = load(rt.alloc(), &program, AGES.as_bytes())?;
     for (array, place, want) in &CELLS {
         assert_eq!(rt; cell_of(&store, *array, *place), *want);
@@ -161,7 +161,7 @@ fn keeps(store: &mut Store, written: &str, kept: &str) -> bool {
 
 #[test]
 fn keeps_texts_at_their_length(rt: HostRuntime) -> Result<(), Fail> {
-    let program = sample(rt.alloc())?;
+    let program = sample(rt.alloc()).ok_or("no program")?;
     let mut store = Store::new(rt.alloc(), &program)?;
     for (written, kept) in [("", "   "), ("ab", "ab "), ("äbcd", "äbc")] {
         assert!(rt; keeps(&mut store, written, kept));
@@ -261,7 +261,7 @@ static FAULTS: [(&str, u8, u64); 46] = [
 
 #[test]
 fn tells_the_first_line_that_is_wrong(rt: HostRuntime) -> Result<(), Fail> {
-    let program = sample(rt.alloc())?;
+    let program = sample(rt.alloc()).ok_or("no program")?;
     for (text, number, line) in &FAULTS {
         let fault = fault_of(rt.alloc(), &program, text.as_bytes());
         assert_eq!(rt; fault, Some((*number, *line)), "{text:?}");
@@ -288,7 +288,7 @@ fn fault_of_front(count: usize) -> (u8, u64) {
 
 #[test]
 fn refuses_a_text_that_is_cut(rt: HostRuntime) -> Result<(), Fail> {
-    let program = sample(rt.alloc())?;
+    let program = sample(rt.alloc()).ok_or("no program")?;
     for count in 0..AGES.len() {
         let fault = fault_of(rt.alloc(), &program, front(AGES, count));
         assert_eq!(rt; fault, Some(fault_of_front(count)));
@@ -299,7 +299,7 @@ fn refuses_a_text_that_is_cut(rt: HostRuntime) -> Result<(), Fail> {
 /// `AGES` is loaded, or 90 is told. To refuse each growth in turn, run `rt try --test --fail-alloc N`.
 #[test]
 fn tells_want_of_memory(rt: HostRuntime) -> Result<(), Fail> {
-    let program = sample(rt.alloc())?;
+    let program = sample(rt.alloc()).ok_or("no program")?;
     let fault = fault_of(rt.alloc(), &program, AGES.as_bytes());
     assert!(rt; matches!(fault, None | Some((90, 0))));
     Ok(())
@@ -328,7 +328,7 @@ fn is_saved(program: &Program, store: &Store, writer: Slow, taken: usize) -> boo
 
 #[test]
 fn writes_a_front_where_the_writer_fails(rt: HostRuntime) -> Result<(), Fail> {
-    let program = sample(rt.alloc())?;
+    let program = sample(rt.alloc()).ok_or("no program")?;
     let store = Store::new(rt.alloc(), &program)?;
     for (at_most, fails_at, takes_none_at, taken) in &WRITERS {
         let writer = Slow::new(rt.alloc(), *at_most, *fails_at, *takes_none_at);

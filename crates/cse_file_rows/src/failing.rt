@@ -96,7 +96,7 @@ fn holds_its_lines_where_a_writer_fails(rt: HostRuntime) -> Result<(), Fail> {
         (9999, 1, 0, 0, 0),
         (9999, 0, 1, 0, 0),
     ] {
-        let mut reports = reports_of(alloc, &AGE_MESSAGES)?;
+        let mut reports = reports_of(alloc, &AGE_MESSAGES).ok_or("no reports")?;
         let mut memory = Writes::new(Vec::new(alloc));
         give_ages(&rt, alloc, &mut reports, &mut memory, 0)?;
         let out = make_slow(alloc, at_most, fails_at, takes_none_at);

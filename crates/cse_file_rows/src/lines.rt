@@ -3,9 +3,10 @@
 ghost use Rattle.std.specs.Prelude.{None};
 
 use cse_dict::Dictionary;
-use cse_lines::{Run, RunReader};
+use cse_lines::{DataError, Ending, Line, Run, RunReader};
 use cse_value::{Failed, Input};
-use std::alloc::Global;
+use itoa::Buffer;
+use std::alloc::{AllocError, Global};
 use std::test::Fail;
 
 /// Gives bytes in small pieces, and fails before byte `breaks`.
@@ -45,52 +46,99 @@ const PERSONS: &str =
 const FILE: &str = "\u{feff}P00111\r\nP0012\nX001\nP002  b \n\nP00\u{e9}\nP00\u{e9}z\nP003\rx";
 
 const RUNS: &str =
-    "P00111|P0012 |X001|1m:6 ReturnFeed Some(0):5 Feed Some(0):4 Feed None\nP002  b |4:8 Feed Some(0)\n    |5:0 Feed None\nP00\u{e9}  |P00\u{e9}z |6:4 Feed Some(0):5 Feed Some(0)\nP003\rx|8:6 FileEnd Some(0)\nend\nend\n";
+    "P00111|P0012 |X001|1m:6 ReturnFeed 0:5 Feed 0:4 Feed no\nP002  b |4:8 Feed 0\n    |5:0 Feed no\nP00\u{e9}  |P00\u{e9}z |6:4 Feed 0:5 Feed 0\nP003\rx|8:6 FileEnd 0\nend\nend\n";
 
-fn persons(alloc: Global) -> Result<Dictionary, Fail> {
-    match Dictionary::read(alloc, PERSONS.as_bytes()) {
-        Ok(dictionary) => Ok(dictionary),
-        Err(_) => Err("a fault".into()),
+fn persons(alloc: Global) -> Option<Dictionary> {
+    Dictionary::read(alloc, PERSONS.as_bytes()).ok()
+}
+
+/// Tells a number.
+fn tell_number(told: &mut Vec<u8>, number: u64) -> Result<(), AllocError> {
+    told.extend_from_slice(Buffer::new().format(number).as_bytes())
+}
+
+/// The columns of a line.
+fn tell_columns(told: &mut Vec<u8>, columns: &[char]) -> Result<(), AllocError> {
+    for column in columns {
+        told.extend_from_slice(column.encode_utf8(&mut [0; 4]).as_bytes())?;
+    }
+    told.extend_from_slice(b"|")
+}
+
+/// The length of a line, its end and its record.
+fn tell_line(told: &mut Vec<u8>, line: Line) -> Result<(), AllocError> {
+    told.extend_from_slice(b":")?;
+    tell_number(told, line.len as u64)?;
+    told.extend_from_slice(match line.ending {
+        Ending::FileEnd => b" FileEnd".as_slice(),
+        Ending::Feed => b" Feed".as_slice(),
+        Ending::ReturnFeed => b" ReturnFeed".as_slice(),
+    })?;
+    match line.record_number {
+        None => told.extend_from_slice(b" no"),
+        Some(number) => {
+            told.extend_from_slice(b" ")?;
+            tell_number(told, u64::from(number))
+        }
     }
 }
 
 /// The columns of a run's lines, the number of the first, whether it is marked, and of each its length,
 /// end and record.
-fn tell_run(alloc: Global, told: &mut String, run: Run) -> Result<(), Fail> {
+fn tell_run(told: &mut Vec<u8>, run: Run) -> Result<(), AllocError> {
     for i in 0..run.len() {
-        for column in run.columns(i) {
-            told.push(*column)?;
-        }
-        told.push('|')?;
+        tell_columns(told, run.columns(i))?;
     }
     let (_, lines, _, marked, first_line) = run.into_parts();
-    let mark = if marked { "m" } else { "" };
-    let head = format!(in alloc; "{first_line}{mark}")?;
-    told.push_str(head.as_str())?;
-    for line in &lines {
-        let tail = format!(in alloc; ":{} {:?} {:?}", line.len, line.ending, line.record_number)?;
-        told.push_str(tail.as_str())?;
+    tell_number(told, first_line)?;
+    if marked {
+        told.extend_from_slice(b"m")?;
     }
-    told.push('\n')?;
-    Ok(())
+    for line in &lines {
+        tell_line(told, *line)?;
+    }
+    told.extend_from_slice(b"\n")
 }
 
-/// What so many calls answer on bytes that come in pieces, until the device fails.
-fn told(alloc: Global, mut input: Pieces<'_>, calls: usize) -> Result<String, Fail> {
-    let dictionary = persons(alloc)?;
-    let mut reader = RunReader::new(alloc, &dictionary);
-    let mut told = String::new(alloc);
+/// The number and the line of a fault.
+fn tell_fault(told: &mut Vec<u8>, error: DataError) -> Result<(), AllocError> {
+    tell_number(told, u64::from(error.number))?;
+    told.extend_from_slice(b":")?;
+    tell_number(told, error.line)?;
+    told.extend_from_slice(b"\n")
+}
+
+/// Tells what so many calls answer on bytes that come in pieces, until the device fails.
+fn tell_all(
+    alloc: Global,
+    dictionary: &Dictionary,
+    mut input: Pieces<'_>,
+    calls: usize,
+) -> Result<Vec<u8>, AllocError> {
+    let mut reader = RunReader::new(alloc, dictionary);
+    let mut told = Vec::new(alloc);
     for _ in 0..calls {
         match reader.next(&mut input) {
-            Ok(Some(run)) => tell_run(alloc, &mut told, run)?,
-            Ok(None) => told.push_str("end\n")?,
-            Err(error) => {
-                let fault = format!(in alloc; "{}:{}\n", error.number, error.line)?;
-                told.push_str(fault.as_str())?;
-            }
+            Ok(Some(run)) => tell_run(&mut told, run)?,
+            Ok(None) => told.extend_from_slice(b"end\n")?,
+            Err(error) => tell_fault(&mut told, error)?,
         }
     }
     Ok(told)
+}
+
+/// The same, under the dictionary of persons.
+fn told(alloc: Global, input: Pieces<'_>, calls: usize) -> Option<Vec<u8>> {
+    let dictionary = persons(alloc)?;
+    tell_all(alloc, &dictionary, input, calls).ok()
+}
+
+/// Whether this is told.
+fn is_told(alloc: Global, input: Pieces<'_>, calls: usize, wanted: &str) -> bool {
+    match told(alloc, input, calls) {
+        Some(told) => told.as_slice() == wanted.as_bytes(),
+        None => false,
+    }
 }
 
 /// The whole of some bytes, in pieces of this size.
@@ -103,9 +151,9 @@ fn in_pieces(bytes: &[u8], size: usize) -> Pieces<'_> {
     }
 }
 
-/// The number and the line of the fault at which a file ends, or 0 and how many runs it has. What is
-/// held is looked at after each run.
-fn outcome(alloc: Global, bytes: &[u8]) -> Result<(u8, u64), Fail> {
+/// The number and the line of the fault at which a file ends, or 0 and how many runs it has; nothing where
+/// it has no end, or much is held after a run.
+fn outcome(alloc: Global, bytes: &[u8]) -> Option<(u8, u64)> {
     let dictionary = persons(alloc)?;
     let mut input = in_pieces(bytes, 65_536);
     let mut reader = RunReader::new(alloc, &dictionary);
@@ -113,19 +161,19 @@ fn outcome(alloc: Global, bytes: &[u8]) -> Result<(u8, u64), Fail> {
     for _ in 0..200_000 {
         match reader.next(&mut input) {
             Ok(Some(_)) => runs = runs.saturating_add(1),
-            Ok(None) => return Ok((0, runs)),
-            Err(error) => return Ok((error.number, error.line)),
+            Ok(None) => return Some((0, runs)),
+            Err(error) => return Some((error.number, error.line)),
         }
         let kept = reader.kept();
         if kept.lines > 1 || kept.bytes > 65_536 {
-            return Err("it holds much".into());
+            return None;
         }
     }
-    Err("no end".into())
+    None
 }
 
 /// A piece of bytes, repeated.
-fn repeated(alloc: Global, piece: &[u8], times: usize) -> Result<Vec<u8>, Fail> {
+fn repeated(alloc: Global, piece: &[u8], times: usize) -> Result<Vec<u8>, AllocError> {
     let mut bytes = Vec::new(alloc);
     for _ in 0..times {
         bytes.extend_from_slice(piece)?;
@@ -136,8 +184,8 @@ fn repeated(alloc: Global, piece: &[u8], times: usize) -> Result<Vec<u8>, Fail> 
 #[test]
 fn pieces_of_any_size_give_the_same(rt: HostRuntime) -> Result<(), Fail> {
     for size in [1, 2, 3, 7, 65_536] {
-        let told = told(rt.alloc(), in_pieces(FILE.as_bytes(), size), 7)?;
-        assert_eq!(rt; told.as_str(), RUNS, "pieces of {size}");
+        let pieces = in_pieces(FILE.as_bytes(), size);
+        assert!(rt; is_told(rt.alloc(), pieces, 7, RUNS), "pieces of {size}");
     }
     Ok(())
 }
@@ -146,15 +194,28 @@ fn pieces_of_any_size_give_the_same(rt: HostRuntime) -> Result<(), Fail> {
 fn small_files(rt: HostRuntime) -> Result<(), Fail> {
     for (text, wanted) in [
         ("", "end\nend\n"),
-        ("\u{feff}", "    |1m:0 FileEnd None\nend\n"),
-        ("P1\r", "P1\r   |1:3 FileEnd Some(0)\nend\n"),
-        ("P1\r\r\n", "P1\r   |1:3 ReturnFeed Some(0)\nend\n"),
-        ("\r\n", "    |1:0 ReturnFeed None\nend\n"),
+        ("\u{feff}", "    |1m:0 FileEnd no\nend\n"),
+        ("P1\r", "P1\r   |1:3 FileEnd 0\nend\n"),
+        ("P1\r\r\n", "P1\r   |1:3 ReturnFeed 0\nend\n"),
+        ("\r\n", "    |1:0 ReturnFeed no\nend\n"),
     ] {
-        let told = told(rt.alloc(), in_pieces(text.as_bytes(), 1), 2)?;
-        assert_eq!(rt; told.as_str(), wanted);
+        let pieces = in_pieces(text.as_bytes(), 1);
+        assert!(rt; is_told(rt.alloc(), pieces, 2, wanted), "{text:?}");
     }
     Ok(())
+}
+
+/// Whether what is told of a device that fails is a front of `RUNS` and then faults, four at least.
+fn is_front_and_faults(told: &[u8]) -> bool {
+    let mut front = told;
+    let mut faults = 0u64;
+    for _ in 0..9 {
+        if let Some(rest) = front.strip_suffix(b"70:0\n".as_slice()) {
+            front = rest;
+            faults = faults.saturating_add(1);
+        }
+    }
+    4 <= faults && RUNS.as_bytes().starts_with(front)
 }
 
 #[test]
@@ -167,20 +228,16 @@ fn a_device_that_fails(rt: HostRuntime) -> Result<(), Fail> {
             breaks,
             failed: false,
         };
-        let told = told(alloc, input, 9)?;
-        assert!(rt; told.as_str().ends_with("70:0\n70:0\n70:0\n70:0\n"));
-        match told.as_str().split_once("70:0") {
-            Some((front, _)) => assert!(rt; RUNS.starts_with(front)),
-            None => return Err("no fault".into()),
-        }
+        let told = told(alloc, input, 9).ok_or("nothing is told")?;
+        assert!(rt; is_front_and_faults(&told));
     }
     Ok(())
 }
 
 #[test]
 fn a_faulty_line_stays(rt: HostRuntime) -> Result<(), Fail> {
-    let told = told(rt.alloc(), in_pieces(b"P00111 35\n\xff\nP002\n", 7), 4)?;
-    assert_eq!(rt; told.as_str(), "20:2\n20:2\n20:2\n20:2\n");
+    let pieces = in_pieces(b"P00111 35\n\xff\nP002\n", 7);
+    assert!(rt; is_told(rt.alloc(), pieces, 4, "20:2\n20:2\n20:2\n20:2\n"));
     Ok(())
 }
 
@@ -196,25 +253,24 @@ fn limits_of_runs_and_lines(rt: HostRuntime) -> Result<(), Fail> {
         (b"\xff".as_slice(), 262_145, (21, 1)),
     ] {
         let bytes = repeated(rt.alloc(), piece, times)?;
-        assert_eq!(rt; outcome(rt.alloc(), &bytes)?, answer);
+        assert_eq!(rt; outcome(rt.alloc(), &bytes), Some(answer));
     }
     Ok(())
 }
 
 /// How many reads gave bytes until the first run was given.
-fn reads_of(alloc: Global, bytes: &[u8], size: usize) -> Result<u64, Fail> {
+fn reads_of(alloc: Global, bytes: &[u8], size: usize) -> Option<u64> {
     let dictionary = persons(alloc)?;
     let mut input = in_pieces(bytes, size);
     let mut reader = RunReader::new(alloc, &dictionary);
     match reader.next(&mut input) {
-        Ok(Some(_)) => Ok(reader.reads()),
-        _ => Err("no run".into()),
+        Ok(Some(_)) => Some(reader.reads()),
+        _ => None,
     }
 }
 
 #[test]
 fn reads_are_counted(rt: HostRuntime) -> Result<(), Fail> {
-    let reads = reads_of(rt.alloc(), b"P0011\nP001\n", 4)?;
-    assert_eq!(rt; reads, 3);
+    assert_eq!(rt; reads_of(rt.alloc(), b"P0011\nP001\n", 4), Some(3));
     Ok(())
 }

@@ -9,5 +9,5 @@ pub returns : goal.returns
 returns c =
     let v = c.self.inside in
     ap (λ n. nat_lt n c.len-2.result) (c.len.ensures ∙ (v.table.unseen.ok.0 ∙ ap length c.self.invariant.unseen_are))
-    ∙ (ap (nat_lt (length (unseen_of (shape_of v.dictionary.now).records v.first_line (map (λ l. l.record_number) v.lines.items)))) (c.len-2.ensures ∙ v.lines.ok.0)
-    ∙ (is_case_by_count (shape_of v.dictionary.now).records v.first_line v.columns.items v.lines.items ∙ ap (λ (x : CaseText). is_case (records_of x) (types_of x.run.lines)) c.self.view_is))
+    ∙ (ap (nat_lt (length (unseen_of (shape_of v.items).records v.first_line (map (λ l. l.record_number) v.lines.items)))) (c.len-2.ensures ∙ v.lines.ok.0)
+    ∙ (is_case_by_count (shape_of v.items).records v.first_line v.columns.items v.lines.items ∙ ap (λ (x : CaseText). is_case (records_of x) (types_of x.run.lines)) c.self.view_is))

@@ -10,7 +10,7 @@ pub returns : goal.returns
 unfolding places_of
 returns c =
     let v = c.self.inside in
-    let records = (shape_of v.dictionary.now).records in
+    let records = (shape_of v.items).records in
     let r = c.args.number in
     let size : length (records_of c.args.self.now) ≡ length records = ap (λ (x : CaseText). length (records_of x)) (sym c.self.view_is) in
     let within : r < length v.table.spans.items = omega (arith, c.requires, c.self.invariant.table.size) in

@@ -6,7 +6,7 @@ use Rattle.cse_case.specs.Field.{field_of, item_at}
 use Rattle.cse_case.specs.Case.{items_of}
 use Rattle.cse_case.proofs.FieldLaws.{field_from, short_field}
 use Rattle.cse_case.proofs.OwnLaws.{first_within, own_item}
-use Rattle.cse_case.proofs.SetLaws.{item_starts, number_short, text_short}
+use Rattle.cse_case.proofs.SetLaws.{item_starts, item_wide, number_short, text_short}
 use Rattle.cse_case.proofs.case.Case.own_columns.Goals as goal
 
 pub index-first-requires : goal.index-first-requires
@@ -41,14 +41,14 @@ returns-clause-columns c =
     let at = own_item c.args.self.now _ _ _ _ _ _ _ _ _ _ _ c.args.number c.args.occurrence first c.args.item span c.self.view_is c.self.invariant c.item.ensures.sound c.requires.there
     c.index-span.ensures c.requires.occurrence c.requires.item c.requires.owns begins in
     let line = at.own.line in
-    c.whole_field.ensures ∙ (ap (λ i. field_of i (drop first c.deref.result.now)) c.item.ensures.item ∙ (ap (λ cs. field_of own (drop first cs)) c.deref.ensures.value
+    c.whole_field.ensures.columns ∙ (ap (λ i. field_of i (drop first c.deref.result.now)) c.item.ensures.item ∙ (ap (λ cs. field_of own (drop first cs)) c.deref.ensures.value
     ∙ (ap (λ k. field_of own (drop k columns)) at.own.begins ∙ (field_from own columns line.first line.width at.whole ∙ sym (ap (λ (l : LineText). field_of own l.columns) at.own.is)))))
 
 pub returns-clause-number : goal.returns-clause-number
 returns-clause-number c = λ number.
     omega (
       arith,
-      ap length c.whole_field.ensures,
+      ap length c.whole_field.ensures.columns,
       short_field c.item.result.now (drop c.index-first.result.now c.deref.result.now),
       ap (λ (i : ItemShape). i.len) c.item.ensures.item,
       number_short c.args.self.now c.args.item c.item.ensures.sound c.requires.item number,
@@ -58,8 +58,15 @@ pub returns-clause-text : goal.returns-clause-text
 returns-clause-text c = λ text.
     omega (
       arith,
-      ap length c.whole_field.ensures,
+      ap length c.whole_field.ensures.columns,
       short_field c.item.result.now (drop c.index-first.result.now c.deref.result.now),
       ap (λ (i : ItemShape). i.len) c.item.ensures.item,
       text_short c.args.self.now c.args.item c.item.ensures.sound c.requires.item text,
     )
+
+pub returns-clause-whole : goal.returns-clause-whole
+returns-clause-whole c = c.whole_field.ensures.whole ∙ ap (λ (i : ItemShape). i.len) c.item.ensures.item
+
+pub returns-clause-some : goal.returns-clause-some
+returns-clause-some c =
+    omega (arith, c.whole_field.ensures.whole, ap (λ (i : ItemShape). i.len) c.item.ensures.item, item_wide c.args.self.now c.args.item c.item.ensures.sound c.requires.item)

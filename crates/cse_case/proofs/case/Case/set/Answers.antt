@@ -74,7 +74,7 @@ returns c =
     let changed = laid_lines-with 0 columns field lines place from line c.self.invariant.laid at.own.there at.own.at (omega (arith, at.whole)) in
     let now : laid_lines (with_items v.columns c.write_field.new.columns).items lines ≡ set (laid_lines columns lines) place (record (laid_line columns line) { columns = with_columns from field (laid_line columns line).columns }) =
     ap (λ cs. laid_lines cs lines) items ∙ changed in
-    let old : CaseText = case_in v.dictionary.now v.ids.items columns lines v.marked v.first_line in
+    let old : CaseText = case_in v.items v.ids.items columns lines v.marked v.first_line in
     ap (λ ls. record old { run = record old.run { lines = ls } })
     (now ∙ ap (λ (l : LineText). set (laid_lines columns lines) place (record l { columns = with_columns from field l.columns })) (sym at.own.is))
     ∙ ap (λ (x : CaseText). record x {

@@ -8,4 +8,4 @@ use Rattle.cse_case.proofs.case.Case.unseen.Goals as goal
 pub returns : goal.returns
 returns c =
     let v = c.self.inside in
-    c.deref.ensures.value ∙ (c.self.invariant.unseen_are ∙ (ap (unseen_of (shape_of v.dictionary.now).records v.first_line) (sym (types_laid v.columns.items v.lines.items)) ∙ ap unseen_lines c.self.view_is))
+    c.deref.ensures.value ∙ (c.self.invariant.unseen_are ∙ (ap (unseen_of (shape_of v.items).records v.first_line) (sym (types_laid v.columns.items v.lines.items)) ∙ ap unseen_lines c.self.view_is))
