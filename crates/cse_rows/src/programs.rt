@@ -1,6 +1,6 @@
 //! A table of programs: for each instruction one that may run and one that may not.
 
-use crate::opcodes::{NUMBER, RETURN, ROWS};
+use crate::opcodes::{NUMBER, RETURN, rows};
 use crate::parts::add_plans;
 use cse_fixtures::outline::{self, ArrayOutline, Line, MessageOutline, NOTHING, Outline};
 use cse_fixtures::pieces::{Head, PLAIN};
@@ -244,7 +244,7 @@ fn has_row(number: u8) -> bool {
     let Some(op) = op_named(number) else {
         return false;
     };
-    for row in &ROWS {
+    for row in rows() {
         if row.0 == op {
             return true;
         }
@@ -257,7 +257,7 @@ fn each_instruction(rt: HostRuntime) -> Result<(), Fail> {
     for number in 1..46 {
         assert!(rt; has_row(number));
     }
-    for row in &ROWS {
+    for row in rows() {
         assert!(rt; has(row.1, row.0));
         assert_eq!(rt; told_of(rt.alloc(), Ambient::Case, row.1)?, (0, 0, 0));
     }
@@ -266,7 +266,7 @@ fn each_instruction(rt: HostRuntime) -> Result<(), Fail> {
 
 #[test]
 fn each_refusal(rt: HostRuntime) -> Result<(), Fail> {
-    for row in &ROWS {
+    for row in rows() {
         let answer = told_of(rt.alloc(), Ambient::Case, row.3)?;
         assert_eq!(rt; answer, (row.4, 2, row.5));
     }
@@ -284,7 +284,7 @@ fn wanted(case_at: u32) -> (u8, u32, u32) {
 
 #[test]
 fn what_needs_a_case(rt: HostRuntime) -> Result<(), Fail> {
-    for row in &ROWS {
+    for row in rows() {
         let answer = told_of(rt.alloc(), Ambient::Run, row.1)?;
         assert_eq!(rt; answer, wanted(row.2));
     }
