@@ -1,5 +1,7 @@
 //! Programs for tests, and what the verifier tells of them.
 
+ghost use Rattle.std.specs.Prelude.{◌≡◌, length};
+
 use cse_dict::Dictionary;
 use cse_fixtures::outline::{Line, MessageOutline, NOTHING, Outline, parts_for};
 use cse_fixtures::persons::{AGES, PERSON};
@@ -39,10 +41,25 @@ const BESIDE: Outline<'static> = Outline {
 };
 
 /// The limits of counted loops.
-const LIMITS: [u32; 16] = [
+static LIMITS: [u32; 16] = [
     10, 3, 65534, 65535, 32768, 4, 10000, 9999, 9997, 9996, 9993, 9994, 999999, 999999997,
     999999995, 999999996,
 ];
+
+/// Adds the limits, routines and events.
+fn add_rest(
+    alloc: Global,
+    parts: &mut Parts,
+    plans: &[Plan<'_>],
+    events: &[EventEntry],
+) -> Result<(), AllocError> {
+    parts.limits.extend_from_slice(&LIMITS)?;
+    parts.events.extend_from_slice(events)?;
+    for plan in plans {
+        add_plan(alloc, parts, plan)?;
+    }
+    Ok(())
+}
 
 /// A program for the dictionary.
 pub fn parts_of(
@@ -52,56 +69,62 @@ pub fn parts_of(
     events: &[EventEntry],
 ) -> Result<Parts, AllocError> {
     let mut parts = parts_for(alloc, &BESIDE, dictionary.shape())?;
-    parts.limits.extend_from_slice(&LIMITS)?;
-    for plan in plans {
-        add_plan(alloc, &mut parts, plan)?;
-    }
-    parts.events.extend_from_slice(events)?;
+    add_rest(alloc, &mut parts, plans, events)?;
     Ok(parts)
 }
 
-/// The steps of a routine, if it is there.
-fn steps_of(verified: &Verified<'_>, routine: u32) -> Option<u64> {
-    if (routine as usize) < verified.program().routines().len() {
-        Some(verified.steps(routine))
+/// How many routines there are.
+fn routines_in(verified: &Verified<'_>) -> usize
+    ensures { result ≡ length verified.now.image.lists.routines }
+{
+    verified.program().routines().len()
+}
+
+/// The steps of a routine, 0 where there is none.
+fn steps_of(verified: &Verified<'_>, routine: u32) -> u64 {
+    if (routine as usize) < routines_in(verified) {
+        verified.steps(routine)
     } else {
-        None
+        0
     }
 }
 
-/// The steps of the first two routines, of a case and of the run, and the depth.
-fn accepted(alloc: Global, verified: &Verified<'_>) -> Result<String, Fail> {
-    let mut line = String::new(alloc);
-    for routine in 0..2 {
-        if let Some(steps) = steps_of(verified, routine) {
-            line.push_str(format!(in alloc; "{steps} ")?.as_str())?;
-        }
-    }
+/// What the verifier tells: the steps of the first two routines, of a case and of the run, and the depth (numbers,
+/// texts, ordinals, open brackets); or the number, the routine and the place of the refusal.
+pub type Told = Result<[u64; 8], (u8, u32, u32)>;
+
+fn accepted(verified: &Verified<'_>) -> [u64; 8] {
     let depth = verified.depth();
-    let (case, run) = (verified.case_steps(), verified.run_steps());
-    let rest = format!(in alloc;
-        "case {case} run {run} depth {} {} {} {}",
-        depth.nums, depth.texts, depth.ords, depth.frames
-    )?;
-    line.push_str(rest.as_str())?;
-    Ok(line)
+    [
+        steps_of(verified, 0),
+        steps_of(verified, 1),
+        verified.case_steps(),
+        verified.run_steps(),
+        depth.nums,
+        depth.texts,
+        depth.ords,
+        depth.frames,
+    ]
 }
 
-/// What the verifier tells: the steps of each routine, of a case and of the run, and the depth; or the
-/// numbers of the refusal.
+fn answer(alloc: Global, dictionary: &Dictionary, program: Program) -> Told {
+    match verify(alloc, dictionary, program) {
+        Ok(verified) => Ok(accepted(&verified)),
+        Err(e) => Err((e.number, e.routine, e.at)),
+    }
+}
+
+/// What it tells of the program of these routines, for the dictionary of this text.
 pub fn told(
     alloc: Global,
     text: &str,
     plans: &[Plan<'_>],
     events: &[EventEntry],
-) -> Result<String, Fail> {
+) -> Result<Told, Fail> {
     let dictionary = read(alloc, text)?;
     let parts = parts_of(alloc, &dictionary, plans, events)?;
     let program = Program::from_parts(parts).ok_or("no spelling")?;
-    match verify(alloc, &dictionary, program) {
-        Ok(verified) => accepted(alloc, &verified),
-        Err(e) => Ok(format!(in alloc; "refused {} {} {}", e.number, e.routine, e.at)?),
-    }
+    Ok(answer(alloc, &dictionary, program))
 }
 
 /// What it tells of a program of one routine, which serves this event.
@@ -111,7 +134,7 @@ pub fn told_of(
     plan: Plan<'_>,
     code: EventCode,
     index: u16,
-) -> Result<String, Fail> {
+) -> Result<Told, Fail> {
     let event = EventEntry {
         code,
         index,
@@ -126,7 +149,7 @@ pub fn told_of_two(
     gives: Gift,
     first: &[Line],
     second: &[Line],
-) -> Result<String, Fail> {
+) -> Result<Told, Fail> {
     let plans = [
         (Ambient::Run, gives, false, first),
         (Ambient::Run, Gift::Nothing, false, second),

@@ -1,11 +1,12 @@
 //! Worked programs: how much they may take, and which are refused.
 
-use crate::answers::{EMPTY, parts_of, read, told_of, told_of_two};
+use crate::answers::{EMPTY, Told, parts_of, read, told_of, told_of_two};
 use crate::nests::loops_of;
 use cse_dict::Dictionary;
 use cse_fixtures::outline::Line;
 use cse_fixtures::persons::{DECK_CODE, persons_text};
 use cse_image::{Ambient, EventCode, Gift, Op, Program};
+use cse_typing::NONE;
 use cse_verify::verify;
 use std::alloc::{AllocError, Global};
 use std::test::Fail;
@@ -72,46 +73,46 @@ const AGES: Served = (Ambient::Case, true, EventCode::ItemPostproc, 3);
 const NO_PERSON: Served = (Ambient::Case, true, EventCode::LevelPreproc, 0);
 
 /// Routines, and what is told of each.
-static ROUTINES: [(Served, Code, &str); 12] = [
+static ROUTINES: [(Served, Code, Told); 12] = [
     // Two events, each of which comes once in a case.
-    (CASES, LOOPS, "1892 case 1892 run 0 depth 2 0 0 2"),
-    (PERSONS, LOOPS, "1892 case 1892 run 0 depth 2 0 0 2"),
-    (FIRST, LISTS, "2 case 0 run 2 depth 0 0 0 0"),
-    (LAST, MANY, "4294967295 case 0 run 4294967295 depth 1 0 0 2"),
+    (CASES, LOOPS, Ok([1892, 0, 1892, 0, 2, 0, 0, 2])),
+    (PERSONS, LOOPS, Ok([1892, 0, 1892, 0, 2, 0, 0, 2])),
+    (FIRST, LISTS, Ok([2, 0, 0, 2, 0, 0, 0, 0])),
+    (LAST, MANY, Ok([4294967295, 0, 0, 4294967295, 1, 0, 0, 2])),
     (
         FIRST,
         LONG,
-        "1000000000000 case 0 run 1000000000000 depth 1 0 0 3",
+        Ok([1000000000000, 0, 0, 1000000000000, 1, 0, 0, 3]),
     ),
     (
         FIRST,
         LONGER,
-        "1000000000001 case 0 run 1000000000001 depth 1 0 0 3",
+        Ok([1000000000001, 0, 0, 1000000000001, 1, 0, 0, 3]),
     ),
     // The limit on steps.
     (
         FIRST,
         MOST,
-        "1000000000000000 case 0 run 1000000000000000 depth 1 0 0 2",
+        Ok([1000000000000000, 0, 0, 1000000000000000, 1, 0, 0, 2]),
     ),
-    (FIRST, TOO_LONG, "refused 67 0 9"),
+    (FIRST, TOO_LONG, Err((67, 0, 9))),
     // An event that comes once for each of 30 occurrences in a case.
     (
         AGES,
         Code::Lines(DECK_CODE),
-        "27 case 810 run 0 depth 2 0 4 0",
+        Ok([27, 0, 810, 0, 2, 0, 4, 0]),
     ),
     (
         AGES,
         LONG,
-        "1000000000000 case 30000000000000 run 0 depth 1 0 1 3",
+        Ok([1000000000000, 0, 30000000000000, 0, 1, 0, 1, 3]),
     ),
-    (AGES, MOST, "refused 67 4294967295 4294967295"),
+    (AGES, MOST, Err((67, NONE, NONE))),
     // The event lacks its routine.
-    (NO_PERSON, LISTS, "refused 69 4294967295 4294967295"),
+    (NO_PERSON, LISTS, Err((69, NONE, NONE))),
 ];
 
-fn told_of_one(alloc: Global, served: Served, code: Code) -> Result<String, Fail> {
+fn told_of_one(alloc: Global, served: Served, code: Code) -> Result<Told, Fail> {
     let (ambient, occurrence, event, index) = served;
     let text = match ambient {
         Ambient::Run => EMPTY,
@@ -125,8 +126,7 @@ fn told_of_one(alloc: Global, served: Served, code: Code) -> Result<String, Fail
 #[test]
 fn counts_the_steps_of_routines(rt: HostRuntime) -> Result<(), Fail> {
     for (served, code, want) in &ROUTINES {
-        let line = told_of_one(rt.alloc(), *served, *code)?;
-        assert_eq!(rt; line.as_str(), *want);
+        assert!(rt; told_of_one(rt.alloc(), *served, *code)? == *want);
     }
     Ok(())
 }
@@ -144,21 +144,16 @@ const TOO_MANY: Code = Code::Nests(&[&[4, 4, 5]], &[(Op::Call, 0, 0, 0)]);
 const JUMPS_NOWHERE: Code = Code::Lines(&[(Op::Jump, 0, 0, 0)]);
 
 /// Two routines of the run with what the first gives, and what is told of them.
-static PAIRS: [(Gift, Code, Code, &str); 5] = [
-    (
-        Gift::Number,
-        GIVES,
-        CALLS,
-        "2 18 case 0 run 18 depth 1 0 0 1",
-    ),
-    (Gift::Number, GIVES, CALLS_ITSELF, "refused 69 1 2"),
-    (Gift::Nothing, MANY, TOO_MANY, "refused 67 1 6"),
+static PAIRS: [(Gift, Code, Code, Told); 5] = [
+    (Gift::Number, GIVES, CALLS, Ok([2, 18, 0, 18, 1, 0, 0, 1])),
+    (Gift::Number, GIVES, CALLS_ITSELF, Err((69, 1, 2))),
+    (Gift::Nothing, MANY, TOO_MANY, Err((67, 1, 6))),
     // A sum of the first comes before a jump of the second.
-    (Gift::Nothing, TOO_LONG, JUMPS_NOWHERE, "refused 67 0 9"),
-    (Gift::Nothing, LONG, JUMPS_NOWHERE, "refused 65 1 0"),
+    (Gift::Nothing, TOO_LONG, JUMPS_NOWHERE, Err((67, 0, 9))),
+    (Gift::Nothing, LONG, JUMPS_NOWHERE, Err((65, 1, 0))),
 ];
 
-fn told_of_both(alloc: Global, gives: Gift, first: Code, second: Code) -> Result<String, Fail> {
+fn told_of_both(alloc: Global, gives: Gift, first: Code, second: Code) -> Result<Told, Fail> {
     let first = lines_of(alloc, first)?;
     let second = lines_of(alloc, second)?;
     told_of_two(alloc, gives, &first, &second)
@@ -167,8 +162,7 @@ fn told_of_both(alloc: Global, gives: Gift, first: Code, second: Code) -> Result
 #[test]
 fn counts_the_steps_of_two_routines(rt: HostRuntime) -> Result<(), Fail> {
     for (gives, first, second, want) in &PAIRS {
-        let line = told_of_both(rt.alloc(), *gives, *first, *second)?;
-        assert_eq!(rt; line.as_str(), *want);
+        assert!(rt; told_of_both(rt.alloc(), *gives, *first, *second)? == *want);
     }
     Ok(())
 }

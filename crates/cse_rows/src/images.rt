@@ -1,14 +1,14 @@
 //! Worked images of both versions, and for each rule of the format bytes that break it, with the number
 //! and the place. Tables are gone through by one function each.
 
-use cse_fixtures::pieces::{PLAIN, add_event, add_message, add_routine, no_parts};
+use cse_fixtures::outline::{MessageOutline, NOTHING, Outline, RoutineOutline, parts_of};
 use cse_image::*;
-use std::alloc::Global;
+use std::alloc::{AllocError, Global};
 use std::test::*;
 
 /// Lists "Hi" in the application's preproc: one message, one routine of two instructions, one event. In
 /// version 1.
-const HELLO_ONE: [u8; 94] = [
+static HELLO_ONE: [u8; 94] = [
     67, 83, 69, 66, 1, 0, 0, 0, // header
     0, 0, 0, 0, 0, 0, 0, 0, 0, 0, 0, 0, 0, 0, 0, 0, // records, items, sets, order
     0, 0, 0, 0, 0, 0, 0, 0, 0, 0, 0, 0, 0, 0, 0, 0, // constants, texts, globals, arrays
@@ -20,7 +20,7 @@ const HELLO_ONE: [u8; 94] = [
 ];
 
 /// The same in version 2.
-const HELLO: [u8; 98] = [
+static HELLO: [u8; 98] = [
     67, 83, 69, 66, 2, 0, 0, 0, // header
     0, 0, 0, 0, 0, 0, 0, 0, 0, 0, 0, 0, 0, 0, 0, 0, // records, items, sets, order
     0, 0, 0, 0, 0, 0, 0, 0, 0, 0, 0, 0, 0, 0, 0, 0, // constants, limits, texts, globals
@@ -33,7 +33,7 @@ const HELLO: [u8; 98] = [
 ];
 
 /// A counting loop of at most 3 turns, in version 1.
-const LOOP_ONE: [u8; 108] = [
+static LOOP_ONE: [u8; 108] = [
     67, 83, 69, 66, 1, 0, 0, 0, // header
     0, 0, 0, 0, 0, 0, 0, 0, 0, 0, 0, 0, 0, 0, 0, 0, // records, items, sets, order
     1, 0, 0, 0, 0, 0, 0, 0, 0, 0, 0, 0, // constants
@@ -47,7 +47,7 @@ const LOOP_ONE: [u8; 108] = [
 ];
 
 /// The same in version 2: the limits are 1, 2, 3, and the loop names the last.
-const LOOP: [u8; 124] = [
+static LOOP: [u8; 124] = [
     67, 83, 69, 66, 2, 0, 0, 0, // header
     0, 0, 0, 0, 0, 0, 0, 0, 0, 0, 0, 0, 0, 0, 0, 0, // records, items, sets, order
     1, 0, 0, 0, 0, 0, 0, 0, 0, 0, 0, 0, // constants
@@ -62,7 +62,7 @@ const LOOP: [u8; 124] = [
 ];
 
 /// Bytes of `LOOP` that are changed, with the number and the place of the fault; 0 and 0 for a program.
-const LOOP_FAULTS: [(usize, &[u8], u8, usize); 11] = [
+static LOOP_FAULTS: [(usize, &[u8], u8, usize); 11] = [
     (4, &[3], 60, 4),
     (4, &[0], 60, 4),
     (36, &[1, 0, 1], 64, 36),
@@ -78,7 +78,7 @@ const LOOP_FAULTS: [(usize, &[u8], u8, usize); 11] = [
 ];
 
 /// The same of `LOOP_ONE`: b is the limit, from 1, and no routine gives a text.
-const LOOP_ONE_FAULTS: [(usize, &[u8], u8, usize); 4] = [
+static LOOP_ONE_FAULTS: [(usize, &[u8], u8, usize); 4] = [
     (57, &[1], 0, 0),
     (57, &[2], 63, 57),
     (86, &[0], 63, 86),
@@ -86,7 +86,7 @@ const LOOP_ONE_FAULTS: [(usize, &[u8], u8, usize); 4] = [
 ];
 
 /// Each section of version 1 has an entry or two. In front of a line, the place of its first byte.
-const FULL: [u8; 210] = [
+static FULL: [u8; 210] = [
     67, 83, 69, 66, 1, 0, 0, 0, // 0: header
     1, 0, 0, 0, 30, 0, 0, 0, 12, 0, 0, 0, // 8: records
     1, 0, 0, 0, 0, 1, 1, 0, 5, 0, 0, 0, // 20: items
@@ -109,7 +109,7 @@ const FULL: [u8; 210] = [
 ];
 
 /// Bytes of `FULL` that are changed, with the number and the place of the fault.
-const FAULTS: [(usize, &[u8], u8, usize); 72] = [
+static FAULTS: [(usize, &[u8], u8, usize); 72] = [
     (0, b"X", 60, 0),
     (3, b"X", 60, 0),
     (4, &[3], 60, 4),
@@ -215,7 +215,7 @@ fn is_fault(alloc: Global, bytes: &[u8], number: u8, at: usize) -> bool {
 }
 
 /// The bytes with these from a place on.
-fn changed(alloc: Global, bytes: &[u8], at: usize, new: &[u8]) -> Result<Vec<u8>, Fail> {
+fn changed(alloc: Global, bytes: &[u8], at: usize, new: &[u8]) -> Result<Vec<u8>, AllocError> {
     let mut all = Vec::from_slice(alloc, bytes)?;
     for (i, byte) in new.iter().enumerate() {
         if let Some(place) = all.get_mut(at.saturating_add(i)) {
@@ -230,7 +230,7 @@ fn wrong_row(
     alloc: Global,
     image: &[u8],
     rows: &[(usize, &[u8], u8, usize)],
-) -> Result<Option<usize>, Fail> {
+) -> Result<Option<usize>, AllocError> {
     for (i, row) in rows.iter().enumerate() {
         let bytes = changed(alloc, image, row.0, row.1)?;
         if !is_fault(alloc, &bytes, row.2, row.3) {
@@ -243,17 +243,7 @@ fn wrong_row(
 #[test]
 fn each_rule(rt: HostRuntime) -> Result<(), Fail> {
     assert_eq!(rt; wrong_row(rt.alloc(), &FULL, &FAULTS)?, None);
-    Ok(())
-}
-
-#[test]
-fn rules_of_version_2(rt: HostRuntime) -> Result<(), Fail> {
     assert_eq!(rt; wrong_row(rt.alloc(), &LOOP, &LOOP_FAULTS)?, None);
-    Ok(())
-}
-
-#[test]
-fn rules_of_version_1(rt: HostRuntime) -> Result<(), Fail> {
     assert_eq!(rt; wrong_row(rt.alloc(), &LOOP_ONE, &LOOP_ONE_FAULTS)?, None);
     Ok(())
 }
@@ -317,7 +307,7 @@ fn bytes_left_over(rt: HostRuntime) -> Result<(), Fail> {
 
 /// An image of version 1 without loops, spelled in version 2: the header tells the version, and after
 /// the constants, of which there are none, stands a count of 0 limits.
-fn in_version_2(alloc: Global, bytes: &[u8]) -> Result<Vec<u8>, Fail> {
+fn in_version_2(alloc: Global, bytes: &[u8]) -> Result<Vec<u8>, AllocError> {
     let mut all = Vec::new(alloc);
     if bytes.len() < 28 {
         return Ok(all);
@@ -329,14 +319,9 @@ fn in_version_2(alloc: Global, bytes: &[u8]) -> Result<Vec<u8>, Fail> {
     Ok(all)
 }
 
-/// Is the byte at the place the version's?
-fn of_version_1(bytes: &[u8]) -> bool {
-    bytes.get(4) == Some(&1)
-}
-
 /// The version 2 spelling of an image without loops and constants.
-fn spelled(alloc: Global, bytes: &[u8]) -> Result<Vec<u8>, Fail> {
-    if of_version_1(bytes) {
+fn spelled(alloc: Global, bytes: &[u8]) -> Result<Vec<u8>, AllocError> {
+    if bytes.get(4) == Some(&1) {
         return in_version_2(alloc, bytes);
     }
     Ok(Vec::from_slice(alloc, bytes)?)
@@ -361,93 +346,91 @@ fn each_value(alloc: Global, image: &[u8], at: usize) -> Result<bool, Fail> {
     Ok(true)
 }
 
+/// The same at each place.
+fn each_place(alloc: Global, image: &[u8]) -> Result<bool, Fail> {
+    for at in 0..image.len() {
+        if !each_value(alloc, image, at)? {
+            return Ok(false);
+        }
+    }
+    Ok(true)
+}
+
 #[test]
 fn each_byte_replaced(rt: HostRuntime) -> Result<(), Fail> {
-    for at in 0..98usize {
-        assert!(rt; each_value(rt.alloc(), &HELLO, at)?);
-    }
+    assert!(rt; each_place(rt.alloc(), &HELLO)?);
+    assert!(rt; each_place(rt.alloc(), &HELLO_ONE)?);
     Ok(())
 }
 
-#[test]
-fn each_byte_of_version_1_replaced(rt: HostRuntime) -> Result<(), Fail> {
-    for at in 0..94usize {
-        assert!(rt; each_value(rt.alloc(), &HELLO_ONE, at)?);
-    }
-    Ok(())
-}
+/// What `HELLO` stands for.
+const SAYS_HELLO: Outline<'static> = Outline {
+    messages: &[MessageOutline {
+        number: 0,
+        summary: false,
+        text: "Hi",
+    }],
+    routines: &[RoutineOutline {
+        ambient: Ambient::Run,
+        gives: Gift::Nothing,
+        parameters: 0,
+        locals: &[],
+        code: &[(Op::Message, 0, 0, 0), (Op::Return, 0, 0, 0)],
+    }],
+    events: &[EventEntry {
+        code: EventCode::ApplicationPreproc,
+        index: 0,
+        routine: 0,
+    }],
+    ..NOTHING
+};
 
-/// An instruction whose fields are 0.
-fn plain(op: Op) -> Instr {
-    Instr {
-        op,
-        a: 0,
-        b: 0,
-        c: 0,
-    }
-}
-
-fn hello(alloc: Global) -> Result<Parts, Fail> {
-    let mut parts = no_parts(alloc);
-    add_message(alloc, &mut parts, 0, false, "Hi")?;
-    add_routine(
-        alloc,
-        &mut parts,
-        &PLAIN,
-        &[plain(Op::Message), plain(Op::Return)],
-    )?;
-    add_event(&mut parts, EventCode::ApplicationPreproc, 0, 0)?;
-    Ok(parts)
+/// The image of these parts, if they have one.
+fn image_of(alloc: Global, parts: Parts) -> Option<Vec<u8>> {
+    let program = Program::from_parts(parts)?;
+    write_image(alloc, &program).ok()
 }
 
 #[test]
 fn says_hello(rt: HostRuntime) -> Result<(), Fail> {
-    let program = Program::from_parts(hello(rt.alloc())?).ok_or("these parts have a spelling")?;
-    let written = write_image(rt.alloc(), &program)?;
-    assert_eq!(rt; written.as_slice(), HELLO.as_slice());
+    let image = image_of(rt.alloc(), parts_of(rt.alloc(), &SAYS_HELLO)?).ok_or("no spelling")?;
+    assert_eq!(rt; image.as_slice(), HELLO.as_slice());
     Ok(())
 }
 
+/// Whether these parts, with more code and limits, have an image.
+fn has_image(alloc: Global, code: &[Instr], limits: &[u32]) -> Result<bool, AllocError> {
+    let mut parts = parts_of(alloc, &SAYS_HELLO)?;
+    parts.code.extend_from_slice(code)?;
+    parts.limits.extend_from_slice(limits)?;
+    Ok(image_of(alloc, parts).is_some())
+}
+
+/// Code of no routine, and a limit of 0.
 #[test]
 fn parts_without_a_spelling(rt: HostRuntime) -> Result<(), Fail> {
-    let mut parts = hello(rt.alloc())?;
-    parts.code.push(plain(Op::Return))?;
-    assert!(rt; Program::from_parts(parts).is_none());
+    let more = Instr {
+        op: Op::Return,
+        a: 0,
+        b: 0,
+        c: 0,
+    };
+    assert!(rt; has_image(rt.alloc(), &[], &[1])?);
+    assert!(rt; !has_image(rt.alloc(), &[more], &[])?);
+    assert!(rt; !has_image(rt.alloc(), &[], &[0])?);
     Ok(())
 }
 
-#[test]
-fn a_limit_of_0_has_no_spelling(rt: HostRuntime) -> Result<(), Fail> {
-    let mut parts = hello(rt.alloc())?;
-    parts.limits.push(0)?;
-    assert!(rt; Program::from_parts(parts).is_none());
-    Ok(())
-}
+/// What stands before a text in the section of texts.
+static BEFORE_TEXT: [u8; 36] = [
+    67, 83, 69, 66, 2, 0, 0, 0, // header
+    0, 0, 0, 0, 0, 0, 0, 0, 0, 0, 0, 0, 0, 0, 0, 0, // records, items, sets, order
+    0, 0, 0, 0, 0, 0, 0, 0, // constants, limits
+    1, 0, 0, 0, // texts
+];
 
-/// A message of such a text, in an image of version 2.
-fn with_message(alloc: Global, text: &str) -> Result<Vec<u8>, Fail> {
-    let len = u16::try_from(text.len()).ok().ok_or("a short text")?;
-    let mut bytes = Vec::new(alloc);
-    bytes.extend_from_slice(&HELLO[..54])?;
-    bytes.extend_from_slice(&len.to_le_bytes())?;
-    bytes.extend_from_slice(text.as_bytes())?;
-    bytes.extend_from_slice(&HELLO[58..])?;
-    Ok(bytes)
-}
-
-/// Such a text in the section of texts.
-fn with_text(alloc: Global, text: &str) -> Result<Vec<u8>, Fail> {
-    let len = u16::try_from(text.len()).ok().ok_or("a short text")?;
-    let mut bytes = Vec::new(alloc);
-    bytes.extend_from_slice(&HELLO[..32])?;
-    bytes.extend_from_slice(&[1, 0, 0, 0])?;
-    bytes.extend_from_slice(&len.to_le_bytes())?;
-    bytes.extend_from_slice(text.as_bytes())?;
-    bytes.extend_from_slice(&HELLO[36..])?;
-    Ok(bytes)
-}
-
-fn repeated(alloc: Global, piece: &str, count: usize) -> Result<String, Fail> {
+/// A text that is repeated so often.
+fn repeated(alloc: Global, piece: &str, count: usize) -> Result<String, AllocError> {
     let mut text = String::new(alloc);
     for _ in 0..count {
         text.push_str(piece)?;
@@ -455,8 +438,23 @@ fn repeated(alloc: Global, piece: &str, count: usize) -> Result<String, Fail> {
     Ok(text)
 }
 
+/// A text with its length, between two pieces of an image.
+fn with_text(
+    alloc: Global,
+    before: &[u8],
+    text: &str,
+    behind: &[u8],
+) -> Result<Vec<u8>, AllocError> {
+    let len = u16::try_from(text.len()).unwrap_or(0);
+    let mut bytes = Vec::from_slice(alloc, before)?;
+    bytes.extend_from_slice(&len.to_le_bytes())?;
+    bytes.extend_from_slice(text.as_bytes())?;
+    bytes.extend_from_slice(behind)?;
+    Ok(bytes)
+}
+
 /// A text so often, and the faults of it as a message and as a text.
-const LONG: [(&str, usize, (u8, usize), (u8, usize)); 8] = [
+static LONG: [(&str, usize, (u8, usize), (u8, usize)); 8] = [
     ("a", 255, (0, 0), (0, 0)),
     ("a", 256, (64, 56), (64, 38)),
     ("\u{e9}", 255, (0, 0), (0, 0)),
@@ -467,23 +465,26 @@ const LONG: [(&str, usize, (u8, usize), (u8, usize)); 8] = [
     ("%%", 100, (0, 0), (0, 0)),
 ];
 
-fn fault_as_message(alloc: Global, piece: &str, count: usize) -> Result<(u8, usize), Fail> {
-    let long = repeated(alloc, piece, count)?;
-    let bytes = with_message(alloc, &long)?;
-    Ok(fault_of(alloc, &bytes))
-}
-
-fn fault_as_text(alloc: Global, piece: &str, count: usize) -> Result<(u8, usize), Fail> {
-    let long = repeated(alloc, piece, count)?;
-    let bytes = with_text(alloc, &long)?;
+/// The fault of an image with a text so often, between two pieces.
+fn fault_between(
+    alloc: Global,
+    before: &[u8],
+    long: (&str, usize),
+    behind: &[u8],
+) -> Result<(u8, usize), AllocError> {
+    let text = repeated(alloc, long.0, long.1)?;
+    let bytes = with_text(alloc, before, &text, behind)?;
     Ok(fault_of(alloc, &bytes))
 }
 
 #[test]
 fn long_texts(rt: HostRuntime) -> Result<(), Fail> {
-    for (piece, count, message, text) in LONG.iter() {
-        assert_eq!(rt; fault_as_message(rt.alloc(), piece, *count)?, *message);
-        assert_eq!(rt; fault_as_text(rt.alloc(), piece, *count)?, *text);
+    for (piece, count, message, text) in &LONG {
+        let long = (*piece, *count);
+        let found = fault_between(rt.alloc(), &HELLO[..54], long, &HELLO[58..])?;
+        assert_eq!(rt; found, *message);
+        let found = fault_between(rt.alloc(), &BEFORE_TEXT, long, &HELLO[36..])?;
+        assert_eq!(rt; found, *text);
     }
     Ok(())
 }

@@ -1,10 +1,11 @@
 //! Worked rows of the libraries below: tests of their public calls, of what no clause says. They stand apart so that each of
 //! these libraries is proved once, and not a second time with its tests.
 //!
-//! - `dictionaries`: dictionaries, and the first fault of those that are none.
+//! - `dictionaries`, `dictionary_rows`: dictionaries, and the first fault of those that are none.
 //! - `images`: images of both versions, and bytes that break a rule.
 //! - `typings`, `events`, `programs`, `opcodes`: programs that may run, and those that may not.
 //! - `answers`, `bounds`, `chains`, `limits`, `nests`, `shapes`: what the verifier tells of programs.
+//! - `parts`: how their programs are made.
 //! - `syntax`: logic, and the first fault of what is none.
 //! - `files`: message and order files.
 //! - `checks`, `logic`: names and kinds of logic.
@@ -21,6 +22,8 @@ mod checks;
 #[cfg(test)]
 mod dictionaries;
 #[cfg(test)]
+mod dictionary_rows;
+#[cfg(test)]
 mod events;
 #[cfg(test)]
 mod files;
@@ -33,6 +36,8 @@ pub mod logic;
 mod nests;
 #[cfg(test)]
 mod opcodes;
+#[cfg(test)]
+mod parts;
 #[cfg(test)]
 mod programs;
 #[cfg(test)]

@@ -2,12 +2,13 @@
 
 use crate::answers::EMPTY;
 use crate::nests::loops_of;
+use crate::parts::program_with;
 use cse_dict::Dictionary;
-use cse_fixtures::outline::{Line, MessageOutline, NOTHING, Outline, parts_of};
-use cse_fixtures::pieces::{Head, PLAIN, add_event, add_lines};
-use cse_image::{EventCode, Gift, Op, Parts, Program};
+use cse_fixtures::outline::{Line, MessageOutline, NOTHING, Outline};
+use cse_fixtures::pieces::{Head, PLAIN};
+use cse_image::{EventCode, EventEntry, Gift, Op, Program};
 use cse_verify::verify;
-use std::alloc::{AllocError, Global};
+use std::alloc::Global;
 use std::test::Fail;
 
 /// Two loops, one in the other, and a third one.
@@ -23,8 +24,8 @@ const TELLS: [Line; 3] = [
     (Op::Return, 0, 0, 0),
 ];
 
-/// A constant, a text and a message; no routine and no code.
-const BESIDE: Outline<'static> = Outline {
+/// A constant, a text and a message; the first routine is the application's preproc.
+const LOOPING: Outline<'static> = Outline {
     constants: &[0],
     texts: &["you"],
     messages: &[MessageOutline {
@@ -32,41 +33,51 @@ const BESIDE: Outline<'static> = Outline {
         summary: false,
         text: "Hi %s",
     }],
+    events: &[EventEntry {
+        code: EventCode::ApplicationPreproc,
+        index: 0,
+        routine: 0,
+    }],
     ..NOTHING
 };
 
-fn loops(alloc: Global, limits: &[u32]) -> Result<Parts, AllocError> {
-    let mut parts = parts_of(alloc, &BESIDE)?;
-    parts.limits.extend_from_slice(limits)?;
-    add_lines(alloc, &mut parts, &PLAIN, &loops_of(alloc, LOOPS, &[])?)?;
-    add_event(&mut parts, EventCode::ApplicationPreproc, 0, 0)?;
-    Ok(parts)
-}
-
-fn greeting(alloc: Global, gives: Gift) -> Result<Parts, AllocError> {
-    let head = Head { gives, ..PLAIN };
-    let mut parts = parts_of(alloc, &BESIDE)?;
-    add_lines(alloc, &mut parts, &head, &GIVES)?;
-    add_lines(alloc, &mut parts, &PLAIN, &TELLS)?;
-    add_event(&mut parts, EventCode::ApplicationPreproc, 0, 1)?;
-    Ok(parts)
-}
+/// The same, where the second one is.
+const GREETING: Outline<'static> = Outline {
+    events: &[EventEntry {
+        code: EventCode::ApplicationPreproc,
+        index: 0,
+        routine: 1,
+    }],
+    ..LOOPING
+};
 
 /// Zeros and the steps of the run, or the number, the routine and the place of the refusal.
-fn told(alloc: Global, parts: Parts) -> Result<(u8, u32, u32, u64), Fail> {
+fn told(alloc: Global, program: Program) -> (u8, u32, u32, u64) {
     let Ok(dictionary) = Dictionary::read(alloc, EMPTY.as_bytes()) else {
-        return Err("no dictionary".into());
+        return (0, 0, 0, 0);
     };
-    let program = Program::from_parts(parts).ok_or("no spelling")?;
     match verify(alloc, &dictionary, program) {
-        Ok(verified) => Ok((0, 0, 0, verified.run_steps())),
-        Err(e) => Ok((e.number, e.routine, e.at, 0)),
+        Ok(verified) => (0, 0, 0, verified.run_steps()),
+        Err(e) => (e.number, e.routine, e.at, 0),
     }
+}
+
+fn told_of_loops(alloc: Global, limits: &[u32]) -> Result<(u8, u32, u32, u64), Fail> {
+    let code = loops_of(alloc, LOOPS, &[])?;
+    let program = program_with(alloc, &LOOPING, limits, &[(PLAIN, code.as_slice())])?;
+    Ok(told(alloc, program))
+}
+
+fn told_of_greeting(alloc: Global, gives: Gift) -> Result<(u8, u32, u32, u64), Fail> {
+    let head = Head { gives, ..PLAIN };
+    let plans = [(head, GIVES.as_slice()), (PLAIN, TELLS.as_slice())];
+    let program = program_with(alloc, &GREETING, &[], &plans)?;
+    Ok(told(alloc, program))
 }
 
 /// The limits of the loops, and what is told: the sum reaches the limit on steps, or passes it by one
 /// turn of the third loop; or the third loop's limit isn't there.
-const LIMITS: [(&[u32], (u8, u32, u32, u64)); 3] = [
+static LIMITS: [(&[u32], (u8, u32, u32, u64)); 3] = [
     (
         &[999_999, 999_999_997, 999_999_995],
         (0, 0, 0, 1_000_000_000_000_000),
@@ -78,14 +89,14 @@ const LIMITS: [(&[u32], (u8, u32, u32, u64)); 3] = [
 #[test]
 fn limits(rt: HostRuntime) -> Result<(), Fail> {
     let alloc = rt.alloc();
-    for (limits, wanted) in LIMITS {
-        assert_eq!(rt; told(alloc, loops(alloc, limits)?)?, wanted);
+    for (limits, wanted) in &LIMITS {
+        assert_eq!(rt; told_of_loops(alloc, limits)?, *wanted);
     }
     Ok(())
 }
 
 /// What the first routine gives, and what is told.
-const GIFTS: [(Gift, (u8, u32, u32, u64)); 3] = [
+static GIFTS: [(Gift, (u8, u32, u32, u64)); 3] = [
     (Gift::Text, (0, 0, 0, 5)),
     (Gift::Number, (66, 0, 1, 0)),
     (Gift::Nothing, (66, 0, 1, 0)),
@@ -94,8 +105,8 @@ const GIFTS: [(Gift, (u8, u32, u32, u64)); 3] = [
 #[test]
 fn gifts(rt: HostRuntime) -> Result<(), Fail> {
     let alloc = rt.alloc();
-    for (gives, wanted) in GIFTS {
-        assert_eq!(rt; told(alloc, greeting(alloc, gives)?)?, wanted);
+    for (gives, wanted) in &GIFTS {
+        assert_eq!(rt; told_of_greeting(alloc, *gives)?, *wanted);
     }
     Ok(())
 }

@@ -22,7 +22,7 @@ pub const RETURN: Line = (Op::Return, 0, 0, 0);
 /// may not run, with the number and the place of the refusal.
 pub type Row = (Op, &'static [Line], u32, &'static [Line], u8, u32);
 
-pub const ROWS: [Row; 48] = [
+static ROWS: [Row; 48] = [
     (
         Op::Number,
         &[NUMBER, POP_NUMBER],
@@ -447,3 +447,8 @@ pub const ROWS: [Row; 48] = [
         1,
     ),
 ];
+
+/// The rows. A table is laid out in each function that names it, so this one alone does.
+pub fn rows() -> &'static [Row] {
+    &ROWS
+}

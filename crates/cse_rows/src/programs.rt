@@ -1,50 +1,83 @@
 //! A table of programs: for each instruction one that may run and one that may not.
 
-use crate::opcodes::{NUMBER, RETURN, ROWS};
+use crate::opcodes::{NUMBER, RETURN, rows};
+use crate::parts::add_plans;
 use cse_fixtures::outline::{self, ArrayOutline, Line, MessageOutline, NOTHING, Outline};
-use cse_fixtures::pieces::{Head, PLAIN, add_instructions, add_lines, add_routine};
+use cse_fixtures::pieces::{Head, PLAIN};
 use cse_image::{Ambient, Gift, GlobalKind, GlobalVariable, Local, LocalKind, Op, Parts, Program};
+use cse_parts::opcodes::op_named;
 use cse_typing::{NONE, typed};
 use cse_value::shape::{ID_OWNER, ItemKind, ItemShape, RecordShape, SetShape, Shape};
 use std::alloc::{AllocError, Global};
 use std::test::Fail;
 
-fn item(owner: u8, kind: ItemKind) -> ItemShape {
+const RECORD: RecordShape = RecordShape {
+    max_records: 5,
+    record_len: 80,
+};
+
+static RECORDS: [RecordShape; 2] = [RECORD, RECORD];
+
+const NUMBER_ITEM: ItemShape = ItemShape {
+    owner: 0,
+    kind: ItemKind::Number,
+    len: 2,
+    start: 2,
+};
+
+const TEXT_ITEM: ItemShape = ItemShape {
+    kind: ItemKind::Text,
+    ..NUMBER_ITEM
+};
+
+/// An id number, an id text, a number and a text of record 0, a number of record 1 and an item of record 0 that no logic
+/// names.
+static ITEMS: [ItemShape; 6] = [
     ItemShape {
-        owner,
-        kind,
-        len: 2,
-        start: 2,
-    }
-}
+        owner: ID_OWNER,
+        ..NUMBER_ITEM
+    },
+    ItemShape {
+        owner: ID_OWNER,
+        ..TEXT_ITEM
+    },
+    NUMBER_ITEM,
+    TEXT_ITEM,
+    ItemShape {
+        owner: 1,
+        ..NUMBER_ITEM
+    },
+    ItemShape {
+        kind: ItemKind::Opaque,
+        ..NUMBER_ITEM
+    },
+];
 
-fn set(item: u16, partial: bool) -> SetShape {
+const SET: SetShape = SetShape {
+    item: 2,
+    rows: 4,
+    partial: false,
+};
+
+/// Of the number, the same in part, and of the text.
+static SETS: [SetShape; 3] = [
+    SET,
     SetShape {
-        item,
-        rows: 4,
-        partial,
-    }
-}
+        partial: true,
+        ..SET
+    },
+    SetShape { item: 3, ..SET },
+];
 
-/// Two records; items: an id number, an id text, a number and a text of record 0, a number of record 1
-/// and one of record 0 that no logic names; sets: of the number, in part, and of the text.
+/// Two records with these items and sets.
 pub fn shape_of(alloc: Global) -> Result<Shape, AllocError> {
-    let record = RecordShape {
-        max_records: 5,
-        record_len: 80,
-    };
-    let items = [
-        item(ID_OWNER, ItemKind::Number),
-        item(ID_OWNER, ItemKind::Text),
-        item(0, ItemKind::Number),
-        item(0, ItemKind::Text),
-        item(1, ItemKind::Number),
-        item(0, ItemKind::Opaque),
-    ];
+    let records = Vec::from_slice(alloc, &RECORDS)?;
+    let items = Vec::from_slice(alloc, &ITEMS)?;
+    let sets = Vec::from_slice(alloc, &SETS)?;
     Ok(Shape {
-        records: Vec::from_slice(alloc, &[record, record])?,
-        items: Vec::from_slice(alloc, &items)?,
-        sets: Vec::from_slice(alloc, &[set(2, false), set(2, true), set(3, false)])?,
+        records,
+        items,
+        sets,
     })
 }
 
@@ -90,6 +123,13 @@ const OF_CASE: Head<'static> = Head {
     locals: &[],
 };
 
+/// The instructions, and a return.
+fn returning(alloc: Global, lines: &[Line]) -> Result<Vec<Line>, AllocError> {
+    let mut all = Vec::from_slice(alloc, lines)?;
+    all.push(RETURN)?;
+    Ok(all)
+}
+
 /// Routine 0 takes a number and a text and gives a number; 1 takes an occurrence; 2 is the one that
 /// is looked at; 3 is one of the whole run, and 4 one of the case.
 fn add_routines(
@@ -104,14 +144,27 @@ fn add_routines(
         parameters: 1,
         locals: &[OCCURRENCE, NUMBER_LOCAL, TEXT_LOCAL],
     };
-    let mut code = Vec::new(alloc);
-    add_instructions(&mut code, lines)?;
-    add_instructions(&mut code, &[RETURN])?;
-    add_lines(alloc, parts, &GIVES, &[NUMBER, RETURN])?;
-    add_lines(alloc, parts, &OF_PERSON, &[RETURN])?;
-    add_routine(alloc, parts, &looked_at, &code)?;
-    add_lines(alloc, parts, &PLAIN, &[RETURN])?;
-    add_lines(alloc, parts, &OF_CASE, &[RETURN])
+    let code = returning(alloc, lines)?;
+    let plans = [
+        (GIVES, TO_NUMBER.as_slice()),
+        (OF_PERSON, TO_RETURN.as_slice()),
+        (looked_at, code.as_slice()),
+        (PLAIN, TO_RETURN.as_slice()),
+        (OF_CASE, TO_RETURN.as_slice()),
+    ];
+    add_plans(alloc, parts, &[1, 2, 3, 4], &plans)
+}
+
+static TO_NUMBER: [Line; 2] = [NUMBER, RETURN];
+
+static TO_RETURN: [Line; 1] = [RETURN];
+
+/// Makes the parts those of the shape, with its second record first.
+fn add_shape(parts: &mut Parts) -> Result<(), AllocError> {
+    parts.records.extend_from_slice(&RECORDS)?;
+    parts.items.extend_from_slice(&ITEMS)?;
+    parts.sets.extend_from_slice(&SETS)?;
+    parts.order.extend_from_slice(&[1, 0])
 }
 
 /// An array of 4 cells.
@@ -145,16 +198,20 @@ const BESIDE: Outline<'static> = Outline {
     ..NOTHING
 };
 
+fn add_all(
+    alloc: Global,
+    parts: &mut Parts,
+    ambient: Ambient,
+    lines: &[Line],
+) -> Result<(), AllocError> {
+    add_shape(parts)?;
+    add_routines(alloc, parts, ambient, lines)
+}
+
 /// A program whose routine 2 has this code, and a return behind it.
 pub fn parts_of(alloc: Global, ambient: Ambient, lines: &[Line]) -> Result<Parts, AllocError> {
     let mut parts = outline::parts_of(alloc, &BESIDE)?;
-    let shape = shape_of(alloc)?;
-    parts.records.extend_from_slice(&shape.records)?;
-    parts.items.extend_from_slice(&shape.items)?;
-    parts.sets.extend_from_slice(&shape.sets)?;
-    parts.order.extend_from_slice(&[1, 0])?;
-    parts.limits.extend_from_slice(&[1, 2, 3, 4])?;
-    add_routines(alloc, &mut parts, ambient, lines)?;
+    add_all(alloc, &mut parts, ambient, lines)?;
     Ok(parts)
 }
 
@@ -167,47 +224,69 @@ pub fn told(alloc: Global, parts: Parts) -> Result<(u8, u32, u32), Fail> {
     }
 }
 
+/// The same of a program whose routine 2 has this code.
+fn told_of(alloc: Global, ambient: Ambient, lines: &[Line]) -> Result<(u8, u32, u32), Fail> {
+    told(alloc, parts_of(alloc, ambient, lines)?)
+}
+
 /// Whether some line has the instruction.
 fn has(lines: &[Line], op: Op) -> bool {
-    lines.iter().any(|line| line.0 == op)
+    for line in lines {
+        if line.0 == op {
+            return true;
+        }
+    }
+    false
+}
+
+/// Whether the instruction of this code has a row.
+fn has_row(number: u8) -> bool {
+    let Some(op) = op_named(number) else {
+        return false;
+    };
+    for row in rows() {
+        if row.0 == op {
+            return true;
+        }
+    }
+    false
 }
 
 #[test]
 fn each_instruction(rt: HostRuntime) -> Result<(), Fail> {
-    let alloc = rt.alloc();
     for number in 1..46 {
-        let found = ROWS.iter().any(|row| row.0 as u8 == number);
-        assert!(rt; found, "no row for opcode {number}");
+        assert!(rt; has_row(number));
     }
-    for (op, runs, _, _, _, _) in ROWS {
-        assert!(rt; has(runs, op));
-        let answer = told(alloc, parts_of(alloc, Ambient::Case, runs)?)?;
-        assert_eq!(rt; answer, (0, 0, 0), "{op:?}");
+    for row in rows() {
+        assert!(rt; has(row.1, row.0));
+        assert_eq!(rt; told_of(rt.alloc(), Ambient::Case, row.1)?, (0, 0, 0));
     }
     Ok(())
 }
 
 #[test]
 fn each_refusal(rt: HostRuntime) -> Result<(), Fail> {
-    let alloc = rt.alloc();
-    for (op, _, _, stops, number, at) in ROWS {
-        let answer = told(alloc, parts_of(alloc, Ambient::Case, stops)?)?;
-        assert_eq!(rt; answer, (number, 2, at), "{op:?}");
+    for row in rows() {
+        let answer = told_of(rt.alloc(), Ambient::Case, row.3)?;
+        assert_eq!(rt; answer, (row.4, 2, row.5));
     }
     Ok(())
 }
 
+/// What is said of a program of the whole run whose first place that needs a case is this one.
+fn wanted(case_at: u32) -> (u8, u32, u32) {
+    if case_at == NONE {
+        (0, 0, 0)
+    } else {
+        (69, 2, case_at)
+    }
+}
+
 #[test]
 fn what_needs_a_case(rt: HostRuntime) -> Result<(), Fail> {
-    let alloc = rt.alloc();
-    for (op, runs, case_at, _, _, _) in ROWS {
-        let answer = told(alloc, parts_of(alloc, Ambient::Run, runs)?)?;
-        let wanted = if case_at == NONE {
-            (0, 0, 0)
-        } else {
-            (69, 2, case_at)
-        };
-        assert_eq!(rt; answer, wanted, "{op:?}");
+    for row in rows() {
+        let answer = told_of(rt.alloc(), Ambient::Run, row.1)?;
+        assert_eq!(rt; answer, wanted(row.2));
     }
     Ok(())
 }

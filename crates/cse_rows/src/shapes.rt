@@ -1,34 +1,36 @@
 //! Worked programs: their jumps and brackets, and the dictionaries that they were made for.
 
+use crate::parts::{parts_with, program_with};
 use cse_dict::Dictionary;
-use cse_fixtures::outline::{self, Line, NOTHING, Outline};
-use cse_fixtures::pieces::{PLAIN, add_event, add_lines};
-use cse_image::{EventCode, Op, Parts, Program};
+use cse_fixtures::outline::{Line, NOTHING, Outline};
+use cse_fixtures::pieces::PLAIN;
+use cse_image::{EventCode, EventEntry, Op, Parts, Program};
 use cse_value::shape::{ItemKind, ItemShape, RecordShape};
 use cse_verify::{check_jumps, same_shape};
 use std::alloc::{AllocError, Global};
 use std::test::Fail;
 
-/// A constant and a text.
+/// A constant and a text; the first routine is the application's preproc.
 const BESIDE: Outline<'static> = Outline {
     constants: &[1],
     texts: &["A"],
+    events: &[EventEntry {
+        code: EventCode::ApplicationPreproc,
+        index: 0,
+        routine: 0,
+    }],
     ..NOTHING
 };
 
-/// One routine, the application's preproc, with a limit of 3 and what stands in `BESIDE`.
-fn parts_of(alloc: Global, lines: &[Line]) -> Result<Parts, AllocError> {
-    let mut parts = outline::parts_of(alloc, &BESIDE)?;
-    parts.limits.push(3)?;
-    add_lines(alloc, &mut parts, &PLAIN, lines)?;
-    add_event(&mut parts, EventCode::ApplicationPreproc, 0, 0)?;
-    Ok(parts)
+/// One routine, a limit of 3 and what stands in `BESIDE`.
+fn program_of(alloc: Global, lines: &[Line]) -> Result<Program, Fail> {
+    program_with(alloc, &BESIDE, &[3], &[(PLAIN, lines)])
 }
 
 /// What the rules of jumps and brackets say of a routine with this code: zeros, or the number, the
 /// routine and the place.
 fn jumps_told(alloc: Global, lines: &[Line]) -> Result<(u8, u32, u32), Fail> {
-    let program = Program::from_parts(parts_of(alloc, lines)?).ok_or("no spelling")?;
+    let program = program_of(alloc, lines)?;
     match check_jumps(alloc, &program) {
         Ok(()) => Ok((0, 0, 0)),
         Err(refusal) => Ok((refusal.number, refusal.routine, refusal.at)),
@@ -36,7 +38,7 @@ fn jumps_told(alloc: Global, lines: &[Line]) -> Result<(u8, u32, u32), Fail> {
 }
 
 /// Code, and the first place that breaks a rule of jumps or brackets.
-const JUMPS: [(&[Line], (u8, u32, u32)); 4] = [
+static JUMPS: [(&[Line], (u8, u32, u32)); 4] = [
     // Kinds are no matter of jumps: a sum of a number and a text passes here.
     (
         &[
@@ -82,8 +84,8 @@ const JUMPS: [(&[Line], (u8, u32, u32)); 4] = [
 
 #[test]
 fn checks_jumps_and_brackets(rt: HostRuntime) -> Result<(), Fail> {
-    for (lines, want) in JUMPS {
-        assert_eq!(rt; jumps_told(rt.alloc(), lines)?, want);
+    for (lines, want) in &JUMPS {
+        assert_eq!(rt; jumps_told(rt.alloc(), lines)?, *want);
     }
     Ok(())
 }
@@ -93,16 +95,8 @@ const SMALL: &[u8] = b"[Dictionary]\nName=D\nRecordTypeStart=1\nRecordTypeLen=1\
 [IdItems]\n[Record]\nName=R\nRecordTypeValue='R'\nRecordLen=5\nMaxRecords=3\n\
 [Item]\nName=AGE\nStart=2\nLen=2\n";
 
-#[test]
-fn compares_shapes(rt: HostRuntime) -> Result<(), Fail> {
-    let alloc = rt.alloc();
-    let Ok(dictionary) = Dictionary::read(alloc, SMALL) else {
-        return Err("a fault".into());
-    };
-    let code: &[Line] = &[(Op::Return, 0, 0, 0)];
-    let mut parts = parts_of(alloc, code)?;
-    let program = Program::from_parts(parts_of(alloc, code)?).ok_or("no spelling")?;
-    assert!(rt; !same_shape(&dictionary, &program));
+/// The shape of the dictionary.
+fn add_small(parts: &mut Parts) -> Result<(), AllocError> {
     parts.records.push(RecordShape {
         max_records: 3,
         record_len: 5,
@@ -114,7 +108,30 @@ fn compares_shapes(rt: HostRuntime) -> Result<(), Fail> {
         start: 2,
     })?;
     parts.order.push(0)?;
-    let program = Program::from_parts(parts).ok_or("no spelling")?;
-    assert!(rt; same_shape(&dictionary, &program));
+    Ok(())
+}
+
+/// A program of this shape.
+fn program_of_small(alloc: Global) -> Result<Program, Fail> {
+    let mut parts = parts_with(alloc, &BESIDE, &[3], &[(PLAIN, &[(Op::Return, 0, 0, 0)])])?;
+    add_small(&mut parts)?;
+    Ok(Program::from_parts(parts).ok_or("no spelling")?)
+}
+
+/// Whether a program has the shape of the dictionary.
+fn is_small(alloc: Global, program: &Program) -> bool {
+    match Dictionary::read(alloc, SMALL) {
+        Ok(dictionary) => same_shape(&dictionary, program),
+        Err(_) => false,
+    }
+}
+
+#[test]
+fn compares_shapes(rt: HostRuntime) -> Result<(), Fail> {
+    let alloc = rt.alloc();
+    let bare = program_of(alloc, &[(Op::Return, 0, 0, 0)])?;
+    assert!(rt; !is_small(alloc, &bare));
+    let program = program_of_small(alloc)?;
+    assert!(rt; is_small(alloc, &program));
     Ok(())
 }

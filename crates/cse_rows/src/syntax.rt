@@ -13,7 +13,7 @@ fn fault(alloc: Global, text: &str) -> (u8, u32, u32) {
 /// A text, and the number, line and column of its first fault; zeros of a source.
 type Row = (&'static str, (u8, u32, u32));
 
-const ROWS: [Row; 58] = [
+static ROWS: [Row; 58] = [
     // Characters that no token has, and places: a byte order mark is no column; a tab and a CR are one each; LF alone ends a line.
     ("PROC AGE AGE = #;", (30, 1, 16)),
     ("PROC AGE }", (30, 1, 10)),
@@ -156,7 +156,7 @@ struct Long {
     fault: (u8, u32, u32),
 }
 
-const LONG: [Long; 16] = [
+static LONG: [Long; 16] = [
     Long {
         front: "PROC AGE errmsg('",
         part: "\u{e9}",
@@ -338,7 +338,7 @@ fn long_texts(rt: HostRuntime) -> Result<(), Fail> {
 }
 
 /// The words that are left out.
-const LEFT_OUT: [&str; 21] = [
+static LEFT_OUT: [&str; 21] = [
     "while",
     "recode",
     "box",

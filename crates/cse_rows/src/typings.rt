@@ -1,36 +1,42 @@
 //! Worked programs, and why they may not run.
 
 use crate::nests::loops_of;
+use crate::parts::{parts_with, program_with};
 use crate::programs::CELLS;
-use cse_fixtures::outline::{self, Line, NOTHING, Outline};
-use cse_fixtures::pieces::{PLAIN, add_event, add_instructions, add_routine};
-use cse_image::{Ambient, EventCode, EventEntry, Gift, Instr, Op, Parts, Program};
+use cse_fixtures::outline::{Line, NOTHING, Outline, add_shape};
+use cse_fixtures::pieces::PLAIN;
+use cse_image::{EventCode, EventEntry, Op, Program};
 use cse_typing::{NONE, Refusal, check_jumps_and_brackets, typed};
 use cse_value::shape::{RecordShape, Shape};
 use std::alloc::{AllocError, Global};
 use std::test::Fail;
 
-fn code_of(alloc: Global, lines: &[Line]) -> Result<Vec<Instr>, AllocError> {
-    let mut code = Vec::new(alloc);
-    add_instructions(&mut code, lines)?;
-    Ok(code)
-}
-
-/// A constant, a text and an array of 4 cells.
+/// A constant, a text and an array of 4 cells; the first routine is the application's preproc.
 const BESIDE: Outline<'static> = Outline {
     constants: &[1],
     texts: &["A"],
     arrays: &[CELLS],
+    events: &[EventEntry {
+        code: EventCode::ApplicationPreproc,
+        index: 0,
+        routine: 0,
+    }],
     ..NOTHING
 };
 
-/// One routine, the application's preproc, with limits from 1 to 4 and what stands in `BESIDE`.
-fn parts_of(alloc: Global, code: Vec<Instr>) -> Result<Parts, AllocError> {
-    let mut parts = outline::parts_of(alloc, &BESIDE)?;
-    parts.limits.extend_from_slice(&[1, 2, 3, 4])?;
-    add_routine(alloc, &mut parts, &PLAIN, &code)?;
-    add_event(&mut parts, EventCode::ApplicationPreproc, 0, 0)?;
-    Ok(parts)
+/// The same, where it is the level's.
+const OF_LEVEL: Outline<'static> = Outline {
+    events: &[EventEntry {
+        code: EventCode::LevelPreproc,
+        index: 0,
+        routine: 0,
+    }],
+    ..BESIDE
+};
+
+/// One routine, with limits from 1 to 4 and what stands beside it.
+fn program_of(alloc: Global, beside: &Outline<'_>, lines: &[Line]) -> Result<Program, Fail> {
+    program_with(alloc, beside, &[1, 2, 3, 4], &[(PLAIN, lines)])
 }
 
 /// What the numbers of an answer are: zeros, or the number, the routine and the place.
@@ -42,22 +48,23 @@ fn numbers_of(told: Result<(), Refusal>) -> (u8, u32, u32) {
 }
 
 /// What the rules of jumps and brackets say of a routine with this code.
-fn jumps_told(alloc: Global, code: Vec<Instr>) -> Result<(u8, u32, u32), Fail> {
-    let program = Program::from_parts(parts_of(alloc, code)?).ok_or("no spelling")?;
+fn jumps_told(alloc: Global, lines: &[Line]) -> Result<(u8, u32, u32), Fail> {
+    let program = program_of(alloc, &BESIDE, lines)?;
     Ok(numbers_of(check_jumps_and_brackets(alloc, &program)))
 }
 
-/// So many loops, one in the other.
-fn nested(alloc: Global, depth: u32) -> Result<Vec<Instr>, AllocError> {
+/// What they say of so many loops, one in the other.
+fn nested_told(alloc: Global, depth: u32) -> Result<(u8, u32, u32), Fail> {
     let mut limits = Vec::new(alloc);
     for _ in 0..depth {
         limits.push(1)?;
     }
-    code_of(alloc, &loops_of(alloc, &[limits.as_slice()], &[])?)
+    let lines = loops_of(alloc, &[limits.as_slice()], &[])?;
+    jumps_told(alloc, &lines)
 }
 
 /// Code, and the first place that breaks a rule of jumps or brackets.
-const JUMPS: [(&[Line], u8, u32); 10] = [
+static JUMPS: [(&[Line], u8, u32); 10] = [
     (&[(Op::Return, 0, 0, 0)], 0, 0),
     // A loop with a break, and a jump over it.
     (
@@ -137,9 +144,8 @@ const JUMPS: [(&[Line], u8, u32); 10] = [
 #[test]
 fn jumps_and_brackets(rt: HostRuntime) -> Result<(), Fail> {
     let alloc = rt.alloc();
-    for (lines, number, at) in JUMPS {
-        let told = jumps_told(alloc, code_of(alloc, lines)?)?;
-        assert_eq!(rt; told, (number, 0, at));
+    for (lines, number, at) in &JUMPS {
+        assert_eq!(rt; jumps_told(alloc, lines)?, (*number, 0, *at));
     }
     Ok(())
 }
@@ -147,13 +153,13 @@ fn jumps_and_brackets(rt: HostRuntime) -> Result<(), Fail> {
 #[test]
 fn nests_64_deep(rt: HostRuntime) -> Result<(), Fail> {
     let alloc = rt.alloc();
-    assert_eq!(rt; jumps_told(alloc, nested(alloc, 64)?)?, (0, 0, 0));
-    assert_eq!(rt; jumps_told(alloc, nested(alloc, 65)?)?, (65, 0, 129));
+    assert_eq!(rt; nested_told(alloc, 64)?, (0, 0, 0));
+    assert_eq!(rt; nested_told(alloc, 65)?, (65, 0, 129));
     Ok(())
 }
 
 /// Code, and the first place that has no stack.
-const TYPINGS: [(&[Line], u8, u32); 9] = [
+static TYPINGS: [(&[Line], u8, u32); 9] = [
     // A limit that isn't there.
     (
         &[
@@ -246,49 +252,53 @@ fn no_shape(alloc: Global) -> Shape {
     }
 }
 
+/// What the typing of a program says, with a dictionary of no records.
+fn told_of(alloc: Global, beside: &Outline<'_>, lines: &[Line]) -> Result<(u8, u32, u32), Fail> {
+    let program = program_of(alloc, beside, lines)?;
+    Ok(numbers_of(typed(alloc, &no_shape(alloc), &program)))
+}
+
 #[test]
 fn typings(rt: HostRuntime) -> Result<(), Fail> {
-    let alloc = rt.alloc();
-    for (lines, number, at) in TYPINGS {
-        let parts = parts_of(alloc, code_of(alloc, lines)?)?;
-        let program = Program::from_parts(parts).ok_or("no spelling")?;
-        let told = typed(alloc, &no_shape(alloc), &program);
-        assert_eq!(rt; numbers_of(told), (number, 0, at));
+    for (lines, number, at) in &TYPINGS {
+        assert_eq!(rt; told_of(rt.alloc(), &BESIDE, lines)?, (*number, 0, *at));
     }
     Ok(())
+}
+
+const RECORD: RecordShape = RecordShape {
+    max_records: 1,
+    record_len: 80,
+};
+
+/// A shape of one record.
+fn shape_of_one(alloc: Global) -> Result<Shape, AllocError> {
+    let mut shape = no_shape(alloc);
+    shape.records.push(RECORD)?;
+    Ok(shape)
+}
+
+/// A program of this shape.
+fn program_of_one(alloc: Global) -> Result<Program, Fail> {
+    let mut parts = parts_with(alloc, &BESIDE, &[], &[(PLAIN, &[(Op::Return, 0, 0, 0)])])?;
+    add_shape(&mut parts, &shape_of_one(alloc)?)?;
+    Ok(Program::from_parts(parts).ok_or("no spelling")?)
 }
 
 #[test]
 fn fits_its_dictionary(rt: HostRuntime) -> Result<(), Fail> {
     let alloc = rt.alloc();
-    let mut parts = parts_of(alloc, code_of(alloc, &[(Op::Return, 0, 0, 0)])?)?;
-    let record = RecordShape {
-        max_records: 1,
-        record_len: 80,
-    };
-    parts.records.push(record)?;
-    parts.order.push(0)?;
-    let program = Program::from_parts(parts).ok_or("no spelling")?;
-    let mut shape = no_shape(alloc);
-    let told = typed(alloc, &shape, &program);
-    assert_eq!(rt; numbers_of(told), (68, NONE, NONE));
-    shape.records.push(record)?;
-    assert_eq!(rt; numbers_of(typed(alloc, &shape, &program)), (0, 0, 0));
+    let program = program_of_one(alloc)?;
+    let other = typed(alloc, &no_shape(alloc), &program);
+    assert_eq!(rt; numbers_of(other), (68, NONE, NONE));
+    let own = typed(alloc, &shape_of_one(alloc)?, &program);
+    assert_eq!(rt; numbers_of(own), (0, 0, 0));
     Ok(())
 }
 
 #[test]
 fn events_want_their_routine(rt: HostRuntime) -> Result<(), Fail> {
-    let alloc = rt.alloc();
-    let mut parts = parts_of(alloc, code_of(alloc, &[(Op::Return, 0, 0, 0)])?)?;
-    let event = EventEntry {
-        code: EventCode::LevelPreproc,
-        index: 0,
-        routine: 0,
-    };
-    parts.events = Vec::from_slice(alloc, &[event])?;
-    let program = Program::from_parts(parts).ok_or("no spelling")?;
-    let told = typed(alloc, &no_shape(alloc), &program);
-    assert_eq!(rt; numbers_of(told), (69, NONE, NONE));
+    let told = told_of(rt.alloc(), &OF_LEVEL, &[(Op::Return, 0, 0, 0)])?;
+    assert_eq!(rt; told, (69, NONE, NONE));
     Ok(())
 }
