@@ -29,6 +29,7 @@ impl Model for Filled {
 
 /// Writes bytes as characters over columns, and tells whether all are ASCII and none is a line feed. It
 /// tests none by itself, so that the compiler takes many at once.
+#[inline(never)]
 fn put_plain(columns: &mut [char], text: &[u8]) -> bool
     requires { length columns.old ≡ length text.now }
     ensures columns { columns.new ≡ text.now }
@@ -117,6 +118,14 @@ fn put_eight_blanks(columns: &mut [char])
     }
 }
 
+/// Writes blanks over columns. It is called for few lines, and isn't laid out where it is called.
+#[inline(never)]
+fn put_blanks(columns: &mut [char])
+    ensures { columns.new ≡ replicate (length columns.old) 32 }
+{
+    columns.fill(' ');
+}
+
 /// Writes blanks over the columns from a place on. Where they are few, some before that place are
 /// overwritten too.
 #[inline(always)]
@@ -130,7 +139,7 @@ fn put_blanks_from(columns: &mut [char], len: usize)
         put_eight_blanks(&mut columns[width - 8..]);
     } else {
         let (_, rest) = columns.split_at_mut(len);
-        rest.fill(' ');
+        put_blanks(rest);
     }
 }
 
