@@ -1,5 +1,5 @@
 -- Laws of the columns that a dictionary names.
-use Rattle.std.proofs.Common.{◌≡◌, ℕ, ◌+◌, ◌-◌, ◌<◌, ◌≤◌, max, Bool, true, false, List, [], ◌∷◌, ◌++◌, length, get_or, take, drop, refl, ap, sym, ◌∙◌, arith, append_assoc, length-drop, take-add}
+use Rattle.std.proofs.Common.{◌≡◌, ℕ, ◌+◌, ◌-◌, ◌<◌, ◌≤◌, max, Bool, true, false, List, [], ◌∷◌, ◌++◌, length, get_or, take, drop, refl, ap, sym, ◌∙◌, arith, append_assoc, length-drop, subst, take-add}
 use Rattle.std.specs.Str.{bytes_eq}
 use Rattle.std.proofs.lemmas.Slice.Eq.{bytes_eq-Decides}
 use Rattle.std.proofs.lemmas.List.{drop-drop, drop_more, take_at, drop_at, length-take-le}
@@ -116,3 +116,10 @@ HaveSame-joined both first second some start len side = record {
       ∙ append_assoc (field_at first columns) (field_at second columns) [];
   last = omega arith;
 }
+
+-- four more columns are the same
+pub four_more : (a b : List ℕ) (at : ℕ) → take at a ≡ take at b → take (at + 4 - at) (drop at a) ≡ take (at + 4 - at) (drop at b) → take (at + 4) a ≡ take (at + 4) b
+four_more a b at same next =
+    let four : at + 4 - at ≡ 4 = omega arith in
+    let next_four : take 4 (drop at a) ≡ take 4 (drop at b) = subst (λ n. take n (drop at a) ≡ take n (drop at b)) four next in
+    take-add at 4 a ∙ (ap (λ l. l ++ take 4 (drop at a)) same ∙ (ap (λ l. take at b ++ l) next_four ∙ sym (take-add at 4 b)))

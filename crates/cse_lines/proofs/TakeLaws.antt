@@ -1,5 +1,5 @@
 -- Laws of a line that comes to a run.
-use Rattle.std.proofs.Common.{◌≡◌, ℕ, ◌+◌, ◌≤◌, max, Bool, true, false, List, [], ◌∷◌, length, Some, None, refl, ap, sym, ◌∙◌, arith}
+use Rattle.std.proofs.Common.{◌≡◌, ℕ, ◌+◌, ◌≤◌, max, Bool, true, false, List, [], ◌∷◌, length, take, drop, Some, None, refl, ap, sym, ◌∙◌, arith}
 use Rattle.std.specs.Str.{bytes_eq}
 use Rattle.std.proofs.lemmas.Bool.{false≢true}
 use Rattle.std.proofs.lemmas.Slice.Eq.{bytes_eq-Decides}
@@ -43,6 +43,14 @@ same_ids xs ys test e t = (bytes_eq-Decides xs ys).0 (sym e ∙ t)
 
 pub other_ids : (xs ys : List ℕ) (test : Bool) → test ≡ bytes_eq xs ys → test ≡ false → (xs ≡ ys → ⊥)
 other_ids xs ys test e t same = false≢true (sym t ∙ e ∙ (bytes_eq-Decides xs ys).1 same)
+
+-- columns are others that differ in a part
+pub part_differs : (xs ys : List ℕ) (at n : ℕ) (test : Bool) → (take n (drop at xs) ≡ take n (drop at ys) → test ≡ true) → test ≡ false → false ≡ bytes_eq xs ys
+part_differs xs ys at n test all t = by_test (bytes_eq xs ys) refl
+  where
+    by_test : (same : Bool) → bytes_eq xs ys ≡ same → false ≡ same
+    by_test true e = absurd (false≢true (sym t ∙ all (ap (λ l. take n (drop at l)) ((bytes_eq-Decides xs ys).0 e))))
+    by_test false e = refl
 
 pub fault_of-own : (place number : ℕ) (line : FileLine) → line_fault line ≡ Some number → fault_of place line ≡ Some number
 fault_of-own place number line h = rw h refl

@@ -30,13 +30,34 @@ fn piece(bytes: &[u8], at: usize, len: usize) -> &[u8]
     &bytes[at..at + len]
 }
 
+/// Whether four bytes are these columns. All are looked at, so that the compiler takes them at once.
+#[inline(always)]
+fn are_four(bytes: &[u8], columns: &[char]) -> bool
+    requires left { length bytes.now ≡ 4 }
+    requires right { length columns.now ≡ 4 }
+    ensures { result ≡ true → bytes.now ≡ columns.now }
+{
+    let first = bytes[0] as char == columns[0];
+    let second = bytes[1] as char == columns[1];
+    let third = bytes[2] as char == columns[2];
+    let last = bytes[3] as char == columns[3];
+    first & second & third & last
+}
+
 /// Whether bytes begin as these columns.
 fn begins_as(bytes: &[u8], columns: &[char]) -> bool
     requires { length columns.now ≤ length bytes.now }
     ensures { result ≡ true → take (length columns.now) bytes.now ≡ columns.now }
 {
-    'columns: for (i, column) in columns.iter().enumerate() {
-        if bytes[i] as char != *column {
+    let mut at = 0;
+    'fours: while 4 <= columns.len() - at {
+        if !are_four(&bytes[at..at + 4], &columns[at..at + 4]) {
+            return false;
+        }
+        at += 4;
+    }
+    'columns: for i in at..columns.len() {
+        if bytes[i] as char != columns[i] {
             return false;
         }
     }

@@ -29,6 +29,7 @@ impl Model for Filled {
 
 /// Writes bytes as characters over columns, and tells whether all are ASCII and none is a line feed. It
 /// tests none by itself, so that the compiler takes many at once.
+#[inline(never)]
 fn put_plain(columns: &mut [char], text: &[u8]) -> bool
     requires { length columns.old ≡ length text.now }
     ensures columns { columns.new ≡ text.now }
@@ -42,8 +43,25 @@ fn put_plain(columns: &mut [char], text: &[u8]) -> bool
     bits < 128
 }
 
-/// The same of eight bytes. All are read before a column is written: of bytes that may lie where a column
-/// does, the compiler would take one at a time.
+/// Writes four bytes as characters over columns. All are read before a column is written, so that the
+/// compiler takes them at once: of bytes that may lie where a column does, it would take one at a time.
+#[inline(always)]
+fn put_four(columns: &mut [char], text: &[u8])
+    requires columns { length columns.old ≡ 4 }
+    requires text { length text.now ≡ 4 }
+    ensures { columns.new ≡ text.now }
+{
+    let first = text[0];
+    let second = text[1];
+    let third = text[2];
+    let last = text[3];
+    columns[0] = first as char;
+    columns[1] = second as char;
+    columns[2] = third as char;
+    columns[3] = last as char;
+}
+
+/// Writes eight bytes as characters over columns, and tells whether all are ASCII and none is a line feed.
 #[inline(always)]
 fn put_eight(columns: &mut [char], text: &[u8]) -> bool
     requires columns { length columns.old ≡ 8 }
@@ -52,9 +70,8 @@ fn put_eight(columns: &mut [char], text: &[u8]) -> bool
     ensures plain { result ≡ true → IsPlain text.now }
 {
     let bytes = u8x8::from_slice(text);
-    'bytes: for i in 0..8 {
-        columns[i] = bytes[i] as char;
-    }
+    put_four(&mut columns[..4], &text[..4]);
+    put_four(&mut columns[4..], &text[4..]);
     let feeds = bytes.simd_eq(u8x8::splat(b'\n')).to_bitmask();
     let others = bytes.simd_ge(u8x8::splat(128)).to_bitmask();
     feeds | others == 0
@@ -101,6 +118,14 @@ fn put_eight_blanks(columns: &mut [char])
     }
 }
 
+/// Writes blanks over columns. It is called for few lines, and isn't laid out where it is called.
+#[inline(never)]
+fn put_blanks(columns: &mut [char])
+    ensures { columns.new ≡ replicate (length columns.old) 32 }
+{
+    columns.fill(' ');
+}
+
 /// Writes blanks over the columns from a place on. Where they are few, some before that place are
 /// overwritten too.
 #[inline(always)]
@@ -114,7 +139,7 @@ fn put_blanks_from(columns: &mut [char], len: usize)
         put_eight_blanks(&mut columns[width - 8..]);
     } else {
         let (_, rest) = columns.split_at_mut(len);
-        rest.fill(' ');
+        put_blanks(rest);
     }
 }
 

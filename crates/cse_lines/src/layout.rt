@@ -1,6 +1,6 @@
 //! The columns that a dictionary names on each line.
 
-ghost use Rattle.std.specs.Prelude.{◌≡◌, ◌==◌, ◌+◌, ◌-◌, ◌≤◌, ◌++◌, [], ◌∷◌, filter, length, map, IfOk, IfSome, OnOk};
+ghost use Rattle.std.specs.Prelude.{◌≡◌, ◌==◌, ◌+◌, ◌-◌, ◌≤◌, ◌++◌, [], ◌∷◌, filter, length, map, true, IfOk, IfSome, OnOk};
 ghost use Rattle.std.specs.Str.{bytes_eq};
 ghost use Rattle.cse_lines.specs.Field.{HaveSame, field_at, fields_at, id_spans, last_column, layout_of, span_of};
 
@@ -136,6 +136,21 @@ pub fn field_at(columns: &[char], span: Span) -> &[char]
     &columns[first..first + span.len as usize]
 }
 
+/// Whether four columns are the same. All are looked at, so that the compiler takes them at once.
+#[inline(always)]
+fn are_four_same(a: &[char], b: &[char]) -> bool
+    requires left { length a.now ≡ 4 }
+    requires right { length b.now ≡ 4 }
+    ensures same { result ≡ true → a.now ≡ b.now }
+    ensures all { a.now ≡ b.now → result ≡ true }
+{
+    let first = a[0] == b[0];
+    let second = a[1] == b[1];
+    let third = a[2] == b[2];
+    let last = a[3] == b[3];
+    first & second & third & last
+}
+
 /// Whether columns are the same. Those that are compared here are few, so it takes one by one.
 pub fn is_same(a: &[char], b: &[char]) -> bool
     ensures { result ≡ bytes_eq a.now b.now }
@@ -143,8 +158,15 @@ pub fn is_same(a: &[char], b: &[char]) -> bool
     if a.len() != b.len() {
         return false;
     }
-    'columns: for (i, column) in a.iter().enumerate() {
-        if *column != b[i] {
+    let mut at = 0;
+    'fours: while 4 <= a.len() - at {
+        if !are_four_same(&a[at..at + 4], &b[at..at + 4]) {
+            return false;
+        }
+        at += 4;
+    }
+    'columns: for i in at..a.len() {
+        if a[i] != b[i] {
             return false;
         }
     }

@@ -1,5 +1,14 @@
-use Rattle.std.proofs.Common.{◌≡◌, take}
+use Rattle.std.proofs.Common.{◌≡◌, ◌-◌, ◌≤◌, take, length}
 use Rattle.cse_lines.proofs.alike.begins_as.Given as goal
+
+abbrev pub invariant-fours : goal.invariant-fours
+invariant-fours l = record {
+  fits : l.at ≤ length l.columns;
+  same : take l.at l.bytes ≡ take l.at l.columns;
+}
+
+abbrev pub decreases-fours : goal.decreases-fours
+decreases-fours l = length l.columns - l.at
 
 abbrev pub invariant-columns : goal.invariant-columns
 invariant-columns l = take l.i l.bytes ≡ take l.i l.columns
