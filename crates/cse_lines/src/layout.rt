@@ -50,7 +50,7 @@ fn span_of(item: &ItemShape) -> Span
 }
 
 /// The columns of the id items among items, in their order.
-pub fn id_spans(alloc: Global, items: &[ItemShape]) -> Result<Vec<Span>, AllocError>
+fn id_spans(alloc: Global, items: &[ItemShape]) -> Result<Vec<Span>, AllocError>
     ensures { IfOk result (λ v. v.items ≡ map span_of (filter (λ item. item.owner == 255) items.now)) }
 {
     items
@@ -79,7 +79,7 @@ fn last_column(spans: &[Span]) -> usize
 }
 
 /// Two places as one, if the second one lies behind the first.
-pub fn join(first: Span, second: Span) -> Option<Span>
+fn join(first: Span, second: Span) -> Option<Span>
     ensures { IfSome result (λ both. HaveSame (both ∷ []) (first ∷ second ∷ [])) }
 {
     let end = first.start.checked_add(first.len)?;
@@ -94,7 +94,7 @@ pub fn join(first: Span, second: Span) -> Option<Span>
 }
 
 /// Adds a place behind others: as one with the last of them, where the two lie side by side.
-pub fn add_block(blocks: &mut Vec<Span>, span: Span) -> Result<(), AllocError>
+fn add_block(blocks: &mut Vec<Span>, span: Span) -> Result<(), AllocError>
     ensures { OnOk result (HaveSame blocks.new.items (blocks.old.items ++ span ∷ [])) }
 {
     if let Some(last) = blocks.pop() {
@@ -109,7 +109,7 @@ pub fn add_block(blocks: &mut Vec<Span>, span: Span) -> Result<(), AllocError>
 }
 
 /// The same columns, those that lie side by side as one place.
-pub fn blocks_of(alloc: Global, spans: &[Span]) -> Result<Vec<Span>, AllocError>
+fn blocks_of(alloc: Global, spans: &[Span]) -> Result<Vec<Span>, AllocError>
     ensures { IfOk result (λ blocks. HaveSame blocks.items spans.now) }
 {
     let mut blocks = Vec::new(alloc);
