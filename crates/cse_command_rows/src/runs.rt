@@ -8,10 +8,9 @@ use cse_commands::outcome::Stop;
 use cse_commands::printing::write_totals;
 use cse_commands::run_image::store_of;
 use cse_dict::Dictionary;
-use cse_fixtures::outline::{
-    ArrayOutline, Line, NOTHING, Outline, RoutineOutline, add_shape, parts_of,
-};
-use cse_image::{Ambient, EventCode, EventEntry, Gift, Local, LocalKind, Op, Program, write_image};
+use cse_fixtures::outline::{NOTHING, Outline, add_shape, parts_of};
+use cse_fixtures::persons::DECK;
+use cse_image::{Program, write_image};
 use cse_value::Reads;
 use std::alloc::Global;
 use std::test::Fail;
@@ -21,64 +20,6 @@ const TWO: &[u8] = b"[Dictionary]\nName=SAMPLE_DICT\nRecordTypeStart=1\nRecordTy
 [Level]\nName=QUEST\n[IdItems]\n[Item]\nName=HH\nStart=2\nLen=3\nZeroFill=Yes\n\
 [Record]\nName=PERSON\nRecordTypeValue='P'\nRecordLen=12\nMaxRecords=2\n\
 [Item]\nName=AGE\nStart=7\nLen=3\n";
-
-/// An age that is blank is taken from the deck by sex and relation; another one is put there.
-const DECK: &[Line] = &[
-    (Op::LoadLocal, 0, 0, 0),
-    (Op::ItemNumber, 0, 0, 3),
-    (Op::Special, 0, 0, 0),
-    (Op::Compare, 0, 0, 0),
-    (Op::JumpUnless, 0, 0, 17),
-    (Op::LoadLocal, 0, 0, 0),
-    (Op::LoadLocal, 0, 0, 0),
-    (Op::ItemNumber, 0, 0, 1),
-    (Op::Row, 0, 0, 14),
-    (Op::LoadLocal, 0, 0, 0),
-    (Op::ItemNumber, 0, 0, 2),
-    (Op::Row, 1, 1, 0),
-    (Op::LoadCell, 0, 0, 0),
-    (Op::Jump, 0, 0, 15),
-    (Op::Special, 2, 0, 0),
-    (Op::Impute, 0, 0, 3),
-    (Op::Jump, 0, 0, 26),
-    (Op::LoadLocal, 0, 0, 0),
-    (Op::ItemNumber, 0, 0, 1),
-    (Op::Row, 0, 0, 26),
-    (Op::LoadLocal, 0, 0, 0),
-    (Op::ItemNumber, 0, 0, 2),
-    (Op::Row, 1, 1, 0),
-    (Op::LoadLocal, 0, 0, 0),
-    (Op::ItemNumber, 0, 0, 3),
-    (Op::StoreCell, 0, 0, 0),
-    (Op::Return, 0, 0, 0),
-];
-
-/// The deck, behind each age.
-const OF_AGE: Outline<'static> = Outline {
-    arrays: &[ArrayOutline {
-        saved: true,
-        name: "AGE_HD",
-        dimensions: &[2, 4],
-        cells: &[],
-    }],
-    routines: &[RoutineOutline {
-        ambient: Ambient::Case,
-        gives: Gift::Nothing,
-        parameters: 1,
-        locals: &[Local {
-            kind: LocalKind::Occurrence,
-            owner: 0,
-            length: 0,
-        }],
-        code: DECK,
-    }],
-    events: &[EventEntry {
-        code: EventCode::ItemPostproc,
-        index: 3,
-        routine: 0,
-    }],
-    ..NOTHING
-};
 
 /// A deck text with an age of 35.
 const AGE_DECK: &str = "CSEB DECKS 1\nARRAY AGE_HD 2 4\n35\n0\n0\n0\n0\n0\n0\n0\nEND\n";
@@ -129,7 +70,7 @@ const RUNS: &[(Given, [&str; 5])] = &[
         ],
     ),
     (
-        (SAMPLE, OF_AGE, None, b"P00111 35\nP00211\n"),
+        (SAMPLE, DECK, None, b"P00111 35\nP00211\n"),
         [
             "cases 2 lines 2 unseen 0\n",
             "P00111 35\nP00211 35\n",
@@ -139,7 +80,7 @@ const RUNS: &[(Given, [&str; 5])] = &[
         ],
     ),
     (
-        (SAMPLE, OF_AGE, Some(AGE_DECK), b"P00311\n"),
+        (SAMPLE, DECK, Some(AGE_DECK), b"P00311\n"),
         [
             "cases 1 lines 1 unseen 0\n",
             "P00311 35\n",
@@ -151,7 +92,7 @@ const RUNS: &[(Given, [&str; 5])] = &[
     (
         (
             SAMPLE,
-            OF_AGE,
+            DECK,
             Some("CSEB DECKS 1\nARRAY AGE_HD 2 3\n0\n0\n0\n0\n0\n0\nEND\n"),
             b"P00311\n",
         ),
@@ -160,7 +101,7 @@ const RUNS: &[(Given, [&str; 5])] = &[
     (
         (
             SAMPLE,
-            OF_AGE,
+            DECK,
             Some("CSEB DECKS 1\nARRAY AGE_HD 2 4\n35\n"),
             b"P00311\n",
         ),

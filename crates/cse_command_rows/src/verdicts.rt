@@ -6,8 +6,9 @@ use cse_dict::Dictionary;
 use cse_fixtures::outline::{
     self, ArrayOutline, Line, MessageOutline, NOTHING, Outline, add_shape,
 };
+use cse_fixtures::persons::{DECK_CODE, PERSON};
 use cse_fixtures::pieces::{Head, add_event, add_lines};
-use cse_image::{Ambient, EventCode, Gift, Local, LocalKind, Op, Parts, Program, write_image};
+use cse_image::{Ambient, EventCode, Gift, Op, Parts, Program, write_image};
 use cse_value::Writes;
 use std::alloc::{AllocError, Global};
 use std::test::Fail;
@@ -84,37 +85,6 @@ pub const CALLS_ITSELF: &[Line] = &[
     (Op::Call, 0, 0, 1),
     (Op::Pop, 0, 0, 0),
     (Op::End, 0, 0, 1),
-    (Op::Return, 0, 0, 0),
-];
-
-/// An age that is blank is taken from the deck by sex and relation; another one is put there.
-const DECK: &[Line] = &[
-    (Op::LoadLocal, 0, 0, 0),
-    (Op::ItemNumber, 0, 0, 3),
-    (Op::Special, 0, 0, 0),
-    (Op::Compare, 0, 0, 0),
-    (Op::JumpUnless, 0, 0, 17),
-    (Op::LoadLocal, 0, 0, 0),
-    (Op::LoadLocal, 0, 0, 0),
-    (Op::ItemNumber, 0, 0, 1),
-    (Op::Row, 0, 0, 14),
-    (Op::LoadLocal, 0, 0, 0),
-    (Op::ItemNumber, 0, 0, 2),
-    (Op::Row, 1, 1, 0),
-    (Op::LoadCell, 0, 0, 0),
-    (Op::Jump, 0, 0, 15),
-    (Op::Special, 2, 0, 0),
-    (Op::Impute, 0, 0, 3),
-    (Op::Jump, 0, 0, 26),
-    (Op::LoadLocal, 0, 0, 0),
-    (Op::ItemNumber, 0, 0, 1),
-    (Op::Row, 0, 0, 26),
-    (Op::LoadLocal, 0, 0, 0),
-    (Op::ItemNumber, 0, 0, 2),
-    (Op::Row, 1, 1, 0),
-    (Op::LoadLocal, 0, 0, 0),
-    (Op::ItemNumber, 0, 0, 3),
-    (Op::StoreCell, 0, 0, 0),
     (Op::Return, 0, 0, 0),
 ];
 
@@ -202,7 +172,7 @@ const PROGRAMS: &[Made] = &[
     ),
     (
         SAMPLE,
-        &[(Ambient::Case, Gift::Nothing, true, DECK)],
+        &[(Ambient::Case, Gift::Nothing, true, DECK_CODE)],
         AGE,
         "routine 0 27 steps\ncase 810 steps\nrun 0 steps\ndepth 2 0 4 0\naccepted\n",
     ),
@@ -254,13 +224,6 @@ const PROGRAMS: &[Made] = &[
 const LIMITS: [u32; 11] = [
     10, 3, 999999, 999999997, 999999995, 999999996, 10000, 9999, 9997, 9996, 9993,
 ];
-
-/// An occurrence of record 0.
-const PERSON: &[Local] = &[Local {
-    kind: LocalKind::Occurrence,
-    owner: 0,
-    length: 0,
-}];
 
 fn add_part(alloc: Global, parts: &mut Parts, part: &Part) -> Result<(), AllocError> {
     let (ambient, gives, takes, lines) = *part;

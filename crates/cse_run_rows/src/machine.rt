@@ -9,10 +9,9 @@ ghost use Rattle.cse_steps.specs.Fits.{IsThere, occurrences_in};
 use cse_case::{Case, CaseReader};
 use cse_decks::Store;
 use cse_dict::Dictionary;
-use cse_fixtures::outline::{
-    ArrayOutline, Line, NOTHING, Outline, RoutineOutline, add_shape, parts_of,
-};
-use cse_image::{Ambient, Code, Event, EventCode, EventEntry, Gift, Local, LocalKind, Op, Program};
+use cse_fixtures::outline::{Line, NOTHING, Outline, RoutineOutline, add_shape, parts_of};
+use cse_fixtures::persons::{DECK, persons_text};
+use cse_image::{Ambient, Code, Event, EventCode, EventEntry, Gift, Op, Program};
 use cse_machine::Machine;
 use cse_report::Reports;
 use cse_value::shape::ItemShape;
@@ -20,15 +19,6 @@ use cse_value::{Input, Reads};
 use cse_verify::{Verified, verify};
 use std::alloc::Global;
 use std::test::Fail;
-
-/// Persons of a household: at most 30, with sex, relation and age.
-const PERSONS: &str = "[Dictionary]\nName=SAMPLE_DICT\nRecordTypeStart=1\nRecordTypeLen=1\n\
-[Level]\nName=QUEST\n[IdItems]\n[Item]\nName=HH\nStart=2\nLen=3\nZeroFill=Yes\n\
-[Record]\nName=PERSON\nRecordTypeValue='P'\nRecordLen=12\nMaxRecords=30\n\
-[Item]\nName=SEX\nStart=5\nLen=1\n[ValueSet]\nName=SEX_VS\nValue=1;Male\nValue=2;Female\n\
-[Item]\nName=REL\nStart=6\nLen=1\n\
-[ValueSet]\nName=REL_VS\nValue=1;Head\nValue=2;Spouse\nValue=3:8;Other\n\
-[Item]\nName=AGE\nStart=7\nLen=3\n[Item]\nName=WEIGHT\nStart=10\nLen=3\nDecimal=1\n";
 
 /// A loop over persons in which a counted loop is left early where there are more than two.
 const LOOPS: &[Line] = &[
@@ -42,37 +32,6 @@ const LOOPS: &[Line] = &[
     (Op::Break, 0, 0, 8),
     (Op::End, 0, 0, 2),
     (Op::End, 0, 0, 0),
-    (Op::Return, 0, 0, 0),
-];
-
-/// An age that is blank is taken from the deck by sex and relation; another one is put there.
-const DECK: &[Line] = &[
-    (Op::LoadLocal, 0, 0, 0),
-    (Op::ItemNumber, 0, 0, 3),
-    (Op::Special, 0, 0, 0),
-    (Op::Compare, 0, 0, 0),
-    (Op::JumpUnless, 0, 0, 17),
-    (Op::LoadLocal, 0, 0, 0),
-    (Op::LoadLocal, 0, 0, 0),
-    (Op::ItemNumber, 0, 0, 1),
-    (Op::Row, 0, 0, 14),
-    (Op::LoadLocal, 0, 0, 0),
-    (Op::ItemNumber, 0, 0, 2),
-    (Op::Row, 1, 1, 0),
-    (Op::LoadCell, 0, 0, 0),
-    (Op::Jump, 0, 0, 15),
-    (Op::Special, 2, 0, 0),
-    (Op::Impute, 0, 0, 3),
-    (Op::Jump, 0, 0, 26),
-    (Op::LoadLocal, 0, 0, 0),
-    (Op::ItemNumber, 0, 0, 1),
-    (Op::Row, 0, 0, 26),
-    (Op::LoadLocal, 0, 0, 0),
-    (Op::ItemNumber, 0, 0, 2),
-    (Op::Row, 1, 1, 0),
-    (Op::LoadLocal, 0, 0, 0),
-    (Op::ItemNumber, 0, 0, 3),
-    (Op::StoreCell, 0, 0, 0),
     (Op::Return, 0, 0, 0),
 ];
 
@@ -94,33 +53,6 @@ const OF_LEVEL: Outline<'static> = Outline {
     ..NOTHING
 };
 
-/// The deck, behind each age.
-const OF_AGE: Outline<'static> = Outline {
-    arrays: &[ArrayOutline {
-        saved: true,
-        name: "AGE_HD",
-        dimensions: &[2, 4],
-        cells: &[],
-    }],
-    routines: &[RoutineOutline {
-        ambient: Ambient::Case,
-        gives: Gift::Nothing,
-        parameters: 1,
-        locals: &[Local {
-            kind: LocalKind::Occurrence,
-            owner: 0,
-            length: 0,
-        }],
-        code: DECK,
-    }],
-    events: &[EventEntry {
-        code: EventCode::ItemPostproc,
-        index: 3,
-        routine: 0,
-    }],
-    ..NOTHING
-};
-
 /// Each program with its event, the occurrence of it, two cases, and the steps in each.
 const ROWS: [(Outline<'static>, Event, u16, &str, [u64; 2]); 3] = [
     (
@@ -134,7 +66,7 @@ const ROWS: [(Outline<'static>, Event, u16, &str, [u64; 2]); 3] = [
         [26, 108],
     ),
     (
-        OF_AGE,
+        DECK,
         Event {
             code: EventCode::ItemPostproc,
             index: 3,
@@ -144,7 +76,7 @@ const ROWS: [(Outline<'static>, Event, u16, &str, [u64; 2]); 3] = [
         [15, 17],
     ),
     (
-        OF_AGE,
+        DECK,
         Event {
             code: EventCode::ItemPreproc,
             index: 3,
@@ -292,7 +224,7 @@ fn program_of(
 #[test]
 fn events_take_steps(rt: HostRuntime) -> Result<(), Fail> {
     let alloc = rt.alloc();
-    let Ok(dictionary) = Dictionary::read(alloc, PERSONS.as_bytes()) else {
+    let Ok(dictionary) = Dictionary::read(alloc, persons_text().as_bytes()) else {
         return Err("no dictionary".into());
     };
     for (outline, event, occurrence, text, want) in &ROWS {

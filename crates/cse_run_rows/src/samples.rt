@@ -1,66 +1,9 @@
 //! Programs, and the rows of runs that the tests go through.
 
 use cse_batch::{RunFault, Totals};
-use cse_fixtures::outline::{ArrayOutline, Line, MessageOutline, NOTHING, Outline, RoutineOutline};
-use cse_image::{Ambient, EventCode, EventEntry, Gift, Local, LocalKind, Op};
-
-/// `array AGE_HD (SEX_VS, REL_VS(+)) save;` and, for each age,
-/// `if AGE = notappl then impute(AGE, getdeck(AGE_HD)); else putdeck(AGE_HD, AGE); endif;`
-const DECK_CODE: &[Line] = &[
-    (Op::LoadLocal, 0, 0, 0),
-    (Op::ItemNumber, 0, 0, 3),
-    (Op::Special, 0, 0, 0),
-    (Op::Compare, 0, 0, 0),
-    (Op::JumpUnless, 0, 0, 17),
-    (Op::LoadLocal, 0, 0, 0),
-    (Op::LoadLocal, 0, 0, 0),
-    (Op::ItemNumber, 0, 0, 1),
-    (Op::Row, 0, 0, 14),
-    (Op::LoadLocal, 0, 0, 0),
-    (Op::ItemNumber, 0, 0, 2),
-    (Op::Row, 1, 1, 0),
-    (Op::LoadCell, 0, 0, 0),
-    (Op::Jump, 0, 0, 15),
-    (Op::Special, 2, 0, 0),
-    (Op::Impute, 0, 0, 3),
-    (Op::Jump, 0, 0, 26),
-    (Op::LoadLocal, 0, 0, 0),
-    (Op::ItemNumber, 0, 0, 1),
-    (Op::Row, 0, 0, 26),
-    (Op::LoadLocal, 0, 0, 0),
-    (Op::ItemNumber, 0, 0, 2),
-    (Op::Row, 1, 1, 0),
-    (Op::LoadLocal, 0, 0, 0),
-    (Op::ItemNumber, 0, 0, 3),
-    (Op::StoreCell, 0, 0, 0),
-    (Op::Return, 0, 0, 0),
-];
-
-const DECK: Outline<'static> = Outline {
-    arrays: &[ArrayOutline {
-        saved: true,
-        name: "AGE_HD",
-        dimensions: &[2, 4],
-        cells: &[],
-    }],
-    routines: &[RoutineOutline {
-        ambient: Ambient::Case,
-        gives: Gift::Nothing,
-        parameters: 1,
-        locals: &[Local {
-            kind: LocalKind::Occurrence,
-            owner: 0,
-            length: 0,
-        }],
-        code: DECK_CODE,
-    }],
-    events: &[EventEntry {
-        code: EventCode::ItemPostproc,
-        index: 3,
-        routine: 0,
-    }],
-    ..NOTHING
-};
+use cse_fixtures::outline::{Line, MessageOutline, NOTHING, Outline, RoutineOutline};
+use cse_fixtures::persons::DECK;
+use cse_image::{Ambient, EventCode, EventEntry, Gift, Op};
 
 /// Messages of the application's preproc and postproc, and one of each case with its persons.
 const TELLING: Outline<'static> = Outline {
