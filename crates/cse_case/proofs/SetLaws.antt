@@ -321,7 +321,7 @@ module _ (c : CaseText) (r o : ℕ) (kind : ItemKind) (item : ℕ) (may : MaySet
       fields-onto (line_at (with_item c place item columns).run p).columns (line_at c.run p).columns i.shape (filter (λ x. eqb x.owner 255) (map (λ (j : ItemText). j.shape) is)) (eqb i.shape.owner 255)
       (λ e. keeps_part p i.shape.start i.shape.len (inl (here.0)) (here.1 (eqb-true i.shape.owner 255 e))) (ids-kept named p is (λ x k low at. each x (suc k) (omega arith) at))
 
-  leaves-ids-and-types : (kind ≡ Opaque → ⊥) → LeavesIdsAndTypes c (with_item c place item columns)
+  pub leaves-ids-and-types : (kind ≡ Opaque → ⊥) → LeavesIdsAndTypes c (with_item c place item columns)
   unfolding ids_of
   leaves-ids-and-types named =
       let s = sound_item c.dictionary item may.sound may.is_item.there in

@@ -2,7 +2,7 @@
 
 ghost use Rattle.std.specs.Prelude.{◌≡◌, ◌<◌, ◌≤◌, ◌+◌, ◌^◌, ℕ, Some, length, IfOk};
 ghost use Rattle.std.specs.Bool.{OnTrue, OnFalse};
-ghost use Rattle.cse_value.specs.declared.shape.ItemKind.TheVariants.{Number as ANumber, Text as AText};
+ghost use Rattle.cse_value.specs.declared.shape.ItemKind.TheVariants.{Number as ANumber, Opaque as AnOpaque, Text as AText};
 ghost use Rattle.cse_value.specs.Writing.{WritesAll, FailsAtErr};
 ghost use Rattle.cse_output.specs.Gathering.{going, Puts};
 ghost use Rattle.cse_dict.specs.Sound.{IsSound};
@@ -10,8 +10,10 @@ ghost use Rattle.cse_lines.specs.Run.{line_at, written_run};
 ghost use Rattle.cse_case.specs.Seen.{is_case};
 ghost use Rattle.cse_case.specs.Field.{IsItem, item_at};
 ghost use Rattle.cse_case.specs.Entry.{entry_columns};
+ghost use Rattle.cse_case.specs.Ids.{AreIds, ids_in};
 
 use crate::field::{Entry, field_of, line_columns, whole_field, write_field};
+use crate::ids::Ids;
 use crate::items::Items;
 use crate::number::number_in;
 use crate::seen::{Table, table_of};
@@ -31,7 +33,7 @@ use std::marker::Model;
 /// memory.
 pub struct Case<'a> {
     items: Items<'a>,
-    ids: Vec<char>,
+    ids: Ids,
     columns: Vec<char>,
     lines: Vec<Line>,
     /// The bytes of the lines, as they came.
@@ -47,17 +49,18 @@ impl<'a> Model for Case<'a> {
     ghost use Rattle.std.specs.Prelude.{List, ℕ};
     ghost use Rattle.cse_lines.specs.Laid.{laid_lines};
     ghost use Rattle.cse_case.specs.Case.{CaseText};
+    ghost use Rattle.cse_case.specs.Ids.{ids_in};
     ghost use Rattle.cse_case.specs.Kept.{IsKept};
 
     ghost Value = { CaseText };
 
     ghost view = { λ c. record {
       dictionary = c.items;
-      ids = c.ids.items;
+      ids = ids_in c.ids c.columns.items;
       run = record { lines = laid_lines c.columns.items c.lines.items; marked = c.marked; first_line = c.first_line };
     } };
 
-    ghost invariant = { λ c. IsKept c.items c.columns.items c.lines.items c.bytes.items c.is_set c.first_line c.table.firsts.items c.table.spans.items c.table.unseen.items };
+    ghost invariant = { λ c. IsKept c.items c.ids c.columns.items c.lines.items c.bytes.items c.is_set c.first_line c.table.firsts.items c.table.spans.items c.table.unseen.items };
 }
 
 // Written out, so that a crate that owns a case calls this drop and does not prove one for each part.
@@ -87,13 +90,14 @@ impl<'a> Case<'a> {
         items: Items<'a>,
         counts: &mut Vec<u16>,
         room: Table,
-        ids: Vec<char>,
+        ids: Ids,
         run: Run,
     ) -> Result<Case<'a>, AllocError>
         requires some { 0 < length run.lines }
         requires wide { (place : ℕ) → place < length run.lines → length (line_at run place).columns ≡ line_width items (line_at run place) }
         requires few { run.first_line + length run.lines < 2 ^ 64 }
-        ensures { IfOk result (λ c. c ≡ record { dictionary = items.entry; ids = ids.items; run = run }) }
+        requires ids { AreIds items ids }
+        ensures { IfOk result (λ c. c ≡ record { dictionary = items.entry; ids = ids_in ids (line_at run 0).columns; run = run }) }
     {
         let (columns, lines, bytes, marked, first_line) = run.into_parts();
         let table = table_of(
@@ -117,7 +121,7 @@ impl<'a> Case<'a> {
     }
 
     /// Its vectors, which are no longer needed: those of its ids, of its table and of its run.
-    pub(crate) fn into_room(self) -> (Vec<char>, Table, Vec<char>, Vec<Line>, Vec<u8>) {
+    pub(crate) fn into_room(self) -> (Ids, Table, Vec<char>, Vec<Line>, Vec<u8>) {
         let Case {
             items: _,
             ids,
@@ -158,7 +162,7 @@ impl<'a> Case<'a> {
     pub fn ids(&self) -> &[char]
         ensures { result.now ≡ self.now.ids }
     {
-        &self.ids
+        self.ids.columns(&self.columns)
     }
 
     /// How many occurrences a record has.
@@ -312,6 +316,7 @@ impl<'a> Case<'a> {
         requires occurrence { IsOccurrence self.old number occurrence }
         requires item { item < length (items_of self.old) }
         requires owns { (item_at (items_of self.old) item).owner ≡ number }
+        requires known { (item_at (items_of self.old) item).kind ≡ AnOpaque → ⊥ }
         ensures { self.new ≡ with_item self.old (place_of self.old number occurrence) item (entry_columns entry.entry (item_at (items_of self.old) item).len) }
     {
         let shape = *self.item(item);

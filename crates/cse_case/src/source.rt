@@ -4,8 +4,10 @@ ghost use Rattle.std.specs.Prelude.{◌≡◌, ◌<◌, ◌+◌, ◌-◌, ◌^�
 ghost use Rattle.cse_lines.specs.Field.{field_at, fields_at, ids_of};
 ghost use Rattle.cse_lines.specs.Run.{line_at};
 ghost use Rattle.cse_case.specs.Fit.{line_width};
+ghost use Rattle.cse_case.specs.Ids.{AreIds, ids_in};
 
 use crate::case::Case;
+use crate::ids::Ids;
 use crate::items::Items;
 use crate::seen::Table;
 use cse_dict::Dictionary;
@@ -83,28 +85,35 @@ impl<'a> Source<'a> {
         }
     }
 
-    /// The id columns of a line, in this room.
-    fn ids_of(
-        &mut self,
-        alloc: Global,
-        room: Vec<char>,
-        columns: &[char],
-    ) -> Result<Vec<char>, AllocError>
+    /// The id columns of a line: where they stand, or a copy in the room that is kept.
+    fn ids_of(&mut self, alloc: Global, columns: &[char]) -> Result<Ids, AllocError>
         ensures same { self.new ≡ self.old }
-        ensures ids { IfOk result (λ v. v.items ≡ ids_of self.old columns.now) }
+        ensures are { IfOk result (λ ids. AreIds self.old ids) }
+        ensures ids { IfOk result (λ ids. ids_in ids columns.now ≡ ids_of self.old columns.now) }
     {
         if !self.is_known {
             self.id_blocks = id_blocks(alloc, self.items.dictionary())?;
             self.is_known = true;
         }
-        fields_of(room, &self.id_blocks, columns)
+        if self.id_blocks.len() == 1 {
+            let block = self.id_blocks[0];
+            return Ok(Ids::Together {
+                first: (block.start as usize).saturating_sub(1),
+                count: block.len as usize,
+            });
+        }
+        let room = mem::replace(&mut self.ids, Vec::new(alloc));
+        let ids = fields_of(room, &self.id_blocks, columns)?;
+        Ok(Ids::Copied(ids))
     }
 
     /// Takes back the memory of a case's ids and table.
-    pub fn take_back(&mut self, ids: Vec<char>, table: Table)
+    pub fn take_back(&mut self, ids: Ids, table: Table)
         ensures { self.new ≡ self.old }
     {
-        self.ids = ids;
+        if let Ids::Copied(ids) = ids {
+            self.ids = ids;
+        }
         self.table = table;
     }
 
@@ -117,8 +126,7 @@ impl<'a> Source<'a> {
         ensures same { self.new ≡ self.old }
         ensures made { IfOk result (λ c. c ≡ record { dictionary = self.old; ids = ids_of self.old (line_at run 0).columns; run = run }) }
     {
-        let room = mem::replace(&mut self.ids, Vec::new(alloc));
-        let ids = self.ids_of(alloc, room, run.columns(0))?;
+        let ids = self.ids_of(alloc, run.columns(0))?;
         let table = mem::replace(&mut self.table, Table::new(alloc));
         Case::new(self.items.again(), &mut self.counts, table, ids, run)
     }

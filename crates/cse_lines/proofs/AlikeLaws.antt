@@ -13,6 +13,7 @@ use Rattle.std.proofs.lemmas.Str.{chars-IsAscii, IsUtf8-from_ascii, encodes-char
 use Rattle.std.proofs.lemmas.Grind.{flat_map-append}
 use Rattle.std.specs.List.{flat_map}
 use Rattle.cse_dict.specs.Dictionary.{DictionaryText, number_of_type}
+use Rattle.cse_lines.specs.declared.decode.Beginning.TheVariants.{Alike}
 use Rattle.cse_lines.specs.declared.line.Ending.{Ending}
 use Rattle.cse_lines.specs.declared.line.Ending.TheVariants.{FileEnd, Feed, ReturnFeed}
 use Rattle.cse_lines.specs.declared.line.Line.{Line}
@@ -204,7 +205,7 @@ written_like line width last len end plain =
 
 -- the head of a line of that form
 abbrev pub head_like : Line → Head
-head_like last = record { len = last.len; ending = last.ending; record_number = last.record_number; marked = false; begins_as_last = true }
+head_like last = record { len = last.len; ending = last.ending; record_number = last.record_number; marked = false; beginning = Alike }
 
 -- a line that was pushed behind lines that lie in columns
 module _ (columns : List ℕ) (lines : List Line) (last : Line) (line : List ℕ) (laid : IsLaid 0 columns lines) (len : length (before_end line) ≡ last.len) (fits : last.len ≤ last.width) where

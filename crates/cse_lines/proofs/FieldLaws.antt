@@ -1,11 +1,11 @@
 -- Laws of the columns that a dictionary names.
-use Rattle.std.proofs.Common.{◌≡◌, ℕ, ◌+◌, ◌-◌, ◌<◌, ◌≤◌, max, Bool, true, false, List, [], ◌∷◌, ◌++◌, length, get_or, take, drop, refl, ap, sym, ◌∙◌, arith, append_assoc, length-drop, subst, take-add}
+use Rattle.std.proofs.Common.{◌≡◌, ℕ, ◌+◌, ◌-◌, ◌<◌, ◌≤◌, max, Bool, true, false, List, [], ◌∷◌, ◌++◌, length, get_or, take, drop, refl, ap, sym, ◌∙◌, arith, append_assoc, append-nil, length-drop, subst, take-add}
 use Rattle.std.specs.Str.{bytes_eq}
 use Rattle.std.proofs.lemmas.Slice.Eq.{bytes_eq-Decides}
 use Rattle.std.proofs.lemmas.List.{drop-drop, drop_more, take_at, drop_at, length-take-le}
 use Rattle.cse_dict.specs.Dictionary.{DictionaryText}
 use Rattle.cse_lines.specs.declared.layout.Span.{Span}
-use Rattle.cse_lines.specs.Field.{HaveSame, LayoutText, field_at, fields_at, id_spans, last_column, layout_of, least_width}
+use Rattle.cse_lines.specs.Field.{AreFront, HaveSame, LayoutText, TellApart, field_at, fields_at, id_spans, last_column, layout_of, least_width}
 
 same_tests : (b c : Bool) → (b ≡ true → c ≡ true) → (c ≡ true → b ≡ true) → b ≡ c
 same_tests true c h k = sym (h refl)
@@ -116,6 +116,27 @@ HaveSame-joined both first second some start len side = record {
       ∙ append_assoc (field_at first columns) (field_at second columns) [];
   last = omega arith;
 }
+
+-- two places that fill a line up to a width
+pub front_joined : (both first second : Span) (width : ℕ) → both.start ≡ 1 → both.len ≡ width → HaveSame (both ∷ []) (first ∷ second ∷ []) → AreFront first second width
+front_joined both first second width start len same columns =
+    ap (λ n. take n columns) (sym len) ∙ ap (λ n. take both.len (drop (n - 1) columns)) (sym start) ∙ sym (append-nil (field_at both columns)) ∙ same.fields columns
+    ∙ ap (λ l. field_at first columns ++ l) (append-nil (field_at second columns))
+
+-- the record type and the ids, if they are such places, in either order
+pub apart_behind : (record_type ids : Span) (width : ℕ) → AreFront record_type ids width → TellApart record_type (ids ∷ []) width
+apart_behind record_type ids width front a b types same =
+    let ids_same : field_at ids a ≡ field_at ids b = sym (append-nil (field_at ids a)) ∙ same ∙ append-nil (field_at ids b) in
+    front a ∙ ap (λ l. l ++ field_at ids a) types ∙ ap (λ l. field_at record_type b ++ l) ids_same ∙ sym (front b)
+
+pub apart_before : (record_type ids : Span) (width : ℕ) → AreFront ids record_type width → TellApart record_type (ids ∷ []) width
+apart_before record_type ids width front a b types same =
+    let ids_same : field_at ids a ≡ field_at ids b = sym (append-nil (field_at ids a)) ∙ same ∙ append-nil (field_at ids b) in
+    front a ∙ ap (λ l. field_at ids a ++ l) types ∙ ap (λ l. l ++ field_at record_type b) ids_same ∙ sym (front b)
+
+-- joined or not
+pub apart_joined : (record_type : Span) (blocks ids : List Span) (width : ℕ) → HaveSame blocks ids → TellApart record_type blocks width → TellApart record_type ids width
+apart_joined record_type blocks ids width same apart a b types e = apart a b types (same.fields a ∙ e ∙ sym (same.fields b))
 
 -- four more columns are the same
 pub four_more : (a b : List ℕ) (at : ℕ) → take at a ≡ take at b → take (at + 4 - at) (drop at a) ≡ take (at + 4 - at) (drop at b) → take (at + 4) a ≡ take (at + 4) b

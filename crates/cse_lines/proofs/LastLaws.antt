@@ -1,17 +1,18 @@
 -- Laws of the last line of a run, with which a line is compared that comes to it.
 use Rattle.std.proofs.Common.{◌≡◌, ℕ, suc, ◌+◌, ◌-◌, ◌<◌, ◌≤◌, Bool, true, false, List, [], ◌∷◌, ◌++◌, length, get_or, map, take, drop, refl, ap, sym, subst, ◌∙◌, arith, Option, None, Some}
-use Rattle.std.specs.Prelude.{IfNone, IfSome, not}
+use Rattle.std.specs.Prelude.{IfNone, IfSome}
 use Rattle.std.proofs.lemmas.List.{drop-take, length-take, take-append-le, take-take}
 use Rattle.cse_dict.specs.Dictionary.{DictionaryText, number_of_type}
 use Rattle.cse_lines.specs.declared.layout.Span.{Span}
-use Rattle.cse_lines.specs.declared.decode.Head.{Head}
-use Rattle.cse_lines.specs.Decoding.{BeginsAs, IsTyped, line_with}
+use Rattle.cse_lines.specs.declared.decode.Beginning.{Beginning}
+use Rattle.cse_lines.specs.declared.decode.Beginning.TheVariants.{Alike, Apart, Unknown}
+use Rattle.cse_lines.specs.Decoding.{BeginsAs, IsTyped}
 use Rattle.cse_lines.specs.Line.{FileLine}
-use Rattle.cse_lines.specs.Field.{field_at, fields_at, id_spans, ids_of, last_column, least_width, type_span, width_of}
+use Rattle.cse_lines.specs.Field.{TellApart, field_at, fields_at, id_spans, ids_of, last_column, least_width, type_span, width_of}
 use Rattle.cse_lines.specs.Columns.{columns_of, id_of, line_text, no_line}
 use Rattle.cse_lines.specs.Gathering.{Gathered, IsRunOf, first_id}
 use Rattle.cse_lines.specs.Run.{IsLastLine, RunText, line_at}
-use Rattle.cse_lines.specs.Taking.{LastIsLike, run_id}
+use Rattle.cse_lines.specs.Taking.{BeginsAsLast, LastIsLike, run_id}
 use Rattle.cse_lines.proofs.DecodeLaws.{field_past, record_of_is}
 use Rattle.cse_lines.proofs.TakeLaws.{id_of_is, ids_fit, least_fits}
 use Rattle.cse_lines.proofs.GatherLaws.{length-done, run_id-done}
@@ -96,15 +97,39 @@ pub last_typed : {A : Type 0} (d : DictionaryText) (run : RunText) (last : Optio
 last_typed d run None columns number like some = tt
 last_typed d run (Some l) columns number like some = (like (columns l) (number l) some).0
 
--- a line that begins as the last one goes on the run
-pub same_last : {A : Type 0} (d : DictionaryText) (run : RunText) (line : FileLine) (last : Option A) (columns : A → List ℕ) (number : A → Option ℕ) (head : Head) (now : List ℕ)
-    → 0 < length run.lines → LastIsLike d run → IfNone last (run.lines ≡ []) → IfSome last (λ l. IsLastLine run (columns l) (number l))
-    → IfSome last (λ l. BeginsAs d head.begins_as_last now (columns l)) → line_with now head ≡ line_text d line → not head.begins_as_last ≡ false → run_id d run ≡ id_of d line
-same_last d run line None columns number head now some like none l begins is test = let empty : length run.lines ≡ 0 = ap length none in absurd (omega arith)
-same_last d run line (Some l) columns number head now some like none own begins is test =
-    let same : ids_of d now ≡ ids_of d (columns l) = ids_begin d now (columns l) (begins (from_not head.begins_as_last test)) in
-    sym ((like (columns l) (number l) own).1) ∙ sym same ∙ ap (λ x. ids_of d x.columns) is ∙ id_of_is d line
-  where
-    from_not : (t : Bool) → not t ≡ false → t ≡ true
-    from_not true h = refl
-    from_not false h = sym h
+-- columns that begin alike begin the same beside others
+pub BeginsAs-cut : (d : DictionaryText) (beginning : Beginning) (now columns those : List ℕ) → take (least_width d) now ≡ take (least_width d) columns → BeginsAs d beginning columns those
+    → BeginsAs d beginning now those
+BeginsAs-cut d Alike now columns those same begins = same ∙ begins
+BeginsAs-cut d Apart now columns those same begins = λ e. begins (sym (ids_begin d now columns same) ∙ e)
+BeginsAs-cut d Unknown now columns those same begins = tt
+
+-- columns of the same record type that don't begin alike
+pub BeginsAs-apart : (d : DictionaryText) (beginning : Beginning) (columns those : List ℕ) → (beginning ≡ Alike → ⊥) → (beginning ≡ Apart → TellApart (type_span d) (id_spans d) (least_width d))
+    → field_at (type_span d) columns ≡ field_at (type_span d) those → (take (least_width d) columns ≡ take (least_width d) those → ⊥) → BeginsAs d beginning columns those
+unfolding ids_of
+BeginsAs-apart d Alike columns those never apart types other = absurd (never refl)
+BeginsAs-apart d Apart columns those never apart types other = λ e. other (apart refl columns those types e)
+BeginsAs-apart d Unknown columns those never apart types other = tt
+
+-- how a line begins beside the last one of a run
+pub begins_last : {A : Type 0} (d : DictionaryText) (run : RunText) (last : Option A) (columns : A → List ℕ) (number : A → Option ℕ) (beginning : Beginning) (now : List ℕ)
+    → 0 < length run.lines → IfNone last (run.lines ≡ []) → IfSome last (λ l. IsLastLine run (columns l) (number l)) → IfSome last (λ l. BeginsAs d beginning now (columns l))
+    → BeginsAsLast d beginning now run
+begins_last d run None columns number beginning now some none own begins = let empty : length run.lines ≡ 0 = ap length none in absurd (omega arith)
+begins_last d run (Some l) columns number beginning now some none own begins = subst (λ (cs : List ℕ). BeginsAs d beginning now cs) own.columns_are begins
+
+-- the columns of the last line of a run
+last_here : (run : RunText) → 0 < length run.lines → IsLastLine run (line_at run (length run.lines - 1)).columns (line_at run (length run.lines - 1)).record_number
+last_here run some = record { some = some; columns_are = refl; number_is = refl }
+
+-- a line that begins as the last one has the id of the run, and one with other ids than the last one has others
+pub alike_ids : (d : DictionaryText) (run : RunText) (now : List ℕ) → 0 < length run.lines → LastIsLike d run → BeginsAsLast d Alike now run → run_id d run ≡ ids_of d now
+alike_ids d run now some like begins =
+    let last = line_at run (length run.lines - 1) in
+    sym ((like last.columns last.record_number (last_here run some)).1) ∙ sym (ids_begin d now last.columns begins)
+
+pub apart_ids : (d : DictionaryText) (run : RunText) (now : List ℕ) → 0 < length run.lines → LastIsLike d run → BeginsAsLast d Apart now run → (run_id d run ≡ ids_of d now → ⊥)
+apart_ids d run now some like begins e =
+    let last = line_at run (length run.lines - 1) in
+    begins (sym e ∙ sym ((like last.columns last.record_number (last_here run some)).1))

@@ -1,6 +1,11 @@
 -- Laws of the lines of a list of bytes.
 use Rattle.std.proofs.Common.{map, ◌≡◌, ℕ, suc, ◌+◌, ◌-◌, ◌<◌, ◌≤◌, Bool, true, false, ◌||◌, cond, eqb, ltb, List, [], ◌∷◌, ◌++◌, length, get_or, take, drop, refl, ap, sym, ◌∙◌, arith, append_assoc, append-nil, length-take, get_or-take, take-append-drop, inl, inr}
-use Rattle.std.proofs.lemmas.Bool.{cases_lt, eqb-true, ltb-true, lt-ltb, false≢true}
+use Rattle.std.specs.List.{prefix_len}
+use Rattle.std.specs.Prelude.{not}
+use Rattle.std.specs.Simd.Lanes.{chunk, mask_l}
+use lib.Count.{count_trailing_zeros}
+use Rattle.std.proofs.lemmas.Simd.{length-chunk, run_in_chunk_fails, run_in_chunk_stops, trailing_mask_l}
+use Rattle.std.proofs.lemmas.Bool.{cases_eq, cases_lt, eqb-true, ltb-true, lt-ltb, false≢true}
 use Rattle.std.specs.List.{onto_first}
 use Rattle.std.proofs.lemmas.List.{take_more, get_or_push, length_push, drop_all, take_all, length-take-le}
 use Rattle.memchr.specs.Find.{Nowhere, NoneBefore, Passes, is_byte}
@@ -150,3 +155,19 @@ lines_in-none front bytes h some short =
     let none = none_found bytes h in
     let whole : is_whole bytes ≡ false = not_whole bytes none some in
     lines_in-last front false bytes none some ∙ rw (whole, short) refl
+
+-- the first line feed of bytes, by the mask of those that are line feeds among the first 32
+pub feed_near : (bytes : List ℕ) (feeds at : ℕ) → 32 ≤ length bytes → feeds ≡ mask_l (map (λ x. eqb x 10) (chunk 0 32 bytes)) → at ≡ count_trailing_zeros 64 feeds → at < 32
+    → NoneBefore (Passes (is_byte 10) bytes) 0 (length bytes) at × Passes (is_byte 10) bytes at
+unfolding count_trailing_zeros
+feed_near bytes feeds at room is found low =
+    let p : ℕ → Bool = λ x. eqb x 10 in
+    let len : length (chunk 0 32 bytes) ≡ 32 = length-chunk 0 32 bytes (omega arith) in
+    let counted : at ≡ prefix_len (λ x. not (p x)) (chunk 0 32 bytes) = elim (cases_eq feeds 0) [
+      | inl none ↦ let far : at ≡ 64 = found ∙ ap (count_trailing_zeros 64) none in absurd (omega arith)
+      | inr some ↦ found ∙ ap (count_trailing_zeros 64) is ∙ trailing_mask_l p 64 (chunk 0 32 bytes) (omega arith) (omega arith)
+    ] in
+    let begin : 0 + at ≡ at = omega arith in (
+      record { low = omega arith; high = omega arith; before = λ k from below h. false≢true (sym (run_in_chunk_fails p bytes 0 32 at 0 (omega arith) counted k from (omega arith)) ∙ h) },
+      ap (λ n. p (get_or bytes n 0)) (sym begin) ∙ run_in_chunk_stops p bytes 0 32 at 0 (omega arith) counted low,
+    )

@@ -1,5 +1,6 @@
 -- Laws of a line that comes to a run.
 use Rattle.std.proofs.Common.{◌≡◌, ℕ, ◌+◌, ◌≤◌, max, Bool, true, false, List, [], ◌∷◌, length, take, drop, Some, None, refl, ap, sym, ◌∙◌, arith}
+use Rattle.std.specs.Prelude.{not}
 use Rattle.std.specs.Str.{bytes_eq}
 use Rattle.std.proofs.lemmas.Bool.{false≢true}
 use Rattle.std.proofs.lemmas.Slice.Eq.{bytes_eq-Decides}
@@ -32,11 +33,19 @@ unfolding line_text width_of
 least_fits d line = omega (arith, length-padded (max (length (columns_of line)) (max (least_width d) (record_len d (record_of d (columns_of line))))) (columns_of line))
 
 -- what a test of the id columns says
-pub same_test : (d : DictionaryText) (run : RunText) (line : FileLine) (a b : List ℕ) (test : Bool) → test ≡ bytes_eq (fields_at (id_spans d) a) (fields_at (id_spans d) b)
-    → a ≡ (line_at run 0).columns → b ≡ (line_text d line).columns → test ≡ bytes_eq (run_id d run) (id_of d line)
-same_test d run line a b test t e f =
-    t ∙ ap (λ x. bytes_eq x (fields_at (id_spans d) b)) (ids_of_is d a ∙ ap (ids_of d) e)
-    ∙ ap (bytes_eq (run_id d run)) (ids_of_is d b ∙ ap (ids_of d) f ∙ id_of_is d line)
+pub ids_test : (d : DictionaryText) (run : RunText) (layout : LayoutText) (a b : List ℕ) (test : Bool) → test ≡ bytes_eq (fields_at layout.ids a) (fields_at layout.ids b) → layout ≡ layout_of d
+    → a ≡ (line_at run 0).columns → test ≡ bytes_eq (run_id d run) (ids_of d b)
+ids_test d run layout a b test t l e =
+    t ∙ ap (λ x. bytes_eq (fields_at x.ids a) (fields_at x.ids b)) l ∙ ap (λ x. bytes_eq x (fields_at (id_spans d) b)) (ids_of_is d a ∙ ap (ids_of d) e)
+    ∙ ap (bytes_eq (run_id d run)) (ids_of_is d b)
+
+pub not_false : (test : Bool) → not test ≡ false → test ≡ true
+not_false true h = refl
+not_false false h = sym h
+
+pub not_true : (test : Bool) → not test ≡ true → test ≡ false
+not_true true h = sym h
+not_true false h = refl
 
 pub same_ids : (xs ys : List ℕ) (test : Bool) → test ≡ bytes_eq xs ys → test ≡ true → xs ≡ ys
 same_ids xs ys test e t = (bytes_eq-Decides xs ys).0 (sym e ∙ t)
@@ -59,11 +68,9 @@ pub fault_of-many : (d : DictionaryText) (id : List ℕ) (n : ℕ) (line : FileL
     → fault_of (place_after d id n line) line ≡ Some 22
 fault_of-many d id n line h full same = rw (place-same d id n line (sym same), full, h) refl
 
-pub test_of : (d : DictionaryText) (run : RunText) (line : FileLine) (layout : LayoutText) (a b columns : List ℕ) (head : Head) (test : Bool)
-    → test ≡ bytes_eq (fields_at layout.ids a) (fields_at layout.ids b) → layout ≡ layout_of d → a ≡ (line_at run 0).columns → b ≡ columns
-    → line_with columns head ≡ line_text d line → test ≡ bytes_eq (run_id d run) (id_of d line)
-test_of d run line layout a b columns head test t l e f g =
-    same_test d run line a b test (t ∙ ap (λ x. bytes_eq (fields_at x.ids a) (fields_at x.ids b)) l) e (f ∙ ap (λ x. x.columns) g)
+-- the id of a line that was read
+pub own_ids : (d : DictionaryText) (line : FileLine) (a columns : List ℕ) (head : Head) → a ≡ columns → line_with columns head ≡ line_text d line → ids_of d a ≡ id_of d line
+own_ids d line a columns head e f = ap (ids_of d) (e ∙ ap (λ l. l.columns) f) ∙ id_of_is d line
 
 -- the run with the line that was read
 pub with_line-read : (d : DictionaryText) (run new : RunText) (line : FileLine) (a columns : List ℕ) (head : Head) → new ≡ with_line run head.marked (line_with a head)

@@ -1,11 +1,13 @@
 -- A line that was read as columns.
-use Rattle.std.specs.Prelude.{◌≡◌, ◌≤◌, ℕ, List, length, take, Option, None, Bool, true}
+use Rattle.std.specs.Prelude.{◌≡◌, ◌≤◌, ℕ, List, length, take, Option, None}
 use Rattle.cse_dict.specs.Dictionary.{DictionaryText, number_of_type}
 use Rattle.cse_lines.specs.declared.decode.Stop.{Stop}
 use Rattle.cse_lines.specs.declared.decode.Stop.TheVariants.{Memory, Fault}
+use Rattle.cse_lines.specs.declared.decode.Beginning.{Beginning}
+use Rattle.cse_lines.specs.declared.decode.Beginning.TheVariants.{Alike, Apart, Unknown}
 use Rattle.cse_lines.specs.declared.decode.Head.{Head}
 use Rattle.cse_lines.specs.Line.{FileLine, is_marked}
-use Rattle.cse_lines.specs.Field.{field_at, least_width, padded, type_span}
+use Rattle.cse_lines.specs.Field.{field_at, ids_of, least_width, padded, type_span}
 use Rattle.cse_lines.specs.Columns.{LineText, line_text}
 use Rattle.cse_lines.specs.Runs.{line_fault}
 
@@ -35,6 +37,8 @@ pub record IsTyped (d : DictionaryText) (columns : List ℕ) (number : Option �
   pub wide : least_width d ≤ length columns
   pub names : number ≡ number_of_type (field_at (type_span d) columns) d
 
--- where the test says so, the columns begin as those
-abbrev pub BeginsAs : DictionaryText → Bool → List ℕ → List ℕ → Type 0
-BeginsAs d test columns those = test ≡ true → take (least_width d) columns ≡ take (least_width d) those
+-- the columns begin so beside those
+abbrev pub BeginsAs : DictionaryText → Beginning → List ℕ → List ℕ → Type 0
+BeginsAs d Alike columns those = take (least_width d) columns ≡ take (least_width d) those
+BeginsAs d Apart columns those = ids_of d columns ≡ ids_of d those → ⊥
+BeginsAs d Unknown columns those = Unit {0}

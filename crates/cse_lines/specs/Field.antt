@@ -1,6 +1,6 @@
 -- The columns that a dictionary names: those of the id items and of the record type, and the width of a line. Columns count from 1; what stands
 -- past the last column is a blank.
-use Rattle.std.specs.Prelude.{◌≡◌, ℕ, ◌+◌, ◌-◌, ◌==◌, max, map, List, [], ◌∷◌, ◌++◌, length, take, drop, replicate, filter, slice_get, Option, None, Some}
+use Rattle.std.specs.Prelude.{◌≡◌, Bool, true, ℕ, ◌+◌, ◌-◌, ◌==◌, max, map, List, [], ◌∷◌, ◌++◌, length, take, drop, replicate, filter, slice_get, Option, None, Some}
 use Rattle.std.specs.Option.{option_map_or}
 use Rattle.cse_dict.specs.Dictionary.{DictionaryText, number_of_type, shape_of}
 use Rattle.cse_value.specs.declared.shape.ItemShape.{ItemShape}
@@ -43,6 +43,19 @@ last_column (s ∷ ss) = max (s.start - 1 + s.len) (last_column ss)
 pub record HaveSame (spans others : List Span) : Type 0 where
   pub fields : (columns : List ℕ) → fields_at spans columns ≡ fields_at others columns
   pub last : last_column spans ≡ last_column others
+
+-- two places are all columns up to a width, one behind the other
+abbrev pub AreFront : Span → Span → ℕ → Type 0
+AreFront first second width = (columns : List ℕ) → take width columns ≡ field_at first columns ++ field_at second columns
+
+-- columns with the same record type and the same ids begin alike, up to a width
+abbrev pub TellApart : Span → List Span → ℕ → Type 0
+TellApart record_type ids width = (a b : List ℕ) → field_at record_type a ≡ field_at record_type b → fields_at ids a ≡ fields_at ids b → take width a ≡ take width b
+
+-- what is kept of a layout: the places of the id items joined, and whether lines of the same record type are told apart by their ids
+pub record IsLaidOut (blocks ids : List Span) (record_type : Span) (least_width : ℕ) (is_filled : Bool) : Type 0 where
+  pub same : HaveSame blocks ids
+  pub apart : is_filled ≡ true → TellApart record_type ids least_width
 
 -- each line has the columns of the id items and of the record type
 unfoldable pub least_width : DictionaryText → ℕ

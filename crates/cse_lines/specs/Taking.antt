@@ -1,8 +1,9 @@
 -- What a line does to the run that is gathered, and what all lines that are there do to it.
-use Rattle.std.specs.Prelude.{◌≡◌, ◌+◌, ◌<◌, ◌≤◌, ◌⊎◌, ℕ, Bool, true, false, List, [], ◌∷◌, ◌++◌, length, take, Option, None, Some}
+use Rattle.std.specs.Prelude.{◌≡◌, ◌+◌, ◌-◌, ◌<◌, ◌≤◌, ◌⊎◌, ℕ, Bool, true, false, List, [], ◌∷◌, ◌++◌, length, take, Option, None, Some}
 use Rattle.cse_dict.specs.Dictionary.{DictionaryText}
+use Rattle.cse_lines.specs.declared.decode.Beginning.{Beginning}
 use Rattle.cse_lines.specs.declared.decode.Head.{Head}
-use Rattle.cse_lines.specs.Decoding.{IsDecoded, IsTyped}
+use Rattle.cse_lines.specs.Decoding.{BeginsAs, IsDecoded, IsTyped}
 use Rattle.cse_lines.specs.Line.{FileLine, is_marked, lines_in}
 use Rattle.cse_lines.specs.Field.{ids_of}
 use Rattle.cse_lines.specs.Columns.{id_of, line_text}
@@ -19,6 +20,10 @@ run_id d run = ids_of d (line_at run 0).columns
 -- the last line of a run, if it has one, is as wide as each line, its record is the one that its type names, and it has the id of the first
 abbrev pub LastIsLike : DictionaryText → RunText → Type 0
 LastIsLike d run = (columns : List ℕ) (number : Option ℕ) → IsLastLine run columns number → IsTyped d columns number × (ids_of d columns ≡ run_id d run)
+
+-- the columns begin so beside those of the last line of a run
+abbrev pub BeginsAsLast : DictionaryText → Beginning → List ℕ → RunText → Type 0
+BeginsAsLast d beginning columns run = BeginsAs d beginning columns (line_at run (length run.lines - 1)).columns
 
 -- the line goes on the run
 pub record GoesOn (d : DictionaryText) (line : FileLine) (old new : RunText) : Type 0 where

@@ -5,7 +5,7 @@ ghost use Rattle.std.specs.List.{flat_map};
 ghost use Rattle.cse_lines.specs.Alike.{GathersOn, IsLastOf, IsLike, laid_run, line_like};
 ghost use Rattle.cse_lines.specs.Field.{padded};
 ghost use Rattle.cse_lines.specs.Laid.{IsLaid, laid_lines};
-ghost use Rattle.cse_lines.specs.Line.{before_end};
+ghost use Rattle.cse_lines.specs.Line.{before_end, end_bytes};
 ghost use Rattle.cse_lines.specs.Written.{written_line};
 
 use crate::cut::split_end;
@@ -75,16 +75,18 @@ fn push_like(
     requires lies { last.first + last.width ≤ length columns.old }
     requires wide { width ≤ last.len }
     requires fits { last.len ≤ last.width }
+    requires whole { length line.now ≡ last.len + length (end_bytes last.ending) }
     ensures like { result ≡ true → IsLike (take width (drop last.first columns.old)) last line.now }
     ensures columns { result ≡ true → columns.new ≡ columns.old ++ padded last.width (before_end line.now) }
     ensures lines { result ≡ true → lines.new.items ≡ lines.old.items ++ line_like last (length columns.old) ∷ [] }
     ensures same_columns { result ≡ false → columns.new ≡ columns.old }
     ensures same_lines { result ≡ false → lines.new.items ≡ lines.old.items }
 {
-    let (text, ending) = split_end(line);
-    if ending != last.ending || text.len() != last.len {
+    let (_, ending) = split_end(line);
+    if ending != last.ending {
         return false;
     }
+    let text = &line[..last.len];
     if !begins_as(text, part(columns.as_slice(), last.first, width)) {
         return false;
     }

@@ -1,11 +1,13 @@
 //! The first line of a slice of bytes, and its parts.
 
 ghost use Rattle.std.specs.Prelude.{◌≡◌, ◌&&◌, [], IfNone, IfSome, true};
+ghost use Rattle.memchr.specs.Find.{IsFirstByte, is_byte};
 ghost use Rattle.cse_lines.specs.Cutting.{HasNoFeed, IsFirstLine};
 ghost use Rattle.cse_lines.specs.Line.{before_end, ending_of, has_mark, is_excessive, lines_in, without_mark};
 
 use crate::line::Ending;
 use memchr::memchr;
+use std::simd::prelude::*;
 
 /// The most bytes of a line, its end and the mark not counted.
 pub const MOST_BYTES: usize = 262_144;
@@ -44,6 +46,21 @@ fn is_excessive(bytes: &[u8], front: bool) -> bool
     }
 }
 
+/// The first line feed. Most lines are short, so the first bytes are looked at where it is called, all at once.
+#[inline(always)]
+fn find_feed(bytes: &[u8]) -> Option<usize>
+    ensures { IsFirstByte (is_byte 10) bytes.now result }
+{
+    if bytes.len() >= 32 {
+        let feeds = u8x32::from_slice(bytes).simd_eq(u8x32::splat(b'\n'));
+        let at = feeds.to_bitmask().trailing_zeros() as usize;
+        if at < 32 {
+            return Some(at);
+        }
+    }
+    memchr(b'\n', bytes)
+}
+
 /// The first line of the bytes, with its end, if there is one.
 pub fn first_line(bytes: &[u8], front: bool, ended: bool) -> Option<&[u8]>
     ensures none { IfNone result ((lines_in front ended bytes.now ≡ []) × (ended ≡ true → bytes.now ≡ [])) }
@@ -53,7 +70,7 @@ pub fn first_line(bytes: &[u8], front: bool, ended: bool) -> Option<&[u8]>
     if bytes.is_empty() {
         return None;
     }
-    match memchr(b'\n', bytes) {
+    match find_feed(bytes) {
         Some(i) => Some(&bytes[..i + 1]),
         None if ended || is_excessive(bytes, front) => Some(bytes),
         None => None,

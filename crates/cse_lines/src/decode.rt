@@ -3,8 +3,9 @@
 ghost use Rattle.std.specs.Prelude.{◌≡◌, ◌<◌, ◌≤◌, ◌-◌, ◌++◌, ℕ, List, drop, length, replicate, take, true, false, Some, IfOk, IfErr, IfSome, OnOk};
 ghost use Rattle.cse_dict.specs.Dictionary.{number_of_type};
 ghost use Rattle.std.specs.Str.{IsAscii, chars, is_utf8};
+ghost use Rattle.cse_lines.specs.declared.decode.Beginning.TheVariants.{Alike, Apart};
 ghost use Rattle.cse_lines.specs.declared.decode.Stop.TheVariants.{Memory};
-ghost use Rattle.cse_lines.specs.Field.{field_at, layout_of, least_width, padded, record_len, record_of, type_span, width_of};
+ghost use Rattle.cse_lines.specs.Field.{TellApart, field_at, layout_of, least_width, padded, record_len, record_of, type_span, width_of};
 ghost use Rattle.cse_lines.specs.Runs.{line_fault};
 ghost use Rattle.cse_lines.specs.Decoding.{BeginsAs, Holds, IfFault, IsDecoded, IsTyped};
 
@@ -34,6 +35,17 @@ impl From<AllocError> for Stop {
     }
 }
 
+/// How a line begins, beside the line before it.
+#[derive(Clone, Copy, Debug, PartialEq, Eq)]
+pub enum Beginning {
+    /// As that line, up to the least width of a line.
+    Alike,
+    /// With other id columns.
+    Apart,
+    /// Neither is known.
+    Unknown,
+}
+
 /// What a line is beside its columns.
 #[derive(Clone, Copy, Debug, PartialEq, Eq)]
 pub struct Head {
@@ -44,8 +56,8 @@ pub struct Head {
     pub record_number: Option<u16>,
     /// Whether the byte order mark stands before it.
     pub marked: bool,
-    /// Whether it begins as the line before it, up to the least width of a line.
-    pub begins_as_last: bool,
+    /// How it begins beside the line before it.
+    pub beginning: Beginning,
 }
 
 /// Writes blanks over columns.
@@ -185,14 +197,26 @@ fn record_len(dictionary: &Dictionary, record_number: Option<u16>) -> usize
     }
 }
 
-/// The record that the type of a line names, by its columns, and whether these begin as those of the line
-/// before it; then its record is that line's.
+/// How a line begins that has the record type of the line before it, and doesn't begin alike.
+fn told_apart(layout: &Layout) -> Beginning
+    ensures never { result ≡ Alike → ⊥ }
+    ensures apart { result ≡ Apart → TellApart layout.now.record_type layout.now.ids layout.now.least_width }
+{
+    if layout.is_filled() {
+        Beginning::Apart
+    } else {
+        Beginning::Unknown
+    }
+}
+
+/// The record that the type of a line names, by its columns, and how these begin beside those of the line
+/// before it. Where the types are the same, its record is that line's.
 fn record_in(
     dictionary: &Dictionary,
     layout: &Layout,
     columns: &[char],
     last: Option<(&[char], Option<u16>)>,
-) -> (Option<u16>, bool)
+) -> (Option<u16>, Beginning)
     requires layout { layout.now ≡ layout_of dictionary.now }
     requires wide { least_width dictionary.now ≤ length columns.now }
     requires last { IfSome last (λ l. IsTyped dictionary.now l.0.now l.1) }
@@ -203,25 +227,25 @@ fn record_in(
     let span = layout.record_type();
     if let Some((before, number)) = last {
         if is_same(&columns[..width], &before[..width]) {
-            return (number, true);
+            return (number, Beginning::Alike);
         }
         if is_same(field_at(columns, span), field_at(before, span)) {
-            return (number, false);
+            return (number, told_apart(layout));
         }
     }
     let number = dictionary.record_of(field_at(columns, span));
-    (number, false)
+    (number, Beginning::Unknown)
 }
 
 /// Cuts or pads the columns of a line, of which the file has so many and the others are blank, to its
-/// width, and tells the record that its type names, and whether it begins as the line before it.
+/// width, and tells the record that its type names, and how it begins beside the line before it.
 fn widen(
     dictionary: &Dictionary,
     layout: &Layout,
     columns: &mut Vec<char>,
     len: usize,
     last: Option<(&[char], Option<u16>)>,
-) -> Result<(Option<u16>, bool), AllocError>
+) -> Result<(Option<u16>, Beginning), AllocError>
     requires layout { layout.now ≡ layout_of dictionary.now }
     requires last { IfSome last (λ l. IsTyped dictionary.now l.0.now l.1) }
     ensures number { IfOk result (λ known. (text : List ℕ) → Holds columns.old.items text len → known.0 ≡ record_of dictionary.now text) }
@@ -230,10 +254,10 @@ fn widen(
 {
     let least_width = layout.least_width();
     pad(columns, least_width)?;
-    let (record_number, begins_as_last) = record_in(dictionary, layout, columns, last);
+    let (record_number, beginning) = record_in(dictionary, layout, columns, last);
     let width = len.max(least_width);
     set_width(columns, width.max(record_len(dictionary, record_number)))?;
-    Ok((record_number, begins_as_last))
+    Ok((record_number, beginning))
 }
 
 /// A line with its end, at the front of the file or not, as columns in place of what was there. The last
@@ -249,7 +273,7 @@ pub fn decode(
     requires layout { layout.now ≡ layout_of dictionary.now }
     requires last { IfSome last (λ l. IsTyped dictionary.now l.0.now l.1) }
     ensures ok { IfOk result (λ head. IsDecoded dictionary.now (front, line.now) columns.new.items head) }
-    ensures same { IfOk result (λ head. IfSome last.entry (λ l. BeginsAs dictionary.now head.begins_as_last columns.new.items l.0.now)) }
+    ensures same { IfOk result (λ head. IfSome last.entry (λ l. BeginsAs dictionary.now head.beginning columns.new.items l.0.now)) }
     ensures err { IfErr result (IfFault (λ number. line_fault (front, line.now) ≡ Some number)) }
     ensures low { IfErr result (IfFault (λ number. number < 70)) }
 {
@@ -262,12 +286,12 @@ pub fn decode(
     if len > MOST_COLUMNS {
         return Err(Stop::Fault(21));
     }
-    let (record_number, begins_as_last) = widen(dictionary, layout, columns, len, last)?;
+    let (record_number, beginning) = widen(dictionary, layout, columns, len, last)?;
     Ok(Head {
         len,
         ending,
         record_number,
         marked,
-        begins_as_last,
+        beginning,
     })
 }

@@ -2,7 +2,7 @@
 
 ghost use Rattle.std.specs.Prelude.{◌≡◌, ◌==◌, ◌+◌, ◌-◌, ◌≤◌, ◌++◌, [], ◌∷◌, filter, length, map, true, IfOk, IfSome, OnOk};
 ghost use Rattle.std.specs.Str.{bytes_eq};
-ghost use Rattle.cse_lines.specs.Field.{HaveSame, field_at, fields_at, id_spans, last_column, layout_of, span_of};
+ghost use Rattle.cse_lines.specs.Field.{AreFront, HaveSame, TellApart, field_at, fields_at, id_spans, last_column, layout_of, span_of};
 
 use cse_dict::Dictionary;
 use cse_value::shape::{ID_OWNER, ItemShape};
@@ -25,6 +25,8 @@ pub struct Layout {
     blocks: Vec<Span>,
     record_type: Span,
     least_width: usize,
+    /// Whether the record type and the id items are known to fill each line up to the least width.
+    is_filled: bool,
 }
 
 impl Model for Layout {
@@ -34,9 +36,9 @@ impl Model for Layout {
 
     ghost view = { λ l. record { ids = l.ids.items; record_type = l.record_type; least_width = l.least_width } };
 
-    ghost use Rattle.cse_lines.specs.Field.{HaveSame};
+    ghost use Rattle.cse_lines.specs.Field.{IsLaidOut};
 
-    ghost invariant = { λ l. HaveSame l.blocks.items l.ids.items };
+    ghost invariant = { λ l. IsLaidOut l.blocks.items l.ids.items l.record_type l.least_width l.is_filled };
 }
 
 /// The columns of an item.
@@ -127,6 +129,26 @@ pub fn id_blocks(alloc: Global, dictionary: &Dictionary) -> Result<Vec<Span>, Al
     blocks_of(alloc, &ids)
 }
 
+/// Whether two places are all columns up to a width: the one from the first column on, the other behind it.
+fn are_front(first: Span, second: Span, width: usize) -> bool
+    ensures { result ≡ true → AreFront first second width }
+{
+    match join(first, second) {
+        Some(both) => both.start == 1 && both.len as usize == width,
+        None => false,
+    }
+}
+
+/// Whether the record type and the id items, of which these are the places, fill a line up to a width.
+fn is_filled(record_type: Span, blocks: &[Span], width: usize) -> bool
+    ensures { result ≡ true → TellApart record_type blocks.now width }
+{
+    match blocks {
+        [ids] => are_front(record_type, *ids, width) || are_front(*ids, record_type, width),
+        _ => false,
+    }
+}
+
 /// What stands at a place.
 pub fn field_at(columns: &[char], span: Span) -> &[char]
     requires { last_column (span ∷ []) ≤ length columns.now }
@@ -197,11 +219,13 @@ impl Layout {
         let record_type = Span { start, len };
         let least_width = last_of(record_type).max(last_column(&ids));
         let blocks = blocks_of(alloc, &ids)?;
+        let is_filled = is_filled(record_type, &blocks, least_width);
         Ok(Layout {
             ids,
             blocks,
             record_type,
             least_width,
+            is_filled,
         })
     }
 
@@ -217,6 +241,14 @@ impl Layout {
         ensures { result ≡ self.now.record_type }
     {
         self.record_type
+    }
+
+    /// Whether two lines that have the same record type and don't begin alike, up to the least width, are
+    /// known to have other id columns.
+    pub fn is_filled(&self) -> bool
+        ensures { result ≡ true → TellApart self.now.record_type self.now.ids self.now.least_width }
+    {
+        self.is_filled
     }
 
     /// Whether two lines have the same id columns.

@@ -167,10 +167,13 @@ impl Run {
         requires bytes { line.now ≡ mark_bytes head.marked ++ written_line (line_with columns.now head) }
         ensures { OnOk result (self.new ≡ with_line self.old head.marked (line_with columns.now head)) }
     {
-        let bytes = behind_mark(line, head.marked);
-        self.bytes.reserve(bytes.len())?;
-        push_line(&mut self.columns, &mut self.lines, columns, head)?;
-        self.bytes.extend_from_slice(bytes)?;
+        let len = self.bytes.len();
+        self.bytes
+            .extend_from_slice(behind_mark(line, head.marked))?;
+        if let Err(refused) = push_line(&mut self.columns, &mut self.lines, columns, head) {
+            self.bytes.truncate(len);
+            return Err(refused);
+        }
         self.marked = self.marked || head.marked;
         Ok(())
     }

@@ -1,13 +1,13 @@
 //! A line that comes to the run that is gathered.
 
-ghost use Rattle.std.specs.Prelude.{◌≡◌, ◌+◌, ◌++◌, ◌<◌, ◌≤◌, ◌^◌, length, IfErr, IfOk, OnOk};
+ghost use Rattle.std.specs.Prelude.{◌≡◌, ◌+◌, ◌++◌, ◌<◌, ◌≤◌, ◌^◌, length, true, false, IfErr, IfOk, OnOk};
 ghost use Rattle.cse_lines.specs.Decoding.{IfFault, line_with};
-ghost use Rattle.cse_lines.specs.Field.{layout_of, least_width};
+ghost use Rattle.cse_lines.specs.Field.{ids_of, layout_of, least_width};
 ghost use Rattle.cse_lines.specs.Run.{line_at, run_of};
-ghost use Rattle.cse_lines.specs.Taking.{LastIsLike, Refuses, Takes};
+ghost use Rattle.cse_lines.specs.Taking.{BeginsAsLast, LastIsLike, Refuses, Takes, run_id};
 ghost use Rattle.cse_lines.specs.Written.{mark_bytes, written_line};
 
-use crate::decode::{Head, Stop, decode};
+use crate::decode::{Beginning, Head, Stop, decode};
 use crate::layout::Layout;
 use crate::run::{Room, Run};
 use cse_dict::Dictionary;
@@ -16,6 +16,30 @@ use std::mem;
 
 /// The most lines of a run.
 pub const MOST_LINES: usize = 10_000;
+
+/// Whether a line has other id columns than a run, beside whose last line it begins so.
+fn has_other_ids(
+    dictionary: &Dictionary,
+    layout: &Layout,
+    run: &Run,
+    columns: &[char],
+    beginning: Beginning,
+) -> bool
+    requires layout { layout.now ≡ layout_of dictionary.now }
+    requires some { 0 < length run.now.lines }
+    requires first { least_width dictionary.now ≤ length (line_at run.now 0).columns }
+    requires wide { least_width dictionary.now ≤ length columns.now }
+    requires last { LastIsLike dictionary.now run.now }
+    requires begins { BeginsAsLast dictionary.now beginning columns.now run.now }
+    ensures same { result ≡ false → run_id dictionary.now run.now ≡ ids_of dictionary.now columns.now }
+    ensures other { result ≡ true → run_id dictionary.now run.now ≡ ids_of dictionary.now columns.now → ⊥ }
+{
+    match beginning {
+        Beginning::Alike => false,
+        Beginning::Apart => true,
+        Beginning::Unknown => !layout.has_same_ids(run.columns(0), columns),
+    }
+}
 
 /// Takes a line with its end: it goes on the run, or else it ends the run, which stays, and is handed back
 /// as columns and its head.
@@ -37,7 +61,7 @@ pub fn take_line(
     let last = run.last();
     let head = decode(dictionary, layout, line, front, last, columns)?;
     let len = run.len();
-    if len > 0 && !head.begins_as_last && !layout.has_same_ids(run.columns(0), columns) {
+    if len > 0 && has_other_ids(dictionary, layout, run, columns, head.beginning) {
         return Ok(Some(head));
     }
     if len == MOST_LINES {

@@ -1,10 +1,11 @@
 use Rattle.std.proofs.Common.{◌≡◌, ap, sym, subst, take, ◌∙◌, arith}
 use Rattle.std.specs.Prelude.{IfSome}
 use Rattle.cse_dict.specs.Dictionary.{number_of_type}
-use Rattle.cse_lines.specs.Decoding.{IsTyped}
-use Rattle.cse_lines.specs.Field.{field_at, least_width, type_span}
-use Rattle.cse_lines.proofs.LastLaws.{type_begins, type_in}
-use Rattle.cse_lines.proofs.TakeLaws.{same_ids}
+use Rattle.cse_lines.specs.declared.decode.Beginning.TheVariants.{Apart}
+use Rattle.cse_lines.specs.Decoding.{BeginsAs, IsTyped}
+use Rattle.cse_lines.specs.Field.{LayoutText, TellApart, field_at, id_spans, least_width, type_span}
+use Rattle.cse_lines.proofs.LastLaws.{BeginsAs-apart, type_begins, type_in}
+use Rattle.cse_lines.proofs.TakeLaws.{other_ids, same_ids}
 use Rattle.cse_lines.proofs.decode.record_in.Goals as goal
 
 pub returns-then-is_same-clause-number : goal.returns-then-is_same-clause-number
@@ -55,3 +56,19 @@ returns-clause-number c =
     let d = c.args.dictionary.now in
     let span : c.record_type-span.result ≡ type_span d = c.record_type-span.ensures ∙ ap (λ l. l.record_type) c.requires.layout in
     c.record_of-number.ensures.record ∙ ap (λ t. number_of_type t d) (c.field_at-2.ensures ∙ ap (λ s. field_at s c.args.columns.now) span)
+
+pub returns-then-is_same-2-clause-same : goal.returns-then-is_same-2-clause-same
+returns-then-is_same-2-clause-same c =
+    let d = c.args.dictionary.now in
+    let columns = c.args.columns.now in
+    let before = c.in-Some.before.now in
+    let width = c.least_width-width.result in
+    let span : c.record_type-span.result ≡ type_span d = c.record_type-span.ensures ∙ ap (λ l. l.record_type) c.requires.layout in
+    let least : width ≡ least_width d = c.least_width-width.ensures ∙ ap (λ l. l.least_width) c.requires.layout in
+    let same = same_ids c.field_at.result.now c.field_at-in-Some.result.now c.is_same-in-Some.result c.is_same-in-Some.ensures c.if-is_same-2.true in
+    let types : field_at (type_span d) columns ≡ field_at (type_span d) before =
+    ap (λ s. field_at s columns) (sym span) ∙ sym c.field_at.ensures ∙ same ∙ c.field_at-in-Some.ensures ∙ ap (λ s. field_at s before) span in
+    let other : take (least_width d) columns ≡ take (least_width d) before → ⊥ = λ e. other_ids (take width columns) (take width before) c.is_same.result c.is_same.ensures c.if-is_same.false (ap (λ n. take n columns) least ∙ e ∙ ap (λ n. take n before) (sym least)) in
+    let apart : c.told_apart.result ≡ Apart → TellApart (type_span d) (id_spans d) (least_width d) = λ e. subst (λ (l : LayoutText). TellApart l.record_type l.ids l.least_width) c.requires.layout (c.told_apart.ensures.apart e) in
+    subst (λ o. IfSome o (λ l. BeginsAs d c.told_apart.result columns l.0.now)) (sym c.in-Some.is)
+    (BeginsAs-apart d c.told_apart.result columns before c.told_apart.ensures.never apart types other)

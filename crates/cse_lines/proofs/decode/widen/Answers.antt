@@ -2,7 +2,7 @@ use Rattle.std.proofs.Common.{◌≡◌, ◌-◌, ◌++◌, ℕ, List, max, leng
 use Rattle.cse_dict.specs.Dictionary.{number_of_type}
 use Rattle.cse_lines.specs.Field.{field_at, padded, record_len, record_of, type_span, least_width}
 use Rattle.cse_lines.proofs.DecodeLaws.{columns_held, record_of_is, length-padded, type_held}
-use Rattle.cse_lines.proofs.LastLaws.{IfSome-more, take_cut}
+use Rattle.cse_lines.proofs.LastLaws.{BeginsAs-cut, IfSome-more, take_cut}
 use Rattle.cse_lines.specs.Decoding.{BeginsAs}
 use Rattle.cse_lines.proofs.decode.widen.Goals as goal
 
@@ -46,4 +46,4 @@ returns-clause-same c =
     ∙ take_cut (least_width d) c.max.result c.pad.new.columns.items (replicate (c.max.result - length c.pad.new.columns.items) 32) width (omega (arith, ap length padded_is, length-padded (least_width d) columns))
     ∙ ap (take (least_width d)) (sym c.deref.ensures.value) in
     IfSome-more (λ l. BeginsAs d c.record_in-record_number.result.1 c.deref.result.now l.0.now) (λ l. BeginsAs d c.record_in-record_number.result.1 c.set_width.new.columns.items l.0.now) c.args.last
-    (λ l h e. begins ∙ h e) c.record_in-record_number.ensures.same
+    (λ l h. BeginsAs-cut d c.record_in-record_number.result.1 c.set_width.new.columns.items c.deref.result.now l.0.now begins h) c.record_in-record_number.ensures.same

@@ -5,39 +5,35 @@ use Rattle.cse_lines.specs.Taking.{run_id}
 use Rattle.cse_lines.specs.Decoding.{line_with}
 use Rattle.cse_lines.specs.Written.{mark_bytes, written_line}
 use Rattle.cse_lines.proofs.WrittenLaws.{line-bytes}
-use Rattle.cse_lines.proofs.LastLaws.{last_typed, same_last}
-use Rattle.cse_lines.proofs.TakeLaws.{fault_of-many, ids_fit, least_fits, other_ids, same_ids, test_of, with_line-read}
+use Rattle.cse_lines.proofs.LastLaws.{begins_last, last_typed}
+use Rattle.cse_lines.proofs.TakeLaws.{fault_of-many, least_fits, own_ids, with_line-read}
 use Rattle.cse_lines.proofs.take.take_line.Goals as goal
-use Rattle.cse_lines.proofs.take.take_line.Goals.{else-len-gt0-via-then-len-gt0+else-not-head, else-len-gt0-via-then-len-gt0+then-not-head+else-not-has_same_ids, else-len-gt0-via-else-len-gt0}
+use Rattle.cse_lines.proofs.take.take_line.Goals.{else-len-gt0-via-then-len-gt0+else-has_other_ids, else-len-gt0-via-else-len-gt0}
 
 pub decode-requires-clause-last : goal.decode-requires-clause-last
 decode-requires-clause-last c = last_typed c.args.dictionary.now c.args.run.now c.last-last.result (λ l. l.0.now) (λ l. l.1) c.requires.last c.last-last.ensures.some
 
-pub has_same_ids-requires-clause-left : goal.has_same_ids-requires-clause-left
-has_same_ids-requires-clause-left c =
-    let d = c.args.dictionary.now in
-    let wide = c.requires.width (omega (arith, c.len-len.ensures)) in
-    rw (c.requires.layout, c.columns.ensures) (omega (arith, ids_fit d))
-
-pub has_same_ids-requires-clause-right : goal.has_same_ids-requires-clause-right
-has_same_ids-requires-clause-right c =
+pub has_other_ids-requires-clause-wide : goal.has_other_ids-requires-clause-wide
+has_other_ids-requires-clause-wide c =
     let d = c.args.dictionary.now in
     let line : FileLine = (c.args.front, c.args.line.now) in
     let here : c.deref.result.now ≡ (line_text d line).columns = c.deref.ensures.value ∙ ap (λ l. l.columns) c.in_ok-head.ensures.ok.is in
-    rw (c.requires.layout, here) (omega (arith, ids_fit d, least_fits d line))
+    rw here (least_fits d line)
 
-pub returns-then-not-has_same_ids-clause-ok : goal.returns-then-not-has_same_ids-clause-ok
-returns-then-not-has_same_ids-clause-ok c =
+pub has_other_ids-requires-clause-begins : goal.has_other_ids-requires-clause-begins
+has_other_ids-requires-clause-begins c =
+    rw c.deref.ensures.value (begins_last c.args.dictionary.now c.args.run.now c.last-last.result (λ l. l.0.now) (λ l. l.1) c.in_ok-head.head.beginning c.decode.new.columns.items
+    (omega (arith, c.len-len.ensures, c.if-len-gt0.true)) c.last-last.ensures.none c.last-last.ensures.some c.in_ok-head.ensures.same)
+
+pub returns-then-has_other_ids-clause-ok : goal.returns-then-has_other_ids-clause-ok
+returns-then-has_other_ids-clause-ok c =
     let d = c.args.dictionary.now in
-    let run = c.args.run.now in
     let line : FileLine = (c.args.front, c.args.line.now) in
     let ok = c.in_ok-head.ensures.ok in
-    let test = test_of d run line c.args.layout.now c.columns.result.now c.deref.result.now c.decode.new.columns.items c.in_ok-head.head c.has_same_ids.result
-    c.has_same_ids.ensures c.requires.layout c.columns.ensures c.deref.ensures.value ok.is in
     record {
       decoded = ok;
       some = omega (arith, c.len-len.ensures, c.if-len-gt0.true);
-      other = other_ids (run_id d run) (id_of d line) c.has_same_ids.result test c.if-not-has_same_ids.true;
+      other = λ e. c.has_other_ids.ensures.other c.if-has_other_ids.true (e ∙ sym (own_ids d line c.deref.result.now c.decode.new.columns.items c.in_ok-head.head c.deref.ensures.value ok.is));
       same = refl;
     }
 
@@ -48,13 +44,9 @@ returns-then-len-eq-MOST_LINES-clause-err c =
     let line : FileLine = (c.args.front, c.args.line.now) in
     let full : length run.lines ≡ 10000 = sym c.len-len.ensures ∙ c.if-len-eq-MOST_LINES.true in
     let same : run_id d run ≡ id_of d line = elim c.else-len-gt0.branch [
-      | else-len-gt0-via-then-len-gt0+else-not-head w ↦
-          same_last d run line c.last-last.result (λ l. l.0.now) (λ l. l.1) c.in_ok-head.head c.decode.new.columns.items (omega (arith, w.if-len-gt0.true, c.len-len.ensures)) c.requires.last c.last-last.ensures.none c.last-last.ensures.some
-          c.in_ok-head.ensures.same c.in_ok-head.ensures.ok.is w.if-not-head.false
-      | else-len-gt0-via-then-len-gt0+then-not-head+else-not-has_same_ids w ↦
-          same_ids (run_id d run) (id_of d line) w.has_same_ids.result
-          (test_of d run line c.args.layout.now w.columns.result.now w.deref.result.now c.decode.new.columns.items c.in_ok-head.head w.has_same_ids.result
-          w.has_same_ids.ensures c.requires.layout w.columns.ensures w.deref.ensures.value c.in_ok-head.ensures.ok.is) w.if-not-has_same_ids.false
+      | else-len-gt0-via-then-len-gt0+else-has_other_ids w ↦
+          w.has_other_ids.ensures.same w.if-has_other_ids.false
+          ∙ own_ids d line w.deref.result.now c.decode.new.columns.items c.in_ok-head.head w.deref.ensures.value c.in_ok-head.ensures.ok.is
       | else-len-gt0-via-else-len-gt0 w ↦ absurd (omega (arith, w.if-len-gt0.false))
     ] in
     record { same = refl; fault = fault_of-many d (run_id d run) (length run.lines) line c.in_ok-head.ensures.ok.sound full same; low = omega arith }
@@ -73,13 +65,9 @@ returns-clause-ok c =
     let line : FileLine = (c.args.front, c.args.line.now) in
     let ok = c.in_ok-head.ensures.ok in
     let same : 0 < length run.lines → run_id d run ≡ id_of d line = λ some. elim c.else-len-gt0.branch [
-      | else-len-gt0-via-then-len-gt0+else-not-head w ↦
-          same_last d run line c.last-last.result (λ l. l.0.now) (λ l. l.1) c.in_ok-head.head c.decode.new.columns.items (omega (arith, w.if-len-gt0.true, c.len-len.ensures)) c.requires.last c.last-last.ensures.none c.last-last.ensures.some
-          c.in_ok-head.ensures.same c.in_ok-head.ensures.ok.is w.if-not-head.false
-      | else-len-gt0-via-then-len-gt0+then-not-head+else-not-has_same_ids w ↦
-          same_ids (run_id d run) (id_of d line) w.has_same_ids.result
-          (test_of d run line c.args.layout.now w.columns.result.now w.deref.result.now c.decode.new.columns.items c.in_ok-head.head w.has_same_ids.result
-          w.has_same_ids.ensures c.requires.layout w.columns.ensures w.deref.ensures.value ok.is) w.if-not-has_same_ids.false
+      | else-len-gt0-via-then-len-gt0+else-has_other_ids w ↦
+          w.has_other_ids.ensures.same w.if-has_other_ids.false
+          ∙ own_ids d line w.deref.result.now c.decode.new.columns.items c.in_ok-head.head w.deref.ensures.value c.in_ok-head.ensures.ok.is
       | else-len-gt0-via-else-len-gt0 w ↦ absurd (omega (arith, w.if-len-gt0.false, c.len-len.ensures))
     ] in
     record {

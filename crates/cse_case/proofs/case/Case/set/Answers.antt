@@ -1,4 +1,4 @@
-use Rattle.std.proofs.Common.{◌≡◌, ◌≤◌, ◌+◌, ◌-◌, length, set, ap, sym, ◌∙◌, arith, subst}
+use Rattle.std.proofs.Common.{◌≡◌, ◌≤◌, ◌+◌, ◌-◌, length, set, refl, ap, sym, ◌∙◌, arith, subst}
 use Rattle.std.specs.Vec.{with_items}
 use Rattle.std.proofs.lemmas.Bool.{true≢false}
 use Rattle.std.proofs.lemmas.List.{get_or_read, with_items_is}
@@ -12,7 +12,13 @@ use Rattle.cse_case.specs.Entry.{entry_columns}
 use Rattle.cse_case.specs.Case.{CaseText, items_of, place_of}
 use Rattle.cse_case.proofs.FieldLaws.{entry_wide}
 use Rattle.cse_case.proofs.OwnLaws.{case_in, first_within, own_item}
-use Rattle.cse_case.proofs.SetLaws.{item_starts}
+use Rattle.cse_case.specs.Fit.{IsFit}
+use Rattle.cse_case.specs.Ids.{ids_in}
+use Rattle.cse_case.specs.Writes.{MaySet}
+use Rattle.cse_case.proofs.FitLaws.{kept_fits}
+use Rattle.cse_case.proofs.IdLaws.{ids_stay}
+use Rattle.cse_case.proofs.OwnLaws.{same_ids}
+use Rattle.cse_case.proofs.SetLaws.{item_starts, leaves-ids-and-types}
 use Rattle.cse_case.proofs.case.Case.set.Goals as goal
 
 pub index-first-requires : goal.index-first-requires
@@ -42,6 +48,7 @@ invariant_of-self c =
     record {
       some = c.self.invariant.some;
       wide = c.self.invariant.wide;
+      ids_are = c.self.invariant.ids_are;
       laid = IsLaid-len 0 v.columns.items (with_items v.columns c.write_field.new.columns).items v.lines.items (ap length items ∙ (c.write_field.auto.columns ∙ ap length c.deref_mut.ensures.value)) c.self.invariant.laid;
       came = λ e. absurd (true≢false e);
       table = c.self.invariant.table;
@@ -74,9 +81,22 @@ returns c =
     let changed = laid_lines-with 0 columns field lines place from line c.self.invariant.laid at.own.there at.own.at (omega (arith, at.whole)) in
     let now : laid_lines (with_items v.columns c.write_field.new.columns).items lines ≡ set (laid_lines columns lines) place (record (laid_line columns line) { columns = with_columns from field (laid_line columns line).columns }) =
     ap (λ cs. laid_lines cs lines) items ∙ changed in
-    let old : CaseText = case_in v.items v.ids.items columns lines v.marked v.first_line in
-    ap (λ ls. record old { run = record old.run { lines = ls } })
-    (now ∙ ap (λ (l : LineText). set (laid_lines columns lines) place (record l { columns = with_columns from field l.columns })) (sym at.own.is))
+    let old : CaseText = case_in v.items (ids_in v.ids columns) columns lines v.marked v.first_line in
+    let changed_lines = now ∙ ap (λ (l : LineText). set (laid_lines columns lines) place (record l { columns = with_columns from field l.columns })) (sym at.own.is) in
+    let kept = c.self.invariant in
+    let here : MaySet c.args.self.now c.args.number c.args.occurrence shape.kind n = record {
+      fits = subst IsFit c.self.view_is (kept_fits v.items (ids_in v.ids columns) columns lines v.marked v.first_line kept.some kept.wide kept.laid);
+      sound = c.item.ensures.sound;
+      occurrence = c.requires.occurrence;
+      is_item = record { there = c.requires.item; owns = c.requires.owns; is_of_kind = refl };
+    } in
+    let stay = leaves-ids-and-types c.args.self.now c.args.number c.args.occurrence shape.kind n here field wide c.requires.known in
+    let laid = IsLaid-len 0 columns (with_items v.columns c.write_field.new.columns).items lines
+    (ap length (with_items_is v.columns c.write_field.new.columns (c.write_field.auto.columns ∙ c.deref_mut.ensures.len)) ∙ (c.write_field.auto.columns ∙ ap length c.deref_mut.ensures.value)) kept.laid in
+    let ids = ids_stay v.items v.ids (with_items v.columns c.write_field.new.columns).items columns lines kept.ids_are kept.some kept.wide laid kept.laid
+    (same_ids c.args.self.now v.items (ids_in v.ids columns) columns (with_items v.columns c.write_field.new.columns).items lines v.marked v.first_line place n field c.self.view_is changed_lines (stay.ids 0)) in
+    ap (λ i. record old { ids = i; run = record old.run { lines = laid_lines (with_items v.columns c.write_field.new.columns).items lines } }) ids
+    ∙ ap (λ ls. record old { run = record old.run { lines = ls } }) changed_lines
     ∙ ap (λ (x : CaseText). record x {
       run = record x.run {
         lines = set x.run.lines place (record (line_at c.args.self.now.run place) { columns = with_columns from field (line_at c.args.self.now.run place).columns });

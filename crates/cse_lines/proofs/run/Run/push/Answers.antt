@@ -21,11 +21,11 @@ invariant_of-self-2 c =
     let columns = c.self.inside.columns in
     let lines = c.self.inside.lines.items in
     record {
-      laid = rw (c.in_ok-push_line.ensures.columns, c.in_ok-push_line.ensures.lines) (IsLaid-push 0 columns c.args.columns.now lines c.args.head c.requires.fits c.self.invariant.laid);
-      written = written-push (laid_lines columns lines) _ (line_with c.args.columns.now c.args.head) c.self.inside.bytes.items _ c.behind_mark-bytes.result.now c.self.invariant.written
-          (c.behind_mark-bytes.ensures (written_line (line_with c.args.columns.now c.args.head)) c.requires.bytes)
-          (c.in_ok-extend_from_slice.ensures.items ∙ ap (λ l. l ++ c.behind_mark-bytes.result.now) c.in_ok-reserve.ensures.items)
-          (pushed c.push_line.new.columns c.push_line.new.lines.items columns c.args.columns.now lines c.args.head c.in_ok-push_line.ensures.columns c.in_ok-push_line.ensures.lines c.self.invariant.laid);
+      laid = rw (c.in_default.ensures.columns, c.in_default.ensures.lines) (IsLaid-push 0 columns c.args.columns.now lines c.args.head c.requires.fits c.self.invariant.laid);
+      written = written-push (laid_lines columns lines) _ (line_with c.args.columns.now c.args.head) c.self.inside.bytes.items _ c.behind_mark.result.now c.self.invariant.written
+          (c.behind_mark.ensures (written_line (line_with c.args.columns.now c.args.head)) c.requires.bytes)
+          c.in_ok-extend_from_slice.ensures.items
+          (pushed c.push_line.new.columns c.push_line.new.lines.items columns c.args.columns.now lines c.args.head c.in_default.ensures.columns c.in_default.ensures.lines c.self.invariant.laid);
     }
 
 pub returns : goal.returns
@@ -36,7 +36,7 @@ returns c =
       | then-self w ↦ w.self-is ∙ rw w.if-self.true refl
       | else-self w ↦ w.self-is ∙ rw w.if-self.false refl
     ] in
-    let laid = pushed c.push_line.new.columns c.push_line.new.lines.items columns c.args.columns.now lines c.args.head c.in_ok-push_line.ensures.columns c.in_ok-push_line.ensures.lines c.self.invariant.laid in
+    let laid = pushed c.push_line.new.columns c.push_line.new.lines.items columns c.args.columns.now lines c.args.head c.in_default.ensures.columns c.in_default.ensures.lines c.self.invariant.laid in
     let old : RunText = record { lines = laid_lines columns lines; marked = c.self.inside.marked; first_line = c.self.inside.first_line } in
     ap (λ ls. (let r : RunText = record { lines = ls; marked = c.if-self.self; first_line = c.self.inside.first_line } in r)) laid
     ∙ ap (λ m. (let r : RunText = record { lines = laid_lines columns lines ++ line_with c.args.columns.now c.args.head ∷ []; marked = m; first_line = c.self.inside.first_line } in r)) marked
