@@ -300,31 +300,31 @@ GathersOn-like width begun_columns begun_lines bytes columns lines last at len l
 pub keeps_front : {A : Type 0} (begun now more : List A) → take (length begun) now ≡ begun → take (length begun) (now ++ more) ≡ begun
 keeps_front begun now more h = take-append-le (length begun) now more (omega (arith, ap length h, length-take (length begun) now)) ∙ h
 
--- eight bytes, by the masks of those that are line feeds and of those that aren't ASCII
-pub plain_masks : (text : List ℕ) (feeds others : ℕ) → length text ≡ 8 → feeds ≡ mask_l (map (λ x. eqb x 10) (chunk 0 8 text)) → others ≡ mask_l (map is_set (chunk 0 8 text)) → eqb (bit_or feeds others) 0 ≡ true
+-- a few bytes, by the masks of those that are line feeds and of those that aren't ASCII
+pub plain_masks : (text : List ℕ) (n feeds others : ℕ) → length text ≡ n → feeds ≡ mask_l (map (λ x. eqb x 10) (chunk 0 n text)) → others ≡ mask_l (map is_set (chunk 0 n text)) → eqb (bit_or feeds others) 0 ≡ true
     → IsPlain text
-plain_masks text feeds others len f o none =
+plain_masks text n feeds others len f o none =
     let both : bit_or feeds others ≡ 0 = eqb-true _ _ none in
     let no_feeds : feeds ≡ 0 = omega (arith, both, le_or_l feeds others) in
     let no_others : others ≡ 0 = omega (arith, both, le_or_r feeds others) in
     record {
-      ascii = λ k. elim (cases_lt k 8) [
-        | inl h ↦ leb-false 128 (get_or text k 0) (none_from_empty_mask is_set text 0 8 0 (omega (arith, len)) (sym o ∙ no_others) k (omega arith) (omega arith))
+      ascii = λ k. elim (cases_lt k n) [
+        | inl h ↦ leb-false 128 (get_or text k 0) (none_from_empty_mask is_set text 0 n 0 (omega (arith, len)) (sym o ∙ no_others) k (omega arith) (omega arith))
         | inr h ↦ rw (get_or_past text k 0 (omega (arith, len))) (omega arith)
       ];
-      none = λ k h. none_from_empty_mask (λ x. eqb x 10) text 0 8 0 (omega (arith, len)) (sym f ∙ no_feeds) k (omega arith) (omega (arith, len));
+      none = λ k h. none_from_empty_mask (λ x. eqb x 10) text 0 n 0 (omega (arith, len)) (sym f ∙ no_feeds) k (omega arith) (omega (arith, len));
     }
 
--- the bytes of a text that are written over columns
-pub put_over : (columns text : List ℕ) (at k : ℕ) → length columns ≡ length text → at + 8 ≤ length text → at ≤ k → k < at + 8 → get_or (with_columns at (take 8 (drop at text)) columns) k 0 ≡ get_or text k 0
-put_over columns text at k same fits low high =
-    let field = take 8 (drop at text) in
+-- the bytes of a text that are written over columns, so many at a time
+pub put_over : (n : ℕ) (columns text : List ℕ) (at k : ℕ) → length columns ≡ length text → at + n ≤ length text → at ≤ k → k < at + n → get_or (with_columns at (take n (drop at text)) columns) k 0 ≡ get_or text k 0
+put_over n columns text at k same fits low high =
+    let field = take n (drop at text) in
     let front : length (take at columns) ≡ at = length-take-le at columns (omega arith) in
-    let n : length field ≡ 8 = length-take-le 8 (drop at text) (omega (arith, length-drop at text)) in
+    let len : length field ≡ n = length-take-le n (drop at text) (omega (arith, length-drop at text)) in
     let all : at + (k - at) ≡ k = omega arith in
     get_or-append_right (take at columns) (field ++ drop (at + length field) columns) at k 0 front low
     ∙ get_or_append_left field (drop (at + length field) columns) 0 (k - at) (omega arith)
-    ∙ get_or-take 8 (drop at text) (k - at) 0 (omega arith) ∙ get_or-drop at text (k - at) 0 ∙ ap (λ i. get_or text i 0) all
+    ∙ get_or-take n (drop at text) (k - at) 0 (omega arith) ∙ get_or-drop at text (k - at) 0 ∙ ap (λ i. get_or text i 0) all
 
 -- and the columns before and behind them
 pub put_before : (columns field : List ℕ) (at k : ℕ) → at ≤ length columns → k < at → get_or (with_columns at field columns) k 0 ≡ get_or columns k 0
@@ -342,19 +342,19 @@ put_behind columns field at k fits high =
 abbrev pub Done : ℕ → ℕ → ℕ → Type 0
 Done at last k = (k < at) ⊎ (last ≤ k)
 
-pub put_more : (columns text : List ℕ) (at last : ℕ) → length columns ≡ length text → at + 8 ≤ length text → ((k : ℕ) → Done at last k → k < length text → get_or columns k 0 ≡ get_or text k 0)
-    → (k : ℕ) → Done (at + 8) last k → k < length text → get_or (with_columns at (take 8 (drop at text)) columns) k 0 ≡ get_or text k 0
-put_more columns text at last same fits before k done below =
-    let n : length (take 8 (drop at text)) ≡ 8 = length-take-le 8 (drop at text) (omega (arith, length-drop at text)) in
+pub put_more : (n : ℕ) (columns text : List ℕ) (at last : ℕ) → length columns ≡ length text → at + n ≤ length text → ((k : ℕ) → Done at last k → k < length text → get_or columns k 0 ≡ get_or text k 0)
+    → (k : ℕ) → Done (at + n) last k → k < length text → get_or (with_columns at (take n (drop at text)) columns) k 0 ≡ get_or text k 0
+put_more n columns text at last same fits before k done below =
+    let len : length (take n (drop at text)) ≡ n = length-take-le n (drop at text) (omega (arith, length-drop at text)) in
     elim (cases_lt k at) [
-      | inl low ↦ put_before columns (take 8 (drop at text)) at k (omega arith) low ∙ before k (inl low) below
-      | inr high ↦ elim (cases_lt k (at + 8)) [
-        | inl here ↦ put_over columns text at k same fits high here
-        | inr past ↦ put_behind columns (take 8 (drop at text)) at k (omega arith) (omega (arith, n)) ∙ before k (inr (behind done past)) below
+      | inl low ↦ put_before columns (take n (drop at text)) at k (omega arith) low ∙ before k (inl low) below
+      | inr high ↦ elim (cases_lt k (at + n)) [
+        | inl here ↦ put_over n columns text at k same fits high here
+        | inr past ↦ put_behind columns (take n (drop at text)) at k (omega arith) (omega (arith, len)) ∙ before k (inr (behind done past)) below
       ]
     ]
   where
-    behind : Done (at + 8) last k → at + 8 ≤ k → last ≤ k
+    behind : Done (at + n) last k → at + n ≤ k → last ≤ k
     behind (inl low) past = absurd (omega arith)
     behind (inr high) past = high
 
@@ -362,25 +362,25 @@ put_more columns text at last same fits before k done below =
 abbrev pub PlainAt : List ℕ → ℕ → Type 0
 PlainAt text k = (get_or text k 0 < 128) × (eqb (get_or text k 0) 10 ≡ false)
 
-pub plain_here : (text : List ℕ) (at k : ℕ) → at + 8 ≤ length text → IsPlain (take 8 (drop at text)) → at ≤ k → k < at + 8 → PlainAt text k
-plain_here text at k fits plain low high =
-    let field = take 8 (drop at text) in
-    let n : length field ≡ 8 = length-take-le 8 (drop at text) (omega (arith, length-drop at text)) in
+pub plain_here : (n : ℕ) (text : List ℕ) (at k : ℕ) → at + n ≤ length text → IsPlain (take n (drop at text)) → at ≤ k → k < at + n → PlainAt text k
+plain_here n text at k fits plain low high =
+    let field = take n (drop at text) in
+    let len : length field ≡ n = length-take-le n (drop at text) (omega (arith, length-drop at text)) in
     let all : at + (k - at) ≡ k = omega arith in
-    let same : get_or field (k - at) 0 ≡ get_or text k 0 = get_or-take 8 (drop at text) (k - at) 0 (omega arith) ∙ get_or-drop at text (k - at) 0 ∙ ap (λ i. get_or text i 0) all in
-    (rw (← same) (plain.ascii (k - at)), ap (λ x. eqb x 10) (sym same) ∙ plain.none (k - at) (omega (arith, n)))
+    let same : get_or field (k - at) 0 ≡ get_or text k 0 = get_or-take n (drop at text) (k - at) 0 (omega arith) ∙ get_or-drop at text (k - at) 0 ∙ ap (λ i. get_or text i 0) all in
+    (rw (← same) (plain.ascii (k - at)), ap (λ x. eqb x 10) (sym same) ∙ plain.none (k - at) (omega (arith, len)))
 
-pub plain_more : (text : List ℕ) (at last : ℕ) → at + 8 ≤ length text → IsPlain (take 8 (drop at text)) → ((k : ℕ) → Done at last k → k < length text → PlainAt text k)
-    → (k : ℕ) → Done (at + 8) last k → k < length text → PlainAt text k
-plain_more text at last fits plain before k done below = elim (cases_lt k at) [
+pub plain_more : (n : ℕ) (text : List ℕ) (at last : ℕ) → at + n ≤ length text → IsPlain (take n (drop at text)) → ((k : ℕ) → Done at last k → k < length text → PlainAt text k)
+    → (k : ℕ) → Done (at + n) last k → k < length text → PlainAt text k
+plain_more n text at last fits plain before k done below = elim (cases_lt k at) [
   | inl low ↦ before k (inl low) below
-  | inr high ↦ elim (cases_lt k (at + 8)) [
-    | inl here ↦ plain_here text at k fits plain high here
+  | inr high ↦ elim (cases_lt k (at + n)) [
+    | inl here ↦ plain_here n text at k fits plain high here
     | inr past ↦ before k (inr (behind done past)) below
   ]
 ]
   where
-    behind : Done (at + 8) last k → at + 8 ≤ k → last ≤ k
+    behind : Done (at + n) last k → at + n ≤ k → last ≤ k
     behind (inl low) past = absurd (omega arith)
     behind (inr high) past = high
 

@@ -88,21 +88,65 @@ fn put_eight_at(columns: &mut [char], text: &[u8], at: usize) -> bool
     put_eight(&mut columns[at..at + 8], &text[at..at + 8])
 }
 
-/// The same of no fewer than eight bytes: the last eight, and then eight by eight from the front.
+/// The same of eight to sixteen bytes: the last eight, and the first eight.
 #[inline(always)]
-fn put_eights(columns: &mut [char], text: &[u8]) -> bool
+fn put_two_eights(columns: &mut [char], text: &[u8]) -> bool
     requires some { 8 ≤ length text.now }
+    requires few { length text.now ≤ 16 }
     requires fits { length columns.old ≡ length text.now }
     ensures columns { columns.new ≡ text.now }
     ensures plain { result ≡ true → IsPlain text.now }
 {
     let last = text.len() - 8;
-    let mut is_plain = put_eight_at(columns, text, last);
+    let is_end_plain = put_eight_at(columns, text, last);
+    let is_front_plain = put_eight_at(columns, text, 0);
+    is_end_plain & is_front_plain
+}
+
+/// The same of sixteen bytes.
+#[inline(always)]
+fn put_sixteen(columns: &mut [char], text: &[u8]) -> bool
+    requires columns { length columns.old ≡ 16 }
+    requires text { length text.now ≡ 16 }
+    ensures columns { columns.new ≡ text.now }
+    ensures plain { result ≡ true → IsPlain text.now }
+{
+    let bytes = u8x16::from_slice(text);
+    put_four(&mut columns[..4], &text[..4]);
+    put_four(&mut columns[4..8], &text[4..8]);
+    put_four(&mut columns[8..12], &text[8..12]);
+    put_four(&mut columns[12..], &text[12..]);
+    let feeds = bytes.simd_eq(u8x16::splat(b'\n')).to_bitmask();
+    let others = bytes.simd_ge(u8x16::splat(128)).to_bitmask();
+    feeds | others == 0
+}
+
+/// The same of sixteen bytes from a place on.
+#[inline(always)]
+fn put_sixteen_at(columns: &mut [char], text: &[u8], at: usize) -> bool
+    requires fits { length columns.old ≡ length text.now }
+    requires some { at + 16 ≤ length text.now }
+    ensures columns { columns.new ≡ with_columns at (take 16 (drop at text.now)) columns.old }
+    ensures plain { result ≡ true → IsPlain (take 16 (drop at text.now)) }
+{
+    put_sixteen(&mut columns[at..at + 16], &text[at..at + 16])
+}
+
+/// The same of no fewer than sixteen bytes: the last sixteen, and then sixteen by sixteen from the front.
+#[inline(always)]
+fn put_sixteens(columns: &mut [char], text: &[u8]) -> bool
+    requires some { 16 ≤ length text.now }
+    requires fits { length columns.old ≡ length text.now }
+    ensures columns { columns.new ≡ text.now }
+    ensures plain { result ≡ true → IsPlain text.now }
+{
+    let last = text.len() - 16;
+    let mut is_plain = put_sixteen_at(columns, text, last);
     let mut at = 0;
-    'eights: while at < last {
-        let is_next = put_eight_at(columns, text, at);
+    'sixteens: while at < last {
+        let is_next = put_sixteen_at(columns, text, at);
         is_plain = is_next && is_plain;
-        at += 8;
+        at += 16;
     }
     is_plain
 }
@@ -154,8 +198,10 @@ pub fn put_line(columns: &mut [char], text: &[u8]) -> bool
     let (front, _) = columns.split_at_mut(text.len());
     if text.len() < 8 {
         put_plain(front, text)
+    } else if text.len() < 16 {
+        put_two_eights(front, text)
     } else {
-        put_eights(front, text)
+        put_sixteens(front, text)
     }
 }
 

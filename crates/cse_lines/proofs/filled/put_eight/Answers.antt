@@ -8,4 +8,4 @@ pub returns-clause-plain : goal.returns-clause-plain
 returns-clause-plain c test =
     let text = c.args.text.now in
     let n = length-take-le 8 text (omega (arith, c.requires.text)) in
-    plain_masks text _ _ c.requires.text (bitmask_splat w8 eqb (take 8 text) 8 10 n (omega arith)) (top_bitmask (take 8 text) 8 n (omega arith)) test
+    plain_masks text 8 _ _ c.requires.text (bitmask_splat w8 eqb (take 8 text) 8 10 n (omega arith)) (top_bitmask (take 8 text) 8 n (omega arith)) test

@@ -1,0 +1,11 @@
+use Rattle.std.proofs.Common.{eqb, w8, take, arith, length-take-le}
+use Rattle.std.proofs.lemmas.Simd.{bitmask_splat}
+use Rattle.memchr.proofs.lemmas.LaneLemmas.{top_bitmask}
+use Rattle.cse_lines.proofs.AlikeLaws.{plain_masks}
+use Rattle.cse_lines.proofs.filled.put_sixteen.Goals as goal
+
+pub returns-clause-plain : goal.returns-clause-plain
+returns-clause-plain c test =
+    let text = c.args.text.now in
+    let n = length-take-le 16 text (omega (arith, c.requires.text)) in
+    plain_masks text 16 _ _ c.requires.text (bitmask_splat w8 eqb (take 16 text) 16 10 n (omega arith)) (top_bitmask (take 16 text) 16 n (omega arith)) test
