@@ -34,7 +34,7 @@ pub struct Listing {
     heading: Heading,
     /// The id columns of the case, where its heading waits.
     ids: Vec<char>,
-    /// Room for the id columns of the next case.
+    /// Room for the id columns of the next case, where they are more or fewer.
     next_ids: Vec<char>,
     /// What is being made.
     making: Vec<u8>,
@@ -180,9 +180,13 @@ impl Listing {
         ensures ok { OnOk result (self.new ≡ reported self.old (BeginsCase ids.now)) }
         ensures err { OnErr result (self.new ≡ self.old) }
     {
-        self.next_ids.clear();
-        self.next_ids.extend_from_slice(ids)?;
-        mem::swap(&mut self.ids, &mut self.next_ids);
+        if self.ids.len() == ids.len() {
+            self.ids.copy_from_slice(ids);
+        } else {
+            self.next_ids.clear();
+            self.next_ids.extend_from_slice(ids)?;
+            mem::swap(&mut self.ids, &mut self.next_ids);
+        }
         self.heading = Heading::Case;
         Ok(())
     }
