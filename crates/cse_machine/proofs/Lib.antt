@@ -25,3 +25,4 @@ pub mod Ranges
 pub mod PlanLaws
 pub mod Reached
 pub mod QuietLaws
+pub mod Following
