@@ -24,6 +24,7 @@ use Rattle.cse_steps.specs.State.{State, World}
 use Rattle.cse_steps.specs.Run.{first}
 use Rattle.cse_steps.specs.Fits.{FitsFirst, FitsWorld, IsThere, is_of_run, occurrences_in}
 use Rattle.cse_steps.specs.Laws.{CaseKeepsToBound, EventsEnd}
+use Rattle.cse_machine.proofs.Following.{there_as}
 use Rattle.cse_batch.specs.Events.{AllEnd, after_moment, all_steps, end_of, steps_of, unedited}
 use Rattle.cse_batch.specs.Batch.{without_case}
 use Rattle.cse_batch.specs.Laws.{ApplicationsEnd, CasesEnd}
@@ -38,17 +39,6 @@ AllThere x n (m ∷ ms) = IsThere x n m.event.code m.event.index m.occurrence ×
 there_both : (x : Image) (n : ℕ → ℕ) (ms others : List Moment) → AllThere x n ms → AllThere x n others → AllThere x n (ms ++ others)
 there_both x n [] others a b = b
 there_both x n (m ∷ ms) others a b = (a.0, there_both x n ms others a.1 b)
-
--- with as many occurrences
-pub there_as : (x : Image) (n n' : ℕ → ℕ) (code : EventCode) (index o : ℕ) → ((r : ℕ) → n' r ≡ n r) → IsThere x n code index o → IsThere x n' code index o
-there_as x n n' codes.ItemPreproc index o same h = λ item is. let g = h item is in (g.0, omega (arith, g.1, same item.owner))
-there_as x n n' codes.ItemPostproc index o same h = λ item is. let g = h item is in (g.0, omega (arith, g.1, same item.owner))
-there_as x n n' codes.ApplicationPreproc index o same h = tt
-there_as x n n' codes.ApplicationPostproc index o same h = tt
-there_as x n n' codes.LevelPreproc index o same h = tt
-there_as x n n' codes.LevelPostproc index o same h = tt
-there_as x n n' codes.RecordPreproc index o same h = tt
-there_as x n n' codes.RecordPostproc index o same h = tt
 
 module _ (x : Image) (n : ℕ → ℕ) (r o : ℕ) (low : 1 ≤ o) (high : o ≤ n r) where
   -- an item of the record

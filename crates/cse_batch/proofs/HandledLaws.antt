@@ -1,5 +1,5 @@
 -- Events that the program has no routine for change nothing, and so the others count alone.
-use Rattle.std.proofs.Common.{◌≡◌, ℕ, zero, suc, ◌≤◌, Bool, true, false, cond, eqb, List, [], ◌∷◌, ◌++◌, map, Option, Some, None, refl, sym, ap, ◌∙◌, subst}
+use Rattle.std.proofs.Common.{◌≡◌, ℕ, zero, suc, ◌≤◌, Bool, true, false, cond, eqb, List, [], ◌∷◌, ◌++◌, Option, Some, None, refl, sym, ap, ◌∙◌, subst}
 use Rattle.std.specs.Prelude.{filter, is_some}
 use Rattle.cse_value.specs.declared.shape.ItemShape.{ItemShape}
 use Rattle.cse_parts.specs.declared.entries.Event.{Event}
@@ -12,6 +12,7 @@ use Rattle.cse_bounds.specs.CaseEvents.{Moment, moment, event, event_bound, item
 use Rattle.cse_verify.specs.Verified.{VerifiedProgram}
 use Rattle.cse_steps.specs.State.{State}
 use Rattle.cse_steps.specs.Run.{first, first_calls}
+use Rattle.cse_machine.specs.Results.{in_occurrence}
 use Rattle.cse_batch.specs.Handled.{events_of_items, handled_items, has_routine}
 use Rattle.cse_batch.specs.Scene.{Scene, scene_after, scene_after_all, told_to}
 use Rattle.cse_batch.proofs.EventLaws.{stays}
@@ -39,9 +40,6 @@ scene_unhandled v s m is =
     ap (λ (t : State). told_to s t.world) (stays v (event_bound v.image m.event) (first v m s.case s.store) calls) ∙ nothing_first v m s
 
 -- ---- the events of items, in an occurrence
-
-abbrev pub in_occurrence : ℕ → List Event → List Moment
-in_occurrence o es = map (λ e. let m : Moment = record { event = e; occurrence = o } in m) es
 
 only_handled : (v : VerifiedProgram) (o : ℕ) (es : List Event) (s : Scene) → scene_after_all v s (in_occurrence o (filter (has_routine v.image) es)) ≡ scene_after_all v s (in_occurrence o es)
 only_handled v o [] s = refl

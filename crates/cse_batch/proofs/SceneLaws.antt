@@ -1,5 +1,6 @@
 -- What events change, one after the other.
-use Rattle.std.proofs.Common.{◌≡◌, ℕ, suc, ◌+◌, ◌-◌, ◌<◌, drop, map, Result, Ok, Err, OnOk, arith, List, [], ◌∷◌, ◌++◌, Option, Some, refl, sym, ap, ◌∙◌, subst}
+use Rattle.std.proofs.Common.{◌≡◌, ℕ, suc, ◌+◌, ◌-◌, ◌<◌, true, drop, map, Result, Ok, Err, OnOk, arith, List, [], ◌∷◌, ◌++◌, Option, Some, refl, sym, ap, ◌∙◌, subst}
+use Rattle.std.specs.Prelude.{is_some}
 use Rattle.std.proofs.lemmas.List.{map-append}
 use Rattle.cse_parts.specs.declared.entries.Event.{Event}
 use Rattle.cse_value.specs.declared.shape.ItemShape.{ItemShape}
@@ -16,14 +17,15 @@ use Rattle.cse_verify.specs.Verified.{VerifiedProgram}
 use Rattle.cse_steps.specs.State.{World}
 use Rattle.cse_steps.specs.Fits.{FitsFirst, FitsWorld, IsThere, occurrences_in}
 use Rattle.cse_steps.specs.Laws.{EventsEnd}
-use Rattle.cse_machine.specs.Results.{RunsTo}
+use Rattle.cse_machine.specs.Results.{AllFitFirst, AllRunTo, RunsTo}
+use Rattle.cse_machine.proofs.Following.{there_as}
 use Rattle.cse_batch.specs.Events.{after_moment, after_moments, end_of, told_more}
 use Rattle.cse_batch.specs.Batch.{reports_of}
 use Rattle.cse_batch.specs.declared.handled.HandledRecord.{HandledRecord}
 use Rattle.cse_batch.specs.Handled.{number_of}
 use Rattle.cse_batch.specs.Scene.{GoesOn, Scene, scene, scene_after, scene_after_all, told_to, world_of}
 use Rattle.cse_batch.proofs.EventLaws.{ends_are_final}
-use Rattle.cse_batch.proofs.EndLaws.{fits_then, there_as}
+use Rattle.cse_batch.proofs.EndLaws.{AllThere, fits_moment, fits_then}
 use Rattle.cse_batch.proofs.HeldLaws.{all_later}
 
 -- ---- one event
@@ -91,6 +93,31 @@ goes_further v before mid now store store' a b = fits_then v (Some before) (worl
 -- what goes on goes on from itself
 pub goes_from : (v : VerifiedProgram) (before now : CaseText) (store : Kept) → GoesOn v before now store → GoesOn v now now store
 goes_from v before now store f = record { present = refl; occurrences = λ r. refl; case_fits = f.case_fits; dictionary = f.dictionary; store = f.store }
+
+-- ---- events that all ran to their ends
+
+-- each of them may begin
+pub all_fit : (v : VerifiedProgram) (case : Option CaseText) (w : World) (ms : List Moment) → is_some case ≡ true → FitsWorld v case w → AllThere v.image (occurrences_in case) ms → AllFitFirst v ms w.case w.store
+all_fit v case w [] some f there = tt
+all_fit v case w (m ∷ ms) some f there = (fits_moment v case w m some f there.0, all_fit v case w ms some f there.1)
+
+-- they leave what the definition says
+pub all_ran_scene : (v : VerifiedProgram) (ms : List Moment) (case case' : Option CaseText) (store store' : Kept) (old new : Reports) → AllRunTo v ms case store old case' store' new
+    → scene case' store' new ≡ scene_after_all v (scene case store old) ms
+all_ran_scene v [] case case' store store' old new r =
+    ap (λ (c : Option CaseText). scene c store' new) r.0 ∙ (ap (λ (k : Kept). scene case k new) r.1 ∙ ap (scene case store) r.2)
+all_ran_scene v (m ∷ ms) case case' store store' old new r =
+    all_ran_scene v ms r.1 case' r.2 store' r.3 new r.5 ∙ ap (λ (s : Scene). scene_after_all v s ms) (ran_scene v m case r.1 store r.2 r.0 old r.3 r.4)
+
+-- and what they leave fits
+pub all_ran_fits : (v : VerifiedProgram) → EventsEnd v → (before : CaseText) (ms : List Moment) (case case' : Option CaseText) (store store' : Kept) (old new : Reports) → FitsWorld v (Some before) (world_of case store)
+    → AllThere v.image (occurrences_in (Some before)) ms → AllRunTo v ms case store old case' store' new → FitsWorld v (Some before) (world_of case' store')
+all_ran_fits v law before [] case case' store store' old new f there r =
+    subst (λ (c : Option CaseText). FitsWorld v (Some before) (world_of c store')) (sym r.0) (subst (λ (k : Kept). FitsWorld v (Some before) (world_of case k)) (sym r.1) f)
+all_ran_fits v law before (m ∷ ms) case case' store store' old new f there r =
+    let fit = fits_moment v (Some before) (world_of case store) m refl f there.0 in
+    let one = ran_fits v m case r.1 store r.2 r.0 old r.3 law fit r.4 in
+    all_ran_fits v law before ms r.1 case' r.2 store' r.3 new (fits_then v (Some before) (world_of case store) (world_of r.1 r.2) f one) there.1 r.5
 
 -- ---- loops over events
 

@@ -17,7 +17,7 @@ use cse_steps::event_ends;
 use cse_value::OutOfMemory;
 use cse_verify::Verified;
 
-/// Runs an event.
+/// Runs an event, as a list of one, so that the machine's loop stands once in the program.
 fn run_event<C: Code, M: Runs>(
     verified: &Verified<'_, C>,
     machine: &mut M,
@@ -37,8 +37,7 @@ fn run_event<C: Code, M: Runs>(
     ensures reports_fit { ReportsFit verified.now.image reports.new }
 {
     event_ends(verified);
-    machine.run_event(case, store, reports, event, occurrence)?;
-    Ok(())
+    machine.run_events(case, store, reports, &[event], occurrence)
 }
 
 /// Runs an event of the level or of a record, if the program has a routine for it.
@@ -96,10 +95,8 @@ fn run_items<C: Code, M: Runs>(
     ensures goes_on { OnOk result (GoesOn verified.now case.old case.new store.new) }
     ensures reports_fit { ReportsFit verified.now.image reports.new }
 {
-    'events: for event in &handled.items {
-        run_event(verified, machine, case, store, reports, *event, occurrence)?;
-    }
-    Ok(())
+    event_ends(verified);
+    machine.run_events(case, store, reports, &handled.items, occurrence)
 }
 
 /// Runs the events of the items of a record in each of its occurrences.

@@ -1,13 +1,13 @@
 //! What runs the events of a verified program.
 
-ghost use Rattle.std.specs.Prelude.{◌≡◌, Option, Some, None, IfOk, OnErr, true};
+ghost use Rattle.std.specs.Prelude.{◌≡◌, Option, Some, None, IfOk, OnErr, OnOk, true};
 ghost use Rattle.cse_bounds.specs.CaseEvents.{moment};
 ghost use Rattle.cse_verify.specs.Verified.{VerifiedProgram};
 ghost use Rattle.cse_case.specs.Fit.{IsFit};
 ghost use Rattle.cse_decks.specs.Store.{StoreFits};
 ghost use Rattle.cse_report.specs.Reports.{ReportsFit};
 ghost use Rattle.cse_steps.specs.Fits.{FitsFirst, is_of_run};
-ghost use Rattle.cse_machine.specs.Results.{HaltsAt, RunsTo};
+ghost use Rattle.cse_machine.specs.Results.{AllFitFirst, AllRunTo, HaltsAmong, HaltsAt, RunsTo, in_occurrence};
 
 use cse_case::Case;
 use cse_decks::Store;
@@ -36,6 +36,26 @@ pub trait Runs {
         ensures same { program self.new ≡ program self.old }
         ensures ended { IfOk result (λ n. RunsTo (program self.old) (moment event.code event.index occurrence) (Some case.old) store.old reports.old n (Some case.new) store.new reports.new) }
         ensures halted { OnErr result (HaltsAt (program self.old) (moment event.code event.index occurrence) (Some case.old) store.old reports.old (Some case.new) store.new reports.new) }
+        ensures case_fits { IsFit case.new }
+        ensures store_fits { StoreFits (program self.old).image store.new }
+        ensures reports_fit { ReportsFit (program self.old).image reports.new };
+
+    /// Runs events, one after the other, with the occurrence that all of them are of.
+    fn run_events(
+        &mut self,
+        case: &mut Case<'_>,
+        store: &mut Store,
+        reports: &mut Reports,
+        events: &[Event],
+        occurrence: u16,
+    ) -> Result<(), OutOfMemory>
+        requires case_fits { IsFit case.old }
+        requires store_fits { StoreFits (program self.old).image store.old }
+        requires fits { AllFitFirst (program self.old) (in_occurrence occurrence events.now) (Some case.old) store.old }
+        requires reports { ReportsFit (program self.old).image reports.old }
+        ensures same { program self.new ≡ program self.old }
+        ensures ended { OnOk result (AllRunTo (program self.old) (in_occurrence occurrence events.now) (Some case.old) store.old reports.old (Some case.new) store.new reports.new) }
+        ensures halted { OnErr result (HaltsAmong (program self.old) (in_occurrence occurrence events.now) (Some case.old) store.old reports.old (Some case.new) store.new reports.new) }
         ensures case_fits { IsFit case.new }
         ensures store_fits { StoreFits (program self.old).image store.new }
         ensures reports_fit { ReportsFit (program self.old).image reports.new };
@@ -69,6 +89,17 @@ impl<C: Code> Runs for Machine<'_, '_, C> {
         occurrence: u16,
     ) -> Result<u64, OutOfMemory> {
         Machine::run_event(self, case, store, reports, event, occurrence)
+    }
+
+    fn run_events(
+        &mut self,
+        case: &mut Case<'_>,
+        store: &mut Store,
+        reports: &mut Reports,
+        events: &[Event],
+        occurrence: u16,
+    ) -> Result<(), OutOfMemory> {
+        Machine::run_events(self, case, store, reports, events, occurrence)
     }
 
     fn run_plain(

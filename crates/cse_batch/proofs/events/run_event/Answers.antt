@@ -1,17 +1,31 @@
-use Rattle.std.proofs.Common.{Some, refl}
+use Rattle.std.proofs.Common.{Some, [], ◌∷◌, refl, subst, sym}
 use Rattle.cse_bounds.specs.CaseEvents.{moment}
+use Rattle.cse_machine.specs.Results.{AllFitFirst}
+use Rattle.cse_verify.specs.Verified.{VerifiedProgram}
 use Rattle.cse_batch.specs.Scene.{world_of}
-use Rattle.cse_batch.proofs.SceneLaws.{ran_fits, ran_scene}
-use Rattle.cse_batch.proofs.EndLaws.{fits_moment}
+use Rattle.cse_batch.proofs.SceneLaws.{all_fit, all_ran_fits, all_ran_scene, on_ok}
 use Rattle.cse_batch.proofs.events.run_event.Goals as goal
 
+pub run_events-requires-clause-fits : goal.run_events-requires-clause-fits
+run_events-requires-clause-fits g c =
+    let v = c.args.verified.now in
+    let case = Some c.args.case.now in
+    let store = c.args.store.now in
+    let m = moment c.args.event.code c.args.event.index c.args.occurrence in
+    let fit = all_fit v case (world_of case store) (m ∷ []) refl c.requires.goes_on (c.requires.there, tt) in
+    subst (λ (p : VerifiedProgram). AllFitFirst p (m ∷ []) case store) (sym c.requires.machine) fit
+
 pub returns-clause-scene : goal.returns-clause-scene
-returns-clause-scene g c = ran_scene _ _ _ _ _ _ _ _ _ (rw c.requires.machine at c.in_ok-run_event.ensures.ended)
+returns-clause-scene g c =
+    let v = c.args.verified.now in
+    let m = moment c.args.event.code c.args.event.index c.args.occurrence in
+    let ran = rw c.requires.machine at c.run_events.ensures.ended in
+    on_ok c.run_events.result (all_ran_scene v (m ∷ []) (Some c.args.case.now) (Some c.run_events.new.case) c.args.store.now c.run_events.new.store c.args.reports.now c.run_events.new.reports) ran
 
 pub returns-clause-goes_on : goal.returns-clause-goes_on
 returns-clause-goes_on g c =
     let v = c.args.verified.now in
     let case = Some c.args.case.now in
     let m = moment c.args.event.code c.args.event.index c.args.occurrence in
-    let fit = fits_moment v case (world_of case c.args.store.now) m refl c.requires.goes_on c.requires.there in
-    ran_fits v m case _ c.args.store.now _ _ _ _ c.event_ends.ensures fit (rw c.requires.machine at c.in_ok-run_event.ensures.ended)
+    let ran = rw c.requires.machine at c.run_events.ensures.ended in
+    on_ok c.run_events.result (all_ran_fits v c.event_ends.ensures c.args.case.now (m ∷ []) case (Some c.run_events.new.case) c.args.store.now c.run_events.new.store c.args.reports.now c.run_events.new.reports c.requires.goes_on (c.requires.there, tt)) ran

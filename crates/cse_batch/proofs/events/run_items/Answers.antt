@@ -1,28 +1,43 @@
-use Rattle.std.proofs.Common.{Some, arith, refl, ap, sym, ◌∙◌}
-use Rattle.std.proofs.lemmas.List.{drop_all}
+use Rattle.std.proofs.Common.{List, Some, ap, refl, subst, sym, ◌∙◌}
+use Rattle.cse_parts.specs.declared.entries.Event.{Event}
 use Rattle.cse_steps.specs.Fits.{occurrences_in}
-use Rattle.cse_batch.specs.Scene.{scene, scene_after_all}
-use Rattle.cse_batch.proofs.HandledLaws.{in_occurrence, items_scene, items_there}
+use Rattle.cse_machine.specs.Results.{AllFitFirst, in_occurrence}
+use Rattle.cse_verify.specs.Verified.{VerifiedProgram}
+use Rattle.cse_batch.specs.Scene.{scene, scene_after_all, world_of}
+use Rattle.cse_batch.proofs.HandledLaws.{items_scene, items_there}
+use Rattle.cse_batch.proofs.SceneLaws.{all_fit, all_ran_fits, all_ran_scene, on_ok}
 use Rattle.cse_batch.proofs.events.run_items.Goals as goal
 
-pub events-init : goal.events-init
-events-init g c =
+pub run_events-requires-clause-fits : goal.run_events-requires-clause-fits
+run_events-requires-clause-fits g c =
     let v = c.args.verified.now in
+    let case = Some c.args.case.now in
+    let store = c.args.store.now in
+    let o = c.args.occurrence in
     let es = c.args.handled.now.items.items in
-    let all = scene_after_all v (scene (Some c.args.case.now) c.args.store.now c.args.reports.now) (in_occurrence c.args.occurrence es) in
-    record {
-      same = c.requires.machine;
-      reports_fit = c.requires.reports;
-      goes_on = c.requires.goes_on;
-      there = items_there v.image (occurrences_in (Some c.args.case.now)) c.args.occurrence c.args.handled.now.number es c.requires.handled.items c.requires.low c.requires.high;
-      left = refl {a = all};
-    }
+    let there = items_there v.image (occurrences_in case) o c.args.handled.now.number es c.requires.handled.items c.requires.low c.requires.high in
+    let fit = all_fit v case (world_of case store) (in_occurrence o es) refl c.requires.goes_on there in
+    let same = subst (λ (l : List Event). AllFitFirst v (in_occurrence o l) case store) (sym c.deref.ensures.value) fit in
+    subst (λ (p : VerifiedProgram). AllFitFirst p (in_occurrence o c.deref.result.now) case store) (sym c.requires.machine) same
 
 pub returns-clause-scene : goal.returns-clause-scene
 returns-clause-scene g c =
     let v = c.args.verified.now in
+    let o = c.args.occurrence in
     let es = c.args.handled.now.items.items in
-    let now = scene (Some c.events.case) c.events.store c.events.reports in
-    let all = items_scene v c.args.handled.now.number c.args.occurrence (scene (Some c.args.case.now) c.args.store.now c.args.reports.now) es c.requires.handled.items in
-    let none = ap (λ l. scene_after_all v now (in_occurrence c.args.occurrence l)) (drop_all c.events.event-index es (omega (arith, c.events-test.false))) in
-    sym none ∙ c.events.invariant.left ∙ all
+    let before = scene (Some c.args.case.now) c.args.store.now c.args.reports.now in
+    let after = scene (Some c.run_events.new.case) c.run_events.new.store c.run_events.new.reports in
+    let all = items_scene v c.args.handled.now.number o before es c.requires.handled.items in
+    let same = ap (λ (l : List Event). scene_after_all v before (in_occurrence o l)) c.deref.ensures.value in
+    let ran = rw c.requires.machine at c.run_events.ensures.ended in
+    on_ok c.run_events.result (λ r. all_ran_scene v (in_occurrence o c.deref.result.now) (Some c.args.case.now) (Some c.run_events.new.case) c.args.store.now c.run_events.new.store c.args.reports.now c.run_events.new.reports r ∙ (same ∙ all)) ran
+
+pub returns-clause-goes_on : goal.returns-clause-goes_on
+returns-clause-goes_on g c =
+    let v = c.args.verified.now in
+    let case = Some c.args.case.now in
+    let o = c.args.occurrence in
+    let es = c.args.handled.now.items.items in
+    let there = items_there v.image (occurrences_in case) o c.args.handled.now.number es c.requires.handled.items c.requires.low c.requires.high in
+    let ran = rw (c.requires.machine, c.deref.ensures.value) at c.run_events.ensures.ended in
+    on_ok c.run_events.result (all_ran_fits v c.event_ends.ensures c.args.case.now (in_occurrence o es) case (Some c.run_events.new.case) c.args.store.now c.run_events.new.store c.args.reports.now c.run_events.new.reports c.requires.goes_on there) ran
