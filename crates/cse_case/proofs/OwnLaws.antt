@@ -14,6 +14,7 @@ use Rattle.cse_lines.specs.Run.{line_at, with_columns}
 use Rattle.cse_lines.proofs.LaidLaws.{laid_within, line_in}
 use Rattle.cse_case.specs.declared.ids.Ids.{Ids}
 use Rattle.cse_case.specs.declared.seen.Span.{Span}
+use Rattle.cse_case.specs.declared.seen.Table.{Table}
 use Rattle.cse_case.specs.Seen.{occurrence_places}
 use Rattle.cse_case.specs.Table.{IsTable, first_at, types_in}
 use Rattle.cse_case.specs.Case.{CaseText, IsOccurrence, items_of, place_of, places_of, records_of, with_item}
@@ -30,6 +31,13 @@ use Rattle.cse_case.proofs.TableLaws.{first_here}
 -- the case of lines that lie in these columns
 abbrev pub case_in : DictionaryText → List ℕ → List ℕ → List Line → Bool → ℕ → CaseText
 case_in d ids columns lines marked first_line = record { dictionary = d; ids = ids; run = record { lines = laid_lines columns lines; marked = marked; first_line = first_line } }
+
+-- what is read of a table that is the same
+pub span_in : (a b : Table) → a ≡ b → (n : ℕ) (s : Span) → s ≡ get_or a.spans.items n s → s ≡ get_or b.spans.items n s
+span_in a b e n s is = is ∙ ap (λ (t : Table). get_or t.spans.items n s) e
+
+pub first_in : (a b : Table) → a ≡ b → (n first : ℕ) → first ≡ get_or a.firsts.items n first → first ≡ get_or b.firsts.items n first
+first_in a b e n first is = is ∙ ap (λ (t : Table). get_or t.firsts.items n first) e
 
 -- the line of an occurrence, which begins at this column
 pub record OwnLine (c : CaseText) (columns : List ℕ) (lines : List Line) (r o first : ℕ) : Type 0 where

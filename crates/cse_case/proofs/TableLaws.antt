@@ -8,12 +8,16 @@ use Rattle.cse_value.specs.declared.shape.RecordShape.{RecordShape}
 use Rattle.cse_value.specs.Occurrences.{most_occurrences}
 use Rattle.cse_dict.specs.declared.lookup.Unseen.TheVariants.{Extra}
 use Rattle.cse_lines.specs.declared.line.Line.{Line}
+use Rattle.cse_lines.specs.declared.line.Ending.TheVariants.{FileEnd}
 use Rattle.cse_case.specs.declared.seen.Span.{Span}
-use Rattle.cse_case.specs.Seen.{is_of, places_from, unseen_after}
+use Rattle.cse_case.specs.Seen.{is_of, onto_unseen, places_from, unseen_after, unseen_from}
 use Rattle.cse_case.specs.Table.{AreCounts, AreSeen, IsSpan, IsTable, first_at, type_at, types_in}
-use Rattle.cse_case.specs.Found.{IsLonger}
-use Rattle.cse_case.proofs.SeenLaws.{AreCounts-extra, AreCounts-none, AreCounts-seen, AreCounts-unknown, IsTable-spans, extra_if_full, seen_if_room, take-more}
+use Rattle.cse_case.specs.Found.{AreFound, IsLonger}
+use Rattle.cse_case.proofs.SeenLaws.{AreCounts-extra, AreCounts-none, AreCounts-seen, AreCounts-unknown, IsTable-spans, extra_if_full, seen_if_room, take-more, type_is, unseen_from-next}
 use Rattle.cse_case.proofs.SightLaws.{place_there}
+
+no_line_at : Line
+no_line_at = record { first = 0; width = 0; len = 0; ending = FileEnd; record_number = None }
 
 abbrev counts_in : List Span → List ℕ
 counts_in spans = map (λ s. s.count) spans
@@ -135,6 +139,49 @@ pub extra_here : (records : List RecordShape) (lines : List Line) (place : ℕ) 
     → unseen_after records (take place (types_in lines)) (type_at lines place) ≡ Some Extra
 extra_here records lines place firsts spans r are own full =
     ap (unseen_after records (take place (types_in lines))) own ∙ extra_if_full records (take place (types_in lines)) (map (λ s. s.count) spans) r are.counts full
+
+-- ---- lines of a record that follow one another
+
+-- a span that is put in place twice
+set_again : (spans : List Span) (r : ℕ) (a b : Span) → set (set spans r a) r b ≡ set spans r b
+set_again [] r a b = refl
+set_again (s ∷ ss) zero a b = refl
+set_again (s ∷ ss) (suc r) a b = ap (λ l. s ∷ l) (set_again ss r a b)
+
+-- no line
+pub AreFound-none : (records : List RecordShape) (lines : List Line) (place : ℕ) (firsts : List ℕ) (spans : List Span) → AreSeen records lines place firsts spans → AreFound records lines place place firsts spans
+AreFound-none records lines place firsts spans are = record { far = omega arith; seen = are; none = λ n. refl }
+
+-- an occurrence is no unseen line
+passed : (records : List RecordShape) (lines : List Line) (place : ℕ) (n : ℕ) → place < length lines → unseen_after records (take place (types_in lines)) (type_at lines place) ≡ None
+    → unseen_from records (n + place) (take place (types_in lines)) (drop place (types_in lines)) ≡ unseen_from records (n + (place + 1)) (take (place + 1) (types_in lines)) (drop (place + 1) (types_in lines))
+passed records lines place n h seen =
+    let rest = unseen_from records (n + (place + 1)) (take (place + 1) (types_in lines)) (drop (place + 1) (types_in lines)) in
+    unseen_from-next records n lines place no_line_at h
+    ∙ ap (λ o. onto_unseen (n + place) o rest) (ap (unseen_after records (take place (types_in lines))) (sym (type_is lines place no_line_at h)) ∙ seen)
+
+-- an occurrence more
+pub AreFound-one : (records : List RecordShape) (lines : List Line) (from place : ℕ) (firsts new : List ℕ) (spans : List Span) (r : ℕ) (span longer : Span) → place < length lines
+    → AreFound records lines from place firsts spans → type_at lines place ≡ Some r → r < length records → r < length spans → span ≡ get_or spans r span → span.count < most_occurrences records r
+    → IsLonger span (first_at lines place) firsts new longer → AreFound records lines from (place + 1) new (set spans r longer)
+AreFound-one records lines from place firsts new spans r span longer h found own there low e room more = record {
+  far = omega (arith, found.far);
+  seen = AreSeen-occurrence records lines place firsts new spans r span longer h found.seen own there low e room more;
+  none = λ n. found.none n ∙ passed records lines place n h (seen_here records lines place firsts spans r span found.seen own there low e room);
+}
+
+-- the same where the span was put in place before
+pub AreFound-further : (records : List RecordShape) (lines : List Line) (from place : ℕ) (firsts new : List ℕ) (spans : List Span) (r : ℕ) (span longer : Span) → place < length lines
+    → AreFound records lines from place firsts (slice_set spans r span) → type_at lines place ≡ Some r → r < length records → r < length spans → span.count < most_occurrences records r
+    → IsLonger span (first_at lines place) firsts new longer → AreFound records lines from (place + 1) new (slice_set spans r longer)
+AreFound-further records lines from place firsts new spans r span longer h found own there low room more =
+    subst (AreFound records lines from (place + 1) new) (set_again spans r span longer)
+    (AreFound-one records lines from place firsts new (set spans r span) r span longer h found own there (omega (arith, length-set spans r span)) (sym (get_or-set_same spans r span span low)) room more)
+
+-- lines that follow others
+pub AreFound-then : (records : List RecordShape) (lines : List Line) (from place next : ℕ) (firsts new : List ℕ) (spans later : List Span) → AreFound records lines from place firsts spans
+    → AreFound records lines place next new later → AreFound records lines from next new later
+AreFound-then records lines from place next firsts new spans later a b = record { far = omega (arith, a.far, b.far); seen = b.seen; none = λ n. a.none n ∙ b.none n }
 
 -- before the first line
 pub AreSeen-none : (records : List RecordShape) (lines : List Line) (n : ℕ) → n ≡ length records → AreSeen records lines 0 [] (replicate n (record { start = 0; count = 0 }))

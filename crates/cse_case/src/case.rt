@@ -16,14 +16,14 @@ use crate::field::{Entry, field_of, line_columns, whole_field, write_field};
 use crate::ids::Ids;
 use crate::items::Items;
 use crate::number::number_in;
-use crate::seen::{Table, table_of};
+use crate::seen::{Table, fill_table};
 use crate::write::{mark, put_lines};
 use cse_dict::Unseen;
-use cse_lines::{Line, Run};
+use cse_lines::{Lines, Run};
 use cse_output::Gatherer;
 use cse_value::shape::{ID_OWNER, ItemKind, ItemShape};
 use cse_value::{Failed, Num, Output, Text, read_num, read_text};
-use std::alloc::AllocError;
+use std::alloc::{AllocError, Global};
 use std::marker::Model;
 
 /// A case: consecutive lines with equal id columns (CSPro Users Guide, data files), with the occurrences of
@@ -35,14 +35,13 @@ pub struct Case<'a> {
     items: Items<'a>,
     ids: Ids,
     columns: Vec<char>,
-    lines: Vec<Line>,
-    /// The bytes of the lines, as they came.
-    bytes: Vec<u8>,
+    /// The lines, and their bytes as they came.
+    kept: Box<Lines>,
     /// Whether a line was written into.
     is_set: bool,
     marked: bool,
     first_line: u64,
-    table: Table,
+    table: Box<Table>,
 }
 
 impl<'a> Model for Case<'a> {
@@ -57,10 +56,10 @@ impl<'a> Model for Case<'a> {
     ghost view = { λ c. record {
       dictionary = c.items;
       ids = ids_in c.ids c.columns.items;
-      run = record { lines = laid_lines c.columns.items c.lines.items; marked = c.marked; first_line = c.first_line };
+      run = record { lines = laid_lines c.columns.items c.kept.value.lines.items; marked = c.marked; first_line = c.first_line };
     } };
 
-    ghost invariant = { λ c. IsKept c.items c.ids c.columns.items c.lines.items c.bytes.items c.is_set c.first_line c.table.firsts.items c.table.spans.items c.table.unseen.items };
+    ghost invariant = { λ c. IsKept c.items c.ids c.columns.items c.kept.value.lines.items c.kept.value.bytes.items c.is_set c.first_line c.table.value.firsts.items c.table.value.spans.items c.table.value.unseen.items };
 }
 
 // Written out, so that a crate that owns a case calls this drop and does not prove one for each part.
@@ -70,8 +69,7 @@ impl<'a> Drop for Case<'a> {
             items: _items,
             ids: _ids,
             columns: _columns,
-            lines: _lines,
-            bytes: _bytes,
+            kept: _kept,
             is_set: _is_set,
             marked: _marked,
             first_line: _first_line,
@@ -84,12 +82,13 @@ impl<'a> Case<'a> {
     ghost use Rattle.cse_case.specs.Case.{IsOccurrence, columns_at, items_of, number_at, place_of, places_of, records_of, text_at, types_of, unseen_lines, with_item, with_number, with_text};
     ghost use Rattle.cse_case.specs.Fit.{IsFit, line_width};
 
-    /// The case of a run, with these id columns. Its occurrences are counted in `counts`, and its table has
-    /// the memory of another one.
+    /// The case of a run, with these id columns. Its occurrences are counted in `counts`, and its table is
+    /// filled anew.
     pub(crate) fn new(
+        alloc: Global,
         items: Items<'a>,
         counts: &mut Vec<u16>,
-        room: Table,
+        table: Box<Table>,
         ids: Ids,
         run: Run,
     ) -> Result<Case<'a>, AllocError>
@@ -99,20 +98,24 @@ impl<'a> Case<'a> {
         requires ids { AreIds items ids }
         ensures { IfOk result (λ c. c ≡ record { dictionary = items.entry; ids = ids_in ids (line_at run 0).columns; run = run }) }
     {
-        let (columns, lines, bytes, marked, first_line) = run.into_parts();
-        let table = table_of(
-            room,
+        let (columns, kept, marked, first_line) = run.into_parts();
+        let Some(kept) = kept else {
+            unreachable!();
+        };
+        let mut table = table;
+        fill_table(
+            alloc,
+            &mut table,
             counts,
             &items.dictionary().shape().records,
-            &lines,
+            &kept.lines,
             first_line,
         )?;
         Ok(Case {
             items,
             ids,
             columns,
-            lines,
-            bytes,
+            kept,
             is_set: false,
             marked,
             first_line,
@@ -120,27 +123,26 @@ impl<'a> Case<'a> {
         })
     }
 
-    /// Its vectors, which are no longer needed: those of its ids, of its table and of its run.
-    pub(crate) fn into_room(self) -> (Ids, Table, Vec<char>, Vec<Line>, Vec<u8>) {
+    /// What it lies in, which is no longer needed: its ids, its table, and its columns and lines.
+    pub(crate) fn into_room(self) -> (Ids, Box<Table>, Vec<char>, Box<Lines>) {
         let Case {
             items: _,
             ids,
             columns,
-            lines,
-            bytes,
+            kept,
             is_set: _,
             marked: _,
             first_line: _,
             table,
         } = self;
-        (ids, table, columns, lines, bytes)
+        (ids, table, columns, kept)
     }
 
     /// Whether the run has a line that is an occurrence of a record.
     pub fn is_case(&self) -> bool
         ensures { result ≡ is_case (records_of self.now) (types_of self.now.run.lines) }
     {
-        self.table.unseen.len() < self.lines.len()
+        self.table.unseen.len() < self.kept.lines.len()
     }
 
     /// How many lines the run has: one at least. The case fits its dictionary.
@@ -148,7 +150,7 @@ impl<'a> Case<'a> {
         ensures lines { result ≡ length self.now.run.lines }
         ensures fits { IsFit self.now }
     {
-        self.lines.len() as u64
+        self.kept.lines.len() as u64
     }
 
     /// The lines that are no occurrence, each with its number in the file.
@@ -215,7 +217,7 @@ impl<'a> Case<'a> {
         ensures columns { result.now ≡ columns_at self.now place item }
         ensures text { (item_at (items_of self.now) item).kind ≡ AText → length result.now ≤ 255 }
     {
-        let line = self.lines[place];
+        let line = self.kept.lines[place];
         field_of(self.item(item), line_columns(&self.columns, line))
     }
 
@@ -362,9 +364,9 @@ impl<'a> Case<'a> {
     {
         gatherer.put(out, mark(self.marked));
         if self.is_set {
-            put_lines(gatherer, out, &self.columns, &self.lines);
+            put_lines(gatherer, out, &self.columns, &self.kept.lines);
         } else {
-            gatherer.put(out, &self.bytes);
+            gatherer.put(out, &self.kept.bytes);
         }
     }
 

@@ -1,14 +1,15 @@
 //! Which lines of a run are seen, and as which occurrence of their record.
 
-ghost use Rattle.std.specs.Prelude.{◌≡◌, ◌≤◌, ◌<◌, ◌+◌, ◌++◌, ◌∷◌, [], ◌^◌, ℕ, List, Option, IfOk, IfSome, OnOk, map, take, length, slice_index, true, vec_len};
+ghost use Rattle.std.specs.Prelude.{◌≡◌, ◌≤◌, ◌<◌, ◌+◌, ◌++◌, ◌∷◌, [], ◌^◌, ℕ, List, Option, IfOk, IfSome, OnOk, map, replicate, take, length, slice_index, true, vec_len};
 ghost use Rattle.cse_case.specs.Seen.{is_of, places_from, unseen_after, unseen_of};
 ghost use Rattle.cse_case.specs.Table.{AreCounts, AreSeen, AreSpans, IsTable, first_at, types_in};
-ghost use Rattle.cse_case.specs.Found.{IsFound, IsLonger};
+ghost use Rattle.cse_case.specs.Found.{GoesOnWith, IsFound, IsLonger};
 
 use cse_dict::Unseen;
 use cse_lines::Line;
 use cse_value::shape::RecordShape;
 use std::alloc::{AllocError, Global};
+use std::mem;
 
 /// The vector without its elements, in the memory that it has.
 fn emptied<T: Drop>(mut room: Vec<T>) -> Vec<T>
@@ -126,8 +127,8 @@ fn place_lines(
 
 /// What a line is found to be in the table of its run.
 pub enum Found {
-    /// An occurrence that follows those of its record.
-    Occurrence,
+    /// An occurrence that follows those of its record, and so are the lines behind it up to this place.
+    Occurrences(usize),
     /// No occurrence.
     Unseen(Unseen),
     /// An occurrence with lines of other records between it and those of its own.
@@ -156,7 +157,33 @@ fn add_occurrence(
     Ok(true)
 }
 
-/// Adds a line to the occurrences of its record, if it is one and follows them.
+/// Adds the lines from a place on that are of this record, as long as there may be more of it, to its span,
+/// which stands at the end of the list. Tells where they end.
+fn add_following(
+    span: &mut Span,
+    firsts: &mut Vec<usize>,
+    lines: &[Line],
+    place: usize,
+    number: u16,
+    most: u16,
+) -> Result<usize, AllocError>
+    requires fits { span.old.start + span.old.count ≡ length firsts.old.items }
+    ensures { IfOk result (λ next. GoesOnWith number most lines.now place span.old firsts.old.items next span.new firsts.new.items) }
+{
+    let mut next = place;
+    'lines: while next < lines.len() && span.count < most {
+        let line = &lines[next];
+        if !is_of(number as usize, line.record_number) {
+            return Ok(next);
+        }
+        firsts.push(line.first)?;
+        span.count += 1;
+        next += 1;
+    }
+    Ok(next)
+}
+
+/// Adds a line to the occurrences of its record, if it is one and follows them, with those behind it.
 fn see_line(
     spans: &mut Vec<Span>,
     firsts: &mut Vec<usize>,
@@ -169,21 +196,37 @@ fn see_line(
     ensures { IfOk result (IsFound records.now lines.now place firsts.new.items spans.new.items) }
 {
     let line = &lines[place];
-    let Some(record) = line.record_number else {
+    let Some(number) = line.record_number else {
         return Ok(Found::Unseen(Unseen::Unknown));
     };
-    let record = record as usize;
+    let record = number as usize;
     if record < records.len() {
         let most = records[record].max_records;
         let span = spans[record];
         if span.count < most {
-            if add_occurrence(&mut spans[record], firsts, line.first)? {
-                return Ok(Found::Occurrence);
+            let own = &mut spans[record];
+            if !add_occurrence(own, firsts, line.first)? {
+                return Ok(Found::Apart);
             }
-            return Ok(Found::Apart);
+            let next = add_following(own, firsts, lines, place + 1, number, most)?;
+            return Ok(Found::Occurrences(next));
         }
     }
     Ok(Found::Unseen(Unseen::Extra))
+}
+
+/// No occurrences of each record.
+fn clear_spans(spans: &mut Vec<Span>, count: usize) -> Result<(), AllocError>
+    ensures { OnOk result (spans.new.items ≡ replicate count (record { start = 0; count = 0 })) }
+{
+    if spans.len() != count {
+        spans.clear();
+        return spans.resize(count, Span { start: 0, count: 0 });
+    }
+    'spans: for i in 0..spans.len() {
+        spans[i] = Span { start: 0, count: 0 };
+    }
+    Ok(())
 }
 
 /// Fills the table of a run whose lines follow one another record by record, and tells whether they do. The
@@ -200,14 +243,17 @@ fn see_lines(
     ensures table { IfOk result (λ whole. whole ≡ true → IsTable records.now lines.now firsts.new.items spans.new.items) }
     ensures unseen { IfOk result (λ whole. whole ≡ true → unseen.new.items ≡ unseen_of records.now number (types_in lines.now)) }
 {
-    spans.clear();
-    spans.resize(records.len(), Span { start: 0, count: 0 })?;
+    clear_spans(spans, records.len())?;
     firsts.clear();
     unseen.clear();
-    'lines: for place in 0..lines.len() {
+    let mut place = 0;
+    'lines: while place < lines.len() {
         match see_line(spans, firsts, records, lines, place)? {
-            Found::Occurrence => {}
-            Found::Unseen(why) => unseen.push((number + place as u64, why))?,
+            Found::Occurrences(next) => place = next,
+            Found::Unseen(why) => {
+                unseen.push((number + place as u64, why))?;
+                place += 1;
+            }
             Found::Apart => return Ok(false),
         }
     }
@@ -234,37 +280,40 @@ impl Table {
     }
 }
 
-/// The table of a run's lines, of which the first has this number, in the memory of another one. Most runs
-/// have the lines of each record together, and are gone through once. For the others the lines are counted
-/// first, anew in the memory that the counts have.
-pub fn table_of(
-    room: Table,
+/// Fills a table anew with a run's lines, of which the first has this number. Most runs have the lines of each
+/// record together, and are gone through once. For the others the lines are counted first, anew in the memory
+/// that the counts have.
+pub fn fill_table(
+    alloc: Global,
+    table: &mut Table,
     counts: &mut Vec<u16>,
     records: &[RecordShape],
     lines: &[Line],
     number: u64,
-) -> Result<Table, AllocError>
+) -> Result<(), AllocError>
     requires { number + length lines.now < 2 ^ 64 }
-    ensures table { IfOk result (λ t. IsTable records.now lines.now t.firsts.items t.spans.items) }
-    ensures unseen { IfOk result (λ t. t.unseen.items ≡ unseen_of records.now number (types_in lines.now)) }
+    ensures table { OnOk result (IsTable records.now lines.now table.new.firsts.items table.new.spans.items) }
+    ensures unseen { OnOk result (table.new.unseen.items ≡ unseen_of records.now number (types_in lines.now)) }
 {
     let Table {
-        mut spans,
-        mut firsts,
-        mut unseen,
-    } = room;
-    if see_lines(&mut spans, &mut firsts, &mut unseen, records, lines, number)? {
-        return Ok(Table {
-            spans,
-            firsts,
-            unseen,
-        });
-    }
-    let unseen = count_lines(unseen, counts, records, lines, number)?;
-    let (spans, firsts) = place_lines(spans, firsts, lines, counts)?;
-    Ok(Table {
         spans,
         firsts,
         unseen,
-    })
+    } = table;
+    if see_lines(spans, firsts, unseen, records, lines, number)? {
+        return Ok(());
+    }
+    let Table {
+        spans,
+        firsts,
+        unseen,
+    } = mem::replace(table, Table::new(alloc));
+    let unseen = count_lines(unseen, counts, records, lines, number)?;
+    let (spans, firsts) = place_lines(spans, firsts, lines, counts)?;
+    *table = Table {
+        spans,
+        firsts,
+        unseen,
+    };
+    Ok(())
 }

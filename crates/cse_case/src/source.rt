@@ -27,7 +27,7 @@ pub struct Source<'a> {
     is_known: bool,
     counts: Vec<u16>,
     ids: Vec<char>,
-    table: Table,
+    table: Option<Box<Table>>,
 }
 
 impl<'a> Model for Source<'a> {
@@ -81,7 +81,7 @@ impl<'a> Source<'a> {
             is_known: false,
             counts: Vec::new(alloc),
             ids: Vec::new(alloc),
-            table: Table::new(alloc),
+            table: None,
         }
     }
 
@@ -108,13 +108,13 @@ impl<'a> Source<'a> {
     }
 
     /// Takes back the memory of a case's ids and table.
-    pub fn take_back(&mut self, ids: Ids, table: Table)
+    pub fn take_back(&mut self, ids: Ids, table: Box<Table>)
         ensures { self.new ≡ self.old }
     {
         if let Ids::Copied(ids) = ids {
             self.ids = ids;
         }
-        self.table = table;
+        self.table = Some(table);
     }
 
     /// The case of a run. It lies in the memory of the one that was taken back, and in new memory where that
@@ -127,7 +127,10 @@ impl<'a> Source<'a> {
         ensures made { IfOk result (λ c. c ≡ record { dictionary = self.old; ids = ids_of self.old (line_at run 0).columns; run = run }) }
     {
         let ids = self.ids_of(alloc, run.columns(0))?;
-        let table = mem::replace(&mut self.table, Table::new(alloc));
-        Case::new(self.items.again(), &mut self.counts, table, ids, run)
+        let table = match self.table.take() {
+            Some(table) => table,
+            None => Box::new(alloc, Table::new(alloc))?,
+        };
+        Case::new(alloc, self.items.again(), &mut self.counts, table, ids, run)
     }
 }

@@ -90,9 +90,9 @@ impl<'a> CaseStream<'a> {
     pub fn take_back(&mut self, case: Case<'_>)
         ensures { self.new ≡ self.old }
     {
-        let (ids, table, columns, lines, bytes) = case.into_room();
+        let (ids, table, columns, lines) = case.into_room();
         self.source.take_back(ids, table);
-        self.runs.take_back(columns, lines, bytes);
+        self.runs.take_back(columns, lines);
     }
 
     /// The next case of the input, or that there is none. After an error the same error is answered.

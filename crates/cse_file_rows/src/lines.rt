@@ -89,13 +89,15 @@ fn tell_run(told: &mut Vec<u8>, run: Run) -> Result<(), AllocError> {
     for i in 0..run.len() {
         tell_columns(told, run.columns(i))?;
     }
-    let (_, lines, _, marked, first_line) = run.into_parts();
+    let (_, kept, marked, first_line) = run.into_parts();
     tell_number(told, first_line)?;
     if marked {
         told.extend_from_slice(b"m")?;
     }
-    for line in &lines {
-        tell_line(told, *line)?;
+    if let Some(kept) = kept {
+        for line in &kept.lines {
+            tell_line(told, *line)?;
+        }
     }
     told.extend_from_slice(b"\n")
 }

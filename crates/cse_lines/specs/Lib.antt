@@ -1,4 +1,5 @@
 pub mod Line
+pub mod Lines
 pub mod Field
 pub mod Columns
 pub mod Written

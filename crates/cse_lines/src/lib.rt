@@ -25,5 +25,5 @@ pub mod untouched;
 pub use error::DataError;
 pub use line::{Ending, Line};
 pub use reader::{Kept, RunReader};
-pub use run::Run;
+pub use run::{Lines, Run};
 pub use untouched::untouched_line_stays;

@@ -7,9 +7,8 @@ ghost use Rattle.cse_lines.specs.Reader.{HoldsLittle, Next, held_of};
 use crate::buffer::Buffer;
 use crate::error::DataError;
 use crate::layout::Layout;
-use crate::line::Line;
 use crate::next::next_by_layout;
-use crate::run::{Room, Run};
+use crate::run::{Lines, Room, Run};
 use cse_dict::Dictionary;
 use cse_value::Input;
 use std::alloc::Global;
@@ -123,14 +122,14 @@ impl<'a> RunReader<'a> {
         }
     }
 
-    /// Takes back the vectors of a run that was given: their memory, unless it is large, serves a later
-    /// run. A caller who gives each run back before the next but one lets the reader read on in the memory
+    /// Takes back the columns and the lines of a run that was given: their memory, unless it is large, serves
+    /// a later run. A caller who gives each run back before the next but one lets the reader read on in the memory
     /// that it has.
-    pub fn take_back(&mut self, columns: Vec<char>, lines: Vec<Line>, bytes: Vec<u8>)
+    pub fn take_back(&mut self, columns: Vec<char>, lines: Box<Lines>)
         ensures { self.new ≡ self.old }
     {
         if columns.len() <= MOST_ROOM {
-            self.room = Room::of(columns, lines, bytes);
+            self.room = Room::of(columns, lines);
         }
     }
 

@@ -1,12 +1,13 @@
 //! Runs of lines.
 
-ghost use Rattle.std.specs.Prelude.{◌≡◌, ◌<◌, ◌≤◌, ◌+◌, ◌++◌, ◌∷◌, [], ℕ, List, IfNone, IfOk, IfSome, OnErr, OnOk, drop, false, length, take};
+ghost use Rattle.std.specs.Prelude.{◌≡◌, ◌<◌, ◌≤◌, ◌+◌, ◌++◌, ◌∷◌, [], ℕ, List, Bool, IfNone, IfOk, IfSome, IsSome, OnErr, OnOk, drop, false, length, take};
 ghost use Rattle.std.specs.List.{flat_map};
-ghost use Rattle.cse_lines.specs.Alike.{GoesOnFrom};
+ghost use Rattle.cse_lines.specs.Alike.{GoesOnFrom, laid_run};
 ghost use Rattle.cse_lines.specs.Decoding.{line_with};
 ghost use Rattle.cse_lines.specs.Laid.{IsLaid, laid_lines, line_behind};
+ghost use Rattle.cse_lines.specs.Lines.{AreSame, bytes_in, lines_in};
 ghost use Rattle.cse_lines.specs.Run.{IsLastLine, line_at, with_line};
-ghost use Rattle.cse_lines.specs.Written.{mark_bytes, written_line};
+ghost use Rattle.cse_lines.specs.Written.{IsWhole, mark_bytes, written_line};
 
 use crate::alike::{part, push_lines};
 use crate::decode::Head;
@@ -15,12 +16,21 @@ use crate::line::Line;
 use std::alloc::{AllocError, Global};
 use std::marker::Model;
 
+/// The lines of a run, as they lie in its columns, and their bytes, as they came. They stand in memory of their
+/// own, so that a run that is handed on is a few words.
+#[derive(Drop)]
+pub struct Lines {
+    pub lines: Vec<Line>,
+    pub bytes: Vec<u8>,
+}
+
 /// Consecutive lines with equal id columns. The columns of all lines stand in one list, one line after
-/// the other, each padded with blanks to its width; and their bytes, as they came, in another.
+/// the other, each padded with blanks to its width.
 pub struct Run {
+    alloc: Global,
     columns: Filled,
-    lines: Vec<Line>,
-    bytes: Vec<u8>,
+    /// None before the first line.
+    lines: Option<Box<Lines>>,
     marked: bool,
     first_line: u64,
 }
@@ -31,19 +41,20 @@ impl Model for Run {
     ghost Value = { RunText };
 
     ghost use Rattle.cse_lines.specs.Laid.{laid_lines};
+    ghost use Rattle.cse_lines.specs.Lines.{bytes_in, lines_in};
     ghost use Rattle.cse_lines.specs.Written.{IsWhole};
 
-    ghost view = { λ r. record { lines = laid_lines r.columns r.lines.items; marked = r.marked; first_line = r.first_line } };
+    ghost view = { λ r. record { lines = laid_lines r.columns (lines_in r.lines); marked = r.marked; first_line = r.first_line } };
 
-    ghost invariant = { λ r. IsWhole r.columns r.lines.items r.bytes.items };
+    ghost invariant = { λ r. IsWhole r.columns (lines_in r.lines) (bytes_in r.lines) };
 }
 
 impl Drop for Run {
     fn drop(self) {
         let Run {
+            alloc: _alloc,
             columns: _columns,
             lines: _lines,
-            bytes: _bytes,
             marked: _marked,
             first_line: _first_line,
         } = self;
@@ -54,8 +65,7 @@ impl Drop for Run {
 #[derive(Drop)]
 pub struct Room {
     columns: Vec<char>,
-    lines: Vec<Line>,
-    bytes: Vec<u8>,
+    lines: Option<Box<Lines>>,
 }
 
 impl Room {
@@ -63,19 +73,46 @@ impl Room {
     pub(crate) fn new(alloc: Global) -> Room {
         Room {
             columns: Vec::new(alloc),
-            lines: Vec::new(alloc),
-            bytes: Vec::new(alloc),
+            lines: None,
         }
     }
 
     /// The room of a run that is no longer needed.
-    pub(crate) fn of(columns: Vec<char>, lines: Vec<Line>, bytes: Vec<u8>) -> Room {
+    pub(crate) fn of(columns: Vec<char>, lines: Box<Lines>) -> Room {
         Room {
             columns,
-            lines,
-            bytes,
+            lines: Some(lines),
         }
     }
+}
+
+/// No lines, in the memory of others.
+fn emptied(room: Option<Box<Lines>>) -> Option<Box<Lines>>
+    ensures lines { lines_in result ≡ [] }
+    ensures bytes { bytes_in result ≡ [] }
+{
+    let mut lines = room?;
+    lines.lines.clear();
+    lines.bytes.clear();
+    Some(lines)
+}
+
+/// Takes memory for lines, where none is there.
+fn keep_lines(alloc: Global, lines: &mut Option<Box<Lines>>) -> Result<(), AllocError>
+    ensures there { OnOk result (IsSome lines.new) }
+    ensures same { AreSame lines.old lines.new }
+{
+    match lines {
+        Some(_) => {}
+        None => {
+            let none = Lines {
+                lines: Vec::new(alloc),
+                bytes: Vec::new(alloc),
+            };
+            *lines = Some(Box::new(alloc, none)?);
+        }
+    }
+    Ok(())
 }
 
 /// The bytes of a line behind the mark, where that stands before it.
@@ -117,6 +154,64 @@ fn push_line(
     Ok(())
 }
 
+impl Lines {
+    /// Appends a line and its columns, and its bytes.
+    #[inline(always)]
+    fn push(
+        &mut self,
+        columns: &mut Filled,
+        text: &[char],
+        head: Head,
+        bytes: &[u8],
+    ) -> Result<(), AllocError>
+        ensures columns { OnOk result (columns.new ≡ columns.old ++ text.now) }
+        ensures lines { OnOk result (self.new.lines.items ≡ self.old.lines.items ++ line_behind columns.old text.now head ∷ []) }
+        ensures bytes { OnOk result (self.new.bytes.items ≡ self.old.bytes.items ++ bytes.now) }
+        ensures same_columns { OnErr result (columns.new ≡ columns.old) }
+        ensures same_lines { OnErr result (self.new.lines.items ≡ self.old.lines.items) }
+        ensures same_bytes { OnErr result (self.new.bytes.items ≡ self.old.bytes.items) }
+    {
+        let len = self.bytes.len();
+        self.bytes.extend_from_slice(bytes)?;
+        if let Err(refused) = push_line(columns, &mut self.lines, text, head) {
+            self.bytes.truncate(len);
+            return Err(refused);
+        }
+        Ok(())
+    }
+
+    /// Appends the first of the bytes that are lines like the last one, which they follow, and their columns.
+    /// Tells how many bytes.
+    #[inline(always)]
+    fn push_alike(
+        &mut self,
+        columns: &mut Filled,
+        width: usize,
+        bytes: &[u8],
+    ) -> Result<usize, AllocError>
+        requires whole { IsWhole columns.old self.old.lines.items self.old.bytes.items }
+        ensures whole { IsWhole columns.new self.new.lines.items self.new.bytes.items }
+        ensures fits { IfOk result (λ n. n ≤ length bytes.now) }
+        ensures more { IfOk result (λ n. (marked : Bool) (first_line : ℕ) → GoesOnFrom width (laid_run columns.old self.old.lines.items marked first_line) bytes.now (laid_run columns.new self.new.lines.items marked first_line) (drop n bytes.now)) }
+    {
+        let count = self.lines.len();
+        if count == 0 {
+            return Ok(0);
+        }
+        let last = self.lines[count - 1];
+        let len = columns.len();
+        let taken = push_lines(columns, &mut self.lines, last, width, bytes);
+        if taken > 0 {
+            if let Err(refused) = self.bytes.extend_from_slice(&bytes[..taken]) {
+                columns.truncate(len);
+                self.lines.truncate(count);
+                return Err(refused);
+            }
+        }
+        Ok(taken)
+    }
+}
+
 impl Run {
     /// A run without lines, which takes no memory.
     pub(crate) fn new(alloc: Global, first_line: u64) -> Run
@@ -125,31 +220,25 @@ impl Run {
         ensures first_line { result.first_line ≡ first_line }
     {
         Run {
+            alloc,
             columns: Filled::new(alloc),
-            lines: Vec::new(alloc),
-            bytes: Vec::new(alloc),
+            lines: None,
             marked: false,
             first_line,
         }
     }
 
     /// A run without lines in this room.
-    pub(crate) fn in_room(room: Room, first_line: u64) -> Run
+    pub(crate) fn in_room(alloc: Global, room: Room, first_line: u64) -> Run
         ensures lines { result.lines ≡ [] }
         ensures marked { result.marked ≡ false }
         ensures first_line { result.first_line ≡ first_line }
     {
-        let Room {
-            columns,
-            mut lines,
-            mut bytes,
-        } = room;
-        lines.clear();
-        bytes.clear();
+        let Room { columns, lines } = room;
         Run {
+            alloc,
             columns: Filled::over(columns),
-            lines,
-            bytes,
+            lines: emptied(lines),
             marked: false,
             first_line,
         }
@@ -167,13 +256,12 @@ impl Run {
         requires bytes { line.now ≡ mark_bytes head.marked ++ written_line (line_with columns.now head) }
         ensures { OnOk result (self.new ≡ with_line self.old head.marked (line_with columns.now head)) }
     {
-        let len = self.bytes.len();
-        self.bytes
-            .extend_from_slice(behind_mark(line, head.marked))?;
-        if let Err(refused) = push_line(&mut self.columns, &mut self.lines, columns, head) {
-            self.bytes.truncate(len);
-            return Err(refused);
-        }
+        keep_lines(self.alloc, &mut self.lines)?;
+        let Some(lines) = &mut self.lines else {
+            unreachable!();
+        };
+        let bytes = behind_mark(line, head.marked);
+        lines.push(&mut self.columns, columns, head, bytes)?;
         self.marked = self.marked || head.marked;
         Ok(())
     }
@@ -185,47 +273,40 @@ impl Run {
         ensures fits { IfOk result (λ n. n ≤ length bytes.now) }
         ensures more { IfOk result (λ n. GoesOnFrom width self.old bytes.now self.new (drop n bytes.now)) }
     {
-        let count = self.lines.len();
-        if count == 0 {
-            return Ok(0);
+        match &mut self.lines {
+            Some(kept) => kept.push_alike(&mut self.columns, width, bytes),
+            None => Ok(0),
         }
-        let last = self.lines[count - 1];
-        let len = self.columns.len();
-        let taken = push_lines(&mut self.columns, &mut self.lines, last, width, bytes);
-        if taken > 0 {
-            if let Err(refused) = self.bytes.extend_from_slice(&bytes[..taken]) {
-                self.columns.truncate(len);
-                self.lines.truncate(count);
-                return Err(refused);
-            }
-        }
-        Ok(taken)
     }
 
-    /// Its columns, its lines and their bytes, whether it is marked, and the number of its first line. The
-    /// lines lie one after the other in the columns, and are written as these bytes.
-    pub fn into_parts(self) -> (Vec<char>, Vec<Line>, Vec<u8>, bool, u64)
-        ensures lines { laid_lines result.0.items result.1.items ≡ self.lines }
-        ensures laid { IsLaid 0 result.0.items result.1.items }
-        ensures bytes { result.2.items ≡ flat_map written_line self.lines }
-        ensures marked { result.3 ≡ self.marked }
-        ensures first_line { result.4 ≡ self.first_line }
+    /// Its columns, its lines with their bytes, whether it is marked, and the number of its first line. The
+    /// lines lie one after the other in the columns, and are written as these bytes. Nothing is kept of the
+    /// lines where there is none.
+    pub fn into_parts(self) -> (Vec<char>, Option<Box<Lines>>, bool, u64)
+        ensures lines { laid_lines result.0.items (lines_in result.1) ≡ self.lines }
+        ensures laid { IsLaid 0 result.0.items (lines_in result.1) }
+        ensures bytes { bytes_in result.1 ≡ flat_map written_line self.lines }
+        ensures marked { result.2 ≡ self.marked }
+        ensures first_line { result.3 ≡ self.first_line }
     {
         let Run {
+            alloc: _,
             columns,
             lines,
-            bytes,
             marked,
             first_line,
         } = self;
-        (columns.into_columns(), lines, bytes, marked, first_line)
+        (columns.into_columns(), lines, marked, first_line)
     }
 
     /// How many lines it has.
     pub fn len(&self) -> usize
         ensures { result ≡ length self.now.lines }
     {
-        self.lines.len()
+        match &self.lines {
+            Some(kept) => kept.lines.len(),
+            None => 0,
+        }
     }
 
     /// The number of its first line in the file, counted from 1.
@@ -240,11 +321,14 @@ impl Run {
         ensures none { IfNone result (self.now.lines ≡ []) }
         ensures some { IfSome result (λ last. IsLastLine self.now last.0.now last.1) }
     {
-        let len = self.lines.len();
+        let Some(kept) = &self.lines else {
+            return None;
+        };
+        let len = kept.lines.len();
         if len == 0 {
             return None;
         }
-        let line = self.lines[len - 1];
+        let line = kept.lines[len - 1];
         Some((
             part(self.columns.as_slice(), line.first, line.width),
             line.record_number,
@@ -256,7 +340,10 @@ impl Run {
         requires { i < length self.now.lines }
         ensures { result.now ≡ (line_at self.now i).columns }
     {
-        let line = self.lines[i];
+        let Some(kept) = &self.lines else {
+            unreachable!();
+        };
+        let line = kept.lines[i];
         part(self.columns.as_slice(), line.first, line.width)
     }
 }

@@ -88,7 +88,7 @@ pub fn end_run(
 {
     let number = run.first_line() + run.len() as u64;
     let room = mem::replace(room, Room::new(alloc));
-    let next = Run::in_room(room, number);
+    let next = Run::in_room(alloc, room, number);
     let given = mem::replace(run, next);
     run.push(columns, head, line)?;
     Ok(given)

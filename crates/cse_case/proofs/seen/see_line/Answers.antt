@@ -1,4 +1,4 @@
-use Rattle.std.proofs.Common.{subst, ◌≡◌, ◌<◌, ◌≤◌, length, map, take, get_or, None, Some, ap, ◌∙◌, arith}
+use Rattle.std.proofs.Common.{subst, sym, ◌≡◌, ◌<◌, ◌≤◌, ◌+◌, length, map, take, get_or, None, Some, ap, ◌∙◌, arith}
 use Rattle.cse_value.specs.declared.shape.RecordShape.{RecordShape}
 use Rattle.cse_value.specs.Occurrences.{most_occurrences}
 use Rattle.cse_lines.specs.declared.line.Line.{Line}
@@ -9,7 +9,7 @@ use Rattle.cse_case.specs.Seen.{unseen_after}
 use Rattle.cse_case.specs.Table.{first_at, type_at, types_in}
 use Rattle.cse_case.specs.Found.{IsLonger}
 use Rattle.cse_case.proofs.SeenLaws.{most_at, type_is}
-use Rattle.cse_case.proofs.TableLaws.{AreSeen-extra, AreSeen-occurrence, AreSeen-unknown, count_at, extra_here, first_here, seen_here, span_same}
+use Rattle.cse_case.proofs.TableLaws.{AreFound-none, AreFound-one, AreFound-then, AreSeen-extra, AreSeen-unknown, count_at, extra_here, first_here, span_same}
 use Rattle.cse_case.proofs.seen.see_line.Goals as goal
 
 abbrev no_line : Line
@@ -25,25 +25,27 @@ returns-in_default c =
       AreSeen-unknown c.args.records.now c.args.lines.now c.args.place c.args.firsts.now.items c.args.spans.now.items c.requires.place c.requires.seen own,
     )
 
-pub returns-then-branch : goal.returns-then-branch
-returns-then-branch c =
+pub returns-then-span-most : goal.returns-then-span-most
+returns-then-span-most c =
     let records = c.args.records.now in
     let lines = c.args.lines.now in
     let place = c.args.place in
     let firsts = c.args.firsts.now.items in
     let spans = c.args.spans.now.items in
-    let r = c.in-Some.record in
-    let span = c.index_mut.result.now in
+    let r = c.in-Some.number in
+    let span = c.index_mut-own.result.now in
     let own : type_at lines place ≡ Some r = type_is lines place no_line c.requires.place ∙ c.in-Some.is in
     let low : r < length spans = omega (arith, c.if-record-records.true, c.requires.seen.counts.size, length-map spans (λ s. s.count)) in
-    let same = span_same spans r c.index-span.result.now span low c.index-span.ensures c.index_mut.ensures.value in
+    let same = span_same spans r c.index-span.result.now span low c.index-span.ensures c.index_mut-own.ensures.value in
     let most : c.index-span.result.now.count < most_occurrences records r = rw (most_at records r no_record c.if-record-records.true) c.if-span-most.true in
     let room : span.count < most_occurrences records r = subst (λ (s : Span). s.count < most_occurrences records r) same most in
-    let longer = c.in_ok-add_occurrence.ensures c.if-branch.true in
-    let more : IsLonger span (first_at lines place) firsts c.add_occurrence.new.firsts.items c.add_occurrence.new.span = rw (first_here lines place no_line c.requires.place) longer in (
-      seen_here records lines place firsts spans r span c.requires.seen own c.if-record-records.true low c.index_mut.ensures.value room,
-      AreSeen-occurrence records lines place firsts c.add_occurrence.new.firsts.items spans r span c.add_occurrence.new.span c.requires.place c.requires.seen own c.if-record-records.true low
-          c.index_mut.ensures.value room more,
+    let longer = c.in_ok-add_occurrence.ensures c.if-not-branch.false in
+    let more : IsLonger span (first_at lines place) firsts c.add_occurrence.new.firsts.items c.add_occurrence.new.span = rw (first_here lines place no_line c.requires.place) longer in
+    let one = AreFound-one records lines place place firsts c.add_occurrence.new.firsts.items spans r span c.add_occurrence.new.span c.requires.place
+    (AreFound-none records lines place firsts spans c.requires.seen) own c.if-record-records.true low c.index_mut-own.ensures.value room more in
+    let others = c.in_ok-next.ensures records spans c.if-record-records.true (sym (most_at records r no_record c.if-record-records.true)) low one.seen in (
+      omega (arith, others.far),
+      AreFound-then records lines place (place + 1) c.in_ok-next.next c.add_occurrence.new.firsts.items c.add_following.new.firsts.items _ _ one others,
     )
 
 pub returns-else-span-most : goal.returns-else-span-most
@@ -53,7 +55,7 @@ returns-else-span-most c =
     let place = c.args.place in
     let firsts = c.args.firsts.now.items in
     let spans = c.args.spans.now.items in
-    let r = c.in-Some.record in
+    let r = c.in-Some.number in
     let span = c.index-span.result.now in
     let own : type_at lines place ≡ Some r = type_is lines place no_line c.requires.place ∙ c.in-Some.is in
     let low : r < length spans = omega (arith, c.if-record-records.true, c.requires.seen.counts.size, length-map spans (λ s. s.count)) in
@@ -68,7 +70,7 @@ returns-else-record-records c =
     let place = c.args.place in
     let firsts = c.args.firsts.now.items in
     let spans = c.args.spans.now.items in
-    let r = c.in-Some.record in
+    let r = c.in-Some.number in
     let own : type_at lines place ≡ Some r = type_is lines place no_line c.requires.place ∙ c.in-Some.is in
     let full : r < length records → most_occurrences records r ≤ get_or (map (λ s. s.count) spans) r 0 = λ low. absurd (omega (arith, c.if-record-records.false)) in
     (extra_here records lines place firsts spans r c.requires.seen own full, AreSeen-extra records lines place firsts spans r c.requires.place c.requires.seen own full)

@@ -1,7 +1,10 @@
-use Rattle.std.proofs.Common.{◌≡◌, ◌+◌, ◌++◌, take, drop}
+use Rattle.std.proofs.Common.{◌≡◌, ◌+◌, ◌++◌, ◌-◌, length, take, drop}
 use Rattle.cse_case.specs.Seen.{unseen_from, unseen_of}
 use Rattle.cse_case.specs.Table.{AreSeen, types_in}
 use Rattle.cse_case.proofs.seen.see_lines.Given as goal
+
+abbrev pub decreases-lines : goal.decreases-lines
+decreases-lines l = length l.lines - l.place
 
 abbrev pub invariant-lines : goal.invariant-lines
 invariant-lines l =

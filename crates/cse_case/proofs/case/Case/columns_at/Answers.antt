@@ -1,6 +1,7 @@
-use Rattle.std.proofs.Common.{◌≡◌, length, ap, sym, ◌∙◌, arith}
+use Rattle.std.proofs.Common.{◌≡◌, length, get_or, ap, sym, ◌∙◌, arith}
 use Rattle.std.proofs.lemmas.List.{length-map}
 use Rattle.cse_lines.specs.Laid.{laid_line}
+use Rattle.cse_lines.specs.declared.run.Lines.{Lines}
 use Rattle.cse_lines.proofs.LaidLaws.{laid_within}
 use Rattle.cse_case.proofs.FieldLaws.{short_field}
 use Rattle.cse_case.proofs.SetLaws.{text_short}
@@ -9,8 +10,8 @@ use Rattle.cse_case.proofs.case.Case.columns_at.Goals as goal
 pub line_columns-requires : goal.line_columns-requires
 line_columns-requires c =
     let v = c.self.inside in
-    let len : length c.args.self.now.run.lines ≡ length v.lines.items = ap (λ x. length x.run.lines) (sym c.self.view_is) ∙ length-map v.lines.items (laid_line v.columns.items) in
-    rw c.deref.ensures.value (laid_within 0 v.columns.items v.lines.items c.args.place c.index-line.result.now c.self.invariant.laid (omega (arith, c.requires.place)) c.index-line.ensures)
+    let len : length c.args.self.now.run.lines ≡ length v.kept.value.lines.items = ap (λ x. length x.run.lines) (sym c.self.view_is) ∙ length-map v.kept.value.lines.items (laid_line v.columns.items) in
+    rw c.deref-2.ensures.value (laid_within 0 v.columns.items v.kept.value.lines.items c.args.place c.index-line.result.now c.self.invariant.laid (omega (arith, c.requires.place)) (c.index-line.ensures ∙ ap (λ (k : Lines). get_or k.lines.items c.args.place c.index-line.result.now) c.deref.ensures))
 
 pub returns-clause-text : goal.returns-clause-text
 returns-clause-text c = λ text.

@@ -11,7 +11,8 @@ use Rattle.cse_case.specs.Field.{item_at}
 use Rattle.cse_case.specs.Entry.{entry_columns}
 use Rattle.cse_case.specs.Case.{CaseText, items_of, place_of}
 use Rattle.cse_case.proofs.FieldLaws.{entry_wide}
-use Rattle.cse_case.proofs.OwnLaws.{case_in, first_within, own_item}
+use Rattle.cse_case.specs.declared.seen.Table.{Table}
+use Rattle.cse_case.proofs.OwnLaws.{case_in, first_in, first_within, own_item, span_in}
 use Rattle.cse_case.specs.Fit.{IsFit}
 use Rattle.cse_case.specs.Ids.{ids_in}
 use Rattle.cse_case.specs.Writes.{MaySet}
@@ -24,8 +25,8 @@ use Rattle.cse_case.proofs.case.Case.set.Goals as goal
 pub index-first-requires : goal.index-first-requires
 index-first-requires c =
     let v = c.self.inside in
-    let fits = first_within c.args.self.now _ _ _ _ _ _ _ _ _ _ _ c.args.number c.args.occurrence c.index-span.result.now c.self.view_is c.self.invariant c.requires.there c.index-span.ensures c.requires.occurrence in
-    omega (arith, c.requires.occurrence.0, v.table.firsts.ok.0)
+    let fits = first_within c.args.self.now _ _ _ _ _ _ _ _ _ _ _ c.args.number c.args.occurrence c.index-span.result.now c.self.view_is c.self.invariant c.requires.there (span_in _ _ c.deref.ensures _ _ c.index-span.ensures) c.requires.occurrence in
+    omega (arith, c.requires.occurrence.0, v.table.value.firsts.ok.0, ap (λ (t : Table). t.firsts.len) c.deref-2.ensures)
 
 pub write_field-requires-clause-start : goal.write_field-requires-clause-start
 write_field-requires-clause-start c =
@@ -35,10 +36,10 @@ pub write_field-requires-clause-whole : goal.write_field-requires-clause-whole
 write_field-requires-clause-whole c =
     let v = c.self.inside in
     let span = c.index-span.result.now in
-    let fits = first_within c.args.self.now _ _ _ _ _ _ _ _ _ _ _ c.args.number c.args.occurrence span c.self.view_is c.self.invariant c.requires.there c.index-span.ensures c.requires.occurrence in
-    let begins = get_or_read v.table.firsts.items (span.start + c.args.occurrence - 1) c.index-first.result.now (omega (arith, c.requires.occurrence.0)) c.index-first.ensures 0 in
+    let fits = first_within c.args.self.now _ _ _ _ _ _ _ _ _ _ _ c.args.number c.args.occurrence span c.self.view_is c.self.invariant c.requires.there (span_in _ _ c.deref.ensures _ _ c.index-span.ensures) c.requires.occurrence in
+    let begins = get_or_read v.table.value.firsts.items (span.start + c.args.occurrence - 1) c.index-first.result.now (omega (arith, c.requires.occurrence.0)) (first_in _ _ c.deref-2.ensures _ _ c.index-first.ensures) 0 in
     let at = own_item c.args.self.now _ _ _ _ _ _ _ _ _ _ _ c.args.number c.args.occurrence c.index-first.result.now c.args.item span c.self.view_is c.self.invariant c.item.ensures.sound c.requires.there
-    c.index-span.ensures c.requires.occurrence c.requires.item c.requires.owns begins in
+    (span_in _ _ c.deref.ensures _ _ c.index-span.ensures) c.requires.occurrence c.requires.item c.requires.owns begins in
     omega (arith, at.whole, at.own.begins, at.own.within, ap length c.deref_mut.ensures.value, ap (λ (i : ItemShape). i.start) c.item.ensures.item, ap (λ (i : ItemShape). i.len) c.item.ensures.item)
 
 pub invariant_of-self : goal.invariant_of-self
@@ -49,7 +50,7 @@ invariant_of-self c =
       some = c.self.invariant.some;
       wide = c.self.invariant.wide;
       ids_are = c.self.invariant.ids_are;
-      laid = IsLaid-len 0 v.columns.items (with_items v.columns c.write_field.new.columns).items v.lines.items (ap length items ∙ (c.write_field.auto.columns ∙ ap length c.deref_mut.ensures.value)) c.self.invariant.laid;
+      laid = IsLaid-len 0 v.columns.items (with_items v.columns c.write_field.new.columns).items v.kept.value.lines.items (ap length items ∙ (c.write_field.auto.columns ∙ ap length c.deref_mut.ensures.value)) c.self.invariant.laid;
       came = λ e. absurd (true≢false e);
       table = c.self.invariant.table;
       unseen_are = c.self.invariant.unseen_are;
@@ -59,7 +60,7 @@ pub returns : goal.returns
 returns c =
     let v = c.self.inside in
     let columns = v.columns.items in
-    let lines = v.lines.items in
+    let lines = v.kept.value.lines.items in
     let span = c.index-span.result.now in
     let first = c.index-first.result.now in
     let n = c.args.item in
@@ -67,10 +68,10 @@ returns c =
     let from = shape.start - 1 in
     let field = entry_columns c.args.entry shape.len in
     let place = place_of c.args.self.now c.args.number c.args.occurrence in
-    let fits = first_within c.args.self.now _ _ _ _ _ _ _ _ _ _ _ c.args.number c.args.occurrence span c.self.view_is c.self.invariant c.requires.there c.index-span.ensures c.requires.occurrence in
-    let begins = get_or_read v.table.firsts.items (span.start + c.args.occurrence - 1) first (omega (arith, c.requires.occurrence.0)) c.index-first.ensures 0 in
+    let fits = first_within c.args.self.now _ _ _ _ _ _ _ _ _ _ _ c.args.number c.args.occurrence span c.self.view_is c.self.invariant c.requires.there (span_in _ _ c.deref.ensures _ _ c.index-span.ensures) c.requires.occurrence in
+    let begins = get_or_read v.table.value.firsts.items (span.start + c.args.occurrence - 1) first (omega (arith, c.requires.occurrence.0)) (first_in _ _ c.deref-2.ensures _ _ c.index-first.ensures) 0 in
     let at = own_item c.args.self.now _ _ _ _ _ _ _ _ _ _ _ c.args.number c.args.occurrence first n span c.self.view_is c.self.invariant c.item.ensures.sound c.requires.there
-    c.index-span.ensures c.requires.occurrence c.requires.item c.requires.owns begins in
+    (span_in _ _ c.deref.ensures _ _ c.index-span.ensures) c.requires.occurrence c.requires.item c.requires.owns begins in
     let line = at.own.line in
     let wide : length field ≡ shape.len = entry_wide c.args.entry shape.len in
     let wrote : c.write_field.new.columns ≡ with_columns (line.first + from) field columns =

@@ -1,7 +1,8 @@
-use Rattle.std.proofs.Common.{◌≡◌, ℕ, List, ◌++◌, ◌∷◌, [], ◌||◌, ap, ◌∙◌, refl}
+use Rattle.std.proofs.Common.{◌≡◌, ℕ, List, ◌++◌, ◌∷◌, [], ◌||◌, ap, sym, ◌∙◌, refl}
 use Rattle.cse_lines.specs.declared.line.Line.{Line}
 use Rattle.cse_lines.specs.declared.decode.Head.{Head}
 use Rattle.cse_lines.specs.Laid.{IsLaid, laid_lines, line_behind}
+use Rattle.cse_lines.specs.Lines.{bytes_in, lines_in}
 use Rattle.cse_lines.specs.Written.{written_line}
 use Rattle.cse_lines.specs.Run.{RunText, with_line}
 use Rattle.cse_lines.specs.Decoding.{line_with}
@@ -19,24 +20,26 @@ pushed now all columns text lines head e f h =
 pub invariant_of-self-2 : goal.invariant_of-self-2
 invariant_of-self-2 c =
     let columns = c.self.inside.columns in
-    let lines = c.self.inside.lines.items in
+    let lines = lines_in c.self.inside.lines in
+    let now = c.in_ok-push.ensures.lines ∙ ap (λ ls. ls ++ line_behind columns c.args.columns.now c.args.head ∷ []) (ap (λ v. v.lines.items) c.deref_mut.ensures.value ∙ (sym (ap lines_in c.in-Some.is) ∙ c.in_ok-keep_lines.ensures.same.lines)) in
     record {
-      laid = rw (c.in_default.ensures.columns, c.in_default.ensures.lines) (IsLaid-push 0 columns c.args.columns.now lines c.args.head c.requires.fits c.self.invariant.laid);
-      written = written-push (laid_lines columns lines) _ (line_with c.args.columns.now c.args.head) c.self.inside.bytes.items _ c.behind_mark.result.now c.self.invariant.written
-          (c.behind_mark.ensures (written_line (line_with c.args.columns.now c.args.head)) c.requires.bytes)
-          c.in_ok-extend_from_slice.ensures.items
-          (pushed c.push_line.new.columns c.push_line.new.lines.items columns c.args.columns.now lines c.args.head c.in_default.ensures.columns c.in_default.ensures.lines c.self.invariant.laid);
+      laid = rw (c.in_ok-push.ensures.columns, now) (IsLaid-push 0 columns c.args.columns.now lines c.args.head c.requires.fits c.self.invariant.laid);
+      written = written-push (laid_lines columns lines) _ (line_with c.args.columns.now c.args.head) (bytes_in c.self.inside.lines) _ c.behind_mark-bytes.result.now c.self.invariant.written
+          (c.behind_mark-bytes.ensures (written_line (line_with c.args.columns.now c.args.head)) c.requires.bytes)
+          (c.in_ok-push.ensures.bytes ∙ ap (λ bs. bs ++ c.behind_mark-bytes.result.now) (ap (λ v. v.bytes.items) c.deref_mut.ensures.value ∙ (sym (ap bytes_in c.in-Some.is) ∙ c.in_ok-keep_lines.ensures.same.bytes)))
+          (pushed c.push.new.columns c.push.new.self.lines.items columns c.args.columns.now lines c.args.head c.in_ok-push.ensures.columns now c.self.invariant.laid);
     }
 
 pub returns : goal.returns
 returns c =
     let columns = c.self.inside.columns in
-    let lines = c.self.inside.lines.items in
+    let lines = lines_in c.self.inside.lines in
     let marked : c.if-self.self ≡ c.self.inside.marked || c.args.head.marked = elim c.if-self.branch [
       | then-self w ↦ w.self-is ∙ rw w.if-self.true refl
       | else-self w ↦ w.self-is ∙ rw w.if-self.false refl
     ] in
-    let laid = pushed c.push_line.new.columns c.push_line.new.lines.items columns c.args.columns.now lines c.args.head c.in_default.ensures.columns c.in_default.ensures.lines c.self.invariant.laid in
+    let now = c.in_ok-push.ensures.lines ∙ ap (λ ls. ls ++ line_behind columns c.args.columns.now c.args.head ∷ []) (ap (λ v. v.lines.items) c.deref_mut.ensures.value ∙ (sym (ap lines_in c.in-Some.is) ∙ c.in_ok-keep_lines.ensures.same.lines)) in
+    let laid = pushed c.push.new.columns c.push.new.self.lines.items columns c.args.columns.now lines c.args.head c.in_ok-push.ensures.columns now c.self.invariant.laid in
     let old : RunText = record { lines = laid_lines columns lines; marked = c.self.inside.marked; first_line = c.self.inside.first_line } in
     ap (λ ls. (let r : RunText = record { lines = ls; marked = c.if-self.self; first_line = c.self.inside.first_line } in r)) laid
     ∙ ap (λ m. (let r : RunText = record { lines = laid_lines columns lines ++ line_with c.args.columns.now c.args.head ∷ []; marked = m; first_line = c.self.inside.first_line } in r)) marked

@@ -1,6 +1,6 @@
 use Rattle.cse_case.proofs.SeenLaws.{counts_there, IsTable-spans}
 use Rattle.cse_case.specs.Table.{types_in}
-use Rattle.cse_case.proofs.seen.table_of.Goals as goal
+use Rattle.cse_case.proofs.seen.fill_table.Goals as goal
 
 pub place_lines-requires : goal.place_lines-requires
 place_lines-requires c = rw c.deref.ensures.value (counts_there c.args.records.now (types_in c.args.lines.now) c.count_lines.new.counts.items c.in_ok-unseen.ensures.counts)

@@ -1,0 +1,18 @@
+-- The lines that a run keeps apart, and their bytes: none where nothing is kept.
+use Rattle.std.specs.Prelude.{◌≡◌, ℕ, List, [], Option, None, Some}
+use Rattle.std.specs.Global.{Box}
+use Rattle.cse_lines.specs.declared.line.Line.{Line}
+use Rattle.cse_lines.specs.declared.run.Lines.{Lines}
+
+abbrev pub lines_in : Option (Box Lines) → List Line
+lines_in None = []
+lines_in (Some kept) = kept.value.lines.items
+
+abbrev pub bytes_in : Option (Box Lines) → List ℕ
+bytes_in None = []
+bytes_in (Some kept) = kept.value.bytes.items
+
+-- the same lines with the same bytes
+pub record AreSame (old new : Option (Box Lines)) : Type 0 where
+  pub lines : lines_in new ≡ lines_in old
+  pub bytes : bytes_in new ≡ bytes_in old
