@@ -1,6 +1,8 @@
 -- Events that the program has no routine for change nothing, and so the others count alone.
-use Rattle.std.proofs.Common.{◌≡◌, ℕ, zero, suc, ◌≤◌, Bool, true, false, cond, eqb, List, [], ◌∷◌, ◌++◌, Option, Some, None, refl, sym, ap, ◌∙◌, subst}
-use Rattle.std.specs.Prelude.{filter, is_some}
+use Rattle.std.proofs.Common.{◌≡◌, ℕ, zero, suc, ◌≤◌, Bool, true, false, cond, eqb, List, [], ◌∷◌, ◌++◌, Option, Some, None, refl, sym, ap, ◌∙◌, subst, arith}
+use Rattle.std.specs.Prelude.{filter, is_some, length, nat_lt}
+use Rattle.std.proofs.lemmas.Bool.{ltb-false, or_parts}
+use Rattle.std.proofs.lemmas.List.{nil_from_length}
 use Rattle.cse_value.specs.declared.shape.ItemShape.{ItemShape}
 use Rattle.cse_parts.specs.declared.entries.Event.{Event}
 use Rattle.cse_parts.specs.declared.entries.EventCode.TheVariants as codes
@@ -8,12 +10,12 @@ use Rattle.cse_parts.specs.Image.{Image}
 use Rattle.cse_case.specs.Case.{CaseText}
 use Rattle.cse_decks.specs.Store.{Kept}
 use Rattle.cse_typing.specs.Handlers.{routine_of}
-use Rattle.cse_bounds.specs.CaseEvents.{Moment, moment, event, event_bound, item_events, occurrence_events}
+use Rattle.cse_bounds.specs.CaseEvents.{Moment, moment, event, event_bound, item_events, occurrence_events, record_events, records_events}
 use Rattle.cse_verify.specs.Verified.{VerifiedProgram}
 use Rattle.cse_steps.specs.State.{State}
 use Rattle.cse_steps.specs.Run.{first, first_calls}
 use Rattle.cse_machine.specs.Results.{in_occurrence}
-use Rattle.cse_batch.specs.Handled.{events_of_items, handled_items, has_routine}
+use Rattle.cse_batch.specs.Handled.{events_of_items, handled_items, has_routine, is_handled}
 use Rattle.cse_batch.specs.Scene.{Scene, scene_after, scene_after_all, told_to}
 use Rattle.cse_batch.proofs.EventLaws.{stays}
 use Rattle.cse_batch.proofs.EndLaws.{AllThere, all_items_there}
@@ -72,6 +74,36 @@ occurrences_stay v r o (suc n) s none =
     let one = sym (items_scene v r o s [] none) in
     scene_later v s (item_events r o 0 v.image.lists.items) (occurrence_events r v.image.lists.items (suc o) n)
     ∙ (ap (λ (t : Scene). scene_after_all v t (occurrence_events r v.image.lists.items (suc o) n)) one ∙ occurrences_stay v r (suc o) n s none)
+
+-- ---- the events of records
+
+-- where none of a record's is handled, they change nothing
+record_stays : (v : VerifiedProgram) (r n : ℕ) (s : Scene) → is_handled v.image r ≡ false → scene_after_all v s (record_events v.image.lists.items r n) ≡ s
+record_stays v r n s none =
+    let parts = or_parts _ (has_routine v.image (event codes.RecordPostproc r)) none in
+    let inner = or_parts (has_routine v.image (event codes.RecordPreproc r)) (nat_lt 0 (length (handled_items v.image r))) parts.0 in
+    let empty : [] ≡ handled_items v.image r = sym (nil_from_length (handled_items v.image r) (omega (arith, ltb-false 0 (length (handled_items v.image r)) inner.1))) in
+    let later = occurrence_events r v.image.lists.items 1 n in
+    let last = moment codes.RecordPostproc r 0 in
+    ap (λ (t : Scene). scene_after_all v t (later ++ last ∷ [])) (scene_unhandled v s (moment codes.RecordPreproc r 0) inner.0)
+    ∙ (scene_later v s later (last ∷ []) ∙ (ap (λ (t : Scene). scene_after v t last) (occurrences_stay v r 1 n s empty) ∙ scene_unhandled v s last parts.1))
+
+-- so the records that have any count alone
+pub only_records : (v : VerifiedProgram) (n : ℕ → ℕ) (rs : List ℕ) (s : Scene)
+    → scene_after_all v s (records_events v.image.lists.items n (filter (is_handled v.image) rs)) ≡ scene_after_all v s (records_events v.image.lists.items n rs)
+only_records v n [] s = refl
+only_records v n (r ∷ rs) s = by (is_handled v.image r) refl
+  where
+    own = record_events v.image.lists.items r (n r)
+
+    by : (b : Bool) → is_handled v.image r ≡ b
+        → scene_after_all v s (records_events v.image.lists.items n (cond b (r ∷ filter (is_handled v.image) rs) (filter (is_handled v.image) rs))) ≡ scene_after_all v s (records_events v.image.lists.items n (r ∷ rs))
+    by true is =
+        scene_later v s own (records_events v.image.lists.items n (filter (is_handled v.image) rs))
+        ∙ (only_records v n rs (scene_after_all v s own) ∙ sym (scene_later v s own (records_events v.image.lists.items n rs)))
+    by false is =
+        only_records v n rs s
+        ∙ (ap (λ (t : Scene). scene_after_all v t (records_events v.image.lists.items n rs)) (sym (record_stays v r (n r) s is)) ∙ sym (scene_later v s own (records_events v.image.lists.items n rs)))
 
 -- ---- their occurrence is there
 

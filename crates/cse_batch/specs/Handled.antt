@@ -1,5 +1,5 @@
 -- The events of a case that a program has a routine for.
-use Rattle.std.specs.Prelude.{◌≡◌, ◌<◌, ◌==◌, ℕ, suc, Bool, if◌then◌else◌, List, [], ◌∷◌, ◌++◌, length, map, filter, is_some}
+use Rattle.std.specs.Prelude.{◌≡◌, ◌<◌, ◌==◌, ◌||◌, nat_lt, ℕ, suc, Bool, if◌then◌else◌, List, [], ◌∷◌, ◌++◌, length, map, filter, is_some}
 use Rattle.std.specs.List.{AllByRecursion}
 use Rattle.cse_value.specs.declared.shape.ItemShape.{ItemShape}
 use Rattle.cse_dict.specs.Dictionary.{shape_of}
@@ -24,6 +24,10 @@ events_of_items r k (item ∷ items) = (if item.owner == r then event ItemPrepro
 abbrev pub handled_items : Image → ℕ → List Event
 handled_items x r = filter (has_routine x) (events_of_items r 0 x.lists.items)
 
+-- an event of a record, or of its items, has a routine
+abbrev pub is_handled : Image → ℕ → Bool
+is_handled x r = (has_routine x (event RecordPreproc r) || nat_lt 0 (length (handled_items x r))) || has_routine x (event RecordPostproc r)
+
 abbrev pub number_of : HandledRecord → ℕ
 number_of h = h.number
 
@@ -34,9 +38,9 @@ pub record IsHandledRecord (v : VerifiedProgram) (h : HandledRecord) : Type 0 wh
   pub items : h.items.items ≡ handled_items v.image h.number
   pub postproc : h.postproc ≡ has_routine v.image (event RecordPostproc h.number)
 
--- these are those of a case, with the records in edit order
+-- these are those of a case; the records that have any are there, in edit order
 pub record AreHandled (v : VerifiedProgram) (h : HandledEvents) : Type 0 where
   pub preproc : h.preproc ≡ has_routine v.image (event LevelPreproc 0)
-  pub numbers : map number_of h.records.items ≡ v.image.lists.order
+  pub numbers : map number_of h.records.items ≡ filter (is_handled v.image) v.image.lists.order
   pub each : AllByRecursion (IsHandledRecord v) h.records.items
   pub postproc : h.postproc ≡ has_routine v.image (event LevelPostproc 0)

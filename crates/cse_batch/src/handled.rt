@@ -4,7 +4,8 @@ ghost use Rattle.std.specs.Prelude.{◌≡◌, ◌++◌, ◌<◌, [], ◌∷◌,
 ghost use Rattle.std.specs.List.{AllByRecursion};
 ghost use Rattle.cse_bounds.specs.CaseEvents.{event};
 ghost use Rattle.cse_dict.specs.Dictionary.{shape_of};
-ghost use Rattle.cse_batch.specs.Handled.{AreHandled, IsHandledRecord, handled_items, has_routine, number_of};
+ghost use Rattle.cse_batch.specs.Handled.{AreHandled, IsHandledRecord, handled_items, has_routine, is_handled, number_of};
+ghost use Rattle.cse_verify.specs.Verified.{VerifiedProgram};
 
 use crate::parts::{items_of, order_of};
 use cse_image::{Code, Event, EventCode};
@@ -29,7 +30,7 @@ pub(crate) struct HandledRecord {
 pub(crate) struct HandledEvents {
     /// Whether the preproc of the level has one.
     pub(crate) preproc: bool,
-    /// The records in edit order.
+    /// The records that have one, or whose items do, in edit order.
     pub(crate) records: Vec<HandledRecord>,
     /// Whether the postproc of the level has one.
     pub(crate) postproc: bool,
@@ -94,18 +95,28 @@ fn handled_record<C: Code>(
     })
 }
 
-/// The events of the records that have a routine, in edit order.
+/// Whether an event of a record or of its items has a routine.
+fn is_handled(record: &HandledRecord) -> bool
+    ensures { (v : VerifiedProgram) → IsHandledRecord v record.now → result ≡ is_handled v.image record.now.number }
+{
+    record.preproc || 0 < record.items.len() || record.postproc
+}
+
+/// The events of the records that have a routine, in edit order; a record without one isn't among them.
 fn handled_records<C: Code>(
     alloc: Global,
     verified: &Verified<'_, C>,
 ) -> Result<Vec<HandledRecord>, AllocError>
-    ensures numbers { IfOk result (λ records. map number_of records.items ≡ verified.now.image.lists.order) }
+    ensures numbers { IfOk result (λ records. map number_of records.items ≡ filter (is_handled verified.now.image) verified.now.image.lists.order) }
     ensures each { IfOk result (λ records. AllByRecursion (IsHandledRecord verified.now) records.items) }
 {
     let order = order_of(verified);
     let mut records = Vec::with_capacity(alloc, order.len())?;
     'records: for number in order {
-        records.push(handled_record(alloc, verified, *number as u16)?)?;
+        let record = handled_record(alloc, verified, *number as u16)?;
+        if is_handled(&record) {
+            records.push(record)?;
+        }
     }
     Ok(records)
 }

@@ -1,10 +1,14 @@
 //! The columns of a run, in a vector that is filled further than they reach.
 
-ghost use Rattle.std.specs.Prelude.{◌≡◌, ◌≤◌, ◌+◌, ◌-◌, ◌++◌, [], drop, length, replicate, take, true, false, OnErr, OnOk};
+ghost use Rattle.std.specs.Prelude.{◌≡◌, ◌≤◌, ◌+◌, ◌-◌, ◌++◌, [], drop, length, max, replicate, take, true, false, IfErr, IfOk, OnErr, OnOk};
+ghost use Rattle.std.specs.Str.{IsAscii, chars, is_utf8};
+ghost use Rattle.cse_lines.specs.Decoding.{Holds, IfFault};
 ghost use Rattle.cse_lines.specs.Field.{padded};
 ghost use Rattle.cse_lines.specs.Alike.{IsPlain};
 ghost use Rattle.cse_lines.specs.Run.{with_columns};
 
+use crate::beyond::put_beyond;
+use crate::decode::Stop;
 use std::alloc::{AllocError, Global};
 use std::marker::Model;
 use std::simd::prelude::*;
@@ -164,7 +168,7 @@ fn put_eight_blanks(columns: &mut [char])
 
 /// Writes blanks over columns. It is called for few lines, and isn't laid out where it is called.
 #[inline(never)]
-fn put_blanks(columns: &mut [char])
+pub fn put_blanks(columns: &mut [char])
     ensures { columns.new ≡ replicate (length columns.old) 32 }
 {
     columns.fill(' ');
@@ -216,6 +220,21 @@ fn put_between(columns: &mut Vec<char>, first: usize, end: usize, text: &[u8]) -
     put_line(&mut columns[first..end], text)
 }
 
+/// The characters of a text in place of so many columns, which hold its bytes as characters. Tells how many
+/// characters there are.
+fn put_beyond_in(columns: &mut Vec<char>, len: usize, text: &[u8]) -> Result<usize, Stop>
+    requires room { len ≤ length columns.old.items }
+    requires over { take len columns.old.items ≡ padded len text.now }
+    requires fits { length text.now ≤ len }
+    ensures room { len ≤ length columns.new.items }
+    ensures columns { IfOk result (λ n. Holds (take len columns.new.items) (chars text.now) n) }
+    ensures utf8 { OnOk result (is_utf8 text.now ≡ true) }
+    ensures err { IfErr result (IfFault (λ number. (number ≡ 20) × (is_utf8 text.now ≡ false))) }
+{
+    let (front, _) = columns.split_at_mut(len);
+    put_beyond(front, text)
+}
+
 /// Fills a vector up to a length, where it is shorter.
 fn fill_up(columns: &mut Vec<char>, len: usize) -> Result<(), AllocError>
     ensures room { OnOk result (len ≤ length columns.new.items) }
@@ -238,13 +257,6 @@ impl Filled {
         }
     }
 
-    /// No columns, over those that are there.
-    pub fn over(columns: Vec<char>) -> Filled
-        ensures { result ≡ [] }
-    {
-        Filled { columns, len: 0 }
-    }
-
     /// How many there are.
     pub fn len(&self) -> usize
         ensures { result ≡ length self.now }
@@ -265,6 +277,70 @@ impl Filled {
         ensures { self.new ≡ take len self.old }
     {
         self.len = len;
+    }
+
+    /// Columns that were read before, as many as there are of a width.
+    pub fn up_to(columns: Vec<char>, width: usize) -> Filled
+        ensures { result ≡ take width columns.items }
+    {
+        let len = width.min(columns.len());
+        Filled { columns, len }
+    }
+
+    /// So many columns at least.
+    fn reach(&mut self, len: usize) -> Result<(), AllocError>
+        ensures { OnOk result (length self.new ≡ max (length self.old) len) }
+    {
+        if self.len < len {
+            fill_up(&mut self.columns, len)?;
+            self.len = len;
+        }
+        Ok(())
+    }
+
+    /// Bytes as characters in place of the columns, and blanks in place of those that are left. Tells whether
+    /// the bytes are ASCII.
+    pub fn read(&mut self, text: &[u8]) -> Result<bool, AllocError>
+        ensures columns { OnOk result (self.new ≡ padded (length self.old) text.now) }
+        ensures ascii { IfOk result (λ is_ascii. is_ascii ≡ true → IsAscii text.now) }
+    {
+        self.reach(text.len())?;
+        Ok(put_between(&mut self.columns, 0, self.len, text))
+    }
+
+    /// The characters of a text in place of columns that hold its bytes as characters. Tells how many
+    /// characters there are.
+    pub fn read_beyond(&mut self, text: &[u8]) -> Result<usize, Stop>
+        requires over { self.old ≡ padded (length self.old) text.now }
+        requires fits { length text.now ≤ length self.old }
+        ensures columns { IfOk result (λ len. Holds self.new (chars text.now) len) }
+        ensures utf8 { OnOk result (is_utf8 text.now ≡ true) }
+        ensures err { IfErr result (IfFault (λ number. (number ≡ 20) × (is_utf8 text.now ≡ false))) }
+    {
+        put_beyond_in(&mut self.columns, self.len, text)
+    }
+
+    /// Pads them with blanks to a width.
+    pub fn pad(&mut self, width: usize) -> Result<(), AllocError>
+        ensures { OnOk result (self.new ≡ padded width self.old) }
+    {
+        if self.len < width {
+            fill_up(&mut self.columns, width)?;
+            put_blanks(&mut self.columns[self.len..width]);
+            self.len = width;
+        }
+        Ok(())
+    }
+
+    /// Cuts them to a width, or pads them to it with blanks.
+    pub fn set_width(&mut self, width: usize) -> Result<(), AllocError>
+        ensures { OnOk result (self.new ≡ take width self.old ++ replicate (width - length self.old) 32) }
+    {
+        if width < self.len {
+            self.len = width;
+            return Ok(());
+        }
+        self.pad(width)
     }
 
     /// The columns alone.

@@ -10,6 +10,7 @@ ghost use Rattle.cse_lines.specs.Taking.{Cuts, RefusesAt};
 use crate::buffer::Buffer;
 use crate::cut::first_line;
 use crate::decode::Stop;
+use crate::filled::Filled;
 use crate::layout::Layout;
 use crate::run::{Room, Run};
 use crate::take::{end_run, take_line};
@@ -41,7 +42,7 @@ pub fn gather(
     layout: &Layout,
     run: &mut Run,
     room: &mut Room,
-    columns: &mut Vec<char>,
+    columns: &mut Filled,
     buffer: &mut Buffer,
     first: bool,
     ended: bool,

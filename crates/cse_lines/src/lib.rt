@@ -8,6 +8,7 @@
 #![tactic(auto)]
 
 mod alike;
+mod beyond;
 mod buffer;
 mod cut;
 mod decode;

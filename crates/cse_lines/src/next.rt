@@ -9,6 +9,7 @@ ghost use Rattle.cse_lines.specs.Resting.{IsLayoutOf, IsResting, TakesRest, read
 use crate::buffer::{Buffer, ReadFault};
 use crate::decode::Stop;
 use crate::error::DataError;
+use crate::filled::Filled;
 use crate::gather::gather;
 use crate::layout::Layout;
 use crate::run::{Room, Run};
@@ -50,7 +51,7 @@ fn next_run<R: Input>(
     input: &mut R,
     run: &mut Run,
     room: &mut Room,
-    columns: &mut Vec<char>,
+    columns: &mut Filled,
     buffer: &mut Buffer,
     ended: &mut bool,
     reads: &mut u64,
@@ -125,7 +126,7 @@ pub fn next_by_layout<R: Input>(
     input: &mut R,
     run: &mut Run,
     room: &mut Room,
-    columns: &mut Vec<char>,
+    columns: &mut Filled,
     buffer: &mut Buffer,
     ended: &mut bool,
     reads: &mut u64,

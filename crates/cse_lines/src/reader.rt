@@ -6,6 +6,7 @@ ghost use Rattle.cse_lines.specs.Reader.{HoldsLittle, Next, held_of};
 
 use crate::buffer::Buffer;
 use crate::error::DataError;
+use crate::filled::Filled;
 use crate::layout::Layout;
 use crate::next::next_by_layout;
 use crate::run::{Lines, Room, Run};
@@ -31,7 +32,7 @@ pub struct RunReader<'a> {
     layout: Option<Layout>,
     run: Run,
     room: Room,
-    columns: Vec<char>,
+    columns: Filled,
     buffer: Buffer,
     ended: bool,
     reads: u64,
@@ -93,7 +94,7 @@ impl<'a> RunReader<'a> {
             layout: None,
             run: Run::new(alloc, 1),
             room: Room::new(alloc),
-            columns: Vec::new(alloc),
+            columns: Filled::new(alloc),
             buffer: Buffer::new(alloc),
             ended: false,
             reads: 0,
@@ -175,7 +176,7 @@ impl<'a> RunReader<'a> {
             Err(error) => {
                 self.run = Run::new(self.alloc, self.lines + 1);
                 self.room = Room::new(self.alloc);
-                self.columns = Vec::new(self.alloc);
+                self.columns = Filled::new(self.alloc);
                 self.buffer = Buffer::new(self.alloc);
                 self.error = Some(error);
                 Err(error)

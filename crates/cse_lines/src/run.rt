@@ -6,7 +6,7 @@ ghost use Rattle.cse_lines.specs.Alike.{GoesOnFrom, laid_run};
 ghost use Rattle.cse_lines.specs.Decoding.{line_with};
 ghost use Rattle.cse_lines.specs.Laid.{IsLaid, laid_lines, line_behind};
 ghost use Rattle.cse_lines.specs.Lines.{AreSame, bytes_in, lines_in};
-ghost use Rattle.cse_lines.specs.Run.{IsLastLine, line_at, with_line};
+ghost use Rattle.cse_lines.specs.Run.{IsLastLine, line_at, run_of, with_line};
 ghost use Rattle.cse_lines.specs.Written.{IsWhole, mark_bytes, written_line};
 
 use crate::alike::{part, push_lines};
@@ -84,6 +84,12 @@ impl Room {
             lines: Some(lines),
         }
     }
+
+    /// What it is made of.
+    pub(crate) fn into_parts(self) -> (Vec<char>, Option<Box<Lines>>) {
+        let Room { columns, lines } = self;
+        (columns, lines)
+    }
 }
 
 /// No lines, in the memory of others.
@@ -125,6 +131,19 @@ fn behind_mark(line: &[u8], marked: bool) -> &[u8]
     }
 }
 
+/// A line under this head, of which the columns begin at this one.
+fn line_from(first: usize, width: usize, head: Head) -> Line
+    ensures { result ≡ record { first = first; width = width; len = head.len; ending = head.ending; record_number = head.record_number } }
+{
+    Line {
+        first,
+        width,
+        len: head.len,
+        ending: head.ending,
+        record_number: head.record_number,
+    }
+}
+
 /// Appends a line and its columns.
 #[inline(always)]
 fn push_line(
@@ -140,14 +159,7 @@ fn push_line(
 {
     let first = columns.len();
     columns.push(text)?;
-    let line = Line {
-        first,
-        width: text.len(),
-        len: head.len,
-        ending: head.ending,
-        record_number: head.record_number,
-    };
-    if let Err(refused) = lines.push(line) {
+    if let Err(refused) = lines.push(line_from(first, text.len(), head)) {
         columns.truncate(first);
         return Err(refused.into());
     }
@@ -155,6 +167,16 @@ fn push_line(
 }
 
 impl Lines {
+    /// Appends a line and its bytes.
+    fn add(&mut self, line: Line, bytes: &[u8]) -> Result<(), AllocError>
+        ensures lines { OnOk result (self.new.lines.items ≡ self.old.lines.items ++ line ∷ []) }
+        ensures bytes { OnOk result (self.new.bytes.items ≡ self.old.bytes.items ++ bytes.now) }
+    {
+        self.bytes.extend_from_slice(bytes)?;
+        self.lines.push(line)?;
+        Ok(())
+    }
+
     /// Appends a line and its columns, and its bytes.
     #[inline(always)]
     fn push(
@@ -228,20 +250,35 @@ impl Run {
         }
     }
 
-    /// A run without lines in this room.
-    pub(crate) fn in_room(alloc: Global, room: Room, first_line: u64) -> Run
-        ensures lines { result.lines ≡ [] }
-        ensures marked { result.marked ≡ false }
-        ensures first_line { result.first_line ≡ first_line }
+    /// The run of one line, of which these are the columns and the bytes, with the mark. What it keeps of lines
+    /// lies in this room.
+    #[inline(always)]
+    pub(crate) fn beginning(
+        alloc: Global,
+        columns: Filled,
+        room: Option<Box<Lines>>,
+        first_line: u64,
+        head: Head,
+        line: &[u8],
+    ) -> Result<Run, AllocError>
+        requires fits { head.len ≤ length columns }
+        requires bytes { line.now ≡ mark_bytes head.marked ++ written_line (line_with columns head) }
+        ensures { IfOk result (λ run. run ≡ run_of first_line head.marked (line_with columns head)) }
     {
-        let Room { columns, lines } = room;
-        Run {
+        let mut lines = emptied(room);
+        keep_lines(alloc, &mut lines)?;
+        let Some(kept) = &mut lines else {
+            unreachable!();
+        };
+        let bytes = behind_mark(line, head.marked);
+        kept.add(line_from(0, columns.len(), head), bytes)?;
+        Ok(Run {
             alloc,
-            columns: Filled::over(columns),
-            lines: emptied(lines),
-            marked: false,
+            columns,
+            lines,
+            marked: head.marked,
             first_line,
-        }
+        })
     }
 
     /// Appends a line that was read: its columns and its bytes, with the mark.

@@ -8,6 +8,7 @@ ghost use Rattle.cse_lines.specs.Taking.{BeginsAsLast, LastIsLike, Refuses, Take
 ghost use Rattle.cse_lines.specs.Written.{mark_bytes, written_line};
 
 use crate::decode::{Beginning, Head, Stop, decode};
+use crate::filled::Filled;
 use crate::layout::Layout;
 use crate::run::{Room, Run};
 use cse_dict::Dictionary;
@@ -47,7 +48,7 @@ pub fn take_line(
     dictionary: &Dictionary,
     layout: &Layout,
     run: &mut Run,
-    columns: &mut Vec<char>,
+    columns: &mut Filled,
     line: &[u8],
     front: bool,
 ) -> Result<Option<Head>, Stop>
@@ -55,41 +56,42 @@ pub fn take_line(
     requires width { 0 < length run.old.lines → least_width dictionary.now ≤ length (line_at run.old 0).columns }
     requires last { LastIsLike dictionary.now run.old }
     requires few { length run.old.lines ≤ 10000 }
-    ensures ok { IfOk result (λ last. Takes dictionary.now (front, line.now) run.old run.new columns.new.items last) }
+    ensures ok { IfOk result (λ last. Takes dictionary.now (front, line.now) run.old run.new columns.new last) }
     ensures err { IfErr result (IfFault (λ number. Refuses dictionary.now (front, line.now) run.old run.new number)) }
 {
     let last = run.last();
     let head = decode(dictionary, layout, line, front, last, columns)?;
     let len = run.len();
-    if len > 0 && has_other_ids(dictionary, layout, run, columns, head.beginning) {
+    if len > 0 && has_other_ids(dictionary, layout, run, columns.as_slice(), head.beginning) {
         return Ok(Some(head));
     }
     if len == MOST_LINES {
         return Err(Stop::Fault(22));
     }
-    run.push(columns, head, line)?;
+    run.push(columns.as_slice(), head, line)?;
     Ok(None)
 }
 
-/// Gives the run that a line ended. The next one lies in the room, and begins with that line.
+/// Gives the run that a line ended. The next one begins with that line: its columns are those that were read,
+/// and others, of the run in whose room it lies, are read over from then on.
 pub fn end_run(
     alloc: Global,
     run: &mut Run,
     room: &mut Room,
-    columns: &[char],
+    columns: &mut Filled,
     head: Head,
     line: &[u8],
 ) -> Result<Run, AllocError>
-    requires fits { head.len ≤ length columns.now }
-    requires bytes { line.now ≡ mark_bytes head.marked ++ written_line (line_with columns.now head) }
+    requires fits { head.len ≤ length columns.old }
+    requires bytes { line.now ≡ mark_bytes head.marked ++ written_line (line_with columns.old head) }
     requires number { run.old.first_line + length run.old.lines < 2 ^ 64 }
     ensures given { IfOk result (λ given. given ≡ run.old) }
-    ensures next { OnOk result (run.new ≡ run_of (run.old.first_line + length run.old.lines) head.marked (line_with columns.now head)) }
+    ensures next { OnOk result (run.new ≡ run_of (run.old.first_line + length run.old.lines) head.marked (line_with columns.old head)) }
 {
     let number = run.first_line() + run.len() as u64;
-    let room = mem::replace(room, Room::new(alloc));
-    let next = Run::in_room(alloc, room, number);
-    let given = mem::replace(run, next);
-    run.push(columns, head, line)?;
-    Ok(given)
+    let (spare, lines) = mem::replace(room, Room::new(alloc)).into_parts();
+    let others = Filled::up_to(spare, columns.len());
+    let own = mem::replace(columns, others);
+    let next = Run::beginning(alloc, own, lines, number, head, line)?;
+    Ok(mem::replace(run, next))
 }

@@ -39,12 +39,12 @@ returns-clause-ok c =
     let line : FileLine = (c.args.front, c.args.line.now) in
     let text : c.split_mark-marked.result.1.now ≡ text_of line = c.split_mark-marked.ensures.text ∙ ap (without_mark c.args.front) c.split_end-ending.ensures.text in
     let short = rw text at c.if-text-gt-MOST_BYTES.false in
-    let held : Holds c.read_columns.new.columns.items (columns_of line) c.in_ok-len.len = subst (λ (cs : List ℕ). Holds c.read_columns.new.columns.items cs c.in_ok-len.len) (ap chars text) c.in_ok-len.ensures.columns in
+    let held : Holds c.read_columns.new.columns (columns_of line) c.in_ok-len.len = subst (λ (cs : List ℕ). Holds c.read_columns.new.columns cs c.in_ok-len.len) (ap chars text) c.in_ok-len.ensures.columns in
     let len : c.in_ok-len.len ≡ length (columns_of line) = held.count in
-    let wide : c.widen.new.columns.items ≡ padded (width_of d (columns_of line)) (columns_of line) = c.in_ok-record_number.ensures.columns (columns_of line) held in
+    let wide : c.widen.new.columns ≡ padded (width_of d (columns_of line)) (columns_of line) = c.in_ok-record_number.ensures.columns (columns_of line) held in
     record {
       sound = line_fault-none line short (ap is_utf8 (sym text) ∙ c.in_ok-len.ensures.utf8) (rw len at c.if-len-gt-MOST_COLUMNS.false);
-      is = line_text-is d line c.widen.new.columns.items c.in_ok-len.len c.split_end-ending.result.1 c.in_ok-record_number.record_number c.split_end-ending.ensures.ending len
+      is = line_text-is d line c.widen.new.columns c.in_ok-len.len c.split_end-ending.result.1 c.in_ok-record_number.record_number c.split_end-ending.ensures.ending len
           (c.in_ok-record_number.ensures.number (columns_of line) held) wide;
       marked = c.split_mark-marked.ensures.mark ∙ ap (λ t. c.args.front && has_mark t) c.split_end-ending.ensures.text;
       fits = omega (arith, len, ap length wide, length-padded (width_of d (columns_of line)) (columns_of line));

@@ -7,9 +7,9 @@ use Rattle.cse_lines.proofs.decode.read_columns.Goals as goal
 
 pub returns-then-branch-clause-columns : goal.returns-then-branch-clause-columns
 returns-then-branch-clause-columns c =
-    let same = sym (chars-IsAscii c.args.text.now (c.in_ok-read_ascii.ensures.ascii c.if-branch.true)) in
-    Holds-padded c.read_ascii.new.columns.items (chars c.args.text.now) (length c.args.columns.now.items) (length c.args.text.now)
-    (c.in_ok-read_ascii.ensures.columns ∙ ap (padded (length c.args.columns.now.items)) same) (ap length same)
+    let same = sym (chars-IsAscii c.args.text.now (c.in_ok-read.ensures.ascii c.if-branch.true)) in
+    Holds-padded c.read.new.self (chars c.args.text.now) (length c.args.columns.now) (length c.args.text.now)
+    (c.in_ok-read.ensures.columns ∙ ap (padded (length c.args.columns.now)) same) (ap length same)
 
 pub returns-then-branch-clause-utf8 : goal.returns-then-branch-clause-utf8
-returns-then-branch-clause-utf8 c = is_utf8-from_IsUtf8 c.args.text.now (IsUtf8-from_ascii c.args.text.now (c.in_ok-read_ascii.ensures.ascii c.if-branch.true))
+returns-then-branch-clause-utf8 c = is_utf8-from_IsUtf8 c.args.text.now (IsUtf8-from_ascii c.args.text.now (c.in_ok-read.ensures.ascii c.if-branch.true))

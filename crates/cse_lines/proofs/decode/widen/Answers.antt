@@ -10,22 +10,22 @@ pub record_in-record_number-requires-clause-wide : goal.record_in-record_number-
 record_in-record_number-requires-clause-wide c =
     let d = c.args.dictionary.now in
     let least : c.least_width-least_width.result ≡ least_width d = c.least_width-least_width.ensures ∙ ap (λ l. l.least_width) c.requires.layout in
-    let here : c.deref.result.now ≡ padded (least_width d) c.args.columns.now.items = c.deref.ensures.value ∙ c.in_ok-pad.ensures ∙ ap (λ w. padded w c.args.columns.now.items) least in
-    rw here (omega (arith, length-padded (least_width d) c.args.columns.now.items))
+    let here : c.as_slice.result.now ≡ padded (least_width d) c.args.columns.now = c.as_slice.ensures ∙ c.in_ok-pad.ensures ∙ ap (λ w. padded w c.args.columns.now) least in
+    rw here (omega (arith, length-padded (least_width d) c.args.columns.now))
 
 pub returns-clause-number : goal.returns-clause-number
 returns-clause-number c = λ text held.
     let d = c.args.dictionary.now in
-    let columns = c.args.columns.now.items in
+    let columns = c.args.columns.now in
     let least : c.least_width-least_width.result ≡ least_width d = c.least_width-least_width.ensures ∙ ap (λ l. l.least_width) c.requires.layout in
     c.record_in-record_number.ensures.number ∙ ap (λ x. number_of_type x d)
-    (ap (field_at (type_span d)) (c.deref.ensures.value ∙ c.in_ok-pad.ensures ∙ ap (λ w. padded w columns) least) ∙ type_held d columns text c.args.len held)
+    (ap (field_at (type_span d)) (c.as_slice.ensures ∙ c.in_ok-pad.ensures ∙ ap (λ w. padded w columns) least) ∙ type_held d columns text c.args.len held)
     ∙ record_of_is d text
 
 pub returns-clause-columns : goal.returns-clause-columns
 returns-clause-columns c = λ text held.
     let d = c.args.dictionary.now in
-    let columns = c.args.columns.now.items in
+    let columns = c.args.columns.now in
     let least : c.least_width-least_width.result ≡ least_width d = c.least_width-least_width.ensures ∙ ap (λ l. l.least_width) c.requires.layout in
     let len : c.record_len.result ≡ record_len d (record_of d text) = c.record_len.ensures ∙ ap (record_len d) (returns-clause-number c text held) in
     let width : c.max.result ≡ max (max c.args.len (least_width d)) (record_len d (record_of d text)) =
@@ -37,13 +37,13 @@ returns-clause-columns c = λ text held.
 pub returns-clause-same : goal.returns-clause-same
 returns-clause-same c =
     let d = c.args.dictionary.now in
-    let columns = c.args.columns.now.items in
+    let columns = c.args.columns.now in
     let least : c.least_width-least_width.result ≡ least_width d = c.least_width-least_width.ensures ∙ ap (λ l. l.least_width) c.requires.layout in
-    let padded_is : c.pad.new.columns.items ≡ padded (least_width d) columns = c.in_ok-pad.ensures ∙ ap (λ w. padded w columns) least in
+    let padded_is : c.pad.new.self ≡ padded (least_width d) columns = c.in_ok-pad.ensures ∙ ap (λ w. padded w columns) least in
     let width : least_width d ≤ c.max.result = omega (arith, c.max.ensures, c.max-width.ensures, least) in
-    let begins : take (least_width d) c.set_width.new.columns.items ≡ take (least_width d) c.deref.result.now =
+    let begins : take (least_width d) c.set_width.new.self ≡ take (least_width d) c.as_slice.result.now =
     ap (take (least_width d)) c.in_ok-set_width.ensures
-    ∙ take_cut (least_width d) c.max.result c.pad.new.columns.items (replicate (c.max.result - length c.pad.new.columns.items) 32) width (omega (arith, ap length padded_is, length-padded (least_width d) columns))
-    ∙ ap (take (least_width d)) (sym c.deref.ensures.value) in
-    IfSome-more (λ l. BeginsAs d c.record_in-record_number.result.1 c.deref.result.now l.0.now) (λ l. BeginsAs d c.record_in-record_number.result.1 c.set_width.new.columns.items l.0.now) c.args.last
-    (λ l h. BeginsAs-cut d c.record_in-record_number.result.1 c.set_width.new.columns.items c.deref.result.now l.0.now begins h) c.record_in-record_number.ensures.same
+    ∙ take_cut (least_width d) c.max.result c.pad.new.self (replicate (c.max.result - length c.pad.new.self) 32) width (omega (arith, ap length padded_is, length-padded (least_width d) columns))
+    ∙ ap (take (least_width d)) (sym c.as_slice.ensures) in
+    IfSome-more (λ l. BeginsAs d c.record_in-record_number.result.1 c.as_slice.result.now l.0.now) (λ l. BeginsAs d c.record_in-record_number.result.1 c.set_width.new.self l.0.now) c.args.last
+    (λ l h. BeginsAs-cut d c.record_in-record_number.result.1 c.set_width.new.self c.as_slice.result.now l.0.now begins h) c.record_in-record_number.ensures.same

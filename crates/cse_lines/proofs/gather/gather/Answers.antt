@@ -47,18 +47,18 @@ pub end_run-requires-clause-fits : goal.end_run-requires-clause-fits
 end_run-requires-clause-fits c =
     let d = c.args.dictionary.now in
     let b = c.is_front-front.result in
-    let last : IsLast d (b, c.in-Some.line.now) c.take_alike.new.run c.take_line.new.run c.take_line.new.columns.items c.in-Some-last.head =
-    subst (Takes d (b, c.in-Some.line.now) c.take_alike.new.run c.take_line.new.run c.take_line.new.columns.items) c.in-Some-last.is c.in_ok-last.ensures.ok in
-    rw c.deref.ensures.value last.decoded.fits
+    let last : IsLast d (b, c.in-Some.line.now) c.take_alike.new.run c.take_line.new.run c.take_line.new.columns c.in-Some-last.head =
+    subst (Takes d (b, c.in-Some.line.now) c.take_alike.new.run c.take_line.new.run c.take_line.new.columns) c.in-Some-last.is c.in_ok-last.ensures.ok in
+    last.decoded.fits
 
 pub end_run-requires-clause-bytes : goal.end_run-requires-clause-bytes
 end_run-requires-clause-bytes c =
     let d = c.args.dictionary.now in
     let b = c.is_front-front.result in
     let head = c.in-Some-last.head in
-    let last : IsLast d (b, c.in-Some.line.now) c.take_alike.new.run c.take_line.new.run c.take_line.new.columns.items head =
-    subst (Takes d (b, c.in-Some.line.now) c.take_alike.new.run c.take_line.new.run c.take_line.new.columns.items) c.in-Some-last.is c.in_ok-last.ensures.ok in
-    line-bytes d (b, c.in-Some.line.now) c.take_line.new.columns.items head last.decoded ∙ ap (λ cs. mark_bytes head.marked ++ written_line (line_with cs head)) (sym c.deref.ensures.value)
+    let last : IsLast d (b, c.in-Some.line.now) c.take_alike.new.run c.take_line.new.run c.take_line.new.columns head =
+    subst (Takes d (b, c.in-Some.line.now) c.take_alike.new.run c.take_line.new.run c.take_line.new.columns) c.in-Some-last.is c.in_ok-last.ensures.ok in
+    line-bytes d (b, c.in-Some.line.now) c.take_line.new.columns head last.decoded
 
 pub end_run-requires-clause-number : goal.end_run-requires-clause-number
 end_run-requires-clause-number c =
@@ -66,8 +66,8 @@ end_run-requires-clause-number c =
     let b = c.is_front-front.result in
     let known = (Gathers-trans d c.args.first c.args.ended c.args.run.now c.args.buffer.now c.lines.run c.lines.buffer c.take_alike.new.run c.take_alike.new.buffer c.lines.invariant
     (c.in_ok-take_alike.ensures.more d c.args.first c.args.ended (sym (ap (λ l. l.least_width) c.requires.layout)) c.lines.invariant.gathered)) in
-    let last : IsLast d (b, c.in-Some.line.now) c.take_alike.new.run c.take_line.new.run c.take_line.new.columns.items c.in-Some-last.head =
-    subst (Takes d (b, c.in-Some.line.now) c.take_alike.new.run c.take_line.new.run c.take_line.new.columns.items) c.in-Some-last.is c.in_ok-last.ensures.ok in
+    let last : IsLast d (b, c.in-Some.line.now) c.take_alike.new.run c.take_line.new.run c.take_line.new.columns c.in-Some-last.head =
+    subst (Takes d (b, c.in-Some.line.now) c.take_alike.new.run c.take_line.new.run c.take_line.new.columns) c.in-Some-last.is c.in_ok-last.ensures.ok in
     rw last.same (omega (arith, known.first_line, known.fewer, c.requires.number))
 
 pub returns-in-Some-last-clause-ok : goal.returns-in-Some-last-clause-ok
@@ -78,12 +78,12 @@ returns-in-Some-last-clause-ok c =
     (c.in_ok-take_alike.ensures.more d c.args.first c.args.ended (sym (ap (λ l. l.least_width) c.requires.layout)) c.lines.invariant.gathered)) in
     let at = front_at d c.args.first c.args.ended c.take_alike.new.run.first_line c.take_alike.new.run c.take_alike.new.buffer known.gathered b c.is_front-front.ensures in
     let first = first_at b b c.args.ended c.as_slice.result.now c.take_alike.new.buffer c.in-Some.line.now refl c.as_slice.ensures c.in-Some.ensures.some in
-    let last : IsLast d (b, c.in-Some.line.now) c.take_alike.new.run c.take_line.new.run c.take_line.new.columns.items c.in-Some-last.head =
-    subst (Takes d (b, c.in-Some.line.now) c.take_alike.new.run c.take_line.new.run c.take_line.new.columns.items) c.in-Some-last.is c.in_ok-last.ensures.ok in
-    let next : c.end_run.new.run ≡ run_of (c.take_line.new.run.first_line + length c.take_line.new.run.lines) c.in-Some-last.head.marked (line_with c.take_line.new.columns.items c.in-Some-last.head) =
-    subst (λ (cs : List ℕ). c.end_run.new.run ≡ run_of (c.take_line.new.run.first_line + length c.take_line.new.run.lines) c.in-Some-last.head.marked (line_with cs c.in-Some-last.head)) c.deref.ensures.value c.in_ok-given.ensures.next in
+    let last : IsLast d (b, c.in-Some.line.now) c.take_alike.new.run c.take_line.new.run c.take_line.new.columns c.in-Some-last.head =
+    subst (Takes d (b, c.in-Some.line.now) c.take_alike.new.run c.take_line.new.run c.take_line.new.columns) c.in-Some-last.is c.in_ok-last.ensures.ok in
+    let next : c.end_run.new.run ≡ run_of (c.take_line.new.run.first_line + length c.take_line.new.run.lines) c.in-Some-last.head.marked (line_with c.take_line.new.columns c.in-Some-last.head) =
+    c.in_ok-given.ensures.next in
     let ends : EndsRun d (b, c.in-Some.line.now) c.take_alike.new.run c.end_run.new.run c.in_ok-given.given =
-    EndsRun-last d (b, c.in-Some.line.now) c.take_alike.new.run c.take_line.new.run c.end_run.new.run c.in_ok-given.given c.take_line.new.columns.items c.in-Some-last.head last c.in_ok-given.ensures.given next in
+    EndsRun-last d (b, c.in-Some.line.now) c.take_alike.new.run c.take_line.new.run c.end_run.new.run c.in_ok-given.given c.take_line.new.columns c.in-Some-last.head last c.in_ok-given.ensures.given next in
     subst (λ rest. GivesFirst d c.args.first c.args.ended c.args.run.now c.args.buffer.now c.end_run.new.run rest c.in_ok-given.given) (sym c.drop_front.ensures)
     (GivesFirst-found d c.args.first c.args.ended c.args.run.now c.args.buffer.now c.take_alike.new.run c.end_run.new.run c.take_alike.new.buffer c.in-Some.line.now known b at first c.in_ok-given.given ends)
 
@@ -96,7 +96,7 @@ lines-preserved c =
     let at = front_at d c.args.first c.args.ended c.take_alike.new.run.first_line c.take_alike.new.run c.take_alike.new.buffer known.gathered b c.is_front-front.ensures in
     let first = first_at b b c.args.ended c.as_slice.result.now c.take_alike.new.buffer c.in-Some.line.now refl c.as_slice.ensures c.in-Some.ensures.some in
     let on : GoesOn d (b, c.in-Some.line.now) c.take_alike.new.run c.take_line.new.run =
-    subst (Takes d (b, c.in-Some.line.now) c.take_alike.new.run c.take_line.new.run c.take_line.new.columns.items) c.in_default-last.is c.in_ok-last.ensures.ok in
+    subst (Takes d (b, c.in-Some.line.now) c.take_alike.new.run c.take_line.new.run c.take_line.new.columns) c.in_default-last.is c.in_ok-last.ensures.ok in
     subst (Gathers d c.args.first c.args.ended c.args.run.now c.args.buffer.now c.take_line.new.run) (sym c.drop_front-in-lines.ensures)
     (Gathers-more d c.args.first c.args.ended c.args.run.now c.args.buffer.now c.take_alike.new.run c.take_line.new.run c.take_alike.new.buffer c.in-Some.line.now known b at first on)
 

@@ -17,12 +17,12 @@ pub has_other_ids-requires-clause-wide : goal.has_other_ids-requires-clause-wide
 has_other_ids-requires-clause-wide c =
     let d = c.args.dictionary.now in
     let line : FileLine = (c.args.front, c.args.line.now) in
-    let here : c.deref.result.now ≡ (line_text d line).columns = c.deref.ensures.value ∙ ap (λ l. l.columns) c.in_ok-head.ensures.ok.is in
+    let here : c.as_slice.result.now ≡ (line_text d line).columns = c.as_slice.ensures ∙ ap (λ l. l.columns) c.in_ok-head.ensures.ok.is in
     rw here (least_fits d line)
 
 pub has_other_ids-requires-clause-begins : goal.has_other_ids-requires-clause-begins
 has_other_ids-requires-clause-begins c =
-    rw c.deref.ensures.value (begins_last c.args.dictionary.now c.args.run.now c.last-last.result (λ l. l.0.now) (λ l. l.1) c.in_ok-head.head.beginning c.decode.new.columns.items
+    rw c.as_slice.ensures (begins_last c.args.dictionary.now c.args.run.now c.last-last.result (λ l. l.0.now) (λ l. l.1) c.in_ok-head.head.beginning c.decode.new.columns
     (omega (arith, c.len-len.ensures, c.if-len-gt0.true)) c.last-last.ensures.none c.last-last.ensures.some c.in_ok-head.ensures.same)
 
 pub returns-then-has_other_ids-clause-ok : goal.returns-then-has_other_ids-clause-ok
@@ -33,7 +33,7 @@ returns-then-has_other_ids-clause-ok c =
     record {
       decoded = ok;
       some = omega (arith, c.len-len.ensures, c.if-len-gt0.true);
-      other = λ e. c.has_other_ids.ensures.other c.if-has_other_ids.true (e ∙ sym (own_ids d line c.deref.result.now c.decode.new.columns.items c.in_ok-head.head c.deref.ensures.value ok.is));
+      other = λ e. c.has_other_ids.ensures.other c.if-has_other_ids.true (e ∙ sym (own_ids d line c.as_slice.result.now c.decode.new.columns c.in_ok-head.head c.as_slice.ensures ok.is));
       same = refl;
     }
 
@@ -46,7 +46,7 @@ returns-then-len-eq-MOST_LINES-clause-err c =
     let same : run_id d run ≡ id_of d line = elim c.else-len-gt0.branch [
       | else-len-gt0-via-then-len-gt0+else-has_other_ids w ↦
           w.has_other_ids.ensures.same w.if-has_other_ids.false
-          ∙ own_ids d line w.deref.result.now c.decode.new.columns.items c.in_ok-head.head w.deref.ensures.value c.in_ok-head.ensures.ok.is
+          ∙ own_ids d line w.as_slice.result.now c.decode.new.columns c.in_ok-head.head w.as_slice.ensures c.in_ok-head.ensures.ok.is
       | else-len-gt0-via-else-len-gt0 w ↦ absurd (omega (arith, w.if-len-gt0.false))
     ] in
     record { same = refl; fault = fault_of-many d (run_id d run) (length run.lines) line c.in_ok-head.ensures.ok.sound full same; low = omega arith }
@@ -55,8 +55,8 @@ pub push-requires-clause-bytes : goal.push-requires-clause-bytes
 push-requires-clause-bytes c =
     let d = c.args.dictionary.now in
     let line : FileLine = (c.args.front, c.args.line.now) in
-    let own = line-bytes d line c.decode.new.columns.items c.in_ok-head.head c.in_ok-head.ensures.ok in
-    own ∙ ap (λ cs. mark_bytes c.in_ok-head.head.marked ++ written_line (line_with cs c.in_ok-head.head)) (sym c.deref-2.ensures.value)
+    let own = line-bytes d line c.decode.new.columns c.in_ok-head.head c.in_ok-head.ensures.ok in
+    own ∙ ap (λ cs. mark_bytes c.in_ok-head.head.marked ++ written_line (line_with cs c.in_ok-head.head)) (sym c.as_slice-2.ensures)
 
 pub returns-clause-ok : goal.returns-clause-ok
 returns-clause-ok c =
@@ -67,13 +67,13 @@ returns-clause-ok c =
     let same : 0 < length run.lines → run_id d run ≡ id_of d line = λ some. elim c.else-len-gt0.branch [
       | else-len-gt0-via-then-len-gt0+else-has_other_ids w ↦
           w.has_other_ids.ensures.same w.if-has_other_ids.false
-          ∙ own_ids d line w.deref.result.now c.decode.new.columns.items c.in_ok-head.head w.deref.ensures.value c.in_ok-head.ensures.ok.is
+          ∙ own_ids d line w.as_slice.result.now c.decode.new.columns c.in_ok-head.head w.as_slice.ensures c.in_ok-head.ensures.ok.is
       | else-len-gt0-via-else-len-gt0 w ↦ absurd (omega (arith, w.if-len-gt0.false, c.len-len.ensures))
     ] in
     record {
       sound = ok.sound;
       same = same;
       room = omega (arith, c.len-len.ensures, c.if-len-eq-MOST_LINES.false, c.requires.few);
-      is = with_line-read d run c.push.new.self line c.deref-2.result.now c.decode.new.columns.items c.in_ok-head.head
-          c.in_ok-push.ensures c.deref-2.ensures.value ok.is ok.marked;
+      is = with_line-read d run c.push.new.self line c.as_slice-2.result.now c.decode.new.columns c.in_ok-head.head
+          c.in_ok-push.ensures c.as_slice-2.ensures ok.is ok.marked;
     }

@@ -1,6 +1,6 @@
 use Rattle.std.proofs.Common.{◌≤◌, ◌-◌, length, take}
 use Rattle.std.specs.Str.{IsAscii}
-use Rattle.cse_lines.proofs.decode.ascii_front.Given as goal
+use Rattle.cse_lines.proofs.beyond.ascii_front.Given as goal
 
 abbrev pub invariant-eights : goal.invariant-eights
 invariant-eights l = record {

@@ -3,7 +3,7 @@ use Rattle.std.specs.Str.{chars}
 use Rattle.std.proofs.lemmas.Iterator.{YieldsList-from_chars}
 use Rattle.std.proofs.lemmas.Iterator.Consumers.{YieldsList-end, YieldsList-turn}
 use Rattle.cse_lines.proofs.DecodeLaws.{set_behind}
-use Rattle.cse_lines.proofs.decode.put_chars.Goals as goal
+use Rattle.cse_lines.proofs.beyond.put_chars.Goals as goal
 
 pub bounds-columns-len : goal.bounds-columns-len
 bounds-columns-len c =

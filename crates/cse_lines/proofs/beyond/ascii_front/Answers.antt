@@ -2,7 +2,7 @@ use Rattle.std.proofs.Common.{◌≡◌, ◌+◌, ◌-◌, ◌++◌, take, drop,
 use Rattle.std.specs.Str.{IsAscii}
 use Rattle.std.proofs.Math.Seq.{take-add}
 use Rattle.std.proofs.lemmas.Str.{IsAscii-append}
-use Rattle.cse_lines.proofs.decode.ascii_front.Goals as goal
+use Rattle.cse_lines.proofs.beyond.ascii_front.Goals as goal
 
 pub eights-preserved : goal.eights-preserved
 eights-preserved c =

@@ -3,7 +3,7 @@ use Rattle.std.specs.Str.{IsUtf8, chars}
 use Rattle.std.proofs.lemmas.Str.{is_utf8-from_IsUtf8}
 use Rattle.cse_lines.specs.Field.{padded}
 use Rattle.cse_lines.proofs.DecodeLaws.{Holds-beyond, chars_fit, not_utf8, utf8_behind, utf8_front}
-use Rattle.cse_lines.proofs.decode.put_beyond.Goals as goal
+use Rattle.cse_lines.proofs.beyond.put_beyond.Goals as goal
 
 pub put_text-requires : goal.put_text-requires
 put_text-requires c =

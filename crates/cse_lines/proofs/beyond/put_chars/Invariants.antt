@@ -1,5 +1,5 @@
 use Rattle.std.proofs.Common.{◌≡◌, ◌++◌, drop, length}
-use Rattle.cse_lines.proofs.decode.put_chars.Given as goal
+use Rattle.cse_lines.proofs.beyond.put_chars.Given as goal
 
 abbrev pub invariant-chars : goal.invariant-chars
 invariant-chars l = record {
