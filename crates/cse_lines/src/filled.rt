@@ -210,6 +210,7 @@ pub fn put_line(columns: &mut [char], text: &[u8]) -> bool
 }
 
 /// Writes a line over the columns from a place up to another.
+#[inline(always)]
 fn put_between(columns: &mut Vec<char>, first: usize, end: usize, text: &[u8]) -> bool
     requires fits { first ≤ end }
     requires room { end ≤ length columns.old.items }
