@@ -92,17 +92,18 @@ record_stays v r n s none =
 pub only_records : (v : VerifiedProgram) (n : ℕ → ℕ) (rs : List ℕ) (s : Scene)
     → scene_after_all v s (records_events v.image.lists.items n (filter (is_handled v.image) rs)) ≡ scene_after_all v s (records_events v.image.lists.items n rs)
 only_records v n [] s = refl
-only_records v n (r ∷ rs) s = by (is_handled v.image r) refl
+only_records v n (r ∷ rs) s = by (λ (t : Scene). only_records v n rs t) (is_handled v.image r) refl
   where
+    own : List Moment
     own = record_events v.image.lists.items r (n r)
 
-    by : (b : Bool) → is_handled v.image r ≡ b
+    by : ((t : Scene) → scene_after_all v t (records_events v.image.lists.items n (filter (is_handled v.image) rs)) ≡ scene_after_all v t (records_events v.image.lists.items n rs)) → (b : Bool) → is_handled v.image r ≡ b
         → scene_after_all v s (records_events v.image.lists.items n (cond b (r ∷ filter (is_handled v.image) rs) (filter (is_handled v.image) rs))) ≡ scene_after_all v s (records_events v.image.lists.items n (r ∷ rs))
-    by true is =
+    by others true is =
         scene_later v s own (records_events v.image.lists.items n (filter (is_handled v.image) rs))
-        ∙ (only_records v n rs (scene_after_all v s own) ∙ sym (scene_later v s own (records_events v.image.lists.items n rs)))
-    by false is =
-        only_records v n rs s
+        ∙ (others (scene_after_all v s own) ∙ sym (scene_later v s own (records_events v.image.lists.items n rs)))
+    by others false is =
+        others s
         ∙ (ap (λ (t : Scene). scene_after_all v t (records_events v.image.lists.items n rs)) (sym (record_stays v r (n r) s is)) ∙ sym (scene_later v s own (records_events v.image.lists.items n rs)))
 
 -- ---- their occurrence is there

@@ -1,11 +1,12 @@
-use Rattle.std.proofs.Common.{◌≡◌, ◌+◌, ◌<◌, ◌∷◌, List, Some, ◌∙◌, ap, arith, drop, get_or, length, subst, sym}
+use Rattle.std.proofs.Common.{◌≡◌, ◌+◌, ◌<◌, ◌∷◌, [], ℕ, List, Some, map, ◌∙◌, ap, arith, drop, get_or, length, subst, sym}
 use Rattle.std.specs.List.{AllByRecursion}
-use Rattle.std.proofs.lemmas.List.{drop_more}
-use Rattle.cse_bounds.specs.CaseEvents.{record_events}
+use Rattle.std.proofs.lemmas.List.{drop_all, drop_more}
+use Rattle.cse_bounds.specs.CaseEvents.{record_events, records_events}
 use Rattle.cse_steps.specs.Fits.{occurrences_in}
 use Rattle.cse_batch.specs.declared.handled.HandledRecord.{HandledRecord}
-use Rattle.cse_batch.specs.Handled.{IsHandledRecord}
+use Rattle.cse_batch.specs.Handled.{IsHandledRecord, number_of}
 use Rattle.cse_batch.specs.Scene.{scene, scene_after_all}
+use Rattle.cse_batch.proofs.HandledLaws.{only_records}
 use Rattle.cse_batch.proofs.SceneLaws.{goes_further, records_next}
 use Rattle.cse_batch.proofs.events.run_records.Goals as goal
 
@@ -33,3 +34,16 @@ records-preserved g c =
       handled = left.1;
       left = next ∙ inv.left;
     }
+
+pub returns-clause-scene : goal.returns-clause-scene
+returns-clause-scene g c =
+    let v = c.args.verified.now in
+    let items = v.image.lists.items in
+    let s = scene (Some c.args.case.now) c.args.store.now c.args.reports.now in
+    let now = scene (Some c.records.case) c.records.store c.records.reports in
+    let occurrences = occurrences_in (Some c.args.case.now) in
+    let all = c.args.handled.now.records.items in
+    let none : drop c.records.of_record-index all ≡ [] = drop_all c.records.of_record-index all (omega (arith, c.records-test.false, ap length c.deref-of_record-items.ensures.value)) in
+    ap (λ (l : List HandledRecord). scene_after_all v now (records_events items occurrences (map number_of l))) (sym none)
+    ∙ (c.records.invariant.left
+    ∙ (ap (λ (rs : List ℕ). scene_after_all v s (records_events items occurrences rs)) c.requires.handled.numbers ∙ only_records v occurrences v.image.lists.order s))
