@@ -1,8 +1,8 @@
 //! Which lines of a run are seen, and as which occurrence of their record.
 
-ghost use Rattle.std.specs.Prelude.{◌≡◌, ◌≤◌, ◌<◌, ◌+◌, ◌++◌, ◌∷◌, [], ◌^◌, ℕ, List, Option, IfOk, IfSome, OnOk, map, replicate, take, length, slice_index, true, vec_len};
+ghost use Rattle.std.specs.Prelude.{◌≡◌, ◌≤◌, ◌<◌, ◌+◌, ◌++◌, ◌∷◌, [], ◌^◌, ℕ, List, Option, IfOk, IfSome, OnOk, map, replicate, take, length, slice_index, true, false, vec_len};
 ghost use Rattle.cse_case.specs.Seen.{is_of, places_from, unseen_after, unseen_of};
-ghost use Rattle.cse_case.specs.Table.{AreCounts, AreSeen, AreSpans, IsTable, first_at, types_in};
+ghost use Rattle.cse_case.specs.Table.{AreCounts, AreSeen, AreSpans, IsTable, first_at, type_at, types_in};
 ghost use Rattle.cse_case.specs.Found.{GoesOnWith, IsFound, IsLonger};
 
 use cse_dict::Unseen;
@@ -168,7 +168,8 @@ fn add_following(
     most: u16,
 ) -> Result<usize, AllocError>
     requires fits { span.old.start + span.old.count ≡ length firsts.old.items }
-    ensures { IfOk result (λ next. GoesOnWith number most lines.now place span.old firsts.old.items next span.new firsts.new.items) }
+    ensures goes { IfOk result (λ next. GoesOnWith number most lines.now place span.old firsts.old.items next span.new firsts.new.items) }
+    ensures whole { IfOk result (λ next. next < length lines.now → span.new.count < most → is_of number (type_at lines.now next) ≡ false) }
 {
     let mut next = place;
     'lines: while next < lines.len() && span.count < most {

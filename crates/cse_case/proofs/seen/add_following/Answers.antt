@@ -3,6 +3,7 @@ use Rattle.cse_value.specs.Occurrences.{most_occurrences}
 use Rattle.cse_lines.specs.declared.line.Line.{Line}
 use Rattle.cse_lines.specs.declared.line.Ending.TheVariants.{FileEnd}
 use Rattle.cse_case.specs.declared.seen.Span.{Span}
+use Rattle.cse_case.specs.Seen.{is_of}
 use Rattle.cse_case.specs.Table.{first_at, type_at}
 use Rattle.cse_case.specs.Found.{IsLonger}
 use Rattle.cse_case.proofs.SeenLaws.{type_is}
@@ -31,3 +32,8 @@ lines-preserved c =
           (omega (arith, c.if-span-most.true, most)) more;
       fits = omega (arith, c.lines.invariant.fits, ap length more.items, length-append firsts (first_at lines next ∷ []));
     }
+
+pub returns-then-not-is_of-clause-whole : goal.returns-then-not-is_of-clause-whole
+returns-then-not-is_of-clause-whole c = λ low room.
+    let no : Line = record { first = 0; width = 0; len = 0; ending = FileEnd; record_number = None } in
+    ap (is_of c.args.number) (type_is c.args.lines.now c.lines.next no low) ∙ (sym c.is_of.ensures ∙ c.if-not-is_of.true)

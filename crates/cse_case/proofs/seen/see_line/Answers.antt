@@ -43,7 +43,7 @@ returns-then-span-most c =
     let more : IsLonger span (first_at lines place) firsts c.add_occurrence.new.firsts.items c.add_occurrence.new.span = rw (first_here lines place no_line c.requires.place) longer in
     let one = AreFound-one records lines place place firsts c.add_occurrence.new.firsts.items spans r span c.add_occurrence.new.span c.requires.place
     (AreFound-none records lines place firsts spans c.requires.seen) own c.if-record-records.true low c.index_mut-own.ensures.value room more in
-    let others = c.in_ok-next.ensures records spans c.if-record-records.true (sym (most_at records r no_record c.if-record-records.true)) low one.seen in (
+    let others = c.in_ok-next.ensures.goes records spans c.if-record-records.true (sym (most_at records r no_record c.if-record-records.true)) low one.seen in (
       omega (arith, others.far),
       AreFound-then records lines place (place + 1) c.in_ok-next.next c.add_occurrence.new.firsts.items c.add_following.new.firsts.items _ _ one others,
     )
