@@ -1,7 +1,7 @@
 -- Laws of a line that is read as columns.
 use Rattle.std.proofs.Common.{◌≡◌, ℕ, zero, suc, ◌+◌, ◌-◌, ◌<◌, ◌≤◌, max, cond, ltb, Option, Some, None, Bool, true, false, List, [], ◌∷◌, ◌++◌, length, get_or, set, take, drop, replicate, refl, ap, sym, ◌∙◌, arith, append_assoc, append-nil, length-append, length-drop, bit_or, inl, inr, subst, take-append-drop, get_or-take, length-take-le}
 use Rattle.std.specs.Str.{IsAscii, IsUtf8, chars, is_utf8}
-use Rattle.std.proofs.lemmas.Str.{IsCharBoundary-after_ascii, IsUtf8-append, IsUtf8-drop, IsUtf8-from_ascii, IsUtf8-from_is_utf8, chars-IsAscii, chars-append, encodes-chars, length-le-encodes}
+use Rattle.std.proofs.lemmas.Str.{IsCharBoundary-after_ascii, IsUtf8-append, IsUtf8-drop, IsUtf8-from_ascii, IsUtf8-from_is_utf8, chars-IsAscii, chars-append, encodes-chars, is_utf8-from_IsUtf8, length-le-encodes}
 use Rattle.std.specs.Str.{IsCharBoundary}
 use Rattle.std.proofs.lemmas.List.{drop-append-le, drop_more, get_or-set_other, get_or-set_same, get_or_past, length-replicate, replicate-append-replicate, take-append-le, take_all, take_at}
 use Rattle.std.proofs.lemmas.Nat.{le_or_l, le_or_r}
@@ -215,6 +215,18 @@ utf8_behind text (suc i) fits ascii h =
     let next : i + 1 ≡ suc i = omega arith in
     let low : get_or text i 0 < 128 = subst (λ b. b < 128) (get_or-take (suc i) text i 0 (omega arith)) (ascii i) in
     IsUtf8-drop text (suc i) h (subst (IsCharBoundary text) next (IsCharBoundary-after_ascii text i h (omega arith) low))
+
+-- a fault of what is behind the bytes in front is one of the whole
+pub fault_behind : (text rest : List ℕ) (at : ℕ) (stop : Stop) → rest ≡ drop at text → at ≤ length text → IsAscii (take at text)
+    → IfFault (λ number. (number ≡ 20) × (is_utf8 rest ≡ false)) stop → IfFault (λ number. (number ≡ 20) × (is_utf8 text ≡ false)) stop
+fault_behind text rest at Memory is fits ascii h = tt
+fault_behind text rest at (Fault number) is fits ascii h = (
+  h.0,
+  not_utf8 text (λ u.
+      let sound : is_utf8 rest ≡ true = is_utf8-from_IsUtf8 rest (subst IsUtf8 (sym is) (utf8_behind text at fits ascii u)) in
+      let no = h.1 in
+      cc),
+)
 
 -- the characters of a text over columns that hold its bytes: those in front that are ASCII stayed
 pub Holds-beyond : (columns text new : List ℕ) (at n : ℕ) → columns ≡ padded (length columns) text → at ≤ length text → IsAscii (take at text) → length (chars (drop at text)) ≤ length (drop at columns)

@@ -9,3 +9,4 @@ pub mod GatherLaws
 pub mod LastLaws
 pub mod ReadLaws
 pub mod AlikeLaws
+pub mod ShortLaws

@@ -1,6 +1,7 @@
 //! Characters beyond ASCII, written over columns that hold their bytes.
 
-ghost use Rattle.std.specs.Prelude.{◌≡◌, ◌≤◌, ◌++◌, drop, length, replicate, take, true, false, IfErr, IfOk, OnOk};
+ghost use Rattle.std.specs.Prelude.{◌≡◌, ◌<◌, ◌≤◌, ◌+◌, ◌++◌, ◌∷◌, [], drop, length, replicate, take, true, false, IfErr, IfOk, IfSome, OnOk, OnSome};
+ghost use Rattle.std.specs.Char.{IsScalar, encode_utf8};
 ghost use Rattle.std.specs.Str.{IsAscii, chars, is_utf8};
 ghost use Rattle.cse_lines.specs.Decoding.{Holds, IfFault};
 ghost use Rattle.cse_lines.specs.Field.{padded};
@@ -33,6 +34,78 @@ fn put_text(columns: &mut [char], text: &str) -> usize
     let (_, rest) = columns.split_at_mut(len);
     put_blanks(rest);
     len
+}
+
+/// The character that is written in two bytes, if they are one.
+#[inline(always)]
+fn char_of(lead: u8, other: u8) -> Option<char>
+    ensures scalar { IfSome result (λ c. IsScalar c) }
+    ensures written { IfSome result (λ c. encode_utf8 c ≡ lead ∷ other ∷ []) }
+{
+    if lead < 194 || 223 < lead || other < 128 || 191 < other {
+        return None;
+    }
+    char::from_u32((lead as u32 - 192) * 64 + (other as u32 - 128))
+}
+
+/// The character at a place of a text, and how many bytes it has: one or two, or there is none.
+#[inline(always)]
+fn short_char(text: &[u8], at: usize) -> Option<(char, usize)>
+    requires { at < length text.now }
+    ensures fits { IfSome result (λ r. at + r.1 ≤ length text.now) }
+    ensures some { IfSome result (λ r. 0 < r.1) }
+    ensures scalar { IfSome result (λ r. IsScalar r.0) }
+    ensures written { IfSome result (λ r. take (at + r.1) text.now ≡ take at text.now ++ encode_utf8 r.0) }
+{
+    let byte = text[at];
+    if byte < 128 {
+        return Some((byte as char, 1));
+    }
+    if text.len() - at < 2 {
+        return None;
+    }
+    let column = char_of(byte, text[at + 1])?;
+    Some((column, 2))
+}
+
+/// Writes the characters of a text over the first of the columns, and tells how many there are, if each has
+/// one or two bytes.
+fn put_short_chars(columns: &mut [char], text: &[u8]) -> Option<usize>
+    requires { length text.now ≤ length columns.old }
+    ensures len { length columns.new ≡ length columns.old }
+    ensures utf8 { OnSome result (is_utf8 text.now ≡ true) }
+    ensures count { IfSome result (λ len. len ≡ length (chars text.now)) }
+    ensures columns { OnSome result (columns.new ≡ chars text.now ++ drop (length (chars text.now)) columns.old) }
+{
+    let mut at = 0;
+    let mut len = 0;
+    'chars: while at < text.len() {
+        let (column, size) = short_char(text, at)?;
+        columns[len] = column;
+        len += 1;
+        at += size;
+    }
+    Some(len)
+}
+
+/// Writes the characters of a text over the first of the columns, and blanks over the others. Tells how many
+/// characters there are.
+fn put_tail(columns: &mut [char], text: &[u8]) -> Result<usize, Stop>
+    requires { length text.now ≤ length columns.old }
+    ensures len { length columns.new ≡ length columns.old }
+    ensures columns { IfOk result (λ len. Holds columns.new (chars text.now) len) }
+    ensures utf8 { OnOk result (is_utf8 text.now ≡ true) }
+    ensures err { IfErr result (IfFault (λ number. (number ≡ 20) × (is_utf8 text.now ≡ false))) }
+{
+    if let Some(len) = put_short_chars(columns, text) {
+        let (_, rest) = columns.split_at_mut(len);
+        put_blanks(rest);
+        return Ok(len);
+    }
+    match str::from_utf8(text) {
+        Ok(text) => Ok(put_text(columns, text)),
+        Err(_) => Err(Stop::Fault(20)),
+    }
 }
 
 /// Whether eight bytes are ASCII.
@@ -73,8 +146,8 @@ pub fn put_beyond(columns: &mut [char], text: &[u8]) -> Result<usize, Stop>
     let at = ascii_front(text);
     let (_, bytes) = text.split_at(at);
     let (_, rest) = columns.split_at_mut(at);
-    match str::from_utf8(bytes) {
-        Ok(text) => Ok(at + put_text(rest, text)),
-        Err(_) => Err(Stop::Fault(20)),
+    match put_tail(rest, bytes) {
+        Ok(len) => Ok(at + len),
+        Err(stop) => Err(stop),
     }
 }

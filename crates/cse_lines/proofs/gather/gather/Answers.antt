@@ -1,10 +1,9 @@
-use Rattle.std.proofs.Common.{◌≡◌, ◌+◌, ◌++◌, ◌∙◌, ℕ, List, ap, sym, subst, arith, length, [], refl}
+use Rattle.std.proofs.Common.{◌≡◌, ◌+◌, ap, sym, subst, arith, length, [], refl}
 use Rattle.std.proofs.lemmas.Result.{err_from_is_err_and}
 use Rattle.cse_lines.specs.Decoding.{line_with}
 use Rattle.cse_lines.specs.Line.{lines_in}
 use Rattle.cse_lines.specs.Taking.{GoesOn, EndsRun, GivesFirst, Gathers, IsLast, Refuses, RefusesAt, Takes}
 use Rattle.cse_lines.specs.Run.{run_of}
-use Rattle.cse_lines.specs.Written.{mark_bytes, written_line}
 use Rattle.cse_lines.proofs.DecodeLaws.{IfFault-more}
 use Rattle.cse_lines.proofs.GatherLaws.{Gathers-more, Gathers-none, Gathers-trans, GivesFirst-found, RefusesAt-found, first_at, front_at, length-done, wide_line}
 use Rattle.cse_lines.proofs.LastLaws.{last_line}

@@ -1,11 +1,11 @@
-use Rattle.std.proofs.Common.{◌≡◌, ◌++◌, ◌∷◌, [], ℕ, Bool, List, append-nil, ap, arith, length, refl, sym, ◌∙◌}
+use Rattle.std.proofs.Common.{◌≡◌, ◌++◌, ◌∷◌, [], ℕ, List, append-nil, ap, arith, length, refl, sym, ◌∙◌}
 use Rattle.std.specs.List.{flat_map}
 use Rattle.std.proofs.lemmas.List.{take_all}
 use Rattle.cse_lines.specs.declared.decode.Head.{Head}
 use Rattle.cse_lines.specs.declared.line.Line.{Line}
 use Rattle.cse_lines.specs.Columns.{LineText}
 use Rattle.cse_lines.specs.Decoding.{line_with}
-use Rattle.cse_lines.specs.Laid.{IsLaid, laid_lines}
+use Rattle.cse_lines.specs.Laid.{laid_lines}
 use Rattle.cse_lines.specs.Lines.{bytes_in, lines_in}
 use Rattle.cse_lines.specs.Run.{RunText}
 use Rattle.cse_lines.specs.Written.{written_line}
