@@ -1,5 +1,4 @@
-use Rattle.std.proofs.Common.{◌≡◌, ◌<◌, ◌+◌, ◌++◌, ◌∷◌, [], None, Some, ap, arith, get_or, length, length-append, refl, sym, ◌∙◌}
-use Rattle.cse_value.specs.Occurrences.{most_occurrences}
+use Rattle.std.proofs.Common.{◌≡◌, ◌+◌, ◌++◌, ◌∷◌, [], None, Some, ap, arith, get_or, length, length-append, refl, sym, ◌∙◌}
 use Rattle.cse_lines.specs.declared.line.Line.{Line}
 use Rattle.cse_lines.specs.declared.line.Ending.TheVariants.{FileEnd}
 use Rattle.cse_case.specs.declared.seen.Span.{Span}

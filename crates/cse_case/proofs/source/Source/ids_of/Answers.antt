@@ -1,4 +1,4 @@
-use Rattle.std.proofs.Common.{◌≡◌, ℕ, List, [], ◌∷◌, length, refl, ap, ◌∙◌, subst, arith}
+use Rattle.std.proofs.Common.{◌≡◌, List, length, refl, ap, ◌∙◌, subst, arith}
 use Rattle.cse_lines.specs.declared.layout.Span.{Span}
 use Rattle.cse_lines.specs.Field.{HaveSame, fields_at, id_spans, ids_of}
 use Rattle.cse_lines.proofs.FieldLaws.{HaveSame-refl, HaveSame-trans}
