@@ -15,7 +15,7 @@ use Rattle.cse_syntax.specs.declared.tree.Query.TheVariants as q
 use Rattle.cse_syntax.specs.Word.{Word, Name, Sign}
 use Rattle.cse_syntax.specs.Tree.{Spelling, Expr, Exprs, Operations, Number, Text, Special', Bare, Indexed, Group, Apply, Query', InValueSet, Minus, Not, Compare, Chain, no_expr, expr_and, no_operation, operation_and, exprs, operations}
 use Rattle.cse_syntax.specs.Grammar.{sign, relation_sign, spell_each, spell_list, spell_set, Each, IsSome, spell_expr, spell_exprs, spell_others, spell_operations, binds, level, rule, Below, HasRoom, IsExpr, AreInner, AreOperations, spell_subscripts, IsName, IsSetName}
-use Rattle.cse_syntax.specs.Reading.{Parser, sees, enter, snoc, others_from, listed, operator_at, operations_from, chain, or_operator, and_operator, sum_operator, product_operator, relation_of, bracketed, subscripts, arguments, named, group, apply, query, set_after, member, marked, prim, unary, product, sum, related, relation, negation, conjunction, disjunction, nested}
+use Rattle.cse_syntax.specs.Reading.{Parser, sees, enter, snoc, others_from, listed, operator_at, operations_from, chain, or_operator, and_operator, sum_operator, product_operator, relation_of, bracketed, subscripts, arguments, named, closed, group, apply, name_before, query, set_after, member, marked, prim, unary, product, sum, related, relation, negation, conjunction, disjunction, nested}
 use Rattle.cse_syntax.proofs.Sound.{IsAt, IsInner}
 
 -- How tightly the next word binds to an expression before it.
@@ -330,13 +330,7 @@ abbrev pub Ends : List Word → Type 0
 Ends rest = follow rest < 1
 
 module _ (room : ℕ) (inner : Parser Expr) (inner_reads : ReadsInner room inner) where
-  -- further values, each after a comma
-  pub others_read : (xs : Exprs) (rest : List Word) → AreInner xs room → follow rest < 1 → sees m.Comma rest ≡ false → others_from inner (length (spell_others xs rest)) [] (spell_others xs rest) ≡ Some (list_of xs, rest)
-  others_read xs rest h f c =
-      let e = others_list xs rest in
-      rw e (each_read spell_expr (IsInner room) inner Ends inner_reads longer_expr (λ ws. omega arith) (list_of xs) (length (spell_each spell_expr (list_of xs) rest)) [] rest (each_inner room xs h) f c (omega arith))
-
-  inner_listed : (x : Expr) (xs : Exprs) (rest : List Word) → AreInner (expr_and x xs) room → listed inner (spell_exprs (expr_and x xs) (Sign m.Close ∷ rest)) ≡ Some (x ∷ list_of xs, Sign m.Close ∷ rest)
+  pub inner_listed : (x : Expr) (xs : Exprs) (rest : List Word) → AreInner (expr_and x xs) room → listed inner (spell_exprs (expr_and x xs) (Sign m.Close ∷ rest)) ≡ Some (x ∷ list_of xs, Sign m.Close ∷ rest)
   inner_listed x xs rest h =
       let e = exprs_list (expr_and x xs) (Sign m.Close ∷ rest) in
       ap (listed inner) e ∙ listed_reads spell_expr (IsInner room) inner Ends inner_reads longer_expr (λ ws. omega arith) (x ∷ list_of xs) (Sign m.Close ∷ rest) tt (each_inner room (expr_and x xs) h) (omega arith) refl
@@ -365,15 +359,15 @@ module _ (room : ℕ) (inner : Parser Expr) (inner_reads : ReadsInner room inner
   bare_reads name rest f = rw (no_open rest (omega arith)) refl
 
   group_reads : (x : Expr) (rest : List Word) → IsInner room x → group room inner (spell_expr x (Sign m.Close ∷ rest)) ≡ Some (Group x, rest)
-  unfolding group
+  unfolding group closed
   group_reads x rest h = rw (inner_reads x (Sign m.Close ∷ rest) h (omega arith)) refl
 
   apply_reads : (function : Function) (x : Expr) (rest : List Word) → IsInner room x → apply room inner function (Sign m.Open ∷ spell_expr x (Sign m.Close ∷ rest)) ≡ Some (Apply function x, rest)
-  unfolding apply
+  unfolding apply closed
   apply_reads function x rest h = rw (enter_reads room (spell_expr x (Sign m.Close ∷ rest)) (has_room room (IsExpr x) h), inner_reads x (Sign m.Close ∷ rest) h (omega arith)) refl
 
   query_reads : (which : Query) (name : Spelling) (rest : List Word) → IsName name → HasRoom room → query room inner which (Sign m.Open ∷ Name name ∷ Sign m.Close ∷ rest) ≡ Some (Query' which name, rest)
-  unfolding query
+  unfolding query name_before
   query_reads which name rest i h = rw (enter_reads room (Name name ∷ Sign m.Close ∷ rest) h, i) refl
 
   member_reads : (item : Spelling) (set : Option Spelling) (rest : List Word) → IsName item → IsSetName set → HasRoom room → member room inner (Sign m.Open ∷ Name item ∷ spell_set set (Sign m.Close ∷ rest)) ≡ Some (InValueSet item set, rest)

@@ -5,7 +5,7 @@ use Rattle.cse_syntax.specs.declared.token.Mark.TheVariants as m
 use Rattle.cse_syntax.specs.Word.{Word, Name, Sign}
 use Rattle.cse_syntax.specs.Tree.{Spelling, Stmts, no_stmt, stmt_and, Empty, Literal, Dimension, Sized, Rows, Parameter, Array, Declaration, Numeric, Alpha, Array', Function', Body, Plain, Preproc, Both, Postproc, Procedure, Tree}
 use Rattle.cse_syntax.specs.Grammar.{MOST, IsName, IsParameter, spell_mark, spell_each, spell_list, spell_all, spell_name, Each, IsSome, spell_stmts, AreStmts, spell_literal, spell_dimension, spell_parameter, spell_cells, spell_array, spell_declaration, spell_body, spell_procedure, spell_globals, IsDimension, IsLiteral, IsArray, IsDeclaration, IsBody, IsProcedure, AreGlobals, IsSource}
-use Rattle.cse_syntax.specs.Reading.{Parser, sees, after, take_name, loop, snoc, listed}
+use Rattle.cse_syntax.specs.Reading.{Parser, sees, after, ends, take_name, name_before, loop, snoc, listed}
 use Rattle.cse_syntax.specs.ReadingStmt.{literal, starts_stmt}
 use Rattle.cse_syntax.specs.ReadingSource.{rows, dimension, parameter, parameters, cells, numeric, alpha, array, array_declaration, function, declaration, starts_declaration, declarations, globals, plain, postproc, preproc, body, procedure, procedures, source_at}
 use Rattle.cse_syntax.proofs.Complete.{listed_reads}
@@ -83,7 +83,7 @@ behind_save false xs rest = rw (no_save xs rest) refl
 -- ---- declarations
 
 array_reads : (x : Array) (rest : List Word) → IsArray x → array (spell_array x (Sign m.Semicolon ∷ rest)) ≡ Some (x, Sign m.Semicolon ∷ rest)
-unfolding array
+unfolding array name_before
 array_reads x rest h =
     let dims = dimensions_read x.dimensions (spell_mark m.Save x.saved (spell_cells x.cells (Sign m.Semicolon ∷ rest))) h.1 h.2 in
     rw (h.0, dims, behind_save x.saved x.cells rest, saved_is x.saved x.cells rest, cells_read x.cells rest h.3) refl
@@ -91,7 +91,7 @@ array_reads x rest h =
 module _ (room : ℕ) where
   function_reads : (name : Spelling) (ps : List Parameter) (xs : Stmts) (rest : List Word) → IsName name → Each IsParameter ps → AreStmts xs room
       → function room (Name name ∷ Sign m.Open ∷ spell_list spell_parameter ps (Sign m.Close ∷ spell_stmts xs (Sign m.End ∷ Sign m.Semicolon ∷ rest))) ≡ Some (Function' name ps xs, rest)
-  unfolding function
+  unfolding function name_before ends
   function_reads name ps xs rest i k h =
       rw (i, parameters_read ps (spell_stmts xs (Sign m.End ∷ Sign m.Semicolon ∷ rest)) k, statements_at_read room xs (Sign m.End ∷ Sign m.Semicolon ∷ rest) h refl, stmts-stmt_list xs) refl
 

@@ -10,9 +10,9 @@ use Rattle.cse_syntax.specs.declared.tree.Jump.{Jump}
 use Rattle.cse_syntax.specs.Word.{Word, Name, Digits, Sign}
 use Rattle.cse_syntax.specs.Tree.{Spelling, Expr, Exprs, no_expr, expr_and, exprs, Literal, Limit, Fixed, Counted, Counting, Message, Own, Numbered, Stmt, Empty, Assign, Call, If, For, Do, Jump', Impute, PutDeck, ErrMsg, Stmts, no_stmt, stmt_and, stmts, Arms, no_arm, arm, arms, else_of}
 use Rattle.cse_syntax.specs.Grammar.{is_within, IsName, Below, HasRoom, spell_mark, spell_expr, spell_exprs, spell_others, spell_subscripts, IsExpr, AreInner, spell_literal, spell_limit, spell_by, spell_counting, spell_message, spell_stmt, spell_stmts, spell_arms, IsLimit, IsBy, IsCounting, IsMessage, IsStmt, AreStmts, AreArms}
-use Rattle.cse_syntax.specs.Reading.{Parser, sees, after, snoc, nested}
-use Rattle.cse_syntax.specs.ReadingStmt.{literal, counted, fixed, limit, step, again, counting, message, assigned, called, named_stmt, putdeck, errmsg, jump, imputed, impute, guarded, elseifs, elseifs_from, otherwise, conditional, body_to_end, over, over_at, counted_at, marked_stmt, statement, starts_stmt, statements, statements_from, body_at, statements_at}
-use Rattle.cse_syntax.proofs.Complete.{longer_expr, longer_exprs, longer_others, longer_subscripts, list_of, exprs-list_of, enter_reads, has_room, others_read, subscripts_read, arguments_read, nested_reads, expr_reads}
+use Rattle.cse_syntax.specs.Reading.{Parser, same, sees, after, ends, name_before, snoc, nested}
+use Rattle.cse_syntax.specs.ReadingStmt.{literal, counted, fixed, limit, step, again, counting, message, assigned, called, named_stmt, putdeck, other_values, errmsg, jump, imputed, impute, visiting, visiting_at, counting_at, guarded, elseifs, elseifs_from, body_to, otherwise, alternatives, conditional, over, repeated, marked_stmt, statement, starts_stmt, statements, statements_from, body_at, statements_at}
+use Rattle.cse_syntax.proofs.Complete.{longer_expr, longer_exprs, longer_others, longer_subscripts, list_of, exprs-list_of, enter_reads, has_room, inner_listed, subscripts_read, arguments_read, nested_reads, expr_reads}
 
 abbrev pub stmt_list : Stmts → List Stmt
 stmt_list no_stmt = []
@@ -98,7 +98,7 @@ literal_reads most x rest h =
     ] in by x.minus
 
 counted_reads : (room : ℕ) (count : Count) (name : Spelling) (rest : List Word) → IsName name → HasRoom room → counted room count (Sign m.Open ∷ Name name ∷ Sign m.Close ∷ rest) ≡ Some (Counted count name, rest)
-unfolding counted
+unfolding counted name_before
 counted_reads room count name rest i h = rw (enter_reads room (Name name ∷ Sign m.Close ∷ rest) h, i) refl
 
 fixed_reads : (x : Literal) (rest : List Word) → is_within 0 999999999 x.digits.text ≡ true → fixed (spell_literal x rest) ≡ Some (Fixed x, rest)
@@ -126,7 +126,7 @@ unfolding again
 again_reads variable name rest i h = rw (i, h) refl
 
 counting_reads : (room : ℕ) (x : Counting) (rest : List Word) → IsCounting x room → sees m.By rest ≡ false → counting room (spell_counting x rest) ≡ Some (x, rest)
-unfolding counting
+unfolding counting name_before
 counting_reads room x rest h b =
     let start = limit_reads room x.start (Sign m.Until ∷ Name x.again ∷ Sign m.More ∷ spell_limit x.stop (spell_by x.by rest)) h.1 in
     let second = again_reads x.variable x.again (Sign m.More ∷ spell_limit x.stop (spell_by x.by rest)) h.2 h.3 in
@@ -190,7 +190,7 @@ module _ (room : ℕ) where
   call_reads name xs rest h i = rw (arguments_read room (nested room) (nested_reads room) xs (Sign m.Semicolon ∷ rest) h i, exprs-list_of xs) refl
 
   putdeck_reads : (deck : Spelling) (value : Expr) (rest : List Word) → IsName deck → Below room (IsExpr value) → putdeck room (Sign m.Open ∷ Name deck ∷ Sign m.Comma ∷ spell_expr value (Sign m.Close ∷ Sign m.Semicolon ∷ rest)) ≡ Some (PutDeck deck value, rest)
-  unfolding putdeck
+  unfolding putdeck name_before ends
   putdeck_reads deck value rest i h =
       let a = enter_reads room (Name deck ∷ Sign m.Comma ∷ spell_expr value (Sign m.Close ∷ Sign m.Semicolon ∷ rest)) (has_room room (IsExpr value) h) in
       rw (a, i, nested_reads room value (Sign m.Close ∷ Sign m.Semicolon ∷ rest) h (omega arith)) refl
@@ -203,6 +203,11 @@ module _ (room : ℕ) where
   behind_summary true rest = refl
   behind_summary false rest = refl
 
+  other_values_read : (xs : Exprs) (rest : List Word) → AreInner xs room → other_values room (spell_others xs (Sign m.Close ∷ rest)) ≡ Some (list_of xs, Sign m.Close ∷ rest)
+  unfolding other_values
+  other_values_read no_expr rest h = refl
+  other_values_read (expr_and x xs) rest h = inner_listed room (nested room) (nested_reads room) x xs rest h
+
   errmsg_reads : (what : Message) (values : Exprs) (summary : Bool) (rest : List Word) → HasRoom room → IsMessage what → AreInner values room
       → errmsg room (Sign m.Open ∷ spell_message what (spell_others values (Sign m.Close ∷ spell_mark m.Summary summary (Sign m.Semicolon ∷ rest)))) ≡ Some (ErrMsg what values summary, rest)
   unfolding errmsg
@@ -210,7 +215,7 @@ module _ (room : ℕ) where
       let end : List Word = spell_mark m.Summary summary (Sign m.Semicolon ∷ rest) in
       let a = enter_reads room (spell_message what (spell_others values (Sign m.Close ∷ end))) h in
       let b = message_reads what (spell_others values (Sign m.Close ∷ end)) i in
-      let d = others_read room (nested room) (nested_reads room) values (Sign m.Close ∷ end) k (omega arith) refl in
+      let d = other_values_read values end k in
       rw (a, b, d, behind_summary summary rest, summary_is summary rest, exprs-list_of values) refl
 
   jump_reads : (token : ℕ) (which : Jump) (rest : List Word) → jump room token which (Sign m.Semicolon ∷ rest) ≡ Some (Jump' token which, rest)
@@ -219,7 +224,7 @@ module _ (room : ℕ) where
 
   imputed_reads : (name : Spelling) (xs : Exprs) (value : Expr) (rest : List Word) → IsName name → AreInner xs room → IsExpr value room
       → imputed room (Name name ∷ spell_subscripts xs (Sign m.Comma ∷ spell_expr value (Sign m.Close ∷ Sign m.Semicolon ∷ rest))) ≡ Some (Impute name xs value, rest)
-  unfolding imputed
+  unfolding imputed ends
   imputed_reads name xs value rest n h i =
       let a = subscripts_read room (nested room) (nested_reads room) xs (Sign m.Comma ∷ spell_expr value (Sign m.Close ∷ Sign m.Semicolon ∷ rest)) h (omega arith) in
       let b = expr_reads room value (Sign m.Close ∷ Sign m.Semicolon ∷ rest) i (omega arith) in
@@ -230,6 +235,23 @@ impute_reads : (room : ℕ) (name : Spelling) (xs : Exprs) (value : Expr) (rest 
 unfolding impute
 impute_reads zero name xs value rest n h i = absurd h
 impute_reads (suc room) name xs value rest n h i = imputed_reads room name xs value rest n h i
+
+-- ---- the heads of statements with others in them
+
+visiting_reads : (variable record_name : Spelling) (rest : List Word) → IsName variable → IsName record_name → visiting (Name variable ∷ Sign m.In ∷ Name record_name ∷ Sign m.Do ∷ rest) ≡ Some ((variable, record_name), rest)
+unfolding visiting name_before
+visiting_reads variable record_name rest i k = rw (i, k) refl
+
+visiting_at_reads : (room : ℕ) (variable record_name : Spelling) (rest : List Word) → IsName variable → IsName record_name → HasRoom room
+    → visiting_at room (Name variable ∷ Sign m.In ∷ Name record_name ∷ Sign m.Do ∷ rest) ≡ Some ((variable, record_name), rest)
+unfolding visiting_at
+visiting_at_reads zero variable record_name rest i k h = absurd h
+visiting_at_reads (suc room) variable record_name rest i k h = visiting_reads variable record_name rest i k
+
+counting_at_reads : (room : ℕ) (head : Counting) (rest : List Word) → Below room (IsCounting head) → sees m.By rest ≡ false → counting_at room (spell_counting head rest) ≡ Some (head, rest)
+unfolding counting_at
+counting_at_reads zero head rest h b = absurd h
+counting_at_reads (suc room) head rest h b = counting_reads room head rest h b
 
 -- ---- statements with others in them
 
@@ -257,11 +279,20 @@ module _ (room : ℕ) (body : Parser (List Stmt)) (body_reads : ReadsBody room b
   unfolding elseifs
   elseifs_read xs rest h e s = arms_read xs (length (spell_arms xs rest)) [] rest h e s (omega arith)
 
-  otherwise_reads : (xs : Arms) (rest : List Word) → AreArms xs room → sees m.Else rest ≡ false → starts_stmt rest ≡ false → otherwise room body (spell_arms (last_of xs) rest) ≡ Some (last_of xs, rest)
-  unfolding otherwise
-  otherwise_reads no_arm rest h e s = rw e refl
-  otherwise_reads (else_of xs) rest h e s = rw (body_reads xs rest h s, stmts-stmt_list xs) refl
-  otherwise_reads (arm x b xs) rest h e s = otherwise_reads xs rest h.2 e s
+  -- `endif`, `enddo` and `else` begin no statement
+  body_to_reads : (mark : Mark) (xs : Stmts) (rest : List Word) → Below room (AreStmts xs) → starts_stmt (Sign mark ∷ rest) ≡ false → same mark mark ≡ true → body_to room body mark (spell_stmts xs (Sign mark ∷ Sign m.Semicolon ∷ rest)) ≡ Some (xs, rest)
+  unfolding body_to ends
+  body_to_reads mark xs rest h s e = rw (body_reads xs (Sign mark ∷ Sign m.Semicolon ∷ rest) h s, e, stmts-stmt_list xs) refl
+
+  otherwise_reads : (xs : Arms) (rest : List Word) → AreArms xs room → otherwise room body (spell_arms (last_of xs) (Sign m.EndIf ∷ Sign m.Semicolon ∷ rest)) ≡ Some (last_of xs, rest)
+  unfolding otherwise ends
+  otherwise_reads no_arm rest h = refl
+  otherwise_reads (else_of xs) rest h = rw (body_to_reads m.EndIf xs rest h refl refl) refl
+  otherwise_reads (arm x b xs) rest h = otherwise_reads xs rest h.2
+
+  alternatives_read : (xs : Arms) (rest : List Word) → AreArms xs room → alternatives room body (spell_arms xs (Sign m.EndIf ∷ Sign m.Semicolon ∷ rest)) ≡ Some (xs, rest)
+  unfolding alternatives
+  alternatives_read xs rest h = rw (elseifs_read xs (Sign m.EndIf ∷ Sign m.Semicolon ∷ rest) h refl refl, otherwise_reads xs rest h, arms-arm_list xs) refl
 
   conditional_reads : (x : Expr) (b : Stmts) (others : Arms) (rest : List Word) → IsStmt (If x b others) room
       → conditional room body (spell_expr x (Sign m.Then ∷ spell_stmts b (spell_arms others (Sign m.EndIf ∷ Sign m.Semicolon ∷ rest)))) ≡ Some (If x b others, rest)
@@ -269,30 +300,21 @@ module _ (room : ℕ) (body : Parser (List Stmt)) (body_reads : ReadsBody room b
   conditional_reads x b others rest h =
       let end : List Word = Sign m.EndIf ∷ Sign m.Semicolon ∷ rest in
       let first = guarded_reads x b (spell_arms others end) h.0 h.1 (arms_start others end refl) in
-      rw (first, elseifs_read others end h.2 refl refl, otherwise_reads others end h.2 refl refl, arms-arm_list others) refl
-
-  body_to_end_reads : (xs : Stmts) (rest : List Word) → Below room (AreStmts xs) → body_to_end room body (spell_stmts xs (Sign m.EndDo ∷ Sign m.Semicolon ∷ rest)) ≡ Some (xs, rest)
-  unfolding body_to_end
-  body_to_end_reads xs rest h = rw (body_reads xs (Sign m.EndDo ∷ Sign m.Semicolon ∷ rest) h refl, stmts-stmt_list xs) refl
+      rw (first, alternatives_read others rest h.2) refl
 
   over_reads : (variable record_name : Spelling) (xs : Stmts) (rest : List Word) → IsName variable → IsName record_name → Below room (AreStmts xs)
       → over room body (Name variable ∷ Sign m.In ∷ Name record_name ∷ Sign m.Do ∷ spell_stmts xs (Sign m.EndDo ∷ Sign m.Semicolon ∷ rest)) ≡ Some (For variable record_name xs, rest)
   unfolding over
-  over_reads variable record_name xs rest i k h = rw (i, k, body_to_end_reads xs rest h) refl
+  over_reads variable record_name xs rest i k h =
+      let end : List Word = Sign m.EndDo ∷ Sign m.Semicolon ∷ rest in
+      rw (visiting_at_reads room variable record_name (spell_stmts xs end) i k (has_room room (AreStmts xs) h), body_to_reads m.EndDo xs rest h refl refl) refl
 
-over_at_reads : (room : ℕ) (body : Parser (List Stmt)) → ReadsBody room body → (variable record_name : Spelling) (xs : Stmts) (rest : List Word) → IsName variable → IsName record_name → Below room (AreStmts xs)
-    → over_at room body (Name variable ∷ Sign m.In ∷ Name record_name ∷ Sign m.Do ∷ spell_stmts xs (Sign m.EndDo ∷ Sign m.Semicolon ∷ rest)) ≡ Some (For variable record_name xs, rest)
-unfolding over_at
-over_at_reads zero body reads variable record_name xs rest i k h = absurd h
-over_at_reads (suc room) body reads variable record_name xs rest i k h = over_reads (suc room) body reads variable record_name xs rest i k h
-
-counted_at_reads : (room : ℕ) (body : Parser (List Stmt)) → ReadsBody room body → (head : Counting) (xs : Stmts) (rest : List Word) → Below room (IsCounting head) → Below room (AreStmts xs)
-    → counted_at room body (spell_counting head (spell_stmts xs (Sign m.EndDo ∷ Sign m.Semicolon ∷ rest))) ≡ Some (Do head xs, rest)
-unfolding counted_at
-counted_at_reads zero body reads head xs rest h i = absurd h
-counted_at_reads (suc room) body reads head xs rest h i =
-    let end : List Word = Sign m.EndDo ∷ Sign m.Semicolon ∷ rest in
-    rw (counting_reads room head (spell_stmts xs end) h (no_by xs end refl), body_to_end_reads (suc room) body reads xs rest i) refl
+  repeated_reads : (head : Counting) (xs : Stmts) (rest : List Word) → Below room (IsCounting head) → Below room (AreStmts xs)
+      → repeated room body (spell_counting head (spell_stmts xs (Sign m.EndDo ∷ Sign m.Semicolon ∷ rest))) ≡ Some (Do head xs, rest)
+  unfolding repeated
+  repeated_reads head xs rest h i =
+      let end : List Word = Sign m.EndDo ∷ Sign m.Semicolon ∷ rest in
+      rw (counting_at_reads room head (spell_stmts xs end) h (no_by xs end refl), body_to_reads m.EndDo xs rest i refl refl) refl
 
 module _ (room : ℕ) (body : Parser (List Stmt)) (body_reads : ReadsBody room body) where
   assigns : (name : Spelling) (xs : Exprs) (value : Expr) (rest : List Word) → IsStmt (Assign name xs value) room → statement room body (spell_stmt (Assign name xs value) rest) ≡ Some (Assign name xs value, rest)
@@ -305,8 +327,8 @@ module _ (room : ℕ) (body : Parser (List Stmt)) (body_reads : ReadsBody room b
   statement_reads (Assign name is value) rest h = assigns name is value rest h
   statement_reads (Call name xs) rest h = rw h.0 (call_reads room name xs rest h.1 h.2)
   statement_reads (If x b others) rest h = conditional_reads room body body_reads x b others rest h
-  statement_reads (For variable record_name xs) rest h = over_at_reads room body body_reads variable record_name xs rest h.0 h.1 h.2
-  statement_reads (Do head xs) rest h = counted_at_reads room body body_reads head xs rest h.0 h.1
+  statement_reads (For variable record_name xs) rest h = over_reads room body body_reads variable record_name xs rest h.0 h.1 h.2
+  statement_reads (Do head xs) rest h = repeated_reads room body body_reads head xs rest h.0 h.1
   statement_reads (Jump' token which) rest h = jump_reads room token which rest
   statement_reads (Impute name xs value) rest h = impute_reads room name xs value rest h.0 h.1 h.2
   statement_reads (PutDeck deck value) rest h = putdeck_reads room deck value rest h.0 h.1

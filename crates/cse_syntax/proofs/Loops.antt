@@ -1,12 +1,15 @@
 -- A loop of the code beside the loop that reads.
-use Rattle.std.proofs.Common.{◌≡◌, ℕ, zero, suc, ◌≤◌, ◌<◌, Bool, true, false, List, [], ◌∷◌, length, Option, Some, None, refl, sym, subst, ◌∙◌, arith}
+use Rattle.std.proofs.Common.{◌≡◌, ℕ, zero, suc, ◌≤◌, ◌<◌, Bool, true, false, List, [], ◌∷◌, length, Option, Some, None, Result, Ok, Err, refl, sym, subst, ◌∙◌, arith}
 use Rattle.std.proofs.Common.{drop, ap, ◌++◌}
 use Rattle.cse_syntax.specs.declared.token.Token.{Token}
+use Rattle.cse_syntax.specs.declared.error.ReadError.{ReadError}
+use Rattle.cse_syntax.specs.declared.error.ReadError.TheVariants as errors
 use Rattle.cse_syntax.specs.declared.token.Mark.{Mark}
+use Rattle.cse_syntax.specs.declared.token.Mark.TheVariants as m
 use Rattle.cse_syntax.specs.declared.tree.Operator.{Operator}
 use Rattle.cse_syntax.specs.Word.{Word, words}
 use Rattle.cse_syntax.specs.Tree.{Expr}
-use Rattle.cse_syntax.specs.Reading.{Parser, sees, after, expect, operator_at, is_some, operation, operations_from}
+use Rattle.cse_syntax.specs.Reading.{Parser, Fails, Makes, Gives, sees, after, expect, after_comma, others_from, listed, operator_at, is_some, operation, operations_from}
 use Rattle.cse_syntax.specs.Loop.{◌>>=◌, Reader, loop, snoc}
 
 -- From here on, with turns enough, the whole is read.
@@ -76,6 +79,16 @@ after_is mark ws e = rw e refl
 pub after_mark : {B : Type 0} (mark : Mark) (p : Parser B) (ws mid : List Word) (r : Option (B × List Word)) → sees mark ws ≡ true → mid ≡ after mark ws → p mid ≡ r → (expect mark ws >>= p) ≡ r
 after_mark mark p ws mid r s e h = let m : mid ≡ drop 1 ws = e ∙ after_is mark ws s in rw (s, ← m) h
 
+-- a tree that was made is what was read
+pub made_gives : {A B : Type 0} (view : A → B) (r : Result A ReadError) (made : B) (reading : Option (B × List Word)) (behind : List Word) → Makes view r made → reading ≡ Some (made, behind) → Gives view r reading behind
+made_gives {A} {B} view (Ok x) made reading behind h e = e ∙ ap (λ (t : B). Some (t, behind)) (sym h)
+made_gives view (Err e) made reading behind h i = subst (λ (k : ReadError). Fails k reading) (sym h) tt
+
+-- what fails at a step fails as a whole
+pub step_fails : {A B : Type 0} (e : ReadError) (o : Option A) (f : A → Option B) → Fails e o → Fails e (o >>= f)
+step_fails errors.Memory o f h = tt
+step_fails (errors.Found fault) o f h = rw h refl
+
 pub after_not : (mark : Mark) (ws : List Word) → sees mark ws ≡ false → after mark ws ≡ ws
 after_not mark ws e = rw e refl
 
@@ -83,3 +96,46 @@ after_not mark ws e = rw e refl
 pub list_ends : {B : Type 0} (starts : List Word → Bool) (item : Parser B) (reading : Option (List B × List Word)) (found : List B) (ts behind : List Token)
     → starts (words ts) ≡ false → words behind ≡ words ts → Within (λ n. loop starts item snoc n found) (words ts) reading → reading ≡ Some (found, words behind)
 list_ends {B} starts item reading found ts behind s e w = let h = ends starts item snoc reading found (words ts) s w in h ∙ rw e refl
+
+-- ---- lists with commas
+
+-- An item of a list comes next: from here on, with turns enough, the whole is read.
+pub record Awaits {B : Type 0} (item : Parser B) (found : List B) (ws : List Word) (reading : Option (List B × List Word)) : Type 0 where
+  pub turns : List Word → ℕ
+  pub enough : (rest : List Word) → length rest ≤ length ws → length rest ≤ turns rest
+  pub same : (item ws >>= λ x. others_from item (turns x.1) (snoc found x.0) x.1) ≡ reading
+
+behind_comma : (mid : List Word) → sees m.Comma mid ≡ true → suc (length (drop 1 mid)) ≤ length mid
+behind_comma [] s = absurd cc
+behind_comma (w ∷ ws) s = omega arith
+
+module _ {B : Type 0} (item : Parser B) where
+  pub awaits_first : (ws : List Word) (found : List B) → found ≡ [] → Awaits item found ws (listed item ws)
+  unfolding listed
+  awaits_first ws found e = rw e (record { turns = length; enough = λ rest h. omega arith; same = refl })
+
+  module _ (reading : Option (List B × List Word)) (found : List B) where
+    awaits_at : (n : ℕ) (mid : List Word) → sees m.Comma mid ≡ true → length mid ≤ n → others_from item n found mid ≡ reading → Awaits item found (drop 1 mid) reading
+    awaits_at zero mid s enough same = absurd (omega (arith, behind_comma mid s))
+    awaits_at (suc n) mid s enough same =
+        let one : others_from item (suc n) found mid ≡ (item (drop 1 mid) >>= λ y. others_from item n (snoc found y.0) y.1) = rw s refl in
+        record { turns = λ rest. n; enough = λ rest h. omega (arith, h, behind_comma mid s); same = sym one ∙ same }
+
+    -- from here on, behind one more item
+    behind_item : (x : B) (ts mid : List Token) → item (words ts) ≡ Some (x, words mid) → length mid ≤ length ts → Awaits item found (words ts) reading → Within (λ n. others_from item n (snoc found x)) (words mid) reading
+    behind_item x ts mid i le w =
+        let turns : ℕ = w.turns (words mid) in
+        let one : (item (words ts) >>= λ y. others_from item (w.turns y.1) (snoc found y.0) y.1) ≡ others_from item turns (snoc found x) (words mid) = rw i refl in
+        record { turns = turns; enough = w.enough (words mid) (omega (arith, length_words ts, length_words mid, le)); same = sym one ∙ w.same }
+
+  module _ (reading : Option (List B × List Word)) (found all : List B) (x : B) (ts mid behind : List Token) (i : item (words ts) ≡ Some (x, words mid)) (le : length mid ≤ length ts) (b : all ≡ snoc found x) where
+    pub awaits_next : sees m.Comma (words mid) ≡ true → words behind ≡ after m.Comma (words mid) → Awaits item found (words ts) reading → Awaits item all (words behind) reading
+    awaits_next s e w =
+        let one = behind_item reading found x ts mid i le w in
+        let go = awaits_at reading (snoc found x) one.turns (words mid) s one.enough one.same in
+        let behind_is : words behind ≡ drop 1 (words mid) = e ∙ after_is m.Comma (words mid) s in
+        rw (b, behind_is) go
+
+    pub awaits_last : sees m.Comma (words mid) ≡ false → words behind ≡ after m.Comma (words mid) → Awaits item found (words ts) reading → reading ≡ Some (all, words behind)
+    awaits_last s e w =
+        rw b (list_ends (sees m.Comma) (after_comma item) reading (snoc found x) mid behind s (e ∙ after_not m.Comma (words mid) s) (behind_item reading found x ts mid i le w))

@@ -11,8 +11,8 @@ use Rattle.cse_syntax.specs.declared.tree.Query.TheVariants as q
 use Rattle.cse_syntax.specs.Word.{Word, Name, Digits, Quoted, Value, Leave, Sign, Stray}
 use Rattle.cse_syntax.specs.Tree.{Spelling, Expr, Number, Text, Special', Bare, Indexed, Group, Apply, Query', InValueSet, Minus, Not, Compare, exprs, operations}
 use Rattle.cse_syntax.specs.Grammar.{sign, relation_sign, function_sign, query_sign, spell_each, spell_list, spell_set, Each, IsSome, spell_expr, spell_exprs, spell_others, spell_operations, binds, level, rule, Below, HasRoom, IsExpr, AreInner, AreOperations, spell_subscripts, is_name, is_within, is_text, MOST, IsName, IsSetName}
-use Rattle.cse_syntax.specs.Reading.{◌>>=◌, Parser, sees, expect, enter, take_name, loop, snoc, after_comma, others_from, listed, operator_at, is_some, operation, operations_from, chained, chain, or_operator, and_operator, sum_operator, product_operator, relation_of, bracketed, subscripts, arguments, named, group, apply, query, set_after, member, marked, prim, unary, product, sum, related, relation, negation, conjunction, disjunction, nested}
-use Rattle.cse_syntax.proofs.Steps.{read, some_is, both_are, bind_some, if_some, test_some, sees_is, expect_is, enter_is, take_name_is}
+use Rattle.cse_syntax.specs.Reading.{◌>>=◌, Parser, sees, expect, enter, take_name, name_before, loop, snoc, after_comma, listed, operator_at, is_some, operation, operations_from, chained, chain, or_operator, and_operator, sum_operator, product_operator, relation_of, bracketed, subscripts, arguments, named, closed, group, apply, query, set_after, member, marked, prim, unary, product, sum, related, relation, negation, conjunction, disjunction, nested}
+use Rattle.cse_syntax.proofs.Steps.{read, some_is, both_are, bind_some, if_some, test_some, sees_is, expect_is, enter_is, take_name_is, name_before_is}
 
 -- A reader gives only trees that are Good, and their words.
 abbrev pub Sound : {A : Type 0} → (A → List Word → List Word) → (A → Type 0) → Parser A → Type 0
@@ -74,11 +74,6 @@ module _ {A : Type 0} (spell : A → List Word → List Word) (P : A → Type 0)
       let a = bind_some (expect m.Comma ws) _ _ e in
       let y = item_sound a.0 x rest a.2 in
       (expect_is m.Comma ws a.0 a.1 ∙ ap (λ (r : List Word). Sign m.Comma ∷ r) y.0, y.1)
-
-  -- further items
-  pub each_sound : (n : ℕ) → Sound (spell_each spell) (Each P) (others_from item n [])
-  each_sound n ws x rest e =
-      loop_sound (sees m.Comma) (after_comma item) snoc (spell_each spell) (Each P) (λ y r. Sign m.Comma ∷ spell y r) P comma_sound (λ xs y r h. spell_each_snoc spell xs y r) (λ xs y h i. Each-snoc P xs y h i) n [] ws x rest tt e
 
   pub listed_sound : Sound (spell_list spell) (λ xs. IsSome xs × Each P xs) (listed item)
   unfolding listed
@@ -207,13 +202,7 @@ spell_subscripts_list [] rest h = absurd h
 spell_subscripts_list (x ∷ xs) rest h = refl
 
 module _ (room : ℕ) (inner : Parser Expr) (inner_sound : Sound spell_expr (IsInner room) inner) where
-  -- further values
-  pub others_sound : (n : ℕ) → Sound (λ xs r. spell_others (exprs xs) r) (λ xs. AreInner (exprs xs) room) (others_from inner n [])
-  others_sound n ws x rest e =
-      let y = each_sound spell_expr (IsInner room) inner inner_sound n ws x rest e in
-      (y.0 ∙ spell_others_each x rest, AreInner-each room x y.1)
-
-  inner_listed : Sound (λ xs r. spell_exprs (exprs xs) r) (λ xs. IsSome xs × AreInner (exprs xs) room) (listed inner)
+  pub inner_listed : Sound (λ xs r. spell_exprs (exprs xs) r) (λ xs. IsSome xs × AreInner (exprs xs) room) (listed inner)
   inner_listed ws x rest e =
       let y = listed_sound spell_expr (IsInner room) inner inner_sound ws x rest e in
       (y.0 ∙ spell_exprs_list x rest, (y.1.0, AreInner-each room x y.1.1))
@@ -267,34 +256,42 @@ module _ (room : ℕ) (inner : Parser Expr) (inner_sound : Sound spell_expr (IsI
         | inr h ↦ made spell_expr (IsAt 8 room) (Name name ∷ ws) (Bare name) x ws rest h.1 refl (omega arith, is)
       ]
 
-  group_sound : SoundAfter (λ r. Sign m.Open ∷ r) spell_expr (IsAt 8 room) (group room inner)
-  unfolding group
-  group_sound ws x rest e =
+  abbrev spell_closed : Expr → List Word → List Word
+  spell_closed x rest = spell_expr x (Sign m.Close ∷ rest)
+
+  closed_sound : Sound spell_closed (IsInner room) (closed room inner)
+  unfolding closed
+  closed_sound ws x rest e =
       let a = bind_some (inner ws) _ _ e in
       let b = bind_some (expect m.Close a.0.1) _ _ a.2 in
       let y = inner_sound ws a.0.0 a.0.1 a.1 in
-      made spell_expr (IsAt 8 room) (Sign m.Open ∷ ws) (Group a.0.0) x b.0 rest b.2 (ap (λ (r : List Word). Sign m.Open ∷ r) (y.0 ∙ ap (spell_expr a.0.0) (expect_is m.Close a.0.1 b.0 b.1))) (omega arith, y.1)
+      made spell_closed (IsInner room) ws a.0.0 x b.0 rest b.2 (y.0 ∙ ap (spell_expr a.0.0) (expect_is m.Close a.0.1 b.0 b.1)) y.1
+
+  group_sound : SoundAfter (λ r. Sign m.Open ∷ r) spell_expr (IsAt 8 room) (group room inner)
+  unfolding group
+  group_sound ws x rest e =
+      let a = bind_some (closed room inner ws) _ _ e in
+      let y = closed_sound ws a.0.0 a.0.1 a.1 in
+      made spell_expr (IsAt 8 room) (Sign m.Open ∷ ws) (Group a.0.0) x a.0.1 rest a.2 (ap (λ (r : List Word). Sign m.Open ∷ r) y.0) (omega arith, y.1)
 
   apply_sound : (function : Function) → SoundAfter (λ r. Sign (function_sign function) ∷ r) spell_expr (IsAt 8 room) (apply room inner function)
   unfolding apply
   apply_sound function ws x rest e =
       let a = bind_some (enter room ws) _ _ e in
-      let b = bind_some (inner a.0) _ _ a.2 in
-      let c = bind_some (expect m.Close b.0.1) _ _ b.2 in
-      let y = inner_sound a.0 b.0.0 b.0.1 b.1 in
-      made spell_expr (IsAt 8 room) (Sign (function_sign function) ∷ ws) (Apply function b.0.0) x c.0 rest c.2
-      (ap (λ (r : List Word). Sign (function_sign function) ∷ r) ((enter_is room ws a.0 a.1).0 ∙ ap (λ (r : List Word). Sign m.Open ∷ r) (y.0 ∙ ap (spell_expr b.0.0) (expect_is m.Close b.0.1 c.0 c.1)))) (omega arith, y.1)
+      let b = bind_some (closed room inner a.0) _ _ a.2 in
+      let y = closed_sound a.0 b.0.0 b.0.1 b.1 in
+      made spell_expr (IsAt 8 room) (Sign (function_sign function) ∷ ws) (Apply function b.0.0) x b.0.1 rest b.2
+      (ap (λ (r : List Word). Sign (function_sign function) ∷ r) ((enter_is room ws a.0 a.1).0 ∙ ap (λ (r : List Word). Sign m.Open ∷ r) y.0)) (omega arith, y.1)
 
   query_sound : (which : Query) → SoundAfter (λ r. Sign (query_sign which) ∷ r) spell_expr (IsAt 8 room) (query room inner which)
   unfolding query
   query_sound which ws x rest e =
       let a = bind_some (enter room ws) _ _ e in
-      let b = bind_some (take_name a.0) _ _ a.2 in
-      let c = bind_some (expect m.Close b.0.1) _ _ b.2 in
+      let b = bind_some (name_before m.Close a.0) _ _ a.2 in
       let open_is = enter_is room ws a.0 a.1 in
-      let name = take_name_is a.0 b.0.0 b.0.1 b.1 in
-      made spell_expr (IsAt 8 room) (Sign (query_sign which) ∷ ws) (Query' which b.0.0) x c.0 rest c.2
-      (ap (λ (r : List Word). Sign (query_sign which) ∷ r) (open_is.0 ∙ ap (λ (r : List Word). Sign m.Open ∷ r) (name.0 ∙ ap (λ (r : List Word). Name b.0.0 ∷ r) (expect_is m.Close b.0.1 c.0 c.1)))) (omega arith, (name.1, open_is.1))
+      let name = name_before_is m.Close a.0 b.0.0 b.0.1 b.1 in
+      made spell_expr (IsAt 8 room) (Sign (query_sign which) ∷ ws) (Query' which b.0.0) x b.0.1 rest b.2
+      (ap (λ (r : List Word). Sign (query_sign which) ∷ r) (open_is.0 ∙ ap (λ (r : List Word). Sign m.Open ∷ r) name.0)) (omega arith, (name.1, open_is.1))
 
 set_after_sound : Sound spell_set IsSetName set_after
 unfolding set_after

@@ -6,10 +6,10 @@ use Rattle.cse_syntax.specs.declared.token.Mark.TheVariants as m
 use Rattle.cse_syntax.specs.Word.{Word, Name, Digits, Quoted, Value, Leave, Sign, Stray}
 use Rattle.cse_syntax.specs.Tree.{Spelling, stmts, Literal, Sized, Rows, Numeric, Alpha, Array', Function', Plain, Preproc, Both, Postproc, Tree}
 use Rattle.cse_syntax.specs.Grammar.{is_name, is_within, MOST, IsName, IsParameter, spell_mark, spell_list, spell_all, spell_name, Each, IsSome, spell_literal, spell_dimension, spell_parameter, spell_cells, spell_array, spell_declaration, spell_body, spell_procedure, spell_globals, spell_tree, IsDimension, IsLiteral, IsArray, IsDeclaration, IsBody, IsProcedure, AreGlobals, IsSource}
-use Rattle.cse_syntax.specs.Reading.{Parser, sees, after, expect, take_name, take_number, loop, snoc, listed}
+use Rattle.cse_syntax.specs.Reading.{Parser, sees, after, expect, ends, take_name, name_before, take_number, loop, snoc, listed}
 use Rattle.cse_syntax.specs.ReadingStmt.{literal, statements_at}
 use Rattle.cse_syntax.specs.ReadingSource.{rows, dimension, parameter, parameters, cells, numeric, alpha, array, array_declaration, function, declaration, starts_declaration, declarations, globals, plain, postproc, preproc, body, procedure, procedures, source_at}
-use Rattle.cse_syntax.proofs.Steps.{some_is, bind_some, if_some, test_some, sees_is, expect_is, take_name_is, take_number_is, after_is_spelled}
+use Rattle.cse_syntax.proofs.Steps.{some_is, bind_some, if_some, test_some, sees_is, expect_is, ends_is, take_name_is, name_before_is, take_number_is, after_is_spelled}
 use Rattle.cse_syntax.proofs.Sound.{Sound, SoundAfter, made, loop_sound, listed_sound}
 use Rattle.cse_syntax.proofs.SoundStmt.{spell_block, literal_sound, statements_at_sound}
 
@@ -78,17 +78,16 @@ cells_sound ws x rest e =
 array_sound : Sound spell_array IsArray array
 unfolding array
 array_sound ws x rest e =
-    let a = bind_some (take_name ws) _ _ e in
-    let b = bind_some (expect m.Open a.0.1) _ _ a.2 in
-    let c = bind_some (listed dimension b.0) _ _ b.2 in
+    let a = bind_some (name_before m.Open ws) _ _ e in
+    let c = bind_some (listed dimension a.0.1) _ _ a.2 in
     let d = bind_some (expect m.Close c.0.1) _ _ c.2 in
     let f = bind_some (cells (after m.Save d.0)) _ _ d.2 in
-    let name = take_name_is ws a.0.0 a.0.1 a.1 in
-    let dims = listed_sound spell_dimension IsDimension dimension dimension_sound b.0 c.0.0 c.0.1 c.1 in
+    let name = name_before_is m.Open ws a.0.0 a.0.1 a.1 in
+    let dims = listed_sound spell_dimension IsDimension dimension dimension_sound a.0.1 c.0.0 c.0.1 c.1 in
     let list = cells_sound (after m.Save d.0) f.0.0 f.0.1 f.1 in
     let end = dims.0 ∙ ap (spell_list spell_dimension c.0.0) (expect_is m.Close c.0.1 d.0 d.1 ∙ ap (λ (r : List Word). Sign m.Close ∷ r) (after_is_spelled m.Save d.0 ∙ ap (spell_mark m.Save (sees m.Save d.0)) list.0)) in
     made spell_array IsArray ws (record { name = a.0.0; dimensions = c.0.0; saved = sees m.Save d.0; cells = f.0.0 }) x f.0.1 rest f.2
-    (name.0 ∙ ap (λ (r : List Word). Name a.0.0 ∷ r) (expect_is m.Open a.0.1 b.0 b.1 ∙ ap (λ (r : List Word). Sign m.Open ∷ r) end)) (name.1, dims.1.0, dims.1.1, list.1)
+    (name.0 ∙ ap (λ (r : List Word). Name a.0.0 ∷ Sign m.Open ∷ r) end) (name.1, dims.1.0, dims.1.1, list.1)
 
 module _ (room : ℕ) where
   numeric_sound : SoundAfter (λ r. Sign m.Numeric ∷ r) spell_declaration (IsDeclaration room) numeric
@@ -127,20 +126,18 @@ module _ (room : ℕ) where
   function_sound : SoundAfter (λ r. Sign m.Function ∷ r) spell_declaration (IsDeclaration room) (function room)
   unfolding function
   function_sound ws x rest e =
-      let a = bind_some (take_name ws) _ _ e in
-      let b = bind_some (expect m.Open a.0.1) _ _ a.2 in
-      let c = bind_some (parameters b.0) _ _ b.2 in
+      let a = bind_some (name_before m.Open ws) _ _ e in
+      let c = bind_some (parameters a.0.1) _ _ a.2 in
       let d = bind_some (expect m.Close c.0.1) _ _ c.2 in
       let f = bind_some (statements_at room d.0) _ _ d.2 in
-      let g = bind_some (expect m.End f.0.1) _ _ f.2 in
-      let h = bind_some (expect m.Semicolon g.0) _ _ g.2 in
-      let name = take_name_is ws a.0.0 a.0.1 a.1 in
-      let ps = parameters_sound b.0 c.0.0 c.0.1 c.1 in
+      let h = bind_some (ends m.End f.0.1) _ _ f.2 in
+      let name = name_before_is m.Open ws a.0.0 a.0.1 a.1 in
+      let ps = parameters_sound a.0.1 c.0.0 c.0.1 c.1 in
       let block = statements_at_sound room d.0 f.0.0 f.0.1 f.1 in
-      let end = block.0 ∙ ap (spell_block f.0.0) (expect_is m.End f.0.1 g.0 g.1 ∙ ap (λ (r : List Word). Sign m.End ∷ r) (expect_is m.Semicolon g.0 h.0 h.1)) in
+      let end = block.0 ∙ ap (spell_block f.0.0) (ends_is m.End f.0.1 h.0 h.1) in
       let mid = ps.0 ∙ ap (spell_list spell_parameter c.0.0) (expect_is m.Close c.0.1 d.0 d.1 ∙ ap (λ (r : List Word). Sign m.Close ∷ r) end) in
       made spell_declaration (IsDeclaration room) (Sign m.Function ∷ ws) (Function' a.0.0 c.0.0 (stmts f.0.0)) x h.0 rest h.2
-      (ap (λ (r : List Word). Sign m.Function ∷ r) (name.0 ∙ ap (λ (r : List Word). Name a.0.0 ∷ r) (expect_is m.Open a.0.1 b.0 b.1 ∙ ap (λ (r : List Word). Sign m.Open ∷ r) mid))) (name.1, ps.1, block.1)
+      (ap (λ (r : List Word). Sign m.Function ∷ r) (name.0 ∙ ap (λ (r : List Word). Name a.0.0 ∷ Sign m.Open ∷ r) mid)) (name.1, ps.1, block.1)
 
   declaration_sound : Sound spell_declaration (IsDeclaration room) (declaration room)
   unfolding declaration

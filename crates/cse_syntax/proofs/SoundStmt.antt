@@ -8,11 +8,11 @@ use Rattle.cse_syntax.specs.declared.tree.Count.TheVariants as c
 use Rattle.cse_syntax.specs.declared.tree.Jump.{Jump}
 use Rattle.cse_syntax.specs.Word.{Word, Name, Digits, Quoted, Value, Leave, Sign, Stray}
 use Rattle.cse_syntax.specs.Tree.{Spelling, Expr, exprs, Literal, Limit, Fixed, Counted, Counting, Own, Numbered, Stmt, Empty, Assign, Call, If, For, Do, Jump', Impute, PutDeck, ErrMsg, Stmts, stmts, Arms, arms, no_arm, else_of}
-use Rattle.cse_syntax.specs.Grammar.{is_name, is_within, is_text, MOST, IsName, count_sign, Below, HasRoom, Each, spell_mark, spell_expr, spell_exprs, spell_others, spell_subscripts, IsExpr, AreInner, spell_literal, spell_limit, spell_by, spell_counting, spell_message, spell_stmt, spell_stmts, spell_arms, IsLimit, IsBy, IsCounting, IsMessage, IsStmt, AreStmts, AreArms}
-use Rattle.cse_syntax.specs.Reading.{Parser, sees, after, expect, enter, take_name, take_number, snoc, others_from, subscripts, arguments, nested, expr_at}
-use Rattle.cse_syntax.specs.ReadingStmt.{literal, counted, fixed, limit, step, again, counting, message, assigned, has_some, called, named_stmt, putdeck, errmsg, jump, imputed, impute, guarded, elseif, elseifs, otherwise, conditional, body_to_end, over, over_at, counted_at, marked_stmt, statement, starts_stmt, statements, body_at, statements_at}
-use Rattle.cse_syntax.proofs.Steps.{both_are, bind_some, if_some, test_some, sees_is, expect_is, enter_is, take_name_is, take_number_is, after_is_spelled}
-use Rattle.cse_syntax.proofs.Sound.{Sound, SoundAfter, made, loop_sound, others_sound, subscripts_sound, arguments_sound, nested_sound, expr_sound}
+use Rattle.cse_syntax.specs.Grammar.{is_name, is_within, is_text, MOST, IsName, count_sign, Below, HasRoom, Each, IsSome, spell_mark, spell_expr, spell_exprs, spell_others, spell_subscripts, IsExpr, AreInner, spell_literal, spell_limit, spell_by, spell_counting, spell_message, spell_stmt, spell_stmts, spell_arms, IsLimit, IsBy, IsCounting, IsMessage, IsStmt, AreStmts, AreArms}
+use Rattle.cse_syntax.specs.Reading.{Parser, sees, after, expect, ends, enter, take_name, name_before, take_number, snoc, subscripts, arguments, nested, expr_at}
+use Rattle.cse_syntax.specs.ReadingStmt.{literal, counted, fixed, limit, step, again, counting, message, assigned, has_some, called, named_stmt, putdeck, other_values, errmsg, jump, imputed, impute, visiting, visiting_at, counting_at, guarded, elseif, elseifs, body_to, otherwise, alternatives, conditional, over, repeated, marked_stmt, statement, starts_stmt, statements, body_at, statements_at}
+use Rattle.cse_syntax.proofs.Steps.{both_are, bind_some, if_some, test_some, sees_is, expect_is, ends_is, enter_is, take_name_is, name_before_is, take_number_is, after_is_spelled}
+use Rattle.cse_syntax.proofs.Sound.{Sound, SoundAfter, made, loop_sound, inner_listed, subscripts_sound, arguments_sound, nested_sound, expr_sound}
 
 -- ---- the head of a `do`
 
@@ -33,12 +33,11 @@ counted_sound : (room : ℕ) (count : Count) → SoundAfter (λ r. Sign (count_s
 unfolding counted
 counted_sound room count ws x rest e =
     let a = bind_some (enter room ws) _ _ e in
-    let b = bind_some (take_name a.0) _ _ a.2 in
-    let d = bind_some (expect m.Close b.0.1) _ _ b.2 in
+    let b = bind_some (name_before m.Close a.0) _ _ a.2 in
     let open_is = enter_is room ws a.0 a.1 in
-    let name = take_name_is a.0 b.0.0 b.0.1 b.1 in
-    made spell_limit (Limits room) (Sign (count_sign count) ∷ ws) (Counted count b.0.0) x d.0 rest d.2
-    (ap (λ (r : List Word). Sign (count_sign count) ∷ r) (open_is.0 ∙ ap (λ (r : List Word). Sign m.Open ∷ r) (name.0 ∙ ap (λ (r : List Word). Name b.0.0 ∷ r) (expect_is m.Close b.0.1 d.0 d.1)))) (name.1, open_is.1)
+    let name = name_before_is m.Close a.0 b.0.0 b.0.1 b.1 in
+    made spell_limit (Limits room) (Sign (count_sign count) ∷ ws) (Counted count b.0.0) x b.0.1 rest b.2
+    (ap (λ (r : List Word). Sign (count_sign count) ∷ r) (open_is.0 ∙ ap (λ (r : List Word). Sign m.Open ∷ r) name.0)) (name.1, open_is.1)
 
 fixed_sound : (room : ℕ) → Sound spell_limit (Limits room) fixed
 unfolding fixed
@@ -83,23 +82,22 @@ counting_sound : (room : ℕ) → Sound spell_counting (Counts room) (counting r
 unfolding counting
 counting_sound room ws x rest e =
     let a = bind_some (expect m.Varying ws) _ _ e in
-    let b = bind_some (take_name a.0) _ _ a.2 in
-    let d = bind_some (expect m.Equals b.0.1) _ _ b.2 in
-    let f = bind_some (limit room d.0) _ _ d.2 in
+    let b = bind_some (name_before m.Equals a.0) _ _ a.2 in
+    let f = bind_some (limit room b.0.1) _ _ b.2 in
     let g = bind_some (expect m.Until f.0.1) _ _ f.2 in
     let h = bind_some (again b.0.0 g.0) _ _ g.2 in
     let i = bind_some (expect m.More h.0.1) _ _ h.2 in
     let k = bind_some (limit room i.0) _ _ i.2 in
     let n = bind_some (step k.0.1) _ _ k.2 in
-    let variable = take_name_is a.0 b.0.0 b.0.1 b.1 in
-    let start = limit_sound room d.0 f.0.0 f.0.1 f.1 in
+    let variable = name_before_is m.Equals a.0 b.0.0 b.0.1 b.1 in
+    let start = limit_sound room b.0.1 f.0.0 f.0.1 f.1 in
     let second = again_is b.0.0 g.0 h.0.0 h.0.1 h.1 in
     let stop = limit_sound room i.0 k.0.0 k.0.1 k.1 in
     let by = step_sound k.0.1 n.0.0 n.0.1 n.1 in
     let last = expect_is m.More h.0.1 i.0 i.1 ∙ ap (λ (r : List Word). Sign m.More ∷ r) (stop.0 ∙ ap (spell_limit k.0.0) by.0) in
     let mid = expect_is m.Until f.0.1 g.0 g.1 ∙ ap (λ (r : List Word). Sign m.Until ∷ r) (second.0 ∙ ap (λ (r : List Word). Name h.0.0 ∷ r) last) in
-    let front = expect_is m.Equals b.0.1 d.0 d.1 ∙ ap (λ (r : List Word). Sign m.Equals ∷ r) (start.0 ∙ ap (spell_limit f.0.0) mid) in
-    let words = expect_is m.Varying ws a.0 a.1 ∙ ap (λ (r : List Word). Sign m.Varying ∷ r) (variable.0 ∙ ap (λ (r : List Word). Name b.0.0 ∷ r) front) in
+    let front = start.0 ∙ ap (spell_limit f.0.0) mid in
+    let words = expect_is m.Varying ws a.0 a.1 ∙ ap (λ (r : List Word). Sign m.Varying ∷ r) (variable.0 ∙ ap (λ (r : List Word). Name b.0.0 ∷ Sign m.Equals ∷ r) front) in
     made spell_counting (Counts room) ws (record { variable = b.0.0; start = f.0.0; again = h.0.0; stop = k.0.0; by = n.0.0 }) x n.0.1 rest n.2 words (variable.1, start.1, second.1, second.2, stop.1, by.1)
 
 message_sound : Sound spell_message IsMessage message
@@ -221,27 +219,46 @@ module _ (room : ℕ) where
   unfolding putdeck
   putdeck_sound ws x rest e =
       let a = bind_some (enter room ws) _ _ e in
-      let b = bind_some (take_name a.0) _ _ a.2 in
-      let d = bind_some (expect m.Comma b.0.1) _ _ b.2 in
-      let f = bind_some (nested room d.0) _ _ d.2 in
-      let g = bind_some (expect m.Close f.0.1) _ _ f.2 in
-      let h = bind_some (expect m.Semicolon g.0) _ _ g.2 in
-      let name = take_name_is a.0 b.0.0 b.0.1 b.1 in
-      let value = nested_sound room d.0 f.0.0 f.0.1 f.1 in
-      let end = expect_is m.Close f.0.1 g.0 g.1 ∙ ap (λ (r : List Word). Sign m.Close ∷ r) (expect_is m.Semicolon g.0 h.0 h.1) in
-      let inside = name.0 ∙ ap (λ (r : List Word). Name b.0.0 ∷ r) (expect_is m.Comma b.0.1 d.0 d.1 ∙ ap (λ (r : List Word). Sign m.Comma ∷ r) (value.0 ∙ ap (spell_expr f.0.0) end)) in
+      let b = bind_some (name_before m.Comma a.0) _ _ a.2 in
+      let f = bind_some (nested room b.0.1) _ _ b.2 in
+      let h = bind_some (ends m.Close f.0.1) _ _ f.2 in
+      let name = name_before_is m.Comma a.0 b.0.0 b.0.1 b.1 in
+      let value = nested_sound room b.0.1 f.0.0 f.0.1 f.1 in
+      let end = ends_is m.Close f.0.1 h.0 h.1 in
+      let inside = name.0 ∙ ap (λ (r : List Word). Name b.0.0 ∷ Sign m.Comma ∷ r) (value.0 ∙ ap (spell_expr f.0.0) end) in
       made spell_stmt (Is room) (Sign m.PutDeck ∷ ws) (PutDeck b.0.0 f.0.0) x h.0 rest h.2 (ap (λ (r : List Word). Sign m.PutDeck ∷ r) ((enter_is room ws a.0 a.1).0 ∙ ap (λ (r : List Word). Sign m.Open ∷ r) inside)) (name.1, value.1)
+
+  after_comma_list : (xs : List Expr) (rest : List Word) → IsSome xs → Sign m.Comma ∷ spell_exprs (exprs xs) rest ≡ spell_others (exprs xs) rest
+  after_comma_list [] rest h = absurd h
+  after_comma_list (x ∷ xs) rest h = refl
+
+  abbrev spell_values : List Expr → List Word → List Word
+  spell_values xs rest = spell_others (exprs xs) rest
+
+  abbrev AreValues : List Expr → Type 0
+  AreValues xs = AreInner (exprs xs) room
+
+  -- further values
+  other_values_sound : Sound spell_values AreValues (other_values room)
+  unfolding other_values
+  other_values_sound ws x rest e =
+      elim (if_some (sees m.Comma ws) _ _ _ e) [
+        | inl h ↦
+            let y = inner_listed room (nested room) (nested_sound room) (drop 1 ws) x rest h.1 in
+            (sees_is m.Comma ws h.0 ∙ ap (λ (r : List Word). Sign m.Comma ∷ r) y.0 ∙ after_comma_list x rest y.1.0, y.1.1)
+        | inr h ↦ made spell_values AreValues ws [] x ws rest h.1 refl tt
+      ]
 
   errmsg_sound : SoundAfter (λ r. Sign m.ErrMsg ∷ r) spell_stmt (Is room) (errmsg room)
   unfolding errmsg
   errmsg_sound ws x rest e =
       let a = bind_some (enter room ws) _ _ e in
       let b = bind_some (message a.0) _ _ a.2 in
-      let d = bind_some (others_from (nested room) (length b.0.1) [] b.0.1) _ _ b.2 in
+      let d = bind_some (other_values room b.0.1) _ _ b.2 in
       let f = bind_some (expect m.Close d.0.1) _ _ d.2 in
       let g = bind_some (expect m.Semicolon (after m.Summary f.0)) _ _ f.2 in
       let what = message_sound a.0 b.0.0 b.0.1 b.1 in
-      let values = others_sound room (nested room) (nested_sound room) (length b.0.1) b.0.1 d.0.0 d.0.1 d.1 in
+      let values = other_values_sound b.0.1 d.0.0 d.0.1 d.1 in
       let open_is = enter_is room ws a.0 a.1 in
       let summary = after_is_spelled m.Summary f.0 ∙ ap (spell_mark m.Summary (sees m.Summary f.0)) (expect_is m.Semicolon (after m.Summary f.0) g.0 g.1) in
       let end = values.0 ∙ ap (spell_others (exprs d.0.0)) (expect_is m.Close d.0.1 f.0 f.1 ∙ ap (λ (r : List Word). Sign m.Close ∷ r) summary) in
@@ -261,12 +278,11 @@ module _ (room : ℕ) where
       let b = bind_some (subscripts room (nested room) a.0.1) _ _ a.2 in
       let d = bind_some (expect m.Comma b.0.1) _ _ b.2 in
       let f = bind_some (expr_at room d.0) _ _ d.2 in
-      let g = bind_some (expect m.Close f.0.1) _ _ f.2 in
-      let h = bind_some (expect m.Semicolon g.0) _ _ g.2 in
+      let h = bind_some (ends m.Close f.0.1) _ _ f.2 in
       let name = take_name_is ws a.0.0 a.0.1 a.1 in
       let subs = subscripts_sound room (nested room) (nested_sound room) a.0.1 b.0.0 b.0.1 b.1 in
       let value = expr_sound room d.0 f.0.0 f.0.1 f.1 in
-      let end = expect_is m.Close f.0.1 g.0 g.1 ∙ ap (λ (r : List Word). Sign m.Close ∷ r) (expect_is m.Semicolon g.0 h.0 h.1) in
+      let end = ends_is m.Close f.0.1 h.0 h.1 in
       let inside = name.0 ∙ ap (λ (r : List Word). Name a.0.0 ∷ r) (subs.0 ∙ ap (spell_subscripts (exprs b.0.0)) (expect_is m.Comma b.0.1 d.0 d.1 ∙ ap (λ (r : List Word). Sign m.Comma ∷ r) (value.0 ∙ ap (spell_expr f.0.0) end))) in
       made spell_stmt (Is (suc room)) (Sign m.Impute ∷ Sign m.Open ∷ ws) (Impute a.0.0 (exprs b.0.0) f.0.0) x h.0 rest h.2 (ap (λ (r : List Word). Sign m.Impute ∷ Sign m.Open ∷ r) inside) (name.1, subs.1, value.1)
 
@@ -277,6 +293,33 @@ impute_sound (suc room) ws x rest e =
     let a = bind_some (expect m.Open ws) _ _ e in
     let y = imputed_sound room a.0 x rest a.2 in
     (ap (λ (r : List Word). Sign m.Impute ∷ r) (expect_is m.Open ws a.0 a.1) ∙ y.0, y.1)
+
+-- ---- the heads of statements with others in them
+
+abbrev spell_visiting : Spelling × Spelling → List Word → List Word
+spell_visiting x rest = Name x.0 ∷ Sign m.In ∷ Name x.1 ∷ Sign m.Do ∷ rest
+
+abbrev AreNames : Spelling × Spelling → Type 0
+AreNames x = IsName x.0 × IsName x.1
+
+visiting_sound : Sound spell_visiting AreNames visiting
+unfolding visiting
+visiting_sound ws x rest e =
+    let a = bind_some (name_before m.In ws) _ _ e in
+    let b = bind_some (name_before m.Do a.0.1) _ _ a.2 in
+    let variable = name_before_is m.In ws a.0.0 a.0.1 a.1 in
+    let record_name = name_before_is m.Do a.0.1 b.0.0 b.0.1 b.1 in
+    made spell_visiting AreNames ws (a.0.0, b.0.0) x b.0.1 rest b.2 (variable.0 ∙ ap (λ (r : List Word). Name a.0.0 ∷ Sign m.In ∷ r) record_name.0) (variable.1, record_name.1)
+
+visiting_at_sound : (room : ℕ) → Sound spell_visiting AreNames (visiting_at room)
+unfolding visiting_at
+visiting_at_sound zero ws x rest e = absurd cc
+visiting_at_sound (suc room) ws x rest e = visiting_sound ws x rest e
+
+counting_at_sound : (room : ℕ) → Sound spell_counting (λ x. Below room (IsCounting x)) (counting_at room)
+unfolding counting_at
+counting_at_sound zero ws x rest e = absurd cc
+counting_at_sound (suc room) ws x rest e = counting_sound room ws x rest e
 
 -- ---- statements with others in them
 
@@ -306,82 +349,85 @@ module _ (room : ℕ) (body : Parser (List Stmt)) (body_sound : Sound spell_bloc
       loop_sound (sees m.ElseIf) (elseif room body) snoc spell_elseifs (Each (IsArm room)) (λ y r. Sign m.ElseIf ∷ spell_guarded y r) (IsArm room) elseif_sound
       (λ xs y r h. spell_elseifs_snoc xs y r) (λ xs y h i. Each-snoc (IsArm room) xs y h i) (length ws) [] ws x rest tt e
 
+  abbrev AreBelow : Stmts → Type 0
+  AreBelow xs = Below room (AreStmts xs)
+
+  -- statements up to this word and a semicolon
+  abbrev spell_body_to : Mark → Stmts → List Word → List Word
+  spell_body_to mark xs rest = spell_stmts xs (Sign mark ∷ Sign m.Semicolon ∷ rest)
+
+  body_to_sound : (mark : Mark) → Sound (spell_body_to mark) AreBelow (body_to room body mark)
+  unfolding body_to
+  body_to_sound mark ws x rest e =
+      let a = bind_some (body ws) _ _ e in
+      let b = bind_some (ends mark a.0.1) _ _ a.2 in
+      let block = body_sound ws a.0.0 a.0.1 a.1 in
+      made (spell_body_to mark) AreBelow ws (stmts a.0.0) x b.0 rest b.2 (block.0 ∙ ap (spell_block a.0.0) (ends_is mark a.0.1 b.0 b.1)) block.1
+
   abbrev IsLast : Arms → Type 0
   IsLast x = AreArms x room
 
-  otherwise_sound : Sound spell_arms (λ x. AreArms x room) (otherwise room body)
+  -- arms up to the end of the `if`
+  abbrev spell_to_endif : Arms → List Word → List Word
+  spell_to_endif x rest = spell_arms x (Sign m.EndIf ∷ Sign m.Semicolon ∷ rest)
+
+  otherwise_sound : Sound spell_to_endif IsLast (otherwise room body)
   unfolding otherwise
   otherwise_sound ws x rest e =
       elim (if_some (sees m.Else ws) _ _ _ e) [
         | inl h ↦
-            let a = bind_some (body (drop 1 ws)) _ _ h.1 in
-            let block = body_sound (drop 1 ws) a.0.0 a.0.1 a.1 in
-            made spell_arms IsLast ws (else_of (stmts a.0.0)) x a.0.1 rest a.2 (sees_is m.Else ws h.0 ∙ ap (λ (r : List Word). Sign m.Else ∷ r) block.0) block.1
-        | inr h ↦ made spell_arms IsLast ws no_arm x ws rest h.1 refl tt
+            let a = bind_some (body_to room body m.EndIf (drop 1 ws)) _ _ h.1 in
+            let block = body_to_sound m.EndIf (drop 1 ws) a.0.0 a.0.1 a.1 in
+            made spell_to_endif IsLast ws (else_of a.0.0) x a.0.1 rest a.2 (sees_is m.Else ws h.0 ∙ ap (λ (r : List Word). Sign m.Else ∷ r) block.0) block.1
+        | inr h ↦
+            let a = bind_some (ends m.EndIf ws) _ _ h.1 in
+            made spell_to_endif IsLast ws no_arm x a.0 rest a.2 (ends_is m.EndIf ws a.0 a.1) tt
       ]
+
+  alternatives_sound : Sound spell_to_endif IsLast (alternatives room body)
+  unfolding alternatives
+  alternatives_sound ws x rest e =
+      let a = bind_some (elseifs room body ws) _ _ e in
+      let b = bind_some (otherwise room body a.0.1) _ _ a.2 in
+      let others = elseifs_sound ws a.0.0 a.0.1 a.1 in
+      let last = otherwise_sound a.0.1 b.0.0 b.0.1 b.1 in
+      made spell_to_endif IsLast ws (arms a.0.0 b.0.0) x b.0.1 rest b.2
+      (others.0 ∙ ap (spell_elseifs a.0.0) last.0 ∙ spell_arms_elseifs a.0.0 b.0.0 (Sign m.EndIf ∷ Sign m.Semicolon ∷ b.0.1)) (AreArms-elseifs room a.0.0 b.0.0 others.1 last.1)
 
   conditional_sound : SoundAfter (λ r. Sign m.If ∷ r) spell_stmt (Is room) (conditional room body)
   unfolding conditional
   conditional_sound ws x rest e =
       let a = bind_some (guarded room body ws) _ _ e in
-      let b = bind_some (elseifs room body a.0.1) _ _ a.2 in
-      let d = bind_some (otherwise room body b.0.1) _ _ b.2 in
-      let f = bind_some (expect m.EndIf d.0.1) _ _ d.2 in
-      let g = bind_some (expect m.Semicolon f.0) _ _ f.2 in
+      let b = bind_some (alternatives room body a.0.1) _ _ a.2 in
       let first = guarded_sound ws a.0.0 a.0.1 a.1 in
-      let others = elseifs_sound a.0.1 b.0.0 b.0.1 b.1 in
-      let last = otherwise_sound b.0.1 d.0.0 d.0.1 d.1 in
-      let end = expect_is m.EndIf d.0.1 f.0 f.1 ∙ ap (λ (r : List Word). Sign m.EndIf ∷ r) (expect_is m.Semicolon f.0 g.0 g.1) in
-      let behind = others.0 ∙ ap (spell_elseifs b.0.0) (last.0 ∙ ap (spell_arms d.0.0) end) ∙ spell_arms_elseifs b.0.0 d.0.0 (Sign m.EndIf ∷ Sign m.Semicolon ∷ g.0) in
-      made spell_stmt (Is room) (Sign m.If ∷ ws) (If a.0.0.0 a.0.0.1 (arms b.0.0 d.0.0)) x g.0 rest g.2 (ap (λ (r : List Word). Sign m.If ∷ r) (first.0 ∙ ap (spell_guarded a.0.0) behind)) (first.1.0, first.1.1, AreArms-elseifs room b.0.0 d.0.0 others.1 last.1)
-
-  body_to_end_sound : Sound (λ b r. spell_stmts b (Sign m.EndDo ∷ Sign m.Semicolon ∷ r)) (λ b. Below room (AreStmts b)) (body_to_end room body)
-  unfolding body_to_end
-  body_to_end_sound ws x rest e =
-      let a = bind_some (body ws) _ _ e in
-      let b = bind_some (expect m.EndDo a.0.1) _ _ a.2 in
-      let d = bind_some (expect m.Semicolon b.0) _ _ b.2 in
-      let block = body_sound ws a.0.0 a.0.1 a.1 in
-      made (λ b r. spell_stmts b (Sign m.EndDo ∷ Sign m.Semicolon ∷ r)) (λ b. Below room (AreStmts b)) ws (stmts a.0.0) x d.0 rest d.2
-      (block.0 ∙ ap (spell_block a.0.0) (expect_is m.EndDo a.0.1 b.0 b.1 ∙ ap (λ (r : List Word). Sign m.EndDo ∷ r) (expect_is m.Semicolon b.0 d.0 d.1))) block.1
+      let others = alternatives_sound a.0.1 b.0.0 b.0.1 b.1 in
+      made spell_stmt (Is room) (Sign m.If ∷ ws) (If a.0.0.0 a.0.0.1 b.0.0) x b.0.1 rest b.2 (ap (λ (r : List Word). Sign m.If ∷ r) (first.0 ∙ ap (spell_guarded a.0.0) others.0)) (first.1.0, first.1.1, others.1)
 
   over_sound : SoundAfter (λ r. Sign m.For ∷ r) spell_stmt (Is room) (over room body)
   unfolding over
   over_sound ws x rest e =
-      let a = bind_some (take_name ws) _ _ e in
-      let b = bind_some (expect m.In a.0.1) _ _ a.2 in
-      let d = bind_some (take_name b.0) _ _ b.2 in
-      let f = bind_some (expect m.Do d.0.1) _ _ d.2 in
-      let g = bind_some (body_to_end room body f.0) _ _ f.2 in
-      let variable = take_name_is ws a.0.0 a.0.1 a.1 in
-      let record_name = take_name_is b.0 d.0.0 d.0.1 d.1 in
-      let block = body_to_end_sound f.0 g.0.0 g.0.1 g.1 in
-      let do_word = expect_is m.Do d.0.1 f.0 f.1 ∙ ap (λ (r : List Word). Sign m.Do ∷ r) block.0 in
-      let in_word = expect_is m.In a.0.1 b.0 b.1 ∙ ap (λ (r : List Word). Sign m.In ∷ r) (record_name.0 ∙ ap (λ (r : List Word). Name d.0.0 ∷ r) do_word) in
-      made spell_stmt (Is room) (Sign m.For ∷ ws) (For a.0.0 d.0.0 g.0.0) x g.0.1 rest g.2 (ap (λ (r : List Word). Sign m.For ∷ r) (variable.0 ∙ ap (λ (r : List Word). Name a.0.0 ∷ r) in_word)) (variable.1, record_name.1, block.1)
+      let a = bind_some (visiting_at room ws) _ _ e in
+      let b = bind_some (body_to room body m.EndDo a.0.1) _ _ a.2 in
+      let head = visiting_at_sound room ws a.0.0 a.0.1 a.1 in
+      let block = body_to_sound m.EndDo a.0.1 b.0.0 b.0.1 b.1 in
+      made spell_stmt (Is room) (Sign m.For ∷ ws) (For a.0.0.0 a.0.0.1 b.0.0) x b.0.1 rest b.2 (ap (λ (r : List Word). Sign m.For ∷ r) (head.0 ∙ ap (spell_visiting a.0.0) block.0)) (head.1.0, head.1.1, block.1)
 
-over_at_sound : (room : ℕ) (body : Parser (List Stmt)) → Sound spell_block (AreInside room) body → SoundAfter (λ r. Sign m.For ∷ r) spell_stmt (Is room) (over_at room body)
-unfolding over_at
-over_at_sound zero body sound ws x rest e = absurd cc
-over_at_sound (suc room) body sound ws x rest e = over_sound (suc room) body sound ws x rest e
-
-counted_at_sound : (room : ℕ) (body : Parser (List Stmt)) → Sound spell_block (AreInside room) body → SoundAfter (λ r. Sign m.Do ∷ r) spell_stmt (Is room) (counted_at room body)
-unfolding counted_at
-counted_at_sound zero body sound ws x rest e = absurd cc
-counted_at_sound (suc room) body sound ws x rest e =
-    let a = bind_some (counting room ws) _ _ e in
-    let b = bind_some (body_to_end (suc room) body a.0.1) _ _ a.2 in
-    let head = counting_sound room ws a.0.0 a.0.1 a.1 in
-    let block = body_to_end_sound (suc room) body sound a.0.1 b.0.0 b.0.1 b.1 in
-    made spell_stmt (Is (suc room)) (Sign m.Do ∷ ws) (Do a.0.0 b.0.0) x b.0.1 rest b.2 (ap (λ (r : List Word). Sign m.Do ∷ r) (head.0 ∙ ap (spell_counting a.0.0) block.0)) (head.1, block.1)
+  repeated_sound : SoundAfter (λ r. Sign m.Do ∷ r) spell_stmt (Is room) (repeated room body)
+  unfolding repeated
+  repeated_sound ws x rest e =
+      let a = bind_some (counting_at room ws) _ _ e in
+      let b = bind_some (body_to room body m.EndDo a.0.1) _ _ a.2 in
+      let head = counting_at_sound room ws a.0.0 a.0.1 a.1 in
+      let block = body_to_sound m.EndDo a.0.1 b.0.0 b.0.1 b.1 in
+      made spell_stmt (Is room) (Sign m.Do ∷ ws) (Do a.0.0 b.0.0) x b.0.1 rest b.2 (ap (λ (r : List Word). Sign m.Do ∷ r) (head.0 ∙ ap (spell_counting a.0.0) block.0)) (head.1, block.1)
 
 module _ (room : ℕ) (body : Parser (List Stmt)) (body_sound : Sound spell_block (AreInside room) body) where
   marked_stmt_sound : (mark : Mark) → SoundAfter (λ r. Sign mark ∷ r) spell_stmt (Is room) (marked_stmt room body mark)
   unfolding marked_stmt
   marked_stmt_sound m.Semicolon ws x rest e = made spell_stmt (Is room) (Sign m.Semicolon ∷ ws) Empty x ws rest e refl tt
   marked_stmt_sound m.If ws x rest e = conditional_sound room body body_sound ws x rest e
-  marked_stmt_sound m.For ws x rest e = over_at_sound room body body_sound ws x rest e
-  marked_stmt_sound m.Do ws x rest e = counted_at_sound room body body_sound ws x rest e
+  marked_stmt_sound m.For ws x rest e = over_sound room body body_sound ws x rest e
+  marked_stmt_sound m.Do ws x rest e = repeated_sound room body body_sound ws x rest e
   marked_stmt_sound m.Impute ws x rest e = impute_sound room ws x rest e
   marked_stmt_sound m.PutDeck ws x rest e = putdeck_sound room ws x rest e
   marked_stmt_sound m.ErrMsg ws x rest e = errmsg_sound room ws x rest e

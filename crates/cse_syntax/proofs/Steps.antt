@@ -1,5 +1,5 @@
 -- The steps that every rule is made of.
-use Rattle.std.proofs.Common.{◌≡◌, ℕ, zero, suc, Bool, true, false, cond, List, [], ◌∷◌, drop, Option, Some, None, refl, sym, ap, ◌∙◌, inl, inr, ◌⊎◌}
+use Rattle.std.proofs.Common.{◌≡◌, ℕ, zero, suc, Bool, true, false, cond, List, [], ◌∷◌, drop, Option, Some, None, refl, sym, ap, subst, ◌∙◌, inl, inr, ◌⊎◌}
 use denote.Enum.Bare.{same_true}
 use Rattle.std.proofs.Common.{rules}
 use Rattle.cse_syntax.specs.contracts.token.Mark.{the_type}
@@ -8,7 +8,7 @@ use Rattle.cse_syntax.specs.declared.token.Mark.TheVariants as m
 use Rattle.cse_syntax.specs.Word.{Word, Name, Digits, Quoted, Value, Leave, Sign, Stray}
 use Rattle.cse_syntax.specs.Tree.{Spelling}
 use Rattle.cse_syntax.specs.Grammar.{is_name, is_within, IsName, HasRoom, spell_mark}
-use Rattle.cse_syntax.specs.Reading.{◌>>=◌, same, sees, after, expect, enter, take_name, take_number}
+use Rattle.cse_syntax.specs.Reading.{◌>>=◌, same, sees, after, expect, ends, enter, take_name, name_before, take_number}
 
 pub some_is : {A : Type 0} {x y : A} → Some x ≡ Some y → x ≡ y
 some_is e = cc
@@ -54,6 +54,12 @@ expect_is mark ws rest e =
       | inr h ↦ absurd cc
     ]
 
+pub ends_is : (mark : Mark) (ws rest : List Word) → ends mark ws ≡ Some rest → ws ≡ Sign mark ∷ Sign m.Semicolon ∷ rest
+unfolding ends
+ends_is mark ws rest e =
+    let a = bind_some (expect mark ws) (expect m.Semicolon) rest e in
+    expect_is mark ws a.0 a.1 ∙ ap (λ (r : List Word). Sign mark ∷ r) (expect_is m.Semicolon a.0 rest a.2)
+
 pub enter_is : (room : ℕ) (ws rest : List Word) → enter room ws ≡ Some rest → (ws ≡ Sign m.Open ∷ rest) × HasRoom room
 enter_is zero ws rest e = absurd cc
 enter_is (suc room) ws rest e = (expect_is m.Open ws rest e, tt)
@@ -70,6 +76,16 @@ take_name_is (Sign s ∷ ws) name rest e = absurd cc
 take_name_is (Value t s ∷ ws) name rest e = absurd cc
 take_name_is (Leave t s ∷ ws) name rest e = absurd cc
 take_name_is (Stray ∷ ws) name rest e = absurd cc
+
+pub name_before_is : (mark : Mark) (ws : List Word) (name : Spelling) (rest : List Word) → name_before mark ws ≡ Some (name, rest) → (ws ≡ Name name ∷ Sign mark ∷ rest) × IsName name
+unfolding name_before
+name_before_is mark ws name rest e =
+    let a = bind_some (take_name ws) _ _ e in
+    let b = bind_some (expect mark a.0.1) _ _ a.2 in
+    let n = take_name_is ws a.0.0 a.0.1 a.1 in
+    let p = both_are b.2 in
+    let behind : a.0.1 ≡ Sign mark ∷ rest = expect_is mark a.0.1 b.0 b.1 ∙ ap (λ (r : List Word). Sign mark ∷ r) p.1 in
+    (n.0 ∙ ap (λ (r : List Word). Name a.0.0 ∷ r) behind ∙ ap (λ (s : Spelling). Name s ∷ Sign mark ∷ rest) p.0, subst IsName p.0 n.1)
 
 pub take_number_is : (least most : ℕ) (ws : List Word) (digits : Spelling) (rest : List Word) → take_number least most ws ≡ Some (digits, rest) → (ws ≡ Digits digits ∷ rest) × (is_within least most digits.text ≡ true)
 take_number_is least most [] digits rest e = absurd cc

@@ -35,6 +35,11 @@ abbrev pub IsFault : ReadError → Type 0
 IsFault errors.Memory = ⊥
 IsFault (errors.Found fault) = Unit {0}
 
+-- A function makes this tree, unless memory ran out.
+abbrev pub Makes : {A B : Type 0} → (A → B) → Result A ReadError → B → Type 0
+Makes view (Ok x) made = view x ≡ made
+Makes view (Err e) made = e ≡ errors.Memory
+
 abbrev pub Gives : {A B : Type 0} → (A → B) → Result A ReadError → Option (B × List Word) → List Word → Type 0
 Gives view (Ok x) reading after = reading ≡ Some (view x, after)
 Gives view (Err e) reading after = Fails e reading
@@ -76,6 +81,10 @@ expect mark ws = if sees mark ws then Some (drop 1 ws) else None
 abbrev pub after : Mark → List Word → List Word
 after mark ws = if sees mark ws then drop 1 ws else ws
 
+-- the words after this mark and a semicolon, which end a statement
+unfoldable pub ends : Mark → List Word → Option (List Word)
+ends mark ws = expect mark ws >>= expect m.Semicolon
+
 -- the words after a parenthesis, where one more may be open
 abbrev pub enter : ℕ → List Word → Option (List Word)
 enter zero ws = None
@@ -84,6 +93,13 @@ enter (suc room) ws = expect m.Open ws
 abbrev pub take_name : Parser Spelling
 take_name (Name name ∷ ws) = if is_name name.text then Some (name, ws) else None
 take_name _ = None
+
+-- a name, and this mark behind it
+unfoldable pub name_before : Mark → Parser Spelling
+name_before mark ws = do
+  name ← take_name ws
+  rest ← expect mark name.1
+  Some (name.0, rest)
 
 -- a number in this range
 abbrev pub take_number : ℕ → ℕ → Parser Spelling
@@ -205,25 +221,29 @@ module _ (room : ℕ) (inner : Parser Expr) where
         Some (Indexed name (exprs all.0), all.1))
       else Some (Bare name, ws)
 
-  unfoldable pub group : Parser Expr
-  group ws = do
+  -- an expression, up to the parenthesis that closes it
+  unfoldable pub closed : Parser Expr
+  closed ws = do
     x ← inner ws
     rest ← expect m.Close x.1
-    Some (Group x.0, rest)
+    Some (x.0, rest)
+
+  unfoldable pub group : Parser Expr
+  group ws = do
+    x ← closed ws
+    Some (Group x.0, x.1)
 
   unfoldable pub apply : Function → Parser Expr
   apply function ws = do
     rest ← enter room ws
-    x ← inner rest
-    behind ← expect m.Close x.1
-    Some (Apply function x.0, behind)
+    x ← closed rest
+    Some (Apply function x.0, x.1)
 
   unfoldable pub query : Query → Parser Expr
   query which ws = do
     rest ← enter room ws
-    name ← take_name rest
-    behind ← expect m.Close name.1
-    Some (Query' which name.0, behind)
+    name ← name_before m.Close rest
+    Some (Query' which name.0, name.1)
 
   unfoldable pub member : Parser Expr
   member ws = do

@@ -4,7 +4,7 @@ use Rattle.cse_syntax.specs.declared.token.Mark.TheVariants as m
 use Rattle.cse_syntax.specs.Word.{Word, Name, Digits, Sign}
 use Rattle.cse_syntax.specs.Tree.{Spelling, Literal, stmts, Dimension, Sized, Rows, Parameter, Array, Declaration, Numeric, Alpha, Array', Function', Body, Plain, Preproc, Both, Postproc, Procedure, Tree}
 use Rattle.cse_syntax.specs.Leaf.{is_name, is_within, MOST}
-use Rattle.cse_syntax.specs.Reading.{◌>>=◌, Parser, loop, snoc, sees, expect, after, take_name, take_number, listed}
+use Rattle.cse_syntax.specs.Reading.{◌>>=◌, Parser, loop, snoc, sees, expect, ends, after, take_name, name_before, take_number, listed}
 use Rattle.cse_syntax.specs.ReadingStmt.{literal, statements_at}
 use Rattle.cse_syntax.specs.Text.{pieces_of}
 use Rattle.cse_syntax.specs.Source.{said}
@@ -52,9 +52,8 @@ alpha ws = do
 
 unfoldable pub array : Parser Array
 array ws = do
-  name ← take_name ws
-  open_paren ← expect m.Open name.1
-  dimensions ← listed dimension open_paren
+  name ← name_before m.Open ws
+  dimensions ← listed dimension name.1
   close ← expect m.Close dimensions.1
   found ← cells (after m.Save close)
   Some (record { name = name.0; dimensions = dimensions.0; saved = sees m.Save close; cells = found.0 }, found.1)
@@ -75,13 +74,11 @@ starts_declaration _ = false
 module _ (room : ℕ) where
   unfoldable pub function : Parser Declaration
   function ws = do
-    name ← take_name ws
-    open_paren ← expect m.Open name.1
-    found ← parameters open_paren
+    name ← name_before m.Open ws
+    found ← parameters name.1
     close ← expect m.Close found.1
     body ← statements_at room close
-    end ← expect m.End body.1
-    rest ← expect m.Semicolon end
+    rest ← ends m.End body.1
     Some (Function' name.0 found.0 (stmts body.0), rest)
 
   unfoldable pub declaration : Parser Declaration

@@ -9,7 +9,7 @@ use Rattle.cse_syntax.specs.declared.tree.Jump.{Jump}
 use Rattle.cse_syntax.specs.Word.{Word, Name, Digits, Quoted, Leave, Sign}
 use Rattle.cse_syntax.specs.Tree.{Spelling, Expr, exprs, Literal, Limit, Fixed, Counted, Counting, Message, Own, Numbered, Stmt, Empty, Assign, Call, If, For, Do, Jump', Impute, PutDeck, ErrMsg, Stmts, stmts, Arms, no_arm, else_of, arms}
 use Rattle.cse_syntax.specs.Leaf.{is_name, is_within, is_text, MOST}
-use Rattle.cse_syntax.specs.Reading.{◌>>=◌, Parser, loop, snoc, sees, expect, after, enter, take_name, take_number, others_from, subscripts, arguments, nested, expr_at}
+use Rattle.cse_syntax.specs.Reading.{◌>>=◌, Parser, loop, snoc, sees, expect, ends, after, enter, take_name, name_before, take_number, listed, subscripts, arguments, nested, expr_at}
 
 abbrev pub starts_mark : Mark → Bool
 starts_mark m.Semicolon = true
@@ -36,9 +36,8 @@ literal most ws = do
 unfoldable pub counted : ℕ → Count → Parser Limit
 counted room count ws = do
   rest ← enter room ws
-  name ← take_name rest
-  behind ← expect m.Close name.1
-  Some (Counted count name.0, behind)
+  name ← name_before m.Close rest
+  Some (Counted count name.0, name.1)
 
 unfoldable pub fixed : Parser Limit
 fixed ws = do
@@ -67,9 +66,8 @@ again variable ws = do
 unfoldable pub counting : ℕ → Parser Counting
 counting room ws = do
   front ← expect m.Varying ws
-  variable ← take_name front
-  equals ← expect m.Equals variable.1
-  start ← limit room equals
+  variable ← name_before m.Equals front
+  start ← limit room variable.1
   until ← expect m.Until start.1
   second ← again variable.0 until
   more ← expect m.More second.1
@@ -116,18 +114,20 @@ module _ (room : ℕ) where
   unfoldable pub putdeck : Parser Stmt
   putdeck ws = do
     rest ← enter room ws
-    name ← take_name rest
-    comma ← expect m.Comma name.1
-    value ← nested room comma
-    close ← expect m.Close value.1
-    behind ← expect m.Semicolon close
+    name ← name_before m.Comma rest
+    value ← nested room name.1
+    behind ← ends m.Close value.1
     Some (PutDeck name.0 value.0, behind)
+
+  -- further values, each after a comma
+  unfoldable pub other_values : Parser (List Expr)
+  other_values ws = if sees m.Comma ws then listed (nested room) (drop 1 ws) else Some ([], ws)
 
   unfoldable pub errmsg : Parser Stmt
   errmsg ws = do
     rest ← enter room ws
     what ← message rest
-    values ← others_from (nested room) (length what.1) [] what.1
+    values ← other_values what.1
     close ← expect m.Close values.1
     behind ← expect m.Semicolon (after m.Summary close)
     Some (ErrMsg what.0 (exprs values.0) (sees m.Summary close), behind)
@@ -144,13 +144,28 @@ imputed room ws = do
   subs ← subscripts room (nested room) name.1
   comma ← expect m.Comma subs.1
   value ← expr_at room comma
-  close ← expect m.Close value.1
-  behind ← expect m.Semicolon close
+  behind ← ends m.Close value.1
   Some (Impute name.0 (exprs subs.0) value.0, behind)
 
 unfoldable pub impute : ℕ → Parser Stmt
 impute zero ws = None
 impute (suc room) ws = expect m.Open ws >>= imputed room
+
+-- what stands between a `for` and its body: the variable and the record
+unfoldable pub visiting : Parser (Spelling × Spelling)
+visiting ws = do
+  variable ← name_before m.In ws
+  record_name ← name_before m.Do variable.1
+  Some ((variable.0, record_name.0), record_name.1)
+
+-- the heads of statements with others in them, with room for this many, the statement being one of them
+unfoldable pub visiting_at : ℕ → Parser (Spelling × Spelling)
+visiting_at zero ws = None
+visiting_at (suc room) ws = visiting ws
+
+unfoldable pub counting_at : ℕ → Parser Counting
+counting_at zero ws = None
+counting_at (suc room) ws = counting room ws
 
 -- ---- statements with others in them, which body reads
 module _ (room : ℕ) (body : Parser (List Stmt)) where
@@ -170,57 +185,55 @@ module _ (room : ℕ) (body : Parser (List Stmt)) where
   unfoldable pub elseifs : Parser (List (Expr × Stmts))
   elseifs ws = elseifs_from (length ws) [] ws
 
+  -- what is open, up to this word and a semicolon
+  unfoldable pub body_to : Mark → Parser Stmts
+  body_to mark ws = do
+    found ← body ws
+    behind ← ends mark found.1
+    Some (stmts found.0, behind)
+
+  -- the `else`, if it stands there, and the end of the `if`
   unfoldable pub otherwise : Parser Arms
   otherwise ws =
       if sees m.Else ws then (do
-        found ← body (drop 1 ws)
-        Some (else_of (stmts found.0), found.1))
-      else Some (no_arm, ws)
+        found ← body_to m.EndIf (drop 1 ws)
+        Some (else_of found.0, found.1))
+      else (do
+        behind ← ends m.EndIf ws
+        Some (no_arm, behind))
+
+  -- what stands behind the first arm of an `if`, and its end
+  unfoldable pub alternatives : Parser Arms
+  alternatives ws = do
+    others ← elseifs ws
+    last ← otherwise others.1
+    Some (arms others.0 last.0, last.1)
 
   unfoldable pub conditional : Parser Stmt
   conditional ws = do
     first ← guarded ws
-    others ← elseifs first.1
-    last ← otherwise others.1
-    rest ← expect m.EndIf last.1
-    behind ← expect m.Semicolon rest
-    Some (If first.0.0 first.0.1 (arms others.0 last.0), behind)
-
-  unfoldable pub body_to_end : Parser Stmts
-  body_to_end ws = do
-    found ← body ws
-    rest ← expect m.EndDo found.1
-    behind ← expect m.Semicolon rest
-    Some (stmts found.0, behind)
+    others ← alternatives first.1
+    Some (If first.0.0 first.0.1 others.0, others.1)
 
   unfoldable pub over : Parser Stmt
   over ws = do
-    variable ← take_name ws
-    in_word ← expect m.In variable.1
-    record_name ← take_name in_word
-    do_word ← expect m.Do record_name.1
-    found ← body_to_end do_word
-    Some (For variable.0 record_name.0 found.0, found.1)
+    head ← visiting_at room ws
+    found ← body_to m.EndDo head.1
+    Some (For head.0.0 head.0.1 found.0, found.1)
 
--- with room for this many, the statement being one of them
-unfoldable pub over_at : ℕ → Parser (List Stmt) → Parser Stmt
-over_at zero body ws = None
-over_at (suc room) body ws = over (suc room) body ws
-
-unfoldable pub counted_at : ℕ → Parser (List Stmt) → Parser Stmt
-counted_at zero body ws = None
-counted_at (suc room) body ws = do
-  head ← counting room ws
-  found ← body_to_end (suc room) body head.1
-  Some (Do head.0 found.0, found.1)
+  unfoldable pub repeated : Parser Stmt
+  repeated ws = do
+    head ← counting_at room ws
+    found ← body_to m.EndDo head.1
+    Some (Do head.0 found.0, found.1)
 
 module _ (room : ℕ) (body : Parser (List Stmt)) where
   -- after a mark that begins a statement
   unfoldable pub marked_stmt : Mark → Parser Stmt
   marked_stmt m.Semicolon ws = Some (Empty, ws)
   marked_stmt m.If ws = conditional room body ws
-  marked_stmt m.For ws = over_at room body ws
-  marked_stmt m.Do ws = counted_at room body ws
+  marked_stmt m.For ws = over room body ws
+  marked_stmt m.Do ws = repeated room body ws
   marked_stmt m.Impute ws = impute room ws
   marked_stmt m.PutDeck ws = putdeck room ws
   marked_stmt m.ErrMsg ws = errmsg room ws

@@ -29,13 +29,13 @@ impl<'t, 'a> Parser<'t, 'a> {
         ensures { Reads (λ v. map written v.items) (spec.listed spec.take_name) result self.old.rest.now self.new.rest.now }
     {
         let mut found = Vec::new(self.alloc);
-        let first = self.name()?;
-        found.push(first)?;
-        'others: while self.eat(Mark::Comma) {
+        'all: loop {
             let next = self.name()?;
             found.push(next)?;
+            if !self.eat(Mark::Comma) {
+                return Ok(found);
+            }
         }
-        Ok(found)
     }
 
     /// After the name of a value set.
@@ -79,13 +79,13 @@ impl<'t, 'a> Parser<'t, 'a> {
         ensures { Reads (λ v. map tree.dimension v.items) (spec.listed rule.dimension) result self.old.rest.now self.new.rest.now }
     {
         let mut found = Vec::new(self.alloc);
-        let first = self.dimension()?;
-        found.push(first)?;
-        'others: while self.eat(Mark::Comma) {
+        'all: loop {
             let next = self.dimension()?;
             found.push(next)?;
+            if !self.eat(Mark::Comma) {
+                return Ok(found);
+            }
         }
-        Ok(found)
     }
 
     #[tactic(auto, unfolding(crate::specs::Reading::listed))]
@@ -93,13 +93,13 @@ impl<'t, 'a> Parser<'t, 'a> {
         ensures { Reads (λ v. map tree.literal v.items) (spec.listed (stmts.literal MOST)) result self.old.rest.now self.new.rest.now }
     {
         let mut found = Vec::new(self.alloc);
-        let first = self.literal(MOST)?;
-        found.push(first)?;
-        'others: while self.eat(Mark::Comma) {
+        'all: loop {
             let next = self.literal(MOST)?;
             found.push(next)?;
+            if !self.eat(Mark::Comma) {
+                return Ok(found);
+            }
         }
-        Ok(found)
     }
 
     #[tactic(auto, unfolding(crate::specs::ReadingSource::parameter))]
@@ -116,13 +116,13 @@ impl<'t, 'a> Parser<'t, 'a> {
         ensures { Reads (λ v. map tree.parameter v.items) (spec.listed rule.parameter) result self.old.rest.now self.new.rest.now }
     {
         let mut found = Vec::new(self.alloc);
-        let first = self.parameter()?;
-        found.push(first)?;
-        'others: while self.eat(Mark::Comma) {
+        'all: loop {
             let next = self.parameter()?;
             found.push(next)?;
+            if !self.eat(Mark::Comma) {
+                return Ok(found);
+            }
         }
-        Ok(found)
     }
 
     #[tactic(auto, unfolding(crate::specs::ReadingSource::parameters))]
@@ -171,8 +171,7 @@ impl<'t, 'a> Parser<'t, 'a> {
     fn array(&mut self) -> Result<Array<'a>, ReadError>
         ensures { Reads tree.array rule.array result self.old.rest.now self.new.rest.now }
     {
-        let name = self.name()?;
-        self.expect(Mark::Open)?;
+        let name = self.name_before(Mark::Open)?;
         let dimensions = self.dimensions()?;
         self.expect(Mark::Close)?;
         let is_saved = self.eat(Mark::Save);
@@ -198,13 +197,11 @@ impl<'t, 'a> Parser<'t, 'a> {
     fn function(&mut self, room: usize) -> Result<Declaration<'a>, ReadError>
         ensures { Reads tree.declaration (rule.function room) result self.old.rest.now self.new.rest.now }
     {
-        let name = self.name()?;
-        self.expect(Mark::Open)?;
+        let name = self.name_before(Mark::Open)?;
         let parameters = self.parameters()?;
         self.expect(Mark::Close)?;
         let body = self.statements(room)?;
-        self.expect(Mark::End)?;
-        self.expect(Mark::Semicolon)?;
+        self.ends(Mark::End)?;
         Ok(Declaration::Function(name, parameters, body))
     }
 

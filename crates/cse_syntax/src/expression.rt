@@ -1,20 +1,20 @@
 //! From tokens to expressions, one method a rule of the grammar. `room` is how many more parentheses and
 //! statements may be open, so no text makes the methods call themselves without end.
 
-ghost use Rattle.std.specs.Prelude.{◌≡◌, IfOk, [], ◌∷◌, length, map};
+ghost use Rattle.std.specs.Prelude.{◌≡◌, [], ◌∷◌, length, map};
 ghost use Rattle.cse_syntax.specs.Word.{words};
 ghost use Rattle.cse_syntax.specs.Tree as tree;
 ghost use Rattle.cse_syntax.specs.Tree.{written, expr, exprs, operation_tree, Compare};
 ghost use Rattle.std.specs.Option.{option_map};
 ghost use Rattle.cse_syntax.specs.Reading as spec;
-ghost use Rattle.cse_syntax.specs.Reading.{Reads};
+ghost use Rattle.cse_syntax.specs.Reading.{Reads, Makes};
 
 use crate::error::ReadError;
 use crate::number::is_within;
 use crate::parser::{Level, Parser, refused};
 use crate::token::{Kind, Mark, Token};
 use crate::tree::{Expression, Function, Lexeme, Operation, Query, Relation};
-use std::alloc::{AllocError, Global};
+use std::alloc::Global;
 
 /// The greatest number of a source.
 pub const MOST: u64 = 9_223_372_036_854_775_807;
@@ -32,33 +32,20 @@ impl<'t, 'a> Parser<'t, 'a> {
         self.chain(Level::Or, room - 1)
     }
 
-    /// Further expressions, each after a comma.
-    #[cycle(expression)]
-    pub fn others(
-        &mut self,
-        room: usize,
-        before: Vec<Expression<'a>>,
-    ) -> Result<Vec<Expression<'a>>, ReadError>
-        ensures { Reads (λ v. map expr v.items) (λ ws. spec.others_from (spec.nested room) (length ws) (map expr before.entry.items) ws) result self.old.rest.now self.new.rest.now }
-    {
-        let mut found = before;
-        'others: while self.eat(Mark::Comma) {
-            let next = self.nested(room)?;
-            found.push(next)?;
-        }
-        Ok(found)
-    }
-
     /// Expressions with commas between them, one at least.
     #[cycle(expression)]
     #[tactic(auto, unfolding(crate::specs::Reading::listed))]
-    fn listed(&mut self, room: usize) -> Result<Vec<Expression<'a>>, ReadError>
+    pub fn listed(&mut self, room: usize) -> Result<Vec<Expression<'a>>, ReadError>
         ensures { Reads (λ v. map expr v.items) (spec.listed (spec.nested room)) result self.old.rest.now self.new.rest.now }
     {
         let mut found = Vec::new(self.alloc);
-        let first = self.nested(room)?;
-        found.push(first)?;
-        self.others(room, found)
+        'all: loop {
+            let next = self.nested(room)?;
+            found.push(next)?;
+            if !self.eat(Mark::Comma) {
+                return Ok(found);
+            }
+        }
     }
 
     /// Expressions in parentheses.
@@ -98,27 +85,15 @@ impl<'t, 'a> Parser<'t, 'a> {
         Ok(found)
     }
 
-    /// A name, with or without parentheses after it.
+    /// An expression, up to the parenthesis that closes it.
     #[cycle(expression)]
-    #[tactic(auto, unfolding(crate::specs::Reading::named))]
-    fn named(&mut self, room: usize, name: Lexeme<'a>) -> Result<Expression<'a>, ReadError>
-        ensures { Reads expr (spec.named room (spec.nested room) (written name.entry)) result self.old.rest.now self.new.rest.now }
-    {
-        if !self.sees(Mark::Open) {
-            return Ok(Expression::Name(name));
-        }
-        let arguments = self.arguments(room)?;
-        Ok(indexed(name, arguments))
-    }
-
-    #[cycle(expression)]
-    #[tactic(auto, unfolding(crate::specs::Reading::group))]
-    fn group(&mut self, room: usize) -> Result<Expression<'a>, ReadError>
-        ensures { Reads expr (spec.group room (spec.nested room)) result self.old.rest.now self.new.rest.now }
+    #[tactic(auto, unfolding(crate::specs::Reading::closed))]
+    fn closed(&mut self, room: usize) -> Result<Box<Expression<'a>>, ReadError>
+        ensures { Reads (λ b. expr b.value) (spec.closed room (spec.nested room)) result self.old.rest.now self.new.rest.now }
     {
         let inner = self.nested(room)?;
         self.expect(Mark::Close)?;
-        Ok(Expression::Group(Box::new(self.alloc, inner)?))
+        boxed(self.alloc, inner)
     }
 
     #[cycle(expression)]
@@ -127,9 +102,8 @@ impl<'t, 'a> Parser<'t, 'a> {
         ensures { Reads expr (spec.apply room (spec.nested room) function) result self.old.rest.now self.new.rest.now }
     {
         self.enter(room)?;
-        let argument = self.nested(room)?;
-        self.expect(Mark::Close)?;
-        Ok(Expression::Apply(function, Box::new(self.alloc, argument)?))
+        let argument = self.closed(room)?;
+        Ok(Expression::Apply(function, argument))
     }
 
     #[tactic(auto, unfolding(crate::specs::Reading::query))]
@@ -137,8 +111,7 @@ impl<'t, 'a> Parser<'t, 'a> {
         ensures { Reads expr (spec.query room (spec.nested room) query) result self.old.rest.now self.new.rest.now }
     {
         self.enter(room)?;
-        let name = self.name()?;
-        self.expect(Mark::Close)?;
+        let name = self.name_before(Mark::Close)?;
         Ok(Expression::Query(query, name))
     }
 
@@ -167,7 +140,7 @@ impl<'t, 'a> Parser<'t, 'a> {
 
     /// What begins with a reserved word or a symbol, which is the last token.
     #[cycle(expression)]
-    #[tactic(auto, unfolding(crate::specs::Reading::marked))]
+    #[tactic(auto, unfolding(crate::specs::Reading::marked, crate::specs::Reading::group))]
     fn marked(
         &mut self,
         room: usize,
@@ -177,7 +150,10 @@ impl<'t, 'a> Parser<'t, 'a> {
         ensures { Reads expr (spec.marked room (spec.nested room) mark) result self.old.rest.now self.new.rest.now }
     {
         match mark {
-            Mark::Open => self.group(room),
+            Mark::Open => {
+                let inner = self.closed(room)?;
+                Ok(Expression::Group(inner))
+            }
             Mark::Int => self.apply(room, Function::Int),
             Mark::Special => self.apply(room, Function::Special),
             Mark::GetDeck => self.query(room, Query::GetDeck),
@@ -191,7 +167,7 @@ impl<'t, 'a> Parser<'t, 'a> {
 
     /// What needs no parentheses.
     #[cycle(expression)]
-    #[tactic(auto, unfolding(crate::specs::Reading::prim))]
+    #[tactic(auto, unfolding(crate::specs::Reading::prim, crate::specs::Reading::named))]
     fn prim(&mut self, room: usize) -> Result<Expression<'a>, ReadError>
         ensures { Reads expr (spec.prim room (spec.nested room)) result self.old.rest.now self.new.rest.now }
     {
@@ -211,13 +187,17 @@ impl<'t, 'a> Parser<'t, 'a> {
                 text: first.text,
             })),
             Kind::Special(special) => Ok(Expression::Special(first.index, special)),
-            Kind::Name => self.named(
-                room,
-                Lexeme {
+            Kind::Name => {
+                let name = Lexeme {
                     token: first.index,
                     text: first.text,
-                },
-            ),
+                };
+                if !self.sees(Mark::Open) {
+                    return Ok(Expression::Name(name));
+                }
+                let arguments = self.arguments(room)?;
+                Ok(indexed(name, arguments))
+            }
             Kind::Mark(mark) => self.marked(room, mark, first),
             _ => Err(refused(&first)),
         }
@@ -232,7 +212,7 @@ impl<'t, 'a> Parser<'t, 'a> {
             return self.prim(room);
         }
         let operand = self.prim(room)?;
-        Ok(Expression::Minus(Box::new(self.alloc, operand)?))
+        Ok(Expression::Minus(boxed(self.alloc, operand)?))
     }
 
     /// Operands of a level, with its operators between them.
@@ -242,7 +222,7 @@ impl<'t, 'a> Parser<'t, 'a> {
     {
         let first = self.operand(level, room)?;
         let rest = self.operations(level, room)?;
-        Ok(chained(self.alloc, first, rest)?)
+        chained(self.alloc, first, rest)
     }
 
     #[cycle(expression)]
@@ -279,7 +259,7 @@ impl<'t, 'a> Parser<'t, 'a> {
             return self.relation(room);
         }
         let operand = self.relation(room)?;
-        Ok(Expression::Not(Box::new(self.alloc, operand)?))
+        Ok(Expression::Not(boxed(self.alloc, operand)?))
     }
 
     #[cycle(expression)]
@@ -292,7 +272,7 @@ impl<'t, 'a> Parser<'t, 'a> {
             return Ok(left);
         };
         let right = self.chain(Level::Sum, room)?;
-        Ok(compare(self.alloc, left, relation, right)?)
+        compare(self.alloc, left, relation, right)
     }
 
     #[tactic(auto, unfolding(crate::specs::Reading::disjunction))]
@@ -303,16 +283,23 @@ impl<'t, 'a> Parser<'t, 'a> {
     }
 }
 
+/// A tree in memory of its own.
+fn boxed<'a>(alloc: Global, tree: Expression<'a>) -> Result<Box<Expression<'a>>, ReadError>
+    ensures { Makes (λ b. expr b.value) result (expr tree.entry) }
+{
+    Ok(Box::new(alloc, tree)?)
+}
+
 fn compare<'a>(
     alloc: Global,
     left: Expression<'a>,
     relation: Relation,
     right: Expression<'a>,
-) -> Result<Expression<'a>, AllocError>
-    ensures { IfOk result (λ e. expr e ≡ Compare relation (expr left.entry) (expr right.entry)) }
+) -> Result<Expression<'a>, ReadError>
+    ensures { Makes expr result (Compare relation (expr left.entry) (expr right.entry)) }
 {
-    let left = Box::new(alloc, left)?;
-    let right = Box::new(alloc, right)?;
+    let left = boxed(alloc, left)?;
+    let right = boxed(alloc, right)?;
     Ok(Expression::Compare(left, relation, right))
 }
 
@@ -334,11 +321,11 @@ fn chained<'a>(
     alloc: Global,
     first: Expression<'a>,
     rest: Vec<Operation<'a>>,
-) -> Result<Expression<'a>, AllocError>
-    ensures { IfOk result (λ e. expr e ≡ spec.chained (expr first.entry) (map operation_tree rest.entry.items)) }
+) -> Result<Expression<'a>, ReadError>
+    ensures { Makes expr result (spec.chained (expr first.entry) (map operation_tree rest.entry.items)) }
 {
     if rest.is_empty() {
         return Ok(first);
     }
-    Ok(chain_of(Box::new(alloc, first)?, rest))
+    Ok(chain_of(boxed(alloc, first)?, rest))
 }

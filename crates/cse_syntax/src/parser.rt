@@ -143,6 +143,16 @@ impl<'t, 'a> Parser<'t, 'a> {
         }
     }
 
+    /// Takes this mark and a semicolon, which end a statement.
+    #[tactic(auto, unfolding(crate::specs::Reading::ends))]
+    pub fn ends(&mut self, mark: Mark) -> Result<(), ReadError>
+        ensures value { Leaves result (spec.ends mark (words self.old.rest.now)) (words self.new.rest.now) }
+        ensures shorter { length self.new.rest.now ≤ length self.old.rest.now }
+    {
+        self.expect(mark)?;
+        self.expect(Mark::Semicolon)
+    }
+
     /// Takes a parenthesis, where one more may be open.
     pub fn enter(&mut self, room: usize) -> Result<(), ReadError>
         ensures value { Leaves result (spec.enter room (words self.old.rest.now)) (words self.new.rest.now) }
@@ -180,6 +190,16 @@ impl<'t, 'a> Parser<'t, 'a> {
             }),
             _ => Err(refused(&found)),
         }
+    }
+
+    /// A name, and this mark behind it.
+    #[tactic(auto, unfolding(crate::specs::Reading::name_before))]
+    pub fn name_before(&mut self, mark: Mark) -> Result<Lexeme<'a>, ReadError>
+        ensures { Reads written (spec.name_before mark) result self.old.rest.now self.new.rest.now }
+    {
+        let name = self.name()?;
+        self.expect(mark)?;
+        Ok(name)
     }
 
     /// A number in this range.

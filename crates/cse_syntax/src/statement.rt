@@ -77,8 +77,7 @@ impl<'t, 'a> Parser<'t, 'a> {
         ensures { Reads tree.limit (rule.counted room count) result self.old.rest.now self.new.rest.now }
     {
         self.enter(room)?;
-        let record = self.name()?;
-        self.expect(Mark::Close)?;
+        let record = self.name_before(Mark::Close)?;
         Ok(Limit::Count(count, record))
     }
 
@@ -134,8 +133,7 @@ impl<'t, 'a> Parser<'t, 'a> {
         ensures { Reads tree.counting (rule.counting room) result self.old.rest.now self.new.rest.now }
     {
         self.expect(Mark::Varying)?;
-        let variable = self.name()?;
-        self.expect(Mark::Equals)?;
+        let variable = self.name_before(Mark::Equals)?;
         let from = self.limit(room)?;
         self.expect(Mark::Until)?;
         let again = self.again(variable)?;
@@ -149,6 +147,30 @@ impl<'t, 'a> Parser<'t, 'a> {
             to,
             by,
         })
+    }
+
+    /// The same, where one more statement may be open.
+    #[tactic(auto, unfolding(crate::specs::ReadingStmt::counting_at))]
+    fn counting_at(&mut self, room: usize) -> Result<Counting<'a>, ReadError>
+        ensures { Reads tree.counting (rule.counting_at room) result self.old.rest.now self.new.rest.now }
+    {
+        if room == 0 {
+            return Err(self.too_deep());
+        }
+        self.counting(room - 1)
+    }
+
+    /// What stands between a `for` and its body, where one more statement may be open: the variable and the record.
+    #[tactic(auto, unfolding(crate::specs::ReadingStmt::visiting, crate::specs::ReadingStmt::visiting_at))]
+    fn visiting(&mut self, room: usize) -> Result<(Lexeme<'a>, Lexeme<'a>), ReadError>
+        ensures { Reads (λ p. (written p.0, written p.1)) (rule.visiting_at room) result self.old.rest.now self.new.rest.now }
+    {
+        if room == 0 {
+            return Err(self.too_deep());
+        }
+        let variable = self.name_before(Mark::In)?;
+        let record_name = self.name_before(Mark::Do)?;
+        Ok((variable, record_name))
     }
 
     #[tactic(auto, unfolding(crate::specs::ReadingStmt::message))]
@@ -222,12 +244,21 @@ impl<'t, 'a> Parser<'t, 'a> {
         ensures { Reads stmt (rule.putdeck room) result self.old.rest.now self.new.rest.now }
     {
         self.enter(room)?;
-        let deck = self.name()?;
-        self.expect(Mark::Comma)?;
+        let deck = self.name_before(Mark::Comma)?;
         let value = self.nested(room)?;
-        self.expect(Mark::Close)?;
-        self.expect(Mark::Semicolon)?;
+        self.ends(Mark::Close)?;
         Ok(Statement::PutDeck(deck, value))
+    }
+
+    /// Further values, each after a comma.
+    #[tactic(auto, unfolding(crate::specs::ReadingStmt::other_values))]
+    fn other_values(&mut self, room: usize) -> Result<Vec<Expression<'a>>, ReadError>
+        ensures { Reads (λ v. map expr v.items) (rule.other_values room) result self.old.rest.now self.new.rest.now }
+    {
+        if !self.eat(Mark::Comma) {
+            return Ok(Vec::new(self.alloc));
+        }
+        self.listed(room)
     }
 
     #[tactic(auto, unfolding(crate::specs::ReadingStmt::errmsg))]
@@ -236,7 +267,7 @@ impl<'t, 'a> Parser<'t, 'a> {
     {
         self.enter(room)?;
         let message = self.message()?;
-        let values = self.others(room, Vec::new(self.alloc))?;
+        let values = self.other_values(room)?;
         self.expect(Mark::Close)?;
         let is_summary = self.eat(Mark::Summary);
         self.expect(Mark::Semicolon)?;
@@ -271,8 +302,7 @@ impl<'t, 'a> Parser<'t, 'a> {
         let subscripts = self.subscripts(room)?;
         self.expect(Mark::Comma)?;
         let value = self.expression(room)?;
-        self.expect(Mark::Close)?;
-        self.expect(Mark::Semicolon)?;
+        self.ends(Mark::Close)?;
         Ok(Statement::Impute(Place { name, subscripts }, value))
     }
 
@@ -327,7 +357,7 @@ impl<'t, 'a> Parser<'t, 'a> {
 
     /// What begins with a reserved word or a symbol, which is the last token.
     #[cycle(statement)]
-    #[tactic(auto, unfolding(crate::specs::ReadingStmt::marked_stmt))]
+    #[tactic(auto, unfolding(crate::specs::ReadingStmt::marked_stmt, crate::specs::ReadingStmt::over, crate::specs::ReadingStmt::repeated))]
     fn marked_statement(
         &mut self,
         room: usize,
@@ -339,8 +369,16 @@ impl<'t, 'a> Parser<'t, 'a> {
         match mark {
             Mark::Semicolon => Ok(Statement::Empty),
             Mark::If => self.conditional(room),
-            Mark::For => self.over(room),
-            Mark::Do => self.repeated(room),
+            Mark::For => {
+                let (variable, record_name) = self.visiting(room)?;
+                let body = self.body_to(room, Mark::EndDo)?;
+                Ok(for_node(variable, record_name, body))
+            }
+            Mark::Do => {
+                let counting = self.counting_at(room)?;
+                let body = self.body_to(room, Mark::EndDo)?;
+                Ok(do_node(counting, body))
+            }
             Mark::Impute => self.impute(room),
             Mark::PutDeck => self.putdeck(room),
             Mark::ErrMsg => self.errmsg(room),
@@ -348,16 +386,14 @@ impl<'t, 'a> Parser<'t, 'a> {
         }
     }
 
+    /// An `if`, behind its first word.
     #[cycle(statement)]
     #[tactic(auto, unfolding(crate::specs::ReadingStmt::conditional))]
     fn conditional(&mut self, room: usize) -> Result<Statement<'a>, ReadError>
         ensures { Reads stmt (rule.conditional room (rule.body_at room)) result self.old.rest.now self.new.rest.now }
     {
         let first = self.guarded(room)?;
-        let others = self.elseifs(room)?;
-        let otherwise = self.otherwise(room)?;
-        self.expect(Mark::EndIf)?;
-        self.expect(Mark::Semicolon)?;
+        let (others, otherwise) = self.alternatives(room)?;
         Ok(if_node(first, others, otherwise))
     }
 
@@ -373,70 +409,47 @@ impl<'t, 'a> Parser<'t, 'a> {
         Ok(Arm { condition, body })
     }
 
+    /// What stands behind the first arm of an `if`, and its end.
     #[cycle(statement)]
-    #[tactic(auto, unfolding(crate::specs::ReadingStmt::elseifs))]
-    fn elseifs(&mut self, room: usize) -> Result<Vec<Arm<'a>>, ReadError>
-        ensures { Reads (λ v. map arm_tree v.items) (rule.elseifs room (rule.body_at room)) result self.old.rest.now self.new.rest.now }
+    #[tactic(auto, unfolding(crate::specs::ReadingStmt::alternatives, crate::specs::ReadingStmt::elseifs))]
+    fn alternatives(
+        &mut self,
+        room: usize,
+    ) -> Result<(Vec<Arm<'a>>, Option<Vec<Statement<'a>>>), ReadError>
+        ensures { Reads (λ p. arms (map arm_tree p.0.items) (otherwise_tree p.1)) (rule.alternatives room (rule.body_at room)) result self.old.rest.now self.new.rest.now }
     {
-        let mut found = Vec::new(self.alloc);
+        let mut others = Vec::new(self.alloc);
         'all: while self.eat(Mark::ElseIf) {
             let next = self.guarded(room)?;
-            found.push(next)?;
+            others.push(next)?;
         }
-        Ok(found)
+        let otherwise = self.otherwise(room)?;
+        Ok((others, otherwise))
     }
 
+    /// The `else`, if it stands there, and the end of the `if`.
     #[cycle(statement)]
     #[tactic(auto, unfolding(crate::specs::ReadingStmt::otherwise))]
     fn otherwise(&mut self, room: usize) -> Result<Option<Vec<Statement<'a>>>, ReadError>
         ensures { Reads otherwise_tree (rule.otherwise room (rule.body_at room)) result self.old.rest.now self.new.rest.now }
     {
         if !self.eat(Mark::Else) {
+            self.ends(Mark::EndIf)?;
             return Ok(None);
         }
-        let body = self.body(room)?;
+        let body = self.body_to(room, Mark::EndIf)?;
         Ok(Some(body))
     }
 
-    /// The statements of a `for` or a `do`, up to its end.
+    /// The statements in one that is open, up to its last word and a semicolon.
     #[cycle(statement)]
-    #[tactic(auto, unfolding(crate::specs::ReadingStmt::body_to_end))]
-    fn body_to_end(&mut self, room: usize) -> Result<Vec<Statement<'a>>, ReadError>
-        ensures { Reads (λ v. block v.items) (rule.body_to_end room (rule.body_at room)) result self.old.rest.now self.new.rest.now }
+    #[tactic(auto, unfolding(crate::specs::ReadingStmt::body_to))]
+    fn body_to(&mut self, room: usize, last: Mark) -> Result<Vec<Statement<'a>>, ReadError>
+        ensures { Reads (λ v. block v.items) (rule.body_to room (rule.body_at room) last) result self.old.rest.now self.new.rest.now }
     {
         let body = self.body(room)?;
-        self.expect(Mark::EndDo)?;
-        self.expect(Mark::Semicolon)?;
+        self.ends(last)?;
         Ok(body)
-    }
-
-    #[cycle(statement)]
-    #[tactic(auto, unfolding(crate::specs::ReadingStmt::over, crate::specs::ReadingStmt::over_at))]
-    fn over(&mut self, room: usize) -> Result<Statement<'a>, ReadError>
-        ensures { Reads stmt (rule.over_at room (rule.body_at room)) result self.old.rest.now self.new.rest.now }
-    {
-        if room == 0 {
-            return Err(self.too_deep());
-        }
-        let variable = self.name()?;
-        self.expect(Mark::In)?;
-        let record_name = self.name()?;
-        self.expect(Mark::Do)?;
-        let body = self.body_to_end(room)?;
-        Ok(for_node(variable, record_name, body))
-    }
-
-    #[cycle(statement)]
-    #[tactic(auto, unfolding(crate::specs::ReadingStmt::counted_at))]
-    fn repeated(&mut self, room: usize) -> Result<Statement<'a>, ReadError>
-        ensures { Reads stmt (rule.counted_at room (rule.body_at room)) result self.old.rest.now self.new.rest.now }
-    {
-        if room == 0 {
-            return Err(self.too_deep());
-        }
-        let counting = self.counting(room - 1)?;
-        let body = self.body_to_end(room)?;
-        Ok(do_node(counting, body))
     }
 }
 

@@ -1,10 +1,10 @@
-use Rattle.std.proofs.Common.{arith, ap, sym, refl, ◌∙◌, ◌≡◌, ◌<◌, ◌≤◌, true, length, map}
+use Rattle.std.proofs.Common.{arith, ap, sym, refl, ◌∙◌, ◌<◌, ◌≤◌, length, map}
 use Rattle.std.proofs.lemmas.List.{map_push}
-use Rattle.cse_syntax.specs.declared.token.Mark.TheVariants as m
 use Rattle.cse_syntax.specs.Word.{words}
-use Rattle.cse_syntax.specs.Tree.{expr, operation_tree}
+use Rattle.cse_syntax.specs.Tree.{expr, operation_tree, Compare}
 use Rattle.cse_syntax.specs.Reading as spec
-use Rattle.cse_syntax.proofs.Loops.{one_operation, one_item, after_mark, after_not, list_ends}
+use Rattle.cse_syntax.specs.Reading.{closed, relation, related, sum}
+use Rattle.cse_syntax.proofs.Loops.{made_gives, one_operation, list_ends, awaits_first, awaits_next, awaits_last}
 use Rattle.cse_syntax.proofs.parser.Parser.+expression.Goals as goal
 
 pub operations-operands-preserved : goal.operations-operands-preserved
@@ -20,15 +20,37 @@ operations-returns t c = record {
   shorter = omega (arith, c.in_default.ensures.shorter);
 }
 
-pub others-returns : goal.others-returns
-others-returns t c = record {
-  value = list_ends (spec.sees m.Comma) (spec.after_comma (spec.nested c.args.room)) _ (map expr c.others.found.items) c.others.self.rest.now c.eat.new.self.rest.now (sym c.others-test.ensures.found) (c.eat.ensures.after ∙ after_not m.Comma (words c.others.self.rest.now) (sym c.others-test.ensures.found)) c.others.invariant.1;
+pub listed-all-init : goal.listed-all-init
+listed-all-init t c = (omega arith, awaits_first (spec.nested c.args.room) (words c.args.self.now.rest.now) _ (ap (map expr) c.new-found.ensures.items))
+
+pub listed-all-preserved : goal.listed-all-preserved
+listed-all-preserved t c = (omega arith, awaits_next (spec.nested c.args.room) _ (map expr c.all.found.items) (map expr c.push.new.self.items) (expr c.in_ok-next.next) c.all.self.rest.now c.nested.new.self.rest.now c.eat.new.self.rest.now c.in_ok-next.ensures.value c.in_ok-next.ensures.shorter (ap (map expr) c.in_ok-push.ensures.items ∙ map_push expr c.all.found.items c.in_ok-next.next) (sym c.if-not-eat.ensures.found) c.eat.ensures.after c.all.invariant.1)
+
+pub listed-returns-then-not-eat : goal.listed-returns-then-not-eat
+listed-returns-then-not-eat t c = record {
+  value = awaits_last (spec.nested c.args.room) _ (map expr c.all.found.items) (map expr c.push.new.self.items) (expr c.in_ok-next.next) c.all.self.rest.now c.nested.new.self.rest.now c.eat.new.self.rest.now c.in_ok-next.ensures.value c.in_ok-next.ensures.shorter (ap (map expr) c.in_ok-push.ensures.items ∙ map_push expr c.all.found.items c.in_ok-next.next) (sym c.if-not-eat.ensures.found) c.eat.ensures.after c.all.invariant.1;
   shorter = omega (arith, c.eat.ensures.shorter);
 }
 
-pub others-others-preserved : goal.others-others-preserved
-others-others-preserved t c =
-    let sees : spec.sees m.Comma (words c.others.self.rest.now) ≡ true = sym c.others-test.ensures.found in
-    let taken : length c.eat.new.self.rest.now < length c.others.self.rest.now = c.others-test.ensures.taken refl in
-    let item = after_mark m.Comma (spec.nested c.args.room) (words c.others.self.rest.now) (words c.eat.new.self.rest.now) _ sees c.eat.ensures.after c.in_ok-next.ensures.value in
-    (omega arith, one_item (spec.sees m.Comma) (spec.after_comma (spec.nested c.args.room)) _ (map expr c.others.found.items) (map expr c.push.new.self.items) (expr c.in_ok-next.next) c.others.self.rest.now c.nested.new.self.rest.now sees item (ap (map expr) c.in_ok-push.ensures.items ∙ map_push expr c.others.found.items c.in_ok-next.next) (omega arith) c.others.invariant.1)
+-- What a function outside the cycle makes is handed on as it is.
+pub closed-returns : goal.closed-returns
+unfolding closed
+closed-returns t c = record {
+  value = made_gives (λ b. expr b.value) c.boxed.result (expr c.in_ok-inner.inner) (closed c.args.room (spec.nested c.args.room) (words c.args.self.now.rest.now)) (words c.expect.new.self.rest.now) c.boxed.ensures (rw (c.in_ok-inner.ensures.value, c.in_ok-expect.ensures.value) refl);
+  shorter = omega (arith, c.in_ok-inner.ensures.shorter, c.expect.ensures.shorter);
+}
+
+pub chain-returns : goal.chain-returns
+chain-returns t c =
+    let operand = spec.operand_of c.args.room (spec.nested c.args.room) c.args.level in
+    record {
+      value = made_gives expr c.chained.result (spec.chained (expr c.in_ok-first.first) (map operation_tree c.in_ok-rest.rest.items)) (spec.chain (spec.operator_of c.args.level) operand (words c.args.self.now.rest.now)) (words c.operations.new.self.rest.now) c.chained.ensures (rw (c.in_ok-first.ensures.value, c.in_ok-rest.ensures.value) refl);
+      shorter = omega (arith, c.in_ok-first.ensures.shorter, c.in_ok-rest.ensures.shorter);
+    }
+
+pub relation-returns : goal.relation-returns
+unfolding relation related sum
+relation-returns t c = record {
+  value = made_gives expr c.compare.result (Compare c.in-Some.relation (expr c.in_ok-left.left) (expr c.in_ok-right.right)) (relation c.args.room (spec.nested c.args.room) (words c.args.self.now.rest.now)) (words c.chain-2.new.self.rest.now) c.compare.ensures (rw (c.in_ok-left.ensures.value, ← c.in-Some.ensures.found, ← c.in-Some.ensures.after, c.in_ok-right.ensures.value) refl);
+  shorter = omega (arith, c.in_ok-left.ensures.shorter, c.in-Some.ensures.shorter, c.in_ok-right.ensures.shorter);
+}

@@ -4,7 +4,7 @@ use Rattle.cse_syntax.specs.declared.parser.Level.TheVariants as level
 use Rattle.cse_syntax.specs.Word.{words}
 use Rattle.cse_syntax.specs.Tree.{expr, operation_tree}
 use Rattle.cse_syntax.specs.Reading as spec
-use Rattle.cse_syntax.proofs.Loops.{Within}
+use Rattle.cse_syntax.proofs.Loops.{Within, Awaits}
 use Rattle.cse_syntax.proofs.parser.Parser.+expression.Given as goal
 
 -- The calls lead from a rule to a tighter one, and from there into parentheses, with less room.
@@ -17,20 +17,14 @@ rank level.Product = 8
 abbrev pub decreases-nested : goal.decreases-nested
 decreases-nested l = 25 * l.room
 
-abbrev pub decreases-others : goal.decreases-others
-decreases-others l = 25 * l.room + 1
-
 abbrev pub decreases-listed : goal.decreases-listed
 decreases-listed l = 25 * l.room + 2
 
 abbrev pub decreases-arguments : goal.decreases-arguments
 decreases-arguments l = 25 * l.room + 3
 
-abbrev pub decreases-named : goal.decreases-named
-decreases-named l = 25 * l.room + 4
-
-abbrev pub decreases-group : goal.decreases-group
-decreases-group l = 25 * l.room + 4
+abbrev pub decreases-closed : goal.decreases-closed
+decreases-closed l = 25 * l.room + 1
 
 abbrev pub decreases-apply : goal.decreases-apply
 decreases-apply l = 25 * l.room + 4
@@ -59,13 +53,12 @@ decreases-relation l = 25 * l.room + 14
 abbrev pub decreases-negation : goal.decreases-negation
 decreases-negation l = 25 * l.room + 15
 
-abbrev pub invariant-others-others : goal.invariant-others-others
-invariant-others-others l =
-    (length l.self.rest.now ≤ length l.initial.self.rest.now) × Within (λ n. spec.others_from (spec.nested l.room) n (map expr l.found.items)) (words l.self.rest.now)
-    (spec.others_from (spec.nested l.room) (length (words l.fn.self.rest.now)) (map expr l.fn.before.items) (words l.fn.self.rest.now))
+abbrev pub invariant-listed-all : goal.invariant-listed-all
+invariant-listed-all l =
+    (length l.self.rest.now ≤ length l.fn.self.rest.now) × Awaits (spec.nested l.room) (map expr l.found.items) (words l.self.rest.now) (spec.listed (spec.nested l.room) (words l.fn.self.rest.now))
 
-abbrev pub decreases-others-others : goal.decreases-others-others
-decreases-others-others l = length l.self.rest.now
+abbrev pub decreases-listed-all : goal.decreases-listed-all
+decreases-listed-all l = length l.self.rest.now
 
 abbrev pub invariant-operations-operands : goal.invariant-operations-operands
 invariant-operations-operands l =

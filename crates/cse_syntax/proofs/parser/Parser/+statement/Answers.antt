@@ -1,11 +1,13 @@
 use Rattle.std.proofs.Common.{arith, ap, sym, refl, ◌∙◌, ◌≡◌, ◌<◌, true, length, map}
 use Rattle.std.proofs.lemmas.List.{map_push}
+use Rattle.std.proofs.lemmas.Result.{err_from_is_err_and}
 use Rattle.cse_syntax.specs.declared.token.Mark.TheVariants as m
 use Rattle.cse_syntax.specs.Word.{words}
 use Rattle.cse_syntax.specs.Tree.{stmt, arm_tree}
 use Rattle.cse_syntax.specs.Reading as spec
 use Rattle.cse_syntax.specs.ReadingStmt as rule
-use Rattle.cse_syntax.proofs.Loops.{one_item, after_mark, after_not, list_ends}
+use Rattle.cse_syntax.specs.ReadingStmt.{alternatives}
+use Rattle.cse_syntax.proofs.Loops.{one_item, after_mark, after_not, list_ends, step_fails}
 use Rattle.cse_syntax.proofs.parser.Parser.+statement.Goals as goal
 
 pub statements-all-preserved : goal.statements-all-preserved
@@ -13,15 +15,29 @@ statements-all-preserved t c =
     let taken : length c.statement.new.self.rest.now < length c.all.self.rest.now = c.in_ok-next.ensures.taken in
     (omega arith, one_item rule.starts_stmt (rule.statement c.args.room (rule.body_at c.args.room)) _ (map stmt c.all.found.items) (map stmt c.push.new.self.items) (stmt c.in_ok-next.next) c.all.self.rest.now c.statement.new.self.rest.now (sym c.all-test.ensures) c.in_ok-next.ensures.reads.value (ap (map stmt) c.in_ok-push.ensures.items ∙ map_push stmt c.all.found.items c.in_ok-next.next) (omega arith) c.all.invariant.1)
 
-pub elseifs-all-preserved : goal.elseifs-all-preserved
-elseifs-all-preserved t c =
+pub alternatives-all-preserved : goal.alternatives-all-preserved
+alternatives-all-preserved t c =
     let sees : spec.sees m.ElseIf (words c.all.self.rest.now) ≡ true = sym c.all-test.ensures.found in
     let taken : length c.eat.new.self.rest.now < length c.all.self.rest.now = c.all-test.ensures.taken refl in
     let item = after_mark m.ElseIf (rule.guarded c.args.room (rule.body_at c.args.room)) (words c.all.self.rest.now) (words c.eat.new.self.rest.now) _ sees c.eat.ensures.after c.in_ok-next.ensures.value in
-    (omega arith, one_item (spec.sees m.ElseIf) (rule.elseif c.args.room (rule.body_at c.args.room)) _ (map arm_tree c.all.found.items) (map arm_tree c.push.new.self.items) (arm_tree c.in_ok-next.next) c.all.self.rest.now c.guarded.new.self.rest.now sees item (ap (map arm_tree) c.in_ok-push.ensures.items ∙ map_push arm_tree c.all.found.items c.in_ok-next.next) (omega arith) c.all.invariant.1)
+    (omega arith, one_item (spec.sees m.ElseIf) (rule.elseif c.args.room (rule.body_at c.args.room)) _ (map arm_tree c.all.others.items) (map arm_tree c.push.new.self.items) (arm_tree c.in_ok-next.next) c.all.self.rest.now c.guarded.new.self.rest.now sees item (ap (map arm_tree) c.in_ok-push.ensures.items ∙ map_push arm_tree c.all.others.items c.in_ok-next.next) (omega arith) c.all.invariant.1)
 
-pub elseifs-returns : goal.elseifs-returns
-elseifs-returns t c = record {
-  value = list_ends (spec.sees m.ElseIf) (rule.elseif c.args.room (rule.body_at c.args.room)) _ (map arm_tree c.all.found.items) c.all.self.rest.now c.eat.new.self.rest.now (sym c.all-test.ensures.found) (c.eat.ensures.after ∙ after_not m.ElseIf (words c.all.self.rest.now) (sym c.all-test.ensures.found)) c.all.invariant.1;
-  shorter = omega (arith, c.eat.ensures.shorter);
-}
+-- No `elseif` stands here, and what stands behind has been read.
+pub alternatives-returns : goal.alternatives-returns
+unfolding alternatives
+alternatives-returns t c =
+    let others = list_ends (spec.sees m.ElseIf) (rule.elseif c.args.room (rule.body_at c.args.room)) _ (map arm_tree c.all.others.items) c.all.self.rest.now c.eat.new.self.rest.now (sym c.all-test.ensures.found) (c.eat.ensures.after ∙ after_not m.ElseIf (words c.all.self.rest.now) (sym c.all-test.ensures.found)) c.all.invariant.1 in
+    record {
+      value = rw (others, c.in_ok-otherwise.ensures.value) refl;
+      shorter = omega (arith, c.eat.ensures.shorter, c.in_ok-otherwise.ensures.shorter);
+    }
+
+pub alternatives-returns-in_err-otherwise : goal.alternatives-returns-in_err-otherwise
+unfolding alternatives
+alternatives-returns-in_err-otherwise t c =
+    let p = err_from_is_err_and c.from_residual-in_err-otherwise.result c.from_residual-in_err-otherwise.ensures.1 in
+    let others = list_ends (spec.sees m.ElseIf) (rule.elseif c.args.room (rule.body_at c.args.room)) _ (map arm_tree c.all.others.items) c.all.self.rest.now c.eat.new.self.rest.now (sym c.all-test.ensures.found) (c.eat.ensures.after ∙ after_not m.ElseIf (words c.all.self.rest.now) (sym c.all-test.ensures.found)) c.all.invariant.1 in
+    record {
+      value = rw (p.1, p.2, others) (step_fails _ _ _ c.in_err-otherwise.ensures.value);
+      shorter = omega (arith, c.eat.ensures.shorter, c.in_err-otherwise.ensures.shorter);
+    }

@@ -1,18 +1,20 @@
-use Rattle.std.proofs.Common.{arith, ap, sym, refl, ◌∙◌, ◌≡◌, ◌<◌, true, length, map}
+use Rattle.std.proofs.Common.{arith, ap, sym, ◌∙◌, map}
 use Rattle.std.proofs.lemmas.List.{map_push}
-use Rattle.cse_syntax.specs.declared.token.Mark.TheVariants as m
-use Rattle.cse_syntax.specs.declared.expression.TheConstants.{MOST}
 use Rattle.cse_syntax.specs.Word.{words}
+use Rattle.cse_syntax.specs.declared.expression.TheConstants.{MOST}
 use Rattle.cse_syntax.specs.Tree as tree
-use Rattle.cse_syntax.specs.Tree.{written}
-use Rattle.cse_syntax.specs.Reading as spec
 use Rattle.cse_syntax.specs.ReadingStmt as stmts
-use Rattle.cse_syntax.proofs.Loops.{one_item, after_mark}
+use Rattle.cse_syntax.proofs.Loops.{awaits_first, awaits_next, awaits_last}
 use Rattle.cse_syntax.proofs.parser.Parser.literals.Goals as goal
 
-pub others-preserved : goal.others-preserved
-others-preserved c =
-    let sees : spec.sees m.Comma (words c.others.self.rest.now) ≡ true = sym c.others-test.ensures.found in
-    let taken : length c.eat.new.self.rest.now < length c.others.self.rest.now = c.others-test.ensures.taken refl in
-    let item = after_mark m.Comma (stmts.literal MOST) (words c.others.self.rest.now) (words c.eat.new.self.rest.now) _ sees c.eat.ensures.after c.in_ok-next.ensures.value in
-    (omega arith, one_item (spec.sees m.Comma) (spec.after_comma (stmts.literal MOST)) _ (map tree.literal c.others.found.items) (map tree.literal c.push-in-others.new.self.items) (tree.literal c.in_ok-next.next) c.others.self.rest.now c.literal-in-others.new.self.rest.now sees item (ap (map tree.literal) c.in_ok-push-2.ensures.items ∙ map_push tree.literal c.others.found.items c.in_ok-next.next) (omega arith) c.others.invariant.1)
+pub all-init : goal.all-init
+all-init c = (omega arith, awaits_first (stmts.literal MOST) (words c.args.self.now.rest.now) _ (ap (map tree.literal) c.new-found.ensures.items))
+
+pub all-preserved : goal.all-preserved
+all-preserved c = (omega arith, awaits_next (stmts.literal MOST) _ (map tree.literal c.all.found.items) (map tree.literal c.push.new.self.items) (tree.literal c.in_ok-next.next) c.all.self.rest.now c.literal.new.self.rest.now c.eat.new.self.rest.now c.in_ok-next.ensures.value c.in_ok-next.ensures.shorter (ap (map tree.literal) c.in_ok-push.ensures.items ∙ map_push tree.literal c.all.found.items c.in_ok-next.next) (sym c.if-not-eat.ensures.found) c.eat.ensures.after c.all.invariant.1)
+
+pub returns-then-not-eat : goal.returns-then-not-eat
+returns-then-not-eat c = record {
+  value = awaits_last (stmts.literal MOST) _ (map tree.literal c.all.found.items) (map tree.literal c.push.new.self.items) (tree.literal c.in_ok-next.next) c.all.self.rest.now c.literal.new.self.rest.now c.eat.new.self.rest.now c.in_ok-next.ensures.value c.in_ok-next.ensures.shorter (ap (map tree.literal) c.in_ok-push.ensures.items ∙ map_push tree.literal c.all.found.items c.in_ok-next.next) (sym c.if-not-eat.ensures.found) c.eat.ensures.after c.all.invariant.1;
+  shorter = omega (arith, c.eat.ensures.shorter);
+}

@@ -1,16 +1,15 @@
 use Rattle.std.proofs.Common.{◌≤◌, length, map}
-use Rattle.cse_syntax.specs.declared.expression.TheConstants.{MOST}
 use Rattle.cse_syntax.specs.Word.{words}
+use Rattle.cse_syntax.specs.declared.expression.TheConstants.{MOST}
 use Rattle.cse_syntax.specs.Tree as tree
-use Rattle.cse_syntax.specs.Tree.{written}
-use Rattle.cse_syntax.specs.Reading as spec
 use Rattle.cse_syntax.specs.ReadingStmt as stmts
-use Rattle.cse_syntax.proofs.Loops.{Within}
+use Rattle.cse_syntax.specs.Reading as spec
+use Rattle.cse_syntax.proofs.Loops.{Awaits}
 use Rattle.cse_syntax.proofs.parser.Parser.literals.Given as goal
 
-abbrev pub invariant-others : goal.invariant-others
-invariant-others l =
-    (length l.self.rest.now ≤ length l.fn.self.rest.now) × Within (λ n. spec.others_from (stmts.literal MOST) n (map tree.literal l.found.items)) (words l.self.rest.now) (spec.listed (stmts.literal MOST) (words l.fn.self.rest.now))
+abbrev pub invariant-all : goal.invariant-all
+invariant-all l =
+    (length l.self.rest.now ≤ length l.fn.self.rest.now) × Awaits (stmts.literal MOST) (map tree.literal l.found.items) (words l.self.rest.now) (spec.listed (stmts.literal MOST) (words l.fn.self.rest.now))
 
-abbrev pub decreases-others : goal.decreases-others
-decreases-others l = length l.self.rest.now
+abbrev pub decreases-all : goal.decreases-all
+decreases-all l = length l.self.rest.now

@@ -2,12 +2,12 @@ use Rattle.std.proofs.Common.{◌≤◌, length, map}
 use Rattle.cse_syntax.specs.Word.{words}
 use Rattle.cse_syntax.specs.Tree.{written}
 use Rattle.cse_syntax.specs.Reading as spec
-use Rattle.cse_syntax.proofs.Loops.{Within}
+use Rattle.cse_syntax.proofs.Loops.{Awaits}
 use Rattle.cse_syntax.proofs.parser.Parser.names.Given as goal
 
-abbrev pub invariant-others : goal.invariant-others
-invariant-others l =
-    (length l.self.rest.now ≤ length l.fn.self.rest.now) × Within (λ n. spec.others_from spec.take_name n (map written l.found.items)) (words l.self.rest.now) (spec.listed spec.take_name (words l.fn.self.rest.now))
+abbrev pub invariant-all : goal.invariant-all
+invariant-all l =
+    (length l.self.rest.now ≤ length l.fn.self.rest.now) × Awaits spec.take_name (map written l.found.items) (words l.self.rest.now) (spec.listed spec.take_name (words l.fn.self.rest.now))
 
-abbrev pub decreases-others : goal.decreases-others
-decreases-others l = length l.self.rest.now
+abbrev pub decreases-all : goal.decreases-all
+decreases-all l = length l.self.rest.now
