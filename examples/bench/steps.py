@@ -3,8 +3,9 @@
 
 usage: steps.py CSBATCH     (as crates/csbatch/out/csbatch, once `rt run` was called there)
 
-Each program is run five times, and the least time counts. `numbers` and `cells` are run by `try`; the others over one
-household of four persons by `run`, most of them with something done four times in a turn of a loop over these persons.
+Each program is run five times, and the least time counts; the first three are run by turns with `machine.rs` beside this,
+a machine of plain Rust (needs rustc). `numbers` and `cells` are run by `try`, the others over one household of four persons
+by `run`, most of them with something done four times in a turn of a loop over these persons.
 """
 import os
 import resource
@@ -13,14 +14,16 @@ import subprocess
 import sys
 import tempfile
 
-sys.path.insert(0, os.path.join(os.path.dirname(os.path.realpath(__file__)), "..", "fuzz"))
+HERE = os.path.dirname(os.path.realpath(__file__))
+sys.path.insert(0, os.path.join(HERE, "..", "fuzz"))
 from images import DICTIONARY, section  # noqa: E402
 
 NUM, LDL, STL, LDG, STG, ADD, REM, NEG, CMP, JMP, JZ, IDX, CUR, ITN, STN, ALD, AST, MSG, CAL, RET, LPC, LPO, END, POP = (
     1, 4, 5, 6, 7, 8, 12, 13, 14, 20, 21, 22, 25, 30, 32, 34, 35, 37, 39, 40, 41, 42, 43, 45)
 AGE, HOUSEHOLD = 3, b"P00111 35\nP00122 33\nP00113  4\nP00113  2\n"
 
-# The constants, and the most turns of loops.
+# The arrays with their cells, the constants, and the most turns of loops.
+ARRAYS = ((b"CELLS", 100), (b"BY_REST", 7))
 CONSTANTS, LIMITS = (1000, 1, 7, 3, 100, 20000, 0, 2000000, 100000), (1000, 20000, 100, 2000000, 100000)
 
 # A function of a number: y = x + 1; f = x + y;
@@ -54,8 +57,9 @@ def in_turns(group, often):
 
 
 # What is done, and whether it is done often.
+ITEMS = "an age read, added to and set"
 GROUPS = {
-    "an age read, added to and set": ([(CUR, 0, 0, 0), (CUR, 0, 0, 0), (ITN, 0, 0, AGE), (NUM, 0, 0, 1), (ADD, 0, 0, 0),
+    ITEMS: ([(CUR, 0, 0, 0), (CUR, 0, 0, 0), (ITN, 0, 0, AGE), (NUM, 0, 0, 1), (ADD, 0, 0, 0),
                                        (NUM, 0, 0, 4), (REM, 0, 0, 0), (STN, 0, 0, AGE)], True),
     "a number put and taken": ([(NUM, 0, 0, 1), (POP, 0, 0, 0)], True),
     "a global put and taken": ([(LDG, 0, 0, 0), (POP, 0, 0, 0)], True),
@@ -89,22 +93,31 @@ def image(of_case, codes):
     heads.append(routine(of_case, 0, 0, 0 if of_case else 1, codes[-1]))
     sections = (shape if of_case else [[]] * 4) + [
         [struct.pack("<q", n) for n in CONSTANTS], [struct.pack("<I", n) for n in LIMITS], [],
-        [struct.pack("<BBH", 1, 0, 0)] * 4, [array(b"CELLS", 100), array(b"BY_REST", 7)],
+        [struct.pack("<BBH", 1, 0, 0)] * 4, [array(*it) for it in ARRAYS],
         [message(b"counted", 1), message(b"listed", 0)], heads,
         [struct.pack("<BBHI", 2 if of_case else 0, 0, 0, len(codes) - 1)]]
     lines = b"".join(struct.pack("<BBHI", *line) for code in codes for line in code)
     return b"CSEB" + struct.pack("<HH", 2, 0) + b"".join(map(section, sections)) + lines
 
 
-def timed(words, room):
-    """The least processor time of five runs, and what was printed."""
-    least = None
-    for _ in range(5):
-        before = resource.getrusage(resource.RUSAGE_CHILDREN).ru_utime
-        ran = subprocess.run(words, cwd=room, check=True, stdout=subprocess.PIPE)
-        spent = resource.getrusage(resource.RUSAGE_CHILDREN).ru_utime - before
-        least = spent if least is None else min(least, spent)
-    return least, ran.stdout.decode()
+def listed(codes, data=b""):
+    """The text of a program over the lines of a household, as `machine.rs` reads it."""
+    rows = [("constants", *CONSTANTS), ("limits", *LIMITS), ("arrays", *(cells for _, cells in ARRAYS))]
+    rows += [("line", line) for line in data.decode().splitlines()]
+    for code in codes:
+        rows += [("routine",), *code]
+    return "".join(" ".join(map(str, row)) + "\n" for row in rows).encode()
+
+
+def timed(commands, room, rounds=5):
+    """The least processor time of each of some commands, which are run by turns, and what it printed."""
+    least, said = [float("inf")] * len(commands), [""] * len(commands)
+    for _ in range(rounds):
+        for k, words in enumerate(commands):
+            before = resource.getrusage(resource.RUSAGE_CHILDREN).ru_utime
+            said[k] = subprocess.run(words, cwd=room, check=True, stdout=subprocess.PIPE).stdout.decode()
+            least[k] = min(least[k], resource.getrusage(resource.RUSAGE_CHILDREN).ru_utime - before)
+    return list(zip(least, said))
 
 
 def put(room, name, data):
@@ -116,15 +129,31 @@ def main(csbatch):
     with tempfile.TemporaryDirectory() as room:
         put(room, "d", DICTIONARY)
         put(room, "data", HOUSEHOLD)
+        plain = os.path.join(room, "machine")
+        subprocess.run(["rustc", "--edition", "2021", "-O", os.path.join(HERE, "machine.rs"), "-o", plain], check=True)
         for name, codes in (("numbers", [FUNCTION, NUMBERS]), ("cells", [CELLS])):
             put(room, "i", image(0, codes))
-            spent, said = timed([csbatch, "try", "i"], room)
+            put(room, "l", listed(codes))
+            (spent, said), (theirs, told) = timed([[csbatch, "try", "i"], [plain, "l"]], room, rounds=12)
             steps = int(said.split()[0])
-            print(f"{name}: {steps} steps, {spent / steps * 1e9:.1f} ns a step")
+            if steps != int(told.split()[0]):
+                sys.exit(f"{name}: {steps} steps, and {told}")
+            print(f"{name}: {steps} steps, {spent / steps * 1e9:.2f} ns a step; in plain Rust {theirs / steps * 1e9:.2f}")
         for name, (group, often) in GROUPS.items():
             put(room, "i", image(1, [in_turns(group, often)]))
-            spent, _ = timed([csbatch, "run", "d", "i", "data", "out", "list", "freq"], room)
+            run = [csbatch, "run", "d", "i", "data", "out", "list", "freq"]
             turns = 4 * (2000000 if often else 100000)
+            if name == ITEMS:
+                put(room, "l", listed([in_turns(group, often)], HOUSEHOLD))
+                (spent, _), (theirs, told) = timed([run, [plain, "l"]], room)
+                steps = int(told.split()[0])
+                wrote = [line.rstrip() for line in told.splitlines()[1:]]
+                with open(os.path.join(room, "out"), "rb") as out:
+                    if [line.rstrip() for line in out.read().decode().splitlines()] != wrote:
+                        sys.exit(f"{name}: the lines differ, and {told}")
+                print(f"{name}: {spent / steps * 1e9:.2f} ns a step; in plain Rust {theirs / steps * 1e9:.2f}")
+                continue
+            [(spent, _)] = timed([run], room)
             print(f"{name}: {spent / turns / 4 * 1e9:.1f} ns, {spent / turns / (4 * len(group) + 1) * 1e9:.1f} ns a step")
 
 
