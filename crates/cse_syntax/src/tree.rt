@@ -63,7 +63,6 @@ pub enum Query {
 }
 
 #[cycle(expr)]
-#[derive(Drop)]
 pub enum Expression<'a> {
     Number(Lexeme<'a>),
     Text(Lexeme<'a>),
@@ -86,6 +85,35 @@ pub enum Expression<'a> {
     Chain(Box<Expression<'a>>, Vec<Operation<'a>>),
 }
 
+// Its drop is written out, as those of the trees below: what owns a tree calls it. A derived one is laid out, with a part for
+// each kind of node, wherever a tree may be dropped, in the crates above too.
+impl Drop for Expression<'_> {
+    #[cycle(expr)]
+    fn drop(self) {
+        match self {
+            Expression::Number(_)
+            | Expression::Text(_)
+            | Expression::Special(_, _)
+            | Expression::Name(_)
+            | Expression::Query(_, _)
+            | Expression::InValueSet(_, _) => {}
+            Expression::Indexed(_, subscripts) => drop(subscripts),
+            Expression::Group(inner)
+            | Expression::Apply(_, inner)
+            | Expression::Minus(inner)
+            | Expression::Not(inner) => drop(inner),
+            Expression::Compare(left, _, right) => {
+                drop(left);
+                drop(right);
+            }
+            Expression::Chain(first, others) => {
+                drop(first);
+                drop(others);
+            }
+        }
+    }
+}
+
 /// An operator and the operand after it.
 #[cycle(expr)]
 #[derive(Drop)]
@@ -97,10 +125,19 @@ pub struct Operation<'a> {
 // ---- statements
 
 /// What a value is put into: a name, with the subscripts that stand in parentheses after it.
-#[derive(Drop)]
 pub struct Place<'a> {
     pub name: Lexeme<'a>,
     pub subscripts: Vec<Expression<'a>>,
+}
+
+impl Drop for Place<'_> {
+    fn drop(self) {
+        let Place {
+            name: _,
+            subscripts,
+        } = self;
+        drop(subscripts);
+    }
 }
 
 /// A number with its sign.
@@ -149,7 +186,6 @@ pub enum Message<'a> {
 }
 
 #[cycle(stmt)]
-#[derive(Drop)]
 pub enum Statement<'a> {
     Empty,
     Assign(Place<'a>, Expression<'a>),
@@ -167,12 +203,41 @@ pub enum Statement<'a> {
     ErrMsg(Message<'a>, Vec<Expression<'a>>, bool),
 }
 
+impl Drop for Statement<'_> {
+    #[cycle(stmt)]
+    fn drop(self) {
+        match self {
+            Statement::Empty | Statement::Jump(_, _) => {}
+            Statement::Assign(place, value) | Statement::Impute(place, value) => {
+                drop(place);
+                drop(value);
+            }
+            Statement::Call(_, values) | Statement::ErrMsg(_, values, _) => drop(values),
+            Statement::If(first, others, otherwise) => {
+                drop(first);
+                drop(others);
+                drop(otherwise);
+            }
+            Statement::For(_, _, body) | Statement::Do(_, body) => drop(body),
+            Statement::PutDeck(_, value) => drop(value),
+        }
+    }
+}
+
 /// A condition and the statements that it guards.
 #[cycle(stmt)]
-#[derive(Drop)]
 pub struct Arm<'a> {
     pub condition: Expression<'a>,
     pub body: Vec<Statement<'a>>,
+}
+
+impl Drop for Arm<'_> {
+    #[cycle(stmt)]
+    fn drop(self) {
+        let Arm { condition, body } = self;
+        drop(condition);
+        drop(body);
+    }
 }
 
 // ---- sources

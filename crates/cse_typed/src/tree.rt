@@ -57,7 +57,6 @@ pub struct Pick {
 // ---- expressions
 
 #[cycle(value)]
-#[derive(Drop)]
 pub enum Number<'a> {
     /// With the number that the digits write.
     Literal(Lexeme<'a>, i64),
@@ -90,9 +89,46 @@ pub enum Number<'a> {
     Chain(Box<Number<'a>>, Vec<Operation<'a>>),
 }
 
+// Its drop is written out, as those of the trees below: what owns a tree calls it. A derived one is laid out, with a part for
+// each kind of node, wherever a tree may be dropped, in the crates above too.
+impl Drop for Number<'_> {
+    #[cycle(value)]
+    fn drop(self) {
+        match self {
+            Number::Literal(_, _)
+            | Number::Special(_, _)
+            | Number::Variable(_, _)
+            | Number::Item(_, _)
+            | Number::TotOcc(_, _)
+            | Number::MaxOcc(_, _)
+            | Number::CurOcc(_, _, _)
+            | Number::InSet(_, _, _, _) => {}
+            Number::Deck(_, _, picks) => drop(picks),
+            Number::ItemAt(_, _, x)
+            | Number::Group(x)
+            | Number::Int(x)
+            | Number::IsSpecial(x)
+            | Number::Minus(x)
+            | Number::Not(x) => drop(x),
+            Number::Cell(_, _, inner) | Number::Call(_, _, inner) => drop(inner),
+            Number::Compare(left, _, right) => {
+                drop(left);
+                drop(right);
+            }
+            Number::CompareTexts(left, _, right) => {
+                drop(left);
+                drop(right);
+            }
+            Number::Chain(first, others) => {
+                drop(first);
+                drop(others);
+            }
+        }
+    }
+}
+
 /// A text.
 #[cycle(value)]
-#[derive(Drop)]
 pub enum Words<'a> {
     /// In quotes.
     Literal(Lexeme<'a>),
@@ -102,6 +138,17 @@ pub enum Words<'a> {
     ItemAt(Lexeme<'a>, Field, Box<Number<'a>>),
     /// In parentheses.
     Group(Box<Words<'a>>),
+}
+
+impl Drop for Words<'_> {
+    #[cycle(value)]
+    fn drop(self) {
+        match self {
+            Words::Literal(_) | Words::Global(_, _) | Words::Item(_, _) => {}
+            Words::ItemAt(_, _, x) => drop(x),
+            Words::Group(x) => drop(x),
+        }
+    }
 }
 
 /// An operator and the operand after it.
@@ -157,7 +204,6 @@ pub struct Counting<'a> {
 }
 
 #[cycle(action)]
-#[derive(Drop)]
 pub enum Statement<'a> {
     Empty,
     Set(Lexeme<'a>, Variable, Number<'a>),
@@ -180,12 +226,55 @@ pub enum Statement<'a> {
     ErrMsg(Message<'a>, usize, Vec<Argument<'a>>, bool),
 }
 
+impl Drop for Statement<'_> {
+    #[cycle(action)]
+    fn drop(self) {
+        match self {
+            Statement::Empty | Statement::Jump(_, _) => {}
+            Statement::Set(_, _, value) => drop(value),
+            Statement::SetText(_, _, text) => drop(text),
+            Statement::SetItem(_, _, which, value) | Statement::Impute(_, _, which, value) => {
+                drop(which);
+                drop(value);
+            }
+            Statement::SetTextItem(_, _, which, text) => {
+                drop(which);
+                drop(text);
+            }
+            Statement::SetCell(_, _, subscripts, value) => {
+                drop(subscripts);
+                drop(value);
+            }
+            Statement::PutDeck(_, _, picks, value) => {
+                drop(picks);
+                drop(value);
+            }
+            Statement::Call(_, _, arguments) => drop(arguments),
+            Statement::ErrMsg(_, _, values, _) => drop(values),
+            Statement::If(first, others, otherwise) => {
+                drop(first);
+                drop(others);
+                drop(otherwise);
+            }
+            Statement::For(_, _, _, _, body) | Statement::Do(_, body) => drop(body),
+        }
+    }
+}
+
 /// A condition and the statements that it guards.
 #[cycle(action)]
-#[derive(Drop)]
 pub struct Arm<'a> {
     pub condition: Number<'a>,
     pub body: Vec<Statement<'a>>,
+}
+
+impl Drop for Arm<'_> {
+    #[cycle(action)]
+    fn drop(self) {
+        let Arm { condition, body } = self;
+        drop(condition);
+        drop(body);
+    }
 }
 
 // ---- sources
