@@ -5,10 +5,9 @@ ghost use Rattle.cse_lines.specs.Run.{with_columns};
 ghost use Rattle.cse_case.specs.Field.{field_of, rewritten};
 ghost use Rattle.cse_case.specs.Entry.{entry_columns};
 
-use crate::digits::put_number;
 use cse_lines::Line;
 use cse_value::shape::ItemShape;
-use cse_value::{Num, Text, put_text};
+use cse_value::{Num, Text, put_num, put_text};
 
 /// Where the columns of an item begin among those of a line, from 0; at most their number.
 fn start_in(item: &ItemShape, width: usize) -> usize
@@ -64,7 +63,7 @@ pub fn write_field(columns: &mut [char], first: usize, item: &ItemShape, entry: 
             value,
             zero_fill,
             code,
-        } => put_number(field, value, zero_fill, code),
+        } => put_num(field, value, zero_fill, code),
         Entry::Words(text) => put_text(field, text),
     }
 }

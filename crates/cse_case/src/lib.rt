@@ -1,7 +1,6 @@
 //! Cases in and out: the lines of a data file with equal id columns, read by a dictionary.
 //!
 //! - `field`: the columns of an item in a line.
-//! - `digits`: a number written over them.
 //! - `ids`: the id columns of a case.
 //! - `items`: a dictionary, and which numbers are no codes of its items.
 //! - `number`: the number in a few columns.
@@ -14,7 +13,6 @@
 #![tactic(auto)]
 
 mod case;
-mod digits;
 mod field;
 mod ids;
 mod items;

@@ -3,3 +3,4 @@ pub mod FieldSteps
 pub mod TextLaws
 pub mod WidthLaws
 pub mod WriteLaws
+pub mod DigitLaws

@@ -8,6 +8,7 @@ ghost use Rattle.std.specs.Prelude.{◌≡◌, ◌+◌, ◌-◌, ◌*◌, ◌<�
 ghost use Rattle.std.specs.Option.{option_map};
 ghost use Rattle.cse_value.specs.Field.{PutKeepsWidth, PutTextKeepsWidth, ReadsWhatWasPut, digits_number, field, in_i64, numeral, put, put_text, put_whole, shown, trimmed, without_blanks};
 
+use crate::digits::put_unsigned;
 use crate::number::Num;
 use crate::text::Text;
 use arrayvec::ArrayString;
@@ -150,6 +151,9 @@ pub fn put_num(columns: &mut [char], value: Num, zero_fill: bool, code: Option<i
 fn put_whole(columns: &mut [char], number: i64, zero_fill: bool)
     ensures { columns.new ≡ put_whole (length columns.old) zero_fill number }
 {
+    if put_unsigned(columns, number, zero_fill) {
+        return;
+    }
     let mut buffer = Buffer::new();
     let text = buffer.format(number).as_bytes();
     if text.len() > columns.len() {

@@ -5,12 +5,14 @@
 //!   are own).
 //! - `text`: texts of at most 255 characters, and their relations.
 //! - `field`: fields, read as numbers and texts and written back, and the text of a number in a message.
+//! - `digits`: the columns of a number that has no sign.
 //! - `shape`: what a program must know of a dictionary.
 //! - `device`: inputs and outputs, and those of std's readers and writers.
 //! - `memory`: the error of calls that can only lack memory.
 #![tactic(auto)]
 
 pub mod device;
+mod digits;
 pub mod field;
 pub mod memory;
 pub mod number;
@@ -21,7 +23,7 @@ pub use device::{Failed, Input, Output, Reads, Writes, write_all};
 pub use field::{keeps_width, put_num, put_text, read_num, read_text, round_trip, show_num};
 pub use memory::OutOfMemory;
 pub use number::{Num, Rel, add, compare, mul, neg, quo, rem, sub, truth};
-pub use text::{TEXT_LEN, Text, compare_text};
+pub use text::{TEXT_LEN, Text, compare_columns, compare_text};
 
 #[cfg(test)]
 mod tests;

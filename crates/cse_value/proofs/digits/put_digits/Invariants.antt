@@ -1,6 +1,6 @@
 use Rattle.std.proofs.Common.{◌≡◌, ◌≤◌, ◌++◌, drop, length}
 use Rattle.std.specs.Fmt.{decimal}
-use Rattle.cse_case.proofs.digits.put_digits.Given as goal
+use Rattle.cse_value.proofs.digits.put_digits.Given as goal
 
 abbrev pub invariant-digits : goal.invariant-digits
 invariant-digits l = record {

@@ -2,8 +2,8 @@ use Rattle.std.proofs.Common.{pos, w64, ap, sym, ◌∙◌}
 use lib.IntN.{nat_abs}
 use lib.Signed.{le_z}
 use Rattle.std.proofs.lemmas.Int.{to_z-of_z}
-use Rattle.cse_case.proofs.DigitLaws.{number_put}
-use Rattle.cse_case.proofs.digits.put_unsigned.Goals as goal
+use Rattle.cse_value.proofs.DigitLaws.{number_put}
+use Rattle.cse_value.proofs.digits.put_unsigned.Goals as goal
 
 pub returns-then-number-ge0-clause-columns : goal.returns-then-number-ge0-clause-columns
 returns-then-number-ge0-clause-columns c put =

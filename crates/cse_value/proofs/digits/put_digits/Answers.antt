@@ -1,7 +1,7 @@
 use Rattle.std.proofs.Common.{◌≡◌, ◌<◌, ◌+◌, ◌-◌, ◌%◌, ◌++◌, length, take, replicate, set, sym, ap, ◌∙◌, arith, length-set, length-take-le}
 use Rattle.std.specs.Fmt.{decimal}
-use Rattle.cse_case.proofs.DigitLaws.{digit_before, digit_first, digits_lack, digits_long}
-use Rattle.cse_case.proofs.digits.put_digits.Goals as goal
+use Rattle.cse_value.proofs.DigitLaws.{digit_before, digit_first, digits_lack, digits_long}
+use Rattle.cse_value.proofs.digits.put_digits.Goals as goal
 
 pub returns-then-rest-eq0-clause-room : goal.returns-then-rest-eq0-clause-room
 returns-then-rest-eq0-clause-room c _ =

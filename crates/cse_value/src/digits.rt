@@ -1,10 +1,8 @@
-//! Numbers written over the columns of an item.
+//! Numbers without a sign, written digit by digit where they are to lie.
 
 ghost use Rattle.std.specs.Prelude.{◌≡◌, ◌<◌, ◌≤◌, ◌-◌, ◌++◌, length, cond, replicate, true, false};
 ghost use Rattle.std.specs.Fmt.{decimal};
-ghost use Rattle.cse_value.specs.Field.{put, put_whole};
-
-use cse_value::{Num, put_num};
+ghost use Rattle.cse_value.specs.Field.{put_whole};
 
 /// Writes a number without a sign over columns, with this character before it, and tells whether they have
 /// room for it. The digits are put where they are to lie, the last one first.
@@ -36,23 +34,9 @@ fn filler_of(zero_fill: bool) -> char
 }
 
 /// Writes the columns of a number that has no sign, and tells whether it has none and they have room for it.
-fn put_unsigned(columns: &mut [char], number: i64, zero_fill: bool) -> bool
+pub fn put_unsigned(columns: &mut [char], number: i64, zero_fill: bool) -> bool
     ensures len { length columns.new ≡ length columns.old }
     ensures columns { result ≡ true → columns.new ≡ put_whole (length columns.old) zero_fill number }
 {
     0 <= number && put_digits(columns, number as u64, filler_of(zero_fill))
-}
-
-/// Writes a number's columns, as `put_num` does.
-#[tactic(auto, unfolding(cse_value::specs::Field::put))]
-pub fn put_number(columns: &mut [char], value: Num, zero_fill: bool, code: Option<i64>)
-    ensures columns { columns.new ≡ put (length columns.old) value zero_fill code }
-    ensures width { length columns.new ≡ length columns.old }
-{
-    if let Num::Whole(number) = value {
-        if put_unsigned(columns, number, zero_fill) {
-            return;
-        }
-    }
-    put_num(columns, value, zero_fill, code);
 }
