@@ -1,17 +1,16 @@
 -- Where there is no fault, a value set has at most 65,534 rows.
-use Rattle.std.proofs.Common.{◌≡◌, ◌≤◌, ◌∙◌, sym, ap, subst, ℕ, Bool, true, false, List, [], ◌∷◌, ◌++◌, fold, length, refl, arith, Option, All, get_or, take, drop, ◌-◌}
+use Rattle.std.proofs.Common.{◌≡◌, ◌≤◌, ◌∙◌, sym, ap, subst, ℕ, Bool, true, false, List, [], ◌∷◌, fold, length, refl, arith, Option, All, get_or, take, drop, ◌-◌}
 use Rattle.std.specs.Prelude.{◌&&◌, nat_lt, if◌then◌else◌}
 use Rattle.std.proofs.lemmas.Bool.{ltb-false}
 use Rattle.std.proofs.lemmas.List.Elements.{All-append, All-cons, All-nil}
 use Rattle.cse_sections.specs.Sections.{EntryText, SectionText}
 use Rattle.cse_dict.specs.Context.{context_after, covered_by}
-use Rattle.cse_dict.specs.Dictionary.{DictionaryText, SetText, dictionary_of, set_at, set_by_kind, set_in, sets_from}
-use Rattle.cse_dict.specs.Faults.{fault_if, faults_at, faults_behind, faults_by_first, faults_by_kind, faults_from, faults_of, filled_after, read_part, rest_faults, seen_after, seen_first, set_faults, value_faults, value_faults_at}
+use Rattle.cse_dict.specs.Dictionary.{SetText, dictionary_of, set_at, set_by_kind, set_in, sets_from}
+use Rattle.cse_dict.specs.Faults.{faults_at, faults_behind, faults_by_first, faults_by_kind, faults_from, faults_of, filled_after, read_part, rest_faults, seen_after, seen_first, set_faults, value_faults, value_faults_at}
 use Rattle.cse_dict.specs.Keys.{kind_of}
-use Rattle.cse_dict.specs.Pairs.{RowsText, is_value, no_rows, one_more, pair_of, pairs_after, pieces_of, rows_of, with_pair, with_piece, with_pieces, with_row, with_value}
+use Rattle.cse_dict.specs.Pairs.{RowsText, is_value, no_rows, one_more, pair_of, pairs_after, pieces_of, rows_of, with_pair, with_piece, with_row, with_value}
 use Rattle.cse_dict.specs.Rows.{HasFewRows}
 use Rattle.cse_dict.specs.Types.{type_len_of}
-use Rattle.cse_dict.specs.declared.context.Context.{Context}
 use Rattle.cse_dict.specs.declared.field.Columns.{Columns}
 use Rattle.cse_dict.specs.declared.keys.DataType.{DataType}
 use Rattle.cse_dict.specs.declared.keys.Kind.{Kind}

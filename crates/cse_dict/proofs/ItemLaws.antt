@@ -1,6 +1,6 @@
 -- What an item of a section without a fault keeps to: its kind, its code, its record.
 use Rattle.std.proofs.Common.{◌≡◌, ◌⊎◌, ◌≤◌, ◌<◌, ◌+◌, ◌-◌, ◌∙◌, sym, ap, subst, inl, inr, ⊎_elim, ℕ, zero, suc, Bool, true, false, List, [], ◌∷◌, ◌++◌, length, slice_get, refl, arith, Option, None, Some, ℤ, pos, neg_ℤ, Contains, append_assoc, length-append, true≢false}
-use Rattle.std.specs.Prelude.{◌||◌, ◌&&◌, ◌==◌, ◌^◌, nat_lt, nat_le, not, if◌then◌else◌}
+use Rattle.std.specs.Prelude.{◌&&◌, ◌==◌, ◌^◌, nat_lt, nat_le, not, if◌then◌else◌}
 use Rattle.std.specs.List.{list_any}
 use Rattle.std.proofs.lemmas.Bool.{and_cases, and_parts, false_from_ne_true, leb-true, lt-ltb, ltb-false, or_parts}
 use Rattle.std.proofs.lemmas.List.Folds.{list_any_at}

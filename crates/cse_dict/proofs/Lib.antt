@@ -9,3 +9,4 @@ pub mod FewRows
 pub mod LeastLaws
 pub mod SearchLaws
 pub mod RowLaws
+pub mod SmallLaws

@@ -9,4 +9,5 @@ pub mod Dictionary
 pub mod Reading
 pub mod Sound
 pub mod Rows
+pub mod Small
 pub mod Kept

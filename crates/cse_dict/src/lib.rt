@@ -18,6 +18,7 @@ mod record_type;
 mod rows;
 mod search;
 mod seen;
+mod small;
 mod whole;
 
 pub use dictionary::Dictionary;

@@ -9,7 +9,7 @@ ghost use Rattle.cse_dict.specs.Dictionary.{IsSmall, code_at, item_name_at, item
 
 use crate::dictionary::Dictionary;
 use crate::parts::{Record, Set};
-use crate::search::span_of;
+use crate::small::row_of_whole;
 use cse_value::number::Num;
 use cse_value::shape::Shape;
 
@@ -27,10 +27,7 @@ fn row_among(set: &Set, number: Num) -> Option<u32>
     ensures { result ≡ row_in number set.now.spans }
 {
     match number {
-        Num::Whole(whole) => {
-            let span = span_of(&set.spans, set.is_ascending, whole)?;
-            Some(span.row)
-        }
+        Num::Whole(whole) => row_of_whole(&set.small, &set.spans, set.is_ascending, whole),
         Num::NotAppl | Num::Missing | Num::Undef => None,
     }
 }

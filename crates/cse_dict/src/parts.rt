@@ -4,6 +4,7 @@ ghost use Rattle.cse_dict.specs.Context.{no_context};
 ghost use Rattle.cse_dict.specs.Keys.{entry_of};
 ghost use Rattle.cse_dict.specs.Types.{type_of};
 ghost use Rattle.cse_dict.specs.Pairs.{RowsBelow};
+ghost use Rattle.cse_dict.specs.Small.{TellsRows};
 ghost use Rattle.std.specs.String.{string_bytes};
 ghost use Rattle.cse_dict.specs.Dictionary.{ItemText, RecordText, SetText, ascends, code_in, field_or_none, item_in, item_shape_at, items_from, name_at, owner_number, record_in, record_shape_at, records_of, set_at, set_in, sets_from, text_name};
 
@@ -13,6 +14,7 @@ use crate::keys::{DataType, Kind, entry_of, kind_of, number_in, number_or, says_
 use crate::record_type::type_of;
 use crate::rows::{Span, rows_of};
 use crate::search::ascends;
+use crate::small::small_rows;
 use cse_sections::number::whole_of;
 use cse_sections::sections::Section;
 use cse_value::shape::{ItemKind, ItemShape, RecordShape, SetShape};
@@ -57,6 +59,8 @@ pub struct Set {
     pub spans: Vec<Span>,
     /// Each pair ends before the next one starts, so that a number can be searched for by halves.
     pub is_ascending: bool,
+    /// The rows of the numbers from 0 on.
+    pub small: Vec<Option<u32>>,
 }
 
 impl Model for Set {
@@ -64,7 +68,7 @@ impl Model for Set {
 
     ghost view = { λ s. record { name = string_bytes s.name; shape = s.shape; spans = s.spans.items } };
 
-    ghost invariant = { λ s. (s.is_ascending ≡ ascends s.spans.items) × RowsBelow s.shape.rows s.spans.items };
+    ghost invariant = { λ s. (s.is_ascending ≡ ascends s.spans.items) × RowsBelow s.shape.rows s.spans.items × TellsRows s.small.items s.spans.items };
 }
 
 /// A name as a text, in upper case; bytes that aren't UTF-8 are no name.
@@ -278,11 +282,13 @@ fn set_at(alloc: Global, context: Context, section: &Section<'_>) -> Result<Set,
         partial: rows.partial,
     };
     let is_ascending = ascends(&rows.spans);
+    let small = small_rows(alloc, &rows.spans, is_ascending)?;
     Ok(Set {
         name,
         shape,
         spans: rows.spans,
         is_ascending,
+        small,
     })
 }
 
