@@ -313,6 +313,7 @@ impl<'a> Case<'a> {
     }
 
     /// Writes into an item of an occurrence of its record: the line has all its columns.
+    #[inline(always)]
     fn set(&mut self, number: u16, occurrence: u16, item: u16, entry: Entry<'_>)
         requires there { number < length (records_of self.old) }
         requires occurrence { IsOccurrence self.old number occurrence }
@@ -329,6 +330,7 @@ impl<'a> Case<'a> {
     }
 
     /// Writes a number into an item of an occurrence of its record, and changes nothing else.
+    #[inline(never)]
     #[tactic(auto, unfolding(crate::specs::Case::with_number))]
     pub fn set_num(&mut self, number: u16, occurrence: u16, item: u16, value: Num)
         requires occurrence { IsOccurrence self.old number occurrence }
@@ -347,6 +349,7 @@ impl<'a> Case<'a> {
 
     /// Writes a text into an item of an occurrence of its record, cut to its columns or padded with
     /// blanks, and changes nothing else.
+    #[inline(never)]
     #[tactic(auto, unfolding(crate::specs::Case::with_text))]
     pub fn set_text(&mut self, number: u16, occurrence: u16, item: u16, text: &Text)
         requires occurrence { IsOccurrence self.old number occurrence }

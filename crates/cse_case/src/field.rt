@@ -51,6 +51,7 @@ pub enum Entry<'t> {
 
 /// Writes into an item of a line that has all its columns, among the columns of its run, of which the
 /// line's begin at this place.
+#[inline(always)]
 pub fn write_field(columns: &mut [char], first: usize, item: &ItemShape, entry: Entry<'_>)
     requires start { 1 ≤ item.now.start }
     requires whole { first + (item.now.start - 1) + item.now.len ≤ length columns.old }

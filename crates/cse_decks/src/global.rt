@@ -79,9 +79,9 @@ pub fn number_of(globals: &[GlobalValue], g: usize) -> Num
     requires { IsSome (option_and_then number_in (slice_get globals.now g)) }
     ensures { option_and_then number_in (slice_get globals.now g) ≡ Some result }
 {
-    match globals.get(g) {
-        Some(GlobalValue::Number(x)) => *x,
-        _ => unreachable!(),
+    match &globals[g] {
+        GlobalValue::Number(x) => *x,
+        GlobalValue::Words(_) => unreachable!(),
     }
 }
 
@@ -90,9 +90,9 @@ pub fn text_of(globals: &[GlobalValue], g: usize) -> &Text
     requires { IsSome (option_and_then text_in (slice_get globals.now g)) }
     ensures { option_and_then text_in (slice_get globals.now g) ≡ Some result.now.items }
 {
-    match globals.get(g) {
-        Some(GlobalValue::Words(kept)) => kept.text(),
-        _ => unreachable!(),
+    match &globals[g] {
+        GlobalValue::Words(kept) => kept.text(),
+        GlobalValue::Number(_) => unreachable!(),
     }
 }
 
@@ -101,7 +101,10 @@ pub fn put_number(globals: &mut Vec<GlobalValue>, g: usize, value: Num)
     requires { IsSome (option_and_then number_in (slice_get globals.old.items g)) }
     ensures { globals.new.items ≡ slice_set globals.old.items g (GlobalValue.Number value) }
 {
-    globals[g] = GlobalValue::Number(value);
+    match &mut globals[g] {
+        GlobalValue::Number(kept) => *kept = value,
+        GlobalValue::Words(_) => unreachable!(),
+    }
 }
 
 /// Puts a text into a global of texts.

@@ -1,9 +1,9 @@
 -- Laws of a line that is read as columns.
 use Rattle.std.proofs.Common.{◌≡◌, ℕ, zero, suc, ◌+◌, ◌-◌, ◌<◌, ◌≤◌, max, cond, ltb, Option, Some, None, Bool, true, false, List, [], ◌∷◌, ◌++◌, length, get_or, set, take, drop, replicate, refl, ap, sym, ◌∙◌, arith, append_assoc, append-nil, length-append, length-drop, bit_or, inl, inr, subst, take-append-drop, get_or-take, length-take-le}
 use Rattle.std.specs.Str.{IsAscii, IsUtf8, chars, is_utf8}
-use Rattle.std.proofs.lemmas.Str.{IsCharBoundary-after_ascii, IsUtf8-append, IsUtf8-drop, IsUtf8-from_ascii, IsUtf8-from_is_utf8, chars-IsAscii, chars-append, encodes-chars, is_utf8-from_IsUtf8, length-le-encodes}
-use Rattle.std.specs.Str.{IsCharBoundary}
-use Rattle.std.proofs.lemmas.List.{drop-append-le, drop_more, get_or-set_other, get_or-set_same, get_or_past, length-replicate, replicate-append-replicate, take-append-le, take_all, take_at}
+use Rattle.std.proofs.lemmas.Str.{IsUtf8-append, IsUtf8-from_ascii, IsUtf8-from_is_utf8, chars-IsAscii, chars-append, encodes-chars, is_utf8-from_IsUtf8, length-le-encodes}
+use Rattle.std.proofs.lemmas.List.{drop-append-le, drop_at, drop_more, get_or-set_other, get_or-set_same, get_or_past, length-replicate, replicate-append-replicate, take-append-le, take_all, take_at}
+use Rattle.std.proofs.lemmas.Slice.{drop-append-drop}
 use Rattle.std.proofs.lemmas.Nat.{le_or_l, le_or_r}
 use Rattle.std.proofs.lemmas.Bool.{cases_lt, lt-ltb, ltb-true}
 use Rattle.cse_dict.specs.Dictionary.{DictionaryText, number_of_type}
@@ -12,6 +12,7 @@ use Rattle.cse_lines.specs.declared.line.Ending.{Ending}
 use Rattle.cse_lines.specs.Line.{FileLine, ending_of, text_of}
 use Rattle.cse_lines.specs.Field.{field_at, id_spans, last_column, least_width, padded, record_len, record_of, type_span, width_of}
 use Rattle.cse_lines.specs.Columns.{LineText, columns_of, line_text}
+use Rattle.cse_lines.specs.Run.{with_columns}
 use Rattle.cse_lines.specs.Runs.{line_fault}
 use Rattle.cse_lines.specs.declared.decode.Stop.{Stop}
 use Rattle.cse_lines.specs.declared.decode.Stop.TheVariants.{Memory, Fault}
@@ -209,24 +210,34 @@ chars_front text at ascii =
 pub utf8_front : (text : List ℕ) (at : ℕ) → IsAscii (take at text) → IsUtf8 (drop at text) → IsUtf8 text
 utf8_front text at ascii h = subst IsUtf8 (take-append-drop at text) (IsUtf8-append (take at text) (drop at text) (IsUtf8-from_ascii (take at text) ascii) h)
 
-pub utf8_behind : (text : List ℕ) (at : ℕ) → at ≤ length text → IsAscii (take at text) → IsUtf8 text → IsUtf8 (drop at text)
-utf8_behind text zero fits ascii h = h
-utf8_behind text (suc i) fits ascii h =
-    let next : i + 1 ≡ suc i = omega arith in
-    let low : get_or text i 0 < 128 = subst (λ b. b < 128) (get_or-take (suc i) text i 0 (omega arith)) (ascii i) in
-    IsUtf8-drop text (suc i) h (subst (IsCharBoundary text) next (IsCharBoundary-after_ascii text i h (omega arith) low))
+-- columns that hold a text hold, behind a place in it, what is left of it
+pub padded_behind : (columns text rest left : List ℕ) (at : ℕ) → columns ≡ padded (length columns) text → at ≤ length text → rest ≡ drop at columns → left ≡ drop at text → rest ≡ padded (length rest) left
+padded_behind columns text rest left at over fits is behind =
+    let blanks = replicate (length columns - length text) 32 in
+    let same : length columns - length text ≡ length rest - length left = omega (arith, ap length is, length-drop at columns, ap length behind, length-drop at text) in
+    is ∙ ap (drop at) over ∙ drop-append-le at text blanks fits ∙ ap (λ l. l ++ blanks) (sym behind) ∙ ap (λ k. left ++ replicate k 32) same
 
--- a fault of what is behind the bytes in front is one of the whole
-pub fault_behind : (text rest : List ℕ) (at : ℕ) (stop : Stop) → rest ≡ drop at text → at ≤ length text → IsAscii (take at text)
-    → IfFault (λ number. (number ≡ 20) × (is_utf8 rest ≡ false)) stop → IfFault (λ number. (number ≡ 20) × (is_utf8 text ≡ false)) stop
-fault_behind text rest at Memory is fits ascii h = tt
-fault_behind text rest at (Fault number) is fits ascii h = (
-  h.0,
-  not_utf8 text (λ u.
-      let sound : is_utf8 rest ≡ true = is_utf8-from_IsUtf8 rest (subst IsUtf8 (sym is) (utf8_behind text at fits ascii u)) in
-      let no = h.1 in
-      cc),
-)
+-- the characters of a text over columns that hold its bytes, with blanks where bytes are left
+pub Holds-blanked : (columns text all front : List ℕ) (n : ℕ) → columns ≡ padded (length columns) text → length text ≤ length columns → n ≡ length all → n ≤ length text
+    → front ≡ all ++ drop n columns → Holds (with_columns n (replicate (length text - n) 32) front) all n
+Holds-blanked columns text all front n over fits count few is =
+    let blanks = replicate (length text - n) 32 in
+    let rest = replicate (length columns - length text) 32 in
+    let more : length blanks ≡ length text - n = length-replicate {A = ℕ} (length text - n) 32 in
+    let end : n + length blanks ≡ length text = omega (arith, more) in
+    let taken : take n front ≡ all = ap (take n) is ∙ take_at all (drop n columns) n (sym count) in
+    let left : drop (length text) front ≡ rest =
+    ap (λ l. drop (length text) l) is ∙ drop-append-drop n columns all (length text) few (sym count) ∙ ap (drop (length text)) over ∙ drop_at text rest (length text) refl in
+    let is_now : with_columns n blanks front ≡ all ++ replicate (length columns - n) 32 =
+    ap (λ l. l ++ (blanks ++ drop (n + length blanks) front)) taken ∙ ap (λ k. all ++ (blanks ++ drop k front)) end ∙ ap (λ l. all ++ (blanks ++ l)) left
+    ∙ ap (λ l. all ++ l) (replicate-append-replicate (length text - n) (length columns - length text) 32)
+    ∙ ap (λ k. all ++ replicate k 32) (let sum : length text - n + (length columns - length text) ≡ length columns - n = omega arith in sum) in
+    let wide : length (with_columns n blanks front) ≡ length columns =
+    omega (arith, ap length is_now, length-append all (replicate (length columns - n) 32), length-replicate {A = ℕ} (length columns - n) 32) in
+    record {
+      count = count;
+      is = is_now ∙ ap (λ k. all ++ replicate k 32) (let same : length columns - n ≡ length (with_columns n blanks front) - length all = omega (arith, wide) in same);
+    }
 
 -- the characters of a text over columns that hold its bytes: those in front that are ASCII stayed
 pub Holds-beyond : (columns text new : List ℕ) (at n : ℕ) → columns ≡ padded (length columns) text → at ≤ length text → IsAscii (take at text) → length (chars (drop at text)) ≤ length (drop at columns)

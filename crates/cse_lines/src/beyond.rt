@@ -1,10 +1,11 @@
 //! Characters beyond ASCII, written over columns that hold their bytes.
 
-ghost use Rattle.std.specs.Prelude.{◌≡◌, ◌<◌, ◌≤◌, ◌+◌, ◌++◌, ◌∷◌, [], drop, length, replicate, take, true, false, IfErr, IfOk, IfSome, OnOk, OnSome};
+ghost use Rattle.std.specs.Prelude.{◌≡◌, ◌<◌, ◌≤◌, ◌+◌, ◌-◌, ◌++◌, ◌∷◌, [], drop, length, replicate, take, true, false, IfErr, IfOk, IfSome, OnOk, OnSome};
 ghost use Rattle.std.specs.Char.{IsScalar, encode_utf8};
 ghost use Rattle.std.specs.Str.{IsAscii, chars, is_utf8};
 ghost use Rattle.cse_lines.specs.Decoding.{Holds, IfFault};
 ghost use Rattle.cse_lines.specs.Field.{padded};
+ghost use Rattle.cse_lines.specs.Run.{with_columns};
 
 use crate::decode::Stop;
 use crate::filled::put_blanks;
@@ -88,24 +89,41 @@ fn put_short_chars(columns: &mut [char], text: &[u8]) -> Option<usize>
     Some(len)
 }
 
-/// Writes the characters of a text over the first of the columns, and blanks over the others. Tells how many
-/// characters there are.
-fn put_tail(columns: &mut [char], text: &[u8]) -> Result<usize, Stop>
-    requires { length text.now ≤ length columns.old }
-    ensures len { length columns.new ≡ length columns.old }
-    ensures columns { IfOk result (λ len. Holds columns.new (chars text.now) len) }
-    ensures utf8 { OnOk result (is_utf8 text.now ≡ true) }
-    ensures err { IfErr result (IfFault (λ number. (number ≡ 20) × (is_utf8 text.now ≡ false))) }
+/// Writes blanks over columns: mostly over one, since most texts have one character of two bytes.
+#[inline(always)]
+fn put_few_blanks(columns: &mut [char])
+    ensures { columns.new ≡ replicate (length columns.old) 32 }
 {
-    if let Some(len) = put_short_chars(columns, text) {
-        let (_, rest) = columns.split_at_mut(len);
-        put_blanks(rest);
-        return Ok(len);
+    if columns.len() == 1 {
+        columns[0] = ' ';
+    } else {
+        put_blanks(columns);
     }
-    match str::from_utf8(text) {
-        Ok(text) => Ok(put_text(columns, text)),
-        Err(_) => Err(Stop::Fault(20)),
-    }
+}
+
+/// Writes blanks over the columns from a place up to another.
+#[inline(always)]
+fn put_blanks_between(columns: &mut [char], first: usize, end: usize)
+    requires order { first ≤ end }
+    requires room { end ≤ length columns.old }
+    ensures { columns.new ≡ with_columns first (replicate (end - first) 32) columns.old }
+{
+    put_few_blanks(&mut columns[first..end]);
+}
+
+/// The characters of a text over columns that hold its bytes as characters. Tells how many characters there
+/// are, if each has one or two bytes.
+#[inline(always)]
+fn put_short_text(columns: &mut [char], text: &[u8]) -> Option<usize>
+    requires over { columns.old ≡ padded (length columns.old) text.now }
+    requires fits { length text.now ≤ length columns.old }
+    ensures len { length columns.new ≡ length columns.old }
+    ensures utf8 { OnSome result (is_utf8 text.now ≡ true) }
+    ensures columns { IfSome result (λ len. Holds columns.new (chars text.now) len) }
+{
+    let len = put_short_chars(columns, text)?;
+    put_blanks_between(columns, len, text.len());
+    Some(len)
 }
 
 /// Whether eight bytes are ASCII.
@@ -133,8 +151,41 @@ fn ascii_front(text: &[u8]) -> usize
 }
 
 /// The characters of a text over columns that hold its bytes as characters: those in front that are ASCII
-/// stay. Tells how many characters there are.
+/// stay. Tells how many characters there are, if each has one or two bytes.
 #[inline(never)]
+fn put_short_beyond(columns: &mut [char], text: &[u8]) -> Option<usize>
+    requires over { columns.old ≡ padded (length columns.old) text.now }
+    requires fits { length text.now ≤ length columns.old }
+    ensures len { length columns.new ≡ length columns.old }
+    ensures utf8 { OnSome result (is_utf8 text.now ≡ true) }
+    ensures columns { IfSome result (λ len. Holds columns.new (chars text.now) len) }
+{
+    let at = ascii_front(text);
+    let (_, bytes) = text.split_at(at);
+    let (_, rest) = columns.split_at_mut(at);
+    let len = put_short_text(rest, bytes)?;
+    Some(at + len)
+}
+
+/// The characters of a text over as many of the columns, and blanks over the others, whatever its characters
+/// are.
+#[inline(never)]
+fn put_any(columns: &mut [char], text: &[u8]) -> Result<usize, Stop>
+    requires { length text.now ≤ length columns.old }
+    ensures len { length columns.new ≡ length columns.old }
+    ensures columns { IfOk result (λ len. Holds columns.new (chars text.now) len) }
+    ensures utf8 { OnOk result (is_utf8 text.now ≡ true) }
+    ensures err { IfErr result (IfFault (λ number. (number ≡ 20) × (is_utf8 text.now ≡ false))) }
+{
+    match str::from_utf8(text) {
+        Ok(text) => Ok(put_text(columns, text)),
+        Err(_) => Err(Stop::Fault(20)),
+    }
+}
+
+/// The characters of a text over columns that hold its bytes as characters. Tells how many characters there
+/// are.
+#[inline(always)]
 pub fn put_beyond(columns: &mut [char], text: &[u8]) -> Result<usize, Stop>
     requires over { columns.old ≡ padded (length columns.old) text.now }
     requires fits { length text.now ≤ length columns.old }
@@ -143,11 +194,8 @@ pub fn put_beyond(columns: &mut [char], text: &[u8]) -> Result<usize, Stop>
     ensures utf8 { OnOk result (is_utf8 text.now ≡ true) }
     ensures err { IfErr result (IfFault (λ number. (number ≡ 20) × (is_utf8 text.now ≡ false))) }
 {
-    let at = ascii_front(text);
-    let (_, bytes) = text.split_at(at);
-    let (_, rest) = columns.split_at_mut(at);
-    match put_tail(rest, bytes) {
-        Ok(len) => Ok(at + len),
-        Err(stop) => Err(stop),
+    match put_short_beyond(columns, text) {
+        Some(len) => Ok(len),
+        None => put_any(columns, text),
     }
 }

@@ -321,14 +321,26 @@ impl Filled {
         put_beyond_in(&mut self.columns, self.len, text)
     }
 
+    /// Pads them with blanks to a width, which they don't reach. It is called for few lines, and isn't laid out
+    /// where it is called.
+    #[inline(never)]
+    fn pad_further(&mut self, width: usize) -> Result<(), AllocError>
+        requires { length self.old ≤ width }
+        ensures { OnOk result (self.new ≡ padded width self.old) }
+    {
+        fill_up(&mut self.columns, width)?;
+        put_blanks(&mut self.columns[self.len..width]);
+        self.len = width;
+        Ok(())
+    }
+
     /// Pads them with blanks to a width.
+    #[inline(always)]
     pub fn pad(&mut self, width: usize) -> Result<(), AllocError>
         ensures { OnOk result (self.new ≡ padded width self.old) }
     {
         if self.len < width {
-            fill_up(&mut self.columns, width)?;
-            put_blanks(&mut self.columns[self.len..width]);
-            self.len = width;
+            return self.pad_further(width);
         }
         Ok(())
     }

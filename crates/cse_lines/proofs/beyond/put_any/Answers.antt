@@ -2,13 +2,13 @@ use Rattle.std.proofs.Common.{ap, refl, arith, length}
 use Rattle.std.specs.Str.{chars}
 use Rattle.std.proofs.lemmas.Str.{is_utf8-from_IsUtf8}
 use Rattle.cse_lines.proofs.DecodeLaws.{chars_fit, not_utf8}
-use Rattle.cse_lines.proofs.beyond.put_tail.Goals as goal
+use Rattle.cse_lines.proofs.beyond.put_any.Goals as goal
 
 pub put_text-requires : goal.put_text-requires
 put_text-requires c =
     let fit = chars_fit c.args.text.now c.in-Ok.ensures.cases.1 in
     let same = ap (λ l. length (chars l)) c.in-Ok.ensures.cases.0 in
-    omega (arith, fit, same, c.put_short_chars.ensures.len, c.requires)
+    omega (arith, fit, same, c.requires)
 
 pub returns-in-Ok-clause-utf8 : goal.returns-in-Ok-clause-utf8
 returns-in-Ok-clause-utf8 c = is_utf8-from_IsUtf8 c.args.text.now c.in-Ok.ensures.cases.1
