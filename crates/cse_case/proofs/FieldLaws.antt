@@ -5,6 +5,7 @@ use Rattle.cse_value.specs.declared.shape.ItemShape.{ItemShape}
 use Rattle.cse_value.proofs.WidthLaws.{length-put, length-put_text}
 use Rattle.cse_lines.specs.declared.layout.Span.{Span}
 use Rattle.cse_lines.specs.Field.{field_at}
+use Rattle.cse_dict.specs.Dictionary.{code_at, zero_fill_at}
 use Rattle.cse_case.specs.declared.field.Entry.{Entry}
 use Rattle.cse_case.specs.declared.field.Entry.TheVariants.{Number, Words}
 use Rattle.cse_case.specs.Entry.{entry_columns}
@@ -55,5 +56,5 @@ short_field item columns = omega (arith, length-take item.len (drop (item.start 
 
 -- an entry has as many columns as are asked for
 pub entry_wide : (entry : Entry) (n : ℕ) → length (entry_columns entry n) ≡ n
-entry_wide (Number value zero_fill code) n = length-put n value zero_fill code
+entry_wide (Number value dictionary item) n = length-put n value (zero_fill_at dictionary.now item) (code_at dictionary.now item)
 entry_wide (Words text) n = length-put_text n text.now.items

@@ -10,3 +10,4 @@ pub mod SetLaws
 pub mod TableLaws
 pub mod OwnLaws
 pub mod NumberLaws
+pub mod FewLaws

@@ -1,9 +1,15 @@
 -- The columns of a field after a number or a text was written into it.
-use Rattle.std.specs.Prelude.{ℕ, List}
+use Rattle.std.specs.Prelude.{◌<◌, ℕ, List, length}
 use Rattle.cse_value.specs.Field.{put, put_text}
+use Rattle.cse_dict.specs.Dictionary.{code_at, zero_fill_at}
 use Rattle.cse_case.specs.declared.field.Entry.{Entry}
 use Rattle.cse_case.specs.declared.field.Entry.TheVariants.{Number, Words}
 
+-- the item whose zeros and code a number has is there
+abbrev pub IsThere : Entry → Type 0
+IsThere (Number value dictionary item) = item < length dictionary.now.items
+IsThere (Words text) = Unit {0}
+
 abbrev pub entry_columns : Entry → ℕ → List ℕ
-entry_columns (Number value zero_fill code) width = put width value zero_fill code
+entry_columns (Number value dictionary item) width = put width value (zero_fill_at dictionary.now item) (code_at dictionary.now item)
 entry_columns (Words text) width = put_text width text.now.items

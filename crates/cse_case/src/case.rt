@@ -9,7 +9,7 @@ ghost use Rattle.cse_dict.specs.Sound.{IsSound};
 ghost use Rattle.cse_lines.specs.Run.{line_at, written_run};
 ghost use Rattle.cse_case.specs.Seen.{is_case};
 ghost use Rattle.cse_case.specs.Field.{IsItem, item_at};
-ghost use Rattle.cse_case.specs.Entry.{entry_columns};
+ghost use Rattle.cse_case.specs.Entry.{IsThere, entry_columns};
 ghost use Rattle.cse_case.specs.Ids.{AreIds, ids_in};
 
 use crate::field::{Entry, field_of, line_columns, whole_field, write_field};
@@ -320,6 +320,7 @@ impl<'a> Case<'a> {
         requires item { item < length (items_of self.old) }
         requires owns { (item_at (items_of self.old) item).owner ≡ number }
         requires known { (item_at (items_of self.old) item).kind ≡ AnOpaque → ⊥ }
+        requires entry { IsThere entry }
         ensures { self.new ≡ with_item self.old (place_of self.old number occurrence) item (entry_columns entry.entry (item_at (items_of self.old) item).len) }
     {
         let shape = *self.item(item);
@@ -340,8 +341,8 @@ impl<'a> Case<'a> {
     {
         let entry = Entry::Number {
             value,
-            zero_fill: self.items.dictionary().zero_fill(item),
-            code: self.items.dictionary().code(item),
+            dictionary: self.items.dictionary(),
+            item,
         };
         self.set(number, occurrence, item, entry);
         let _lines = self.lines();

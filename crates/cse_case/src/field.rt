@@ -3,11 +3,13 @@
 ghost use Rattle.std.specs.Prelude.{◌≡◌, ◌≤◌, ◌+◌, ◌-◌, length, min, take, drop};
 ghost use Rattle.cse_lines.specs.Run.{with_columns};
 ghost use Rattle.cse_case.specs.Field.{field_of, rewritten};
-ghost use Rattle.cse_case.specs.Entry.{entry_columns};
+ghost use Rattle.cse_case.specs.Entry.{IsThere, entry_columns};
 
+use crate::few::put_number;
+use cse_dict::Dictionary;
 use cse_lines::Line;
 use cse_value::shape::ItemShape;
-use cse_value::{Num, Text, put_num, put_text};
+use cse_value::{Num, Text, put_text};
 
 /// Where the columns of an item begin among those of a line, from 0; at most their number.
 fn start_in(item: &ItemShape, width: usize) -> usize
@@ -39,12 +41,12 @@ pub fn whole_field<'a>(item: &ItemShape, columns: &'a [char], first: usize) -> &
     &line[start..start + item.len as usize]
 }
 
-/// What is written into an item: a number, with the item's zeros and code, or a text.
+/// What is written into an item: a number, with the zeros and the code of an item of a dictionary, or a text.
 pub enum Entry<'t> {
     Number {
         value: Num,
-        zero_fill: bool,
-        code: Option<i64>,
+        dictionary: &'t Dictionary,
+        item: u16,
     },
     Words(&'t Text),
 }
@@ -55,6 +57,7 @@ pub enum Entry<'t> {
 pub fn write_field(columns: &mut [char], first: usize, item: &ItemShape, entry: Entry<'_>)
     requires start { 1 ≤ item.now.start }
     requires whole { first + (item.now.start - 1) + item.now.len ≤ length columns.old }
+    requires there { IsThere entry }
     ensures { columns.new ≡ with_columns (first + (item.now.start - 1)) (entry_columns entry.entry item.now.len) columns.old }
 {
     let start = first + (item.start as usize - 1);
@@ -62,9 +65,9 @@ pub fn write_field(columns: &mut [char], first: usize, item: &ItemShape, entry: 
     match entry {
         Entry::Number {
             value,
-            zero_fill,
-            code,
-        } => put_num(field, value, zero_fill, code),
+            dictionary,
+            item,
+        } => put_number(field, value, dictionary, item),
         Entry::Words(text) => put_text(field, text),
     }
 }

@@ -1,5 +1,6 @@
 //! Cases in and out: the lines of a data file with equal id columns, read by a dictionary.
 //!
+//! - `few`: a number that is written into a few columns.
 //! - `field`: the columns of an item in a line.
 //! - `ids`: the id columns of a case.
 //! - `items`: a dictionary, and which numbers are no codes of its items.
@@ -13,6 +14,7 @@
 #![tactic(auto)]
 
 mod case;
+mod few;
 mod field;
 mod ids;
 mod items;

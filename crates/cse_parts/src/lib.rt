@@ -8,7 +8,5 @@ pub mod limits;
 pub mod opcodes;
 pub mod placeholders;
 pub mod rules;
-#[cfg(test)]
-mod tests;
 pub mod texts;
 pub mod version;

@@ -9,6 +9,4 @@
 
 pub mod number;
 pub mod sections;
-#[cfg(test)]
-mod tests;
 pub mod text;

@@ -1,13 +1,13 @@
-//! Examples of what the definitions say.
+//! Parts of images: placeholders, names, single fields and instructions.
 
-use crate::codes::*;
-use crate::entries::*;
-use crate::instruction::Op;
-use crate::opcodes::*;
-use crate::placeholders::*;
-use crate::rules::*;
-use crate::texts::*;
-use crate::version::*;
+use cse_parts::codes::*;
+use cse_parts::entries::*;
+use cse_parts::instruction::Op;
+use cse_parts::opcodes::*;
+use cse_parts::placeholders::*;
+use cse_parts::rules::*;
+use cse_parts::texts::*;
+use cse_parts::version::*;
 
 /// The pieces of the text are these and no others.
 fn has_pieces(text: &[u8], expected: &[Piece]) -> bool {
