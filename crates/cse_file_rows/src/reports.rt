@@ -277,6 +277,19 @@ fn lists_the_same_wherever_flushes_fall(rt: HostRuntime) -> Result<(), Fail> {
     Ok(())
 }
 
+/// Whether a message with one argument is listed as this text.
+fn is_filled(
+    rt: &impl Abort,
+    alloc: Global,
+    message: &str,
+    argument: Arg,
+    text: &str,
+) -> Result<bool, Fail> {
+    let mut reports = reports_of(alloc, &[(7, false, message)]).ok_or("no reports")?;
+    give(rt, &mut reports, 0, &[argument])?;
+    Ok(reports.listing.text(0) == Some(text))
+}
+
 #[test]
 fn fills_placeholders(rt: HostRuntime) -> Result<(), Fail> {
     let alloc = rt.alloc();
@@ -299,9 +312,7 @@ fn fills_placeholders(rt: HostRuntime) -> Result<(), Fail> {
         ),
         ("%022d", Num::Whole(i64::MIN), "-009223372036854775808"),
     ] {
-        let mut reports = reports_of(alloc, &[(7, false, message)]).ok_or("no reports")?;
-        give(&rt, &mut reports, 0, &[Arg::Number(number)])?;
-        assert_eq!(rt; reports.listing.text(0), Some(text), "{message}");
+        assert!(rt; is_filled(&rt, alloc, message, Arg::Number(number), text)?);
     }
     for (message, word, text) in [
         ("[%s]", "a  b   ", "[a  b]"),
@@ -310,9 +321,7 @@ fn fills_placeholders(rt: HostRuntime) -> Result<(), Fail> {
         ("%s", "a\tb\u{0}", "a?b?"),
         ("größer %s!", "Ä€😀 ", "größer Ä€😀!"),
     ] {
-        let mut reports = reports_of(alloc, &[(7, false, message)]).ok_or("no reports")?;
-        give(&rt, &mut reports, 0, &[words(word)])?;
-        assert_eq!(rt; reports.listing.text(0), Some(text), "{message}");
+        assert!(rt; is_filled(&rt, alloc, message, words(word), text)?);
     }
     Ok(())
 }
