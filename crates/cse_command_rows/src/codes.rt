@@ -1,6 +1,7 @@
 //! Pieces of code and what `try` prints of them.
 
 use crate::printed::{instr, parts_of, printed};
+use crate::told::assert_text;
 use cse_fixtures::outline::Line;
 use cse_fixtures::pieces::add_instructions;
 use cse_image::{Instr, Op};
@@ -210,7 +211,7 @@ fn printed_returning(alloc: Global, front: &[Line]) -> Result<String, Fail> {
 fn runs_code(rt: HostRuntime) -> Result<(), Fail> {
     for (front, want) in ENDS {
         let text = printed_returning(rt.alloc(), front)?;
-        assert_eq!(rt; text.as_str(), *want);
+        assert_text(&rt, text.as_str(), *want);
     }
     Ok(())
 }
@@ -235,9 +236,9 @@ fn nested(alloc: Global, depth: u32) -> Result<Vec<Instr>, Fail> {
 fn runs_nested_brackets(rt: HostRuntime) -> Result<(), Fail> {
     let deep = nested(rt.alloc(), 64)?;
     let text = printed(rt.alloc(), parts_of(rt.alloc(), &deep)?)?;
-    assert_eq!(rt; text.as_str(), "193 steps\n");
+    assert_text(&rt, text.as_str(), "193 steps\n");
     let deeper = nested(rt.alloc(), 65)?;
     let text = printed(rt.alloc(), parts_of(rt.alloc(), &deeper)?)?;
-    assert_eq!(rt; text.as_str(), "refused 65 routine 0 place 129\n");
+    assert_text(&rt, text.as_str(), "refused 65 routine 0 place 129\n");
     Ok(())
 }

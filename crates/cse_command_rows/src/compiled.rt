@@ -1,5 +1,6 @@
 //! Worked logic, and what `compile` prints of it.
 
+use crate::told::assert_bytes;
 use crate::verdicts::SAMPLE;
 use cse_commands::compile_image::image_of;
 use cse_commands::fault::fault_line;
@@ -65,7 +66,7 @@ fn printed(alloc: Global, logic: &[u8], messages: &[u8], order: &[u8]) -> Result
 fn compiles_logic(rt: HostRuntime) -> Result<(), Fail> {
     for (logic, messages, order, want) in ROWS {
         let text = printed(rt.alloc(), logic, messages, order)?;
-        assert_eq!(rt; text.as_slice(), *want);
+        assert_bytes(&rt, text.as_slice(), *want);
     }
     Ok(())
 }

@@ -1,5 +1,6 @@
 //! Statuses and lines of faults, and words of command lines.
 
+use crate::told::assert_bytes;
 use cse_commands::fault::{Fault, NO_MEMORY, ending, fault_line};
 use cse_commands::outcome::{Stop, exit_status};
 use cse_commands::plan::{Command, CompilePaths, PlanFault, RunPaths, plan};
@@ -14,15 +15,15 @@ fn ends_with_statuses(rt: HostRuntime) {
         } else {
             1
         };
-        assert_eq!(rt; ending(number), want, "at {number}");
+        assert!(rt; ending(number) == want);
     }
-    assert_eq!(rt; exit_status(&Ok(())), 0);
+    assert!(rt; exit_status(&Ok(())) == 0);
     for (stop, want) in [
         (Stop::Usage, 2),
         (Stop::of_number(65), 1),
         (Stop::of_number(NO_MEMORY), 3),
     ] {
-        assert_eq!(rt; exit_status(&Err(stop)), want);
+        assert!(rt; exit_status(&Err(stop)) == want);
     }
 }
 
@@ -70,7 +71,7 @@ fn tells_faults(rt: HostRuntime) -> Result<(), Fail> {
     for (fault, want) in table {
         let mut out = Writes::new(Vec::new(alloc));
         assert!(rt; fault_line(&fault, &mut out).is_ok());
-        assert_eq!(rt; out.into_inner().as_slice(), want.as_bytes());
+        assert_bytes(&rt, out.into_inner().as_slice(), want.as_bytes());
     }
     Ok(())
 }
@@ -151,9 +152,9 @@ const RIGHT: &[(&[&str], Command<'static>)] = &[
 #[test]
 fn plans_words(rt: HostRuntime) {
     for words in WRONG {
-        assert_eq!(rt; plan(rt.alloc(), words), Err(PlanFault::Usage));
+        assert!(rt; plan(rt.alloc(), words) == Err(PlanFault::Usage));
     }
     for (words, want) in RIGHT {
-        assert_eq!(rt; plan(rt.alloc(), words), Ok(*want));
+        assert!(rt; plan(rt.alloc(), words) == Ok(*want));
     }
 }

@@ -19,9 +19,9 @@ const PATHS: [(&str, u8); 4] = [
 fn tells_opened_from_read(rt: HostRuntime) {
     for (path, number) in PATHS {
         let want = Stop::Refused(Fault::of_number(number));
-        assert_eq!(rt; file_bytes(&rt, path).err(), Some(want));
-        assert_eq!(rt; try_file(&rt, path), Err(want));
-        assert_eq!(rt; verify_files(&rt, path, "no_such_file"), Err(want));
+        assert!(rt; file_bytes(&rt, path).err() == Some(want));
+        assert!(rt; try_file(&rt, path) == Err(want));
+        assert!(rt; verify_files(&rt, path, "no_such_file") == Err(want));
         let texts = CompilePaths {
             dict: path,
             logic: "no_such_file",
@@ -29,7 +29,7 @@ fn tells_opened_from_read(rt: HostRuntime) {
             messages: None,
             order: None,
         };
-        assert_eq!(rt; compile_and_tell(&rt, &texts), Err(want));
+        assert!(rt; compile_and_tell(&rt, &texts) == Err(want));
         let paths = RunPaths {
             dict: path,
             image: "no_such_file",
@@ -39,6 +39,6 @@ fn tells_opened_from_read(rt: HostRuntime) {
             freq: "",
             decks: None,
         };
-        assert_eq!(rt; run_and_tell(&rt, &paths), Err(want));
+        assert!(rt; run_and_tell(&rt, &paths) == Err(want));
     }
 }

@@ -6,6 +6,7 @@
 //! - `compiled`: what `compile` answers.
 //! - `runs`: what `run` writes and prints.
 //! - `faults`: words, statuses and faults. `files`: files that can't be opened or read.
+//! - `told`: how what is told is compared.
 #![tactic(auto)]
 
 #[cfg(test)]
@@ -20,6 +21,8 @@ mod files;
 mod printed;
 #[cfg(test)]
 mod runs;
+#[cfg(test)]
+mod told;
 #[cfg(test)]
 mod tries;
 #[cfg(test)]

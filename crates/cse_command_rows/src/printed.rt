@@ -1,5 +1,6 @@
 //! Worked images and what `try` prints of them.
 
+use crate::told::{assert_bytes, assert_text};
 use cse_commands::fault::{Fault, fault_line};
 use cse_commands::try_image::{TryFault, try_to};
 use cse_fixtures::device::Slow;
@@ -162,7 +163,7 @@ fn says_hello(rt: HostRuntime) -> Result<(), Fail> {
     ];
     for (front, rest, want) in &pieces {
         let text = printed_both(alloc, front, rest)?;
-        assert_eq!(rt; text.as_str(), *want);
+        assert_text(&rt, text.as_str(), *want);
     }
     Ok(())
 }
@@ -188,7 +189,7 @@ pub fn hello_in_version_2(alloc: Global) -> Result<Vec<u8>, AllocError> {
 fn writes_hello(rt: HostRuntime) -> Result<(), Fail> {
     let image = image_of(rt.alloc(), hello_parts(rt.alloc())?)?;
     let wanted = hello_in_version_2(rt.alloc())?;
-    assert_eq!(rt; image.as_slice(), wanted.as_slice());
+    assert_bytes(&rt, image.as_slice(), wanted.as_slice());
     Ok(())
 }
 
@@ -212,10 +213,10 @@ fn with_item(alloc: Global) -> Result<Parts, AllocError> {
 #[test]
 fn refuses_programs(rt: HostRuntime) -> Result<(), Fail> {
     let text = printed(rt.alloc(), with_item(rt.alloc())?)?;
-    assert_eq!(rt; text.as_str(), "refused 68\n");
+    assert_text(&rt, text.as_str(), "refused 68\n");
     // The code ends without a return.
     let text = printed(rt.alloc(), parts_of(rt.alloc(), &says_yes()[..1])?)?;
-    assert_eq!(rt; text.as_str(), "refused 65 routine 0 place 0\n");
+    assert_text(&rt, text.as_str(), "refused 65 routine 0 place 0\n");
     Ok(())
 }
 
@@ -237,7 +238,7 @@ fn refuses_events(rt: HostRuntime) -> Result<(), Fail> {
     for (ambient, gives, routine, want) in EVENTS {
         let parts = parts_with(alloc, *ambient, *gives, *routine, &says_yes())?;
         let text = printed(alloc, parts)?;
-        assert_eq!(rt; text.as_str(), *want);
+        assert_text(&rt, text.as_str(), *want);
     }
     Ok(())
 }
@@ -254,8 +255,8 @@ fn tells_failed_writes(rt: HostRuntime) -> Result<(), Fail> {
             let writer: Slow = out.into_inner();
             match result {
                 Ok(steps) => {
-                    assert_eq!(rt; steps, 2);
-                    assert_eq!(rt; writer.taken(), text);
+                    assert!(rt; steps == 2);
+                    assert_bytes(&rt, writer.taken(), text);
                 }
                 Err(TryFault::Write) => {
                     assert!(rt; most == 0 || fails_at > 0);

@@ -1,5 +1,6 @@
 //! Worked runs: their texts, and what `run` prints.
 
+use crate::told::assert_bytes;
 use crate::verdicts::SAMPLE;
 use cse_batch::{Totals, check_image, run};
 use cse_commands::fault::{Fault, fault_line};
@@ -199,11 +200,11 @@ fn runs_over_data(rt: HostRuntime) -> Result<(), Fail> {
     for (given, want) in RUNS {
         let texts = texts_of(rt.alloc(), given)?;
         let [printed, out, listing, frequencies, decks] = *want;
-        assert_eq!(rt; texts.printed.bytes(), printed.as_bytes());
-        assert_eq!(rt; texts.out.bytes(), out.as_bytes());
-        assert_eq!(rt; texts.listing.bytes(), listing.as_bytes());
-        assert_eq!(rt; texts.frequencies.bytes(), frequencies.as_bytes());
-        assert_eq!(rt; texts.decks.bytes(), decks.as_bytes());
+        assert_bytes(&rt, texts.printed.bytes(), printed.as_bytes());
+        assert_bytes(&rt, texts.out.bytes(), out.as_bytes());
+        assert_bytes(&rt, texts.listing.bytes(), listing.as_bytes());
+        assert_bytes(&rt, texts.frequencies.bytes(), frequencies.as_bytes());
+        assert_bytes(&rt, texts.decks.bytes(), decks.as_bytes());
     }
     Ok(())
 }

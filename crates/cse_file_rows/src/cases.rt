@@ -62,19 +62,16 @@ fn a_case_tells_its_lines(rt: HostRuntime) -> Result<(), Fail> {
         return Err("no case".into());
     };
     assert!(rt; case.is_case());
-    assert_eq!(rt; case.lines(), 5);
-    assert_eq!(rt; case.ids(), ['0', '0', '1'].as_slice());
-    assert_eq!(rt;
-        case.unseen(),
-        [(3, Unseen::Unknown), (6, Unseen::Extra)].as_slice()
-    );
+    assert!(rt; case.lines() == 5);
+    assert!(rt; case.ids() == ['0', '0', '1'].as_slice());
+    assert!(rt; case.unseen() == [(3, Unseen::Unknown), (6, Unseen::Extra)].as_slice());
     assert!(rt; !case.has_occurrence(0, 4));
     assert!(rt; case.has_occurrence(0, 3));
     assert!(rt; case.has_item(0, ItemKind::Number, AGE));
-    assert_eq!(rt; case.get_num(0, 3, AGE), Num::Whole(5));
+    assert!(rt; case.get_num(0, 3, AGE) == Num::Whole(5));
     assert!(rt; case.has_item(u16::from(ID_OWNER), ItemKind::Number, HH));
     assert!(rt; case.lines() > 0);
-    assert_eq!(rt; case.id_num(HH), Num::Whole(1));
+    assert!(rt; case.id_num(HH) == Num::Whole(1));
     let kept = reader.kept();
     assert!(rt; kept.lines <= 1);
     Ok(())
@@ -97,7 +94,7 @@ fn an_error_is_for_good(rt: HostRuntime) -> Result<(), Fail> {
         let Err(error) = reader.next() else {
             return Err("no error".into());
         };
-        assert_eq!(rt; error, fault);
+        assert!(rt; error == fault);
     }
     Ok(())
 }
@@ -123,7 +120,7 @@ fn an_input_fails_for_good(rt: HostRuntime) -> Result<(), Fail> {
             let Err(error) = reader.next() else {
                 return Err("no error".into());
             };
-            assert_eq!(rt; error, fault);
+            assert!(rt; error == fault);
         }
     }
     Ok(())

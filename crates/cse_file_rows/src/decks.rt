@@ -2,6 +2,7 @@
 
 ghost use Rattle.cse_decks.specs.Store.{StoreFits};
 
+use crate::told::assert_bytes;
 use cse_decks::*;
 use cse_fixtures::device::Slow;
 use cse_fixtures::outline::{ArrayOutline, NOTHING, Outline, parts_of};
@@ -80,7 +81,7 @@ fn saves_a_first_store(rt: HostRuntime) -> Result<(), Fail> {
     let program = sample(rt.alloc()).ok_or("no program")?;
     let store = Store::new(rt.alloc(), &program)?;
     let text = saved(rt.alloc(), &program, &store).ok_or("not saved")?;
-    assert_eq!(rt; text.as_slice(), FIRST.as_bytes());
+    assert_bytes(&rt, text.as_slice(), FIRST.as_bytes());
     Ok(())
 }
 
@@ -105,7 +106,7 @@ fn saves_what_was_loaded(rt: HostRuntime) -> Result<(), Fail> {
     let program = sample(rt.alloc()).ok_or("no program")?;
     for (text, want) in &SAVED {
         let again = saved_again(rt.alloc(), &program, text).ok_or("not saved")?;
-        assert_eq!(rt; again.as_slice(), want.as_bytes());
+        assert_bytes(&rt, again.as_slice(), want.as_bytes());
     }
     Ok(())
 }
@@ -136,7 +137,7 @@ fn keeps_starting_cells_of_arrays_that_lack(rt: HostRuntime) -> Result<(), Fail>
     let program = sample(rt.alloc()).ok_or("no program")?;
     let store = load(rt.alloc(), &program, AGES.as_bytes())?;
     for (array, place, want) in &CELLS {
-        assert_eq!(rt; cell_of(&store, *array, *place), *want);
+        assert!(rt; cell_of(&store, *array, *place) == *want);
     }
     Ok(())
 }
@@ -264,7 +265,7 @@ fn tells_the_first_line_that_is_wrong(rt: HostRuntime) -> Result<(), Fail> {
     let program = sample(rt.alloc()).ok_or("no program")?;
     for (text, number, line) in &FAULTS {
         let fault = fault_of(rt.alloc(), &program, text.as_bytes());
-        assert_eq!(rt; fault, Some((*number, *line)), "{text:?}");
+        assert!(rt; fault == Some((*number, *line)));
     }
     Ok(())
 }
@@ -291,7 +292,7 @@ fn refuses_a_text_that_is_cut(rt: HostRuntime) -> Result<(), Fail> {
     let program = sample(rt.alloc()).ok_or("no program")?;
     for count in 0..AGES.len() {
         let fault = fault_of(rt.alloc(), &program, front(AGES, count));
-        assert_eq!(rt; fault, Some(fault_of_front(count)));
+        assert!(rt; fault == Some(fault_of_front(count)));
     }
     Ok(())
 }

@@ -4,7 +4,9 @@ use crate::reports::{
     AGE_MESSAGES, AGES, back, front, give, give_ages, impute, listing_text, program_of, reports_of,
     whole, words,
 };
+use crate::told::assert_bytes;
 use cse_dict::{Dictionary, Unseen};
+use cse_fixtures::device::Slow;
 use cse_report::*;
 use cse_value::{Num, OutOfMemory, Writes, write_all};
 use std::alloc::Global;
@@ -14,72 +16,23 @@ use std::process::Abort;
 use std::test::Fail;
 
 /// A writer that takes at most so many bytes in a call, and fails at a call or takes none.
-#[derive(Drop)]
-struct Slow {
-    taken: Vec<u8>,
-    at_most: usize,
-    calls: u64,
-    fails_at: u64,
-    takes_none_at: u64,
-}
-
-impl io::Write for Slow {
-    fn write(&mut self, buf: &[u8]) -> io::Result<usize> {
-        self.calls = self.calls.saturating_add(1);
-        if self.calls == self.fails_at {
-            return Err(io::Error::from(io::ErrorKind::TimedOut));
-        }
-        if self.calls == self.takes_none_at {
-            return Ok(0);
-        }
-        let n = buf.len().min(self.at_most);
-        self.taken.extend_from_slice(&buf[..n])?;
-        Ok(n)
-    }
-
-    fn flush(&mut self) -> io::Result<()> {
-        Ok(())
-    }
-}
-
-/// The bytes that a writer took.
-fn taken_by(writer: Slow) -> Vec<u8> {
-    let Slow {
-        taken,
-        at_most: _,
-        calls: _,
-        fails_at: _,
-        takes_none_at: _,
-    } = writer;
-    taken
-}
-
-/// A writer that takes at most so many bytes in a call, and fails at a call or takes none.
 fn make_slow(alloc: Global, at_most: usize, fails_at: u64, takes_none_at: u64) -> Writes<Slow> {
-    Writes::new(Slow {
-        taken: Vec::new(alloc),
-        at_most,
-        calls: 0,
-        fails_at,
-        takes_none_at,
-    })
+    Writes::new(Slow::new(alloc, at_most, fails_at, takes_none_at))
 }
 
 /// Writes the listing of four ages to its end, of which a writer takes so many bytes.
 fn end_ages(rt: &impl Abort, reports: &Reports, mut out: Writes<Slow>, taken: usize) {
     let answer = reports.listing.write_to(4, 4, 0, &mut out);
-    assert_eq!(rt; answer.is_ok(), taken == AGES.len());
-    let bytes = taken_by(out.into_inner());
-    assert_eq!(rt; bytes.as_slice(), front(AGES.as_bytes(), taken));
+    assert!(rt; answer.is_ok() == (taken == AGES.len()));
+    assert_bytes(rt, out.into_inner().taken(), front(AGES.as_bytes(), taken));
 }
 
 /// Flushes the listing of four ages, of which a writer takes so many bytes.
 fn flush_ages(rt: &impl Abort, reports: &mut Reports, mut out: Writes<Slow>, taken: usize) {
     let answer = reports.listing.flush_to(&mut out);
-    assert_eq!(rt; answer.is_ok(), taken == 110);
-    assert_eq!(rt; reports.listing.text(3).is_none(), answer.is_ok());
-    let bytes = taken_by(out.into_inner());
-    assert_eq!(rt; bytes.as_slice(), front(AGES.as_bytes(), taken));
+    assert!(rt; answer.is_ok() == (taken == 110));
+    assert!(rt; reports.listing.text(3).is_none() == answer.is_ok());
+    assert_bytes(rt, out.into_inner().taken(), front(AGES.as_bytes(), taken));
 }
 
 #[test]
@@ -105,7 +58,7 @@ fn holds_its_lines_where_a_writer_fails(rt: HostRuntime) -> Result<(), Fail> {
         flush_ages(&rt, &mut reports, out, flushed);
         let held = listing_text(alloc, &reports, 4, 4, 0)?;
         let written = if flushed == 110 { 110 } else { 0 };
-        assert_eq!(rt; held.as_slice(), back(AGES.as_bytes(), written));
+        assert_bytes(&rt, held.as_slice(), back(AGES.as_bytes(), written));
     }
     Ok(())
 }
@@ -245,6 +198,6 @@ fn changes_nothing_for_want_of_memory(rt: HostRuntime) -> Result<(), Fail> {
         }
     }
     let all = look_at(&reports, &dictionary);
-    assert_eq!(rt; front(&all.bytes, all.len), ALL.as_bytes());
+    assert_bytes(&rt, front(&all.bytes, all.len), ALL.as_bytes());
     Ok(())
 }

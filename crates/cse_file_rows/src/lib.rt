@@ -5,6 +5,7 @@
 //! - `lines`, `cases`: files as runs of lines, and as cases.
 //! - `decks`: deck files.
 //! - `reports`, `failing`: listings and frequencies; writers that fail, and growths that are refused.
+//! - `told`: how bytes are compared.
 #![tactic(auto)]
 
 #[cfg(test)]
@@ -17,3 +18,5 @@ mod failing;
 mod lines;
 #[cfg(test)]
 mod reports;
+#[cfg(test)]
+mod told;

@@ -1,5 +1,6 @@
 //! Worked listings and frequencies.
 
+use crate::told::assert_bytes;
 use cse_dict::{Dictionary, Unseen};
 use cse_fixtures::pieces::{add_message, no_parts};
 use cse_image::Program;
@@ -130,7 +131,7 @@ fn assert_frequencies(rt: &impl Abort, alloc: Global, frequencies: &Frequencies,
         None => None,
     };
     match text {
-        Some(text) => assert_eq!(rt; text.as_slice(), wanted.as_bytes()),
+        Some(text) => assert_bytes(rt, text.as_slice(), wanted.as_bytes()),
         None => assert!(rt; false, "no frequencies"),
     }
 }
@@ -141,9 +142,10 @@ fn lists_nothing(rt: HostRuntime) -> Result<(), Fail> {
     let mut reports = reports_of(alloc, &[]).ok_or("no reports")?;
     reports.begin_run();
     let text = listing_text(alloc, &reports, 0, 0, 0)?;
-    assert_eq!(rt;
+    assert_bytes(
+        &rt,
         text.as_slice(),
-        "CSEB LISTING 1\nSUMMARY\ncases 0\nlines 0\nunseen 0\nEND\n".as_bytes()
+        "CSEB LISTING 1\nSUMMARY\ncases 0\nlines 0\nunseen 0\nEND\n".as_bytes(),
     );
     assert_frequencies(
         &rt,
@@ -163,9 +165,10 @@ fn lists_unseen_lines(rt: HostRuntime) -> Result<(), Fail> {
     reports.unseen(3, Unseen::Unknown)?;
     reports.unseen(4, Unseen::Extra)?;
     let text = listing_text(alloc, &reports, 1, 4, 2)?;
-    assert_eq!(rt;
+    assert_bytes(
+        &rt,
         text.as_slice(),
-        "CSEB LISTING 1\nCASE [001]\nU 3 unknown\nU 4 extra\nSUMMARY\ncases 1\nlines 4\nunseen 2\nEND\n".as_bytes()
+        "CSEB LISTING 1\nCASE [001]\nU 3 unknown\nU 4 extra\nSUMMARY\ncases 1\nlines 4\nunseen 2\nEND\n".as_bytes(),
     );
     Ok(())
 }
@@ -178,9 +181,10 @@ fn lists_a_message_of_two_numbers(rt: HostRuntime) -> Result<(), Fail> {
     reports.begin_case(&ids)?;
     give(&rt, &mut reports, 0, &[whole(2), whole(3)])?;
     let text = listing_text(alloc, &reports, 1, 3, 0)?;
-    assert_eq!(rt;
+    assert_bytes(
+        &rt,
         text.as_slice(),
-        "CSEB LISTING 1\nCASE [001]\nM 0 adults 2 of 3\nSUMMARY\ncases 1\nlines 3\nunseen 0\nmessage 0 1 adults %d of %d\nEND\n".as_bytes()
+        "CSEB LISTING 1\nCASE [001]\nM 0 adults 2 of 3\nSUMMARY\ncases 1\nlines 3\nunseen 0\nmessage 0 1 adults %d of %d\nEND\n".as_bytes(),
     );
     Ok(())
 }
@@ -209,13 +213,14 @@ fn lists_messages_of_the_application(rt: HostRuntime) -> Result<(), Fail> {
     ];
     give(&rt, &mut reports, 0, &cells)?;
     let text = listing_text(alloc, &reports, 0, 0, 0)?;
-    assert_eq!(rt;
+    assert_bytes(
+        &rt,
         text.as_slice(),
-        "CSEB LISTING 1\nRUN\nM 0 DEFAULT DEFAULT -3 -1\nRUN\nM 0 DEFAULT 11 20 DEFAULT\nSUMMARY\ncases 0\nlines 0\nunseen 0\nmessage 0 2 %d %d %d %d\nmessage 0 1 once %d\nEND\n".as_bytes()
+        "CSEB LISTING 1\nRUN\nM 0 DEFAULT DEFAULT -3 -1\nRUN\nM 0 DEFAULT 11 20 DEFAULT\nSUMMARY\ncases 0\nlines 0\nunseen 0\nmessage 0 2 %d %d %d %d\nmessage 0 1 once %d\nEND\n".as_bytes(),
     );
-    assert_eq!(rt; reports.listing.text(0), Some("DEFAULT DEFAULT -3 -1"));
-    assert_eq!(rt; reports.listing.text(1), Some("DEFAULT 11 20 DEFAULT"));
-    assert_eq!(rt; reports.listing.text(2), None);
+    assert!(rt; reports.listing.text(0) == Some("DEFAULT DEFAULT -3 -1"));
+    assert!(rt; reports.listing.text(1) == Some("DEFAULT 11 20 DEFAULT"));
+    assert!(rt; reports.listing.text(2) == None);
     Ok(())
 }
 
@@ -271,8 +276,8 @@ fn lists_the_same_wherever_flushes_fall(rt: HostRuntime) -> Result<(), Fail> {
         let mut out = Writes::new(Vec::new(alloc));
         give_ages(&rt, alloc, &mut reports, &mut out, flushes)?;
         reports.listing.write_to(4, 4, 0, &mut out)?;
-        assert_eq!(rt; out.into_inner().as_slice(), AGES.as_bytes());
-        assert_eq!(rt; reports.listing.text(3).is_some(), flushes == 0);
+        assert_bytes(&rt, out.into_inner().as_slice(), AGES.as_bytes());
+        assert!(rt; reports.listing.text(3).is_some() == (flushes == 0));
     }
     Ok(())
 }
@@ -340,7 +345,7 @@ fn takes_sixteen_arguments(rt: HostRuntime) -> Result<(), Fail> {
     assert!(rt; !reports.listing.takes(0, front(&args, 15)) && !reports.listing.takes(1, &args));
     assert!(rt; !reports.listing.takes(0, back(&args, 1)) && !reports.listing.takes(0, &[]));
     give(&rt, &mut reports, 0, &args)?;
-    assert_eq!(rt; reports.listing.text(0), Some("0x1x2x3x4x5x6x7x"));
+    assert!(rt; reports.listing.text(0) == Some("0x1x2x3x4x5x6x7x"));
     Ok(())
 }
 
@@ -351,9 +356,10 @@ fn ids_stand_as_they_are(rt: HostRuntime) -> Result<(), Fail> {
     reports.begin_case(&columns(alloc, " \tÄ]")?)?;
     give(&rt, &mut reports, 0, &[])?;
     let text = listing_text(alloc, &reports, 1, 1, 0)?;
-    assert_eq!(rt;
+    assert_bytes(
+        &rt,
         text.as_slice(),
-        "CSEB LISTING 1\nCASE [ \tÄ]]\nM 0 x\nSUMMARY\ncases 1\nlines 1\nunseen 0\nmessage 0 1 x\nEND\n".as_bytes()
+        "CSEB LISTING 1\nCASE [ \tÄ]]\nM 0 x\nSUMMARY\ncases 1\nlines 1\nunseen 0\nmessage 0 1 x\nEND\n".as_bytes(),
     );
     Ok(())
 }

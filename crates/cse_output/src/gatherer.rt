@@ -7,12 +7,12 @@ use arrayvec::ArrayVec;
 use cse_value::{Failed, Output, write_all};
 
 /// How many bytes wait at most.
-const ROOM: usize = 4096;
+const ROOM: usize = 65_536;
 
 /// Bytes that wait to be written. Once the device has failed, nothing more is written.
 #[derive(Drop)]
 pub struct Gatherer {
-    pub waiting: ArrayVec<u8, 4096>,
+    pub waiting: ArrayVec<u8, 65536>,
     pub gave_up: bool,
 }
 
@@ -115,8 +115,8 @@ impl Gatherer {
 }
 
 /// Appends bytes for which there is room.
-fn append(waiting: &mut ArrayVec<u8, 4096>, bytes: &[u8])
-    requires { length waiting.old.items + length bytes.now ≤ 4096 }
+fn append(waiting: &mut ArrayVec<u8, 65536>, bytes: &[u8])
+    requires { length waiting.old.items + length bytes.now ≤ 65536 }
     ensures { waiting.new.items ≡ waiting.old.items ++ bytes.now }
 {
     let Ok(()) = waiting.try_extend_from_slice(bytes) else {

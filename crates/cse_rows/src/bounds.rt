@@ -2,6 +2,7 @@
 
 use crate::answers::{EMPTY, Told, parts_of, read, told_of, told_of_two};
 use crate::nests::loops_of;
+use crate::told::assert_count;
 use cse_dict::Dictionary;
 use cse_fixtures::outline::Line;
 use cse_fixtures::persons::{DECK_CODE, persons_text};
@@ -180,7 +181,7 @@ fn asks_for_its_dictionary(rt: HostRuntime) -> Result<(), Fail> {
     let Err(refusal) = verify(alloc, &empty, bare(alloc, &persons)?) else {
         return Err("accepted".into());
     };
-    assert_eq!(rt; refusal.number, 68);
+    assert!(rt; refusal.number == 68);
     Ok(())
 }
 
@@ -192,7 +193,7 @@ fn holds_what_was_handed_in(rt: HostRuntime) -> Result<(), Fail> {
         return Err("refused".into());
     };
     verified.events_keep_to_case();
-    assert_eq!(rt; verified.dictionary().name(), "SAMPLE_DICT");
-    assert_eq!(rt; verified.into_program().items().len(), 5);
+    assert!(rt; verified.dictionary().name() == "SAMPLE_DICT");
+    assert_count(&rt, verified.into_program().items().len(), 5);
     Ok(())
 }

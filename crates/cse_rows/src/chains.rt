@@ -86,6 +86,6 @@ fn calls_of_calls(rt: HostRuntime) -> Result<(), Fail> {
         ords: 20,
         frames: 0,
     };
-    assert_eq!(rt; depth, wanted);
+    assert!(rt; depth == wanted);
     Ok(())
 }

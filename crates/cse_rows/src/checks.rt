@@ -1,6 +1,7 @@
 //! What `check` tells of worked rows of logic.
 
 use crate::logic;
+use crate::told::assert_text;
 use cse_dict::Dictionary;
 use cse_syntax::parse;
 use cse_types::{Messages, Order, TypeError, check};
@@ -72,7 +73,7 @@ fn first_of(alloc: Global, tables: &[&str]) -> Result<String, Fail> {
 #[test]
 fn sound_logic(rt: HostRuntime) -> Result<(), Fail> {
     let wrong = first_of(rt.alloc(), &[logic::accepted(), logic::declared()])?;
-    assert_eq!(rt; wrong.as_str(), "");
+    assert_text(&rt, wrong.as_str(), "");
     Ok(())
 }
 
@@ -86,7 +87,7 @@ fn faults_of_names(rt: HostRuntime) -> Result<(), Fail> {
         logic::early(),
     ];
     let wrong = first_of(rt.alloc(), &tables)?;
-    assert_eq!(rt; wrong.as_str(), "");
+    assert_text(&rt, wrong.as_str(), "");
     Ok(())
 }
 
@@ -94,13 +95,13 @@ fn faults_of_names(rt: HostRuntime) -> Result<(), Fail> {
 fn faults_of_kinds(rt: HostRuntime) -> Result<(), Fail> {
     let tables = [logic::kinds(), logic::divided(), logic::counted()];
     let wrong = first_of(rt.alloc(), &tables)?;
-    assert_eq!(rt; wrong.as_str(), "");
+    assert_text(&rt, wrong.as_str(), "");
     Ok(())
 }
 
 #[test]
 fn faults_of_places(rt: HostRuntime) -> Result<(), Fail> {
     let wrong = first_of(rt.alloc(), &[logic::looped(), logic::places()])?;
-    assert_eq!(rt; wrong.as_str(), "");
+    assert_text(&rt, wrong.as_str(), "");
     Ok(())
 }

@@ -1,6 +1,7 @@
 //! Worked rows of dictionaries. A row is what is asked and what is told. Each table is gone through by one function.
 
 use crate::dictionary_rows::{BEFORE, FRONTS, LIMITS, Many, RESTS, Row};
+use crate::told::assert_count;
 use cse_dict::Dictionary;
 use cse_value::number::Num;
 use cse_value::shape::{ItemKind, ItemShape, RecordShape, SetShape, Shape};
@@ -344,10 +345,10 @@ fn wrong_limit(alloc: Global) -> Result<usize, AllocError> {
 #[test]
 fn faults(rt: HostRuntime) -> Result<(), Fail> {
     let alloc = rt.alloc();
-    assert_eq!(rt; wrong_fault(alloc, "", &FRONTS)?, FRONTS.len());
-    assert_eq!(rt; wrong_fault(alloc, BEFORE, &RESTS)?, RESTS.len());
-    assert_eq!(rt; wrong_limit(alloc)?, LIMITS.len());
-    assert_eq!(rt; fault_of(alloc, b"[Dictionary]\nName=\xff"), (0, 10));
+    assert_count(&rt, wrong_fault(alloc, "", &FRONTS)?, FRONTS.len());
+    assert_count(&rt, wrong_fault(alloc, BEFORE, &RESTS)?, RESTS.len());
+    assert_count(&rt, wrong_limit(alloc)?, LIMITS.len());
+    assert!(rt; fault_of(alloc, b"[Dictionary]\nName=\xff") == (0, 10));
     Ok(())
 }
 
@@ -416,8 +417,8 @@ fn wrong_kind(alloc: Global) -> usize {
 
 #[test]
 fn items_and_sets(rt: HostRuntime) {
-    assert_eq!(rt; wrong_pair(rt.alloc()), PAIRS.len());
-    assert_eq!(rt; wrong_kind(rt.alloc()), KINDS.len());
+    assert_count(&rt, wrong_pair(rt.alloc()), PAIRS.len());
+    assert_count(&rt, wrong_kind(rt.alloc()), KINDS.len());
 }
 
 fn is_item(d: &Dictionary, name: &str, want: (u16, &str, Option<i64>, bool)) -> bool {

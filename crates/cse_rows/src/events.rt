@@ -1,6 +1,7 @@
 //! Tables of events, orders and shapes, and what code costs that means harm.
 
 use crate::programs::{parts_of, told};
+use crate::told::assert_told;
 use cse_image::{Ambient, EventCode, EventEntry, Instr, Op, Parts};
 use cse_typing::NONE;
 use std::alloc::{AllocError, Global};
@@ -51,7 +52,7 @@ fn events(rt: HostRuntime) -> Result<(), Fail> {
             index: *index,
             routine: *routine,
         };
-        assert_eq!(rt; told_of_event(rt.alloc(), event)?, wanted(*fits));
+        assert_told(&rt, told_of_event(rt.alloc(), event)?, wanted(*fits));
     }
     Ok(())
 }
@@ -76,7 +77,7 @@ fn told_of_order(alloc: Global, order: &[u32]) -> Result<(u8, u32, u32), Fail> {
 #[test]
 fn orders(rt: HostRuntime) -> Result<(), Fail> {
     for (order, names_each) in &ORDERS {
-        assert_eq!(rt; told_of_order(rt.alloc(), order)?, wanted(*names_each));
+        assert_told(&rt, told_of_order(rt.alloc(), order)?, wanted(*names_each));
     }
     Ok(())
 }
@@ -105,7 +106,7 @@ fn told_without(alloc: Global, part: u32) -> Result<(u8, u32, u32), Fail> {
 #[test]
 fn other_shapes(rt: HostRuntime) -> Result<(), Fail> {
     for part in 0..3 {
-        assert_eq!(rt; told_without(rt.alloc(), part)?, (68, NONE, NONE));
+        assert_told(&rt, told_without(rt.alloc(), part)?, (68, NONE, NONE));
     }
     Ok(())
 }
@@ -151,7 +152,7 @@ fn told_of_many(
 #[test]
 fn long_jumps(rt: HostRuntime) -> Result<(), Fail> {
     let answer = told_of_many(rt.alloc(), &[Op::Jump], 900_000, 900_000, 900_001)?;
-    assert_eq!(rt; answer, (0, 0, 0));
+    assert_told(&rt, answer, (0, 0, 0));
     Ok(())
 }
 
@@ -159,6 +160,6 @@ fn long_jumps(rt: HostRuntime) -> Result<(), Fail> {
 #[test]
 fn deep_stack(rt: HostRuntime) -> Result<(), Fail> {
     let answer = told_of_many(rt.alloc(), &[Op::Number, Op::Pop], 20_000, 0, 40_001)?;
-    assert_eq!(rt; answer, (0, 0, 0));
+    assert_told(&rt, answer, (0, 0, 0));
     Ok(())
 }

@@ -1,6 +1,7 @@
 //! Worked rows of message files and order files. A row of a table is what is told and, behind `|`, the
 //! file; rows are parted by `#`.
 
+use crate::told::assert_text;
 use cse_dict::Dictionary;
 use cse_types::{Messages, Order, TypeError};
 use std::alloc::Global;
@@ -85,13 +86,13 @@ fn first_wrong(alloc: Global, is_order: bool, rows: &str) -> Result<String, Fail
 #[test]
 fn message_files(rt: HostRuntime) -> Result<(), Fail> {
     let wrong = first_wrong(rt.alloc(), false, messages())?;
-    assert_eq!(rt; wrong.as_str(), "");
+    assert_text(&rt, wrong.as_str(), "");
     Ok(())
 }
 
 #[test]
 fn order_files(rt: HostRuntime) -> Result<(), Fail> {
     let wrong = first_wrong(rt.alloc(), true, orders())?;
-    assert_eq!(rt; wrong.as_str(), "");
+    assert_text(&rt, wrong.as_str(), "");
     Ok(())
 }

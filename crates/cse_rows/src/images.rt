@@ -1,6 +1,7 @@
 //! Worked images of both versions, and for each rule of the format bytes that break it, with the number
 //! and the place. Tables are gone through by one function each.
 
+use crate::told::{assert_bytes, assert_text};
 use cse_fixtures::outline::{MessageOutline, NOTHING, Outline, RoutineOutline, parts_of};
 use cse_image::*;
 use std::alloc::{AllocError, Global};
@@ -242,9 +243,9 @@ fn wrong_row(
 
 #[test]
 fn each_rule(rt: HostRuntime) -> Result<(), Fail> {
-    assert_eq!(rt; wrong_row(rt.alloc(), &FULL, &FAULTS)?, None);
-    assert_eq!(rt; wrong_row(rt.alloc(), &LOOP, &LOOP_FAULTS)?, None);
-    assert_eq!(rt; wrong_row(rt.alloc(), &LOOP_ONE, &LOOP_ONE_FAULTS)?, None);
+    assert!(rt; wrong_row(rt.alloc(), &FULL, &FAULTS)? == None);
+    assert!(rt; wrong_row(rt.alloc(), &LOOP, &LOOP_FAULTS)? == None);
+    assert!(rt; wrong_row(rt.alloc(), &LOOP_ONE, &LOOP_ONE_FAULTS)? == None);
     Ok(())
 }
 
@@ -394,7 +395,7 @@ fn image_of(alloc: Global, parts: Parts) -> Option<Vec<u8>> {
 #[test]
 fn says_hello(rt: HostRuntime) -> Result<(), Fail> {
     let image = image_of(rt.alloc(), parts_of(rt.alloc(), &SAYS_HELLO)?).ok_or("no spelling")?;
-    assert_eq!(rt; image.as_slice(), HELLO.as_slice());
+    assert_bytes(&rt, image.as_slice(), HELLO.as_slice());
     Ok(())
 }
 
@@ -482,9 +483,9 @@ fn long_texts(rt: HostRuntime) -> Result<(), Fail> {
     for (piece, count, message, text) in &LONG {
         let long = (*piece, *count);
         let found = fault_between(rt.alloc(), &HELLO[..54], long, &HELLO[58..])?;
-        assert_eq!(rt; found, *message);
+        assert!(rt; found == *message);
         let found = fault_between(rt.alloc(), &BEFORE_TEXT, long, &HELLO[36..])?;
-        assert_eq!(rt; found, *text);
+        assert!(rt; found == *text);
     }
     Ok(())
 }
@@ -493,6 +494,6 @@ fn long_texts(rt: HostRuntime) -> Result<(), Fail> {
 fn shows_an_error(rt: HostRuntime) -> Result<(), Fail> {
     let error = ImageError { number: 61, at: 93 };
     let text = format!(in rt.alloc(); "{error}")?;
-    assert_eq!(rt; text.as_str(), "fault 61 at byte 93");
+    assert_text(&rt, text.as_str(), "fault 61 at byte 93");
     Ok(())
 }

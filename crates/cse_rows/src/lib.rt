@@ -9,6 +9,7 @@
 //! - `syntax`: logic, and the first fault of what is none.
 //! - `files`: message and order files.
 //! - `checks`, `logic`: names and kinds of logic.
+//! - `told`: how what is told is compared.
 #![tactic(auto)]
 
 #[cfg(test)]
@@ -44,5 +45,7 @@ mod programs;
 mod shapes;
 #[cfg(test)]
 mod syntax;
+#[cfg(test)]
+mod told;
 #[cfg(test)]
 mod typings;

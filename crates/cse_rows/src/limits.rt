@@ -90,7 +90,7 @@ static LIMITS: [(&[u32], (u8, u32, u32, u64)); 3] = [
 fn limits(rt: HostRuntime) -> Result<(), Fail> {
     let alloc = rt.alloc();
     for (limits, wanted) in &LIMITS {
-        assert_eq!(rt; told_of_loops(alloc, limits)?, *wanted);
+        assert!(rt; told_of_loops(alloc, limits)? == *wanted);
     }
     Ok(())
 }
@@ -106,7 +106,7 @@ static GIFTS: [(Gift, (u8, u32, u32, u64)); 3] = [
 fn gifts(rt: HostRuntime) -> Result<(), Fail> {
     let alloc = rt.alloc();
     for (gives, wanted) in &GIFTS {
-        assert_eq!(rt; told_of_greeting(alloc, *gives)?, *wanted);
+        assert!(rt; told_of_greeting(alloc, *gives)? == *wanted);
     }
     Ok(())
 }

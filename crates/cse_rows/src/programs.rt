@@ -2,6 +2,7 @@
 
 use crate::opcodes::{NUMBER, RETURN, rows};
 use crate::parts::add_plans;
+use crate::told::assert_told;
 use cse_fixtures::outline::{self, ArrayOutline, Line, MessageOutline, NOTHING, Outline};
 use cse_fixtures::pieces::{Head, PLAIN};
 use cse_image::{Ambient, Gift, GlobalKind, GlobalVariable, Local, LocalKind, Op, Parts, Program};
@@ -259,7 +260,7 @@ fn each_instruction(rt: HostRuntime) -> Result<(), Fail> {
     }
     for row in rows() {
         assert!(rt; has(row.1, row.0));
-        assert_eq!(rt; told_of(rt.alloc(), Ambient::Case, row.1)?, (0, 0, 0));
+        assert_told(&rt, told_of(rt.alloc(), Ambient::Case, row.1)?, (0, 0, 0));
     }
     Ok(())
 }
@@ -268,7 +269,7 @@ fn each_instruction(rt: HostRuntime) -> Result<(), Fail> {
 fn each_refusal(rt: HostRuntime) -> Result<(), Fail> {
     for row in rows() {
         let answer = told_of(rt.alloc(), Ambient::Case, row.3)?;
-        assert_eq!(rt; answer, (row.4, 2, row.5));
+        assert_told(&rt, answer, (row.4, 2, row.5));
     }
     Ok(())
 }
@@ -286,7 +287,7 @@ fn wanted(case_at: u32) -> (u8, u32, u32) {
 fn what_needs_a_case(rt: HostRuntime) -> Result<(), Fail> {
     for row in rows() {
         let answer = told_of(rt.alloc(), Ambient::Run, row.1)?;
-        assert_eq!(rt; answer, wanted(row.2));
+        assert_told(&rt, answer, wanted(row.2));
     }
     Ok(())
 }

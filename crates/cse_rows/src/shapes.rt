@@ -1,6 +1,7 @@
 //! Worked programs: their jumps and brackets, and the dictionaries that they were made for.
 
 use crate::parts::{parts_with, program_with};
+use crate::told::assert_told;
 use cse_dict::Dictionary;
 use cse_fixtures::outline::{Line, NOTHING, Outline};
 use cse_fixtures::pieces::PLAIN;
@@ -85,7 +86,7 @@ static JUMPS: [(&[Line], (u8, u32, u32)); 4] = [
 #[test]
 fn checks_jumps_and_brackets(rt: HostRuntime) -> Result<(), Fail> {
     for (lines, want) in &JUMPS {
-        assert_eq!(rt; jumps_told(rt.alloc(), lines)?, *want);
+        assert_told(&rt, jumps_told(rt.alloc(), lines)?, *want);
     }
     Ok(())
 }

@@ -3,6 +3,7 @@
 use crate::nests::loops_of;
 use crate::parts::{parts_with, program_with};
 use crate::programs::CELLS;
+use crate::told::assert_told;
 use cse_fixtures::outline::{Line, NOTHING, Outline, add_shape};
 use cse_fixtures::pieces::PLAIN;
 use cse_image::{EventCode, EventEntry, Op, Program};
@@ -145,7 +146,7 @@ static JUMPS: [(&[Line], u8, u32); 10] = [
 fn jumps_and_brackets(rt: HostRuntime) -> Result<(), Fail> {
     let alloc = rt.alloc();
     for (lines, number, at) in &JUMPS {
-        assert_eq!(rt; jumps_told(alloc, lines)?, (*number, 0, *at));
+        assert_told(&rt, jumps_told(alloc, lines)?, (*number, 0, *at));
     }
     Ok(())
 }
@@ -153,8 +154,8 @@ fn jumps_and_brackets(rt: HostRuntime) -> Result<(), Fail> {
 #[test]
 fn nests_64_deep(rt: HostRuntime) -> Result<(), Fail> {
     let alloc = rt.alloc();
-    assert_eq!(rt; nested_told(alloc, 64)?, (0, 0, 0));
-    assert_eq!(rt; nested_told(alloc, 65)?, (65, 0, 129));
+    assert_told(&rt, nested_told(alloc, 64)?, (0, 0, 0));
+    assert_told(&rt, nested_told(alloc, 65)?, (65, 0, 129));
     Ok(())
 }
 
@@ -261,7 +262,7 @@ fn told_of(alloc: Global, beside: &Outline<'_>, lines: &[Line]) -> Result<(u8, u
 #[test]
 fn typings(rt: HostRuntime) -> Result<(), Fail> {
     for (lines, number, at) in &TYPINGS {
-        assert_eq!(rt; told_of(rt.alloc(), &BESIDE, lines)?, (*number, 0, *at));
+        assert_told(&rt, told_of(rt.alloc(), &BESIDE, lines)?, (*number, 0, *at));
     }
     Ok(())
 }
@@ -290,15 +291,15 @@ fn fits_its_dictionary(rt: HostRuntime) -> Result<(), Fail> {
     let alloc = rt.alloc();
     let program = program_of_one(alloc)?;
     let other = typed(alloc, &no_shape(alloc), &program);
-    assert_eq!(rt; numbers_of(other), (68, NONE, NONE));
+    assert_told(&rt, numbers_of(other), (68, NONE, NONE));
     let own = typed(alloc, &shape_of_one(alloc)?, &program);
-    assert_eq!(rt; numbers_of(own), (0, 0, 0));
+    assert_told(&rt, numbers_of(own), (0, 0, 0));
     Ok(())
 }
 
 #[test]
 fn events_want_their_routine(rt: HostRuntime) -> Result<(), Fail> {
     let told = told_of(rt.alloc(), &OF_LEVEL, &[(Op::Return, 0, 0, 0)])?;
-    assert_eq!(rt; told, (69, NONE, NONE));
+    assert_told(&rt, told, (69, NONE, NONE));
     Ok(())
 }

@@ -1,0 +1,9 @@
+//! What the tests here compare most often. Each ends the test where the two are not the same, and prints both: so what
+//! prints such a message is proved once, and not in each test.
+
+use std::process::Abort;
+
+/// The bytes are these.
+pub fn assert_bytes(rt: &impl Abort, found: &[u8], wanted: &[u8]) {
+    assert_eq!(rt; found, wanted);
+}
