@@ -1,7 +1,6 @@
 //! Times of what runs often: fields of 3, 8 and 15 columns, an image of 1,000,000 instructions, hot decks of
-//! 1,000,000 cells, 1,000,000 messages, a source of 60,000 tokens, steps, and runs over 1,000,000 cases; and what the
-//! reader of cases holds. They are taken where a word is given: `all`, or `fields`, `images`, `decks`, `messages`,
-//! `sources`, `steps`, `kept` or `cases`.
+//! 1,000,000 cells, 1,000,000 messages, steps, and runs over 1,000,000 cases; and what the reader of cases holds. They
+//! are taken where a word is given: `all`, or `fields`, `images`, `decks`, `messages`, `steps`, `kept` or `cases`.
 #![tactic(auto)]
 
 mod cases;
@@ -11,7 +10,6 @@ mod images;
 mod kept;
 mod programs;
 mod reports;
-mod sources;
 mod step_programs;
 mod steps;
 
@@ -23,7 +21,7 @@ fn is_asked(word: &str, part: &str) -> bool {
     word == "all" || word == part
 }
 
-/// Times of fields, images, decks, messages and sources.
+/// Times of fields, images, decks and messages.
 fn time_parts<R: Clock + Print + AllocGlobal>(rt: &R, word: &str) -> io::Result<()> {
     if is_asked(word, "fields") {
         fields::bench(rt, 3)?;
@@ -38,9 +36,6 @@ fn time_parts<R: Clock + Print + AllocGlobal>(rt: &R, word: &str) -> io::Result<
     }
     if is_asked(word, "messages") {
         reports::bench(rt.alloc(), rt)?;
-    }
-    if is_asked(word, "sources") {
-        sources::bench(rt.alloc(), rt)?;
     }
     Ok(())
 }
