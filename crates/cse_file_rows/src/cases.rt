@@ -44,8 +44,13 @@ impl Input for Pieces<'_> {
     }
 }
 
+/// The dictionary of a text, if it has no fault.
+pub fn dictionary_of(alloc: Global, text: &str) -> Option<Dictionary> {
+    Dictionary::read(alloc, text.as_bytes()).ok()
+}
+
 fn dictionary(alloc: Global) -> Option<Dictionary> {
-    Dictionary::read(alloc, SAMPLE.as_bytes()).ok()
+    dictionary_of(alloc, SAMPLE)
 }
 
 #[test]

@@ -2,6 +2,7 @@
 
 ghost use Rattle.std.specs.Prelude.{None};
 
+use crate::cases::dictionary_of;
 use cse_dict::Dictionary;
 use cse_lines::{DataError, Ending, Line, Run, RunReader};
 use cse_value::{Failed, Input};
@@ -49,7 +50,7 @@ const RUNS: &str =
     "P00111|P0012 |X001|1m:6 ReturnFeed 0:5 Feed 0:4 Feed no\nP002  b |4:8 Feed 0\n    |5:0 Feed no\nP00\u{e9}  |P00\u{e9}z |6:4 Feed 0:5 Feed 0\nP003\rx|8:6 FileEnd 0\nend\nend\n";
 
 fn persons(alloc: Global) -> Option<Dictionary> {
-    Dictionary::read(alloc, PERSONS.as_bytes()).ok()
+    dictionary_of(alloc, PERSONS)
 }
 
 /// Tells a number.

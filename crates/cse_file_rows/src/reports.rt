@@ -1,5 +1,6 @@
 //! Worked listings and frequencies.
 
+use crate::cases::dictionary_of;
 use crate::told::assert_bytes;
 use cse_dict::{Dictionary, Unseen};
 use cse_fixtures::pieces::{add_message, no_parts};
@@ -36,7 +37,7 @@ pub fn program_of(
 }
 
 fn dictionary(alloc: Global) -> Option<Dictionary> {
-    Dictionary::read(alloc, SAMPLE.as_bytes()).ok()
+    dictionary_of(alloc, SAMPLE)
 }
 
 /// The reports of a program with these messages.

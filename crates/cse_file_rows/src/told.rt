@@ -1,5 +1,6 @@
 //! What the tests here compare most often. Each ends the test where the two are not the same, and prints both: so what
-//! prints such a message is proved once, and not in each test.
+//! prints such a message is proved once, and not in each test. Each crate of tests has its own, since a library that is
+//! no test may not end the program.
 
 use std::process::Abort;
 

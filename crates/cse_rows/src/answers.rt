@@ -107,7 +107,8 @@ fn accepted(verified: &Verified<'_>) -> [u64; 8] {
     ]
 }
 
-fn answer(alloc: Global, dictionary: &Dictionary, program: Program) -> Told {
+/// What it tells of a program for this dictionary.
+pub fn answer(alloc: Global, dictionary: &Dictionary, program: Program) -> Told {
     match verify(alloc, dictionary, program) {
         Ok(verified) => Ok(accepted(&verified)),
         Err(e) => Err((e.number, e.routine, e.at)),
@@ -162,6 +163,7 @@ pub fn told_of_two(
     told(alloc, EMPTY, &plans, &[event])
 }
 
+/// The dictionary of a text.
 pub fn read(alloc: Global, text: &str) -> Result<Dictionary, Fail> {
     match Dictionary::read(alloc, text.as_bytes()) {
         Ok(dictionary) => Ok(dictionary),

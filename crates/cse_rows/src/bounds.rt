@@ -1,6 +1,6 @@
 //! Worked programs: how much they may take, and which are refused.
 
-use crate::answers::{EMPTY, Told, parts_of, read, told_of, told_of_two};
+use crate::answers::{EMPTY, Told, answer, parts_of, read, told_of, told_of_two};
 use crate::nests::loops_of;
 use crate::told::assert_count;
 use cse_dict::Dictionary;
@@ -177,11 +177,10 @@ fn bare(alloc: Global, persons: &Dictionary) -> Result<Program, Fail> {
 fn asks_for_its_dictionary(rt: HostRuntime) -> Result<(), Fail> {
     let alloc = rt.alloc();
     let persons = read(alloc, persons_text())?;
+    let program = bare(alloc, &persons)?;
     let empty = read(alloc, EMPTY)?;
-    let Err(refusal) = verify(alloc, &empty, bare(alloc, &persons)?) else {
-        return Err("accepted".into());
-    };
-    assert!(rt; refusal.number == 68);
+    let told = answer(alloc, &empty, program);
+    assert!(rt; matches!(told, Err((68, _, _))));
     Ok(())
 }
 

@@ -1,5 +1,6 @@
 //! What `check` tells of worked rows of logic.
 
+use crate::answers::read;
 use crate::logic;
 use crate::told::assert_text;
 use cse_dict::Dictionary;
@@ -40,9 +41,7 @@ fn told(
 
 /// The first row that is told otherwise.
 fn first_wrong(alloc: Global, rows: &str) -> Result<String, Fail> {
-    let Ok(dictionary) = Dictionary::read(alloc, logic::dictionary().as_bytes()) else {
-        return Err("no dictionary".into());
-    };
+    let dictionary = read(alloc, logic::dictionary())?;
     let Ok(messages) = Messages::read(alloc, logic::messages().as_bytes()) else {
         return Err("no messages".into());
     };

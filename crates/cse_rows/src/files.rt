@@ -1,6 +1,7 @@
 //! Worked rows of message files and order files. A row of a table is what is told and, behind `|`, the
 //! file; rows are parted by `#`.
 
+use crate::answers::read;
 use crate::told::assert_text;
 use cse_dict::Dictionary;
 use cse_types::{Messages, Order, TypeError};
@@ -55,10 +56,7 @@ fn order_of(alloc: Global, dictionary: &Dictionary, text: &str) -> Result<String
 }
 
 fn order_told(alloc: Global, text: &str) -> Result<String, Fail> {
-    match Dictionary::read(alloc, dictionary().as_bytes()) {
-        Ok(dictionary) => order_of(alloc, &dictionary, text),
-        Err(_) => Err("a fault".into()),
-    }
+    order_of(alloc, &read(alloc, dictionary())?, text)
 }
 
 fn told(alloc: Global, is_order: bool, text: &str) -> Result<String, Fail> {
