@@ -266,8 +266,7 @@ fn fault_of(alloc: Global, text: &[u8]) -> (u64, u8) {
 }
 
 fn is_fault(alloc: Global, before: &str, row: &Row) -> Result<bool, AllocError> {
-    let text = joined(alloc, before, row.0, "")?;
-    Ok(fault_of(alloc, text.as_bytes()) == row.1)
+    Ok(fault_of(alloc, joined(alloc, before, row.0, "")?.as_bytes()) == row.1)
 }
 
 /// The first of these rows that is told otherwise, or how many they are.
@@ -344,11 +343,10 @@ fn wrong_limit(alloc: Global) -> Result<usize, AllocError> {
 
 #[test]
 fn faults(rt: HostRuntime) -> Result<(), Fail> {
-    let alloc = rt.alloc();
-    assert_count(&rt, wrong_fault(alloc, "", &FRONTS)?, FRONTS.len());
-    assert_count(&rt, wrong_fault(alloc, BEFORE, &RESTS)?, RESTS.len());
-    assert_count(&rt, wrong_limit(alloc)?, LIMITS.len());
-    assert!(rt; fault_of(alloc, b"[Dictionary]\nName=\xff") == (0, 10));
+    assert_count(&rt, wrong_fault(rt.alloc(), "", &FRONTS)?, FRONTS.len());
+    assert_count(&rt, wrong_fault(rt.alloc(), BEFORE, &RESTS)?, RESTS.len());
+    assert_count(&rt, wrong_limit(rt.alloc())?, LIMITS.len());
+    assert!(rt; fault_of(rt.alloc(), b"[Dictionary]\nName=\xff") == (0, 10));
     Ok(())
 }
 
