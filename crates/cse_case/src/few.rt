@@ -9,7 +9,7 @@ ghost use Rattle.cse_value.specs.Field.{put, put_whole};
 ghost use Rattle.cse_dict.specs.Dictionary.{code_at, zero_fill_at};
 
 use cse_dict::Dictionary;
-use cse_value::{Num, put_num};
+use cse_value::{Num, filler_of, put_num};
 
 /// The character of a digit.
 #[inline(always)]
@@ -71,14 +71,6 @@ fn put_few(columns: &mut [char], number: u64, filler: char) -> bool
     } else {
         false
     }
-}
-
-/// The character that stands before a number.
-#[inline(always)]
-fn filler_of(zero_fill: bool) -> char
-    ensures { result ≡ cond zero_fill 48 32 }
-{
-    if zero_fill { '0' } else { ' ' }
 }
 
 /// Writes a whole number over columns, if they are few and have room for it, and tells whether they are.

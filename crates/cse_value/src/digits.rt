@@ -26,8 +26,9 @@ fn put_digits(columns: &mut [char], number: u64, filler: char) -> bool
     false
 }
 
-/// The character that stands before a number.
-fn filler_of(zero_fill: bool) -> char
+/// The character that stands before a number (the item's `ZeroFill`).
+#[inline(always)]
+pub fn filler_of(zero_fill: bool) -> char
     ensures { result ≡ cond zero_fill 48 32 }
 {
     if zero_fill { '0' } else { ' ' }

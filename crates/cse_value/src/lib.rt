@@ -20,6 +20,7 @@ pub mod shape;
 pub mod text;
 
 pub use device::{Failed, Input, Output, Reads, Writes, write_all};
+pub use digits::filler_of;
 pub use field::{keeps_width, put_num, put_text, read_num, read_text, round_trip, show_num};
 pub use memory::OutOfMemory;
 pub use number::{Num, Rel, add, compare, mul, neg, quo, rem, sub, truth};
