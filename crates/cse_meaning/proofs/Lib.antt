@@ -1,3 +1,17 @@
+pub mod Going
+pub mod Facts
+pub mod Items
+pub mod Reversed
+pub mod Arrays
+pub mod Arguments
+pub mod Present
+pub mod Decks
 pub mod Simulation
+pub mod Messages
+pub mod Puts
+pub mod Held
 pub mod Assigned
+pub mod Landing
+pub mod Functions
+pub mod Events
 pub mod Once

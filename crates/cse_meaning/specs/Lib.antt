@@ -6,5 +6,11 @@ pub mod Statements
 pub mod Meaning
 pub mod Means
 pub mod Runs
+pub mod Laid
+pub mod Plain
+pub mod Follows
+pub mod Values
 pub mod Acts
+pub mod Lands
+pub mod Whole
 pub mod Worked

@@ -1,6 +1,6 @@
 use Rattle.cse_steps.proofs.Runs.{composed}
-use Rattle.cse_meaning.proofs.Simulation.{all_go}
+use Rattle.cse_meaning.proofs.Simulation.{each_goes}
 use Rattle.cse_meaning.proofs.laws.numbers_go.Goals as goal
 
 pub returns : goal.returns
-returns c = all_go composed
+returns c = each_goes composed

@@ -1,5 +1,5 @@
 use Rattle.cse_steps.proofs.Runs.{composed}
-use Rattle.cse_meaning.proofs.Simulation.{joined}
+use Rattle.cse_meaning.proofs.Going.{joined}
 use Rattle.cse_meaning.proofs.laws.runs_join.Goals as goal
 
 pub returns : goal.returns

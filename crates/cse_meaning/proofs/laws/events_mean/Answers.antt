@@ -1,0 +1,6 @@
+use Rattle.cse_steps.proofs.Runs.{composed}
+use Rattle.cse_meaning.proofs.Events.{all_mean}
+use Rattle.cse_meaning.proofs.laws.events_mean.Goals as goal
+
+pub returns : goal.returns
+returns c = all_mean composed

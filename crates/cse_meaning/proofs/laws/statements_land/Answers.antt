@@ -1,0 +1,6 @@
+use Rattle.cse_steps.proofs.Runs.{composed}
+use Rattle.cse_meaning.proofs.Landing.{all_land}
+use Rattle.cse_meaning.proofs.laws.statements_land.Goals as goal
+
+pub returns : goal.returns
+returns c = all_land composed

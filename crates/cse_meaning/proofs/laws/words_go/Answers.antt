@@ -1,0 +1,6 @@
+use Rattle.cse_steps.proofs.Runs.{composed}
+use Rattle.cse_meaning.proofs.Simulation.{all_words_go}
+use Rattle.cse_meaning.proofs.laws.words_go.Goals as goal
+
+pub returns : goal.returns
+returns c = all_words_go composed
