@@ -1,5 +1,5 @@
 -- Numbers on a stack, as the arguments of a call.
-use Rattle.std.proofs.Common.{◌≡◌, ℕ, ◌+◌, ◌<◌, Bool, true, false, List, [], ◌∷◌, ◌++◌, map, reverse, take, Option, Some, refl, sym, ap, ◌∙◌, subst}
+use Rattle.std.proofs.Common.{◌≡◌, ℕ, ◌+◌, ◌<◌, true, false, List, [], ◌∷◌, ◌++◌, map, take, Option, Some, refl, sym, ap, ◌∙◌}
 use Rattle.std.specs.Prelude.{slice_get, option_map, option_and_then, is_some}
 use Rattle.std.proofs.lemmas.List.{append-nil}
 use Rattle.cse_value.specs.declared.number.Num.{Num}
@@ -10,20 +10,19 @@ use Rattle.cse_parts.specs.declared.entries.LocalKind.{LocalKind}
 use Rattle.cse_parts.specs.declared.entries.LocalKind.TheVariants as locals
 use Rattle.cse_parts.specs.Image.{RoutineLists}
 use Rattle.cse_case.specs.Case.{CaseText}
-use Rattle.cse_typing.specs.declared.kind.Kind.{Kind}
 use Rattle.cse_typing.specs.declared.kind.Kind.TheVariants as kind
-use Rattle.cse_typing.specs.Kinds.{local_kind, kind_by}
+use Rattle.cse_typing.specs.Kinds.{kind_by}
 use Rattle.cse_typing.specs.Order.{is_run}
 use Rattle.cse_emit.specs.Wide.{with_c}
 use Rattle.cse_steps.specs.Cell.{Cell, Number}
-use Rattle.cse_steps.specs.State.{Call, World, State}
-use Rattle.cse_steps.specs.Operands.{taken_by, taken_by_kind, arguments_onto, arguments_taken}
+use Rattle.cse_steps.specs.State.{Call, World}
+use Rattle.cse_steps.specs.Operands.{taken_by_kind, arguments_onto, arguments_taken}
 use Rattle.cse_steps.specs.Step.{called, new_call}
 use Rattle.cse_steps.specs.Fits.{FitsWorld}
 use Rattle.cse_steps.specs.Laws.{RunsCompose}
 use Rattle.cse_meaning.specs.Setting.{Functions}
 use Rattle.cse_meaning.specs.Runs.{Goes, Spot, at, IsThere, HasCode}
-use Rattle.cse_meaning.specs.Follows.{Follows, AreNumbers, called_above, back_in}
+use Rattle.cse_meaning.specs.Follows.{Follows, AreNumbers, called_above}
 use Rattle.cse_meaning.proofs.Reversed.{onto, in_reverse}
 use Rattle.cse_meaning.proofs.Going.{plain_at, then_goes}
 

@@ -1,7 +1,7 @@
 -- Indexes on a stack: the cell of an array that they lead to is that of the meaning, and they are dropped one after the other.
-use Rattle.std.proofs.Common.{◌≡◌, ℕ, zero, suc, ◌+◌, ◌*◌, ◌-◌, ◌<◌, ◌≤◌, Bool, true, List, [], ◌∷◌, ◌++◌, length, map, reverse, Option, Some, None, refl, sym, ap, ◌∙◌, subst, arith}
+use Rattle.std.proofs.Common.{◌≡◌, ℕ, zero, suc, ◌+◌, ◌*◌, ◌-◌, ◌<◌, ◌≤◌, true, List, [], ◌∷◌, ◌++◌, length, Option, Some, None, refl, sym, ap, ◌∙◌, subst, arith}
 use Rattle.std.specs.Option.{option_map_or}
-use Rattle.std.specs.Prelude.{slice_get, slice_index, option_map, option_and_then, unwrap_or, nat_lt, if◌then◌else◌, ◌&&◌, ◌==◌, replicate}
+use Rattle.std.specs.Prelude.{slice_get, slice_index, option_map, option_and_then, unwrap_or, nat_lt, if◌then◌else◌}
 use Rattle.std.proofs.lemmas.Bool.{and_from, and_parts, eq-eqb, leb-true, lt-ltb}
 use Rattle.std.proofs.lemmas.Nat.{mul-add-lt}
 use Rattle.std.proofs.lemmas.Option.{slice_get-map, get_or_from_slice_get}
@@ -12,7 +12,7 @@ use Rattle.cse_parts.specs.Fields.{product}
 use Rattle.cse_parts.specs.Image.{ArrayLists}
 use Rattle.cse_case.specs.Case.{CaseText}
 use Rattle.cse_decks.specs.Store.{cells_of, cell_count, with_cell}
-use Rattle.cse_emit.specs.Wide.{Wide, with_a, with_c, pops}
+use Rattle.cse_emit.specs.Wide.{with_a, with_c, pops}
 use Rattle.cse_emit.specs.Setting.{Setting, size_at}
 use Rattle.cse_emit.specs.Numbers.{count, behind}
 use Rattle.cse_typed.specs.Typed.{Numbers, no_number, number_and}
@@ -29,7 +29,7 @@ use Rattle.cse_meaning.specs.Setting.{Context, Locals, Valued}
 use Rattle.cse_meaning.specs.Reading as reading
 use Rattle.cse_meaning.specs.Reading.{sizes_of, cell_in}
 use Rattle.cse_meaning.specs.Writing.{cell_set}
-use Rattle.cse_meaning.specs.Runs.{Goes, Spot, at, IsThere, StandAt, HasCode}
+use Rattle.cse_meaning.specs.Runs.{Goes, Spot, at, HasCode}
 use Rattle.cse_meaning.specs.Laid.{IsLaid}
 use Rattle.cse_meaning.proofs.Reversed.{onto, in_reverse}
 use Rattle.cse_meaning.proofs.Going.{left, stays, plain_at, named, then_goes}

@@ -14,7 +14,7 @@ use Rattle.cse_parts.specs.declared.entries.LocalKind.{LocalKind}
 use Rattle.cse_parts.specs.declared.entries.LocalKind.TheVariants as locals
 use Rattle.cse_typing.specs.Kinds.{global_kind, local_kind, kind_by}
 use Rattle.cse_typing.specs.declared.kind.Kind.TheVariants as kind
-use Rattle.cse_typing.specs.Signature.{global_at, local_at}
+use Rattle.cse_typing.specs.Signature.{local_at}
 use Rattle.cse_typed.specs.declared.tree.Variable.{Variable}
 use Rattle.cse_typed.specs.declared.tree.Variable.TheVariants as v
 use Rattle.cse_emit.specs.Setting.{Setting, result_local}

@@ -1,6 +1,6 @@
 -- The code of the picks of a hot deck does what they mean.
-use Rattle.std.proofs.Common.{◌≡◌, ℕ, zero, suc, ◌+◌, ◌<◌, ◌≤◌, Bool, true, false, List, [], ◌∷◌, ◌++◌, length, Option, Some, None, refl, sym, ap, ◌∙◌, subst, arith}
-use Rattle.std.specs.Prelude.{option_and_then, option_map, if◌then◌else◌, ◌||◌, not, nat_lt}
+use Rattle.std.proofs.Common.{◌≡◌, ℕ, ◌+◌, ◌<◌, Bool, true, false, List, [], ◌∷◌, length, Option, Some, None, refl, sym, ap, ◌∙◌, subst, arith}
+use Rattle.std.specs.Prelude.{option_and_then, option_map, if◌then◌else◌, ◌||◌, not}
 use Rattle.std.proofs.lemmas.Bool.{and_from, le-leb, lt-ltb}
 use Rattle.cse_value.specs.declared.number.Num.{Num}
 use Rattle.cse_parts.specs.declared.instruction.Op.TheVariants as ops
@@ -12,10 +12,10 @@ use Rattle.cse_typed.specs.declared.tree.Pick.{Pick}
 use Rattle.cse_emit.specs.Wide as wide
 use Rattle.cse_emit.specs.Wide.{Wide, pops}
 use Rattle.cse_emit.specs.Setting.{Setting}
-use Rattle.cse_emit.specs.Numbers.{present_size, number_of_item, can_fail, deepest, row as row_code, picks_size, picks_code}
+use Rattle.cse_emit.specs.Numbers.{present_size, number_of_item, can_fail, deepest, picks_size, picks_code}
 use Rattle.cse_emitted.specs.Fit.{row_count, ArePicks}
 use Rattle.cse_emitted.proofs.Lengths.{item_length, pops_length}
-use Rattle.cse_steps.specs.Cell.{Cell, Number, Index}
+use Rattle.cse_steps.specs.Cell.{Cell, Number}
 use Rattle.cse_steps.specs.State.{Call, World}
 use Rattle.cse_steps.specs.Operands.{is_within, row_within}
 use Rattle.cse_steps.specs.Step.{acts, rowed}
@@ -26,7 +26,7 @@ use Rattle.cse_meaning.specs.Reading as reading
 use Rattle.cse_meaning.specs.Reading.{number_here, first_size, other_sizes, picked, picks}
 use Rattle.cse_meaning.specs.Runs.{Goes, Spot, at, HasCode}
 use Rattle.cse_meaning.specs.Laid.{IsLaid, KeepsRows, place_in}
-use Rattle.cse_meaning.proofs.Arrays.{on_top, stacked, AreWithin, LedBy, pops_go, pops_behind, led_on}
+use Rattle.cse_meaning.proofs.Arrays.{on_top, LedBy, pops_go, pops_behind, led_on}
 use Rattle.cse_meaning.proofs.Going.{left, stand_front, stand_back, stays, plain_at, named, then_goes}
 use Rattle.cse_meaning.proofs.Present.{number_present_goes}
 

@@ -1,15 +1,10 @@
 -- Events of a program leave what its logic means.
-use Rattle.std.proofs.Common.{◌≡◌, ℕ, zero, suc, ◌+◌, ◌-◌, ◌<◌, ◌≤◌, Bool, true, false, List, [], ◌∷◌, ◌++◌, length, map, take, drop, Option, Some, None, refl, sym, ap, ◌∙◌, subst, inl, inr, arith}
-use Rattle.std.specs.Prelude.{slice_get, is_some, option_map, option_and_then}
+use Rattle.std.proofs.Common.{◌≡◌, ℕ, suc, ◌+◌, ◌-◌, ◌<◌, ◌≤◌, Bool, true, false, List, [], ◌∷◌, length, Option, Some, None, refl, sym, ap, ◌∙◌, subst, inl, inr, arith}
+use Rattle.std.specs.Prelude.{slice_get, option_and_then}
 use Rattle.std.specs.Option.{option_map_or}
-use Rattle.std.specs.List.{list_any}
-use Rattle.std.proofs.lemmas.Option.{same_Some}
 use Rattle.std.proofs.lemmas.Bool.{and_from, le-leb, false≢true, cases_lt}
-use Rattle.cse_value.specs.declared.number.Num.{Num}
 use Rattle.cse_value.specs.declared.shape.ItemShape.{ItemShape}
 use Rattle.cse_parts.specs.declared.entries.Event.{Event}
-use Rattle.cse_parts.specs.declared.entries.EventCode.{EventCode}
-use Rattle.cse_parts.specs.declared.entries.EventCode.TheVariants as codes
 use Rattle.cse_parts.specs.declared.entries.Gift.TheVariants as gifts
 use Rattle.cse_parts.specs.Image.{Image, RoutineLists}
 use Rattle.cse_case.specs.Case.{CaseText}
@@ -27,7 +22,7 @@ use Rattle.cse_typed.specs.declared.tree.Owner.TheVariants as owners
 use Rattle.cse_typed.specs.declared.tree.Field.{Field}
 use Rattle.cse_typed.specs.Typed.{Statements, Tree}
 use Rattle.cse_tables.specs.declared.outlines.Sort.TheVariants as sorts
-use Rattle.cse_tables.specs.Outline.{Outline, Handler, event_of, routine_of as routine_for, locals_of, parameters_of, ambient_of}
+use Rattle.cse_tables.specs.Outline.{Outline, event_of, routine_of as routine_for}
 use Rattle.cse_tables.specs.Tables.{functions_in}
 use Rattle.cse_emit.specs.Setting.{Setting}
 use Rattle.cse_emit.specs.Routines.{no_loop, routine_code}
@@ -36,21 +31,22 @@ use Rattle.cse_emitted.proofs.Blocks.{block_length}
 use Rattle.cse_steps.specs.Cell.{Cell, Occurrence}
 use Rattle.cse_steps.specs.State.{Call, World, State}
 use Rattle.cse_steps.specs.Operands.{is_within}
-use Rattle.cse_steps.specs.Step.{step_of, new_call, first_local}
+use Rattle.cse_steps.specs.Step.{step_of, new_call}
 use Rattle.cse_steps.specs.Run.{run, first, first_calls, event_arguments}
 use Rattle.cse_steps.specs.Fits.{FitsWorld, FitsFirst, IsThere, is_of_run, occurrences_in}
 use Rattle.cse_steps.specs.Laws.{RunsCompose, EventsEnd}
-use Rattle.cse_meaning.specs.Setting.{Context, Locals, Functions}
+use Rattle.cse_meaning.specs.Setting.{Context, Functions}
 use Rattle.cse_meaning.specs.Statements.{Flow, Fell, Broke, Skipped, Left, all_do}
-use Rattle.cse_meaning.specs.Meaning.{world_of, begun, declarations, context, functions, functions_below, meaning, done_by, handler}
+use Rattle.cse_meaning.specs.Meaning.{world_of, begun, declarations, context, functions, meaning, done_by}
 use Rattle.cse_meaning.specs.Means.{begins, RunsTo}
 use Rattle.cse_meaning.specs.Runs.{Goes, Spot, at, HasCode}
 use Rattle.cse_meaning.specs.Laid.{IsLaid}
 use Rattle.cse_meaning.specs.Follows.{Follows}
 use Rattle.cse_meaning.specs.Lands.{Around, Lands}
-use Rattle.cse_meaning.specs.Whole.{setting_of, IsRoutineOf, HasFunctions, IsHandled, EventsMean}
+use Rattle.cse_meaning.specs.Whole.{setting_of, HasFunctions, IsHandled, EventsMean}
 use Rattle.cse_meaning.proofs.Going.{joined, stand_front, stand_back}
-use Rattle.cse_meaning.proofs.Landing.{block_lands, exits}
+use Rattle.cse_meaning.proofs.Landing.{exits}
+use Rattle.cse_meaning.proofs.Statements.{block_lands}
 use Rattle.cse_meaning.proofs.Functions.{follow}
 
 -- ---- a run that has ended has one end

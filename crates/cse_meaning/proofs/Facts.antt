@@ -1,6 +1,6 @@
 -- What a call and a world that fit hold of what names stand for.
-use Rattle.std.proofs.Common.{◌≡◌, ℕ, ◌<◌, Bool, true, false, List, length, Option, Some, None, refl, sym, ap, ◌∙◌, subst}
-use Rattle.std.specs.Prelude.{slice_get, option_map, option_and_then, is_some, unwrap_or, map, if◌then◌else◌}
+use Rattle.std.proofs.Common.{◌≡◌, ℕ, ◌<◌, true, false, List, length, Option, Some, None, refl, sym, ap, ◌∙◌}
+use Rattle.std.specs.Prelude.{slice_get, option_map, is_some, unwrap_or, map}
 use Rattle.std.specs.Option.{option_map_or}
 use Rattle.std.proofs.lemmas.Option.{slice_get-map}
 use Rattle.cse_value.specs.declared.number.Num.{Num}
@@ -15,10 +15,7 @@ use Rattle.cse_typing.specs.Kinds.{global_kind}
 use Rattle.cse_typing.specs.Order.{is_run}
 use Rattle.cse_typing.specs.Signature.{global_at}
 use Rattle.cse_verify.specs.Verified.{VerifiedProgram}
-use Rattle.cse_typed.specs.declared.tree.Variable.{Variable}
-use Rattle.cse_typed.specs.declared.tree.Variable.TheVariants as v
-use Rattle.cse_emit.specs.Setting.{Setting, result_local}
-use Rattle.cse_emitted.specs.Fit.{IsNumberVariable}
+use Rattle.cse_emit.specs.Setting.{Setting}
 use Rattle.cse_steps.specs.Cell.{Number}
 use Rattle.cse_steps.specs.State.{World}
 use Rattle.cse_steps.specs.Fits.{FitsWorld, occurrences_in}
@@ -27,8 +24,7 @@ use Rattle.cse_steps.proofs.Lists.{is_there}
 use Rattle.cse_meaning.specs.Setting.{Context, Locals}
 use Rattle.cse_meaning.specs.Reading.{many}
 use Rattle.cse_meaning.specs.Runs.{Spot}
-use Rattle.cse_meaning.specs.Laid.{IsLaid, place_in}
-use Rattle.cse_meaning.specs.Plain.{IsOwn}
+use Rattle.cse_meaning.specs.Laid.{IsLaid}
 
 -- ---- globals
 

@@ -1,9 +1,7 @@
 -- Functions do what they mean, one after the other.
-use Rattle.std.proofs.Common.{◌≡◌, ℕ, zero, suc, ◌+◌, ◌<◌, ◌≤◌, Bool, true, false, List, [], ◌∷◌, ◌++◌, length, map, take, drop, Option, Some, refl, sym, ap, ◌∙◌, subst, arith, length-append}
-use Rattle.std.specs.Prelude.{pos, ◌==◌, if◌then◌else◌, slice_get, slice_set, replicate, is_some, option_map}
-use Rattle.std.specs.List.{list_any}
+use Rattle.std.proofs.Common.{◌≡◌, ℕ, zero, suc, ◌+◌, ◌<◌, ◌≤◌, Bool, true, false, List, [], ◌∷◌, ◌++◌, length, map, take, drop, Option, Some, refl, sym, ap, ◌∙◌, subst, arith}
+use Rattle.std.specs.Prelude.{pos, ◌==◌, if◌then◌else◌, slice_get, slice_set, is_some, option_map}
 use Rattle.std.proofs.lemmas.Option.{same_Some, slice_get_within}
-use Rattle.std.proofs.lemmas.List.{length-take, length-replicate, length-map}
 use Rattle.std.proofs.lemmas.Bool.{eqb-true, eq-eqb, false≢true}
 use Rattle.cse_value.specs.declared.number.Num.{Num}
 use Rattle.cse_value.specs.declared.number.Num.TheVariants.{Whole, Undef}
@@ -12,31 +10,28 @@ use Rattle.cse_parts.specs.declared.entries.Local.{Local}
 use Rattle.cse_parts.specs.declared.instruction.Op.TheVariants as ops
 use Rattle.cse_parts.specs.Image.{RoutineLists}
 use Rattle.cse_case.specs.Case.{CaseText}
-use Rattle.cse_dict.specs.Dictionary.{shape_of}
 use Rattle.cse_typing.specs.Code.{code_of}
 use Rattle.cse_typing.specs.declared.kind.Kind.{Kind}
 use Rattle.cse_typing.specs.declared.kind.Kind.TheVariants as kind
 use Rattle.cse_typing.specs.Kinds.{local_kind}
 use Rattle.cse_typing.specs.Order.{is_run}
-use Rattle.cse_typing.specs.Signature.{local_at}
 use Rattle.cse_verify.specs.Verified.{VerifiedProgram}
 use Rattle.cse_typed.specs.declared.tree.Variable.TheVariants as v
 use Rattle.cse_typed.specs.Typed.{Function}
 use Rattle.cse_tables.specs.Outline.{outline_of, routine_of, numbers, number_local}
-use Rattle.cse_emit.specs.Wide.{Wide}
 use Rattle.cse_emit.specs.Setting.{Setting}
 use Rattle.cse_emit.specs.Routines.{no_loop, routine_code}
 use Rattle.cse_emit.specs.Statements.{block_size, block_code, exit_code}
 use Rattle.cse_emitted.proofs.Blocks.{block_length}
 use Rattle.cse_steps.specs.Cell.{Cell, Number}
-use Rattle.cse_steps.specs.State.{Open, Call, World}
+use Rattle.cse_steps.specs.State.{Call, World}
 use Rattle.cse_steps.specs.Step.{acts, first_local}
 use Rattle.cse_steps.specs.Fits.{FitsWorld}
 use Rattle.cse_steps.specs.Laws.{RunsCompose}
 use Rattle.cse_steps.proofs.Lists.{is_there}
-use Rattle.cse_meaning.specs.Setting.{Context, Locals, Functions}
+use Rattle.cse_meaning.specs.Setting.{Context, Functions}
 use Rattle.cse_meaning.specs.Statements.{Flow, Fell, Broke, Skipped, Left, all_do}
-use Rattle.cse_meaning.specs.Meaning.{locals_of, world_of, begun, given, function_of, functions_below}
+use Rattle.cse_meaning.specs.Meaning.{begun, given, function_of, functions_below}
 use Rattle.cse_meaning.specs.Runs.{Goes, Spot, at, HasCode}
 use Rattle.cse_meaning.specs.Laid.{IsLaid}
 use Rattle.cse_meaning.specs.Follows.{Follows, AreNumbers, called_above, back_in}
@@ -45,7 +40,8 @@ use Rattle.cse_meaning.specs.Whole.{setting_of, IsRoutineOf, IsOf, AreRoutines, 
 use Rattle.cse_meaning.proofs.Going.{joined, stand_front, stand_back, plain_at}
 use Rattle.cse_meaning.proofs.Held.{beneath, there}
 use Rattle.cse_meaning.proofs.Assigned.{set_goes}
-use Rattle.cse_meaning.proofs.Landing.{block_lands, exits}
+use Rattle.cse_meaning.proofs.Landing.{exits}
+use Rattle.cse_meaning.proofs.Statements.{block_lands}
 
 -- ---- the locals of a function: its parameters, and its result behind them
 

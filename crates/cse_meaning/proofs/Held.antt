@@ -1,11 +1,10 @@
 -- A call holds another value of a variable, and a world another value of a global.
-use Rattle.std.proofs.Common.{◌≡◌, ℕ, zero, suc, ◌<◌, ◌≤◌, Bool, true, List, [], ◌∷◌, length, Option, Some, refl, sym, ap, ◌∙◌, subst, arith}
+use Rattle.std.proofs.Common.{◌≡◌, ℕ, zero, suc, ◌<◌, List, [], ◌∷◌, length, Option, Some, refl, sym, ap, ◌∙◌, arith}
 use Rattle.std.specs.Prelude.{slice_get, slice_set}
 use Rattle.std.proofs.lemmas.Option.{same_Some, slice_get_within}
 use Rattle.std.proofs.lemmas.List.{length-set}
 use Rattle.cse_value.specs.declared.number.Num.{Num}
 use Rattle.cse_case.specs.Case.{CaseText}
-use Rattle.cse_decks.specs.declared.global.GlobalValue.{GlobalValue}
 use Rattle.cse_decks.specs.declared.global.GlobalValue.TheVariants as values
 use Rattle.cse_decks.specs.Store.{variable_of, with_global}
 use Rattle.cse_parts.specs.Image.{RoutineLists}

@@ -1,6 +1,6 @@
 -- The code of what is read of a case does what it means.
-use Rattle.std.proofs.Common.{◌≡◌, ℕ, ◌+◌, Bool, true, false, List, [], ◌∷◌, length, Option, Some, None, refl, sym, ap, ◌∙◌, subst, arith}
-use Rattle.std.specs.Prelude.{pos, ℤ, option_and_then, option_map, if◌then◌else◌, ◌&&◌, ◌==◌}
+use Rattle.std.proofs.Common.{◌≡◌, ℕ, ◌+◌, true, List, [], ◌∷◌, length, Option, Some, None, refl, sym, ap, ◌∙◌, subst, arith}
+use Rattle.std.specs.Prelude.{pos, option_and_then, option_map, if◌then◌else◌, ◌&&◌, ◌==◌}
 use Rattle.std.specs.Option.{option_map_or}
 use Rattle.std.proofs.lemmas.Bool.{and_from, eq-eqb, le-leb}
 use Rattle.cse_value.specs.declared.number.Num.{Num}
@@ -12,14 +12,14 @@ use Rattle.cse_case.specs.Case.{CaseText, places_of, place_of, number_at, text_a
 use Rattle.cse_typing.specs.Signature.{id_number, id_text, number_item, text_item, is_record}
 use Rattle.cse_typed.specs.declared.tree.Found.{Found}
 use Rattle.cse_typed.specs.declared.tree.Found.TheVariants as h
-use Rattle.cse_emit.specs.Wide.{Wide, with_a, with_c, jump, occurrence}
+use Rattle.cse_emit.specs.Wide.{Wide, with_a, with_c}
 use Rattle.cse_emit.specs.Setting.{Setting}
 use Rattle.cse_emit.specs.Numbers.{guarded, here_size, here_code}
 use Rattle.cse_emitted.specs.Fit.{IsFound}
 use Rattle.cse_steps.specs.Cell.{Cell, Number, Words, Occurrence}
 use Rattle.cse_steps.specs.State.{Call, World}
 use Rattle.cse_steps.specs.Operands.{is_within, whole_within}
-use Rattle.cse_steps.specs.Step.{acts, on, or_to, read, with_case, current}
+use Rattle.cse_steps.specs.Step.{acts, on, or_to, read, current}
 use Rattle.cse_steps.specs.Operands.{with_occurrence}
 use Rattle.cse_steps.specs.Fits.{FitsWorld}
 use Rattle.cse_steps.specs.Laws.{RunsCompose}

@@ -11,7 +11,10 @@ pub mod Messages
 pub mod Puts
 pub mod Held
 pub mod Assigned
+pub mod Turns
 pub mod Landing
+pub mod Loops
+pub mod Statements
 pub mod Functions
 pub mod Events
 pub mod Once

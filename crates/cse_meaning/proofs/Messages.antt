@@ -1,8 +1,7 @@
 -- The arguments of a message on a stack.
-use Rattle.std.proofs.Common.{◌≡◌, ℕ, ◌+◌, List, [], ◌∷◌, ◌++◌, length, map, reverse, Option, Some, refl, sym, ap, ◌∙◌, subst, arith}
-use Rattle.std.specs.Prelude.{slice_get, option_and_then, option_map}
+use Rattle.std.proofs.Common.{◌≡◌, ℕ, ◌+◌, List, [], ◌∷◌, ◌++◌, length, map, reverse, Option, Some, refl, sym, ap, ◌∙◌, arith}
+use Rattle.std.specs.Prelude.{slice_get, option_and_then}
 use Rattle.std.proofs.lemmas.List.{append-nil}
-use Rattle.cse_value.specs.declared.number.Num.{Num}
 use Rattle.cse_parts.specs.declared.instruction.Op.TheVariants as ops
 use Rattle.cse_parts.specs.declared.placeholders.ArgumentKind.{ArgumentKind}
 use Rattle.cse_parts.specs.declared.placeholders.ArgumentKind.TheVariants as arguments
@@ -24,13 +23,13 @@ use Rattle.cse_emitted.specs.Fit.{kind_of, ArgumentFits, ArgumentsFit}
 use Rattle.cse_emitted.proofs.Blocks.{argument_length}
 use Rattle.cse_steps.specs.Cell.{Cell, Number, Words}
 use Rattle.cse_steps.specs.State.{Call, World, with_given}
-use Rattle.cse_steps.specs.Operands.{args_onto, with_number, with_text}
+use Rattle.cse_steps.specs.Operands.{args_onto}
 use Rattle.cse_steps.specs.Step.{acts, on}
 use Rattle.cse_steps.specs.Fits.{FitsWorld}
 use Rattle.cse_steps.specs.Laws.{RunsCompose}
 use Rattle.cse_meaning.specs.Setting.{Context, Locals, Functions}
 use Rattle.cse_meaning.specs.Statements.{argument_of, arguments_of}
-use Rattle.cse_meaning.specs.Runs.{Goes, Spot, at, IsThere, HasCode}
+use Rattle.cse_meaning.specs.Runs.{Goes, Spot, at, HasCode}
 use Rattle.cse_meaning.specs.Laid.{IsLaid, KeepsRows, Gives, place_in}
 use Rattle.cse_meaning.specs.Follows.{Follows}
 use Rattle.cse_meaning.specs.Plain.{IsPlainArgument, ArePlainArguments}

@@ -1,13 +1,13 @@
 -- The code of items, of records and of value sets does what it means.
-use Rattle.std.proofs.Common.{◌≡◌, ℕ, ◌+◌, List, [], ◌∷◌, length, Option, Some, None, refl, sym, ap, ◌∙◌, subst}
-use Rattle.std.specs.Prelude.{pos, option_and_then, option_map, is_some}
+use Rattle.std.proofs.Common.{◌≡◌, ℕ, ◌+◌, List, [], ◌∷◌, Option, Some, refl, sym, ap, ◌∙◌, subst}
+use Rattle.std.specs.Prelude.{pos, option_and_then, is_some}
 use Rattle.std.specs.Option.{option_map_or}
 use Rattle.std.specs.Str.{chars}
 use Rattle.cse_value.specs.declared.number.Num.{Num}
 use Rattle.cse_value.specs.declared.number.Num.TheVariants.{Whole, Undef}
 use Rattle.cse_parts.specs.declared.instruction.Op.TheVariants as ops
 use Rattle.cse_dict.specs.Dictionary.{DictionaryText, shape_of, row_in, spans_at}
-use Rattle.cse_case.specs.Case.{CaseText, places_of, place_of, number_at, text_at}
+use Rattle.cse_case.specs.Case.{CaseText, place_of, number_at, text_at}
 use Rattle.cse_typing.specs.Signature.{number_item, text_item, rows_of}
 use Rattle.cse_typed.specs.declared.tree.Field.{Field}
 use Rattle.cse_typed.specs.declared.tree.Found.{Found}
@@ -21,7 +21,7 @@ use Rattle.cse_emitted.specs.Fit.{IsEntry, IsRecord, IsFound, IsNumberField, IsT
 use Rattle.cse_steps.specs.Cell.{Cell, Number, Words, Occurrence}
 use Rattle.cse_steps.specs.State.{Call, World}
 use Rattle.cse_steps.specs.Operands.{flag}
-use Rattle.cse_steps.specs.Step.{acts, on, one}
+use Rattle.cse_steps.specs.Step.{acts, one}
 use Rattle.cse_steps.specs.Fits.{FitsWorld}
 use Rattle.cse_steps.specs.Laws.{RunsCompose}
 use Rattle.cse_meaning.specs.Setting.{Context, Locals}

@@ -1,12 +1,11 @@
 -- The code of what is put into an item of an occurrence does what it means.
-use Rattle.std.proofs.Common.{◌≡◌, ℕ, ◌+◌, ◌≤◌, Bool, true, false, List, [], ◌∷◌, ◌++◌, length, Option, Some, None, refl, sym, ap, ◌∙◌, subst, arith}
-use Rattle.std.specs.Prelude.{pos, option_and_then, option_map, if◌then◌else◌, ◌&&◌, ◌==◌}
+use Rattle.std.proofs.Common.{◌≡◌, ℕ, ◌+◌, ◌≤◌, true, List, [], ◌∷◌, length, Option, Some, None, refl, sym, ap, ◌∙◌, subst, arith}
+use Rattle.std.specs.Prelude.{pos, option_and_then, option_map, if◌then◌else◌}
 use Rattle.std.specs.Option.{option_map_or}
 use Rattle.std.proofs.lemmas.Bool.{and_parts, leb-true}
 use Rattle.cse_value.specs.declared.number.Num.{Num}
 use Rattle.cse_value.specs.declared.number.Num.TheVariants.{Whole}
 use Rattle.cse_value.specs.declared.shape.ItemShape.{ItemShape}
-use Rattle.cse_parts.specs.declared.instruction.Op.{Op}
 use Rattle.cse_parts.specs.declared.instruction.Op.TheVariants as ops
 use Rattle.cse_dict.specs.Dictionary.{shape_of}
 use Rattle.cse_dict.specs.Sound.{IsSound}
@@ -15,15 +14,13 @@ use Rattle.cse_typing.specs.Code.{code_of}
 use Rattle.cse_verify.specs.Verified.{VerifiedProgram}
 use Rattle.cse_typing.specs.Signature.{number_item, text_item}
 use Rattle.cse_typed.specs.declared.tree.Field.{Field}
-use Rattle.cse_typed.specs.declared.tree.Found.{Found}
 use Rattle.cse_typed.specs.declared.tree.Found.TheVariants as h
 use Rattle.cse_typed.specs.Typed.{Which, Here, At}
-use Rattle.cse_emit.specs.Wide as wide
-use Rattle.cse_emit.specs.Wide.{Wide, with_a, with_c, occurrence}
+use Rattle.cse_emit.specs.Wide.{with_c, occurrence}
 use Rattle.cse_emit.specs.Setting.{Setting}
 use Rattle.cse_emit.specs.Numbers.{number_size, number_code}
 use Rattle.cse_emit.specs.Statements.{which_size, which_code}
-use Rattle.cse_emitted.specs.Fit.{IsEntry, IsFound, IsRecord, WhichFits}
+use Rattle.cse_emitted.specs.Fit.{IsEntry, IsRecord, WhichFits}
 use Rattle.cse_emitted.proofs.Lengths.{number_length}
 use Rattle.cse_steps.specs.Cell.{Cell, Number, Words, Occurrence}
 use Rattle.cse_steps.specs.State.{Call, World, in_case, with_imputed}
@@ -33,16 +30,16 @@ use Rattle.cse_steps.specs.Fits.{FitsWorld}
 use Rattle.cse_steps.specs.Laws.{RunsCompose}
 use Rattle.cse_steps.proofs.CaseFacts.{number_written, text_written}
 use Rattle.cse_meaning.specs.Setting.{Context, Locals, Functions, Valued, turn_of}
-use Rattle.cse_meaning.specs.Reading.{many, one_of, number_of_one, found}
+use Rattle.cse_meaning.specs.Reading.{many, one_of, number_of_one}
 use Rattle.cse_meaning.specs.Writing.{item_set, text_item_set, imputed}
-use Rattle.cse_meaning.specs.Expressions.{number_of, words_of}
+use Rattle.cse_meaning.specs.Expressions.{number_of}
 use Rattle.cse_meaning.specs.Statements.{which_of}
 use Rattle.cse_meaning.specs.Runs.{Goes, Spot, at, IsThere, HasCode}
-use Rattle.cse_meaning.specs.Laid.{IsLaid, KeepsRows, Gives, place_in}
+use Rattle.cse_meaning.specs.Laid.{IsLaid, KeepsRows, place_in}
 use Rattle.cse_meaning.specs.Follows.{Follows}
-use Rattle.cse_meaning.specs.Plain.{IsPlain, IsPlainPlace}
+use Rattle.cse_meaning.specs.Plain.{IsPlainPlace}
 use Rattle.cse_meaning.proofs.Facts.{many_of, as_first, case_here}
-use Rattle.cse_meaning.proofs.Going.{left, stand_front, stand_back, stays, plain_at, named, then_goes, constant_goes, local_goes}
+use Rattle.cse_meaning.proofs.Going.{left, stand_front, stand_back, plain_at, then_goes, constant_goes, local_goes}
 use Rattle.cse_meaning.proofs.Items.{same_within, is_within_from, within_both, current_goes}
 use Rattle.cse_meaning.proofs.Simulation.{number_goes}
 

@@ -1,18 +1,15 @@
 -- The code of an expression does what the expression means.
-use Rattle.std.proofs.Common.{◌≡◌, ℕ, suc, ◌+◌, ◌<◌, ◌≤◌, Bool, true, false, List, [], ◌∷◌, ◌++◌, length, Option, Some, None, refl, sym, ap, ◌∙◌, subst, arith}
+use Rattle.std.proofs.Common.{◌≡◌, ℕ, suc, ◌+◌, Bool, true, false, List, [], ◌∷◌, ◌++◌, length, Option, Some, None, refl, sym, ap, ◌∙◌, subst, arith}
 use Rattle.std.specs.Prelude.{if◌then◌else◌, pos, slice_get, slice_index, option_and_then, option_map, unwrap_or, is_some, map, take}
-use Rattle.std.specs.Option.{option_map_or}
-use Rattle.std.specs.Str.{chars}
 use Rattle.std.proofs.lemmas.Bool.{false≢true}
 use Rattle.cse_value.specs.declared.number.Num.{Num}
 use Rattle.cse_value.specs.declared.number.Num.TheVariants.{Whole, Undef}
-use Rattle.cse_value.specs.declared.shape.ItemShape.{ItemShape}
 use Rattle.cse_value.specs.Occurrences.{most_occurrences}
 use Rattle.cse_parts.specs.declared.instruction.Op.TheVariants as ops
 use Rattle.cse_parts.specs.declared.entries.Local.{Local}
-use Rattle.cse_parts.specs.Image.{ArrayLists, RoutineLists}
-use Rattle.cse_dict.specs.Dictionary.{DictionaryText, shape_of, row_in, spans_at}
-use Rattle.cse_case.specs.Case.{CaseText, places_of, place_of, number_at, text_at}
+use Rattle.cse_parts.specs.Image.{ArrayLists}
+use Rattle.cse_dict.specs.Dictionary.{DictionaryText, shape_of}
+use Rattle.cse_case.specs.Case.{CaseText}
 use Rattle.cse_decks.specs.declared.global.GlobalValue.{GlobalValue}
 use Rattle.cse_decks.specs.declared.global.GlobalValue.TheVariants as values
 use Rattle.cse_decks.specs.Store.{number_in, text_in}
@@ -21,45 +18,40 @@ use Rattle.cse_typing.specs.declared.kind.Kind.{Kind}
 use Rattle.cse_typing.specs.declared.kind.Kind.TheVariants as kind
 use Rattle.cse_typing.specs.Kinds.{local_kind}
 use Rattle.cse_typing.specs.Order.{is_run}
-use Rattle.cse_typing.specs.Signature.{global_at, id_number, id_text, number_item, text_item, rows_of}
+use Rattle.cse_typing.specs.Signature.{global_at}
 use Rattle.cse_typed.specs.declared.tree.Variable.{Variable}
 use Rattle.cse_typed.specs.declared.tree.Variable.TheVariants as v
-use Rattle.cse_typed.specs.declared.tree.Field.{Field}
-use Rattle.cse_typed.specs.declared.tree.Found.{Found}
 use Rattle.cse_typed.specs.declared.tree.Pick.{Pick}
-use Rattle.cse_typed.specs.declared.tree.Present.{Present}
-use Rattle.cse_typed.specs.declared.tree.Present.TheVariants as present
 use Rattle.cse_typed.specs.Typed as tree
 use Rattle.cse_typed.specs.Typed.{Numbers, Operations, no_number, number_and, no_operation, operation_and}
 use Rattle.cse_emit.specs.Wide as wide
 use Rattle.cse_emit.specs.Wide.{Wide, bare, with_a, with_b, with_c, jump, undefined, pops}
 use Rattle.cse_emit.specs.Setting.{Setting, size_at, result_local}
-use Rattle.cse_emit.specs.Numbers.{can_fail, deepest, picks_size, picks_code, deck_size, deck_code, load, guarded, here_size, here_code, present_size, number_of_item, text_of_item, number_size, number_code, words_size, words_code, operations_size, operations_code, indexes_size, indexes_code, numbers_size, numbers_code, count, behind}
-use Rattle.cse_emitted.specs.Fit.{IsDeck, IsEntry, IsRecord, IsFound, IsNumberVariable, IsNumberField, IsTextField, IsNumberPresent, IsTextPresent, numbers_kinds, NumberFits, WordsFit, NumbersFit, OperationsFit}
+use Rattle.cse_emit.specs.Numbers.{can_fail, deepest, picks_size, picks_code, deck_size, deck_code, load, present_size, number_of_item, number_size, number_code, words_size, words_code, operations_size, operations_code, indexes_size, indexes_code, numbers_size, numbers_code, count, behind}
+use Rattle.cse_emitted.specs.Fit.{IsDeck, IsNumberVariable, numbers_kinds, NumberFits, WordsFit, NumbersFit, OperationsFit}
 use Rattle.cse_emitted.proofs.Lengths.{picks_length, item_length, pops_length, indexes_length, numbers_length, number_length, words_length}
-use Rattle.cse_steps.specs.Cell.{Cell, Number, Words, Index, Occurrence}
+use Rattle.cse_steps.specs.Cell.{Cell, Number, Words, Index}
 use Rattle.cse_steps.specs.State.{Call, World}
-use Rattle.cse_steps.specs.Operands.{flag}
-use Rattle.cse_steps.specs.Step.{acts, on, one, or_to}
+use Rattle.cse_steps.specs.Step.{acts, or_to}
 use Rattle.cse_steps.specs.Fits.{FitsWorld}
 use Rattle.cse_steps.specs.Laws.{RunsCompose}
 use Rattle.cse_steps.proofs.Calls.{case_for_callee}
 use Rattle.cse_meaning.specs.Setting.{Context, Locals, Functions}
 use Rattle.cse_meaning.specs.Reading as reading
 use Rattle.cse_meaning.specs.Reading.{deck_place, sizes_of, cell, one_if, operated, variable, many, found, number_of_one, number_in as number_there, words_in, number_here, words_here, row, text}
-use Rattle.cse_meaning.specs.Expressions.{number_of, words_of, numbers_of, indexes_of, index_and, chained, total, most}
+use Rattle.cse_meaning.specs.Expressions.{number_of, words_of, numbers_of, indexes_of, index_and, chained, most}
 use Rattle.cse_meaning.specs.Runs.{Goes, Spot, at, HasCode}
 use Rattle.cse_meaning.specs.Laid.{IsLaid, KeepsRows, Gives, place_in}
 use Rattle.cse_meaning.specs.Follows.{Follows, AreNumbers}
 use Rattle.cse_meaning.specs.Plain.{IsOwn, IsPlain, ArePlain, EachPlain, AllPlain}
 use Rattle.cse_meaning.specs.Values.{NumbersGo, WordsGo}
-use Rattle.cse_meaning.proofs.Facts.{global_number, global_text, many_of, case_here, parameter_held}
+use Rattle.cse_meaning.proofs.Facts.{global_number, global_text, parameter_held}
 use Rattle.cse_meaning.proofs.Going.{left, stand_front, stand_back, stays, plain_at, named, then_goes, constant_goes, chars_goes, special_goes, local_goes, global_goes, compared_goes, texts_compared_goes, operated_goes, special_tested}
 use Rattle.cse_meaning.proofs.Arguments.{pushed, call_goes}
-use Rattle.cse_meaning.proofs.Arrays.{on_top, AreWithin, LedBy, Led, sizes_are, cell_goes, pops_go, led_on, pops_behind, size_is, behind_is}
+use Rattle.cse_meaning.proofs.Arrays.{on_top, LedBy, Led, sizes_are, cell_goes, pops_go, led_on, pops_behind, size_is, behind_is}
 use Rattle.cse_meaning.proofs.Decks.{picks_go, picks_there}
 use Rattle.cse_meaning.proofs.Present.{undefined_goes, number_present_goes, words_present_goes, number_at_goes, words_at_goes, total_here, occurrence_here, in_set_goes}
-use Rattle.cse_meaning.proofs.Items.{Takes, same_within, is_within_from, map_out, id_number_goes, id_text_goes, total_goes, item_number_goes, item_text_goes, occurrence_number_goes, guarded_goes, here_goes}
+use Rattle.cse_meaning.proofs.Items.{same_within, is_within_from}
 
 -- a run leads from one place to the other, with numbers more on the stack
 pub record Pushed (s : Spot) (first : Option CaseText) (p q : ℕ) (cells : List Cell) (w : World) (xs : List Num) (next : World) : Type 0 where

@@ -1,5 +1,5 @@
 -- What the laws of statements say: of assignments to variables, and of conditions.
-use Rattle.std.specs.Prelude.{ℕ, ◌+◌, if◌then◌else◌, List, [], ◌∷◌, ◌++◌, length, Option, slice_set}
+use Rattle.std.specs.Prelude.{ℕ, ◌+◌, if◌then◌else◌, [], ◌∷◌, ◌++◌, length, Option, slice_set}
 use Rattle.cse_value.specs.declared.number.Num.{Num}
 use Rattle.cse_value.specs.Number.{is_condition}
 use Rattle.cse_case.specs.Case.{CaseText}

@@ -1,5 +1,5 @@
 -- What stands ready for code: its routine, its call and its world, as the meaning sees them.
-use Rattle.std.specs.Prelude.{◌≡◌, ◌<◌, ◌≤◌, ℕ, ◌==◌, Bool, true, false, List, ◌∷◌, length, map, Option, Some, slice_get, is_some}
+use Rattle.std.specs.Prelude.{◌≡◌, ◌<◌, ◌≤◌, ℕ, ◌==◌, true, false, List, ◌∷◌, length, map, Option, Some, slice_get, is_some}
 use Rattle.std.specs.List.{list_any}
 use Rattle.cse_value.specs.declared.number.Num.{Num}
 use Rattle.cse_parts.specs.Image.{ArrayLists}

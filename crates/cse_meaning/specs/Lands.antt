@@ -3,7 +3,7 @@ use Rattle.std.specs.Prelude.{◌≡◌, ℕ, ◌+◌, Bool, true, List, [], ◌
 use Rattle.cse_case.specs.Case.{CaseText}
 use Rattle.cse_dict.specs.Sound.{IsSound}
 use Rattle.cse_typing.specs.Code.{code_of}
-use Rattle.cse_typed.specs.Typed.{Statement, Statements}
+use Rattle.cse_typed.specs.Typed.{Statement}
 use Rattle.cse_emit.specs.Setting.{Setting}
 use Rattle.cse_emit.specs.declared.setting.Loop.{Loop}
 use Rattle.cse_emit.specs.Statements.{statement_size, statement_code}
@@ -65,5 +65,5 @@ abbrev pub StatementsLand : Type 0
 StatementsLand =
     (e : Setting) (s : Spot) (fn : Functions) (c : Context) (first : Option CaseText) (ls : Locals) (l : Loop) (a : Around) (room : ℕ) (inside : Bool) (x : Statement) (p : ℕ) (w : World)
     → IsLaid e s c first ls → IsSound s.program.dictionary → KeepsRows s.program.dictionary → IsExit (place_in e s c) e.result_at → Follows s.program first fn s.number → FitsWorld s.program first w → (inside ≡ true → IsInside s first l a)
-    → IsPlainStatement (length ls.parameters) x → StatementFits (place_in e s c) room inside x → HasCode s p (statement_code e l p x)
+    → IsPlainStatement e.records (length ls.parameters) x → StatementFits (place_in e s c) room inside x → HasCode s p (statement_code e l p x)
     → Lands e s c first (length ls.parameters) l a p (p + statement_size e x) w (does fn c x ls w)

@@ -38,13 +38,13 @@ abbrev pub setting_of : VerifiedProgram → List (List ℕ) → Outline → Sett
 setting_of v arrays o = record { records = (shape_of v.dictionary).records; arrays = arrays; result_at = result_at o.sort }
 
 -- Routine r of the program is that of an outline: its entry says so, its statements fit the tables, and its instructions stand for their
--- code. It has no `do`, and names its own parameters.
+-- code. It names its own parameters, and 64 bits hold the turns of each `do`.
 pub record IsRoutineOf (v : VerifiedProgram) (arrays : List (List ℕ)) (r : ℕ) (o : Outline) (parameters : ℕ) : Type 0 where
   pub instructions : ℕ
   pub there : slice_get v.image.lists.routines r ≡ Some (routine_for o.sort instructions)
   pub fits : BlockFits (spot_of (shape_of v.dictionary) v.image r (routine_for o.sort instructions) (setting_of v arrays o)) 64 false o.body
   pub stands : StandAt v.image.lists (code_of v.image r) 0 (routine_code (setting_of v arrays o) o.body)
-  pub plain : IsPlainBlock parameters o.body
+  pub plain : IsPlainBlock (shape_of v.dictionary).records parameters o.body
 
 -- the meaning is of this program, whose dictionary is sound
 pub record IsOf (v : VerifiedProgram) (c : Context) : Type 0 where

@@ -1,7 +1,7 @@
 -- Worked rows: small sources, and what their events leave.
 use Rattle.std.specs.Prelude.{◌≡◌, ℕ, ℤ, pos, negsuc, Bool, true, false, codes, List, [], ◌∷◌, ◌++◌, map, replicate, Option, Some, None, option_map}
 use Rattle.cse_value.specs.declared.number.Num.{Num}
-use Rattle.cse_value.specs.declared.number.Num.TheVariants.{Whole, NotAppl, Missing, Undef}
+use Rattle.cse_value.specs.declared.number.Num.TheVariants.{Whole, NotAppl, Undef}
 use Rattle.cse_value.specs.declared.shape.ItemKind.TheVariants as kinds
 use Rattle.cse_parts.specs.declared.entries.EventCode.TheVariants as events
 use Rattle.cse_dict.specs.declared.rows.Span.{Span}

@@ -1,5 +1,5 @@
 use Rattle.cse_steps.proofs.Runs.{composed}
-use Rattle.cse_meaning.proofs.Landing.{all_land}
+use Rattle.cse_meaning.proofs.Statements.{all_land}
 use Rattle.cse_meaning.proofs.laws.statements_land.Goals as goal
 
 pub returns : goal.returns
