@@ -1,0 +1,11 @@
+pub mod Routines
+pub mod Entries
+pub mod Rows
+pub mod Distinct
+pub mod Turns
+pub mod Own
+pub mod Sound
+pub mod Kept
+pub mod Loops
+pub mod Whole
+pub mod Built
