@@ -17,7 +17,7 @@ pub fn runs_join()
     ensures { RunsJoin }
 {}
 
-/// Law: where the code of an expression without hot decks stands, and the functions below do what they mean, a run leads
+/// Law: where the code of an expression of whatever kind stands, and the functions below do what they mean, a run leads
 /// behind it, with the value that the expression means on the stack, to the world that its meaning leaves, which fits.
 pub fn numbers_go()
     ensures { NumbersGo }
@@ -34,9 +34,9 @@ pub fn assignments_go()
     ensures { AssignmentsGo }
 {}
 
-/// Law: where the code of statements stands, without `do`, hot decks, cells that are set and messages, a run leads where they
-/// end by their meaning, and what follows may run there: behind their code, with `next` to the end of the turn, with `break`
-/// behind the loop, and with `exit` to the end of the call, with its gift.
+/// Law: where the code of a statement of whatever kind stands, a run leads where it ends by its meaning, and what follows may
+/// run there: behind its code, with `next` to the end of the turn, with `break` behind the loop, and with `exit` to the end of
+/// the call, with its gift.
 pub fn statements_land()
     ensures { StatementsLand }
 {}

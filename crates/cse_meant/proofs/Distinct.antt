@@ -82,19 +82,15 @@ module _ (d : DictionaryText) (text : List ℕ) (owner : Owner) where
   set_named None rest h = h
   set_named (Some k) rest h = λ e. absurd (none-some owner e)
 
+  in_record : (item of : ℕ) (is_id : Bool) → (if is_id then None else Some (owners.Item (record { owner = of; item = item }))) ≡ Some owner → name_of d owner ≡ get_or (item_names d) item []
+  in_record item of true e = absurd (none-some owner e)
+  in_record item of false e = ap (name_of d) (sym (same_Some (owners.Item (record { owner = of; item = item })) owner e))
+
   owned : (item : ℕ) (of : Option (ItemKind × ℕ)) → item_owner item of ≡ Some owner → name_of d owner ≡ get_or (item_names d) item []
   owned item None e = absurd (none-some owner e)
   owned item (Some (kinds.Opaque, of)) e = absurd (none-some owner e)
-  owned item (Some (kinds.Number, of)) e = by (of == 255) e
-    where
-      by : (b : Bool) → (if b then None else Some (owners.Item (record { owner = of; item = item }))) ≡ Some owner → name_of d owner ≡ get_or (item_names d) item []
-      by true e = absurd (none-some owner e)
-      by false e = ap (name_of d) (sym (same_Some (owners.Item (record { owner = of; item = item })) owner e))
-  owned item (Some (kinds.Text, of)) e = by (of == 255) e
-    where
-      by : (b : Bool) → (if b then None else Some (owners.Item (record { owner = of; item = item }))) ≡ Some owner → name_of d owner ≡ get_or (item_names d) item []
-      by true e = absurd (none-some owner e)
-      by false e = ap (name_of d) (sym (same_Some (owners.Item (record { owner = of; item = item })) owner e))
+  owned item (Some (kinds.Number, of)) e = in_record item of (of == 255) e
+  owned item (Some (kinds.Text, of)) e = in_record item of (of == 255) e
 
   item_named : (o : Option ℕ) (rest : Option Meaning) → number_named text (item_names d) ≡ o → Named rest → Named (first_of (option_map m.Item o) rest)
   item_named None rest is h = h

@@ -1,6 +1,7 @@
 -- The routines of a program have the code of the source's functions and procedures.
 use Rattle.std.proofs.Common.{◌≡◌, ℕ, zero, suc, ◌+◌, ◌-◌, Bool, true, false, List, [], ◌∷◌, ◌++◌, length, map, Option, Some, None, refl, sym, ap, ◌∙◌, subst, arith, append_assoc, length-append}
 use Rattle.std.specs.Prelude.{slice_get, option_map, if◌then◌else◌}
+use Rattle.std.proofs.lemmas.List.{length-map}
 use Rattle.std.proofs.lemmas.Option.{same_Some, none-some, slice_get-map}
 use Rattle.cse_parts.specs.declared.entries.Gift.TheVariants as gifts
 use Rattle.cse_parts.specs.declared.instruction.Instr.{Instr}
@@ -52,10 +53,6 @@ same_functions (Numeric names ∷ ds) = same_functions ds
 same_functions (Alpha digits size names ∷ ds) = same_functions ds
 same_functions (Array' array ∷ ds) = same_functions ds
 same_functions (Function' f ∷ ds) = ap (λ os. outline_of f ∷ os) (same_functions ds)
-
-pub length_same : {A B : Type 0} (f : A → B) (xs : List A) → length (map f xs) ≡ length xs
-length_same f [] = refl
-length_same f (x ∷ xs) = ap suc (length_same f xs)
 
 -- ---- code
 
@@ -149,7 +146,7 @@ module _ (v : VerifiedProgram) (messages : List MessageText) (named : List ℕ) 
   functions_are = same_functions (program.declarations t) ∙ ap (λ ds. map outline_of (tables.functions_in ds)) (sym (same_declarations t))
 
   pub as_many : length (outline.functions_in (program.declarations t)) ≡ many_functions
-  as_many = ap length functions_are ∙ length_same outline_of (tables.functions_in (meaning.declarations t))
+  as_many = ap length functions_are ∙ length-map (tables.functions_in (meaning.declarations t)) outline_of
 
   function_at : (k : ℕ) (f : Function) → slice_get (tables.functions_in (meaning.declarations t)) k ≡ Some f → slice_get (outlines t) k ≡ Some (outline_of f)
   function_at k f e =
