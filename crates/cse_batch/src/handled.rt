@@ -96,10 +96,10 @@ fn handled_record<C: Code>(
 }
 
 /// Whether an event of a record or of its items has a routine.
-fn is_handled(record: &HandledRecord) -> bool
-    ensures { (v : VerifiedProgram) → IsHandledRecord v record.now → result ≡ is_handled v.image record.now.number }
+fn is_handled(handled: &HandledRecord) -> bool
+    ensures { (v : VerifiedProgram) → IsHandledRecord v handled.now → result ≡ is_handled v.image handled.now.number }
 {
-    record.preproc || 0 < record.items.len() || record.postproc
+    handled.preproc || 0 < handled.items.len() || handled.postproc
 }
 
 /// The events of the records that have a routine, in edit order; a record without one isn't among them.

@@ -1,4 +1,5 @@
 pub mod FieldLaws
+pub mod NumberLaws
 pub mod FieldSteps
 pub mod TextLaws
 pub mod WidthLaws

@@ -83,11 +83,12 @@ pub fn quo(x: Num, y: Num) -> Num
 }
 
 /// The remainder that belongs to the truncated quotient over whole numbers without limit. A special
-/// operand, or a zero divisor, gives `Undef`.
+/// operand, or a zero divisor, gives `Undef`. A number below its divisor is what remains, without a division.
 pub fn rem(x: Num, y: Num) -> Num
     ensures { result ≡ remainder_of x y }
 {
     match (x, y) {
+        (Num::Whole(a), Num::Whole(b)) if 0 <= a && a < b => Num::Whole(a),
         (Num::Whole(_), Num::Whole(0)) => Num::Undef,
         (Num::Whole(a), Num::Whole(b)) => Num::Whole(a.wrapping_rem(b)),
         _ => Num::Undef,
