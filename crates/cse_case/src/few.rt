@@ -48,38 +48,55 @@ fn three_columns(number: u32, filler: char) -> (char, char, char)
 }
 
 /// Writes a number over columns, if they are one to three and have room for it, and tells whether they are.
+///
+/// Each width tests the number by itself: where the tests of width and number are joined by `&&`, the compiler makes
+/// numbers of both, and not two branches.
 #[inline(always)]
 fn put_few(columns: &mut [char], number: u64, filler: char) -> bool
     ensures len { length columns.new ≡ length columns.old }
+    ensures low { result ≡ true → number < 1000 }
     ensures room { result ≡ true → length (decimal number) ≤ length columns.old }
     ensures columns { result ≡ true → columns.new ≡ replicate (length columns.old - length (decimal number)) filler ++ decimal number }
 {
-    if columns.len() == 3 && number < 1000 {
-        let (first, second, last) = three_columns(number as u32, filler);
-        columns[0] = first;
-        columns[1] = second;
-        columns[2] = last;
-        true
-    } else if columns.len() == 2 && number < 100 {
-        let (first, last) = two_columns(number as u32, filler);
-        columns[0] = first;
-        columns[1] = last;
-        true
-    } else if columns.len() == 1 && number < 10 {
-        columns[0] = character(number as u32);
-        true
-    } else {
-        false
+    match columns.len() {
+        3 => {
+            if number >= 1000 {
+                return false;
+            }
+            let (first, second, last) = three_columns(number as u32, filler);
+            columns[0] = first;
+            columns[1] = second;
+            columns[2] = last;
+            true
+        }
+        2 => {
+            if number >= 100 {
+                return false;
+            }
+            let (first, last) = two_columns(number as u32, filler);
+            columns[0] = first;
+            columns[1] = last;
+            true
+        }
+        1 => {
+            if number >= 10 {
+                return false;
+            }
+            columns[0] = character(number as u32);
+            true
+        }
+        _ => false,
     }
 }
 
-/// Writes a whole number over columns, if they are few and have room for it, and tells whether they are.
+/// Writes a whole number over columns, if they are few and have room for it, and tells whether they are. The bits of
+/// a number below 0 are those of a number that has no room.
 #[inline(always)]
 fn put_small(columns: &mut [char], number: i64, zero_fill: bool) -> bool
     ensures len { length columns.new ≡ length columns.old }
     ensures columns { result ≡ true → columns.new ≡ put_whole (length columns.old) zero_fill number }
 {
-    0 <= number && put_few(columns, number as u64, filler_of(zero_fill))
+    put_few(columns, number.cast_unsigned(), filler_of(zero_fill))
 }
 
 /// Writes any value into the columns of an item.
