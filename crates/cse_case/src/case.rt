@@ -323,9 +323,9 @@ impl<'a> Case<'a> {
         requires entry { IsThere entry }
         ensures { self.new ≡ with_item self.old (place_of self.old number occurrence) item (entry_columns entry.entry (item_at (items_of self.old) item).len) }
     {
-        let shape = *self.item(item);
         let span = self.table.spans[number as usize];
         let first = self.table.firsts[span.start + occurrence as usize - 1];
+        let shape = *self.item(item);
         self.is_set = true;
         write_field(&mut self.columns, first, &shape, entry);
     }

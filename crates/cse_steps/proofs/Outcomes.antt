@@ -32,11 +32,11 @@ module _ (v : VerifiedProgram) where
       let none : Some b ≡ None = sym later ∙ (ap (λ i. run v i s) e ∙ (composed v n (suc k) s ∙ (ap (option_and_then (run v (suc k))) is ∙ no_more k a ended))) in
       cc
 
-  record Same (a b : State) (n m : ℕ) : Type 0 where
+  pub record Same (a b : State) (n m : ℕ) : Type 0 where
     pub state : a ≡ b
     pub steps : n ≡ m
 
-  end_once : (s a b : State) (n m : ℕ) → run v n s ≡ Some a → a.calls ≡ [] → run v m s ≡ Some b → b.calls ≡ [] → Same a b n m
+  pub end_once : (s a b : State) (n m : ℕ) → run v n s ≡ Some a → a.calls ≡ [] → run v m s ≡ Some b → b.calls ≡ [] → Same a b n m
   end_once s a b n m is ended also done = elim (cases_lt n m) [
     | inl less ↦ absurd (none_after s a b n m less is ended also)
     | inr more ↦ elim (cases_lt m n) [

@@ -194,7 +194,7 @@ found_is test fit (x ∷ xs) r all h =
     found_is test fit xs r p.1 (sym (ap (λ b. option_map (λ (y : EventEntry). y.routine) (cond b (Some x) (find test xs))) fails) ∙ h))
     (cases_Bool (test x))
 
-one_code : (a b : EventCode) → event_code a ≡ event_code b → a ≡ b
+pub one_code : (a b : EventCode) → event_code a ≡ event_code b → a ≡ b
 one_code a b same = same_Some a b (sym (event_code_is_one a).there ∙ ap event_code_of same ∙ (event_code_is_one b).there)
 
 handled : (s : ShapeLists) (x : Image) (e : Event) (r : ℕ) (entry : EventEntry) (o : Option RoutineLists) → slice_get x.lists.routines r ≡ o → entry.code ≡ e.code → entry.index ≡ e.index → is_handled_by s entry o ≡ true → IsHandler s x e r

@@ -6,7 +6,6 @@ use Rattle.cse_value.specs.declared.number.Num.TheVariants.{Whole}
 use Rattle.cse_value.proofs.NumberLaws.{below_divisor}
 use Rattle.cse_value.proofs.number.rem.Goals as goal
 
--- src/number.rt:87:1
 pub returns-in-Whole-Whole : goal.returns-in-Whole-Whole
 returns-in-Whole-Whole c =
     let a = c.in-Whole-Whole.a in
