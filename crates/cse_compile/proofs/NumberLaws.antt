@@ -23,7 +23,7 @@ right_true true b h = h
 right_true false b h = cc
 
 -- a key that is another one's is compared as that
-key_other : (k x y : ℕ × ℕ) → is_key x y ≡ true → is_key k y ≡ is_key k x
+pub key_other : (k x y : ℕ × ℕ) → is_key x y ≡ true → is_key k y ≡ is_key k x
 key_other k x y h =
     let a : x.0 ≡ y.0 = eqb-true x.0 y.0 (left_true (nat_eq x.0 y.0) (nat_eq x.1 y.1) h) in
     let b : x.1 ≡ y.1 = eqb-true x.1 y.1 (right_true (nat_eq x.0 y.0) (nat_eq x.1 y.1) h) in

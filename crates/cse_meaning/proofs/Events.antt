@@ -1,6 +1,6 @@
 -- Events of a program leave what its logic means.
-use Rattle.std.proofs.Common.{◌≡◌, ℕ, suc, ◌+◌, ◌-◌, ◌<◌, ◌≤◌, Bool, true, false, List, [], ◌∷◌, length, Option, Some, None, refl, sym, ap, ◌∙◌, subst, inl, inr, arith}
-use Rattle.std.specs.Prelude.{slice_get, option_and_then}
+use Rattle.std.proofs.Common.{◌≡◌, ℕ, ◌+◌, ◌<◌, ◌≤◌, Bool, true, false, List, [], ◌∷◌, length, Option, Some, None, refl, sym, ap, ◌∙◌, subst, inl, inr, arith}
+use Rattle.std.specs.Prelude.{slice_get}
 use Rattle.std.specs.Option.{option_map_or}
 use Rattle.std.proofs.lemmas.Bool.{and_from, le-leb, false≢true, cases_lt}
 use Rattle.cse_value.specs.declared.shape.ItemShape.{ItemShape}
@@ -31,10 +31,11 @@ use Rattle.cse_emitted.proofs.Blocks.{block_length}
 use Rattle.cse_steps.specs.Cell.{Cell, Occurrence}
 use Rattle.cse_steps.specs.State.{Call, World, State}
 use Rattle.cse_steps.specs.Operands.{is_within}
-use Rattle.cse_steps.specs.Step.{step_of, new_call}
+use Rattle.cse_steps.specs.Step.{new_call}
 use Rattle.cse_steps.specs.Run.{run, first, first_calls, event_arguments}
 use Rattle.cse_steps.specs.Fits.{FitsWorld, FitsFirst, IsThere, is_of_run, occurrences_in}
 use Rattle.cse_steps.specs.Laws.{RunsCompose, EventsEnd}
+use Rattle.cse_steps.proofs.Outcomes.{end_once}
 use Rattle.cse_meaning.specs.Setting.{Context, Functions}
 use Rattle.cse_meaning.specs.Statements.{Flow, Fell, Broke, Skipped, Left, all_do}
 use Rattle.cse_meaning.specs.Meaning.{world_of, begun, declarations, context, functions, meaning, done_by}
@@ -48,34 +49,6 @@ use Rattle.cse_meaning.proofs.Going.{joined, stand_front, stand_back}
 use Rattle.cse_meaning.proofs.Landing.{exits}
 use Rattle.cse_meaning.proofs.Statements.{block_lands}
 use Rattle.cse_meaning.proofs.Functions.{follow}
-
--- ---- a run that has ended has one end
-
-module _ (compose : RunsCompose) (v : VerifiedProgram) where
-  no_step : (s : State) → s.calls ≡ [] → run v 1 s ≡ None
-  unfolding run
-  no_step s e = ap (λ calls. step_of v calls s.world) e
-
-  no_more : (k : ℕ) (s : State) → s.calls ≡ [] → run v (suc k) s ≡ None
-  no_more k s e =
-      let one : suc k ≡ 1 + k = omega arith in
-      ap (λ i. run v i s) one ∙ (compose v 1 k s ∙ ap (option_and_then (run v k)) (no_step s e))
-
-  none_after : (s a b : State) (n m : ℕ) → n < m → run v n s ≡ Some a → a.calls ≡ [] → run v m s ≡ Some b → ⊥
-  none_after s a b n m less is ended later =
-      let k = m - suc n in
-      let e : m ≡ n + suc k = omega arith in
-      let none : Some b ≡ None = sym later ∙ (ap (λ i. run v i s) e ∙ (compose v n (suc k) s ∙ (ap (option_and_then (run v (suc k))) is ∙ no_more k a ended))) in
-      cc
-
-  as_many : (s a b : State) (n m : ℕ) → run v n s ≡ Some a → a.calls ≡ [] → run v m s ≡ Some b → b.calls ≡ [] → n ≡ m
-  as_many s a b n m is ended also done = elim (cases_lt n m) [
-    | inl less ↦ absurd (none_after s a b n m less is ended also)
-    | inr more ↦ elim (cases_lt m n) [
-      | inl less ↦ absurd (none_after s b a m n less also done is)
-      | inr low ↦ omega arith
-    ]
-  ]
 
 -- ---- the first state of an event
 
@@ -222,7 +195,7 @@ module _ (compose : RunsCompose) (v : VerifiedProgram) (t : Tree) (m : Moment) (
   means : EventsEnd v → RunsTo v m case store (meaning v.dictionary t m w0)
   means ends_all =
       let e = ends_all m case store fit in
-      let steps = as_many compose v (first v m case store) (record { calls = []; world = meaning v.dictionary t m w0 }) e.state goes.steps e.steps goes.by refl e.runs e.ended in (
+      let steps = (end_once v (first v m case store) (record { calls = []; world = meaning v.dictionary t m w0 }) e.state goes.steps e.steps goes.by refl e.runs e.ended).steps in (
         goes.steps,
         record {
           state = record { calls = []; world = meaning v.dictionary t m w0 };

@@ -27,7 +27,7 @@ use Rattle.cse_types.specs.declared.meaning.Meaning.TheVariants as m
 use Rattle.cse_types.specs.Scope.{Scope, first_of, in_dictionary, kind_and_owner}
 use Rattle.cse_types.specs.WellTyped.{AreProcedures, body_messages, item_owner, owner_meant}
 use Rattle.cse_compile.specs.Numbers.{key_of}
-use Rattle.cse_meant.proofs.Entries.{one_code}
+use Rattle.cse_typing.proofs.HandlerLaws.{one_code}
 
 -- ---- names
 

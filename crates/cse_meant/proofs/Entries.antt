@@ -1,29 +1,25 @@
 -- The events of a program are those of its table.
-use Rattle.std.proofs.Common.{◌≡◌, ℕ, zero, suc, ◌+◌, ◌<◌, ◌≤◌, Bool, true, false, ◌&&◌, ◌||◌, cond, List, [], ◌∷◌, ◌++◌, length, map, Option, Some, None, refl, sym, ap, ◌∙◌, subst, arith, nat_eq}
+use Rattle.std.proofs.Common.{◌≡◌, ℕ, zero, suc, ◌+◌, ◌<◌, ◌≤◌, Bool, true, false, ◌&&◌, ◌||◌, cond, List, [], ◌∷◌, ◌++◌, length, map, Option, Some, None, refl, sym, ap, ◌∙◌, subst, arith}
 use Rattle.std.specs.Prelude.{find, option_map, ◌==◌, if◌then◌else◌}
 use Rattle.std.specs.List.{flat_map, range_with_len, list_any, AllByRecursion}
 use Rattle.std.specs.Map.{lookup}
-use Rattle.std.proofs.lemmas.Bool.{eq-eqb, eqb-true, and_parts}
+use Rattle.std.proofs.lemmas.Bool.{eq-eqb, eqb-true}
 use Rattle.std.proofs.lemmas.List.{length-map}
-use Rattle.std.proofs.lemmas.Option.{same_Some, none-some}
+use Rattle.std.proofs.lemmas.Option.{none-some}
 use Rattle.indexmap.specs.IndexMap.{insert_entry}
-use Rattle.cse_parts.specs.Codes.{event_code, event_code_of}
+use Rattle.cse_parts.specs.Codes.{event_code}
 use Rattle.cse_parts.specs.declared.entries.Event.{Event}
 use Rattle.cse_parts.specs.declared.entries.EventEntry.{EventEntry}
 use Rattle.cse_parts.specs.declared.entries.EventCode.{EventCode}
 use Rattle.cse_parts.specs.declared.entries.EventCode.TheVariants as codes
-use Rattle.cse_parts.proofs.CodeLaws.{event_code_there}
 use Rattle.cse_dict.specs.Dictionary.{DictionaryText, RecordText, ItemText, shape_of}
 use Rattle.cse_typing.specs.Handlers.{is_of, routine_of}
+use Rattle.cse_typing.proofs.HandlerLaws.{one_code}
 use Rattle.cse_tables.specs.Outline.{Handler}
 use Rattle.cse_tables.specs.Events.{Table, is_key, with_event, table_from, routine_at, entry_of, entry_at, entries_below, entries_in}
 use Rattle.cse_compile.specs.Numbers.{key_of}
+use Rattle.cse_compile.proofs.NumberLaws.{key_other}
 use Rattle.cse_meaning.specs.Means.{IsEventOf}
-
--- ---- codes
-
-pub one_code : (a b : EventCode) → event_code a ≡ event_code b → a ≡ b
-one_code a b same = same_Some a b (sym (event_code_there a) ∙ ap event_code_of same ∙ event_code_there b)
 
 -- ---- the first of two
 
@@ -171,13 +167,6 @@ routine_is_at table d e h =
     ∙ (ap (λ n. routine_of (entries_in table (length d.records) n) e) (length-map d.items (λ (i : ItemText). i.shape)) ∙ entries_are table d e h)
 
 -- ---- events without a handler
-
-key_other : (k x y : ℕ × ℕ) → is_key x y ≡ true → is_key k y ≡ is_key k x
-key_other k x y h =
-    let p = and_parts (nat_eq x.0 y.0) (nat_eq x.1 y.1) h in
-    let a : x.0 ≡ y.0 = eqb-true x.0 y.0 p.0 in
-    let b : x.1 ≡ y.1 = eqb-true x.1 y.1 p.1 in
-    rw (a, b) refl
 
 none_put : (k x : ℕ × ℕ) (v : ℕ) (table : Table) → is_key k x ≡ false → lookup (is_key k) table ≡ None → lookup (is_key k) (insert_entry is_key table x v) ≡ None
 none_put k x v [] h none = rw h refl

@@ -47,7 +47,8 @@ use Rattle.cse_meaning.proofs.Events.{all_mean}
 use Rattle.cse_meant.specs.Meant.{CompiledCodeMeans}
 use Rattle.cse_meant.proofs.Sound.{named_by}
 use Rattle.cse_meant.proofs.Distinct.{events_apart}
-use Rattle.cse_meant.proofs.Entries.{one_code, routine_is_at, none_from}
+use Rattle.cse_typing.proofs.HandlerLaws.{one_code}
+use Rattle.cse_meant.proofs.Entries.{routine_is_at, none_from}
 use Rattle.cse_meant.proofs.Routines.{IsPart, all_parts, is_routine, as_many, handler_at, has_functions}
 
 -- ---- the handler of an event
