@@ -11,11 +11,12 @@ use Rattle.cse_sections.specs.Sections.{EntryText, SectionText, sections_of}
 use Rattle.cse_sections.specs.Number.{whole_of}
 use Rattle.cse_dict.specs.Keys.{entry_of, kind_of, number_in}
 use Rattle.cse_dict.specs.Types.{type_len_of}
+use Rattle.cse_dict.specs.Pairs.{RowsBelow}
 use Rattle.cse_dict.specs.Fields.{columns_of, is_bad_code, is_number, item_kind, share_column, type_columns_of}
 use Rattle.cse_dict.specs.Context.{context_after, context_by_kind, covered_by, id_columns_at, id_columns_by_kind, id_columns_from, is_ids, is_in_record, owner_after, owner_by_kind}
 use Rattle.cse_dict.specs.Faults.{code_faults, code_faults_for, faults_at, faults_behind, faults_by_first, faults_by_kind, faults_from, faults_of, fault_if, first_faults, has_bad_code, is_homeless, is_too_far, item_faults, item_head_faults, item_place_faults, read_part, record_faults, record_head_faults, record_number_faults, rest_faults, seen_after, seen_first, set_faults, set_head_faults}
 use Rattle.cse_dict.specs.Dictionary.{DictionaryText, IsSmall, ItemText, RecordText, SetText, dictionary_of, field_or_none, item_at, item_by_kind, item_in, item_shape_at, items_from, no_columns, record_at, record_by_kind, record_in, record_shape_at, records_of, set_at, set_by_kind, set_in, sets_from}
-use Rattle.cse_dict.specs.Sound.{AreApart, IsIdItem, IsSound, IsSoundCode, IsSoundItem, IsSoundRecord, KeepsOffIds, SoundWithoutFault, columns_of_item}
+use Rattle.cse_dict.specs.Sound.{AreApart, IsIdItem, IsSound, IsSoundCode, IsSoundItem, IsSoundRecord, IsSoundSet, KeepsOffIds, SoundWithoutFault, columns_of_item}
 use Rattle.cse_dict.specs.declared.keys.Kind.{Kind}
 use Rattle.cse_dict.specs.declared.keys.Kind.TheVariants.{Dictionary, Level, IdItems, Record, Item, ValueSet, Other}
 use Rattle.cse_dict.specs.declared.field.Columns.{Columns}
@@ -26,6 +27,7 @@ use Rattle.cse_dict.specs.declared.seen.Seen.{Seen}
 use Rattle.cse_dict.proofs.ReadLaws.{HasTypeLen, IsField, append_none, field_there, no_fault, number_there, optional_there, type_len_there, type_there}
 use Rattle.cse_dict.proofs.ItemLaws.{IsSoundOwner, LastOf, apart_from_none, apart_from_share, code_by, none_passes, number_len, owner_sound, shares_none, text_len}
 use Rattle.cse_dict.proofs.LimitLaws.{IsSmall-sections, record_below, rest_none, sections_sound}
+use Rattle.cse_dict.proofs.RowLaws.{rows_of-below}
 
 -- a record, by the length of the columns of the record type
 record IsSoundAt (type_len : ℕ) (r : RecordText) : Type 0 where
@@ -45,6 +47,11 @@ record IsSoundIn (whole : List RecordText) (covered : List Columns) (i : ItemTex
   pub apart : (IsIdItem i → ⊥) → (i.shape.kind ≡ Opaque → ⊥) → list_any (share_column (columns_of_item i)) covered ≡ false
   pub code : (z : ℤ) → i.code ≡ Some z → IsSoundCode i z
   pub id : IsIdItem i → Contains covered (columns_of_item i)
+
+-- a value set, by the number of items
+record IsSetOf (total : ℕ) (t : SetText) : Type 0 where
+  pub item : t.shape.item < total
+  pub rows : RowsBelow t.shape.rows t.spans
 
 -- the parts of an item's faults
 record ItemParts (covered : List Columns) (owner : Owner) (s : SectionText) : Type 0 where
@@ -254,19 +261,23 @@ module _ (covered : List Columns) (len : Option ℕ) (seen : Seen) (s : SectionT
   unfolding set_at
   set_place = refl
 
+  set_rows : RowsBelow (set_at seen.context s).shape.rows (set_at seen.context s).spans
+  unfolding set_at
+  set_rows = rows_of-below seen.context.data_type s
+
   module _ (total : ℕ) (le : seen.context.items ≤ total) where
-    sets_step : (k : Kind) → faults_by_kind k covered len seen s ≡ [] → All (λ t. t.shape.item < total) (set_by_kind k seen.context s)
+    sets_step : (k : Kind) → faults_by_kind k covered len seen s ≡ [] → All (IsSetOf total) (set_by_kind k seen.context s)
     sets_step ValueSet h =
         let one = set_item h in
-        All-cons (λ (t : SetText). t.shape.item < total) _ [] (omega (arith, set_place, one, le)) (All-nil (λ (t : SetText). t.shape.item < total))
-    sets_step Record h = All-nil (λ t. t.shape.item < total)
-    sets_step IdItems h = All-nil (λ t. t.shape.item < total)
-    sets_step Item h = All-nil (λ t. t.shape.item < total)
-    sets_step Dictionary h = All-nil (λ t. t.shape.item < total)
-    sets_step Level h = All-nil (λ t. t.shape.item < total)
-    sets_step Other h = All-nil (λ t. t.shape.item < total)
+        All-cons (IsSetOf total) _ [] (record { item = omega (arith, set_place, one, le); rows = set_rows }) (All-nil (IsSetOf total))
+    sets_step Record h = All-nil (IsSetOf total)
+    sets_step IdItems h = All-nil (IsSetOf total)
+    sets_step Item h = All-nil (IsSetOf total)
+    sets_step Dictionary h = All-nil (IsSetOf total)
+    sets_step Level h = All-nil (IsSetOf total)
+    sets_step Other h = All-nil (IsSetOf total)
 
-    sets_here : faults_at covered len seen s ≡ [] → All (λ t. t.shape.item < total) (set_in seen.context s)
+    sets_here : faults_at covered len seen s ≡ [] → All (IsSetOf total) (set_in seen.context s)
     unfolding faults_at set_in
     sets_here h = sets_step (kind_of s.heading) h
 
@@ -285,8 +296,8 @@ module _ (covered : List Columns) (len : Option ℕ) (seen : Seen) (s : SectionT
 
 module _ (covered : List Columns) (len : Option ℕ) (total : ℕ) where
   sets_sound : (ss : List SectionText) (seen : Seen) → faults_from covered len seen ss ≡ [] → seen.context.items + length (items_from covered seen.context ss) ≤ total
-      → All (λ t. t.shape.item < total) (sets_from seen.context ss)
-  sets_sound [] seen h le = All-nil (λ t. t.shape.item < total)
+      → All (IsSetOf total) (sets_from seen.context ss)
+  sets_sound [] seen h le = All-nil (IsSetOf total)
   sets_sound (s ∷ ss) seen h le =
       let parts = append_none (faults_at covered len seen s) (faults_from covered len (seen_after len seen s) ss) h in
       let long = length-append (item_in covered seen.context s) (items_from covered (context_after seen.context s) ss) in
@@ -295,8 +306,8 @@ module _ (covered : List Columns) (len : Option ℕ) (total : ℕ) where
       let rest : (seen_after len seen s).context.items + length (items_from covered (seen_after len seen s).context ss) ≤ total =
       rw (context_along covered len seen s) (let m = rw (context_along covered len seen s) at more in omega (arith, le, long, m)) in
       let behind = sets_sound ss (seen_after len seen s) parts.1 rest in
-      All-append (λ (t : SetText). t.shape.item < total) (set_in seen.context s) (sets_from (context_after seen.context s) ss) here
-      (subst (λ c. All (λ (t : SetText). t.shape.item < total) (sets_from c ss)) (context_along covered len seen s) behind)
+      All-append (IsSetOf total) (set_in seen.context s) (sets_from (context_after seen.context s) ss) here
+      (subst (λ c. All (IsSetOf total) (sets_from c ss)) (context_along covered len seen s) behind)
 
 -- the columns of the record type are among those that are covered
 type_apart : (a : Columns) (o : Option Columns) → list_any (share_column a) (option_to_list o) ≡ false → AreApart a (unwrap_or o no_columns)
@@ -354,7 +365,8 @@ module _ (first : SectionText) (rest : List SectionText) where
         items = All-weaker (IsSoundIn d.records covered) (IsSoundItem d) (item_whole d first read refl items) d.items items;
         records = All-weaker (IsSoundAt type_len.n) (IsSoundRecord d)
             (λ r p. record { most = p.most; few = p.few; len = p.len; type_len = p.type_is ∙ sym type_len.columns_len }) d.records records;
-        sets = sets_sound covered (type_len_of first) (length d.items) read (seen_first first) none (omega arith);
+        sets = All-weaker (IsSetOf (length d.items)) (IsSoundSet d) (λ t p. record { item = p.item; rows = p.rows }) d.sets
+            (sets_sound covered (type_len_of first) (length d.items) read (seen_first first) none (omega arith));
         type_columns = type_len.columns;
         small = small;
       }

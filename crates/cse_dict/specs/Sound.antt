@@ -5,6 +5,7 @@ use Rattle.cse_value.specs.declared.shape.ItemKind.TheVariants.{Opaque, Number, 
 use Rattle.cse_sections.specs.Sections.{sections_of}
 use Rattle.cse_sections.specs.Number.{fits_columns}
 use Rattle.cse_dict.specs.Dictionary.{DictionaryText, IsSmall, ItemText, RecordText, SetText, dictionary_of, no_columns}
+use Rattle.cse_dict.specs.Pairs.{RowsBelow}
 use Rattle.cse_dict.specs.Reading.{text_faults}
 use Rattle.cse_dict.specs.declared.field.Columns.{Columns}
 
@@ -56,9 +57,10 @@ pub record IsSoundRecord (d : DictionaryText) (r : RecordText) : Type 0 where
   pub len : 1 ≤ r.shape.record_len
   pub type_len : length r.record_type ≡ d.type_columns.len
 
--- a value set belongs to an item that is there
-abbrev pub IsSoundSet : DictionaryText → SetText → Type 0
-IsSoundSet d s = s.shape.item < length d.items
+-- a value set belongs to an item that is there, and its pairs stand in its rows
+pub record IsSoundSet (d : DictionaryText) (s : SetText) : Type 0 where
+  pub item : s.shape.item < length d.items
+  pub rows : RowsBelow s.shape.rows s.spans
 
 -- Of its record type a dictionary has columns, or none that start nowhere.
 pub record IsSound (d : DictionaryText) : Type 0 where

@@ -47,6 +47,7 @@ use Rattle.cse_meaning.specs.Lands.{Around, Lands}
 use Rattle.cse_meaning.specs.Whole.{setting_of, HasFunctions, IsHandled, EventsMean}
 use Rattle.cse_meaning.proofs.Going.{joined, stand_front, stand_back}
 use Rattle.cse_meaning.proofs.Landing.{exits}
+use Rattle.cse_meaning.proofs.Rows.{keeps_rows}
 use Rattle.cse_meaning.proofs.Statements.{block_lands}
 use Rattle.cse_meaning.proofs.Functions.{follow}
 
@@ -170,7 +171,7 @@ module _ (compose : RunsCompose) (v : VerifiedProgram) (t : Tree) (m : Moment) (
 
   ends : (flow : Flow) (q : ℕ) → Lands setting spot c case 0 no_loop around 0 q w0 flow → HasCode spot q (exit_code setting) → Goes v (at spot 0 [] w0) (record { calls = []; world = world_of flow })
   ends (Fell ls u) q h has_exit =
-      let x = exits compose setting spot fn c case 0 has.is_of.sound has.is_of.rows follows None refl refl h.locals [] [] ls q u h.laid h.fits has_exit in
+      let x = exits compose setting spot fn c case 0 has.is_of.sound (keeps_rows v.dictionary has.is_of.sound) follows None refl refl h.locals [] [] ls q u h.laid h.fits has_exit in
       joined compose v _ _ _ h.goes x.goes
   ends (Left ls u) q h has_exit = h.goes
   ends (Broke ls u) q h has_exit = absurd (false≢true h.0)
@@ -182,7 +183,7 @@ module _ (compose : RunsCompose) (v : VerifiedProgram) (t : Tree) (m : Moment) (
       let code = handled.is.stands in
       let front = stand_front v.image.lists (code_of v.image r) 0 (block_code setting no_loop 0 body) _ code in
       let exit = stand_back v.image.lists (code_of v.image r) 0 (block_size setting body) (block_code setting no_loop 0 body) _ (block_length setting no_loop 0 body) code in
-      let lands = block_lands compose setting spot fn c case 0 has.is_of.sound has.is_of.rows follows refl body 64 false (locals_for owner m.occurrence) [] [] (begun []) no_loop around 0 w0 laid refl world_fits (λ e. absurd (false≢true e)) handled.is.plain handled.is.fits front in
+      let lands = block_lands compose setting spot fn c case 0 has.is_of.sound (keeps_rows v.dictionary has.is_of.sound) follows refl body 64 false (locals_for owner m.occurrence) [] [] (begun []) no_loop around 0 w0 laid refl world_fits (λ e. absurd (false≢true e)) handled.is.plain handled.is.fits front in
       let g = ends (all_do fn c body (begun []) w0) (0 + block_size setting body) lands exit in
       let begun_at : first_calls v.image m.occurrence (routine_of v.image.lists.events m.event) ≡ record { routine = r; place = 0; locals = locals_for owner m.occurrence; cells = []; opens = [] } ∷ [] =
       ap (first_calls v.image m.occurrence) handled.routine_is

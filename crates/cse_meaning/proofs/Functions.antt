@@ -41,6 +41,7 @@ use Rattle.cse_meaning.proofs.Going.{joined, stand_front, stand_back, plain_at}
 use Rattle.cse_meaning.proofs.Held.{beneath, there}
 use Rattle.cse_meaning.proofs.Assigned.{set_goes}
 use Rattle.cse_meaning.proofs.Landing.{exits}
+use Rattle.cse_meaning.proofs.Rows.{keeps_rows}
 use Rattle.cse_meaning.proofs.Statements.{block_lands}
 
 -- ---- the locals of a function: its parameters, and its result behind them
@@ -110,7 +111,7 @@ module _ (compose : RunsCompose) (program : VerifiedProgram) (c : Context) (firs
         → Lands setting (spot L caller below) (outside c) first (length f.parameters) no_loop around q r v flow → HasCode (spot L caller below) r (exit_code setting)
         → Runs n routine args caller below w (given flow).0 (given flow).1
     ends (Fell ls u) L M caller below q r args w v g h has =
-        let x = exits compose setting (spot L caller below) fn (outside c) first (length f.parameters) is_of.sound is_of.rows follows (Some (length f.parameters)) refl (refl, ap (λ (o : Option Local). option_kind o) (result_there (length f.parameters))) h.locals [] [] ls r u h.laid h.fits has in
+        let x = exits compose setting (spot L caller below) fn (outside c) first (length f.parameters) is_of.sound (keeps_rows program.dictionary is_of.sound) follows (Some (length f.parameters)) refl (refl, ap (λ (o : Option Local). option_kind o) (result_there (length f.parameters))) h.locals [] [] ls r u h.laid h.fits has in
         record { goes = joined compose program _ _ _ g (joined compose program _ _ _ h.goes x.goes); fits = x.fits }
     ends (Left ls u) L M caller below q r args w v g h has = record { goes = joined compose program _ _ _ g h.goes; fits = h.fits }
     ends (Broke ls u) L M caller below q r args w v g h has = absurd (false≢true h.0)
@@ -145,7 +146,7 @@ module _ (compose : RunsCompose) (program : VerifiedProgram) (c : Context) (firs
         } in
         let body = stand_front program.image.lists (code_of program.image n) 2 (block_code setting no_loop 2 f.body) _ has.1.1 in
         let exit = stand_back program.image.lists (code_of program.image n) 2 (block_size setting f.body) (block_code setting no_loop 2 f.body) _ (block_length setting no_loop 2 f.body) has.1.1 in
-        let lands = block_lands compose setting t fn (outside c) first count is_of.sound is_of.rows follows (refl, ap (λ (o : Option Local). option_kind o) (result_there count)) f.body 64 false M [] [] (begun args) no_loop around 2 w laid many fits (λ e. absurd (false≢true e)) is.plain is.fits body in
+        let lands = block_lands compose setting t fn (outside c) first count is_of.sound (keeps_rows program.dictionary is_of.sound) follows (refl, ap (λ (o : Option Local). option_kind o) (result_there count)) f.body 64 false M [] [] (begun args) no_loop around 2 w laid many fits (λ e. absurd (false≢true e)) is.plain is.fits body in
         ends (all_do fn (outside c) f.body (begun args) w) M M caller below 2 (2 + block_size setting f.body) args w w (joined compose program _ _ _ g h) lands exit
 
   -- ---- one after the other

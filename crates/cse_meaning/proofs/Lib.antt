@@ -12,6 +12,7 @@ pub mod Puts
 pub mod Held
 pub mod Assigned
 pub mod Turns
+pub mod Rows
 pub mod Landing
 pub mod Loops
 pub mod Statements

@@ -27,7 +27,6 @@ use Rattle.cse_emitted.specs.Fit.{BlockFits}
 use Rattle.cse_emitted.specs.Emitted.{spot_of}
 use Rattle.cse_meaning.specs.Setting.{Context}
 use Rattle.cse_meaning.specs.Runs.{StandAt}
-use Rattle.cse_meaning.specs.Laid.{KeepsRows}
 use Rattle.cse_meaning.specs.Follows.{Follows}
 use Rattle.cse_meaning.specs.Plain.{IsPlainBlock}
 use Rattle.cse_meaning.specs.Meaning.{functions_below, declarations, context, handler, meaning}
@@ -51,7 +50,6 @@ pub record IsOf (v : VerifiedProgram) (c : Context) : Type 0 where
   pub dictionary : c.dictionary ≡ v.dictionary
   pub arrays : c.arrays ≡ map (λ (x : ArrayLists). x.dimensions) v.image.lists.arrays
   pub sound : IsSound v.dictionary
-  pub rows : KeepsRows v.dictionary
 
 -- outside of loops
 abbrev pub outside : Context → Context

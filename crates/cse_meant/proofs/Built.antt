@@ -16,7 +16,7 @@ abbrev NoneBegins : Type 0
 NoneBegins = (v w : Version) (x y : Image) (a b rest : List ℕ) → SpellsIn v x a → SpellsIn w y b → a ++ rest ≡ b → (v ≡ w) × (x ≡ y) × (rest ≡ [])
 
 pub built_programs_mean : (v : VerifiedProgram) → CompiledCodeMeans v → NoneBegins → IsSound v.dictionary → BuiltProgramsMean v
-built_programs_mean v means none sound text logic messages order bytes of spelled built =
+built_programs_mean v means none sound logic messages order bytes spelled built =
     let texts = built.texts in
     let same : built.program ≡ v.image = (none versions.Two versions.Two built.program v.image bytes bytes [] built.image.spelled spelled (append-nil bytes)).1 in
     let words = said texts.logic_is.text.0 in
@@ -27,4 +27,4 @@ built_programs_mean v means none sound text logic messages order bytes of spelle
       shape = built.image.compiled.shape;
       program = built.image.compiled;
     } in
-    means text texts.entries texts.named texts.source words texts.tree of (subst (λ x. IsCompiled v.dictionary texts.entries texts.named texts.source words texts.tree x) same compiled)
+    means texts.entries texts.named texts.source words texts.tree (subst (λ x. IsCompiled v.dictionary texts.entries texts.named texts.source words texts.tree x) same compiled)

@@ -1,6 +1,5 @@
 pub mod Routines
 pub mod Entries
-pub mod Rows
 pub mod Distinct
 pub mod Turns
 pub mod Own

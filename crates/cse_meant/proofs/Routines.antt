@@ -6,8 +6,7 @@ use Rattle.std.proofs.lemmas.Option.{same_Some, none-some, slice_get-map}
 use Rattle.cse_parts.specs.declared.entries.Gift.TheVariants as gifts
 use Rattle.cse_parts.specs.declared.instruction.Instr.{Instr}
 use Rattle.cse_parts.specs.Image.{Lists, ArrayLists, RoutineLists}
-use Rattle.cse_sections.specs.Sections.{sections_of}
-use Rattle.cse_dict.specs.Dictionary.{DictionaryText, dictionary_of, shape_of}
+use Rattle.cse_dict.specs.Dictionary.{DictionaryText, shape_of}
 use Rattle.cse_syntax.specs.Tree as syntax
 use Rattle.cse_syntax.specs.Word.{Word}
 use Rattle.cse_typing.specs.Code.{code_of}
@@ -33,9 +32,7 @@ use Rattle.cse_meaning.specs.Meaning as meaning
 use Rattle.cse_meaning.specs.Meaning.{context}
 use Rattle.cse_meaning.specs.Runs.{StandAt}
 use Rattle.cse_meaning.specs.Whole.{IsRoutineOf, HasFunctions}
-use Rattle.cse_meaning.specs.Laid.{KeepsRows}
 use Rattle.cse_meant.proofs.Sound.{named_by, routine_plain}
-use Rattle.cse_meant.proofs.Rows.{keeps_rows}
 
 -- ---- the same lists
 
@@ -119,7 +116,7 @@ behind : {A : Type 0} (xs ys : List A) (k : ℕ) → slice_get (xs ++ ys) (lengt
 behind [] ys k = ap (slice_get ys) (let z : 0 + k ≡ k = omega arith in z)
 behind (x ∷ xs) ys k = let e : suc (length xs) + k ≡ suc (length xs + k) = omega arith in ap (slice_get (x ∷ xs ++ ys)) e ∙ behind xs ys k
 
-module _ (v : VerifiedProgram) (messages : List MessageText) (named : List ℕ) (source : syntax.Tree) (words : List Word) (t : Tree) (compiled : IsCompiled v.dictionary messages named source words t v.image) (text : List ℕ) (of : v.dictionary ≡ dictionary_of (sections_of text)) where
+module _ (v : VerifiedProgram) (messages : List MessageText) (named : List ℕ) (source : syntax.Tree) (words : List Word) (t : Tree) (compiled : IsCompiled v.dictionary messages named source words t v.image) where
   abbrev d : DictionaryText
   d = v.dictionary
 
@@ -183,7 +180,6 @@ module _ (v : VerifiedProgram) (messages : List MessageText) (named : List ℕ) 
       dictionary = refl;
       arrays = ap (λ ds. map (λ (x : ArrayLists). x.dimensions) (arrays_in ds)) (same_declarations t) ∙ ap (λ xs. map (λ (x : ArrayLists). x.dimensions) xs) (sym compiled.program.arrays);
       sound = compiled.dictionary;
-      rows = subst KeepsRows (sym of) (keeps_rows (sections_of text));
     };
     routines = λ k f e. is_routine k (outline_of f) (function_at k f e);
     others = λ k y past is gives. (let z : k ≡ many_functions + (k - many_functions) = omega arith in gives_by (k - many_functions) y (slice_get (handlers t) (k - many_functions)) refl (subst (λ k. slice_get v.image.lists.routines k ≡ Some y) z is) gives);

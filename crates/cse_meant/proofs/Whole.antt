@@ -12,8 +12,7 @@ use Rattle.cse_parts.specs.Image.{RoutineLists}
 use Rattle.cse_case.specs.Case.{CaseText}
 use Rattle.cse_decks.specs.Store.{Kept}
 use Rattle.cse_bounds.specs.CaseEvents.{Moment}
-use Rattle.cse_dict.specs.Dictionary.{DictionaryText, dictionary_of, shape_of}
-use Rattle.cse_sections.specs.Sections.{sections_of}
+use Rattle.cse_dict.specs.Dictionary.{DictionaryText, shape_of}
 use Rattle.cse_syntax.specs.Tree as syntax
 use Rattle.cse_syntax.specs.Word.{Word}
 use Rattle.cse_typing.specs.Handlers.{routine_of}
@@ -110,7 +109,7 @@ means_nothing : (d : DictionaryText) (t : Tree) (m : Moment) (w : World) → han
 unfolding meaning
 means_nothing d t m w none = ap (done_by d t m.occurrence w) none
 
-module _ (v : VerifiedProgram) (messages : List MessageText) (named : List ℕ) (source : syntax.Tree) (words : List Word) (t : Tree) (typed : IsTyped (shape_of v.dictionary) v.image) (compiled : IsCompiled v.dictionary messages named source words t v.image) (text : List ℕ) (of : v.dictionary ≡ dictionary_of (sections_of text)) where
+module _ (v : VerifiedProgram) (messages : List MessageText) (named : List ℕ) (source : syntax.Tree) (words : List Word) (t : Tree) (typed : IsTyped (shape_of v.dictionary) v.image) (compiled : IsCompiled v.dictionary messages named source words t v.image) where
   abbrev d : DictionaryText
   d = v.dictionary
 
@@ -151,8 +150,8 @@ module _ (v : VerifiedProgram) (messages : List MessageText) (named : List ℕ) 
 
     is_its : IsRoutineOf v (context d t 0).arrays (many + found.at) outline_is 0
     is_its =
-        let r = as_many v messages named source words t compiled text of in
-        let a = is_routine v messages named source words t compiled text of _ h.outline (handler_at v messages named source words t compiled text of found.at h found.there) in
+        let r = as_many v messages named source words t compiled in
+        let a = is_routine v messages named source words t compiled _ h.outline (handler_at v messages named source words t compiled found.at h found.there) in
         let b = subst (λ n. IsRoutineOf v (context d t 0).arrays (n + found.at) h.outline (named_by h.outline.sort)) (sym r) a in
         subst (λ o. IsRoutineOf v (context d t 0).arrays (many + found.at) o (named_by o.sort)) same_outline b
 
@@ -192,7 +191,7 @@ module _ (v : VerifiedProgram) (messages : List MessageText) (named : List ℕ) 
     event_means m case store there fit (Some h) is =
         let k = handles_it m.event (handlers t) h is in
         let p = (all_parts t.procedures).at k.at h k.there in
-        all_mean composed v t m case store (many + k.at) p.owner p.after h.outline.body ends (has_functions v messages named source words t compiled text of) (is_handled m.event there h is) fit
+        all_mean composed v t m case store (many + k.at) p.owner p.after h.outline.body ends (has_functions v messages named source words t compiled) (is_handled m.event there h is) fit
 
     idle : (m : Moment) (w : World) → IsEventOf d m.event.code m.event.index → routine_of v.image.lists.events m.event ≡ None → (o : Option Handler) → handler t m.event ≡ o → meaning d t m w ≡ w
     idle m w there none None is = means_nothing d t m w is
@@ -205,4 +204,4 @@ module _ (v : VerifiedProgram) (messages : List MessageText) (named : List ℕ) 
     }
 
 pub compiled_code_means : (v : VerifiedProgram) → MayRun v → EventsEnd v → CompiledCodeMeans v
-compiled_code_means v may_run ends text messages named source words t of compiled = it_means v messages named source words t may_run.typed compiled text of ends
+compiled_code_means v may_run ends messages named source words t compiled = it_means v messages named source words t may_run.typed compiled ends

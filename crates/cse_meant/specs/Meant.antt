@@ -1,7 +1,5 @@
 -- The program of a sound source means what the source means.
 use Rattle.std.specs.Prelude.{◌≡◌, ℕ, List}
-use Rattle.cse_sections.specs.Sections.{sections_of}
-use Rattle.cse_dict.specs.Dictionary.{dictionary_of}
 use Rattle.cse_syntax.specs.Tree as syntax
 use Rattle.cse_syntax.specs.Word.{Word}
 use Rattle.cse_verify.specs.Verified.{VerifiedProgram}
@@ -12,14 +10,14 @@ use Rattle.cse_image.specs.Spelling.{Spells}
 use Rattle.cse_build.specs.Build.{IsBuilt}
 use Rattle.cse_meaning.specs.Means.{Means}
 
--- Whatever sound source such a program is compiled from, with the dictionary of a text, it does what that means.
+-- Whatever sound source such a program is compiled from, it does what that means.
 abbrev pub CompiledCodeMeans : VerifiedProgram → Type 0
 CompiledCodeMeans v =
-    (text : List ℕ) (messages : List MessageText) (named : List ℕ) (source : syntax.Tree) (words : List Word) (t : Tree)
-    → v.dictionary ≡ dictionary_of (sections_of text) → IsCompiled v.dictionary messages named source words t v.image → Means v t
+    (messages : List MessageText) (named : List ℕ) (source : syntax.Tree) (words : List Word) (t : Tree)
+    → IsCompiled v.dictionary messages named source words t v.image → Means v t
 
 -- So does the program that three texts are built to: the logic, its message file and its order file.
 abbrev pub BuiltProgramsMean : VerifiedProgram → Type 0
 BuiltProgramsMean v =
-    (text logic messages order bytes : List ℕ)
-    → v.dictionary ≡ dictionary_of (sections_of text) → Spells v.image bytes → (built : IsBuilt v.dictionary logic messages order bytes) → Means v built.texts.tree
+    (logic messages order bytes : List ℕ)
+    → Spells v.image bytes → (built : IsBuilt v.dictionary logic messages order bytes) → Means v built.texts.tree
