@@ -73,6 +73,11 @@ pub fn put_char(out: &mut Vec<u8>, character: char) -> Result<(), AllocError>
     ensures bytes { OnOk result (out.new.items ≡ out.old.items ++ encode_utf8 character) }
     ensures utf8 { OnOk result (IsUtf8 (encode_utf8 character)) }
 {
+    let code = character as u32;
+    if code < 128 {
+        out.push(code as u8)?;
+        return Ok(());
+    }
     let mut buffer = [0u8; 4];
     out.extend_from_slice(character.encode_utf8(&mut buffer).as_bytes())
 }
