@@ -1,8 +1,11 @@
 -- Events that the program has no routine for change nothing, and so the others count alone.
 use Rattle.std.proofs.Common.{◌≡◌, ℕ, zero, suc, ◌≤◌, Bool, true, false, cond, eqb, List, [], ◌∷◌, ◌++◌, Option, Some, None, refl, sym, ap, ◌∙◌, subst, arith}
 use Rattle.std.specs.Prelude.{filter, is_some, length, nat_lt}
+use Rattle.std.specs.List.{cons_option, filter_map}
+use Rattle.std.specs.Option.{option_map}
 use Rattle.std.proofs.lemmas.Bool.{ltb-false, or_parts}
 use Rattle.std.proofs.lemmas.List.{nil_from_length}
+use Rattle.std.proofs.lemmas.Option.{none-some, same_Some}
 use Rattle.cse_value.specs.declared.shape.ItemShape.{ItemShape}
 use Rattle.cse_parts.specs.declared.entries.Event.{Event}
 use Rattle.cse_parts.specs.declared.entries.EventCode.TheVariants as codes
@@ -14,6 +17,8 @@ use Rattle.cse_bounds.specs.CaseEvents.{Moment, moment, event, event_bound, item
 use Rattle.cse_verify.specs.Verified.{VerifiedProgram}
 use Rattle.cse_steps.specs.State.{State}
 use Rattle.cse_steps.specs.Run.{first, first_calls}
+use Rattle.cse_machine.specs.declared.handled.Handled.{Handled}
+use Rattle.cse_machine.specs.Handled.{AllHandled, events_of, handled_by, with_routine}
 use Rattle.cse_machine.specs.Results.{in_occurrence}
 use Rattle.cse_batch.specs.Handled.{events_of_items, handled_items, has_routine, is_handled}
 use Rattle.cse_batch.specs.Scene.{Scene, scene_after, scene_after_all, told_to}
@@ -23,9 +28,20 @@ use Rattle.cse_batch.proofs.SceneLaws.{scene_later}
 
 -- ---- one event
 
-no_routine : (r : Option ℕ) → is_some r ≡ false → r ≡ None
-no_routine None is = refl
-no_routine (Some n) is = cc
+no_routine : (e : Event) (r : Option ℕ) → is_some (option_map (with_routine e) r) ≡ false → r ≡ None
+no_routine e None is = refl
+no_routine e (Some n) is = cc
+
+-- one that has none is not handled, and one that is has this routine
+pub not_handled : (x : Image) (e : Event) → handled_by x e ≡ None → has_routine x e ≡ false
+not_handled x e is = ap (λ (o : Option Handled). is_some o) is
+
+pub routine_is : (x : Image) (e : Event) (h : Handled) → handled_by x e ≡ Some h → routine_of x.lists.events e ≡ Some h.routine
+routine_is x e h is = by (routine_of x.lists.events e) is
+  where
+    by : (o : Option ℕ) → option_map (with_routine e) o ≡ Some h → o ≡ Some h.routine
+    by None is = absurd (none-some h is)
+    by (Some r) is = ap (λ (h : Handled). Some h.routine) (same_Some (with_routine e r) h is)
 
 calls_none : (v : VerifiedProgram) (m : Moment) (case : Option CaseText) (store : Kept) → routine_of v.image.lists.events m.event ≡ None → (first v m case store).calls ≡ []
 unfolding first
@@ -38,7 +54,7 @@ nothing_first v m s = refl
 pub scene_unhandled : (v : VerifiedProgram) (s : Scene) (m : Moment) → has_routine v.image m.event ≡ false → scene_after v s m ≡ s
 unfolding scene_after
 scene_unhandled v s m is =
-    let calls = calls_none v m s.case s.store (no_routine (routine_of v.image.lists.events m.event) is) in
+    let calls = calls_none v m s.case s.store (no_routine m.event (routine_of v.image.lists.events m.event) is) in
     ap (λ (t : State). told_to s t.world) (stays v (event_bound v.image m.event) (first v m s.case s.store) calls) ∙ nothing_first v m s
 
 -- ---- the events of items, in an occurrence
@@ -61,11 +77,33 @@ items_in : (r o k : ℕ) (items : List ItemShape) → in_occurrence o (events_of
 items_in r o k [] = refl
 items_in r o k (item ∷ items) = pair_in o k (eqb item.owner r) (events_of_items r (suc k) items) (item_events r o (suc k) items) (items_in r o (suc k) items)
 
+-- with their routines they are those that have one, and these are the program's
+handled_events : (x : Image) (es : List Event) → events_of (filter_map (handled_by x) es) ≡ filter (has_routine x) es
+handled_events x [] = refl
+handled_events x (e ∷ es) = by (handled_events x es) (routine_of x.lists.events e)
+  where
+    by : events_of (filter_map (handled_by x) es) ≡ filter (has_routine x) es → (o : Option ℕ)
+        → events_of (cons_option (option_map (with_routine e) o) (filter_map (handled_by x) es)) ≡ cond (is_some (option_map (with_routine e) o)) (e ∷ filter (has_routine x) es) (filter (has_routine x) es)
+    by others None = others
+    by others (Some r) = ap (λ (l : List Event). e ∷ l) others
+
+all_handled_of : (x : Image) (es : List Event) → AllHandled x (filter_map (handled_by x) es)
+all_handled_of x [] = tt
+all_handled_of x (e ∷ es) = by (all_handled_of x es) (routine_of x.lists.events e) refl
+  where
+    by : AllHandled x (filter_map (handled_by x) es) → (o : Option ℕ) → routine_of x.lists.events e ≡ o → AllHandled x (cons_option (option_map (with_routine e) o) (filter_map (handled_by x) es))
+    by others None none = others
+    by others (Some r) some = (some, others)
+
+pub all_handled : (x : Image) (r : ℕ) (hs : List Handled) → hs ≡ handled_items x r → AllHandled x hs
+all_handled x r hs is = subst (λ (l : List Handled). AllHandled x l) (sym is) (all_handled_of x (events_of_items r 0 x.lists.items))
+
 -- the handled ones leave what all of them leave
-pub items_scene : (v : VerifiedProgram) (r o : ℕ) (s : Scene) (es : List Event) → es ≡ handled_items v.image r → scene_after_all v s (in_occurrence o es) ≡ scene_after_all v s (item_events r o 0 v.image.lists.items)
-items_scene v r o s es is =
-    ap (λ (l : List Event). scene_after_all v s (in_occurrence o l)) is
-    ∙ (only_handled v o (events_of_items r 0 v.image.lists.items) s ∙ ap (scene_after_all v s) (items_in r o 0 v.image.lists.items))
+pub items_scene : (v : VerifiedProgram) (r o : ℕ) (s : Scene) (hs : List Handled) → hs ≡ handled_items v.image r → scene_after_all v s (in_occurrence o (events_of hs)) ≡ scene_after_all v s (item_events r o 0 v.image.lists.items)
+items_scene v r o s hs is =
+    ap (λ (l : List Handled). scene_after_all v s (in_occurrence o (events_of l))) is
+    ∙ (ap (λ (l : List Event). scene_after_all v s (in_occurrence o l)) (handled_events v.image (events_of_items r 0 v.image.lists.items))
+    ∙ (only_handled v o (events_of_items r 0 v.image.lists.items) s ∙ ap (scene_after_all v s) (items_in r o 0 v.image.lists.items)))
 
 -- where none is handled, occurrences change nothing
 pub occurrences_stay : (v : VerifiedProgram) (r o n : ℕ) (s : Scene) → [] ≡ handled_items v.image r → scene_after_all v s (occurrence_events r v.image.lists.items o n) ≡ s
@@ -117,7 +155,9 @@ module _ (x : Image) (n : ℕ → ℕ) (o : ℕ) where
       by others true = (there.0, others)
       by others false = others
 
-  pub items_there : (r : ℕ) (es : List Event) → es ≡ handled_items x r → 1 ≤ o → o ≤ n r → AllThere x n (in_occurrence o es)
-  items_there r es is low high =
+  pub items_there : (r : ℕ) (hs : List Handled) → hs ≡ handled_items x r → 1 ≤ o → o ≤ n r → AllThere x n (in_occurrence o (events_of hs))
+  items_there r hs is low high =
       let all = subst (AllThere x n) (sym (items_in r o 0 x.lists.items)) (all_items_there x n r o low high) in
-      subst (λ (l : List Event). AllThere x n (in_occurrence o l)) (sym is) (kept (has_routine x) (events_of_items r 0 x.lists.items) all)
+      let some = kept (has_routine x) (events_of_items r 0 x.lists.items) all in
+      subst (λ (l : List Handled). AllThere x n (in_occurrence o (events_of l))) (sym is)
+      (subst (λ (l : List Event). AllThere x n (in_occurrence o l)) (sym (handled_events x (events_of_items r 0 x.lists.items))) some)

@@ -4,7 +4,9 @@ ghost use Rattle.std.specs.Prelude.{◌≡◌, ◌≤◌, Some, OnOk};
 ghost use Rattle.cse_bounds.specs.CaseEvents.{case_events, event, item_events, moment, occurrence_events, record_events, records_events};
 ghost use Rattle.cse_report.specs.Reports.{ReportsFit};
 ghost use Rattle.cse_steps.specs.Fits.{IsThere, occurrences_in};
-ghost use Rattle.cse_batch.specs.Handled.{AreHandled, IsHandledRecord, has_routine};
+ghost use Rattle.cse_typing.specs.Handlers.{routine_of};
+ghost use Rattle.cse_machine.specs.Handled.{handled_by};
+ghost use Rattle.cse_batch.specs.Handled.{AreHandled, IsHandledRecord};
 ghost use Rattle.cse_batch.specs.Scene.{GoesOn, scene, scene_after, scene_after_all};
 
 use crate::handled::{HandledEvents, HandledRecord};
@@ -12,12 +14,14 @@ use crate::machine::Runs;
 use cse_case::Case;
 use cse_decks::Store;
 use cse_image::{Code, Event, EventCode};
+use cse_machine::Handled;
 use cse_report::Reports;
 use cse_steps::event_ends;
 use cse_value::OutOfMemory;
 use cse_verify::Verified;
 
-/// Runs an event, as a list of one, so that the machine's loop stands once in the program.
+/// Runs an event of the level or of a record with its routine, as a list of one, so that the machine's loop stands
+/// once in the program.
 fn run_event<C: Code, M: Runs>(
     verified: &Verified<'_, C>,
     machine: &mut M,
@@ -25,19 +29,20 @@ fn run_event<C: Code, M: Runs>(
     store: &mut Store,
     reports: &mut Reports,
     event: Event,
-    occurrence: u16,
+    routine: u32,
 ) -> Result<(), OutOfMemory>
+    requires routine { routine_of verified.now.image.lists.events event ≡ Some routine }
     requires machine { M.program machine.old ≡ verified.now }
     requires goes_on { GoesOn verified.now case.old case.old store.old }
-    requires there { IsThere verified.now.image (occurrences_in (Some case.old)) event.code event.index occurrence }
+    requires there { IsThere verified.now.image (occurrences_in (Some case.old)) event.code event.index 0 }
     requires reports { ReportsFit verified.now.image reports.old }
     ensures same { M.program machine.new ≡ verified.now }
-    ensures scene { OnOk result (scene (Some case.new) store.new reports.new ≡ scene_after verified.now (scene (Some case.old) store.old reports.old) (moment event.code event.index occurrence)) }
+    ensures scene { OnOk result (scene (Some case.new) store.new reports.new ≡ scene_after verified.now (scene (Some case.old) store.old reports.old) (moment event.code event.index 0)) }
     ensures goes_on { OnOk result (GoesOn verified.now case.old case.new store.new) }
     ensures reports_fit { ReportsFit verified.now.image reports.new }
 {
     event_ends(verified);
-    machine.run_events(case, store, reports, &[event], occurrence)
+    machine.run_events(case, store, reports, &[Handled { event, routine }], 0)
 }
 
 /// Runs an event of the level or of a record, if the program has a routine for it.
@@ -49,9 +54,9 @@ fn run_if_handled<C: Code, M: Runs>(
     store: &mut Store,
     reports: &mut Reports,
     event: Event,
-    is_handled: bool,
+    handled: Option<Handled>,
 ) -> Result<(), OutOfMemory>
-    requires handled { is_handled ≡ has_routine verified.now.image event }
+    requires handled { handled ≡ handled_by verified.now.image event }
     requires machine { M.program machine.old ≡ verified.now }
     requires goes_on { GoesOn verified.now case.old case.old store.old }
     requires there { IsThere verified.now.image (occurrences_in (Some case.old)) event.code event.index 0 }
@@ -61,10 +66,18 @@ fn run_if_handled<C: Code, M: Runs>(
     ensures goes_on { OnOk result (GoesOn verified.now case.old case.new store.new) }
     ensures reports_fit { ReportsFit verified.now.image reports.new }
 {
-    if !is_handled {
+    let Some(handled) = handled else {
         return Ok(());
-    }
-    run_event(verified, machine, case, store, reports, event, 0)
+    };
+    run_event(
+        verified,
+        machine,
+        case,
+        store,
+        reports,
+        event,
+        handled.routine,
+    )
 }
 
 /// An event, by its code and the number of its record or item.

@@ -1,15 +1,16 @@
 //! The events of a case that a program has a routine for, found once before the first case.
 
 ghost use Rattle.std.specs.Prelude.{◌≡◌, ◌++◌, ◌<◌, [], ◌∷◌, IfOk, OnOk, filter, length, map};
-ghost use Rattle.std.specs.List.{AllByRecursion};
+ghost use Rattle.std.specs.List.{AllByRecursion, filter_map};
 ghost use Rattle.cse_bounds.specs.CaseEvents.{event};
 ghost use Rattle.cse_dict.specs.Dictionary.{shape_of};
-ghost use Rattle.cse_batch.specs.Handled.{AreHandled, IsHandledRecord, handled_items, has_routine, is_handled, number_of};
+ghost use Rattle.cse_machine.specs.Handled.{handled_by};
+ghost use Rattle.cse_batch.specs.Handled.{AreHandled, IsHandledRecord, handled_items, is_handled, number_of};
 ghost use Rattle.cse_verify.specs.Verified.{VerifiedProgram};
 
 use crate::parts::{items_of, order_of};
 use cse_image::{Code, Event, EventCode};
-use cse_typing::routine_of;
+use cse_machine::Handled;
 use cse_verify::Verified;
 use std::alloc::{AllocError, Global};
 
@@ -17,43 +18,47 @@ use std::alloc::{AllocError, Global};
 #[derive(Drop)]
 pub(crate) struct HandledRecord {
     pub(crate) number: u16,
-    /// Whether its preproc has one.
-    pub(crate) preproc: bool,
+    /// Its preproc, if it has one.
+    pub(crate) preproc: Option<Handled>,
     /// The events of its items that have one, in the order in which they run.
-    pub(crate) items: Vec<Event>,
-    /// Whether its postproc has one.
-    pub(crate) postproc: bool,
+    pub(crate) items: Vec<Handled>,
+    /// Its postproc, if it has one.
+    pub(crate) postproc: Option<Handled>,
 }
 
 /// The events of a case that have a routine.
 #[derive(Drop)]
 pub(crate) struct HandledEvents {
-    /// Whether the preproc of the level has one.
-    pub(crate) preproc: bool,
+    /// The preproc of the level, if it has one.
+    pub(crate) preproc: Option<Handled>,
     /// The records that have one, or whose items do, in edit order.
     pub(crate) records: Vec<HandledRecord>,
-    /// Whether the postproc of the level has one.
-    pub(crate) postproc: bool,
+    /// The postproc of the level, if it has one.
+    pub(crate) postproc: Option<Handled>,
 }
 
-/// Whether the program has a routine for an event.
-fn has_routine<C: Code>(verified: &Verified<'_, C>, code: EventCode, index: u16) -> bool
-    ensures { result ≡ has_routine verified.now.image (event code index) }
+/// An event with its routine, if the program has one for it.
+fn handled_event<C: Code>(
+    verified: &Verified<'_, C>,
+    code: EventCode,
+    index: u16,
+) -> Option<Handled>
+    ensures { result ≡ handled_by verified.now.image (event code index) }
 {
-    routine_of(verified.program(), Event { code, index }).is_some()
+    Handled::of(verified, Event { code, index })
 }
 
 /// Puts an event behind others, if the program has a routine for it.
 fn put_handled<C: Code>(
     verified: &Verified<'_, C>,
-    events: &mut Vec<Event>,
+    events: &mut Vec<Handled>,
     code: EventCode,
     index: u16,
 ) -> Result<(), AllocError>
-    ensures { OnOk result (events.new.items ≡ events.old.items ++ filter (has_routine verified.now.image) (event code index ∷ [])) }
+    ensures { OnOk result (events.new.items ≡ events.old.items ++ filter_map (handled_by verified.now.image) (event code index ∷ [])) }
 {
-    if has_routine(verified, code, index) {
-        events.push(Event { code, index })?;
+    if let Some(handled) = handled_event(verified, code, index) {
+        events.push(handled)?;
     }
     Ok(())
 }
@@ -63,7 +68,7 @@ fn events_of_items<C: Code>(
     alloc: Global,
     verified: &Verified<'_, C>,
     number: u16,
-) -> Result<Vec<Event>, AllocError>
+) -> Result<Vec<Handled>, AllocError>
     ensures { IfOk result (λ events. events.items ≡ handled_items verified.now.image number) }
 {
     let items = items_of(verified);
@@ -89,9 +94,9 @@ fn handled_record<C: Code>(
 {
     Ok(HandledRecord {
         number,
-        preproc: has_routine(verified, EventCode::RecordPreproc, number),
+        preproc: handled_event(verified, EventCode::RecordPreproc, number),
         items: events_of_items(alloc, verified, number)?,
-        postproc: has_routine(verified, EventCode::RecordPostproc, number),
+        postproc: handled_event(verified, EventCode::RecordPostproc, number),
     })
 }
 
@@ -99,7 +104,7 @@ fn handled_record<C: Code>(
 fn is_handled(handled: &HandledRecord) -> bool
     ensures { (v : VerifiedProgram) → IsHandledRecord v handled.now → result ≡ is_handled v.image handled.now.number }
 {
-    handled.preproc || 0 < handled.items.len() || handled.postproc
+    handled.preproc.is_some() || 0 < handled.items.len() || handled.postproc.is_some()
 }
 
 /// The events of the records that have a routine, in edit order; a record without one isn't among them.
@@ -129,8 +134,8 @@ pub(crate) fn handled_events<C: Code>(
     ensures { IfOk result (AreHandled verified.now) }
 {
     Ok(HandledEvents {
-        preproc: has_routine(verified, EventCode::LevelPreproc, 0),
+        preproc: handled_event(verified, EventCode::LevelPreproc, 0),
         records: handled_records(alloc, verified)?,
-        postproc: has_routine(verified, EventCode::LevelPostproc, 0),
+        postproc: handled_event(verified, EventCode::LevelPostproc, 0),
     })
 }

@@ -7,12 +7,13 @@ ghost use Rattle.cse_case.specs.Fit.{IsFit};
 ghost use Rattle.cse_decks.specs.Store.{StoreFits};
 ghost use Rattle.cse_report.specs.Reports.{ReportsFit};
 ghost use Rattle.cse_steps.specs.Fits.{FitsFirst, is_of_run};
+ghost use Rattle.cse_machine.specs.Handled.{AllHandled, events_of};
 ghost use Rattle.cse_machine.specs.Results.{AllFitFirst, AllRunTo, HaltsAmong, HaltsAt, RunsTo, in_occurrence};
 
 use cse_case::Case;
 use cse_decks::Store;
 use cse_image::{Code, Event};
-use cse_machine::Machine;
+use cse_machine::{Handled, Machine};
 use cse_report::Reports;
 use cse_value::OutOfMemory;
 
@@ -22,40 +23,23 @@ pub trait Runs {
     // The program that it runs.
     ghost program: { Self → VerifiedProgram };
 
-    /// Runs an event, of an occurrence from 1 where it is an item's and else 0, and tells its steps.
-    fn run_event(
-        &mut self,
-        case: &mut Case<'_>,
-        store: &mut Store,
-        reports: &mut Reports,
-        event: Event,
-        occurrence: u16,
-    ) -> Result<u64, OutOfMemory>
-        requires fits { FitsFirst (program self.old) (moment event.code event.index occurrence) (Some case.old) store.old }
-        requires reports { ReportsFit (program self.old).image reports.old }
-        ensures same { program self.new ≡ program self.old }
-        ensures ended { IfOk result (λ n. RunsTo (program self.old) (moment event.code event.index occurrence) (Some case.old) store.old reports.old n (Some case.new) store.new reports.new) }
-        ensures halted { OnErr result (HaltsAt (program self.old) (moment event.code event.index occurrence) (Some case.old) store.old reports.old (Some case.new) store.new reports.new) }
-        ensures case_fits { IsFit case.new }
-        ensures store_fits { StoreFits (program self.old).image store.new }
-        ensures reports_fit { ReportsFit (program self.old).image reports.new };
-
-    /// Runs events, one after the other, with the occurrence that all of them are of.
+    /// Runs events with their routines, one after the other, with the occurrence that all of them are of.
     fn run_events(
         &mut self,
         case: &mut Case<'_>,
         store: &mut Store,
         reports: &mut Reports,
-        events: &[Event],
+        events: &[Handled],
         occurrence: u16,
     ) -> Result<(), OutOfMemory>
+        requires handled { AllHandled (program self.old).image events.now }
         requires case_fits { IsFit case.old }
         requires store_fits { StoreFits (program self.old).image store.old }
-        requires fits { AllFitFirst (program self.old) (in_occurrence occurrence events.now) (Some case.old) store.old }
+        requires fits { AllFitFirst (program self.old) (in_occurrence occurrence (events_of events.now)) (Some case.old) store.old }
         requires reports { ReportsFit (program self.old).image reports.old }
         ensures same { program self.new ≡ program self.old }
-        ensures ended { OnOk result (AllRunTo (program self.old) (in_occurrence occurrence events.now) (Some case.old) store.old reports.old (Some case.new) store.new reports.new) }
-        ensures halted { OnErr result (HaltsAmong (program self.old) (in_occurrence occurrence events.now) (Some case.old) store.old reports.old (Some case.new) store.new reports.new) }
+        ensures ended { OnOk result (AllRunTo (program self.old) (in_occurrence occurrence (events_of events.now)) (Some case.old) store.old reports.old (Some case.new) store.new reports.new) }
+        ensures halted { OnErr result (HaltsAmong (program self.old) (in_occurrence occurrence (events_of events.now)) (Some case.old) store.old reports.old (Some case.new) store.new reports.new) }
         ensures case_fits { IsFit case.new }
         ensures store_fits { StoreFits (program self.old).image store.new }
         ensures reports_fit { ReportsFit (program self.old).image reports.new };
@@ -80,23 +64,12 @@ pub trait Runs {
 impl<C: Code> Runs for Machine<'_, '_, C> {
     ghost program = { λ m. m };
 
-    fn run_event(
-        &mut self,
-        case: &mut Case<'_>,
-        store: &mut Store,
-        reports: &mut Reports,
-        event: Event,
-        occurrence: u16,
-    ) -> Result<u64, OutOfMemory> {
-        Machine::run_event(self, case, store, reports, event, occurrence)
-    }
-
     fn run_events(
         &mut self,
         case: &mut Case<'_>,
         store: &mut Store,
         reports: &mut Reports,
-        events: &[Event],
+        events: &[Handled],
         occurrence: u16,
     ) -> Result<(), OutOfMemory> {
         Machine::run_events(self, case, store, reports, events, occurrence)

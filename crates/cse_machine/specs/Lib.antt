@@ -4,7 +4,7 @@ pub mod Resolve
 pub mod Laws
 pub mod Results
 pub mod Ready
-pub mod Handlers
+pub mod Handled
 pub mod Small
 pub mod Quiet
 pub mod Sorts

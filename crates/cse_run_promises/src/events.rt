@@ -4,6 +4,7 @@ ghost use Rattle.std.specs.Prelude.{◌≡◌, None, Some, IfOk, OnErr, OnOk, is
 ghost use Rattle.cse_bounds.specs.CaseEvents.{moment};
 ghost use Rattle.cse_case.specs.Fit.{IsFit};
 ghost use Rattle.cse_decks.specs.Store.{StoreFits};
+ghost use Rattle.cse_machine.specs.Handled.{AllHandled, events_of};
 ghost use Rattle.cse_machine.specs.Results.{AllFitFirst, AllRunTo, HaltsAmong, HaltsAt, RunsTo, in_occurrence};
 ghost use Rattle.cse_report.specs.Reports.{ReportsFit};
 ghost use Rattle.cse_steps.specs.Fits.{FitsFirst, is_of_run};
@@ -12,7 +13,7 @@ ghost use Rattle.cse_typing.specs.Handlers.{routine_of as spec_routine};
 use cse_case::Case;
 use cse_decks::Store;
 use cse_image::{Code, Event};
-use cse_machine::Machine;
+use cse_machine::{Handled, Machine};
 use cse_report::Reports;
 use cse_value::OutOfMemory;
 
@@ -50,16 +51,17 @@ pub fn run_events<C: Code>(
     case: &mut Case<'_>,
     store: &mut Store,
     reports: &mut Reports,
-    events: &[Event],
+    events: &[Handled],
     occurrence: u16,
 ) -> Result<(), OutOfMemory>
+    requires handled { AllHandled machine.old.image events.now }
     requires case_fits { IsFit case.old }
     requires store_fits { StoreFits machine.old.image store.old }
-    requires fits { AllFitFirst machine.old (in_occurrence occurrence events.now) (Some case.old) store.old }
+    requires fits { AllFitFirst machine.old (in_occurrence occurrence (events_of events.now)) (Some case.old) store.old }
     requires reports { ReportsFit machine.old.image reports.old }
     ensures same { machine.new ≡ machine.old }
-    ensures ended { OnOk result (AllRunTo machine.old (in_occurrence occurrence events.now) (Some case.old) store.old reports.old (Some case.new) store.new reports.new) }
-    ensures halted { OnErr result (HaltsAmong machine.old (in_occurrence occurrence events.now) (Some case.old) store.old reports.old (Some case.new) store.new reports.new) }
+    ensures ended { OnOk result (AllRunTo machine.old (in_occurrence occurrence (events_of events.now)) (Some case.old) store.old reports.old (Some case.new) store.new reports.new) }
+    ensures halted { OnErr result (HaltsAmong machine.old (in_occurrence occurrence (events_of events.now)) (Some case.old) store.old reports.old (Some case.new) store.new reports.new) }
     ensures case_fits { IsFit case.new }
     ensures store_fits { StoreFits machine.old.image store.new }
     ensures reports_fit { ReportsFit machine.old.image reports.new }

@@ -1,24 +1,28 @@
-use Rattle.std.proofs.Common.{Some, [], ◌∷◌, refl, subst, sym}
+use Rattle.std.proofs.Common.{Some, [], ◌∷◌, ◌∙◌, ap, refl, subst, sym}
 use Rattle.cse_bounds.specs.CaseEvents.{moment}
+use Rattle.cse_typing.specs.Handlers.{routine_of}
 use Rattle.cse_machine.specs.Results.{AllFitFirst}
 use Rattle.cse_verify.specs.Verified.{VerifiedProgram}
 use Rattle.cse_batch.specs.Scene.{world_of}
 use Rattle.cse_batch.proofs.SceneLaws.{all_fit, all_ran_fits, all_ran_scene, on_ok}
 use Rattle.cse_batch.proofs.events.run_event.Goals as goal
 
+pub run_events-requires-clause-handled : goal.run_events-requires-clause-handled
+run_events-requires-clause-handled g c = (ap (λ (p : VerifiedProgram). routine_of p.image.lists.events c.args.event) c.requires.machine ∙ c.requires.routine, tt)
+
 pub run_events-requires-clause-fits : goal.run_events-requires-clause-fits
 run_events-requires-clause-fits g c =
     let v = c.args.verified.now in
     let case = Some c.args.case.now in
     let store = c.args.store.now in
-    let m = moment c.args.event.code c.args.event.index c.args.occurrence in
+    let m = moment c.args.event.code c.args.event.index 0 in
     let fit = all_fit v case (world_of case store) (m ∷ []) refl c.requires.goes_on (c.requires.there, tt) in
     subst (λ (p : VerifiedProgram). AllFitFirst p (m ∷ []) case store) (sym c.requires.machine) fit
 
 pub returns-clause-scene : goal.returns-clause-scene
 returns-clause-scene g c =
     let v = c.args.verified.now in
-    let m = moment c.args.event.code c.args.event.index c.args.occurrence in
+    let m = moment c.args.event.code c.args.event.index 0 in
     let ran = rw c.requires.machine at c.run_events.ensures.ended in
     on_ok c.run_events.result (all_ran_scene v (m ∷ []) (Some c.args.case.now) (Some c.run_events.new.case) c.args.store.now c.run_events.new.store c.args.reports.now c.run_events.new.reports) ran
 
@@ -26,6 +30,6 @@ pub returns-clause-goes_on : goal.returns-clause-goes_on
 returns-clause-goes_on g c =
     let v = c.args.verified.now in
     let case = Some c.args.case.now in
-    let m = moment c.args.event.code c.args.event.index c.args.occurrence in
+    let m = moment c.args.event.code c.args.event.index 0 in
     let ran = rw c.requires.machine at c.run_events.ensures.ended in
     on_ok c.run_events.result (all_ran_fits v c.event_ends.ensures c.args.case.now (m ∷ []) case (Some c.run_events.new.case) c.args.store.now c.run_events.new.store c.args.reports.now c.run_events.new.reports c.requires.goes_on (c.requires.there, tt)) ran
