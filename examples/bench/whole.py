@@ -5,10 +5,12 @@ usage: whole.py CSBATCH [CASES [ROUNDS]]     (1,000,000 cases and 5 rounds, if i
 
 It builds `copy.rs`, `households.rs` and `household/main.rs` beside it, and writes three files: short lines, three to a
 case; the same with a column beyond ASCII in each; and households as the sample has them. In each round it runs a copy
-by hand and `csbatch run` with empty logic over each of the first two; over the third `cat`, the sample's edit by hand,
-`csbatch run` with empty logic, with the sample's logic, the same in 4 parts side by side, and over the first 10,000
-cases. It prints seconds of processor time (user and system, least of the rounds) with the ratio to the plain program
-that does the same, seconds of the clock, and the most memory that was resident; then whether both wrote the same.
+by hand and `csbatch run` with empty logic over each of the first two; over the third `cat`, the sample's edit by hand, a
+plain machine that runs the sample's image and one without events (`household/machine.rs`; its lines are read and written
+as those of the edit by hand are), `csbatch run` with empty logic, with the sample's logic, the same in 4 parts side by
+side, and over the first 10,000 cases. It prints seconds of processor time (user and system, least of the rounds) with
+the ratio to the plain program that does the same, the sample's to the edit by hand and to the machine, seconds of the
+clock, and the most memory that was resident; then whether all wrote the same.
 """
 import filecmp
 import os
@@ -22,9 +24,12 @@ HERE = os.path.dirname(os.path.realpath(__file__))
 SAMPLE = os.path.join(HERE, "..", "household")
 SHORT = os.path.join(HERE, "..", "sample", "SAMPLE.dcf")
 PARTS, FEW = 4, 10_000
+ENDS = ("out", "lst", "frq", "decks")
 
-# Which plain program does the work of a run.
-PLAIN = {"short lines": "copy of short lines", "beyond ASCII": "copy beyond ASCII", "sample": "edit by hand"}
+# Which plain programs do the work of a run.
+HAND, MACHINE, NO_EVENTS = "edit by hand", "sample's image by a plain machine", "no events by a plain machine"
+PLAIN = {"short lines": ["copy of short lines"], "beyond ASCII": ["copy beyond ASCII"], "empty logic": [NO_EVENTS],
+         "sample": [HAND, MACHINE]}
 
 
 def sample(name):
@@ -115,6 +120,10 @@ def run_of(program, image, data, to, decks=True, dictionary=sample("dcf")):
     return words + ["--decks", f"{to}.decks"] * decks, f"{to}.said"
 
 
+def plain_run(plain, to, *image):
+    return [([plain, "data", f"{to}.out", f"{to}.lst", f"{to}.frq", f"{to}.decks", *image], f"{to}.said")]
+
+
 def prepared(program, cases):
     with open("data", "wb") as data:
         subprocess.run([built("households.rs", "households"), str(cases)], stdout=data, check=True)
@@ -125,7 +134,7 @@ def prepared(program, cases):
     subprocess.run([program, "compile", SHORT, "empty.apc", "short.img"], check=True)
     short_lines("short", cases, "E")
     short_lines("beyond", cases, "\u00c9")
-    copy = built("copy.rs", "copy")
+    copy, plain = built("copy.rs", "copy"), built("household/main.rs", "plain")
     lines = first_cases("data", "few", FEW)
     parts = in_parts("data", lines)
     rows = {
@@ -134,13 +143,15 @@ def prepared(program, cases):
         "copy beyond ASCII": [([copy, "beyond", "cb.out"], "cb.said")],
         "beyond ASCII": [run_of(program, "short.img", "beyond", "b", decks=False, dictionary=SHORT)],
         "cat": [(["cat", "data"], "cat.out")],
-        "edit by hand": [([built("household/main.rs", "plain"), "data", "p.out", "p.lst", "p.frq", "p.decks"], "p.said")],
+        HAND: plain_run(plain, "p"),
+        MACHINE: plain_run(plain, "m", sample("dcf"), "logic.img"),
+        NO_EVENTS: plain_run(plain, "n", sample("dcf"), "empty.img"),
         "empty logic": [run_of(program, "empty.img", "data", "e", decks=False)],
         "sample": [run_of(program, "logic.img", "data", "h")],
         f"in {PARTS} parts": [run_of(program, "logic.img", part, part) for part in parts],
         f"{FEW} cases": [run_of(program, "logic.img", "few", "f")],
     }
-    return lines, rows, ["p.decks", "h.decks", "f.decks", *(f"{part}.decks" for part in parts)]
+    return lines, rows, ["p.decks", "m.decks", "n.decks", "h.decks", "f.decks", *(f"{part}.decks" for part in parts)]
 
 
 def main(program, cases=1_000_000, rounds=5):
@@ -153,12 +164,12 @@ def main(program, cases=1_000_000, rounds=5):
         for name, commands in rows.items():
             seen.setdefault(name, []).append(timed(*commands))
     least = {name: min(it[0] for it in used) for name, used in seen.items()}
-    print(f"{'':20}{'processor s':>12}{'ratio':>7}{'clock s':>9}{'KB':>9}")
+    print(f"{'':35}{'processor s':>12}{'ratio':>11}{'clock s':>9}{'KB':>9}")
     for name, used in seen.items():
-        ratio = f"{least[name] / least[PLAIN[name]]:.2f}" if name in PLAIN else ""
-        print(f"{name:20}{least[name]:12.2f}{ratio:>7}{min(it[1] for it in used):9.2f}{max(it[2] for it in used):9}")
+        ratio = " ".join(f"{least[name] / least[plain]:.2f}" for plain in PLAIN.get(name, []))
+        print(f"{name:35}{least[name]:12.2f}{ratio:>11}{min(it[1] for it in used):9.2f}{max(it[2] for it in used):9}")
     for ours, theirs in (("s.out", "cs.out"), ("s.out", "short"), ("b.out", "cb.out"), ("b.out", "beyond"), ("e.out", "data"),
-                         ("h.out", "p.out"), ("h.lst", "p.lst"), ("h.frq", "p.frq"), ("h.decks", "p.decks")):
+                         ("n.out", "data"), *((f"h.{end}", f"{plain}.{end}") for plain in "pm" for end in ENDS)):
         print(f"{ours} and {theirs}: {'the same' if filecmp.cmp(ours, theirs, shallow=False) else 'DIFFERENT'}")
 
 

@@ -42,7 +42,7 @@ fn run_event<C: Code, M: Runs>(
     ensures reports_fit { ReportsFit verified.now.image reports.new }
 {
     event_ends(verified);
-    machine.run_events(case, store, reports, &[Handled { event, routine }], 0)
+    machine.run_handled(case, store, reports, &[Handled { event, routine }], 0)
 }
 
 /// Runs an event of the level or of a record, if the program has a routine for it.
@@ -109,7 +109,7 @@ fn run_items<C: Code, M: Runs>(
     ensures reports_fit { ReportsFit verified.now.image reports.new }
 {
     event_ends(verified);
-    machine.run_events(case, store, reports, &handled.items, occurrence)
+    machine.run_handled(case, store, reports, &handled.items, occurrence)
 }
 
 /// Runs the events of the items of a record in each of its occurrences.

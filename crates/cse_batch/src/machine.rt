@@ -24,7 +24,7 @@ pub trait Runs {
     ghost program: { Self → VerifiedProgram };
 
     /// Runs events with their routines, one after the other, with the occurrence that all of them are of.
-    fn run_events(
+    fn run_handled(
         &mut self,
         case: &mut Case<'_>,
         store: &mut Store,
@@ -64,7 +64,7 @@ pub trait Runs {
 impl<C: Code> Runs for Machine<'_, '_, C> {
     ghost program = { λ m. m };
 
-    fn run_events(
+    fn run_handled(
         &mut self,
         case: &mut Case<'_>,
         store: &mut Store,
@@ -72,7 +72,7 @@ impl<C: Code> Runs for Machine<'_, '_, C> {
         events: &[Handled],
         occurrence: u16,
     ) -> Result<(), OutOfMemory> {
-        Machine::run_events(self, case, store, reports, events, occurrence)
+        Machine::run_handled(self, case, store, reports, events, occurrence)
     }
 
     fn run_plain(

@@ -52,6 +52,7 @@ use Rattle.cse_meaning.specs.Lands.{Around, IsInside, Lands, StatementsLand}
 use Rattle.cse_meaning.proofs.Facts.{many_first, global_text}
 use Rattle.cse_typing.specs.Order.{is_run}
 use Rattle.cse_meaning.proofs.Going.{left, joined, stays, plain_at, named, then_goes}
+use Rattle.cse_meaning.proofs.Rows.{keeps_rows}
 use Rattle.cse_meaning.proofs.Arrays as Arrays
 use Rattle.cse_meaning.proofs.Arrays.{LedBy, on_top, stacked, sizes_are, size_is, behind_is, cell_put, cell_fits}
 use Rattle.cse_meaning.proofs.Messages.{message_goes}
@@ -375,5 +376,5 @@ module _ (compose : RunsCompose) (e : Setting) (s0 : Spot) (fn : Functions) (c0 
           (λ v f h. arms_land others room inside L O K ls l a end _ v laid many_are f around plain.2 fit.2 (let z : end ≡ p + front_size (number_size condition) (block_size e body) (arms_size e others) + arms_size e others = omega arith in z) h)
 
 pub all_land : RunsCompose → StatementsLand
-all_land compose e s fn c first ls l a room inside x p w laid sound keeps exit follows fits around plain fit has =
-    statement_lands compose e s fn c first (length ls.parameters) sound keeps follows exit x room inside s.locals s.opens c.loops ls l a p w laid refl fits around plain fit has
+all_land compose e s fn c first ls l a room inside x p w laid sound exit follows fits around plain fit has =
+    statement_lands compose e s fn c first (length ls.parameters) sound (keeps_rows s.program.dictionary sound) follows exit x room inside s.locals s.opens c.loops ls l a p w laid refl fits around plain fit has

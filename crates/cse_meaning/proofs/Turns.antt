@@ -1,12 +1,12 @@
 -- The head of a `do` counts the turns that it means.
-use Rattle.std.proofs.Common.{◌≡◌, ℕ, ℤ, pos, negsuc, ◌+◌, ◌≤◌, List, [], ◌∷◌, length, Option, Some, None, refl, sym, ap, ◌∙◌, subst, arith}
+use Rattle.std.proofs.Common.{◌≡◌, ℕ, true, false, ℤ, pos, negsuc, ◌+◌, ◌≤◌, List, [], ◌∷◌, length, Option, Some, None, refl, sym, ap, ◌∙◌, subst, arith}
 use Rattle.std.specs.Prelude.{◌+ℤ◌, ◌-ℤ◌, int_div, if◌then◌else◌, IfSome}
 use Rattle.std.specs.Option.{option_map_or}
 use Rattle.std.proofs.lemmas.Option.{same_Some}
 use Rattle.cse_value.specs.declared.number.Num.{Num}
 use Rattle.cse_value.specs.declared.number.Num.TheVariants.{Whole, NotAppl, Missing, Undef}
 use Rattle.cse_value.specs.declared.shape.RecordShape.{RecordShape}
-use Rattle.cse_value.specs.Number.{sum_of, difference_of, quotient_of, cut}
+use Rattle.cse_value.specs.Number.{sum_of, difference_of, quotient_of, fits_i64, is_zero, cut}
 use Rattle.cse_value.specs.Occurrences.{most_occurrences}
 use Rattle.cse_parts.specs.declared.instruction.Op.TheVariants as ops
 use Rattle.cse_dict.specs.Dictionary.{DictionaryText, shape_of}
@@ -40,13 +40,14 @@ use Rattle.cse_meaning.proofs.Present.{total_here}
 
 -- ---- the number
 
--- nothing is cut
-reckoned : (records : List RecordShape) (x : Counting) (a b : ℤ) → TurnsFit records x a b → emit.turns a b x.step ≡ Whole (int_div ((b -ℤ a) +ℤ x.step) x.step)
-reckoned records x a b fit =
-    ap (λ c. quotient_of (sum_of (if c then Whole (b -ℤ a) else Undef) (Whole x.step)) (Whole x.step)) fit.between
-    ∙ (ap (λ c. quotient_of (if c then Whole ((b -ℤ a) +ℤ x.step) else Undef) (Whole x.step)) fit.more
-    ∙ (ap (λ z. if z then Undef else cut (int_div ((b -ℤ a) +ℤ x.step) x.step)) fit.some
-    ∙ ap (λ c. if c then Whole (int_div ((b -ℤ a) +ℤ x.step) x.step) else Undef) fit.parts))
+-- nothing is cut, where 64 bits hold each part
+pub uncut : (a b k : ℤ) → fits_i64 (b -ℤ a) ≡ true → fits_i64 ((b -ℤ a) +ℤ k) ≡ true → is_zero k ≡ false → fits_i64 (int_div ((b -ℤ a) +ℤ k) k) ≡ true
+    → emit.turns a b k ≡ Whole (int_div ((b -ℤ a) +ℤ k) k)
+uncut a b k between more some parts =
+    ap (λ c. quotient_of (sum_of (if c then Whole (b -ℤ a) else Undef) (Whole k)) (Whole k)) between
+    ∙ (ap (λ c. quotient_of (if c then Whole ((b -ℤ a) +ℤ k) else Undef) (Whole k)) more
+    ∙ (ap (λ z. if z then Undef else cut (int_div ((b -ℤ a) +ℤ k) k)) some
+    ∙ ap (λ c. if c then Whole (int_div ((b -ℤ a) +ℤ k) k) else Undef) parts))
 
 few_turns : (q : ℤ) (m : ℕ) → no_less q ≤ m → turns_of m (Whole q) ≡ no_less q
 few_turns (pos i) m h = omega arith
@@ -54,7 +55,7 @@ few_turns (negsuc i) m h = refl
 
 -- the bracket makes as many turns as are meant
 pub as_many_turns : (records : List RecordShape) (x : Counting) (a b : ℤ) → TurnsFit records x a b → turns_of (turn_limit records x) (emit.turns a b x.step) ≡ turns a b x.step
-as_many_turns records x a b fit = ap (turns_of (turn_limit records x)) (reckoned records x a b fit) ∙ few_turns (int_div ((b -ℤ a) +ℤ x.step) x.step) (turn_limit records x) fit.few
+as_many_turns records x a b fit = ap (turns_of (turn_limit records x)) (uncut a b x.step fit.between fit.more fit.some fit.parts) ∙ few_turns (int_div ((b -ℤ a) +ℤ x.step) x.step) (turn_limit records x) fit.few
 
 -- ---- the code
 

@@ -15,7 +15,7 @@ use Rattle.cse_steps.specs.Fits.{FitsWorld}
 use Rattle.cse_meaning.specs.Setting.{Context, Locals, Functions}
 use Rattle.cse_meaning.specs.Statements.{Flow, Fell, Broke, Skipped, Left, does}
 use Rattle.cse_meaning.specs.Runs.{Goes, Spot, at, HasCode}
-use Rattle.cse_meaning.specs.Laid.{IsLaid, KeepsRows, AreOpen, place_in}
+use Rattle.cse_meaning.specs.Laid.{IsLaid, AreOpen, place_in}
 use Rattle.cse_meaning.specs.Follows.{Follows}
 use Rattle.cse_meaning.specs.Plain.{IsPlainStatement}
 
@@ -64,6 +64,6 @@ Lands e s c first n l a p q w (Left ls next) = Returns e s first p w ls next
 abbrev pub StatementsLand : Type 0
 StatementsLand =
     (e : Setting) (s : Spot) (fn : Functions) (c : Context) (first : Option CaseText) (ls : Locals) (l : Loop) (a : Around) (room : ℕ) (inside : Bool) (x : Statement) (p : ℕ) (w : World)
-    → IsLaid e s c first ls → IsSound s.program.dictionary → KeepsRows s.program.dictionary → IsExit (place_in e s c) e.result_at → Follows s.program first fn s.number → FitsWorld s.program first w → (inside ≡ true → IsInside s first l a)
+    → IsLaid e s c first ls → IsSound s.program.dictionary → IsExit (place_in e s c) e.result_at → Follows s.program first fn s.number → FitsWorld s.program first w → (inside ≡ true → IsInside s first l a)
     → IsPlainStatement e.records (length ls.parameters) x → StatementFits (place_in e s c) room inside x → HasCode s p (statement_code e l p x)
     → Lands e s c first (length ls.parameters) l a p (p + statement_size e x) w (does fn c x ls w)

@@ -1,12 +1,12 @@
 -- 64 bits hold the turns of each `do` of a source.
 use Rattle.std.proofs.Common.{◌≡◌, ℕ, zero, suc, ◌/◌, ◌≤◌, ℤ, pos, negsuc, Bool, true, false, List, refl, sym, ap, ◌∙◌, subst, arith, le_trans, div-mul-le_self, div-le_self}
-use Rattle.std.specs.Prelude.{◌^◌, ◌+ℤ◌, ◌-ℤ◌, ◌≤ℤ◌, neg_ℤ, int_div, if◌then◌else◌, ◌==◌}
+use Rattle.std.specs.Prelude.{◌^◌, ◌+ℤ◌, ◌-ℤ◌, ◌≤ℤ◌, neg_ℤ, int_div, ◌==◌}
 use Rattle.std.proofs.lemmas.Int.{ints}
 use Rattle.std.proofs.lemmas.Bool.{lt-ltb, eqb-true}
 use Rattle.std.proofs.lemmas.Nat.{le-div}
-use Rattle.cse_value.specs.declared.number.Num.TheVariants.{Whole, Undef}
+use Rattle.cse_value.specs.declared.number.Num.TheVariants.{Whole}
 use Rattle.cse_value.specs.declared.shape.RecordShape.{RecordShape}
-use Rattle.cse_value.specs.Number.{fits_i64, is_zero, cut, sum_of, quotient_of}
+use Rattle.cse_value.specs.Number.{fits_i64, is_zero}
 use Rattle.cse_value.specs.Occurrences.{most_occurrences}
 use Rattle.cse_syntax.specs.declared.tree.Count.TheVariants as counts
 use Rattle.cse_typed.specs.Typed.{Limit, Fixed, Counted, Counting}
@@ -14,6 +14,7 @@ use Rattle.cse_emit.specs.Statements as emit
 use Rattle.cse_emit.specs.Statements.{as_limit, least, greatest}
 use Rattle.cse_meaning.specs.Statements.{no_less, turns}
 use Rattle.cse_meaning.specs.Plain.{MayBe, KeepsTurns}
+use Rattle.cse_meaning.proofs.Turns.{uncut}
 
 -- ---- numbers
 
@@ -76,11 +77,7 @@ module _ (a b : ℤ) (k : ℕ) (some : 1 ≤ k) (small : k ≤ 999) (na : IsNear
 
   -- nothing is cut
   reckoned : emit.turns a b (pos k) ≡ Whole (int_div span (pos k))
-  reckoned =
-      ap (λ c. quotient_of (sum_of (if c then Whole (b -ℤ a) else Undef) (Whole (pos k))) (Whole (pos k))) between_fits
-      ∙ (ap (λ c. quotient_of (if c then Whole span else Undef) (Whole (pos k))) span_fits
-      ∙ (ap (λ z. if z then Undef else cut (int_div span (pos k))) (not_zero k some)
-      ∙ ap (λ c. if c then Whole (int_div span (pos k)) else Undef) quotient_fits))
+  reckoned = uncut a b (pos k) between_fits span_fits (not_zero k some) quotient_fits
 
 -- between other limits there are no more turns than between the least and the greatest
 few_turns : (a b least greatest : ℤ) (k : ℕ) → 1 ≤ k → k ≤ 999 → IsNear 999999999 least → IsNear 999999999 greatest → least ≤ℤ a → b ≤ℤ greatest → turns a b (pos k) ≤ as_limit (emit.turns least greatest (pos k))

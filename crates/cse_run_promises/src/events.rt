@@ -51,6 +51,29 @@ pub fn run_events<C: Code>(
     case: &mut Case<'_>,
     store: &mut Store,
     reports: &mut Reports,
+    events: &[Event],
+    occurrence: u16,
+) -> Result<(), OutOfMemory>
+    requires case_fits { IsFit case.old }
+    requires store_fits { StoreFits machine.old.image store.old }
+    requires fits { AllFitFirst machine.old (in_occurrence occurrence events.now) (Some case.old) store.old }
+    requires reports { ReportsFit machine.old.image reports.old }
+    ensures same { machine.new ≡ machine.old }
+    ensures ended { OnOk result (AllRunTo machine.old (in_occurrence occurrence events.now) (Some case.old) store.old reports.old (Some case.new) store.new reports.new) }
+    ensures halted { OnErr result (HaltsAmong machine.old (in_occurrence occurrence events.now) (Some case.old) store.old reports.old (Some case.new) store.new reports.new) }
+    ensures case_fits { IsFit case.new }
+    ensures store_fits { StoreFits machine.old.image store.new }
+    ensures reports_fit { ReportsFit machine.old.image reports.new }
+{
+    machine.run_events(case, store, reports, events, occurrence)
+}
+
+/// `Machine::run_handled`.
+pub fn run_handled<C: Code>(
+    machine: &mut Machine<'_, '_, C>,
+    case: &mut Case<'_>,
+    store: &mut Store,
+    reports: &mut Reports,
     events: &[Handled],
     occurrence: u16,
 ) -> Result<(), OutOfMemory>
@@ -66,7 +89,7 @@ pub fn run_events<C: Code>(
     ensures store_fits { StoreFits machine.old.image store.new }
     ensures reports_fit { ReportsFit machine.old.image reports.new }
 {
-    machine.run_events(case, store, reports, events, occurrence)
+    machine.run_handled(case, store, reports, events, occurrence)
 }
 
 /// `Machine::run_plain`.

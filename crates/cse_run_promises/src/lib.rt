@@ -10,6 +10,6 @@ mod events;
 mod turns;
 mod whole;
 
-pub use events::{has_event, run_event, run_events, run_plain};
+pub use events::{has_event, run_event, run_events, run_handled, run_plain};
 pub use turns::{turn_alone, turn_in_case};
 pub use whole::{check_image, run};

@@ -1,17 +1,22 @@
 //! The edit of `examples/household` written by hand in plain Rust, to compare times and outputs with `csbatch run`.
 //!
-//!     rustc --edition 2021 -O household/main.rs -o edit && ./edit HOUSEHOLD.dat OUT LIST FREQ DECKS
+//!     rustc --edition 2021 -O household/main.rs -o edit && ./edit HOUSEHOLD.dat OUT LIST FREQ DECKS [DICT IMAGE]
 //!
 //! It does what the logic of the sample does, over the same columns, and writes the same four files; DECKS is read, and
 //! written again. Nothing in it is general: columns, value sets and messages are those of the sample. Lines are bytes
 //! where they are ASCII, and one buffer holds the lines of a case.
+//!
+//! With a dictionary and an image a plain machine runs the image of the sample instead (`machine.rs`), or an image without
+//! events; lines are read, and all is written, by the same code.
 
 mod edit;
 mod line;
+mod machine;
 mod reports;
 
 use edit::{edit, sort_lines, Kept, Run};
 use line::{Line, Missing, NotAppl, Number, Undefined, Value};
+use machine::{Dictionary, Image, Machine};
 use reports::{Of, Reports, IMPUTED, MESSAGES};
 use std::fs::{self, File};
 use std::io::{self, BufReader, BufWriter, Write};
@@ -27,16 +32,12 @@ fn read_decks(path: &str) -> io::Result<Vec<Value>> {
     Ok(cells.collect())
 }
 
-fn write_decks(path: &str, kept: &Kept) -> io::Result<()> {
+fn write_decks(path: &str, decks: &[(&str, &[Value])]) -> io::Result<()> {
     let mut text = Vec::new();
     writeln!(text, "CSEB DECKS 1")?;
-    for (head, cells) in [
-        ("SEX_HD 6", &kept.sexes[..]),
-        ("AGE_HD 2 6", &kept.ages[..]),
-        ("MARITAL_HD 2 4", &kept.maritals[..]),
-    ] {
+    for (head, cells) in decks {
         writeln!(text, "ARRAY {head}")?;
-        for cell in cells {
+        for cell in *cells {
             cell.write(&mut text, 0, false);
             text.push(b'\n');
         }
@@ -67,26 +68,69 @@ fn write_frequencies(path: &str, reports: &Reports) -> io::Result<()> {
     fs::write(path, text)
 }
 
-fn main() -> io::Result<()> {
-    let paths: Vec<String> = std::env::args().skip(1).collect();
-    let [data, out, list, freq, decks] = paths.as_slice() else {
-        eprintln!("usage: household DATA OUT LIST FREQ DECKS");
-        std::process::exit(2);
-    };
-    let cells = read_decks(decks)?;
-    let mut kept = Kept {
-        sexes: cells[..6].try_into().expect("six"),
-        ages: cells[6..18].try_into().expect("twelve"),
-        maritals: cells[18..26].try_into().expect("eight"),
-        cases: 0,
-        without_head: 0,
-    };
-    let mut input = BufReader::with_capacity(1 << 16, File::open(data)?);
-    let mut out = BufWriter::with_capacity(1 << 16, File::create(out)?);
-    let mut listing = BufWriter::with_capacity(1 << 16, File::create(list)?);
+/// What edits the cases: the edit by hand, or the machine.
+trait Edits {
+    /// What is done in front of the first case.
+    fn begin(&mut self, run: &mut Run, reports: &mut Reports);
+    fn edit(&mut self, run: &mut Run, reports: &mut Reports);
+    /// What is told behind the last case.
+    fn end(&mut self, run: &mut Run, reports: &mut Reports);
+    fn decks(&self) -> Vec<(&str, &[Value])>;
+}
+
+impl Edits for Kept {
+    fn begin(&mut self, _run: &mut Run, _reports: &mut Reports) {}
+
+    fn edit(&mut self, run: &mut Run, reports: &mut Reports) {
+        edit(run, self, reports);
+    }
+
+    fn end(&mut self, _run: &mut Run, reports: &mut Reports) {
+        let (all, without) = (Number(self.cases), Number(self.without_head));
+        reports.list(
+            90,
+            &["", " cases, ", " of them without a head"],
+            &[Of(all, 0, false), Of(without, 0, false)],
+        );
+    }
+
+    fn decks(&self) -> Vec<(&str, &[Value])> {
+        vec![
+            ("SEX_HD 6", &self.sexes),
+            ("AGE_HD 2 6", &self.ages),
+            ("MARITAL_HD 2 4", &self.maritals),
+        ]
+    }
+}
+
+impl Edits for Machine {
+    fn begin(&mut self, run: &mut Run, reports: &mut Reports) {
+        self.preproc(run, reports);
+    }
+
+    fn edit(&mut self, run: &mut Run, reports: &mut Reports) {
+        self.case(run, reports);
+    }
+
+    fn end(&mut self, run: &mut Run, reports: &mut Reports) {
+        self.postproc(run, reports);
+    }
+
+    fn decks(&self) -> Vec<(&str, &[Value])> {
+        self.arrays()
+    }
+}
+
+/// Reads the cases, has them edited, and writes what comes of it.
+fn run_over(paths: &[String], mut edits: impl Edits) -> io::Result<()> {
+    let mut input = BufReader::with_capacity(1 << 16, File::open(&paths[0])?);
+    let mut out = BufWriter::with_capacity(1 << 16, File::create(&paths[1])?);
+    let mut listing = BufWriter::with_capacity(1 << 16, File::create(&paths[2])?);
     writeln!(listing, "CSEB LISTING 1")?;
     let (mut reports, mut run, mut next) = (Reports::default(), Run::default(), Line::default());
     let (mut cases, mut lines, mut unseen) = (0, 0, 0);
+    edits.begin(&mut run, &mut reports);
+    reports.flush(&mut listing, b"RUN\n")?;
     let mut is_there = next.read(&mut input, 1)?;
     while is_there {
         run.count = 0;
@@ -105,7 +149,7 @@ fn main() -> io::Result<()> {
         unseen += sort_lines(&mut run, &mut reports);
         if !run.persons.is_empty() || run.housing.is_some() {
             cases += 1;
-            edit(&mut run, &mut kept, &mut reports);
+            edits.edit(&mut run, &mut reports);
         }
         if !reports.held.is_empty() {
             let heading = [b"CASE [", run.lines[0].ids(), b"]\n"].concat();
@@ -115,12 +159,7 @@ fn main() -> io::Result<()> {
             line.write(&mut out)?;
         }
     }
-    let (all, without) = (Number(kept.cases), Number(kept.without_head));
-    reports.list(
-        90,
-        &["", " cases, ", " of them without a head"],
-        &[Of(all, 0, false), Of(without, 0, false)],
-    );
+    edits.end(&mut run, &mut reports);
     reports.flush(&mut listing, b"RUN\n")?;
     writeln!(
         listing,
@@ -132,8 +171,35 @@ fn main() -> io::Result<()> {
     writeln!(listing, "END")?;
     listing.flush()?;
     out.flush()?;
-    write_frequencies(freq, &reports)?;
-    write_decks(decks, &kept)?;
+    write_frequencies(&paths[3], &reports)?;
+    write_decks(&paths[4], &edits.decks())?;
     println!("cases {cases} lines {lines} unseen {unseen}");
     Ok(())
+}
+
+fn main() -> io::Result<()> {
+    let paths: Vec<String> = std::env::args().skip(1).collect();
+    match &paths[..] {
+        [_, _, _, _, decks] => {
+            let cells = read_decks(decks)?;
+            let kept = Kept {
+                sexes: cells[..6].try_into().expect("six"),
+                ages: cells[6..18].try_into().expect("twelve"),
+                maritals: cells[18..26].try_into().expect("eight"),
+                cases: 0,
+                without_head: 0,
+            };
+            run_over(&paths, kept)
+        }
+        [_, _, _, _, decks, dictionary, image] => {
+            let dictionary = Dictionary::read(&fs::read_to_string(dictionary)?);
+            let image = Image::read(&fs::read(image)?);
+            let machine = Machine::new(&image, dictionary, read_decks(decks)?);
+            run_over(&paths, machine)
+        }
+        _ => {
+            eprintln!("usage: household DATA OUT LIST FREQ DECKS [DICT IMAGE]");
+            std::process::exit(2);
+        }
+    }
 }

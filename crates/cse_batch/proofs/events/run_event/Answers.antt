@@ -7,11 +7,11 @@ use Rattle.cse_batch.specs.Scene.{world_of}
 use Rattle.cse_batch.proofs.SceneLaws.{all_fit, all_ran_fits, all_ran_scene, on_ok}
 use Rattle.cse_batch.proofs.events.run_event.Goals as goal
 
-pub run_events-requires-clause-handled : goal.run_events-requires-clause-handled
-run_events-requires-clause-handled g c = (ap (λ (p : VerifiedProgram). routine_of p.image.lists.events c.args.event) c.requires.machine ∙ c.requires.routine, tt)
+pub run_handled-requires-clause-handled : goal.run_handled-requires-clause-handled
+run_handled-requires-clause-handled g c = (ap (λ (p : VerifiedProgram). routine_of p.image.lists.events c.args.event) c.requires.machine ∙ c.requires.routine, tt)
 
-pub run_events-requires-clause-fits : goal.run_events-requires-clause-fits
-run_events-requires-clause-fits g c =
+pub run_handled-requires-clause-fits : goal.run_handled-requires-clause-fits
+run_handled-requires-clause-fits g c =
     let v = c.args.verified.now in
     let case = Some c.args.case.now in
     let store = c.args.store.now in
@@ -23,13 +23,13 @@ pub returns-clause-scene : goal.returns-clause-scene
 returns-clause-scene g c =
     let v = c.args.verified.now in
     let m = moment c.args.event.code c.args.event.index 0 in
-    let ran = rw c.requires.machine at c.run_events.ensures.ended in
-    on_ok c.run_events.result (all_ran_scene v (m ∷ []) (Some c.args.case.now) (Some c.run_events.new.case) c.args.store.now c.run_events.new.store c.args.reports.now c.run_events.new.reports) ran
+    let ran = rw c.requires.machine at c.run_handled.ensures.ended in
+    on_ok c.run_handled.result (all_ran_scene v (m ∷ []) (Some c.args.case.now) (Some c.run_handled.new.case) c.args.store.now c.run_handled.new.store c.args.reports.now c.run_handled.new.reports) ran
 
 pub returns-clause-goes_on : goal.returns-clause-goes_on
 returns-clause-goes_on g c =
     let v = c.args.verified.now in
     let case = Some c.args.case.now in
     let m = moment c.args.event.code c.args.event.index 0 in
-    let ran = rw c.requires.machine at c.run_events.ensures.ended in
-    on_ok c.run_events.result (all_ran_fits v c.event_ends.ensures c.args.case.now (m ∷ []) case (Some c.run_events.new.case) c.args.store.now c.run_events.new.store c.args.reports.now c.run_events.new.reports c.requires.goes_on (c.requires.there, tt)) ran
+    let ran = rw c.requires.machine at c.run_handled.ensures.ended in
+    on_ok c.run_handled.result (all_ran_fits v c.event_ends.ensures c.args.case.now (m ∷ []) case (Some c.run_handled.new.case) c.args.store.now c.run_handled.new.store c.args.reports.now c.run_handled.new.reports c.requires.goes_on (c.requires.there, tt)) ran

@@ -9,14 +9,14 @@ use Rattle.cse_batch.proofs.HandledLaws.{all_handled, items_scene, items_there}
 use Rattle.cse_batch.proofs.SceneLaws.{all_fit, all_ran_fits, all_ran_scene, on_ok}
 use Rattle.cse_batch.proofs.events.run_items.Goals as goal
 
-pub run_events-requires-clause-handled : goal.run_events-requires-clause-handled
-run_events-requires-clause-handled g c =
+pub run_handled-requires-clause-handled : goal.run_handled-requires-clause-handled
+run_handled-requires-clause-handled g c =
     let v = c.args.verified.now in
     let all = all_handled v.image c.args.handled.now.number c.deref.result.now (c.deref.ensures.value ∙ c.requires.handled.items) in
     subst (λ (p : VerifiedProgram). AllHandled p.image c.deref.result.now) (sym c.requires.machine) all
 
-pub run_events-requires-clause-fits : goal.run_events-requires-clause-fits
-run_events-requires-clause-fits g c =
+pub run_handled-requires-clause-fits : goal.run_handled-requires-clause-fits
+run_handled-requires-clause-fits g c =
     let v = c.args.verified.now in
     let case = Some c.args.case.now in
     let store = c.args.store.now in
@@ -33,11 +33,11 @@ returns-clause-scene g c =
     let o = c.args.occurrence in
     let hs = c.args.handled.now.items.items in
     let before = scene (Some c.args.case.now) c.args.store.now c.args.reports.now in
-    let after = scene (Some c.run_events.new.case) c.run_events.new.store c.run_events.new.reports in
+    let after = scene (Some c.run_handled.new.case) c.run_handled.new.store c.run_handled.new.reports in
     let all = items_scene v c.args.handled.now.number o before hs c.requires.handled.items in
     let same = ap (λ (l : List Handled). scene_after_all v before (in_occurrence o (events_of l))) c.deref.ensures.value in
-    let ran = rw c.requires.machine at c.run_events.ensures.ended in
-    on_ok c.run_events.result (λ r. all_ran_scene v (in_occurrence o (events_of c.deref.result.now)) (Some c.args.case.now) (Some c.run_events.new.case) c.args.store.now c.run_events.new.store c.args.reports.now c.run_events.new.reports r ∙ (same ∙ all)) ran
+    let ran = rw c.requires.machine at c.run_handled.ensures.ended in
+    on_ok c.run_handled.result (λ r. all_ran_scene v (in_occurrence o (events_of c.deref.result.now)) (Some c.args.case.now) (Some c.run_handled.new.case) c.args.store.now c.run_handled.new.store c.args.reports.now c.run_handled.new.reports r ∙ (same ∙ all)) ran
 
 pub returns-clause-goes_on : goal.returns-clause-goes_on
 returns-clause-goes_on g c =
@@ -46,5 +46,5 @@ returns-clause-goes_on g c =
     let o = c.args.occurrence in
     let hs = c.args.handled.now.items.items in
     let there = items_there v.image (occurrences_in case) o c.args.handled.now.number hs c.requires.handled.items c.requires.low c.requires.high in
-    let ran = rw (c.requires.machine, c.deref.ensures.value) at c.run_events.ensures.ended in
-    on_ok c.run_events.result (all_ran_fits v c.event_ends.ensures c.args.case.now (in_occurrence o (events_of hs)) case (Some c.run_events.new.case) c.args.store.now c.run_events.new.store c.args.reports.now c.run_events.new.reports c.requires.goes_on there) ran
+    let ran = rw (c.requires.machine, c.deref.ensures.value) at c.run_handled.ensures.ended in
+    on_ok c.run_handled.result (all_ran_fits v c.event_ends.ensures c.args.case.now (in_occurrence o (events_of hs)) case (Some c.run_handled.new.case) c.args.store.now c.run_handled.new.store c.args.reports.now c.run_handled.new.reports c.requires.goes_on there) ran
