@@ -94,6 +94,32 @@ pub struct Line {
     pub number: u64,
 }
 
+/// The value of columns.
+pub fn value_of(columns: &[u8], code: Option<i64>) -> Value {
+    let blanks = columns.iter().take_while(|byte| **byte == b' ').count();
+    let mut field = &columns[blanks..];
+    while let [front @ .., b' '] = field {
+        field = front;
+    }
+    if field.is_empty() {
+        return NotAppl;
+    }
+    let (digits, sign) = match field {
+        [b'-', digits @ ..] => (digits, -1),
+        digits => (digits, 1),
+    };
+    if digits.is_empty() || !digits.iter().all(u8::is_ascii_digit) {
+        return Undefined;
+    }
+    let add = |n, digit: &u8| 10 * n + i64::from(digit - b'0');
+    let number = sign * digits.iter().fold(0, add);
+    if code == Some(number) {
+        Missing
+    } else {
+        Number(number)
+    }
+}
+
 impl Line {
     /// Reads a line, and pads it to its width.
     pub fn read(&mut self, input: &mut impl BufRead, number: u64) -> io::Result<bool> {
@@ -150,26 +176,7 @@ impl Line {
     }
 
     pub fn get(&self, item: &Item) -> Value {
-        let field = self.text[self.span(item.start..item.start + item.width)].trim_ascii();
-        if field.is_empty() {
-            return NotAppl;
-        }
-        let (digits, sign) = match field {
-            [b'-', digits @ ..] => (digits, -1),
-            digits => (digits, 1),
-        };
-        if digits.is_empty() || !digits.iter().all(u8::is_ascii_digit) {
-            return Undefined;
-        }
-        let number = sign
-            * digits
-                .iter()
-                .fold(0, |n, digit| 10 * n + i64::from(digit - b'0'));
-        if item.code == Some(number) {
-            Missing
-        } else {
-            Number(number)
-        }
+        value_of(&self.text[self.span(item.start..item.start + item.width)], item.code)
     }
 
     pub fn set(&mut self, item: &Item, value: Value) {
