@@ -250,13 +250,7 @@ pub fn edit(run: &mut Run, kept: &mut Kept, reports: &mut Reports) {
     let mut head_sex = NotAppl;
     if run.persons.is_empty() {
         let ids = run.lines[0].ids();
-        let part = |range: Range<usize>| match std::str::from_utf8(&ids[range])
-            .ok()
-            .and_then(|text| text.parse().ok())
-        {
-            Some(number) => Number(number),
-            None => Undefined,
-        };
+        let part = |range: Range<usize>| value_of(&ids[range], None);
         let arguments = [
             Of(part(0..2), 2, true),
             Of(part(2..4), 2, true),
