@@ -14,7 +14,7 @@ use Rattle.cse_report.specs.Frequency.{Table, all_imputed}
 use Rattle.cse_report.specs.declared.reports.Reports.{Reports}
 use Rattle.cse_report.proofs.ToldLaws.{imputes_all}
 use Rattle.cse_verify.specs.Verified.{VerifiedProgram}
-use Rattle.cse_steps.specs.State.{World}
+use Rattle.cse_steps.specs.State.{World, world_of}
 use Rattle.cse_steps.specs.Fits.{FitsFirst, FitsWorld, IsThere, occurrences_in}
 use Rattle.cse_steps.specs.Laws.{EventsEnd}
 use Rattle.cse_machine.specs.Results.{AllFitFirst, AllRunTo, RunsTo}
@@ -23,7 +23,7 @@ use Rattle.cse_batch.specs.Events.{after_moment, after_moments, end_of, told_mor
 use Rattle.cse_batch.specs.Batch.{reports_of}
 use Rattle.cse_batch.specs.declared.handled.HandledRecord.{HandledRecord}
 use Rattle.cse_batch.specs.Handled.{number_of}
-use Rattle.cse_batch.specs.Scene.{GoesOn, Scene, scene, scene_after, scene_after_all, told_to, world_of}
+use Rattle.cse_batch.specs.Scene.{GoesOn, Scene, scene, scene_after, scene_after_all, told_to}
 use Rattle.cse_batch.proofs.EventLaws.{ends_are_final}
 use Rattle.cse_batch.proofs.EndLaws.{AllThere, fits_moment, fits_then}
 use Rattle.cse_batch.proofs.HeldLaws.{all_later}

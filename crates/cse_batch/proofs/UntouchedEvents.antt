@@ -8,7 +8,7 @@ use Rattle.cse_parts.specs.Image.{Image}
 use Rattle.cse_bounds.specs.CaseEvents.{Moment, case_events}
 use Rattle.cse_decks.specs.Store.{Kept, StoreFits}
 use Rattle.cse_verify.specs.Verified.{VerifiedProgram}
-use Rattle.cse_steps.specs.State.{World, nothing_told}
+use Rattle.cse_steps.specs.State.{World, world_of}
 use Rattle.cse_steps.specs.Run.{first}
 use Rattle.cse_steps.specs.Fits.{FitsWorld, IsThere, occurrences_in}
 use Rattle.cse_steps.specs.Laws.{EventsEnd, FirstFits}
@@ -28,10 +28,6 @@ pub record StepLaws (v : VerifiedProgram) : Type 0 where
   pub event_columns_stay : EventColumnsStay v
   pub cases_end : CasesEnd v
   pub case_columns_stay : CaseColumnsStay v
-
--- before an event
-abbrev world_of : Option CaseText → Kept → World
-world_of case store = record { case = case; store = store; told = nothing_told }
 
 -- ---- the occurrences stay where they are
 

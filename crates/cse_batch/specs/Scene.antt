@@ -8,7 +8,7 @@ use Rattle.cse_report.specs.AllReported.{all_reported}
 use Rattle.cse_report.specs.Frequency.{Table, all_imputed}
 use Rattle.cse_report.specs.declared.reports.Reports.{Reports}
 use Rattle.cse_verify.specs.Verified.{VerifiedProgram}
-use Rattle.cse_steps.specs.State.{World, nothing_told}
+use Rattle.cse_steps.specs.State.{World, world_of}
 use Rattle.cse_steps.specs.Fits.{FitsWorld}
 use Rattle.cse_batch.specs.Events.{end_of}
 use Rattle.cse_batch.specs.Batch.{reports_of}
@@ -21,10 +21,6 @@ pub record Scene : Type 0 where
 
 abbrev pub scene : Option CaseText → Kept → Reports → Scene
 scene case store reports = record { case = case; store = store; listing = reports.listing; frequencies = reports.frequencies }
-
--- without what was told before
-abbrev pub world_of : Option CaseText → Kept → World
-world_of case store = record { case = case; store = store; told = nothing_told }
 
 -- with the case and the store of a world, and what was told in it
 abbrev pub told_to : Scene → World → Scene

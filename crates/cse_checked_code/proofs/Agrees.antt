@@ -1,8 +1,8 @@
 -- How what is known at a place of logic agrees with what stands around the instructions of a routine.
-use Rattle.std.proofs.Common.{◌≡◌, ◌≤◌, ◌<◌, ℕ, Bool, true, false, ◌||◌, List, [], ◌∷◌, ◌++◌, length, map, Option, Some, None, refl, sym, ap, ◌∙◌}
+use Rattle.std.proofs.Common.{◌≡◌, ◌≤◌, ◌<◌, ℕ, Bool, true, false, ◌||◌, List, [], ◌∷◌, ◌++◌, length, map, Option, Some, None, refl, sym, ◌∙◌}
 use Rattle.std.specs.Prelude.{slice_get, ◌==◌, replicate, take}
 use Rattle.std.specs.List.{list_any}
-use Rattle.std.proofs.lemmas.Bool.{false≢true}
+use Rattle.std.proofs.lemmas.Bool.{or_left, or_right, false≢true}
 use Rattle.std.proofs.lemmas.List.Folds.{list_any-append}
 use Rattle.cse_value.specs.declared.shape.ItemKind.{ItemKind}
 use Rattle.cse_value.specs.Shape.{ShapeLists}
@@ -90,13 +90,6 @@ needs_append fs [] vs = refl
 needs_append fs (TheCase ∷ us) vs = refl
 needs_append fs (Calls f ∷ us) vs = or_more (facts_need (slice_get fs f)) _ _ _ (needs_append fs us vs)
 needs_append fs (Assigns g ∷ us) vs = needs_append fs us vs
-
-or_left : (a b : Bool) → a ≡ true → (a || b) ≡ true
-or_left a b e = ap (λ x. x || b) e
-
-or_right : (a b : Bool) → b ≡ true → (a || b) ≡ true
-or_right true b e = refl
-or_right false b e = e
 
 module _ (c : Scope) (s : Spot) where
   pub cased_left : (us vs : List Use) → Cased c s (us ++ vs) → Cased c s us

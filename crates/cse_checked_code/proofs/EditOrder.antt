@@ -17,19 +17,19 @@ use Rattle.cse_checked_code.proofs.Names.{place_within}
 
 -- ---- how often a number stands in a list
 
-abbrev times : ℕ → List ℕ → ℕ
+abbrev pub times : ℕ → List ℕ → ℕ
 times k xs = count_by (λ o. eqb o k) xs
 
-abbrev one : ℕ → ℕ → ℕ
+abbrev pub one : ℕ → ℕ → ℕ
 one x k = cond (eqb x k) 1 0
 
-times_first : (k x : ℕ) (xs : List ℕ) → times k (x ∷ xs) ≡ one x k + times k xs
+pub times_first : (k x : ℕ) (xs : List ℕ) → times k (x ∷ xs) ≡ one x k + times k xs
 times_first k x xs = sum_by-cons (λ (o : ℕ). cond (eqb o k) 1 0) x xs
 
 times_both : (k : ℕ) (xs ys : List ℕ) → times k (xs ++ ys) ≡ times k xs + times k ys
 times_both k xs ys = sum_by-append (λ (o : ℕ). cond (eqb o k) 1 0) xs ys
 
-one_same : (x k : ℕ) → x ≡ k → one x k ≡ 1
+pub one_same : (x k : ℕ) → x ≡ k → one x k ≡ 1
 one_same x k e = cond-true {A = ℕ} (eqb x k) 1 0 (eq-eqb x k e)
 
 one_other : (x k : ℕ) → eqb x k ≡ false → one x k ≡ 0

@@ -33,6 +33,7 @@ use Rattle.cse_types.specs.Scope.{Scope, first_of, in_dictionary, kind_and_owner
 use Rattle.cse_types.specs.WellTyped.{item_owner, owner_meant, body_messages, AreProcedures}
 use Rattle.cse_typing.specs.Order.{handles_item, handles, is_handled_by, fits_event, all_events_fit}
 use Rattle.cse_checked_code.proofs.Names.{named_within}
+use Rattle.cse_checked_code.proofs.Tables.{behind}
 
 -- ---- what procedures belong to
 
@@ -270,10 +271,6 @@ module _ (P : EventEntry → Bool) (table : Table) where
       (code_passes codes.RecordPostproc (range_with_len 0 records) (h codes.RecordPostproc)))
       (code_passes codes.ItemPreproc (range_with_len 0 items) (h codes.ItemPreproc)))
       (code_passes codes.ItemPostproc (range_with_len 0 items) (h codes.ItemPostproc))
-
-behind : {A : Type 0} (xs ys : List A) (k : ℕ) → slice_get (xs ++ ys) (length xs + k) ≡ slice_get ys k
-behind [] ys k = ap (slice_get ys) (omega arith)
-behind (x ∷ xs) ys k = let e : suc (length xs) + k ≡ suc (length xs + k) = omega arith in ap (slice_get (x ∷ xs ++ ys)) e ∙ behind xs ys k
 
 module _ (d : DictionaryText) (size : Outline → ℕ) (x : Lists) (fs : List Outline) (hs : List Handler) (routines : x.routines ≡ map (λ (o : Outline). routine_of o.sort (size o)) (fs ++ map (λ (h : Handler). h.outline) hs)) (handled : AreHandled d hs) where
   abbrev entry : Outline → RoutineLists

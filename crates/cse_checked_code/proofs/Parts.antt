@@ -1,5 +1,5 @@
 -- The instructions of each routine of a program stand for the routine's code.
-use Rattle.std.proofs.Common.{◌≡◌, ℕ, suc, zero, ◌+◌, List, [], ◌∷◌, ◌++◌, length, map, take, drop, Option, Some, None, refl, sym, ap, ◌∙◌, subst}
+use Rattle.std.proofs.Common.{◌≡◌, ℕ, suc, zero, ◌+◌, List, [], ◌∷◌, ◌++◌, length, map, take, drop, Some, sym, ap, ◌∙◌, subst}
 use Rattle.std.specs.Prelude.{slice_get}
 use Rattle.std.specs.Option.{option_map, option_map_or}
 use Rattle.std.proofs.lemmas.List.{drop-drop}
@@ -8,18 +8,14 @@ use Rattle.std.proofs.lemmas.Option.{same_Some, none-some, slice_get-map}
 use Rattle.cse_value.specs.declared.shape.RecordShape.{RecordShape}
 use Rattle.cse_parts.specs.declared.instruction.Instr.{Instr}
 use Rattle.cse_parts.specs.Image.{Lists, Image, RoutineLists}
-use Rattle.cse_typed.specs.Typed.{Statements}
 use Rattle.cse_tables.specs.Outline.{Outline}
 use Rattle.cse_typing.specs.Code.{start_of, size_of, code_of}
 use Rattle.cse_emit.specs.Wide.{Wide, Constant, Chars, Turns, Plain}
-use Rattle.cse_emit.specs.Setting.{Setting}
-use Rattle.cse_emit.specs.Statements.{exit_size_by, exit_code_by, block_size, block_code, exit_size, exit_code}
-use Rattle.cse_emit.specs.Routines.{no_loop, entry_size_by, entry_code_by, routine_size, routine_code}
+use Rattle.cse_emit.specs.Routines.{routine_size}
 use Rattle.cse_compile.specs.Stands as pooled
 use Rattle.cse_compile.specs.Program.{setting_for, code_of as wide_code, all_code, entry_of, pools_of}
 use Rattle.cse_emitted.specs.Stands.{Stands, AllStand}
-use Rattle.cse_emitted.proofs.Blocks.{block_length}
-use Rattle.cse_emitted.proofs.Lengths.{two}
+use Rattle.cse_emitted.proofs.Blocks.{routine_length}
 
 -- ---- by the pools, and by the lists of the image
 
@@ -41,20 +37,6 @@ cut : (x : Lists) (is : List Instr) (ws vs : List Wide) → AllStand x is (ws ++
 cut x is [] vs h = (tt, h)
 cut x [] (w ∷ ws) vs h = absurd h
 cut x (i ∷ is) (w ∷ ws) vs h = let c = cut x is ws vs h.1 in ((h.0, c.0), c.1)
-
-entry_length : (o : Option ℕ) → length (entry_code_by o) ≡ entry_size_by o
-entry_length None = refl
-entry_length (Some r) = refl
-
-exit_length : (o : Option ℕ) → length (exit_code_by o) ≡ exit_size_by o
-exit_length None = refl
-exit_length (Some r) = refl
-
-routine_length : (s : Setting) (body : Statements) → length (routine_code s body) ≡ routine_size s body
-unfolding routine_code routine_size
-routine_length s body =
-    two (entry_code_by s.result_at) (block_code s no_loop (entry_size_by s.result_at) body ++ exit_code s) (entry_size_by s.result_at) (block_size s body + exit_size s) (entry_length s.result_at)
-    (two (block_code s no_loop (entry_size_by s.result_at) body) (exit_code s) (block_size s body) (exit_size s) (block_length s no_loop (entry_size_by s.result_at) body) (exit_length s.result_at))
 
 module _ (x : Lists) (records : List RecordShape) (arrays : List (List ℕ)) where
   abbrev size : Outline → ℕ

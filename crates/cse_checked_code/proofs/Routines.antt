@@ -35,7 +35,7 @@ use Rattle.cse_types.specs.declared.meaning.Routine.TheVariants as r
 use Rattle.cse_types.specs.Scope.{Scope, Facts, declared_from, is_looped, kind_and_owner, own_result, is_event_of, has_case}
 use Rattle.cse_types.specs.Uses.{facts_of}
 use Rattle.cse_types.specs.WellTyped as w
-use Rattle.cse_types.specs.WellTyped.{AreStatements, AreDeclared, AreProcedures, IsBody, all_declarations, typed_declarations, parameter_names, first_scope, with_functions, messages_of, declared_messages, procedure_messages, body_messages, tree_messages}
+use Rattle.cse_types.specs.WellTyped.{AreStatements, AreDeclared, AreProcedures, IsBody, all_declarations, typed_declarations, parameter_names, first_scope, with_function, with_functions, messages_of, declared_messages, procedure_messages, body_messages, tree_messages}
 use Rattle.cse_emitted.specs.Fit.{Spot, variable_kind, BlockFits}
 use Rattle.cse_emitted.proofs.At.{HasAt, has_self, has_front, has_back}
 use Rattle.cse_checked_code.specs.Checked.{IsCompiled, spot_for}
@@ -83,17 +83,29 @@ handlers_both P k (a ∷ ms) bs f g = (f.0, handlers_both P (k + 1) ms bs f.1 (�
 
 -- ---- declarations
 
-same_declarations : (o : Option (List Declaration)) → typed_declarations o ≡ declarations_in o
+pub same_declarations : (o : Option (List Declaration)) → typed_declarations o ≡ declarations_in o
 same_declarations None = refl
 same_declarations (Some ds) = refl
 
-same_erased : (o : Option (List Declaration)) → all_declarations (option_map (λ ds. map erase_declaration ds) o) ≡ map erase_declaration (declarations_in o)
+pub same_erased : (o : Option (List Declaration)) → all_declarations (option_map (λ ds. map erase_declaration ds) o) ≡ map erase_declaration (declarations_in o)
 same_erased None = refl
 same_erased (Some ds) = refl
 
-each_declaration : (o : Option (List Declaration)) → AreGlobals 64 (option_map (λ ds. map erase_declaration ds) o) → Each (IsDeclaration 64) (map erase_declaration (declarations_in o))
+pub each_declaration : (o : Option (List Declaration)) → AreGlobals 64 (option_map (λ ds. map erase_declaration ds) o) → Each (IsDeclaration 64) (map erase_declaration (declarations_in o))
 each_declaration None h = tt
 each_declaration (Some ds) h = h
+
+-- what the grammar says of all declarations and procedures
+abbrev pub OfGrammar : syntax.Tree → Type 0
+OfGrammar s = AreGlobals 64 s.globals × Each (IsProcedure 64) s.procedures
+
+-- functions change no dictionary
+pub same_dictionary : (s : Scope) (ds : List Declaration) → (with_functions s ds).dictionary ≡ s.dictionary
+same_dictionary s [] = refl
+same_dictionary s (Numeric names ∷ ds) = same_dictionary s ds
+same_dictionary s (Alpha digits size names ∷ ds) = same_dictionary s ds
+same_dictionary s (Array' array ∷ ds) = same_dictionary s ds
+same_dictionary s (Function' f ∷ ds) = same_dictionary (with_function s f) ds
 
 no_loops : (c : Scope) (s : Spot) → c.loops ≡ [] → InLoops c s false
 no_loops c s e = record {
@@ -136,9 +148,6 @@ module _ (d : DictionaryText) (messages : List MessageText) (named : List ℕ) (
 
   declared : AreDeclared (scope []) 0 (declarations t)
   declared = subst (AreDeclared (scope []) 0) (same_declarations t.globals) h.typed.well.declarations
-
-  abbrev OfGrammar : syntax.Tree → Type 0
-  OfGrammar s = AreGlobals 64 s.globals × Each (IsProcedure 64) s.procedures
 
   grammar : OfGrammar (erase_tree t)
   grammar = subst OfGrammar (sym h.typed.erased) (h.grammar.0, h.grammar.1)

@@ -53,7 +53,7 @@ picks_small : (xs : List Pick) → picks_size xs ≤ 6 * length xs
 picks_small [] = omega arith
 picks_small (x ∷ xs) = let a = present_small x.item in let b = picks_small xs in omega (arith, a, b)
 
-deepest_small : (xs : List Pick) → deepest xs ≤ length xs
+pub deepest_small : (xs : List Pick) → deepest xs ≤ length xs
 deepest_small [] = omega arith
 deepest_small (x ∷ xs) = by (can_fail xs) (deepest_small xs)
   where
@@ -68,7 +68,7 @@ deck_small xs = by (can_fail xs) (deepest_small xs)
     by true h = omega (arith, h)
     by false h = omega arith
 
-picks_many : (s : Spot) (ds : List ℕ) (xs : List Pick) → ArePicks s ds xs → length xs ≡ length ds
+pub picks_many : (s : Spot) (ds : List ℕ) (xs : List Pick) → ArePicks s ds xs → length xs ≡ length ds
 picks_many s [] [] f = refl
 picks_many s [] (x ∷ xs) f = absurd f
 picks_many s (d ∷ ds) [] f = absurd f

@@ -1,5 +1,5 @@
 -- The programs of a sound source are typed, and their bounds are at most its costs.
-use Rattle.std.proofs.Common.{◌≡◌, ◌≤◌, ℕ, suc, zero, List, [], ◌∷◌, ◌++◌, length, Some, refl, sym, subst}
+use Rattle.std.proofs.Common.{◌≡◌, ◌≤◌, ℕ, suc, zero, List, [], ◌∷◌, ◌++◌, length, Some, sym, subst}
 use Rattle.std.specs.Prelude.{slice_get, nat_le}
 use Rattle.std.proofs.Math.Logic.{∥∥₁_map}
 use Rattle.std.proofs.lemmas.Bool.{and_parts, leb-true}
@@ -13,15 +13,14 @@ use Rattle.cse_dict.specs.Sound.{IsSound as IsSoundDictionary}
 use Rattle.cse_syntax.specs.Tree as syntax
 use Rattle.cse_syntax.specs.Word.{Word}
 use Rattle.cse_syntax.specs.Grammar.{IsSource}
-use Rattle.cse_typed.specs.Typed.{Declaration, Numeric, Alpha, Array', Function', Tree}
+use Rattle.cse_typed.specs.Typed.{Tree}
 use Rattle.cse_typed.specs.Erase.{erase_tree}
 use Rattle.cse_typing.specs.Order.{NamesEachOnce}
 use Rattle.cse_typing.specs.Typed.{IsTyped}
 use Rattle.cse_tables.specs.Outline.{Outline, functions_in}
 use Rattle.cse_emit.specs.Routines.{routine_size}
 use Rattle.cse_types.specs.MessageFile.{MessageText}
-use Rattle.cse_types.specs.Scope.{Scope}
-use Rattle.cse_types.specs.WellTyped.{IsTypedAs, all_declarations, declared_messages, typed_declarations, first_scope, with_function, with_functions}
+use Rattle.cse_types.specs.WellTyped.{IsTypedAs, all_declarations, declared_messages, typed_declarations, first_scope, with_functions}
 use Rattle.cse_compile.specs.Program.{IsProgramOf, declarations, setting_for, sizes}
 use Rattle.cse_compile.specs.Compiled.{IsSound}
 use Rattle.cse_checked_code.specs.Checked.{IsCompiled}
@@ -30,16 +29,10 @@ use Rattle.cse_checked_code.specs.Sound.{IsOrdered, SourcesAreSound, GrammarSuff
 use Rattle.cse_checked_code.proofs.EditOrder.{orders_name_all}
 use Rattle.cse_checked_code.proofs.EventsFit.{events_fit}
 use Rattle.cse_checked_code.proofs.Bounds.{bounds_are_costs}
+use Rattle.cse_checked_code.proofs.Routines.{same_dictionary}
 use Rattle.cse_checked_code.proofs.Whole.{sources_are_typed}
 
 -- ---- typed programs
-
-same_dictionary : (s : Scope) (ds : List Declaration) → (with_functions s ds).dictionary ≡ s.dictionary
-same_dictionary s [] = refl
-same_dictionary s (Numeric names ∷ ds) = same_dictionary s ds
-same_dictionary s (Alpha digits size names ∷ ds) = same_dictionary s ds
-same_dictionary s (Array' array ∷ ds) = same_dictionary s ds
-same_dictionary s (Function' f ∷ ds) = same_dictionary (with_function s f) ds
 
 module _ (d : DictionaryText) (messages : List MessageText) (named : List ℕ) (source : syntax.Tree) (words : List Word) (t : Tree) (sound : IsSoundDictionary d) (grammar : IsSource 64 source words) (typed : IsTypedAs d messages source t) (order : IsOrdered d named) where
   compiled : (x : Image) → IsProgramOf d named t x → IsCompiled d messages named source words t x

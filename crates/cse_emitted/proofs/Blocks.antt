@@ -19,6 +19,7 @@ use Rattle.cse_emit.specs.Setting.{Setting}
 use Rattle.cse_emit.specs.declared.setting.Loop.{Loop}
 use Rattle.cse_emit.specs.Numbers.{behind, deepest}
 use Rattle.cse_emit.specs.Statements.{known, limit_code, which_size, which_code, drops_size, drops_code, argument_size, argument_code, arguments_size, arguments_code, turns_size_by, turns_code_by, turn_limit, head_size, head_code, step_code, exit_size_by, exit_code_by, jump_code_size, jump_code, front_size, front_code, loop_to, opener_at, turn_end_at, statement_size, block_size, arms_size, statement_code, block_code, arms_code}
+use Rattle.cse_emit.specs.Routines.{no_loop, entry_size_by, entry_code_by, routine_size, routine_code}
 use Rattle.cse_emitted.proofs.Lengths.{two, three, number_length, words_length, numbers_length, indexes_length, picks_length, pops_length}
 use Rattle.cse_emitted.proofs.StatementStacks.{jump_length}
 use Rattle.cse_emitted.proofs.Parts.{is_plain}
@@ -55,7 +56,7 @@ turns_length records x None b = refl
 pub head_length : (s : Setting) (x : Counting) → length (head_code s x) ≡ head_size s.records x
 head_length s x = let e = turns_length s.records x (known s.records x.start) (known s.records x.stop) in omega (arith, e)
 
-exit_length : (o : Option ℕ) → length (exit_code_by o) ≡ exit_size_by o
+pub exit_length : (o : Option ℕ) → length (exit_code_by o) ≡ exit_size_by o
 exit_length None = refl
 exit_length (Some r) = refl
 
@@ -101,6 +102,15 @@ mutual
   arms_length s l end q no_arm = refl
   arms_length s l end q (else_of body) = block_length s l q body
   arms_length s l end q (arm condition body others) = two _ _ _ _ (front_length _ q _ _ _ _ _ (number_length s q condition) (block_length s l _ body)) (arms_length s l _ _ others)
+
+pub entry_length : (o : Option ℕ) → length (entry_code_by o) ≡ entry_size_by o
+entry_length None = refl
+entry_length (Some r) = refl
+
+pub routine_length : (s : Setting) (body : Statements) → length (routine_code s body) ≡ routine_size s body
+unfolding routine_code routine_size
+routine_length s body =
+    two _ _ _ _ (entry_length s.result_at) (two _ _ _ _ (block_length s no_loop (entry_size_by s.result_at) body) (exit_length s.result_at))
 
 -- ---- without brackets
 

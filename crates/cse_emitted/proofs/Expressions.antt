@@ -2,7 +2,7 @@
 use Rattle.std.proofs.Common.{◌≡◌, ℕ, ◌+◌, ◌<◌, ◌≤◌, Bool, true, false, List, [], ◌∷◌, ◌++◌, length, map, Some, refl, sym, ap, ◌∙◌, subst, arith, ⊎_elim}
 use Rattle.std.specs.Prelude.{slice_get, ◌==◌, not, ◌||◌, reverse, unwrap_or, if◌then◌else◌}
 use Rattle.std.specs.List.{list_any}
-use Rattle.std.proofs.lemmas.Bool.{cases_Bool, false≢true}
+use Rattle.std.proofs.lemmas.Bool.{cases_Bool, or_right, false≢true}
 use Rattle.cse_parts.specs.declared.instruction.Op.TheVariants as ops
 use Rattle.cse_syntax.specs.declared.tree.Operator.{Operator}
 use Rattle.cse_syntax.specs.declared.tree.Operator.TheVariants as operators
@@ -115,10 +115,6 @@ module _ (s : Spot) (ws : List Wide) (all : List Stack) (bounds : List ℕ) wher
     not_true : (b : Bool) → not b ≡ true → b ≡ false
     not_true true h = absurd (false≢true h)
     not_true false h = refl
-
-    or_right : (a b : Bool) → b ≡ true → (a || b) ≡ true
-    or_right true b h = refl
-    or_right false b h = h
 
     or_left : (a b : Bool) → (a || b) ≡ true → b ≡ false → a ≡ true
     or_left true b h e = refl

@@ -2,6 +2,7 @@
 use Rattle.std.proofs.Common.{◌≡◌, ℕ, ◌+◌, ◌*◌, ◌<◌, ◌≤◌, ℤ, Bool, true, false, List, [], ◌∷◌, length, Option, Some, None, refl, sym, ap, ◌∙◌, subst, inl, arith, ⊎_elim}
 use Rattle.std.specs.Prelude.{slice_get, ◌==◌, ◌||◌, if◌then◌else◌}
 use Rattle.std.specs.List.{list_any}
+use Rattle.std.proofs.lemmas.Bool.{or_right}
 use Rattle.cse_value.specs.declared.number.Num.{Num}
 use Rattle.cse_value.specs.declared.number.Num.TheVariants as num
 use Rattle.cse_parts.specs.declared.entries.Gift.TheVariants as gifts
@@ -64,10 +65,6 @@ module _ (s : Spot) (ws : List Wide) (all : List Stack) (bounds : List ℕ) wher
   -- each record of a `for` around has its opener among these
   abbrev pub Looped : Spot → List ℕ → Type 0
   Looped u os = (of : ℕ) → list_any (λ o. o == of) u.loops ≡ true → list_any (λ o. wide_loops of (slice_get ws o)) os ≡ true
-
-  or_right : (a b : Bool) → b ≡ true → (a || b) ≡ true
-  or_right true b h = refl
-  or_right false b h = h
 
   or_mono : (a b c d : Bool) → a ≡ c → (b ≡ true → d ≡ true) → (a || b) ≡ true → (c || d) ≡ true
   or_mono true b c d e f h = ap (λ c. c || d) (sym e)

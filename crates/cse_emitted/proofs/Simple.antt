@@ -1,7 +1,7 @@
 -- The code of statements that hold no others is typed, part by part.
-use Rattle.std.proofs.Common.{◌≡◌, ℕ, ◌+◌, ◌<◌, ◌≤◌, Bool, true, false, List, [], ◌∷◌, ◌++◌, length, map, Some, refl, sym, ap, ◌∙◌, subst, arith, ⊎_elim}
-use Rattle.std.specs.Prelude.{slice_index, pos, ◌==◌, not, ◌||◌, reverse, if◌then◌else◌}
-use Rattle.std.proofs.lemmas.Bool.{cases_Bool}
+use Rattle.std.proofs.Common.{◌≡◌, ℕ, ◌+◌, ◌<◌, ◌≤◌, true, false, List, [], ◌∷◌, ◌++◌, length, map, Some, refl, sym, ap, ◌∙◌, subst, arith, ⊎_elim}
+use Rattle.std.specs.Prelude.{slice_index, pos, ◌==◌, not, reverse, if◌then◌else◌}
+use Rattle.std.proofs.lemmas.Bool.{cases_Bool, or_right}
 use Rattle.std.specs.List.{list_any}
 use Rattle.cse_parts.specs.declared.instruction.Op.TheVariants as ops
 use Rattle.cse_typing.specs.declared.kind.Kind.{Kind}
@@ -45,10 +45,6 @@ module _ (s : Spot) (ws : List Wide) (all : List Stack) (bounds : List ℕ) wher
       (λ (e : can_fail xs ≡ true). or_right (not x.has_leftover) (can_fail xs) e)
       (λ (e : can_fail xs ≡ false). let z : deepest (x ∷ xs) ≡ 0 = ap (λ b. if b then deepest xs + 1 else 0) e in absurd (omega arith))
       (cases_Bool (can_fail xs))
-    where
-      or_right : (a b : Bool) → b ≡ true → (a || b) ≡ true
-      or_right true b h = refl
-      or_right false b h = h
 
   arguments_piled : (st : Stack) (xs : List Argument) → arguments_after st xs ≡ piled (map kind_of xs) st
   arguments_piled st [] = refl

@@ -29,7 +29,7 @@ use Rattle.cse_emitted.proofs.At.{HasAt, has_front, has_back, has_self}
 use Rattle.cse_emitted.proofs.Spans.{sealed_around}
 use Rattle.cse_emitted.proofs.WideRule.{Stack, wide_control, wide_skeleton}
 use Rattle.cse_emitted.proofs.StatementStacks.{N, exit_stacks_by, block_stacks, block_stacks_length, block_start}
-use Rattle.cse_emitted.proofs.Blocks.{block_length}
+use Rattle.cse_emitted.proofs.Blocks.{entry_length, exit_length, block_length}
 use Rattle.cse_emitted.proofs.Rules.{store_local}
 use Rattle.cse_emitted.proofs.Parts.{stack_at, stack_is}
 use Rattle.cse_emitted.proofs.Chains.{Part, join, none, to, step, moved}
@@ -42,17 +42,9 @@ abbrev entry_stacks_by : Option ℕ → List Stack
 entry_stacks_by None = []
 entry_stacks_by (Some result) = [] ∷ N ∷ []
 
-entry_length : (o : Option ℕ) → length (entry_code_by o) ≡ entry_size_by o
-entry_length None = refl
-entry_length (Some r) = refl
-
 entry_stacks_length : (o : Option ℕ) → length (entry_stacks_by o) ≡ entry_size_by o
 entry_stacks_length None = refl
 entry_stacks_length (Some r) = refl
-
-exit_length : (o : Option ℕ) → length (exit_code_by o) ≡ exit_size_by o
-exit_length None = refl
-exit_length (Some r) = refl
 
 exit_stacks_length : (o : Option ℕ) → length (exit_stacks_by o) ≡ exit_size_by o
 exit_stacks_length None = refl

@@ -12,6 +12,7 @@ use Rattle.cse_parts.specs.Fields.{product}
 use Rattle.cse_parts.specs.Image.{ArrayLists}
 use Rattle.cse_case.specs.Case.{CaseText}
 use Rattle.cse_decks.specs.Store.{cells_of, cell_count, with_cell}
+use Rattle.cse_decks.proofs.StoreLaws.{cell_stays}
 use Rattle.cse_emit.specs.Wide.{with_a, with_c, pops}
 use Rattle.cse_emit.specs.Setting.{Setting, size_at}
 use Rattle.cse_emit.specs.Numbers.{count, behind}
@@ -23,7 +24,7 @@ use Rattle.cse_steps.specs.Step.{acts, on, loaded_cell, stored_cell}
 use Rattle.cse_steps.specs.Fits.{FitsWorld}
 use Rattle.cse_steps.specs.Laws.{RunsCompose}
 use Rattle.cse_steps.proofs.Cells.{map_some}
-use Rattle.cse_steps.proofs.Lists.{is_there, product_reverse, cell_stays}
+use Rattle.cse_steps.proofs.Lists.{is_there, product_reverse}
 use Rattle.cse_verify.specs.Verified.{VerifiedProgram}
 use Rattle.cse_meaning.specs.Setting.{Context, Locals, Valued}
 use Rattle.cse_meaning.specs.Reading as reading

@@ -7,6 +7,7 @@ use Rattle.cse_value.specs.declared.number.Num.{Num}
 use Rattle.cse_case.specs.Case.{CaseText}
 use Rattle.cse_decks.specs.declared.global.GlobalValue.TheVariants as values
 use Rattle.cse_decks.specs.Store.{variable_of, with_global}
+use Rattle.cse_decks.proofs.StoreLaws.{length-put_text}
 use Rattle.cse_parts.specs.Image.{RoutineLists}
 use Rattle.cse_typing.specs.declared.kind.Kind.{Kind}
 use Rattle.cse_typing.specs.declared.kind.Kind.TheVariants as kind
@@ -19,7 +20,7 @@ use Rattle.cse_emitted.specs.Fit.{IsNumberVariable}
 use Rattle.cse_steps.specs.Cell.{Cell, Number}
 use Rattle.cse_steps.specs.State.{World, in_store}
 use Rattle.cse_steps.specs.Fits.{FitsWorld}
-use Rattle.cse_steps.proofs.Lists.{map_set, length-put_text}
+use Rattle.cse_steps.proofs.Lists.{map_set}
 use Rattle.cse_value.specs.Field.{put_text}
 use Rattle.cse_parts.specs.declared.entries.GlobalVariable.{GlobalVariable}
 use Rattle.cse_parts.specs.declared.entries.GlobalKind.TheVariants as globals

@@ -27,7 +27,7 @@ use Rattle.cse_compile.specs.Program.{outlines, sizes, setting_for, entry_of, ha
 use Rattle.cse_checked_code.specs.Checked.{IsCompiled}
 use Rattle.cse_checked_code.proofs.Whole.{sources_fit}
 use Rattle.cse_checked_code.proofs.Parts.{routine_stands}
-use Rattle.cse_checked_code.proofs.Tables.{front_at}
+use Rattle.cse_checked_code.proofs.Tables.{front_at, behind}
 use Rattle.cse_meaning.specs.Meaning as meaning
 use Rattle.cse_meaning.specs.Meaning.{context}
 use Rattle.cse_meaning.specs.Runs.{StandAt}
@@ -111,10 +111,6 @@ all_parts [] = no_parts
 all_parts (p ∷ ps) = body_parts p.owner p.body (handlers_in ps) (all_parts ps)
 
 -- ---- routines
-
-behind : {A : Type 0} (xs ys : List A) (k : ℕ) → slice_get (xs ++ ys) (length xs + k) ≡ slice_get ys k
-behind [] ys k = ap (slice_get ys) (let z : 0 + k ≡ k = omega arith in z)
-behind (x ∷ xs) ys k = let e : suc (length xs) + k ≡ suc (length xs + k) = omega arith in ap (slice_get (x ∷ xs ++ ys)) e ∙ behind xs ys k
 
 module _ (v : VerifiedProgram) (messages : List MessageText) (named : List ℕ) (source : syntax.Tree) (words : List Word) (t : Tree) (compiled : IsCompiled v.dictionary messages named source words t v.image) where
   abbrev d : DictionaryText

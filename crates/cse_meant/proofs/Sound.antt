@@ -11,7 +11,7 @@ use Rattle.cse_dict.specs.Keys.{kept_name}
 use Rattle.cse_syntax.specs.Tree as syntax
 use Rattle.cse_syntax.specs.Word.{Word}
 use Rattle.cse_syntax.specs.Grammar as grammar
-use Rattle.cse_syntax.specs.Grammar.{Each, AreStmts, AreGlobals, IsDeclaration, IsProcedure}
+use Rattle.cse_syntax.specs.Grammar.{Each, AreStmts, IsDeclaration, IsProcedure}
 use Rattle.cse_typed.specs.declared.tree.Owner.{Owner}
 use Rattle.cse_typed.specs.Typed.{Statements, Function, Declaration, Numeric, Alpha, Array', Function', Body, Plain, Preproc, Both, Postproc, Procedure, Tree}
 use Rattle.cse_typed.specs.Erase.{erase_block, erase_body, erase_declaration, erase_procedure, erase_tree}
@@ -21,8 +21,9 @@ use Rattle.cse_tables.specs.Outline.{Outline, Handler, outline_of, functions_in,
 use Rattle.cse_types.specs.MessageFile.{MessageText}
 use Rattle.cse_types.specs.Scope.{Scope}
 use Rattle.cse_types.specs.WellTyped.{IsFunction, AreDeclared, AreStatements, IsBody, AreProcedures, function_scope, procedure_scope, with_function, with_functions, first_scope, typed_declarations, all_declarations, parameter_names, messages_of, body_messages}
-use Rattle.cse_compile.specs.Program.{declarations, declarations_in, handlers, outlines}
+use Rattle.cse_compile.specs.Program.{declarations, handlers, outlines}
 use Rattle.cse_checked_code.specs.Checked.{IsCompiled}
+use Rattle.cse_checked_code.proofs.Routines.{same_declarations, each_declaration, OfGrammar}
 use Rattle.cse_meaning.specs.Plain.{IsPlainBlock}
 use Rattle.cse_meant.proofs.Loops.{most_few, block_holds}
 use Rattle.cse_meant.proofs.Own.{OwnMeanings, declared_own, block_own}
@@ -112,23 +113,12 @@ at_either [] ys k x e f g = g k e
 at_either (y ∷ xs) ys zero x e f g = f 0 e
 at_either (y ∷ xs) ys (suc k) x e f g = at_either xs ys k x e (λ k e. f (suc k) e) g
 
-each_declaration : (o : Option (List Declaration)) → AreGlobals 64 (option_map (λ ds. map erase_declaration ds) o) → Each (IsDeclaration 64) (map erase_declaration (declarations_in o))
-each_declaration None h = tt
-each_declaration (Some ds) h = h
-
-same_declared : (o : Option (List Declaration)) → typed_declarations o ≡ declarations_in o
-same_declared None = refl
-same_declared (Some ds) = refl
-
 module _ (d : DictionaryText) (messages : List MessageText) (named : List ℕ) (source : syntax.Tree) (words : List Word) (t : Tree) (x : Image) (compiled : IsCompiled d messages named source words t x) where
   abbrev records : List RecordShape
   records = (shape_of d).records
 
   most : (of : ℕ) → most_occurrences records of ≤ 9999
   most = most_few d compiled.dictionary
-
-  abbrev OfGrammar : syntax.Tree → Type 0
-  OfGrammar s = AreGlobals 64 s.globals × Each (IsProcedure 64) s.procedures
 
   of_grammar : OfGrammar (erase_tree t)
   of_grammar = subst OfGrammar (sym compiled.typed.erased) (compiled.grammar.0, compiled.grammar.1)
@@ -149,7 +139,7 @@ module _ (d : DictionaryText) (messages : List MessageText) (named : List ℕ) (
   parts_plain = procedures_plain records most last t.procedures _ 64 last_is_global (with_parameters first (typed_declarations t.globals)) compiled.typed.well.procedures of_grammar.1
 
   declared : AreDeclared first 0 (declarations t)
-  declared = subst (AreDeclared first 0) (same_declared t.globals) compiled.typed.well.declarations
+  declared = subst (AreDeclared first 0) (same_declarations t.globals) compiled.typed.well.declarations
 
   pub routine_plain : (r : ℕ) (o : Outline) → slice_get (outlines t) r ≡ Some o → IsPlainBlock records (named_by o.sort) o.body
   routine_plain r o e =

@@ -7,10 +7,8 @@ use Rattle.cse_typed.specs.Typed.{Statements, Declaration, Numeric, Alpha, Array
 use Rattle.cse_typed.specs.Erase.{erase_declaration, erase_body, erase_procedure}
 use Rattle.cse_typed.specs.Tokens.{all_tokens, declaration_tokens, body_tokens, procedure_tokens, globals_tokens}
 use Rattle.cse_emit.specs.Setting.{Setting}
-use Rattle.cse_emit.specs.Statements.{exit_size_by, exit_code_by}
-use Rattle.cse_emit.specs.Routines.{no_loop, entry_size_by, entry_code_by, routine_size, routine_code}
-use Rattle.cse_emitted.proofs.Lengths.{two}
-use Rattle.cse_emitted.proofs.Blocks.{block_length}
+use Rattle.cse_emit.specs.Routines.{routine_code}
+use Rattle.cse_emitted.proofs.Blocks.{routine_length}
 use Rattle.cse_measure.specs.Entries.{Table, entries}
 use Rattle.cse_measure.specs.Measure.{tokens}
 use Rattle.cse_measure.proofs.Sizes.{routine_short}
@@ -18,14 +16,6 @@ use Rattle.cse_measure.proofs.Entries.{both, routine_entries}
 use Rattle.cse_tables.specs.declared.outlines.Sort.TheVariants as sorts
 use Rattle.cse_tables.specs.Outline.{Outline, Handler, event_of, function_of, functions_in, is_idle, handler_of, handlers_of_body, handlers_of, handlers_in}
 use Rattle.cse_measure.specs.Totals.{declarations_in, outlines, tokens_of, all_code, AreFew, AllCodeIsShort, AllEntriesAreFew}
-
-entry_length : (o : Option ℕ) → length (entry_code_by o) ≡ entry_size_by o
-entry_length None = refl
-entry_length (Some r) = refl
-
-leave_length : (o : Option ℕ) → length (exit_code_by o) ≡ exit_size_by o
-leave_length None = refl
-leave_length (Some r) = refl
 
 abbrev outline_of : Handler → Outline
 outline_of x = x.outline
@@ -96,11 +86,6 @@ tree_most t =
     omega (arith, e, g, p)
 
 -- ---- code
-
-pub routine_length : (s : Setting) (body : Statements) → length (routine_code s body) ≡ routine_size s body
-unfolding routine_code routine_size
-routine_length s body =
-    two _ _ _ _ (entry_length s.result_at) (two _ _ _ _ (block_length s no_loop (entry_size_by s.result_at) body) (leave_length s.result_at))
 
 pub code_most : (settings : Outline → Setting) (xs : List Outline) → AreFew xs → length (all_code settings xs) ≤ most_code xs
 code_most settings [] f = omega arith

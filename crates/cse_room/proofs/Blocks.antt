@@ -20,12 +20,13 @@ use Rattle.cse_emit.specs.Statements.{which_size, which_code, drops_size, drops_
 use Rattle.cse_emit.specs.Routines.{no_loop, entry_size_by, entry_code_by, routine_size, routine_code}
 use Rattle.cse_emitted.specs.Fit as fit
 use Rattle.cse_emitted.specs.Fit.{Spot, IsRecord, IsNumberVariable, IsDeck, WhichFits, ArgumentFits, ArgumentsFit, CountingFits, Within, over, StatementFits, BlockFits, ArmsFit}
+use Rattle.cse_checked_code.proofs.Sizes.{deepest_small, picks_many}
 use Rattle.cse_room.proofs.Plain.{current_fits, number_of_fits, total_fits, occurrence_fits, over_fits, load_local, store_local, store_global, store_cell, store_number, store_text, jump_fits, jump_unless, message_fits, impute_fits, call_fits, end_fits, break_fits, pop_fits, add_fits, subtract_fits, quotient_fits, return_fits}
 use Rattle.cse_room.proofs.Pooled.{WideFits, CodeFits}
 use Rattle.cse_room.proofs.Leaves.{WhichHolds, ArgumentHolds, ArgumentsHold, LimitHolds, CountingHolds, StatementHolds, BlockHolds, ArmsHold}
 use Rattle.cse_room.proofs.Facts as facts
 use Rattle.cse_room.proofs.Facts.{IsRoomy, mapped_within, item_within, small_number, limit_fits, load_fits, store_fits, record_small, size_fits}
-use Rattle.cse_room.proofs.Expressions.{joined, undefined_fits, pops_fit, jump_over_fits, deepest_small, picks_many, picks_fit, number_fits, words_fit, numbers_fit, indexes_fit, cell_within, deck_within, function_within}
+use Rattle.cse_room.proofs.Expressions.{joined, undefined_fits, pops_fit, jump_over_fits, picks_fit, number_fits, words_fit, numbers_fit, indexes_fit, cell_within, deck_within, function_within}
 
 drops_fit : (q n : ℕ) → q + drops_size n < 2 ^ 32 → CodeFits (drops_code q n)
 drops_fit q n small = joined (jump_over (q + drops_size n) n) (pops n) (jump_over_fits (q + drops_size n) n small) (pops_fit n)

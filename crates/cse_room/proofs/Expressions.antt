@@ -1,5 +1,5 @@
 -- The code of expressions fits, where their names stand for entries of tables and their places are below 4,000,000.
-use Rattle.std.proofs.Common.{◌≡◌, ◌≤◌, ◌<◌, ◌^◌, ℕ, zero, suc, ◌+◌, Bool, true, false, List, [], ◌∷◌, ◌++◌, length, arith}
+use Rattle.std.proofs.Common.{◌≤◌, ◌<◌, ◌^◌, ℕ, zero, suc, ◌+◌, Bool, true, false, List, [], ◌∷◌, ◌++◌, length, arith}
 use Rattle.std.specs.Prelude.{if◌then◌else◌, ◌==◌}
 use Rattle.std.proofs.lemmas.Option.{slice_get_within}
 use Rattle.cse_typed.specs.declared.tree.Found.{Found}
@@ -17,6 +17,7 @@ use Rattle.cse_emit.specs.Wide.{Wide, with_a, with_c, jump, undefined, pops, jum
 use Rattle.cse_emit.specs.Setting.{size_at}
 use Rattle.cse_emit.specs.Numbers.{special_number, relation_number, guarded, here_size, here_code, present_size, number_of_item, text_of_item, can_fail, deepest, row, picks_size, picks_code, deck_code, count, behind, number_size, words_size, numbers_size, indexes_size, operations_size, number_code, words_code, numbers_code, indexes_code, operations_code}
 use Rattle.cse_emitted.specs.Fit.{Spot, IsNumberPresent, IsTextPresent, IsArray, ArePicks, IsDeck, IsFunction, NumberFits, WordsFit, NumbersFit, OperationsFit}
+use Rattle.cse_checked_code.proofs.Sizes.{deepest_small, picks_many}
 use Rattle.cse_room.proofs.Lists.{both}
 use Rattle.cse_room.proofs.Plain.{current_fits, number_of_fits, total_fits, occurrence_fits, load_local, load_global, load_cell, jump_fits, id_number_fits, id_text_fits, item_number, item_text, call_fits, row_or_place, row_or_leftover, in_set, index_fits, special_fits, pop_fits, compare_fits, compare_text_fits, negate_fits, not_fits, is_special_fits, operation_fits, relation_small, special_small}
 use Rattle.cse_room.proofs.Pooled.{WideFits, CodeFits}
@@ -39,20 +40,6 @@ pops_fit (suc n) = (pop_fits 2 (omega arith), pops_fit n)
 
 pub jump_over_fits : (end n : ℕ) → end < 2 ^ 32 → CodeFits (jump_over end n)
 jump_over_fits end n small = either_fits (n == 0) [] (jump end ∷ []) tt (jump_fits end small, tt)
-
-pub deepest_small : (xs : List Pick) → deepest xs ≤ length xs
-deepest_small [] = omega arith
-deepest_small (x ∷ xs) = by (can_fail xs) (deepest_small xs)
-  where
-    by : (b : Bool) → deepest xs ≤ length xs → (if b then deepest xs + 1 else 0) ≤ suc (length xs)
-    by true h = omega (arith, h)
-    by false h = omega arith
-
-pub picks_many : (s : Spot) (ds : List ℕ) (xs : List Pick) → ArePicks s ds xs → length xs ≡ length ds
-picks_many s [] [] f = omega arith
-picks_many s [] (x ∷ xs) f = absurd f
-picks_many s (d ∷ ds) [] f = absurd f
-picks_many s (d ∷ ds) (x ∷ xs) f = omega (arith, picks_many s ds xs f.2)
 
 pub count_behind : (xs : Numbers) → behind xs ≤ count xs
 count_behind no_number = omega arith

@@ -10,7 +10,7 @@ use Rattle.cse_parts.specs.Image.{ArrayLists}
 use Rattle.cse_typing.specs.Signature.{Scene}
 use Rattle.cse_emitted.specs.Fit.{Spot, IsDeck, Within, over, NumberFits, WordsFit, NumbersFit, OperationsFit, WhichFits, ArgumentFits, ArgumentsFit, StatementFits, BlockFits, ArmsFit}
 use Rattle.cse_measure.specs.Few.{NumberIsFew, WordsAreFew, NumbersAreFew, OperationsAreFew, WhichIsFew, ArgumentIsFew, ArgumentsAreFew, StatementIsFew, BlockIsFew, ArmsAreFew}
-use Rattle.cse_room.proofs.Expressions.{picks_many}
+use Rattle.cse_checked_code.proofs.Sizes.{picks_many}
 
 -- no array has more than three dimensions
 abbrev pub AreFlat : Scene → Type 0

@@ -1,27 +1,15 @@
 -- An edit order that names each of n records once has n entries at most.
-use Rattle.std.proofs.Common.{◌≡◌, ◌≤◌, ◌<◌, ℕ, zero, suc, ◌+◌, Bool, true, false, cond, ◌||◌, eqb, List, [], ◌∷◌, length, Some, refl, sym, ◌∙◌, arith, ⊎_elim}
-use Rattle.std.specs.Prelude.{count_by, nat_eq, nat_lt, slice_get}
+use Rattle.std.proofs.Common.{◌≡◌, ◌≤◌, ◌<◌, ℕ, zero, suc, ◌+◌, Bool, true, false, ◌||◌, List, [], ◌∷◌, length, Some, refl, sym, ◌∙◌, arith, ⊎_elim}
+use Rattle.std.specs.Prelude.{nat_eq, nat_lt, slice_get}
 use Rattle.std.specs.List.{AllByRecursion, IsDistinct, list_any, range_with_len}
 use Rattle.std.proofs.lemmas.Bool.{eqb-true, eq-eqb, ne_eqb, cond-true, cond-false, cases_lt, lt-ltb, le-ltb, false≢true}
 use Rattle.std.proofs.lemmas.Cmp.{nat_eq_equiv}
 use Rattle.std.proofs.lemmas.List.FromFn.{length-range_with_len}
-use Rattle.std.proofs.lemmas.List.Sums.{sum_by-cons}
 use Rattle.std.proofs.lemmas.Map.Made.{length-le_from_is_member}
 use Rattle.std.proofs.lemmas.Option.{same_Some, none-some}
 use Rattle.cse_typing.specs.Order.{NamesEachOnce}
+use Rattle.cse_checked_code.proofs.EditOrder.{times, times_first, one_same}
 use Rattle.cse_room.proofs.Lists.{by_place}
-
-abbrev times : ℕ → List ℕ → ℕ
-times k xs = count_by (λ o. eqb o k) xs
-
-abbrev one : ℕ → ℕ → ℕ
-one x k = cond (eqb x k) 1 0
-
-times_first : (k x : ℕ) (xs : List ℕ) → times k (x ∷ xs) ≡ one x k + times k xs
-times_first k x xs = sum_by-cons (λ (o : ℕ). cond (eqb o k) 1 0) x xs
-
-one_same : (x k : ℕ) → x ≡ k → one x k ≡ 1
-one_same x k e = cond-true {A = ℕ} (eqb x k) 1 0 (eq-eqb x k e)
 
 -- a number that doesn't stand in the list
 absent : (x : ℕ) (xs : List ℕ) → times x xs ≡ 0 → AllByRecursion (λ y. nat_eq x y ≡ false) xs
@@ -48,10 +36,6 @@ entry_counts : (xs : List ℕ) (i k : ℕ) → slice_get xs i ≡ Some k → 1 �
 entry_counts [] i k e = absurd (none-some k e)
 entry_counts (x ∷ xs) zero k e = let a = times_first k x xs in let b = one_same x k (same_Some x k e) in omega (arith, a, b)
 entry_counts (x ∷ xs) (suc i) k e = let a = times_first k x xs in let b = entry_counts xs i k e in omega (arith, a, b)
-
-or_right : (a b : Bool) → b ≡ true → (a || b) ≡ true
-or_right true b e = refl
-or_right false b e = e
 
 in_range : (q from n : ℕ) → from ≤ q → q < from + n → list_any (nat_eq q) (range_with_len from n) ≡ true
 in_range q from zero le lt = absurd (omega (arith, le, lt))

@@ -32,8 +32,8 @@ use Rattle.cse_types.specs.Scope.{Scope, in_dictionary, kind_and_owner}
 use Rattle.cse_types.specs.WellTyped.{item_owner, owner_meant, body_messages, AreProcedures}
 use Rattle.cse_emit.specs.Routines.{routine_size}
 use Rattle.cse_emit.specs.Statements.{exit_size_by}
+use Rattle.cse_emitted.proofs.Blocks.{routine_length}
 use Rattle.cse_compile.specs.Program.{setting_for, code_of, all_code, entry_of}
-use Rattle.cse_measure.proofs.Totals.{routine_length}
 use Rattle.cse_room.specs.Within.{IsFunctionWithin}
 use Rattle.cse_room.proofs.Lists.{both, at, each_map}
 

@@ -20,8 +20,8 @@ use Rattle.cse_dict.specs.Dictionary.{DictionaryText, RecordText, ItemText, SetT
 use Rattle.cse_dict.specs.Sound.{IsSound as IsSoundDictionary}
 use Rattle.cse_syntax.specs.Tree as syntax
 use Rattle.cse_syntax.specs.Word.{Word}
-use Rattle.cse_syntax.specs.Grammar.{Each, IsDeclaration, IsProcedure, AreGlobals, IsSource, spell_tree}
-use Rattle.cse_typed.specs.Typed.{Declaration, Numeric, Alpha, Array', Function', Entry, Tree}
+use Rattle.cse_syntax.specs.Grammar.{IsSource, spell_tree}
+use Rattle.cse_typed.specs.Typed.{Declaration, Entry, Tree}
 use Rattle.cse_typed.specs.Erase.{erase_declaration, erase_tree}
 use Rattle.cse_typed.specs.Tokens.{all_tokens, declaration_tokens, globals_tokens}
 use Rattle.cse_typing.specs.Order.{NamesEachOnce, is_handled_by, fits_event, all_events_fit}
@@ -36,7 +36,7 @@ use Rattle.cse_tables.specs.Tables.{globals_in, arrays_in, message_of}
 use Rattle.cse_types.specs.declared.meaning.Meaning.{Meaning}
 use Rattle.cse_types.specs.MessageFile.{MessageText}
 use Rattle.cse_types.specs.Scope.{Scope, declared_from}
-use Rattle.cse_types.specs.WellTyped.{IsTypedAs, AreDeclared, all_declarations, typed_declarations, declared_messages, tree_messages, entry_of as said, first_scope, with_function, with_functions}
+use Rattle.cse_types.specs.WellTyped.{IsTypedAs, AreDeclared, all_declarations, typed_declarations, declared_messages, tree_messages, entry_of as said, first_scope, with_functions}
 use Rattle.cse_emit.specs.Wide.{Wide}
 use Rattle.cse_emit.specs.Setting.{Setting}
 use Rattle.cse_emitted.specs.Fit.{BlockFits}
@@ -51,7 +51,7 @@ use Rattle.cse_checked_code.specs.Checked.{IsCompiled, spot_for}
 use Rattle.cse_checked_code.specs.Sound.{IsOrdered}
 use Rattle.cse_checked_code.proofs.EditOrder.{orders_name_all}
 use Rattle.cse_checked_code.proofs.EventsFit as checked
-use Rattle.cse_checked_code.proofs.Routines.{statements_fit}
+use Rattle.cse_checked_code.proofs.Routines.{same_declarations, same_erased, each_declaration, OfGrammar, same_dictionary, statements_fit}
 use Rattle.cse_room.specs.Given.{ShapeFits, AreUtf8, AreTexts}
 use Rattle.cse_room.specs.Within.{IsMessageWithin, IsWithin}
 use Rattle.cse_room.specs.Room.{LargeAlone}
@@ -71,32 +71,13 @@ use Rattle.cse_room.proofs.Events as order
 
 -- ---- declarations, if there are any
 
-same_declarations : (o : Option (List Declaration)) → typed_declarations o ≡ declarations_in o
-same_declarations None = refl
-same_declarations (Some ds) = refl
-
 same_measured : (o : Option (List Declaration)) → measure.declarations_in o ≡ declarations_in o
 same_measured None = refl
 same_measured (Some ds) = refl
 
-same_erased : (o : Option (List Declaration)) → all_declarations (option_map (λ ds. map erase_declaration ds) o) ≡ map erase_declaration (declarations_in o)
-same_erased None = refl
-same_erased (Some ds) = refl
-
-each_declaration : (o : Option (List Declaration)) → AreGlobals 64 (option_map (λ ds. map erase_declaration ds) o) → Each (IsDeclaration 64) (map erase_declaration (declarations_in o))
-each_declaration None h = tt
-each_declaration (Some ds) h = h
-
 few_declared : (o : Option (List Declaration)) → all_tokens declaration_tokens (map erase_declaration (declarations_in o)) ≤ globals_tokens (option_map (λ ds. map erase_declaration ds) o)
 few_declared None = omega arith
 few_declared (Some ds) = omega arith
-
-same_dictionary : (s : Scope) (ds : List Declaration) → (with_functions s ds).dictionary ≡ s.dictionary
-same_dictionary s [] = refl
-same_dictionary s (Numeric names ∷ ds) = same_dictionary s ds
-same_dictionary s (Alpha digits size names ∷ ds) = same_dictionary s ds
-same_dictionary s (Array' array ∷ ds) = same_dictionary s ds
-same_dictionary s (Function' f ∷ ds) = same_dictionary (with_function s f) ds
 
 -- ---- small parts
 
@@ -167,9 +148,6 @@ module _ (d : DictionaryText) (messages : List MessageText) (named : List ℕ) (
   compiled = record { dictionary = sound; grammar = grammar; typed = typed; shape = refl; program = is_program }
 
   -- ---- what the source is
-
-  abbrev OfGrammar : syntax.Tree → Type 0
-  OfGrammar s = AreGlobals 64 s.globals × Each (IsProcedure 64) s.procedures
 
   of_grammar : OfGrammar (erase_tree t)
   of_grammar = subst OfGrammar (sym typed.erased) (grammar.0, grammar.1)

@@ -1,12 +1,8 @@
 -- Lists by their places, and in reverse.
-use Rattle.std.proofs.Common.{◌≡◌, ℕ, zero, suc, ◌*◌, ◌-◌, ◌<◌, List, [], ◌∷◌, ◌++◌, length, map, reverse, Some, refl, sym, ap, ◌∙◌, arith, take, drop, length-append}
+use Rattle.std.proofs.Common.{◌≡◌, ℕ, zero, suc, ◌*◌, ◌<◌, List, [], ◌∷◌, ◌++◌, length, map, reverse, Some, refl, sym, ap, ◌∙◌, arith, take, drop}
 use Rattle.std.specs.Prelude.{slice_get, slice_set}
-use Rattle.std.specs.List.{slice_index_or}
-use Rattle.std.proofs.lemmas.List.{reverse-append, length-take, length-replicate, length-set}
+use Rattle.std.proofs.lemmas.List.{reverse-append}
 use Rattle.std.proofs.lemmas.Option.{same_Some}
-use Rattle.cse_value.specs.declared.number.Num.{Num}
-use Rattle.cse_value.specs.Texts.{blanks}
-use Rattle.cse_value.specs.Field.{put_text}
 use Rattle.cse_parts.specs.Fields.{product}
 
 -- a list of so many elements has one at each place below that
@@ -44,17 +40,7 @@ product_reverse (d ∷ a) =
     let h = product_reverse a in
     grind arith
 
-pub length-put_text : (n : ℕ) (text : List ℕ) → length (put_text n text) ≡ n
-length-put_text n text = omega (arith, length-take n (text ++ blanks (n - length text)), length-append text (blanks (n - length text)), length-replicate {A = ℕ} (n - length text) 32)
-
 pub take_drop : {X : Type 0} (n : ℕ) (xs : List X) → take n xs ++ drop n xs ≡ xs
 take_drop zero xs = refl
 take_drop (suc n) [] = refl
 take_drop (suc n) (x ∷ xs) = ap (λ l. x ∷ l) (take_drop n xs)
-
--- a list in a list stays as long when one of its elements is set
-pub cell_stays : (arrays : List (List Num)) (a place : ℕ) (v : Num)
-    → map (λ (cells : List Num). length cells) (slice_set arrays a (slice_set (slice_index_or arrays a []) place v)) ≡ map (λ (cells : List Num). length cells) arrays
-cell_stays [] a place v = refl
-cell_stays (cells ∷ more) zero place v = ap (λ (n : ℕ). n ∷ map (λ (l : List Num). length l) more) (length-set cells place v)
-cell_stays (cells ∷ more) (suc a) place v = ap (λ (l : List ℕ). length cells ∷ l) (cell_stays more a place v)

@@ -3,7 +3,7 @@ use Rattle.cse_bounds.specs.CaseEvents.{moment}
 use Rattle.cse_typing.specs.Handlers.{routine_of}
 use Rattle.cse_machine.specs.Results.{AllFitFirst}
 use Rattle.cse_verify.specs.Verified.{VerifiedProgram}
-use Rattle.cse_batch.specs.Scene.{world_of}
+use Rattle.cse_steps.specs.State.{world_of}
 use Rattle.cse_batch.proofs.SceneLaws.{all_fit, all_ran_fits, all_ran_scene, on_ok}
 use Rattle.cse_batch.proofs.events.run_event.Goals as goal
 

@@ -1,10 +1,11 @@
 use Rattle.std.proofs.Common.{List, Some, ap, refl, subst, sym, ◌∙◌}
 use Rattle.cse_steps.specs.Fits.{occurrences_in}
+use Rattle.cse_steps.specs.State.{world_of}
 use Rattle.cse_machine.specs.declared.handled.Handled.{Handled}
 use Rattle.cse_machine.specs.Handled.{AllHandled, events_of}
 use Rattle.cse_machine.specs.Results.{AllFitFirst, in_occurrence}
 use Rattle.cse_verify.specs.Verified.{VerifiedProgram}
-use Rattle.cse_batch.specs.Scene.{scene, scene_after_all, world_of}
+use Rattle.cse_batch.specs.Scene.{scene, scene_after_all}
 use Rattle.cse_batch.proofs.HandledLaws.{all_handled, items_scene, items_there}
 use Rattle.cse_batch.proofs.SceneLaws.{all_fit, all_ran_fits, all_ran_scene, on_ok}
 use Rattle.cse_batch.proofs.events.run_items.Goals as goal
