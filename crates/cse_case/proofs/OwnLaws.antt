@@ -101,6 +101,15 @@ first_within c d ids columns lines bytes is_set marked first_line firsts spans u
     let fits = kept.table.fits r span low e in
     omega (arith, holds_occurrence d ids columns lines marked first_line firsts spans r o span kept.table low e (subst (λ (x : CaseText). IsOccurrence x r o) (sym view) is))
 
+-- its line
+pub line_of : {own : Ids} (c : CaseText) (d : DictionaryText) (ids columns : List ℕ) (lines : List Line) (bytes : List ℕ) (is_set marked : Bool) (first_line : ℕ) (firsts : List ℕ) (spans : List Span)
+    (unseen : List (ℕ × Unseen)) (r o first : ℕ) (span : Span) → case_in d ids columns lines marked first_line ≡ c → IsKept d own columns lines bytes is_set first_line firsts spans unseen
+    → r < length (records_of c) → span ≡ get_or spans r span → IsOccurrence c r o → first ≡ get_or firsts (span.start + o - 1) 0 → OwnLine c columns lines r o first
+line_of c d ids columns lines bytes is_set marked first_line firsts spans unseen r o first span view kept there e is begins =
+    let within : r < length spans = omega (arith, kept.table.size, ap (λ (x : CaseText). length (records_of x)) view) in
+    subst (λ (x : CaseText). OwnLine x columns lines r o first) view
+    (own_line d ids columns lines marked first_line firsts spans r o first span kept.table kept.laid within e (subst (λ (x : CaseText). IsOccurrence x r o) (sym view) is) begins)
+
 pub own_item : {own : Ids} (c : CaseText) (d : DictionaryText) (ids columns : List ℕ) (lines : List Line) (bytes : List ℕ) (is_set marked : Bool) (first_line : ℕ) (firsts : List ℕ) (spans : List Span)
     (unseen : List (ℕ × Unseen)) (r o first n : ℕ) (span : Span) → case_in d ids columns lines marked first_line ≡ c → IsKept d own columns lines bytes is_set first_line firsts spans unseen
     → IsSound c.dictionary → r < length (records_of c) → span ≡ get_or spans r span → IsOccurrence c r o → n < length (items_of c) → (item_at (items_of c) n).owner ≡ r

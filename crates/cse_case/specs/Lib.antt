@@ -8,6 +8,7 @@ pub mod Ids
 pub mod Kept
 pub mod Case
 pub mod Fit
+pub mod Own
 pub mod Sight
 pub mod Writes
 pub mod AtEnd

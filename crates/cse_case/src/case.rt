@@ -12,7 +12,7 @@ ghost use Rattle.cse_case.specs.Field.{IsItem, item_at};
 ghost use Rattle.cse_case.specs.Entry.{IsThere, entry_columns};
 ghost use Rattle.cse_case.specs.Ids.{AreIds, ids_in};
 
-use crate::field::{Entry, field_of, line_columns, whole_field, write_field};
+use crate::field::{Entry, columns_from, field_of, line_columns, whole_field, write_field};
 use crate::ids::Ids;
 use crate::items::Items;
 use crate::number::number_in;
@@ -81,6 +81,7 @@ impl<'a> Drop for Case<'a> {
 impl<'a> Case<'a> {
     ghost use Rattle.cse_case.specs.Case.{IsOccurrence, columns_at, items_of, number_at, place_of, places_of, records_of, text_at, types_of, unseen_lines, with_item, with_number, with_text};
     ghost use Rattle.cse_case.specs.Fit.{IsFit, line_width};
+    ghost use Rattle.cse_case.specs.Own.{HoldsItems};
 
     /// The case of a run, with these id columns. Its occurrences are counted in `counts`, and its table is
     /// filled anew.
@@ -237,6 +238,20 @@ impl<'a> Case<'a> {
         let span = self.table.spans[number as usize];
         let first = self.table.firsts[span.start + occurrence as usize - 1];
         whole_field(self.item(item), &self.columns, first)
+    }
+
+    /// The columns that begin with the line of an occurrence: each item of its record has all its columns there,
+    /// counted from the first one of the line.
+    #[inline(always)]
+    pub fn line(&self, number: u16, occurrence: u16) -> &[char]
+        requires there { number < length (records_of self.now) }
+        requires occurrence { IsOccurrence self.now number occurrence }
+        ensures { HoldsItems self.now number occurrence result.now }
+    {
+        let _shape = self.items.dictionary().shape();
+        let span = self.table.spans[number as usize];
+        let first = self.table.firsts[span.start + occurrence as usize - 1];
+        columns_from(&self.columns, first)
     }
 
     /// The number in an item's columns, in the line at a place.

@@ -79,3 +79,12 @@ pub fn line_columns(columns: &[char], line: Line) -> &[char]
 {
     &columns[line.first..line.first + line.width]
 }
+
+/// The columns of a run from this place on.
+#[inline(always)]
+pub fn columns_from(columns: &[char], first: usize) -> &[char]
+    requires { first ≤ length columns.now }
+    ensures { result.now ≡ drop first columns.now }
+{
+    &columns[first..]
+}
