@@ -19,6 +19,7 @@ pub mod Begin
 pub mod Memory
 pub mod Outcomes
 pub mod Turning
+pub mod Resuming
 pub mod Starting
 pub mod TableLaws
 pub mod Ranges
@@ -26,3 +27,4 @@ pub mod PlanLaws
 pub mod Reached
 pub mod QuietLaws
 pub mod Following
+pub mod AheadLaws

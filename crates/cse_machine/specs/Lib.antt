@@ -4,7 +4,9 @@ pub mod Resolve
 pub mod Laws
 pub mod Results
 pub mod Ready
+pub mod Resume
 pub mod Handled
+pub mod Ahead
 pub mod Small
 pub mod Quiet
 pub mod Sorts

@@ -1,11 +1,13 @@
 //! Worked rows of the machine and of whole runs: tests of their public calls, of what no clause says. They stand apart so
 //! that each of these libraries is proved once, and not a second time with its tests.
 //!
-//! - `stacks`, `machine`: stacks, and the steps of events.
+//! - `stacks`, `joined`, `machine`: stacks, forms of statements, and the steps of events.
 //! - `persons`: a dictionary.
 //! - `runs`, `samples`: whole runs, over devices that move few bytes in a call, and that fail.
 #![tactic(auto)]
 
+#[cfg(test)]
+mod joined;
 #[cfg(test)]
 mod machine;
 pub mod persons;
