@@ -11,12 +11,14 @@ ghost use Rattle.cse_case.specs.Seen.{is_case};
 ghost use Rattle.cse_case.specs.Field.{IsItem, item_at};
 ghost use Rattle.cse_case.specs.Entry.{IsThere, entry_columns};
 ghost use Rattle.cse_case.specs.Ids.{AreIds, ids_in};
+ghost use Rattle.cse_case.specs.Own.{HoldsItems, IsSpanOf};
 
 use crate::field::{Entry, columns_from, field_of, line_columns, whole_field, write_field};
 use crate::ids::Ids;
 use crate::items::Items;
 use crate::number::number_in;
 use crate::seen::{Table, fill_table};
+use crate::span::ItemSpan;
 use crate::write::{mark, put_lines};
 use cse_dict::Unseen;
 use cse_lines::{Lines, Run};
@@ -277,6 +279,31 @@ impl<'a> Case<'a> {
     {
         let columns = self.own_columns(number, occurrence, item);
         number_in(columns, &self.items, item)
+    }
+
+    /// The number of an item in an occurrence of its record, of which the line is at hand (`line`), with the columns of the
+    /// item looked up before.
+    #[inline(always)]
+    #[tactic(auto, unfolding(crate::specs::Case::number_at))]
+    pub fn number_in_line(
+        &self,
+        number: u16,
+        occurrence: u16,
+        span: &ItemSpan,
+        line: &[char],
+    ) -> Num
+        requires item { IsItem (items_of self.now) number ANumber span.now.item }
+        requires span { IsSpanOf (items_of self.now) span.now }
+        requires line { HoldsItems self.now number occurrence line.now }
+        ensures { result ≡ number_at self.now (place_of self.now number occurrence) span.now.item }
+    {
+        let _item = self.item(span.item);
+        let start = span.start as usize;
+        number_in(
+            &line[start..start + span.len as usize],
+            &self.items,
+            span.item,
+        )
     }
 
     /// The columns of a text item in an occurrence of its record, where they stand: at most 255.

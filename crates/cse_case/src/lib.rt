@@ -5,6 +5,7 @@
 //! - `ids`: the id columns of a case.
 //! - `items`: a dictionary, and which numbers are no codes of its items.
 //! - `number`: the number in a few columns.
+//! - `span`: where the columns of an item stand in the lines of its record.
 //! - `seen`: which lines of a run are seen, and as which occurrence of their record.
 //! - `case`: a case, and its fields.
 //! - `write`: how the lines of a run are written.
@@ -23,6 +24,7 @@ mod number;
 mod reader;
 mod seen;
 mod source;
+mod span;
 mod stream;
 mod write;
 
@@ -33,4 +35,5 @@ pub use laws::{
     seen_or_unseen,
 };
 pub use reader::CaseReader;
+pub use span::ItemSpan;
 pub use stream::CaseStream;
