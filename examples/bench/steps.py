@@ -125,7 +125,9 @@ def put(room, name, data):
         file.write(data)
 
 
-def main(csbatch):
+def measured(csbatch):
+    """What is measured: its name, the nanoseconds a step, those of the plain machine, if it has this program, the nanoseconds
+    of each thing that is done, if it is done four times in a turn, and the steps, if they were told."""
     with tempfile.TemporaryDirectory() as room:
         put(room, "d", DICTIONARY)
         put(room, "data", HOUSEHOLD)
@@ -138,7 +140,7 @@ def main(csbatch):
             steps = int(said.split()[0])
             if steps != int(told.split()[0]):
                 sys.exit(f"{name}: {steps} steps, and {told}")
-            print(f"{name}: {steps} steps, {spent / steps * 1e9:.2f} ns a step; in plain Rust {theirs / steps * 1e9:.2f}")
+            yield name, spent / steps * 1e9, theirs / steps * 1e9, None, steps
         for name, (group, often) in GROUPS.items():
             put(room, "i", image(1, [in_turns(group, often)]))
             run = [csbatch, "run", "d", "i", "data", "out", "list", "freq"]
@@ -151,10 +153,19 @@ def main(csbatch):
                 with open(os.path.join(room, "out"), "rb") as out:
                     if [line.rstrip() for line in out.read().decode().splitlines()] != wrote:
                         sys.exit(f"{name}: the lines differ, and {told}")
-                print(f"{name}: {spent / steps * 1e9:.2f} ns a step; in plain Rust {theirs / steps * 1e9:.2f}")
+                yield name, spent / steps * 1e9, theirs / steps * 1e9, None, None
                 continue
             [(spent, _)] = timed([run], room)
-            print(f"{name}: {spent / turns / 4 * 1e9:.1f} ns, {spent / turns / (4 * len(group) + 1) * 1e9:.1f} ns a step")
+            yield name, spent / turns / (4 * len(group) + 1) * 1e9, None, spent / turns / 4 * 1e9, None
+
+
+def main(csbatch):
+    for name, step, theirs, each, steps in measured(csbatch):
+        if each is not None:
+            print(f"{name}: {each:.1f} ns, {step:.1f} ns a step")
+        else:
+            count = f"{steps} steps, " if steps else ""
+            print(f"{name}: {count}{step:.2f} ns a step; in plain Rust {theirs:.2f}")
 
 
 if __name__ == "__main__":

@@ -129,9 +129,9 @@ def prepared(program, cases):
         subprocess.run([built("households.rs", "households"), str(cases)], stdout=data, check=True)
     open("empty.apc", "w").close()
     beside = ["--messages", sample("mgf"), "--order", sample("order")]
-    subprocess.run([program, "compile", sample("dcf"), sample("apc"), "logic.img", *beside], check=True)
-    subprocess.run([program, "compile", sample("dcf"), "empty.apc", "empty.img"], check=True)
-    subprocess.run([program, "compile", SHORT, "empty.apc", "short.img"], check=True)
+    for words in ([sample("dcf"), sample("apc"), "logic.img", *beside], [sample("dcf"), "empty.apc", "empty.img"],
+                  [SHORT, "empty.apc", "short.img"]):
+        subprocess.run([program, "compile", *words], check=True, stdout=subprocess.DEVNULL)
     short_lines("short", cases, "E")
     short_lines("beyond", cases, "\u00c9")
     copy, plain = built("copy.rs", "copy"), built("household/main.rs", "plain")
