@@ -1,6 +1,6 @@
 //! Where the columns of an item stand in the lines of its record.
 
-ghost use Rattle.std.specs.Prelude.{◌≡◌, ◌<◌, IfSome, length};
+ghost use Rattle.std.specs.Prelude.{◌≡◌, ◌<◌, ◌≤◌, IfNone, IfSome, length};
 ghost use Rattle.cse_dict.specs.Dictionary.{shape_of};
 ghost use Rattle.cse_case.specs.Own.{IsSpanOf};
 
@@ -19,6 +19,7 @@ impl ItemSpan {
     /// The columns of an item, if the dictionary has it.
     pub fn of(item: u16, dictionary: &Dictionary) -> Option<ItemSpan>
         ensures there { IfSome result (λ span. item < length dictionary.now.items) }
+        ensures none { IfNone result (length dictionary.now.items ≤ item) }
         ensures item { IfSome result (λ span. span.item ≡ item) }
         ensures span { IfSome result (λ span. IsSpanOf (shape_of dictionary.now).items span) }
     {

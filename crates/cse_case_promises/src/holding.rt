@@ -2,8 +2,9 @@
 
 ghost use Rattle.std.specs.Prelude.{◌≡◌, ◌<◌, length};
 ghost use Rattle.cse_case.specs.Seen.{is_case};
-ghost use Rattle.cse_case.specs.Case.{places_of, records_of, types_of, unseen_lines};
+ghost use Rattle.cse_case.specs.Case.{IsOccurrence, places_of, records_of, types_of, unseen_lines};
 ghost use Rattle.cse_case.specs.Fit.{IsFit};
+ghost use Rattle.cse_case.specs.Own.{HoldsItems};
 
 use cse_case::Case;
 use cse_dict::Unseen;
@@ -43,4 +44,13 @@ pub fn occurrences(case: &Case<'_>, number: u16) -> u16
     ensures { result ≡ length (places_of case.now number) }
 {
     case.occurrences(number)
+}
+
+/// `Case::line`.
+pub fn line<'c>(case: &'c Case<'_>, number: u16, occurrence: u16) -> &'c [char]
+    requires there { number < length (records_of case.now) }
+    requires occurrence { IsOccurrence case.now number occurrence }
+    ensures { HoldsItems case.now number occurrence result.now }
+{
+    case.line(number, occurrence)
 }

@@ -14,8 +14,8 @@ mod reading;
 mod setting;
 mod writing;
 
-pub use holding::{ids, is_case, lines, occurrences, unseen};
+pub use holding::{ids, is_case, line, lines, occurrences, unseen};
 pub use next::{next_case, next_run};
-pub use reading::{get_num, get_text, id_num, id_text};
+pub use reading::{get_num, get_text, id_num, id_text, item_span, number_in_line};
 pub use setting::{set_num, set_text};
 pub use writing::write_to;

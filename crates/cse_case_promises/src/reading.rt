@@ -1,11 +1,14 @@
 //! What is read of an item.
 
-ghost use Rattle.std.specs.Prelude.{◌≡◌};
+ghost use Rattle.std.specs.Prelude.{◌≡◌, ◌<◌, ◌≤◌, IfNone, IfSome, length};
 ghost use Rattle.cse_value.specs.declared.shape.ItemKind.TheVariants.{Number as ANumber, Text as AText};
 ghost use Rattle.cse_case.specs.Case.{IsOccurrence, items_of, number_at, place_of, text_at};
 ghost use Rattle.cse_case.specs.Field.{IsItem};
+ghost use Rattle.cse_case.specs.Own.{HoldsItems, IsSpanOf};
+ghost use Rattle.cse_dict.specs.Dictionary.{shape_of};
 
-use cse_case::Case;
+use cse_case::{Case, ItemSpan};
+use cse_dict::Dictionary;
 use cse_value::shape::ID_OWNER;
 use cse_value::{Num, Text};
 
@@ -16,6 +19,32 @@ pub fn get_num(case: &Case<'_>, number: u16, occurrence: u16, item: u16) -> Num
     ensures { result ≡ number_at case.now (place_of case.now number occurrence) item }
 {
     case.get_num(number, occurrence, item)
+}
+
+/// `ItemSpan::of`.
+pub fn item_span(item: u16, dictionary: &Dictionary) -> Option<ItemSpan>
+    ensures there { IfSome result (λ span. item < length dictionary.now.items) }
+    ensures none { IfNone result (length dictionary.now.items ≤ item) }
+    ensures item { IfSome result (λ span. span.item ≡ item) }
+    ensures span { IfSome result (λ span. IsSpanOf (shape_of dictionary.now).items span) }
+{
+    ItemSpan::of(item, dictionary)
+}
+
+/// `Case::number_in_line`.
+pub fn number_in_line(
+    case: &Case<'_>,
+    number: u16,
+    occurrence: u16,
+    span: &ItemSpan,
+    line: &[char],
+) -> Num
+    requires item { IsItem (items_of case.now) number ANumber span.now.item }
+    requires span { IsSpanOf (items_of case.now) span.now }
+    requires line { HoldsItems case.now number occurrence line.now }
+    ensures { result ≡ number_at case.now (place_of case.now number occurrence) span.now.item }
+{
+    case.number_in_line(number, occurrence, span, line)
 }
 
 /// `Case::get_text`.
