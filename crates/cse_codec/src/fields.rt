@@ -43,6 +43,7 @@ pub fn bytes_at(count: usize, bytes: &[u8]) -> Result<(&[u8], &[u8]), Fault>
     Ok(bytes.split_at(count))
 }
 
+/// A number of one byte, and the bytes after it.
 #[inline]
 #[tactic(auto, unfolding(crate::specs::Reader::number))]
 pub fn u8_at(bytes: &[u8]) -> Result<(u8, &[u8]), Fault>
@@ -52,6 +53,7 @@ pub fn u8_at(bytes: &[u8]) -> Result<(u8, &[u8]), Fault>
     Ok((front[0], rest))
 }
 
+/// A number of two bytes, the lowest first, and the bytes after it.
 #[inline]
 #[tactic(auto, unfolding(crate::specs::Reader::number))]
 pub fn u16_at(bytes: &[u8]) -> Result<(u16, &[u8]), Fault>
@@ -61,6 +63,7 @@ pub fn u16_at(bytes: &[u8]) -> Result<(u16, &[u8]), Fault>
     Ok((LittleEndian::read_u16(front), rest))
 }
 
+/// A number of four bytes, the lowest first, and the bytes after it.
 #[inline]
 #[tactic(auto, unfolding(crate::specs::Reader::number))]
 pub fn u32_at(bytes: &[u8]) -> Result<(u32, &[u8]), Fault>
@@ -70,6 +73,7 @@ pub fn u32_at(bytes: &[u8]) -> Result<(u32, &[u8]), Fault>
     Ok((LittleEndian::read_u32(front), rest))
 }
 
+/// A signed number of eight bytes, the lowest first, in two's complement, and the bytes after it.
 #[inline]
 #[tactic(auto, unfolding(crate::specs::Reader::signed))]
 pub fn i64_at(bytes: &[u8]) -> Result<(i64, &[u8]), Fault>

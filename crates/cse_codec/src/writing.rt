@@ -7,6 +7,7 @@ ghost use Rattle.cse_codec.specs.Spelling.{u8 as u8_spelling, u16 as u16_spellin
 use byteorder::{ByteOrder, LittleEndian};
 use std::alloc::AllocError;
 
+/// A byte. Want of memory changes nothing.
 #[inline]
 pub fn put_u8(out: &mut Vec<u8>, n: u8) -> Result<(), AllocError>
     ensures bytes { OnOk result (out.new.items ≡ out.old.items ++ u8_spelling n) }
@@ -16,6 +17,7 @@ pub fn put_u8(out: &mut Vec<u8>, n: u8) -> Result<(), AllocError>
     Ok(())
 }
 
+/// A number as two bytes, the lowest first. Want of memory changes nothing.
 #[inline]
 pub fn put_u16(out: &mut Vec<u8>, n: u16) -> Result<(), AllocError>
     ensures bytes { OnOk result (out.new.items ≡ out.old.items ++ u16_spelling n) }
@@ -27,6 +29,7 @@ pub fn put_u16(out: &mut Vec<u8>, n: u16) -> Result<(), AllocError>
     Ok(())
 }
 
+/// A number as four bytes, the lowest first. Want of memory changes nothing.
 #[inline]
 pub fn put_u32(out: &mut Vec<u8>, n: u32) -> Result<(), AllocError>
     ensures bytes { OnOk result (out.new.items ≡ out.old.items ++ u32_spelling n) }
@@ -50,6 +53,7 @@ pub fn put_i64(out: &mut Vec<u8>, n: &i64) -> Result<(), AllocError>
     Ok(())
 }
 
+/// Bytes as they are. Want of memory changes nothing.
 #[inline]
 pub fn put_bytes(out: &mut Vec<u8>, bytes: &[u8]) -> Result<(), AllocError>
     ensures bytes { OnOk result (out.new.items ≡ out.old.items ++ bytes.now) }
@@ -58,6 +62,7 @@ pub fn put_bytes(out: &mut Vec<u8>, bytes: &[u8]) -> Result<(), AllocError>
     out.extend_from_slice(bytes)
 }
 
+/// Numbers of four bytes each, one after another. Where memory is wanting, those before stand.
 pub fn put_u32s(out: &mut Vec<u8>, numbers: &[u32]) -> Result<(), AllocError>
     ensures bytes { OnOk result (out.new.items ≡ out.old.items ++ flat_map u32_spelling numbers.now) }
     ensures err { OnErr result ((n : ℕ) × (out.new.items ≡ out.old.items ++ flat_map u32_spelling (take n numbers.now))) }
@@ -68,6 +73,7 @@ pub fn put_u32s(out: &mut Vec<u8>, numbers: &[u32]) -> Result<(), AllocError>
     Ok(())
 }
 
+/// Numbers of eight bytes each, one after another. Where memory is wanting, those before stand.
 pub fn put_i64s(out: &mut Vec<u8>, numbers: &[i64]) -> Result<(), AllocError>
     ensures bytes { OnOk result (out.new.items ≡ out.old.items ++ flat_map i64_spelling numbers.now) }
     ensures err { OnErr result ((n : ℕ) × (out.new.items ≡ out.old.items ++ flat_map i64_spelling (take n numbers.now))) }

@@ -33,6 +33,7 @@ fn read_record(shape: &RecordShape)
     let _record_len = shape.record_len;
 }
 
+/// Reading the records tells the ranges of their fields.
 pub fn read_records(records: &[RecordShape])
     ensures { AllByRecursion RecordFits records.now }
 {
@@ -50,6 +51,7 @@ fn read_item(item: &ItemShape)
     let _start = item.start;
 }
 
+/// Reading the items tells the ranges of their fields.
 pub fn read_items(items: &[ItemShape])
     ensures { AllByRecursion ItemFits items.now }
 {
@@ -66,6 +68,7 @@ fn read_set(set: &SetShape)
     let _rows = set.rows;
 }
 
+/// Reading the value sets tells the ranges of their fields.
 pub fn read_sets(sets: &[SetShape])
     ensures { AllByRecursion SetFits sets.now }
 {
@@ -81,6 +84,7 @@ fn read_i64(n: &i64)
     let _value = *n;
 }
 
+/// Reading the numbers tells their range.
 pub fn read_numbers(numbers: &[i64])
     ensures { AllByRecursion (FitsSigned w64) numbers.now }
 {
@@ -89,18 +93,21 @@ pub fn read_numbers(numbers: &[i64])
     }
 }
 
+/// A limit of a counting loop: at least one turn.
 pub fn limit_fits(limit: &u32) -> bool
     ensures { Decides result (LimitFits limit.now) }
 {
     is_right_limit(*limit)
 }
 
+/// A text of a program: of plain characters, and no longer than a text may be.
 pub fn text_fits(text: &str) -> bool
     ensures { Decides result (TextFits text.now) }
 {
     text.len() < 65536 && is_plain_text(text) && is_short_text(text)
 }
 
+/// A global: a text has a length, a number has none.
 pub fn global_fits(global: &GlobalVariable) -> bool
     ensures { Decides result (GlobalFits global.now) }
 {
@@ -152,6 +159,7 @@ pub fn array_fits(before: &[Array], cells: u64, array: &Array) -> bool
         && has_right_cells(&array.dimensions, &array.cells)
 }
 
+/// A message: a text that fits, with few placeholders.
 pub fn message_fits(message: &Message) -> bool
     ensures { Decides result (MessageFits (message_lists message.now)) }
 {
@@ -210,6 +218,7 @@ pub fn event_fits(last: Option<EventEntry>, event: &EventEntry) -> bool
     comes_after(last, event.code, event.index) && routine == routine
 }
 
+/// An instruction whose operands its opcode may have, in version 2.
 pub fn instr_fits(instr: &Instr) -> bool
     ensures { Decides result (InstrFits versions.Two instr.now) }
 {

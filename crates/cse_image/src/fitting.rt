@@ -244,6 +244,7 @@ pub fn is_code_of(routines: &[Routine], code: &[Instr]) -> bool
     code.len() == total_of(routines) as usize
 }
 
+/// Each instruction has operands that its opcode may have, in version 2.
 pub fn each_instr_fits(code: &[Instr]) -> bool
     ensures { Decides result (AllByRecursion (InstrFits versions.Two) code.now) }
 {

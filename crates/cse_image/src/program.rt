@@ -60,18 +60,21 @@ impl<C: Code> Program<C> {
         &self.code
     }
 
+    /// The shapes of the records, by place from 0.
     pub fn records(&self) -> &[RecordShape]
         ensures { result.now ≡ self.now.lists.records }
     {
         &self.tables.records
     }
 
+    /// The shapes of the items, by place from 0.
     pub fn items(&self) -> &[ItemShape]
         ensures { result.now ≡ self.now.lists.items }
     {
         &self.tables.items
     }
 
+    /// The shapes of the value sets, by place from 0.
     pub fn sets(&self) -> &[SetShape]
         ensures { result.now ≡ self.now.lists.sets }
     {
@@ -85,6 +88,7 @@ impl<C: Code> Program<C> {
         &self.tables.order
     }
 
+    /// The constants, by the place that an instruction names.
     pub fn constants(&self) -> &[i64]
         ensures { result.now ≡ self.now.lists.constants }
     {
@@ -98,36 +102,42 @@ impl<C: Code> Program<C> {
         &self.tables.limits
     }
 
+    /// The texts, by the place that an instruction names.
     pub fn texts(&self) -> &[String]
         ensures { map string_bytes result.now ≡ self.now.lists.texts }
     {
         &self.tables.texts
     }
 
+    /// The global variables, by place from 0.
     pub fn globals(&self) -> &[GlobalVariable]
         ensures { result.now ≡ self.now.lists.globals }
     {
         &self.tables.globals
     }
 
+    /// The arrays and hot decks with their first cells, by place from 0.
     pub fn arrays(&self) -> &[Array]
         ensures { map array_lists result.now ≡ self.now.lists.arrays }
     {
         &self.tables.arrays
     }
 
+    /// The messages, by place from 0.
     pub fn messages(&self) -> &[Message]
         ensures { map message_lists result.now ≡ self.now.lists.messages }
     {
         &self.tables.messages
     }
 
+    /// The routines without their code, by place from 0.
     pub fn routines(&self) -> &[Routine]
         ensures { map routine_lists result.now ≡ self.now.lists.routines }
     {
         &self.tables.routines
     }
 
+    /// The events that have a routine, in the order of their codes and indexes.
     pub fn events(&self) -> &[EventEntry]
         ensures { result.now ≡ self.now.lists.events }
     {

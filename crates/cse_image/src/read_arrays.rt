@@ -183,6 +183,7 @@ fn arrays_in(alloc: Global, count: u32, bytes: &[u8]) -> Result<(Vec<Array>, &[u
     Ok((arrays, rest))
 }
 
+/// The table of arrays: their count, then each; and the bytes after it.
 #[tactic(auto, unfolding(cse_codec::specs::Reader::then_at, cse_codec::specs::Reader::counted))]
 pub fn arrays_of(alloc: Global, bytes: &[u8]) -> Result<(Vec<Array>, &[u8]), Stop>
     ensures { Gives (λ x. (map array_lists x.0.items, x.1.now)) result (counted MOST_ARRAYS array_at bytes.now) }

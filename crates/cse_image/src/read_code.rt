@@ -8,6 +8,7 @@ use cse_parts::instruction::Instr;
 use cse_parts::opcodes::{is_right_a, is_right_b, is_right_c, op_named};
 use cse_parts::version::Version;
 
+/// An instruction, and the bytes after it: its opcode, then operands that this opcode may have in this version.
 #[inline]
 #[tactic(auto, unfolding(cse_codec::specs::Reader::checked, cse_codec::specs::Reader::decoded, cse_codec::specs::Reader::then_at, cse_codec::specs::Reader::done, crate::specs::Reading::instr_at))]
 pub fn instr_of(version: Version, bytes: &[u8]) -> Result<(Instr, &[u8]), Fault>

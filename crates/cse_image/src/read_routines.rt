@@ -197,6 +197,8 @@ fn routines_in(
     Ok((routines, rest))
 }
 
+/// The table of routines: their count, then each; and the bytes after it. Together they have no
+/// more instructions than a program may.
 #[tactic(auto, unfolding(cse_codec::specs::Reader::then_at, cse_codec::specs::Reader::counted))]
 pub fn routines_of(
     alloc: Global,
@@ -270,6 +272,7 @@ fn events_in(alloc: Global, count: u32, bytes: &[u8]) -> Result<(Vec<EventEntry>
     Ok((events, rest))
 }
 
+/// The table of events: their count, then each, behind the one before it in order; and the bytes after it.
 #[tactic(auto, unfolding(cse_codec::specs::Reader::then_at, cse_codec::specs::Reader::counted))]
 pub fn events_of(alloc: Global, bytes: &[u8]) -> Result<(Vec<EventEntry>, &[u8]), Stop>
     ensures { Gives (λ x. (x.0.items, x.1.now)) result (counted MOST_EVENTS (λ before. event_at (last_event before)) bytes.now) }

@@ -78,6 +78,7 @@ fn records_in(alloc: Global, count: u32, bytes: &[u8]) -> Result<(Vec<RecordShap
     Ok((records, rest))
 }
 
+/// The table of records: their count, then each; and the bytes after it.
 #[tactic(auto, unfolding(cse_codec::specs::Reader::then_at, cse_codec::specs::Reader::counted))]
 pub fn records_of(alloc: Global, bytes: &[u8]) -> Result<(Vec<RecordShape>, &[u8]), Stop>
     ensures { Gives (λ x. (x.0.items, x.1.now)) result (counted MOST_RECORDS (λ _. record_at) bytes.now) }
@@ -130,6 +131,7 @@ fn items_in(alloc: Global, count: u32, bytes: &[u8]) -> Result<(Vec<ItemShape>, 
     Ok((items, rest))
 }
 
+/// The table of items: their count, then each; and the bytes after it.
 #[tactic(auto, unfolding(cse_codec::specs::Reader::then_at, cse_codec::specs::Reader::counted))]
 pub fn items_of(alloc: Global, bytes: &[u8]) -> Result<(Vec<ItemShape>, &[u8]), Stop>
     ensures { Gives (λ x. (x.0.items, x.1.now)) result (counted MOST_ITEMS (λ _. item_at) bytes.now) }
@@ -170,6 +172,7 @@ fn sets_in(alloc: Global, count: u32, bytes: &[u8]) -> Result<(Vec<SetShape>, &[
     Ok((sets, rest))
 }
 
+/// The table of value sets: their count, then each; and the bytes after it.
 #[tactic(auto, unfolding(cse_codec::specs::Reader::then_at, cse_codec::specs::Reader::counted))]
 pub fn sets_of(alloc: Global, bytes: &[u8]) -> Result<(Vec<SetShape>, &[u8]), Stop>
     ensures { Gives (λ x. (x.0.items, x.1.now)) result (counted MOST_SETS (λ _. set_at) bytes.now) }

@@ -25,6 +25,7 @@ use cse_parts::texts::{is_short_text, plain_text};
 use cse_parts::version::Version;
 use std::alloc::Global;
 
+/// The table of the edit order: how many records, then the place of each; and the bytes after it.
 #[tactic(auto, unfolding(cse_codec::specs::Reader::then_at, cse_codec::specs::Reader::counted))]
 pub fn order_of(alloc: Global, bytes: &[u8]) -> Result<(Vec<u32>, &[u8]), Stop>
     ensures { Gives (λ x. (x.0.items, x.1.now)) result (counted MOST_ORDER (λ _. number 4) bytes.now) }
@@ -33,6 +34,7 @@ pub fn order_of(alloc: Global, bytes: &[u8]) -> Result<(Vec<u32>, &[u8]), Stop>
     u32s_at(alloc, count, rest)
 }
 
+/// The table of constants: their count, then each; and the bytes after it.
 #[tactic(auto, unfolding(cse_codec::specs::Reader::then_at, cse_codec::specs::Reader::counted))]
 pub fn constants_of(alloc: Global, bytes: &[u8]) -> Result<(Vec<i64>, &[u8]), Stop>
     ensures { Gives (λ x. (x.0.items, x.1.now)) result (counted MOST_CONSTANTS (λ _. signed) bytes.now) }
@@ -119,6 +121,7 @@ fn texts_in(alloc: Global, count: u32, bytes: &[u8]) -> Result<(Vec<String>, &[u
     Ok((texts, rest))
 }
 
+/// The table of texts: their count, then each; and the bytes after it.
 #[tactic(auto, unfolding(cse_codec::specs::Reader::then_at, cse_codec::specs::Reader::counted))]
 pub fn texts_of(alloc: Global, bytes: &[u8]) -> Result<(Vec<String>, &[u8]), Stop>
     ensures { Gives (λ x. (map string_bytes x.0.items, x.1.now)) result (counted MOST_TEXTS (λ _. text_at) bytes.now) }
@@ -173,6 +176,7 @@ fn globals_in(alloc: Global, count: u32, bytes: &[u8]) -> Result<(Vec<GlobalVari
     Ok((globals, rest))
 }
 
+/// The table of globals: their count, then each; and the bytes after it.
 #[tactic(auto, unfolding(cse_codec::specs::Reader::then_at, cse_codec::specs::Reader::counted))]
 pub fn globals_of(alloc: Global, bytes: &[u8]) -> Result<(Vec<GlobalVariable>, &[u8]), Stop>
     ensures { Gives (λ x. (x.0.items, x.1.now)) result (counted MOST_GLOBALS (λ _. global_at) bytes.now) }
@@ -217,6 +221,7 @@ fn messages_in(alloc: Global, count: u32, bytes: &[u8]) -> Result<(Vec<Message>,
     Ok((messages, rest))
 }
 
+/// The table of messages: their count, then each; and the bytes after it.
 #[tactic(auto, unfolding(cse_codec::specs::Reader::then_at, cse_codec::specs::Reader::counted))]
 pub fn messages_of(alloc: Global, bytes: &[u8]) -> Result<(Vec<Message>, &[u8]), Stop>
     ensures { Gives (λ x. (map message_lists x.0.items, x.1.now)) result (counted MOST_MESSAGES (λ _. message_at) bytes.now) }

@@ -16,6 +16,7 @@ use cse_parts::limits::MOST_INSTRUCTIONS;
 use cse_parts::version::Version;
 use std::alloc::Global;
 
+/// All tables behind the header, in the order of the format, and the bytes of the code after them.
 #[tactic(auto, unfolding(cse_codec::specs::Reader::then_at, cse_codec::specs::Reader::done, crate::specs::Reading::lists_at))]
 pub fn tables_of(alloc: Global, version: Version, bytes: &[u8]) -> Result<(Tables, &[u8]), Stop>
     ensures exact { Gives (λ x. (lists_of x.0, x.1.now)) result (lists_at version bytes.now) }

@@ -29,6 +29,7 @@ pub fn put_header(out: &mut Vec<u8>) -> Result<(), AllocError>
     put_u16(out, 0)
 }
 
+/// A record: eight bytes.
 pub fn put_record(out: &mut Vec<u8>, shape: &RecordShape) -> Result<(), AllocError>
     ensures { OnOk result (out.new.items ≡ out.old.items ++ record_shape shape.now) }
 {
@@ -37,6 +38,7 @@ pub fn put_record(out: &mut Vec<u8>, shape: &RecordShape) -> Result<(), AllocErr
     put_u32(out, shape.record_len)
 }
 
+/// An item: eight bytes.
 pub fn put_item(out: &mut Vec<u8>, item: &ItemShape) -> Result<(), AllocError>
     ensures { OnOk result (out.new.items ≡ out.old.items ++ item_shape item.now) }
 {
@@ -46,6 +48,7 @@ pub fn put_item(out: &mut Vec<u8>, item: &ItemShape) -> Result<(), AllocError>
     put_u32(out, item.start)
 }
 
+/// A value set: eight bytes.
 pub fn put_set(out: &mut Vec<u8>, set: &SetShape) -> Result<(), AllocError>
     ensures { OnOk result (out.new.items ≡ out.old.items ++ set_shape set.now) }
 {
@@ -55,6 +58,7 @@ pub fn put_set(out: &mut Vec<u8>, set: &SetShape) -> Result<(), AllocError>
     put_bytes(out, &[0, 0, 0])
 }
 
+/// A text: its length in bytes, in two, then the bytes of its UTF-8.
 pub fn put_text(out: &mut Vec<u8>, text: &str) -> Result<(), AllocError>
     requires { length text.now < 2 ^ 16 }
     ensures { OnOk result (out.new.items ≡ out.old.items ++ text_spelling text.now) }
@@ -63,6 +67,7 @@ pub fn put_text(out: &mut Vec<u8>, text: &str) -> Result<(), AllocError>
     put_bytes(out, text.as_bytes())
 }
 
+/// A global: four bytes.
 pub fn put_global(out: &mut Vec<u8>, global: &GlobalVariable) -> Result<(), AllocError>
     ensures { OnOk result (out.new.items ≡ out.old.items ++ global_spelling global.now) }
 {
@@ -80,6 +85,7 @@ fn put_dimensions(out: &mut Vec<u8>, dimensions: &[u16]) -> Result<(), AllocErro
     Ok(())
 }
 
+/// An array: its flags and lengths, its dimensions, its name, then the cells that it begins with.
 pub fn put_array(out: &mut Vec<u8>, array: &Array) -> Result<(), AllocError>
     requires dimensions { length array.now.dimensions.items < 2 ^ 8 }
     requires name { length (string_bytes array.now.name) < 2 ^ 8 }
@@ -96,6 +102,7 @@ pub fn put_array(out: &mut Vec<u8>, array: &Array) -> Result<(), AllocError>
     put_i64s(out, &array.cells)
 }
 
+/// A message: its number, whether it is a summary, then its text.
 pub fn put_message(out: &mut Vec<u8>, message: &Message) -> Result<(), AllocError>
     requires { length (string_bytes message.now.text) < 2 ^ 16 }
     ensures { OnOk result (out.new.items ≡ out.old.items ++ message_spelling (message_lists message.now)) }
@@ -123,6 +130,7 @@ fn put_locals(out: &mut Vec<u8>, locals: &[Local]) -> Result<(), AllocError>
     Ok(())
 }
 
+/// A routine: its head, its locals, then how many instructions it has.
 pub fn put_routine(out: &mut Vec<u8>, routine: &Routine) -> Result<(), AllocError>
     requires { length routine.now.locals.items < 2 ^ 8 }
     ensures { OnOk result (out.new.items ≡ out.old.items ++ routine_spelling (routine_lists routine.now)) }
@@ -135,6 +143,7 @@ pub fn put_routine(out: &mut Vec<u8>, routine: &Routine) -> Result<(), AllocErro
     put_u32(out, routine.instructions)
 }
 
+/// An event: eight bytes.
 pub fn put_event(out: &mut Vec<u8>, event: &EventEntry) -> Result<(), AllocError>
     ensures { OnOk result (out.new.items ≡ out.old.items ++ event_spelling event.now) }
 {
@@ -144,6 +153,7 @@ pub fn put_event(out: &mut Vec<u8>, event: &EventEntry) -> Result<(), AllocError
     put_u32(out, event.routine)
 }
 
+/// An instruction: eight bytes.
 #[inline]
 pub fn put_instr(out: &mut Vec<u8>, instr: Instr) -> Result<(), AllocError>
     ensures { OnOk result (out.new.items ≡ out.old.items ++ instr_spelling instr) }

@@ -8,6 +8,7 @@ use crate::entries::{Ambient, EventCode, Gift, GlobalKind, LocalKind};
 use crate::version::Version;
 use cse_value::shape::ItemKind;
 
+/// The flag of a code: 0 for no, 1 for yes.
 pub fn flag_named(code: u8) -> Option<bool>
     ensures { result ≡ flag_of code }
 {
@@ -18,12 +19,14 @@ pub fn flag_named(code: u8) -> Option<bool>
     }
 }
 
+/// The code of a flag: 0 for no, 1 for yes.
 pub fn flag_number(flag: bool) -> u8
     ensures { result ≡ flag_code flag }
 {
     flag as u8
 }
 
+/// The kind of item of a code: 0 for one that no logic names, 1 for a number, 2 for a text.
 pub fn item_kind_named(code: u8) -> Option<ItemKind>
     ensures { result ≡ item_kind_of code }
 {
@@ -35,12 +38,14 @@ pub fn item_kind_named(code: u8) -> Option<ItemKind>
     }
 }
 
+/// The code of a kind of item.
 pub fn item_kind_number(kind: ItemKind) -> u8
     ensures { result ≡ item_kind_code kind }
 {
     kind as u8
 }
 
+/// The kind of global of a code: 1 for a number, 2 for a text.
 pub fn global_kind_named(code: u8) -> Option<GlobalKind>
     ensures { result ≡ global_kind_of code }
 {
@@ -51,12 +56,14 @@ pub fn global_kind_named(code: u8) -> Option<GlobalKind>
     }
 }
 
+/// The code of a kind of global.
 pub fn global_kind_number(kind: GlobalKind) -> u8
     ensures { result ≡ global_kind_code kind }
 {
     kind as u8
 }
 
+/// The kind of local of a code: 1 for a number, 2 for a text, 3 for an occurrence.
 pub fn local_kind_named(code: u8) -> Option<LocalKind>
     ensures { result ≡ local_kind_of code }
 {
@@ -68,12 +75,14 @@ pub fn local_kind_named(code: u8) -> Option<LocalKind>
     }
 }
 
+/// The code of a kind of local.
 pub fn local_kind_number(kind: LocalKind) -> u8
     ensures { result ≡ local_kind_code kind }
 {
     kind as u8
 }
 
+/// What a routine may speak of, by its code: 0 for the run alone, 1 for a case too.
 pub fn ambient_named(code: u8) -> Option<Ambient>
     ensures { result ≡ ambient_of code }
 {
@@ -84,12 +93,14 @@ pub fn ambient_named(code: u8) -> Option<Ambient>
     }
 }
 
+/// The code of what a routine may speak of.
 pub fn ambient_number(ambient: Ambient) -> u8
     ensures { result ≡ ambient_code ambient }
 {
     ambient as u8
 }
 
+/// What a routine gives, by its code: 0 for nothing, 1 for a number, 2 for a text.
 pub fn gift_named(code: u8) -> Option<Gift>
     ensures { result ≡ gift_of code }
 {
@@ -101,12 +112,15 @@ pub fn gift_named(code: u8) -> Option<Gift>
     }
 }
 
+/// The code of what a routine gives.
 pub fn gift_number(gift: Gift) -> u8
     ensures { result ≡ gift_code gift }
 {
     gift as u8
 }
 
+/// The event of a code from 0 to 7: of the application, the level, a record, an item, each with its preproc before its
+/// postproc.
 pub fn event_code_named(code: u8) -> Option<EventCode>
     ensures { result ≡ event_code_of code }
 {
@@ -123,6 +137,7 @@ pub fn event_code_named(code: u8) -> Option<EventCode>
     }
 }
 
+/// The code of an event.
 pub fn event_code_number(code: EventCode) -> u8
     ensures { result ≡ event_code code }
 {

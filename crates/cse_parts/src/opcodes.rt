@@ -63,6 +63,7 @@ pub fn op_named(code: u8) -> Option<Op>
     }
 }
 
+/// The number of an opcode, from 0 to 45.
 #[tactic(auto, unfolding(crate::specs::Opcodes::shape))]
 pub fn op_number(op: Op) -> u8
     ensures { result ≡ op_code op }

@@ -150,6 +150,7 @@ pub struct Pieces<'a> {
 }
 
 impl<'a> Pieces<'a> {
+    /// The pieces of this text.
     pub fn new(text: &'a [u8]) -> Pieces<'a>
         ensures { pieces_left result ≡ pieces_of text.now }
     {
@@ -178,6 +179,7 @@ pub struct Kinds<'a> {
 }
 
 impl<'a> Kinds<'a> {
+    /// The kinds of what this text takes.
     pub fn new(text: &'a [u8]) -> Kinds<'a>
         ensures { kinds_left result ≡ message_kinds text.now }
     {

@@ -74,6 +74,7 @@ pub fn is_count_of_dimensions(count: u8) -> bool
     1 <= count && count as usize <= MOST_DIMENSIONS
 }
 
+/// A dimension has at least one cell.
 pub fn is_right_dimension(dimension: u16) -> bool
     ensures { result ≡ is_dimension dimension }
 {

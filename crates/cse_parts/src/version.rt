@@ -29,6 +29,7 @@ pub fn version_named(code: u16) -> Option<Version>
     }
 }
 
+/// The number of a version, as the header has it.
 pub fn version_number(version: Version) -> u16
     ensures { result ≡ version_code version }
 {

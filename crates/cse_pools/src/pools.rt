@@ -84,6 +84,7 @@ impl<'a> Pools<'a> {
         text_place(&mut self.texts, value)
     }
 
+    /// The constants, by their places.
     pub fn constants(&self) -> &[i64]
         ensures value { result.now ≡ self.now.constants }
         ensures fit { PoolsFit self.now }
@@ -91,6 +92,7 @@ impl<'a> Pools<'a> {
         self.constants.as_slice()
     }
 
+    /// The limits of counting loops, by their places.
     pub fn limits(&self) -> &[u32]
         ensures value { result.now ≡ self.now.limits }
         ensures fit { PoolsFit self.now }
@@ -98,6 +100,7 @@ impl<'a> Pools<'a> {
         self.limits.as_slice()
     }
 
+    /// The texts, by their places.
     pub fn texts(&self) -> &[&'a str]
         ensures value { map (λ t. t.now) result.now ≡ self.now.texts }
         ensures fit { PoolsFit self.now }

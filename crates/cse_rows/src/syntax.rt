@@ -1,3 +1,5 @@
+//! Worked rows of logic as text: the first fault of each, long texts, words that are left out, and the places of tokens.
+
 use crate::told::assert_count;
 use cse_syntax::*;
 use std::alloc::Global;

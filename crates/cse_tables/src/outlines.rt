@@ -32,6 +32,8 @@ pub struct Handler<'t, 'a> {
 }
 
 impl Sort {
+    /// Whether the routine may speak of a case: a procedure of the application may not, nor a function that speaks of
+    /// none.
     pub fn ambient(self) -> Ambient
         ensures { result ≡ spec.ambient_of self }
     {
@@ -42,6 +44,7 @@ impl Sort {
         }
     }
 
+    /// What the routine gives: a function a number, a procedure nothing.
     pub fn gives(self) -> Gift
         ensures { result ≡ spec.gives_of self }
     {

@@ -40,6 +40,7 @@ pub fn kind_of_argument(argument: ArgumentKind) -> Kind
     }
 }
 
+/// The kind of a global on a stack.
 pub fn kind_of_global(kind: GlobalKind) -> Kind
     ensures { result ≡ global_kind kind }
 {

@@ -34,12 +34,14 @@ impl<T: Copy> Nest<T> {
         }
     }
 
+    /// How many entries it has.
     pub fn len(&self) -> usize
         ensures { result ≡ length self.now }
     {
         self.len
     }
 
+    /// The entry on top, if it has one.
     pub fn top(&self) -> Option<T>
         ensures { result ≡ first self.now }
     {
@@ -58,6 +60,7 @@ impl<T: Copy> Nest<T> {
         self.entries[self.len - 1 - depth]
     }
 
+    /// Puts an entry on top; it may have 65.
     pub fn push(&mut self, entry: T)
         requires { length self.old < 65 }
         ensures { self.new ≡ entry ∷ self.old }
@@ -66,6 +69,7 @@ impl<T: Copy> Nest<T> {
         self.len += 1;
     }
 
+    /// Takes the entry on top away.
     pub fn pop(&mut self)
         requires { self.old ≢ [] }
         ensures { self.new ≡ drop 1 self.old }

@@ -27,6 +27,7 @@ impl Model for Numbers {
 }
 
 impl Numbers {
+    /// Numbers of no entry.
     pub fn new(alloc: Global) -> Self
         ensures { (e : Entry_) → number_of result e ≡ None }
     {

@@ -53,6 +53,7 @@ impl Model for Piles {
 }
 
 impl Piles {
+    /// No stacks yet.
     pub fn new(alloc: Global) -> Self
         ensures { result ≡ [] }
     {
@@ -140,6 +141,7 @@ impl Piles {
         }
     }
 
+    /// Whether a stack has no entry.
     pub fn is_empty(&self, stack: usize) -> bool
         requires { stack ≤ length self.now }
         ensures { result ≡ same_kinds [] (stack_of self.now stack) }
