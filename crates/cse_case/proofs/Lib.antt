@@ -10,4 +10,3 @@ pub mod SetLaws
 pub mod TableLaws
 pub mod OwnLaws
 pub mod NumberLaws
-pub mod FewLaws

@@ -1,16 +1,21 @@
 -- Laws of fields of blanks and then digits.
-use Rattle.std.proofs.Common.{◌≡◌, ℕ, ◌<◌, ◌≤◌, ◌^◌, ◌-◌, ◌+◌, ◌*◌, Bool, true, false, not, cond, eqb, ltb, List, [], ◌∷◌, length, get_or, reverse, Option, Some, None, pos, neg_ℤ, refl, ap, sym, ◌∙◌, arith, subst}
+use Rattle.std.proofs.Common.{◌≡◌, ℕ, zero, suc, ◌<◌, ◌≤◌, ◌^◌, ◌-◌, ◌+◌, ◌*◌, Bool, true, false, not, cond, eqb, ltb, List, [], ◌∷◌, length, get_or, reverse, Option, Some, None, pos, neg_ℤ, refl, ap, sym, ◌∙◌, arith, subst}
 use Rattle.std.specs.Prelude.{ℤ, IfSome}
 use Rattle.std.specs.Option.{option_map}
 use Rattle.std.specs.List.{list_all}
 use Rattle.std.specs.Char.{is_ascii_digit}
+use Rattle.std.specs.Str.{IsAscii}
+use Rattle.cse_lines.specs.Bytes.{columns_by}
+use Rattle.cse_lines.proofs.BytesLaws.{ascii-columns_by}
 use Rattle.std.proofs.lemmas.Bool.{and_parts, and_from, not-true, cond-true, cond-false, eqb-true, lt-ltb}
 use Rattle.std.proofs.lemmas.Bool.Decides.{nat_tests}
 use Rattle.std.proofs.lemmas.List.{reverse-append, reverse-reverse}
 use Rattle.std.proofs.lemmas.List.Folds.{list_all-append}
 use Rattle.std.proofs.Math.Nat.{pow-le-pow_right}
 use Rattle.cse_value.specs.declared.number.Num.TheVariants.{Missing, NotAppl, Whole}
-use Rattle.cse_case.specs.Limits.{IsKept}
+use Rattle.cse_dict.specs.Dictionary.{DictionaryText, code_at, shape_of}
+use Rattle.cse_case.specs.Field.{item_at}
+use Rattle.cse_case.specs.Limits.{AreKept, IsPlain}
 use Rattle.cse_value.specs.Field.{without_blanks, trimmed, digits_value, digits_number, numeral, in_i64, is_code, value_of, value_of_trimmed, field}
 
 raised : (i j : ℕ) → i ≤ j → 10 ^ i ≤ 10 ^ j
@@ -104,18 +109,6 @@ no_code columns spelled n code e is low other = sym (cond-false (is_code code (p
 pub number_of_field : (columns : List ℕ) (n : ℕ) (code : Option ℤ) → digits_number (without_blanks columns) ≡ Some n → n < 1000 → is_code code (pos n) ≡ false → Whole (pos n) ≡ field columns code
 number_of_field columns n code is low other = no_code columns (without_blanks columns) n code refl is (omega arith) other
 
--- the value of digits behind blanks below a limit of codes
-pub below_codes : (columns : List ℕ) (n limit : ℕ) (code : Option ℤ) → digits_number (without_blanks columns) ≡ Some n → n < limit → n < 1000 → IsKept limit code → Whole (pos n) ≡ field columns code
-below_codes columns n limit code is below low kept = number_of_field columns n code is low (kept n below)
-
--- the same of what was found in the columns, if a number was
-pub found_below_codes : (columns own : List ℕ) (found : Option ℕ) (n most limit : ℕ) (code : Option ℤ) → columns ≡ own → IfSome found (λ m. digits_number (without_blanks own) ≡ Some m)
-    → IfSome found (λ m. m < most) → most ≤ 1000 → found ≡ Some n → n < limit → IsKept limit code → Whole (pos n) ≡ field columns code
-found_below_codes columns own found n most limit code same is low few e below kept =
-    let its = subst (λ (o : Option ℕ). IfSome o (λ m. digits_number (without_blanks own) ≡ Some m)) e is in
-    let under : n < most = subst (λ (o : Option ℕ). IfSome o (λ m. m < most)) e low in
-    below_codes columns n limit code (ap (λ l. digits_number (without_blanks l)) same ∙ its) below (omega arith) kept
-
 -- digits without blanks
 spelled : (c : ℕ) (cs : List ℕ) → list_all is_ascii_digit (c ∷ cs) ≡ true → digits_number (without_blanks (c ∷ cs)) ≡ Some (digits_value (c ∷ cs))
 unfolding digits_number
@@ -167,3 +160,93 @@ pub digit_alone : (columns : List ℕ) (a d : ℕ) (found : Option ℕ) → leng
 digit_alone columns a d None one at h = tt
 digit_alone columns a d (Some n) one at h =
     ap (λ l. digits_number (without_blanks l)) (one_column columns d one ∙ ap (λ b. b ∷ []) (sym at)) ∙ one_digit a h.0 ∙ ap Some (sym h.1)
+
+-- digits are ASCII, and blanks are
+low_digit : (c : ℕ) → is_ascii_digit c ≡ true → c < 128
+low_digit c h = grind (arith, nat_tests)
+
+digits_low : (cs : List ℕ) → list_all is_ascii_digit cs ≡ true → IsAscii cs
+digits_low [] h k = omega arith
+digits_low (c ∷ cs) h zero = low_digit c (and_parts (is_ascii_digit c) (list_all is_ascii_digit cs) h).0
+digits_low (c ∷ cs) h (suc k) = digits_low cs (and_parts (is_ascii_digit c) (list_all is_ascii_digit cs) h).1 k
+
+number_low : (cs : List ℕ) (n : ℕ) → digits_number cs ≡ Some n → IsAscii cs
+unfolding digits_number
+number_low [] n h = cc
+number_low (c ∷ cs) n h = by_cases (list_all is_ascii_digit (c ∷ cs)) refl
+  where
+    by_cases : (t : Bool) → list_all is_ascii_digit (c ∷ cs) ≡ t → IsAscii (c ∷ cs)
+    by_cases true e = digits_low (c ∷ cs) e
+    by_cases false e = let h' = rw e at h in cc
+
+cons_low : (c : ℕ) (cs : List ℕ) → c < 128 → IsAscii cs → IsAscii (c ∷ cs)
+cons_low c cs h low zero = h
+cons_low c cs h low (suc k) = low k
+
+blank_or_not : (c : ℕ) (cs : List ℕ) (t : Bool) → eqb c 32 ≡ t → (IsAscii (without_blanks cs) → IsAscii cs) → IsAscii (without_blanks (c ∷ cs)) → IsAscii (c ∷ cs)
+blank_or_not c cs true e rest h =
+    let blank : c ≡ 32 = eqb-true c 32 e in
+    let same : without_blanks (c ∷ cs) ≡ without_blanks cs = cond-true (eqb c 32) (without_blanks cs) (c ∷ cs) e in
+    cons_low c cs (omega (arith, blank)) (rest (subst IsAscii same h))
+blank_or_not c cs false e rest h = subst IsAscii (cond-false (eqb c 32) (without_blanks cs) (c ∷ cs) e) h
+
+-- what stands behind blanks is ASCII, so all of it is
+pub behind_blanks_low : (cs : List ℕ) → IsAscii (without_blanks cs) → IsAscii cs
+behind_blanks_low [] h = h
+behind_blanks_low (c ∷ cs) h = blank_or_not c cs (eqb c 32) refl (behind_blanks_low cs) h
+
+pub blanks_low : (cs : List ℕ) → without_blanks cs ≡ [] → IsAscii cs
+blanks_low cs e = behind_blanks_low cs (subst IsAscii (sym e) (λ k. omega arith))
+
+pub digits_are_ascii : (cs : List ℕ) (n : ℕ) → digits_number (without_blanks cs) ≡ Some n → IsAscii cs
+digits_are_ascii cs n e = behind_blanks_low cs (number_low (without_blanks cs) n e)
+
+-- the value of columns whose bytes are ASCII
+pub field_of_ascii : (bytes beside : List ℕ) (code : Option ℤ) → IsAscii bytes → field bytes code ≡ field (columns_by bytes beside) code
+field_of_ascii bytes beside code ascii = ap (λ l. field l code) (sym (ascii-columns_by bytes beside ascii))
+
+pub empty_is : (cs : List ℕ) → eqb (length cs) 0 ≡ true → cs ≡ []
+empty_is [] h = refl
+empty_is (c ∷ cs) h = absurd (omega (arith, eqb-true (length (c ∷ cs)) 0 h))
+
+pub two_at : (columns : List ℕ) → length columns ≡ 2 → columns ≡ get_or columns 0 0 ∷ get_or columns 1 0 ∷ []
+two_at [] h = absurd (omega (arith, h))
+two_at (x ∷ []) h = absurd (omega (arith, h))
+two_at (x ∷ y ∷ []) h = refl
+two_at (x ∷ y ∷ z ∷ zs) h = absurd (omega (arith, h))
+
+pub three_at : (columns : List ℕ) → length columns ≡ 3 → columns ≡ get_or columns 0 0 ∷ get_or columns 1 0 ∷ get_or columns 2 0 ∷ []
+three_at [] h = absurd (omega (arith, h))
+three_at (x ∷ []) h = absurd (omega (arith, h))
+three_at (x ∷ y ∷ []) h = absurd (omega (arith, h))
+three_at (x ∷ y ∷ z ∷ []) h = refl
+three_at (x ∷ y ∷ z ∷ v ∷ zs) h = absurd (omega (arith, h))
+
+-- a digit below the limit of codes
+pub plain_digit : (d : DictionaryText) (bytes : List ℕ) (a limit : ℕ) (found : Option ℕ) → length bytes ≡ 1 → a ≡ get_or bytes 0 0 → limit ≤ 10 → AreKept d 1 limit
+    → IfSome found (λ n. (is_ascii_digit a ≡ true) × (n ≡ a - 48)) → IfSome found (λ n. n < limit) → IfSome found (λ n. IsPlain d bytes n)
+plain_digit d bytes a limit None one at most kept digit low = tt
+plain_digit d bytes a limit (Some n) one at most kept digit low = record {
+  spelled = digit_alone bytes a 0 (Some n) one at digit;
+  low = omega (arith, low, most);
+  no_code = λ item there wide. kept item there (wide ∙ one) n low;
+}
+
+-- and what was found in two or three columns, below their limit
+pub plain_found : (d : DictionaryText) (bytes own : List ℕ) (found result : Option ℕ) (most limit : ℕ) → bytes ≡ own → AreKept d (length bytes) limit → most ≤ 1000
+    → IfSome found (λ n. digits_number (without_blanks own) ≡ Some n) → IfSome found (λ n. n < most) → IfSome result (λ n. (found ≡ Some n) × (n < limit)) → IfSome result (λ n. IsPlain d bytes n)
+plain_found d bytes own found None most limit same kept few is low below = tt
+plain_found d bytes own found (Some n) most limit same kept few is low below =
+    let its = subst (λ (o : Option ℕ). IfSome o (λ m. digits_number (without_blanks own) ≡ Some m)) below.0 is in
+    let under : n < most = subst (λ (o : Option ℕ). IfSome o (λ m. m < most)) below.0 low in
+    record {
+      spelled = ap (λ l. digits_number (without_blanks l)) same ∙ its;
+      low = omega (arith, under, few);
+      no_code = λ item there wide. kept item there wide n below.1;
+    }
+
+-- such a number is the value of the columns, whatever stands beside their bytes
+pub plain_value : (d : DictionaryText) (bytes beside : List ℕ) (n item : ℕ) → IsPlain d bytes n → item < length d.items → (item_at (shape_of d).items item).len ≡ length bytes
+    → Whole (pos n) ≡ field (columns_by bytes beside) (code_at d item)
+plain_value d bytes beside n item plain there wide =
+    number_of_field bytes n (code_at d item) plain.spelled plain.low (plain.no_code item there wide) ∙ field_of_ascii bytes beside (code_at d item) (digits_are_ascii bytes n plain.spelled)

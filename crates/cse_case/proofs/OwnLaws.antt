@@ -1,23 +1,21 @@
 -- Laws of the line of an occurrence: where it lies, by the table.
 use Rattle.std.proofs.Common.{◌≡◌, ℕ, ◌+◌, ◌-◌, ◌<◌, ◌≤◌, Bool, List, length, get_or, None, ap, sym, ◌∙◌, arith, subst}
-use Rattle.std.specs.Prelude.{slice_index, slice_set}
+use Rattle.std.specs.Prelude.{slice_index}
 use Rattle.std.proofs.lemmas.List.{length-map}
 use Rattle.cse_dict.specs.Dictionary.{DictionaryText, shape_of}
 use Rattle.cse_dict.specs.Sound.{IsSound}
 use Rattle.cse_dict.specs.declared.lookup.Unseen.{Unseen}
-use Rattle.cse_lines.specs.Columns.{LineText, no_line}
-use Rattle.cse_lines.specs.Field.{ids_of}
+use Rattle.cse_lines.specs.Columns.{LineText}
 use Rattle.cse_lines.specs.declared.line.Line.{Line}
 use Rattle.cse_lines.specs.declared.line.Ending.TheVariants.{FileEnd}
 use Rattle.cse_lines.specs.Laid.{IsLaid, laid_line, laid_lines}
-use Rattle.cse_lines.specs.Run.{line_at, with_columns}
+use Rattle.cse_lines.specs.Run.{line_at}
 use Rattle.cse_lines.proofs.LaidLaws.{laid_within, line_in}
-use Rattle.cse_case.specs.declared.ids.Ids.{Ids}
 use Rattle.cse_case.specs.declared.seen.Span.{Span}
 use Rattle.cse_case.specs.declared.seen.Table.{Table}
 use Rattle.cse_case.specs.Seen.{occurrence_places}
 use Rattle.cse_case.specs.Table.{IsTable, first_at, types_in}
-use Rattle.cse_case.specs.Case.{CaseText, IsOccurrence, items_of, place_of, places_of, records_of, with_item}
+use Rattle.cse_case.specs.Case.{CaseText, IsOccurrence, items_of, place_of, places_of, records_of}
 use Rattle.cse_case.specs.Field.{item_at}
 use Rattle.cse_case.specs.Fit.{IsFit}
 use Rattle.cse_case.specs.Kept.{IsKept}
@@ -93,8 +91,8 @@ pub record OwnItem (c : CaseText) (columns : List ℕ) (lines : List Line) (r o 
   pub whole : (item_at (items_of c) n).start - 1 + (item_at (items_of c) n).len ≤ own.line.width
 
 -- the occurrence stands in the table
-pub first_within : {own : Ids} (c : CaseText) (d : DictionaryText) (ids columns : List ℕ) (lines : List Line) (bytes : List ℕ) (is_set marked : Bool) (first_line : ℕ) (firsts : List ℕ) (spans : List Span)
-    (unseen : List (ℕ × Unseen)) (r o : ℕ) (span : Span) → case_in d ids columns lines marked first_line ≡ c → IsKept d own columns lines bytes is_set first_line firsts spans unseen
+pub first_within : (c : CaseText) (d : DictionaryText) (ids columns : List ℕ) (lines : List Line) (bytes : List ℕ) (is_set marked : Bool) (first_line : ℕ) (firsts : List ℕ) (spans : List Span)
+    (unseen : List (ℕ × Unseen)) (r o : ℕ) (span : Span) → case_in d ids columns lines marked first_line ≡ c → IsKept d columns lines bytes is_set first_line firsts spans unseen
     → r < length (records_of c) → span ≡ get_or spans r span → IsOccurrence c r o → span.start + o ≤ length firsts
 first_within c d ids columns lines bytes is_set marked first_line firsts spans unseen r o span view kept there e is =
     let low : r < length spans = omega (arith, kept.table.size, ap (λ (x : CaseText). length (records_of x)) view) in
@@ -102,16 +100,16 @@ first_within c d ids columns lines bytes is_set marked first_line firsts spans u
     omega (arith, holds_occurrence d ids columns lines marked first_line firsts spans r o span kept.table low e (subst (λ (x : CaseText). IsOccurrence x r o) (sym view) is))
 
 -- its line
-pub line_of : {own : Ids} (c : CaseText) (d : DictionaryText) (ids columns : List ℕ) (lines : List Line) (bytes : List ℕ) (is_set marked : Bool) (first_line : ℕ) (firsts : List ℕ) (spans : List Span)
-    (unseen : List (ℕ × Unseen)) (r o first : ℕ) (span : Span) → case_in d ids columns lines marked first_line ≡ c → IsKept d own columns lines bytes is_set first_line firsts spans unseen
+pub line_of : (c : CaseText) (d : DictionaryText) (ids columns : List ℕ) (lines : List Line) (bytes : List ℕ) (is_set marked : Bool) (first_line : ℕ) (firsts : List ℕ) (spans : List Span)
+    (unseen : List (ℕ × Unseen)) (r o first : ℕ) (span : Span) → case_in d ids columns lines marked first_line ≡ c → IsKept d columns lines bytes is_set first_line firsts spans unseen
     → r < length (records_of c) → span ≡ get_or spans r span → IsOccurrence c r o → first ≡ get_or firsts (span.start + o - 1) 0 → OwnLine c columns lines r o first
 line_of c d ids columns lines bytes is_set marked first_line firsts spans unseen r o first span view kept there e is begins =
     let within : r < length spans = omega (arith, kept.table.size, ap (λ (x : CaseText). length (records_of x)) view) in
     subst (λ (x : CaseText). OwnLine x columns lines r o first) view
     (own_line d ids columns lines marked first_line firsts spans r o first span kept.table kept.laid within e (subst (λ (x : CaseText). IsOccurrence x r o) (sym view) is) begins)
 
-pub own_item : {own : Ids} (c : CaseText) (d : DictionaryText) (ids columns : List ℕ) (lines : List Line) (bytes : List ℕ) (is_set marked : Bool) (first_line : ℕ) (firsts : List ℕ) (spans : List Span)
-    (unseen : List (ℕ × Unseen)) (r o first n : ℕ) (span : Span) → case_in d ids columns lines marked first_line ≡ c → IsKept d own columns lines bytes is_set first_line firsts spans unseen
+pub own_item : (c : CaseText) (d : DictionaryText) (ids columns : List ℕ) (lines : List Line) (bytes : List ℕ) (is_set marked : Bool) (first_line : ℕ) (firsts : List ℕ) (spans : List Span)
+    (unseen : List (ℕ × Unseen)) (r o first n : ℕ) (span : Span) → case_in d ids columns lines marked first_line ≡ c → IsKept d columns lines bytes is_set first_line firsts spans unseen
     → IsSound c.dictionary → r < length (records_of c) → span ≡ get_or spans r span → IsOccurrence c r o → n < length (items_of c) → (item_at (items_of c) n).owner ≡ r
     → first ≡ get_or firsts (span.start + o - 1) 0 → OwnItem c columns lines r o first n
 own_item c d ids columns lines bytes is_set marked first_line firsts spans unseen r o first n span view kept sound there e is low owns begins =
@@ -123,17 +121,3 @@ own_item c d ids columns lines bytes is_set marked first_line firsts spans unsee
     let fit : IsFit c = subst IsFit view (kept_fits d ids columns lines marked first_line kept.some kept.wide kept.laid) in
     let inside = item_within c r n (place_of c r o) fit sound (has_place c r o is).below (occurrence_own c r o is) there low owns in
     record { own = own; whole = omega arith }
-
--- the id columns of the first line after a write, where the case is told by its parts
-pub same_ids : (c : CaseText) (d : DictionaryText) (ids columns now : List ℕ) (lines : List Line) (marked : Bool) (first_line place n : ℕ) (field : List ℕ)
-    → case_in d ids columns lines marked first_line ≡ c
-    → laid_lines now lines ≡ slice_set (laid_lines columns lines) place (record (line_at c.run place) { columns = with_columns ((item_at (items_of c) n).start - 1) field (line_at c.run place).columns })
-    → ids_of c.dictionary (line_at (with_item c place n field).run 0).columns ≡ ids_of c.dictionary (line_at c.run 0).columns
-    → ids_of d (get_or (laid_lines now lines) 0 no_line).columns ≡ ids_of d (get_or (laid_lines columns lines) 0 no_line).columns
-same_ids c d ids columns now lines marked first_line place n field view wrote stay =
-    let own : d ≡ c.dictionary = ap (λ (x : CaseText). x.dictionary) view in
-    let all : laid_lines columns lines ≡ c.run.lines = ap (λ (x : CaseText). x.run.lines) view in
-    let new : laid_lines now lines ≡ (with_item c place n field).run.lines =
-    wrote ∙ ap (λ (ls : List LineText). slice_set ls place (record (line_at c.run place) { columns = with_columns ((item_at (items_of c) n).start - 1) field (line_at c.run place).columns })) all in
-    ap (λ (x : DictionaryText). ids_of x (get_or (laid_lines now lines) 0 no_line).columns) own ∙ ap (λ (ls : List LineText). ids_of c.dictionary (get_or ls 0 no_line).columns) new ∙ stay
-    ∙ ap (λ (ls : List LineText). ids_of c.dictionary (get_or ls 0 no_line).columns) (sym all) ∙ ap (λ (x : DictionaryText). ids_of x (get_or (laid_lines columns lines) 0 no_line).columns) (sym own)

@@ -1,14 +1,15 @@
 -- Laws of written lines.
-use Rattle.std.proofs.Common.{◌≡◌, ℕ, ◌+◌, ◌-◌, ◌<◌, ◌≤◌, ◌%◌, false, eqb, List, [], ◌∷◌, ◌++◌, length, get_or, set, take, drop, refl, ap, sym, subst, ◌∙◌, arith, take-add, get_or-drop, length-drop, take_all, bit_or, inl, inr}
+use Rattle.std.proofs.Common.{◌≡◌, ℕ, zero, suc, ◌+◌, ◌-◌, ◌<◌, ◌≤◌, false, eqb, List, [], ◌∷◌, ◌++◌, length, get_or, set, take, drop, refl, ap, sym, subst, ◌∙◌, arith, take-add, get_or-drop, length-drop, take_all, bit_or, inl, inr}
 use Rattle.std.specs.Prelude.{encode_utf8, encode_utf8_all}
 use Rattle.std.proofs.lemmas.Bool.{cases_lt}
 use Rattle.std.proofs.lemmas.Nat.{le_or_l, le_or_r}
 use Rattle.std.specs.Str.{IsAscii}
 use Rattle.std.proofs.lemmas.Str.{encodes-IsAscii, encodes-append}
-use Rattle.std.proofs.Math.Nat.{mod-eq_of_lt}
 use Rattle.std.proofs.Math.Seq.{take-append-add}
 use borrow.Rule.Slice.PartMut.{put_mid, post_of}
 use Rattle.std.proofs.lemmas.List.{append-nil, get_or_past, take-append-le, take_rest, take_more, ext_get_or, get_or-set_other, get_or-set_same, get_or-take, length-take-le}
+use Rattle.cse_lines.specs.Bytes.{columns_by}
+use Rattle.cse_lines.proofs.BytesLaws.{ascii-columns_by}
 use Rattle.cse_lines.specs.Written.{onto_trimmed, without_blanks, kept_columns}
 
 without_blanks-blank : (xs : List ℕ) → without_blanks (xs ++ 32 ∷ []) ≡ without_blanks xs
@@ -79,13 +80,15 @@ columns_below columns greatest low ascii k =
       | inr h ↦ rw (get_or_past columns k 0 (omega arith)) (omega arith)
     ]
 
--- the lowest bytes of ASCII columns are what they are in UTF-8
-pub low_bytes : (columns bytes : List ℕ) (greatest : ℕ) → length columns ≤ length bytes → ((k : ℕ) → k < length columns → get_or bytes k 0 ≡ get_or columns k 0 % 256)
-    → ((k : ℕ) → k < length columns → get_or columns k 0 ≤ greatest) → greatest < 128 → take (length columns) bytes ≡ encode_utf8_all columns
-low_bytes columns bytes greatest room same low ascii =
-    let all : take (length columns) columns ≡ columns = take_all (length columns) columns (omega arith) in
-    front_ascii columns bytes (length columns) (omega arith) room (λ k h. same k h ∙ mod-eq_of_lt {n = get_or columns k 0} {m = 256} (let at = low k h in omega arith))
-    (subst IsAscii (sym all) (columns_below columns greatest low ascii)) ∙ ap encode_utf8_all all
+-- bytes of ASCII, each as it is, are their columns in UTF-8
+pub own_bytes : (ascii beside bytes : List ℕ) (greatest : ℕ) → length ascii ≤ length bytes → ((k : ℕ) → k < length ascii → get_or bytes k 0 ≡ get_or ascii k 0)
+    → ((k : ℕ) → k < length ascii → get_or ascii k 0 ≤ greatest) → greatest < 128 → take (length (columns_by ascii beside)) bytes ≡ encode_utf8_all (columns_by ascii beside)
+own_bytes ascii beside bytes greatest room same low few =
+    let n = length ascii in
+    let all : take n ascii ≡ ascii = take_all n ascii (omega arith) in
+    let own : IsAscii ascii = columns_below ascii greatest low few in
+    let are : columns_by ascii beside ≡ ascii = ascii-columns_by ascii beside own in
+    ap (λ l. take (length l) bytes) are ∙ front_ascii ascii bytes n (omega arith) room same (subst IsAscii (sym all) own) ∙ ap encode_utf8_all (all ∙ sym are)
 
 -- one more column goes into the bits of those before it
 pub bits_more : (columns : List ℕ) (i bits column : ℕ) → column ≡ get_or columns i 0 → ((k : ℕ) → k < i → get_or columns k 0 ≤ bits)
@@ -95,12 +98,12 @@ bits_more columns i bits column at low k h = elim (cases_lt k i) [
   | inr above ↦ let same : k ≡ i = omega arith in rw (same, ← at) (le_or_r bits column)
 ]
 
--- and its lowest byte behind theirs
-pub bytes_more : (columns bytes : List ℕ) (i column : ℕ) → i < length bytes → column ≡ get_or columns i 0 → ((k : ℕ) → k < i → get_or bytes k 0 ≡ get_or columns k 0 % 256)
-    → (k : ℕ) → k < i + 1 → get_or (set bytes i (column % 256)) k 0 ≡ get_or columns k 0 % 256
-bytes_more columns bytes i column room at before k h = elim (cases_lt k i) [
-  | inl below ↦ get_or-set_other bytes i k (column % 256) 0 (λ e. absurd (omega arith)) ∙ before k below
-  | inr above ↦ let same : k ≡ i = omega arith in rw (same, ← at) (get_or-set_same bytes i (column % 256) 0 room)
+-- and its byte behind theirs
+pub bytes_more : (ascii bytes : List ℕ) (i : ℕ) → i < length bytes → ((k : ℕ) → k < i → get_or bytes k 0 ≡ get_or ascii k 0)
+    → (k : ℕ) → k < i + 1 → get_or (set bytes i (get_or ascii i 0)) k 0 ≡ get_or ascii k 0
+bytes_more ascii bytes i room before k h = elim (cases_lt k i) [
+  | inl below ↦ get_or-set_other bytes i k (get_or ascii i 0) 0 (λ e. absurd (omega arith)) ∙ before k below
+  | inr above ↦ let same : k ≡ i = omega arith in rw same (get_or-set_same bytes i (get_or ascii i 0) 0 room)
 ]
 
 -- what is left of bytes from a place on
@@ -118,3 +121,8 @@ pub encode-more : (columns : List ℕ) (i c : ℕ) → i < length columns → c 
 encode-more columns i c within is =
     ap encode_utf8_all (take_more columns i c within) ∙ encodes-append (take i columns) (get_or columns i c ∷ [])
     ∙ ap (λ l. encode_utf8_all (take i columns) ++ l) (append-nil (encode_utf8 (get_or columns i c)) ∙ ap encode_utf8 (sym is))
+
+pub get_or_any : (l : List ℕ) (i d e : ℕ) → i < length l → get_or l i d ≡ get_or l i e
+get_or_any [] i d e h = absurd (omega (arith, h))
+get_or_any (x ∷ l) zero d e h = refl
+get_or_any (x ∷ l) (suc i) d e h = get_or_any l i d e (omega arith)

@@ -4,7 +4,6 @@ pub mod Found
 pub mod Field
 pub mod Limits
 pub mod Entry
-pub mod Ids
 pub mod Kept
 pub mod Case
 pub mod Fit

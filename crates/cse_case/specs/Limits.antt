@@ -1,6 +1,6 @@
 -- Limits below which no number is the code of an item.
-use Rattle.std.specs.Prelude.{◌≡◌, ◌<◌, ◌≤◌, ℕ, ℤ, pos, false, length, Option}
-use Rattle.cse_value.specs.Field.{is_code}
+use Rattle.std.specs.Prelude.{◌≡◌, ◌<◌, ◌≤◌, ℕ, ℤ, pos, false, List, length, Option, Some}
+use Rattle.cse_value.specs.Field.{digits_number, is_code, without_blanks}
 use Rattle.cse_dict.specs.Dictionary.{DictionaryText, code_at, shape_of}
 use Rattle.cse_case.specs.Field.{item_at}
 
@@ -22,3 +22,9 @@ pub record AreLimits (d : DictionaryText) (digit_limit limit : ℕ) : Type 0 whe
   pub one : AreKept d 1 digit_limit
   pub two : AreKept d 2 limit
   pub three : AreKept d 3 limit
+
+-- the columns are blanks and then the digits of this number, which is low and the code of no item of so many columns
+pub record IsPlain (d : DictionaryText) (columns : List ℕ) (n : ℕ) : Type 0 where
+  pub spelled : digits_number (without_blanks columns) ≡ Some n
+  pub low : n < 1000
+  pub no_code : (item : ℕ) → item < length d.items → (item_at (shape_of d).items item).len ≡ length columns → is_code (code_at d item) (pos n) ≡ false

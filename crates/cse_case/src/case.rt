@@ -1,6 +1,6 @@
 //! A case: the lines of one run, read by a dictionary.
 
-ghost use Rattle.std.specs.Prelude.{◌≡◌, ◌<◌, ◌≤◌, ◌+◌, ◌^◌, ℕ, Some, length, IfOk};
+ghost use Rattle.std.specs.Prelude.{◌≡◌, ◌<◌, ◌≤◌, ◌+◌, ◌^◌, ℕ, Some, drop, length, take, IfOk};
 ghost use Rattle.std.specs.Bool.{OnTrue, OnFalse};
 ghost use Rattle.cse_value.specs.declared.shape.ItemKind.TheVariants.{Number as ANumber, Opaque as AnOpaque, Text as AText};
 ghost use Rattle.cse_value.specs.Writing.{WritesAll, FailsAtErr};
@@ -9,22 +9,22 @@ ghost use Rattle.cse_dict.specs.Sound.{IsSound};
 ghost use Rattle.cse_lines.specs.Run.{line_at, written_run};
 ghost use Rattle.cse_case.specs.Seen.{is_case};
 ghost use Rattle.cse_case.specs.Field.{IsItem, item_at};
-ghost use Rattle.cse_case.specs.Entry.{IsThere, entry_columns};
-ghost use Rattle.cse_case.specs.Ids.{AreIds, ids_in};
+ghost use Rattle.cse_case.specs.Entry.{IsFor, IsThere, entry_columns};
+ghost use Rattle.cse_lines.specs.Bytes.{columns_lent};
 ghost use Rattle.cse_case.specs.Own.{HoldsItems, IsSpanOf};
 
-use crate::field::{Entry, columns_from, field_of, line_columns, whole_field, write_field};
-use crate::ids::Ids;
+use crate::field::{Entry, Part, columns_from, field_of, line_columns, whole_field, write_field};
 use crate::items::Items;
-use crate::number::number_in;
+use crate::number::{number_in, number_in_columns};
 use crate::seen::{Table, fill_table};
 use crate::span::ItemSpan;
+use crate::text::text_of;
 use crate::write::{mark, put_lines};
 use cse_dict::Unseen;
-use cse_lines::{Lines, Run};
+use cse_lines::{Columns, Lines, Run};
 use cse_output::Gatherer;
 use cse_value::shape::{ID_OWNER, ItemKind, ItemShape};
-use cse_value::{Failed, Num, Output, Text, read_num, read_text};
+use cse_value::{Failed, Num, Output, Text};
 use std::alloc::{AllocError, Global};
 use std::marker::Model;
 
@@ -35,14 +35,13 @@ use std::marker::Model;
 /// memory.
 pub struct Case<'a> {
     items: Items<'a>,
-    ids: Ids,
-    columns: Vec<char>,
-    /// The lines, and their bytes as they came.
+    /// The lines, their bytes as they came, and their columns.
     kept: Box<Lines>,
     /// Whether a line was written into.
     is_set: bool,
     marked: bool,
     first_line: u64,
+    /// Its occurrences and its ids.
     table: Box<Table>,
 }
 
@@ -50,18 +49,17 @@ impl<'a> Model for Case<'a> {
     ghost use Rattle.std.specs.Prelude.{List, ℕ};
     ghost use Rattle.cse_lines.specs.Laid.{laid_lines};
     ghost use Rattle.cse_case.specs.Case.{CaseText};
-    ghost use Rattle.cse_case.specs.Ids.{ids_in};
     ghost use Rattle.cse_case.specs.Kept.{IsKept};
 
     ghost Value = { CaseText };
 
     ghost view = { λ c. record {
       dictionary = c.items;
-      ids = ids_in c.ids c.columns.items;
-      run = record { lines = laid_lines c.columns.items c.kept.value.lines.items; marked = c.marked; first_line = c.first_line };
+      ids = c.table.value.ids.items;
+      run = record { lines = laid_lines c.kept.value.columns c.kept.value.lines.items; marked = c.marked; first_line = c.first_line };
     } };
 
-    ghost invariant = { λ c. IsKept c.items c.ids c.columns.items c.kept.value.lines.items c.kept.value.bytes.items c.is_set c.first_line c.table.value.firsts.items c.table.value.spans.items c.table.value.unseen.items };
+    ghost invariant = { λ c. IsKept c.items c.kept.value.columns c.kept.value.lines.items c.kept.value.bytes.items c.is_set c.first_line c.table.value.firsts.items c.table.value.spans.items c.table.value.unseen.items };
 }
 
 // Written out, so that a crate that owns a case calls this drop and does not prove one for each part.
@@ -69,8 +67,6 @@ impl<'a> Drop for Case<'a> {
     fn drop(self) {
         let Case {
             items: _items,
-            ids: _ids,
-            columns: _columns,
             kept: _kept,
             is_set: _is_set,
             marked: _marked,
@@ -85,23 +81,21 @@ impl<'a> Case<'a> {
     ghost use Rattle.cse_case.specs.Fit.{IsFit, line_width};
     ghost use Rattle.cse_case.specs.Own.{HoldsItems};
 
-    /// The case of a run, with these id columns. Its occurrences are counted in `counts`, and its table is
-    /// filled anew.
+    /// The case of a run, of which the id columns lie with the table. Its occurrences are counted in `counts`, and its table
+    /// is filled anew.
     pub(crate) fn new(
         alloc: Global,
         items: Items<'a>,
         counts: &mut Vec<u16>,
         table: Box<Table>,
-        ids: Ids,
         run: Run,
     ) -> Result<Case<'a>, AllocError>
         requires some { 0 < length run.lines }
         requires wide { (place : ℕ) → place < length run.lines → length (line_at run place).columns ≡ line_width items (line_at run place) }
         requires few { run.first_line + length run.lines < 2 ^ 64 }
-        requires ids { AreIds items ids }
-        ensures { IfOk result (λ c. c ≡ record { dictionary = items.entry; ids = ids_in ids (line_at run 0).columns; run = run }) }
+        ensures { IfOk result (λ c. c ≡ record { dictionary = items.entry; ids = table.value.ids.items; run = run }) }
     {
-        let (columns, kept, marked, first_line) = run.into_parts();
+        let (kept, marked, first_line) = run.into_parts();
         let Some(kept) = kept else {
             unreachable!();
         };
@@ -116,8 +110,6 @@ impl<'a> Case<'a> {
         )?;
         Ok(Case {
             items,
-            ids,
-            columns,
             kept,
             is_set: false,
             marked,
@@ -126,19 +118,17 @@ impl<'a> Case<'a> {
         })
     }
 
-    /// What it lies in, which is no longer needed: its ids, its table, and its columns and lines.
-    pub(crate) fn into_room(self) -> (Ids, Box<Table>, Vec<char>, Box<Lines>) {
+    /// What it lies in, which is no longer needed: its table, and its lines with their columns.
+    pub(crate) fn into_room(self) -> (Box<Table>, Box<Lines>) {
         let Case {
             items: _,
-            ids,
-            columns,
             kept,
             is_set: _,
             marked: _,
             first_line: _,
             table,
         } = self;
-        (ids, table, columns, kept)
+        (table, kept)
     }
 
     /// Whether the run has a line that is an occurrence of a record.
@@ -167,7 +157,7 @@ impl<'a> Case<'a> {
     pub fn ids(&self) -> &[char]
         ensures { result.now ≡ self.now.ids }
     {
-        self.ids.columns(&self.columns)
+        &self.table.ids
     }
 
     /// How many occurrences a record has.
@@ -214,46 +204,51 @@ impl<'a> Case<'a> {
     }
 
     /// The columns of an item in the line at a place.
-    fn columns_at(&self, place: usize, item: u16) -> &[char]
+    fn columns_at(&self, place: usize, item: u16) -> Columns<'_>
         requires place { place < length self.now.run.lines }
         requires item { item < length (items_of self.now) }
-        ensures columns { result.now ≡ columns_at self.now place item }
-        ensures text { (item_at (items_of self.now) item).kind ≡ AText → length result.now ≤ 255 }
+        ensures columns { columns_lent result ≡ columns_at self.now place item }
+        ensures number { (item_at (items_of self.now) item).kind ≡ ANumber → length (columns_lent result) ≤ 15 }
+        ensures text { (item_at (items_of self.now) item).kind ≡ AText → length (columns_lent result) ≤ 255 }
     {
         let line = self.kept.lines[place];
-        field_of(self.item(item), line_columns(&self.columns, line))
+        field_of(
+            self.item(item),
+            line_columns(self.kept.columns.columns(), line),
+        )
     }
 
     /// The columns of an item in an occurrence of its record: the line has them all.
     #[inline(always)]
-    fn own_columns(&self, number: u16, occurrence: u16, item: u16) -> &[char]
+    fn own_part(&self, number: u16, occurrence: u16, item: u16) -> Part<'_>
         requires there { number < length (records_of self.now) }
         requires occurrence { IsOccurrence self.now number occurrence }
         requires item { item < length (items_of self.now) }
         requires owns { (item_at (items_of self.now) item).owner ≡ number }
-        ensures columns { result.now ≡ columns_at self.now (place_of self.now number occurrence) item }
-        ensures whole { length result.now ≡ (item_at (items_of self.now) item).len }
-        ensures some { 0 < length result.now }
-        ensures number { (item_at (items_of self.now) item).kind ≡ ANumber → length result.now ≤ 15 }
-        ensures text { (item_at (items_of self.now) item).kind ≡ AText → length result.now ≤ 255 }
+        ensures within { result.start + result.len ≤ length (columns_lent result.columns) }
+        ensures columns { take result.len (drop result.start (columns_lent result.columns)) ≡ columns_at self.now (place_of self.now number occurrence) item }
+        ensures whole { result.len ≡ (item_at (items_of self.now) item).len }
+        ensures some { 0 < result.len }
+        ensures number { (item_at (items_of self.now) item).kind ≡ ANumber → result.len ≤ 15 }
+        ensures text { (item_at (items_of self.now) item).kind ≡ AText → result.len ≤ 255 }
     {
         let span = self.table.spans[number as usize];
         let first = self.table.firsts[span.start + occurrence as usize - 1];
-        whole_field(self.item(item), &self.columns, first)
+        whole_field(self.item(item), self.kept.columns.columns(), first)
     }
 
     /// The columns that begin with the line of an occurrence: each item of its record has all its columns there,
     /// counted from the first one of the line.
     #[inline(always)]
-    pub fn line(&self, number: u16, occurrence: u16) -> &[char]
+    pub fn line(&self, number: u16, occurrence: u16) -> Columns<'_>
         requires there { number < length (records_of self.now) }
         requires occurrence { IsOccurrence self.now number occurrence }
-        ensures { HoldsItems self.now number occurrence result.now }
+        ensures { HoldsItems self.now number occurrence (columns_lent result) }
     {
         let _shape = self.items.dictionary().shape();
         let span = self.table.spans[number as usize];
         let first = self.table.firsts[span.start + occurrence as usize - 1];
-        columns_from(&self.columns, first)
+        columns_from(self.kept.columns.columns(), first)
     }
 
     /// The number in an item's columns, in the line at a place.
@@ -261,9 +256,10 @@ impl<'a> Case<'a> {
     fn number_at(&self, place: usize, item: u16) -> Num
         requires place { place < length self.now.run.lines }
         requires item { item < length (items_of self.now) }
+        requires number { (item_at (items_of self.now) item).kind ≡ ANumber }
         ensures { result ≡ number_at self.now place item }
     {
-        read_num(
+        number_in_columns(
             self.columns_at(place, item),
             self.items.dictionary().code(item),
         )
@@ -277,8 +273,8 @@ impl<'a> Case<'a> {
         requires item { IsItem (items_of self.now) number ANumber item }
         ensures { result ≡ number_at self.now (place_of self.now number occurrence) item }
     {
-        let columns = self.own_columns(number, occurrence, item);
-        number_in(columns, &self.items, item)
+        let own = self.own_part(number, occurrence, item);
+        number_in(own.columns, own.start, own.len, &self.items, item)
     }
 
     /// The number of an item in an occurrence of its record, of which the line is at hand (`line`), with the columns of the
@@ -290,17 +286,18 @@ impl<'a> Case<'a> {
         number: u16,
         occurrence: u16,
         span: &ItemSpan,
-        line: &[char],
+        line: Columns<'_>,
     ) -> Num
         requires item { IsItem (items_of self.now) number ANumber span.now.item }
         requires span { IsSpanOf (items_of self.now) span.now }
-        requires line { HoldsItems self.now number occurrence line.now }
+        requires line { HoldsItems self.now number occurrence (columns_lent line) }
         ensures { result ≡ number_at self.now (place_of self.now number occurrence) span.now.item }
     {
         let _item = self.item(span.item);
-        let start = span.start as usize;
         number_in(
-            &line[start..start + span.len as usize],
+            line,
+            span.start as usize,
+            span.len as usize,
             &self.items,
             span.item,
         )
@@ -308,13 +305,14 @@ impl<'a> Case<'a> {
 
     /// The columns of a text item in an occurrence of its record, where they stand: at most 255.
     #[tactic(auto, unfolding(crate::specs::Case::text_at))]
-    pub fn text_columns(&self, number: u16, occurrence: u16, item: u16) -> &[char]
+    pub fn text_columns(&self, number: u16, occurrence: u16, item: u16) -> Columns<'_>
         requires occurrence { IsOccurrence self.now number occurrence }
         requires item { IsItem (items_of self.now) number AText item }
-        ensures columns { result.now ≡ text_at self.now (place_of self.now number occurrence) item }
-        ensures few { length result.now ≤ 255 }
+        ensures columns { columns_lent result ≡ text_at self.now (place_of self.now number occurrence) item }
+        ensures few { length (columns_lent result) ≤ 255 }
     {
-        self.own_columns(number, occurrence, item)
+        let own = self.own_part(number, occurrence, item);
+        own.columns.part(own.start, own.len)
     }
 
     /// The text of an item in an occurrence of its record: all its columns.
@@ -323,7 +321,7 @@ impl<'a> Case<'a> {
         requires item { IsItem (items_of self.now) number AText item }
         ensures { result.items ≡ text_at self.now (place_of self.now number occurrence) item }
     {
-        read_text(self.text_columns(number, occurrence, item))
+        text_of(self.text_columns(number, occurrence, item))
     }
 
     /// The number of an id item, which is read from the first line.
@@ -337,10 +335,10 @@ impl<'a> Case<'a> {
 
     /// The columns of a text id item in the first line, where they stand: at most 255.
     #[tactic(auto, unfolding(crate::specs::Case::text_at))]
-    pub fn id_columns(&self, item: u16) -> &[char]
+    pub fn id_columns(&self, item: u16) -> Columns<'_>
         requires item { IsItem (items_of self.now) ID_OWNER AText item }
-        ensures columns { result.now ≡ text_at self.now 0 item }
-        ensures few { length result.now ≤ 255 }
+        ensures columns { columns_lent result ≡ text_at self.now 0 item }
+        ensures few { length (columns_lent result) ≤ 255 }
     {
         let _lines = self.lines();
         self.columns_at(0, item)
@@ -351,7 +349,7 @@ impl<'a> Case<'a> {
         requires item { IsItem (items_of self.now) ID_OWNER AText item }
         ensures { result.items ≡ text_at self.now 0 item }
     {
-        read_text(self.id_columns(item))
+        text_of(self.id_columns(item))
     }
 
     /// Writes into an item of an occurrence of its record: the line has all its columns.
@@ -363,13 +361,14 @@ impl<'a> Case<'a> {
         requires owns { (item_at (items_of self.old) item).owner ≡ number }
         requires known { (item_at (items_of self.old) item).kind ≡ AnOpaque → ⊥ }
         requires entry { IsThere entry }
+        requires kind { IsFor entry (item_at (items_of self.old) item).kind }
         ensures { self.new ≡ with_item self.old (place_of self.old number occurrence) item (entry_columns entry.entry (item_at (items_of self.old) item).len) }
     {
         let span = self.table.spans[number as usize];
         let first = self.table.firsts[span.start + occurrence as usize - 1];
         let shape = *self.item(item);
         self.is_set = true;
-        write_field(&mut self.columns, first, &shape, entry);
+        write_field(&mut self.kept.columns, first, &shape, entry);
     }
 
     /// Writes a number into an item of an occurrence of its record, and changes nothing else.
@@ -410,7 +409,7 @@ impl<'a> Case<'a> {
     {
         gatherer.put(out, mark(self.marked));
         if self.is_set {
-            put_lines(gatherer, out, &self.columns, &self.kept.lines);
+            put_lines(gatherer, out, self.kept.columns.columns(), &self.kept.lines);
         } else {
             gatherer.put(out, &self.kept.bytes);
         }

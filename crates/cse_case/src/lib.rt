@@ -2,9 +2,9 @@
 //!
 //! - `few`: a number that is written into a few columns.
 //! - `field`: the columns of an item in a line.
-//! - `ids`: the id columns of a case.
 //! - `items`: a dictionary, and which numbers are no codes of its items.
 //! - `number`: the number in a few columns.
+//! - `text`: the text of columns, copied, and compared where it stands.
 //! - `span`: where the columns of an item stand in the lines of its record.
 //! - `seen`: which lines of a run are seen, and as which occurrence of their record.
 //! - `case`: a case, and its fields.
@@ -15,9 +15,7 @@
 #![tactic(auto)]
 
 mod case;
-mod few;
 mod field;
-mod ids;
 mod items;
 mod laws;
 mod number;
@@ -26,6 +24,7 @@ mod seen;
 mod source;
 mod span;
 mod stream;
+mod text;
 mod write;
 
 pub use case::Case;
@@ -37,3 +36,4 @@ pub use laws::{
 pub use reader::CaseReader;
 pub use span::ItemSpan;
 pub use stream::CaseStream;
+pub use text::{compare_columns, read_columns};

@@ -56,6 +56,7 @@ impl<'a, R: Input> CaseReader<'a, R> {
     /// 70 comes first only where what was held and read gives no answer, so that more had to be read: the
     /// end wasn't read, no run can be given and no line is faulty. Then the read failed, or none was made
     /// since 2^40 reads had given bytes.
+    #[inline(always)]
     pub fn next(&mut self) -> Result<Option<Case<'a>>, DataError>
         ensures same_reference { self.new.input.ghost_name ≡ self.old.input.ghost_name }
         ensures next { self.old.stream.error ≡ None → NextCase (R.remaining self.old.input.now) (R.remaining self.new.input.now) self.old.stream self.new.stream result }

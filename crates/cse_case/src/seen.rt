@@ -262,12 +262,14 @@ fn see_lines(
 }
 
 /// The seen and unseen lines of a run: the spans of its records, where the lines of their occurrences begin
-/// among its columns, and the unseen lines with their numbers in the file.
+/// among its columns, and the unseen lines with their numbers in the file. The id columns of the run lie with
+/// them.
 #[derive(Drop)]
 pub struct Table {
     pub spans: Vec<Span>,
     pub firsts: Vec<usize>,
     pub unseen: Vec<(u64, Unseen)>,
+    pub ids: Vec<char>,
 }
 
 impl Table {
@@ -277,13 +279,14 @@ impl Table {
             spans: Vec::new(alloc),
             firsts: Vec::new(alloc),
             unseen: Vec::new(alloc),
+            ids: Vec::new(alloc),
         }
     }
 }
 
-/// Fills a table anew with a run's lines, of which the first has this number. Most runs have the lines of each
-/// record together, and are gone through once. For the others the lines are counted first, anew in the memory
-/// that the counts have.
+/// Fills a table anew with a run's lines, of which the first has this number, and leaves the ids. Most runs have
+/// the lines of each record together, and are gone through once. For the others the lines are counted first, anew
+/// in the memory that the counts have.
 pub fn fill_table(
     alloc: Global,
     table: &mut Table,
@@ -295,11 +298,13 @@ pub fn fill_table(
     requires { number + length lines.now < 2 ^ 64 }
     ensures table { OnOk result (IsTable records.now lines.now table.new.firsts.items table.new.spans.items) }
     ensures unseen { OnOk result (table.new.unseen.items ≡ unseen_of records.now number (types_in lines.now)) }
+    ensures ids { OnOk result (table.new.ids.items ≡ table.old.ids.items) }
 {
     let Table {
         spans,
         firsts,
         unseen,
+        ids: _,
     } = table;
     if see_lines(spans, firsts, unseen, records, lines, number)? {
         return Ok(());
@@ -308,6 +313,7 @@ pub fn fill_table(
         spans,
         firsts,
         unseen,
+        ids,
     } = mem::replace(table, Table::new(alloc));
     let unseen = count_lines(unseen, counts, records, lines, number)?;
     let (spans, firsts) = place_lines(spans, firsts, lines, counts)?;
@@ -315,6 +321,7 @@ pub fn fill_table(
         spans,
         firsts,
         unseen,
+        ids,
     };
     Ok(())
 }

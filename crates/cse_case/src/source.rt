@@ -1,24 +1,22 @@
 //! A dictionary with its id items, which are listed when they are first needed.
 
-ghost use Rattle.std.specs.Prelude.{◌≡◌, ◌<◌, ◌+◌, ◌-◌, ◌^◌, ℕ, length, min, IfOk};
+ghost use Rattle.std.specs.Prelude.{◌≡◌, ◌<◌, ◌+◌, ◌-◌, ◌^◌, ◌++◌, ◌≤◌, ℕ, length, min, replicate, take, drop, IfOk, OnOk};
 ghost use Rattle.cse_lines.specs.Field.{field_at, fields_at, ids_of};
 ghost use Rattle.cse_lines.specs.Run.{line_at};
 ghost use Rattle.cse_case.specs.Fit.{line_width};
-ghost use Rattle.cse_case.specs.Ids.{AreIds, ids_in};
+ghost use Rattle.cse_lines.specs.Bytes.{columns_lent};
 
 use crate::case::Case;
-use crate::ids::Ids;
 use crate::items::Items;
 use crate::seen::Table;
 use cse_dict::Dictionary;
-use cse_lines::Run;
+use cse_lines::columns::{piece, put_bytes};
 use cse_lines::layout::{Span, id_blocks};
+use cse_lines::{Columns, Run, put_columns};
 use std::alloc::{AllocError, Global};
 use std::marker::Model;
-use std::mem;
 
-/// A dictionary, its id items once they are known, and room for the counts of a case's occurrences, for its
-/// ids and for its table.
+/// A dictionary, its id items once they are known, and room for the counts of a case's occurrences and for its table.
 #[derive(Drop)]
 pub struct Source<'a> {
     items: Items<'a>,
@@ -26,7 +24,6 @@ pub struct Source<'a> {
     id_blocks: Vec<Span>,
     is_known: bool,
     counts: Vec<u16>,
-    ids: Vec<char>,
     table: Option<Box<Table>>,
 }
 
@@ -49,25 +46,62 @@ fn start_of(span: Span, width: usize) -> usize
     (span.start as usize).saturating_sub(1).min(width)
 }
 
-/// The columns of a place in a line, as many as there are.
-fn columns_of(span: Span, columns: &[char]) -> &[char]
-    ensures { result.now ≡ field_at span columns.now }
+/// Makes so many characters of them, with blanks at the end, where they are fewer.
+fn widen(fields: &mut Vec<char>, width: usize) -> Result<(), AllocError>
+    ensures { OnOk result (fields.new.items ≡ fields.old.items ++ replicate (width - length fields.old.items) 32) }
 {
-    let rest = &columns[start_of(span, columns.len())..];
-    let count = (span.len as usize).min(rest.len());
-    &rest[..count]
+    if fields.len() < width {
+        fields.resize(width, ' ')?;
+    }
+    Ok(())
 }
 
-/// What stands at these places, one after the other, in this room.
-fn fields_of(room: Vec<char>, spans: &[Span], columns: &[char]) -> Result<Vec<char>, AllocError>
-    ensures { IfOk result (λ v. v.items ≡ fields_at spans.now columns.now) }
+/// Writes so many columns from a place on over characters. Where their bytes are ASCII, what stands beside them isn't looked
+/// for.
+#[inline(always)]
+fn put_part(characters: &mut [char], columns: Columns<'_>, first: usize)
+    requires { first + length characters.old ≤ length (columns_lent columns) }
+    ensures { characters.new ≡ take (length characters.old) (drop first (columns_lent columns.entry)) }
 {
-    let mut fields = room;
-    fields.clear();
-    'spans: for span in spans {
-        fields.extend_from_slice(columns_of(*span, columns))?;
+    let len = characters.len();
+    if !put_bytes(characters, piece(columns.bytes, first, len)) {
+        put_columns(characters, columns.part(first, len));
     }
-    Ok(fields)
+}
+
+/// Writes what stands at a place over characters from another on, as many columns as there are, and tells where they end.
+#[inline(always)]
+fn put_at(
+    fields: &mut Vec<char>,
+    at: usize,
+    span: Span,
+    columns: Columns<'_>,
+) -> Result<usize, AllocError>
+    requires { at ≤ length fields.old.items }
+    ensures within { IfOk result (λ end. end ≤ length fields.new.items) }
+    ensures put { IfOk result (λ end. take end fields.new.items ≡ take at fields.old.items ++ field_at span (columns_lent columns.entry)) }
+{
+    let start = start_of(span, columns.len());
+    let end = at + (span.len as usize).min(columns.len() - start);
+    widen(fields, end)?;
+    put_part(&mut fields[at..end], columns, start);
+    Ok(end)
+}
+
+/// Writes what stands at these places, one after the other, over others, which mostly are as many.
+fn put_fields(
+    fields: &mut Vec<char>,
+    spans: &[Span],
+    columns: Columns<'_>,
+) -> Result<(), AllocError>
+    ensures { OnOk result (fields.new.items ≡ fields_at spans.now (columns_lent columns.entry)) }
+{
+    let mut at = 0;
+    'spans: for span in spans {
+        at = put_at(fields, at, *span, columns)?;
+    }
+    fields.truncate(at);
+    Ok(())
 }
 
 impl<'a> Source<'a> {
@@ -80,40 +114,31 @@ impl<'a> Source<'a> {
             id_blocks: Vec::new(alloc),
             is_known: false,
             counts: Vec::new(alloc),
-            ids: Vec::new(alloc),
             table: None,
         }
     }
 
-    /// The id columns of a line: where they stand, or a copy in the room that is kept.
-    fn ids_of(&mut self, alloc: Global, columns: &[char]) -> Result<Ids, AllocError>
+    /// Writes the id columns of a line over others.
+    fn put_ids(
+        &mut self,
+        alloc: Global,
+        ids: &mut Vec<char>,
+        columns: Columns<'_>,
+    ) -> Result<(), AllocError>
         ensures same { self.new ≡ self.old }
-        ensures are { IfOk result (λ ids. AreIds self.old ids) }
-        ensures ids { IfOk result (λ ids. ids_in ids columns.now ≡ ids_of self.old columns.now) }
+        ensures ids { OnOk result (ids.new.items ≡ ids_of self.old (columns_lent columns.entry)) }
     {
         if !self.is_known {
             self.id_blocks = id_blocks(alloc, self.items.dictionary())?;
             self.is_known = true;
         }
-        if self.id_blocks.len() == 1 {
-            let block = self.id_blocks[0];
-            return Ok(Ids::Together {
-                first: (block.start as usize).saturating_sub(1),
-                count: block.len as usize,
-            });
-        }
-        let room = mem::replace(&mut self.ids, Vec::new(alloc));
-        let ids = fields_of(room, &self.id_blocks, columns)?;
-        Ok(Ids::Copied(ids))
+        put_fields(ids, &self.id_blocks, columns)
     }
 
-    /// Takes back the memory of a case's ids and table.
-    pub fn take_back(&mut self, ids: Ids, table: Box<Table>)
+    /// Takes back a case's table, whose memory serves a later one.
+    pub fn take_back(&mut self, table: Box<Table>)
         ensures { self.new ≡ self.old }
     {
-        if let Ids::Copied(ids) = ids {
-            self.ids = ids;
-        }
         self.table = Some(table);
     }
 
@@ -126,11 +151,11 @@ impl<'a> Source<'a> {
         ensures same { self.new ≡ self.old }
         ensures made { IfOk result (λ c. c ≡ record { dictionary = self.old; ids = ids_of self.old (line_at run 0).columns; run = run }) }
     {
-        let ids = self.ids_of(alloc, run.columns(0))?;
-        let table = match self.table.take() {
+        let mut table = match self.table.take() {
             Some(table) => table,
             None => Box::new(alloc, Table::new(alloc))?,
         };
-        Case::new(alloc, self.items.again(), &mut self.counts, table, ids, run)
+        self.put_ids(alloc, &mut table.ids, run.columns(0))?;
+        Case::new(alloc, self.items.again(), &mut self.counts, table, run)
     }
 }

@@ -90,9 +90,9 @@ impl<'a> CaseStream<'a> {
     pub fn take_back(&mut self, case: Case<'_>)
         ensures { self.new ≡ self.old }
     {
-        let (ids, table, columns, lines) = case.into_room();
-        self.source.take_back(ids, table);
-        self.runs.take_back(columns, lines);
+        let (table, lines) = case.into_room();
+        self.source.take_back(table);
+        self.runs.take_back(lines);
     }
 
     /// The next case of the input, or that there is none. After an error the same error is answered.
@@ -100,6 +100,7 @@ impl<'a> CaseStream<'a> {
     /// 70 comes first only where what was held and read gives no answer, so that more had to be read: the
     /// end wasn't read, no run can be given and no line is faulty. Then the read failed, or none was made
     /// since 2^40 reads had given bytes.
+    #[inline(always)]
     pub fn next<R: Input>(&mut self, input: &mut R) -> Result<Option<Case<'a>>, DataError>
         requires { self.old.ended ≡ true → IsAtEnd (R.remaining input.old) }
         ensures next { self.old.error ≡ None → NextCase (R.remaining input.old) (R.remaining input.new) self.old self.new result }

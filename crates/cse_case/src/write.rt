@@ -4,12 +4,13 @@
 ghost use Rattle.std.specs.Prelude.{◌≡◌, ◌≤◌, ◌+◌, ◌-◌, ◌*◌, length, take, encode_utf8, encode_utf8_all, true};
 ghost use Rattle.std.specs.List.{flat_map};
 ghost use Rattle.cse_output.specs.Gathering.{going, Puts};
+ghost use Rattle.cse_lines.specs.Bytes.{columns_lent};
 ghost use Rattle.cse_lines.specs.Laid.{IsLaid, laid_line, laid_lines};
 ghost use Rattle.cse_lines.specs.Line.{end_bytes};
 ghost use Rattle.cse_lines.specs.Written.{kept_columns, mark_bytes, written_line};
 
 use crate::field::line_columns;
-use cse_lines::{Ending, Line};
+use cse_lines::{Columns, Ending, Line};
 use cse_output::Gatherer;
 use cse_value::Output;
 
@@ -20,28 +21,28 @@ const PART: usize = 127;
 const ROOM: usize = 512;
 
 /// The columns without the blanks at their end past the first `len`.
-fn kept(columns: &[char], len: usize) -> &[char]
-    requires { len ≤ length columns.now }
-    ensures { result.now ≡ kept_columns len columns.now }
+fn kept(columns: Columns<'_>, len: usize) -> Columns<'_>
+    requires { len ≤ length (columns_lent columns) }
+    ensures { columns_lent result ≡ kept_columns len (columns_lent columns.entry) }
 {
     let mut n = columns.len();
-    'blanks: while n > len && columns[n - 1] == ' ' {
+    'blanks: while n > len && columns.at(n - 1) == ' ' {
         n -= 1;
     }
-    &columns[..n]
+    columns.part(0, n)
 }
 
-/// Writes the lowest byte of each column, and tells whether all columns are ASCII. It tests none by
-/// itself, so that the compiler takes many at once.
-fn write_ascii(columns: &[char], bytes: &mut [u8]) -> bool
-    requires { length columns.now ≤ length bytes.old }
-    ensures { result ≡ true → take (length columns.now) bytes.new ≡ encode_utf8_all columns.now }
+/// Writes the byte of each column, and tells whether all columns are ASCII. It tests none by itself, so that
+/// the compiler takes many at once.
+fn write_ascii(columns: Columns<'_>, bytes: &mut [u8]) -> bool
+    requires { length (columns_lent columns) ≤ length bytes.old }
+    ensures { result ≡ true → take (length (columns_lent columns.entry)) bytes.new ≡ encode_utf8_all (columns_lent columns.entry) }
 {
-    let mut bits = 0u32;
-    'columns: for (i, column) in columns.iter().enumerate() {
-        let code = *column as u32;
-        bytes[i] = (code % 256) as u8;
-        bits |= code;
+    let ascii = columns.bytes;
+    let mut bits = 0u8;
+    'columns: for (i, byte) in ascii.iter().enumerate() {
+        bytes[i] = *byte;
+        bits |= *byte;
     }
     bits < 128
 }
@@ -64,23 +65,23 @@ fn write_column(column: char, bytes: &mut [u8]) -> usize
 }
 
 /// Writes columns in UTF-8 one by one, and tells how many bytes they take.
-fn write_utf8(columns: &[char], bytes: &mut [u8]) -> usize
-    requires { length columns.now * 4 ≤ length bytes.old }
-    ensures few { result ≤ length columns.now * 4 }
-    ensures bytes { take result bytes.new ≡ encode_utf8_all columns.now }
+fn write_utf8(columns: Columns<'_>, bytes: &mut [u8]) -> usize
+    requires { length (columns_lent columns) * 4 ≤ length bytes.old }
+    ensures few { result ≤ length (columns_lent columns.entry) * 4 }
+    ensures bytes { take result bytes.new ≡ encode_utf8_all (columns_lent columns.entry) }
 {
     let mut n = 0;
-    'columns: for column in columns {
-        n += write_column(*column, &mut bytes[n..]);
+    'columns: for i in 0..columns.len() {
+        n += write_column(columns.at(i), &mut bytes[n..]);
     }
     n
 }
 
 /// Writes columns in UTF-8, and tells how many bytes they take.
-fn write_columns(columns: &[char], bytes: &mut [u8]) -> usize
-    requires { length columns.now * 4 ≤ length bytes.old }
-    ensures few { result ≤ length columns.now * 4 }
-    ensures bytes { take result bytes.new ≡ encode_utf8_all columns.now }
+fn write_columns(columns: Columns<'_>, bytes: &mut [u8]) -> usize
+    requires { length (columns_lent columns) * 4 ≤ length bytes.old }
+    ensures few { result ≤ length (columns_lent columns.entry) * 4 }
+    ensures bytes { take result bytes.new ≡ encode_utf8_all (columns_lent columns.entry) }
 {
     if write_ascii(columns, bytes) {
         return columns.len();
@@ -112,16 +113,16 @@ fn write_end(ending: Ending, bytes: &mut [u8]) -> usize
 fn put_parts<W: Output>(
     gatherer: &mut Gatherer,
     out: &mut W,
-    columns: &[char],
+    columns: Columns<'_>,
     bytes: &mut [u8; ROOM],
 ) -> usize
-    ensures low { result ≤ length columns.now }
-    ensures few { length columns.now - result ≤ 127 }
-    ensures put { Puts (going (W.contents out.old) (W.has_failed out.old) gatherer.old.waiting.items gatherer.old.gave_up) (going (W.contents out.new) (W.has_failed out.new) gatherer.new.waiting.items gatherer.new.gave_up) (encode_utf8_all (take result columns.now)) }
+    ensures low { result ≤ length (columns_lent columns.entry) }
+    ensures few { length (columns_lent columns.entry) - result ≤ 127 }
+    ensures put { Puts (going (W.contents out.old) (W.has_failed out.old) gatherer.old.waiting.items gatherer.old.gave_up) (going (W.contents out.new) (W.has_failed out.new) gatherer.new.waiting.items gatherer.new.gave_up) (encode_utf8_all (take result (columns_lent columns.entry))) }
 {
     let mut at = 0;
     'parts: while columns.len() - at > PART {
-        let n = write_columns(&columns[at..at + PART], bytes);
+        let n = write_columns(columns.part(at, PART), bytes);
         gatherer.put(out, &bytes[..n]);
         at += PART;
     }
@@ -132,25 +133,30 @@ fn put_parts<W: Output>(
 fn put_line<W: Output>(
     gatherer: &mut Gatherer,
     out: &mut W,
-    columns: &[char],
+    columns: Columns<'_>,
     line: Line,
     bytes: &mut [u8; ROOM],
 )
-    requires within { line.first + line.width ≤ length columns.now }
+    requires within { line.first + line.width ≤ length (columns_lent columns) }
     requires padded { line.len ≤ line.width }
-    ensures { Puts (going (W.contents out.old) (W.has_failed out.old) gatherer.old.waiting.items gatherer.old.gave_up) (going (W.contents out.new) (W.has_failed out.new) gatherer.new.waiting.items gatherer.new.gave_up) (written_line (laid_line columns.now line)) }
+    ensures { Puts (going (W.contents out.old) (W.has_failed out.old) gatherer.old.waiting.items gatherer.old.gave_up) (going (W.contents out.new) (W.has_failed out.new) gatherer.new.waiting.items gatherer.new.gave_up) (written_line (laid_line (columns_lent columns.entry) line)) }
 {
     let kept = kept(line_columns(columns, line), line.len);
     let at = put_parts(gatherer, out, kept, bytes);
-    let n = write_columns(&kept[at..], bytes);
+    let n = write_columns(kept.part(at, kept.len() - at), bytes);
     let end = write_end(line.ending, &mut bytes[n..]);
     gatherer.put(out, &bytes[..n + end]);
 }
 
 /// Puts lines that lie one after the other in these columns.
-pub fn put_lines<W: Output>(gatherer: &mut Gatherer, out: &mut W, columns: &[char], lines: &[Line])
-    requires { IsLaid 0 columns.now lines.now }
-    ensures { Puts (going (W.contents out.old) (W.has_failed out.old) gatherer.old.waiting.items gatherer.old.gave_up) (going (W.contents out.new) (W.has_failed out.new) gatherer.new.waiting.items gatherer.new.gave_up) (flat_map written_line (laid_lines columns.now lines.now)) }
+pub fn put_lines<W: Output>(
+    gatherer: &mut Gatherer,
+    out: &mut W,
+    columns: Columns<'_>,
+    lines: &[Line],
+)
+    requires { IsLaid 0 (columns_lent columns) lines.now }
+    ensures { Puts (going (W.contents out.old) (W.has_failed out.old) gatherer.old.waiting.items gatherer.old.gave_up) (going (W.contents out.new) (W.has_failed out.new) gatherer.new.waiting.items gatherer.new.gave_up) (flat_map written_line (laid_lines (columns_lent columns.entry) lines.now)) }
 {
     let mut bytes = [0; ROOM];
     'lines: for line in lines {

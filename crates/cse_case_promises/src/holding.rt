@@ -5,9 +5,11 @@ ghost use Rattle.cse_case.specs.Seen.{is_case};
 ghost use Rattle.cse_case.specs.Case.{IsOccurrence, places_of, records_of, types_of, unseen_lines};
 ghost use Rattle.cse_case.specs.Fit.{IsFit};
 ghost use Rattle.cse_case.specs.Own.{HoldsItems};
+ghost use Rattle.cse_lines.specs.Bytes.{columns_lent};
 
 use cse_case::Case;
 use cse_dict::Unseen;
+use cse_lines::Columns;
 
 /// `Case::is_case`.
 pub fn is_case(case: &Case<'_>) -> bool
@@ -47,10 +49,10 @@ pub fn occurrences(case: &Case<'_>, number: u16) -> u16
 }
 
 /// `Case::line`.
-pub fn line<'c>(case: &'c Case<'_>, number: u16, occurrence: u16) -> &'c [char]
+pub fn line<'c>(case: &'c Case<'_>, number: u16, occurrence: u16) -> Columns<'c>
     requires there { number < length (records_of case.now) }
     requires occurrence { IsOccurrence case.now number occurrence }
-    ensures { HoldsItems case.now number occurrence result.now }
+    ensures { HoldsItems case.now number occurrence (columns_lent result) }
 {
     case.line(number, occurrence)
 }

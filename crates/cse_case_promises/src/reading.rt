@@ -6,9 +6,11 @@ ghost use Rattle.cse_case.specs.Case.{IsOccurrence, items_of, number_at, place_o
 ghost use Rattle.cse_case.specs.Field.{IsItem};
 ghost use Rattle.cse_case.specs.Own.{HoldsItems, IsSpanOf};
 ghost use Rattle.cse_dict.specs.Dictionary.{shape_of};
+ghost use Rattle.cse_lines.specs.Bytes.{columns_lent};
 
 use cse_case::{Case, ItemSpan};
 use cse_dict::Dictionary;
+use cse_lines::Columns;
 use cse_value::shape::ID_OWNER;
 use cse_value::{Num, Text};
 
@@ -37,11 +39,11 @@ pub fn number_in_line(
     number: u16,
     occurrence: u16,
     span: &ItemSpan,
-    line: &[char],
+    line: Columns<'_>,
 ) -> Num
     requires item { IsItem (items_of case.now) number ANumber span.now.item }
     requires span { IsSpanOf (items_of case.now) span.now }
-    requires line { HoldsItems case.now number occurrence line.now }
+    requires line { HoldsItems case.now number occurrence (columns_lent line) }
     ensures { result ≡ number_at case.now (place_of case.now number occurrence) span.now.item }
 {
     case.number_in_line(number, occurrence, span, line)

@@ -4,7 +4,7 @@ ghost use Rattle.std.specs.Prelude.{None};
 
 use crate::cases::dictionary_of;
 use cse_dict::Dictionary;
-use cse_lines::{DataError, Ending, Line, Run, RunReader};
+use cse_lines::{Columns, DataError, Ending, Line, Run, RunReader};
 use cse_value::{Failed, Input};
 use itoa::Buffer;
 use std::alloc::{AllocError, Global};
@@ -59,9 +59,9 @@ fn tell_number(told: &mut Vec<u8>, number: u64) -> Result<(), AllocError> {
 }
 
 /// The columns of a line.
-fn tell_columns(told: &mut Vec<u8>, columns: &[char]) -> Result<(), AllocError> {
-    for column in columns {
-        told.extend_from_slice(column.encode_utf8(&mut [0; 4]).as_bytes())?;
+fn tell_columns(told: &mut Vec<u8>, columns: Columns<'_>) -> Result<(), AllocError> {
+    'columns: for i in 0..columns.len() {
+        told.extend_from_slice(columns.at(i).encode_utf8(&mut [0; 4]).as_bytes())?;
     }
     told.extend_from_slice(b"|")
 }
@@ -90,7 +90,7 @@ fn tell_run(told: &mut Vec<u8>, run: Run) -> Result<(), AllocError> {
     for i in 0..run.len() {
         tell_columns(told, run.columns(i))?;
     }
-    let (_, kept, marked, first_line) = run.into_parts();
+    let (kept, marked, first_line) = run.into_parts();
     tell_number(told, first_line)?;
     if marked {
         told.extend_from_slice(b"m")?;

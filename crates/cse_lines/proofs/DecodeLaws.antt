@@ -1,12 +1,13 @@
 -- Laws of a line that is read as columns.
-use Rattle.std.proofs.Common.{◌≡◌, ℕ, zero, suc, ◌+◌, ◌-◌, ◌<◌, ◌≤◌, max, cond, ltb, Option, Some, None, Bool, true, false, List, [], ◌∷◌, ◌++◌, length, get_or, set, take, drop, replicate, refl, ap, sym, ◌∙◌, arith, append_assoc, append-nil, length-append, length-drop, bit_or, inl, inr, subst, take-append-drop, get_or-take, length-take-le}
+use Rattle.std.proofs.Common.{◌≡◌, ℕ, ◌+◌, ◌-◌, ◌<◌, ◌≤◌, max, cond, ltb, Option, Some, None, Bool, true, false, List, [], ◌∷◌, ◌++◌, length, get_or, set, take, drop, replicate, refl, ap, sym, ◌∙◌, arith, append_assoc, append-nil, length-append, length-drop, bit_or, inl, inr, subst, take-append-drop, length-take-le}
 use Rattle.std.specs.Str.{IsAscii, IsUtf8, chars, is_utf8}
-use Rattle.std.proofs.lemmas.Str.{IsUtf8-append, IsUtf8-from_ascii, IsUtf8-from_is_utf8, chars-IsAscii, chars-append, encodes-chars, is_utf8-from_IsUtf8, length-le-encodes}
-use Rattle.std.proofs.lemmas.List.{drop-append-le, drop_at, drop_more, get_or-set_other, get_or-set_same, get_or_past, length-replicate, replicate-append-replicate, take-append-le, take_all, take_at}
+use Rattle.std.proofs.lemmas.Str.{IsUtf8-append, IsUtf8-from_ascii, IsUtf8-from_is_utf8, chars-IsAscii, chars-append, encodes-chars, length-le-encodes}
+use Rattle.std.proofs.lemmas.List.{drop-append-le, drop_more, get_or-set_other, get_or-set_same, get_or_past, length-replicate, replicate-append-replicate, take-append-le, take_all, take_at}
 use Rattle.std.proofs.lemmas.Slice.{drop-append-drop}
 use Rattle.std.proofs.lemmas.Nat.{le_or_l, le_or_r}
 use Rattle.std.proofs.lemmas.Bool.{cases_lt, lt-ltb, ltb-true}
 use Rattle.cse_dict.specs.Dictionary.{DictionaryText, number_of_type}
+use Rattle.cse_dict.specs.Sound.{IsSound}
 use Rattle.cse_lines.specs.declared.layout.Span.{Span}
 use Rattle.cse_lines.specs.declared.line.Ending.{Ending}
 use Rattle.cse_lines.specs.Line.{FileLine, ending_of, text_of}
@@ -218,7 +219,7 @@ padded_behind columns text rest left at over fits is behind =
     is ∙ ap (drop at) over ∙ drop-append-le at text blanks fits ∙ ap (λ l. l ++ blanks) (sym behind) ∙ ap (λ k. left ++ replicate k 32) same
 
 -- the characters of a text over columns that hold its bytes, with blanks where bytes are left
-pub Holds-blanked : (columns text all front : List ℕ) (n : ℕ) → columns ≡ padded (length columns) text → length text ≤ length columns → n ≡ length all → n ≤ length text
+pub Holds-blanked : (columns text all front : List ℕ) (n : ℕ) → drop (length text) columns ≡ replicate (length columns - length text) 32 → length text ≤ length columns → n ≡ length all → n ≤ length text
     → front ≡ all ++ drop n columns → Holds (with_columns n (replicate (length text - n) 32) front) all n
 Holds-blanked columns text all front n over fits count few is =
     let blanks = replicate (length text - n) 32 in
@@ -227,7 +228,7 @@ Holds-blanked columns text all front n over fits count few is =
     let end : n + length blanks ≡ length text = omega (arith, more) in
     let taken : take n front ≡ all = ap (take n) is ∙ take_at all (drop n columns) n (sym count) in
     let left : drop (length text) front ≡ rest =
-    ap (λ l. drop (length text) l) is ∙ drop-append-drop n columns all (length text) few (sym count) ∙ ap (drop (length text)) over ∙ drop_at text rest (length text) refl in
+    ap (λ l. drop (length text) l) is ∙ drop-append-drop n columns all (length text) few (sym count) ∙ over in
     let is_now : with_columns n blanks front ≡ all ++ replicate (length columns - n) 32 =
     ap (λ l. l ++ (blanks ++ drop (n + length blanks) front)) taken ∙ ap (λ k. all ++ (blanks ++ drop k front)) end ∙ ap (λ l. all ++ (blanks ++ l)) left
     ∙ ap (λ l. all ++ l) (replicate-append-replicate (length text - n) (length columns - length text) 32)
@@ -258,3 +259,10 @@ Holds-beyond columns text new at n over fits ascii low count is =
       is = ap (λ l. l ++ new) front_is ∙ ap (λ l. front ++ l) is ∙ sym (append_assoc front rest (replicate (wide - length rest) 32))
           ∙ ap (λ l. l ++ replicate (wide - length rest) 32) (sym all) ∙ ap (λ k. chars text ++ replicate k 32) blanks;
     }
+
+-- the record type has few columns
+pub type_few : (d : DictionaryText) → IsSound d → d.type_columns.len ≤ 16
+type_few d sound = elim sound.type_columns [
+  | inl none ↦ let no : d.type_columns.len ≡ 0 = ap (λ c. c.len) none in omega arith
+  | inr some ↦ some.few
+]

@@ -144,3 +144,13 @@ laid_lines-push at columns text (l ∷ ls) head h =
     ∙ take-append-le l.width (drop l.first columns) text (omega (arith, length-drop l.first columns, h.0))) in
     ap (λ y. y ∷ laid_lines (columns ++ text) (ls ++ line_behind columns text head ∷ [])) one
     ∙ ap (λ ys. laid_line columns l ∷ ys) (laid_lines-push (at + l.width) columns text ls head h.2)
+
+-- the first line lies at the front
+pub laid_first : (columns : List ℕ) (lines : List Line) (line : Line) → IsLaid 0 columns lines → 0 < length lines → line ≡ get_or lines 0 line → line.first ≡ 0
+laid_first columns [] line laid some is = absurd (omega (arith, some))
+laid_first columns (l ∷ lines) line laid some is = ap (λ (x : Line). x.first) is ∙ laid.0
+
+-- and is this line of the run
+pub first_line_at : (columns : List ℕ) (lines : List Line) (line : Line) → 0 < length lines → line ≡ get_or lines 0 line → laid_line columns line ≡ get_or (laid_lines columns lines) 0 no_line
+first_line_at columns [] line some is = absurd (omega (arith, some))
+first_line_at columns (l ∷ lines) line some is = ap (laid_line columns) is

@@ -1,3 +1,4 @@
+pub mod BytesLaws
 pub mod LaidLaws
 pub mod LineLaws
 pub mod RunLaws
@@ -10,3 +11,5 @@ pub mod LastLaws
 pub mod ReadLaws
 pub mod AlikeLaws
 pub mod ShortLaws
+pub mod FewLaws
+pub mod SameLaws

@@ -2,6 +2,7 @@ pub mod Line
 pub mod Lines
 pub mod Field
 pub mod Columns
+pub mod Bytes
 pub mod Written
 pub mod Laid
 pub mod Run
@@ -15,3 +16,4 @@ pub mod Decoding
 pub mod Taking
 pub mod Alike
 pub mod Reading
+pub mod Same

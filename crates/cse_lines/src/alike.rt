@@ -8,56 +8,37 @@ ghost use Rattle.cse_lines.specs.Laid.{IsLaid, laid_lines};
 ghost use Rattle.cse_lines.specs.Line.{before_end, end_bytes};
 ghost use Rattle.cse_lines.specs.Written.{written_line};
 
+use crate::columns::{number_of_four, piece};
 use crate::cut::split_end;
 use crate::decode::MOST_COLUMNS;
 use crate::filled::Filled;
 use crate::line::{Ending, Line};
 use crate::take::MOST_LINES;
 
-/// So many columns from a place on.
-pub fn part(columns: &[char], first: usize, width: usize) -> &[char]
-    requires { first + width ≤ length columns.now }
-    ensures { result.now ≡ take width (drop first columns.now) }
-{
-    &columns[first..first + width]
-}
-
-/// So many bytes from a place on.
-fn piece(bytes: &[u8], at: usize, len: usize) -> &[u8]
-    requires { at + len ≤ length bytes.now }
-    ensures { result.now ≡ take len (drop at bytes.now) }
-{
-    &bytes[at..at + len]
-}
-
-/// Whether four bytes are these columns. All are looked at, so that the compiler takes them at once.
+/// Whether four bytes are these.
 #[inline(always)]
-fn are_four(bytes: &[u8], columns: &[char]) -> bool
-    requires left { length bytes.now ≡ 4 }
-    requires right { length columns.now ≡ 4 }
-    ensures { result ≡ true → bytes.now ≡ columns.now }
+fn are_four(a: &[u8], b: &[u8]) -> bool
+    requires left { length a.now ≡ 4 }
+    requires right { length b.now ≡ 4 }
+    ensures { result ≡ true → a.now ≡ b.now }
 {
-    let first = bytes[0] as char == columns[0];
-    let second = bytes[1] as char == columns[1];
-    let third = bytes[2] as char == columns[2];
-    let last = bytes[3] as char == columns[3];
-    first & second & third & last
+    number_of_four(a) == number_of_four(b)
 }
 
-/// Whether bytes begin as these columns.
-fn begins_as(bytes: &[u8], columns: &[char]) -> bool
-    requires { length columns.now ≤ length bytes.now }
-    ensures { result ≡ true → take (length columns.now) bytes.now ≡ columns.now }
+/// Whether bytes begin as these.
+fn begins_as(bytes: &[u8], others: &[u8]) -> bool
+    requires { length others.now ≤ length bytes.now }
+    ensures { result ≡ true → take (length others.now) bytes.now ≡ others.now }
 {
     let mut at = 0;
-    'fours: while 4 <= columns.len() - at {
-        if !are_four(&bytes[at..at + 4], &columns[at..at + 4]) {
+    'fours: while 4 <= others.len() - at {
+        if !are_four(&bytes[at..at + 4], &others[at..at + 4]) {
             return false;
         }
         at += 4;
     }
-    'columns: for i in at..columns.len() {
-        if bytes[i] as char != columns[i] {
+    'bytes: for i in at..others.len() {
+        if bytes[i] != others[i] {
             return false;
         }
     }
@@ -87,7 +68,7 @@ fn push_like(
         return false;
     }
     let text = &line[..last.len];
-    if !begins_as(text, part(columns.as_slice(), last.first, width)) {
+    if !begins_as(text, piece(columns.columns().bytes(), last.first, width)) {
         return false;
     }
     let first = columns.len();

@@ -3,36 +3,44 @@
 ghost use Rattle.std.specs.Prelude.{◌≡◌, ◌<◌, ◌≤◌, ◌+◌, ◌-◌, ◌++◌, ◌∷◌, [], drop, length, replicate, take, true, false, IfErr, IfOk, IfSome, OnOk, OnSome};
 ghost use Rattle.std.specs.Char.{IsScalar, encode_utf8};
 ghost use Rattle.std.specs.Str.{IsAscii, chars, is_utf8};
+ghost use Rattle.cse_lines.specs.Bytes.{columns_by};
 ghost use Rattle.cse_lines.specs.Decoding.{Holds, IfFault};
 ghost use Rattle.cse_lines.specs.Field.{padded};
 ghost use Rattle.cse_lines.specs.Run.{with_columns};
 
+use crate::columns::put_at;
 use crate::decode::Stop;
-use crate::filled::put_blanks;
+use crate::fill::put_blanks;
 use std::simd::prelude::*;
 
 /// Writes the characters of a text over the first of the columns, and tells how many there are.
-fn put_chars(columns: &mut [char], text: &str) -> usize
-    requires { length (chars text.now) ≤ length columns.old }
+fn put_chars(bytes: &mut [u8], beside: &mut [char], text: &str) -> usize
+    requires bytes { length (chars text.now) ≤ length bytes.old }
+    requires beside { length bytes.old ≤ length beside.old }
     ensures count { result ≡ length (chars text.now) }
-    ensures columns { columns.new ≡ chars text.now ++ drop (length (chars text.now)) columns.old }
+    ensures len { length bytes.new ≡ length bytes.old }
+    ensures room { length beside.new ≡ length beside.old }
+    ensures columns { columns_by bytes.new beside.new ≡ chars text.now ++ drop (length (chars text.now)) (columns_by bytes.old beside.old) }
 {
     let mut len = 0;
     'chars: for column in text.chars() {
-        columns[len] = column;
+        put_at(bytes, beside, len, column);
         len += 1;
     }
     len
 }
 
 /// The same, and blanks over the other columns.
-fn put_text(columns: &mut [char], text: &str) -> usize
-    requires { length (chars text.now) ≤ length columns.old }
+fn put_text(bytes: &mut [u8], beside: &mut [char], text: &str) -> usize
+    requires bytes { length (chars text.now) ≤ length bytes.old }
+    requires beside { length bytes.old ≤ length beside.old }
     ensures count { result ≡ length (chars text.now) }
-    ensures columns { columns.new ≡ padded (length columns.old) (chars text.now) }
+    ensures len { length bytes.new ≡ length bytes.old }
+    ensures room { length beside.new ≡ length beside.old }
+    ensures columns { columns_by bytes.new beside.new ≡ padded (length bytes.old) (chars text.now) }
 {
-    let len = put_chars(columns, text);
-    let (_, rest) = columns.split_at_mut(len);
+    let len = put_chars(bytes, beside, text);
+    let (_, rest) = bytes.split_at_mut(len);
     put_blanks(rest);
     len
 }
@@ -69,20 +77,30 @@ fn short_char(text: &[u8], at: usize) -> Option<(char, usize)>
     Some((column, 2))
 }
 
-/// Writes the characters of a text over the first of the columns, and tells how many there are, if each has
-/// one or two bytes.
-fn put_short_chars(columns: &mut [char], text: &[u8]) -> Option<usize>
-    requires { length text.now ≤ length columns.old }
-    ensures len { length columns.new ≡ length columns.old }
+/// Writes the characters of a text over the columns from a place on, where as many bytes of it are before them, and tells
+/// behind which column they end, if each has one or two bytes.
+fn put_short_chars(
+    bytes: &mut [u8],
+    beside: &mut [char],
+    text: &[u8],
+    front: usize,
+) -> Option<usize>
+    requires front { front ≤ length text.now }
+    requires ascii { IsAscii (take front text.now) }
+    requires over { take front (columns_by bytes.old beside.old) ≡ take front text.now }
+    requires bytes { length text.now ≤ length bytes.old }
+    requires beside { length bytes.old ≤ length beside.old }
+    ensures len { length bytes.new ≡ length bytes.old }
+    ensures room { length beside.new ≡ length beside.old }
     ensures utf8 { OnSome result (is_utf8 text.now ≡ true) }
     ensures count { IfSome result (λ len. len ≡ length (chars text.now)) }
-    ensures columns { OnSome result (columns.new ≡ chars text.now ++ drop (length (chars text.now)) columns.old) }
+    ensures columns { OnSome result (columns_by bytes.new beside.new ≡ chars text.now ++ drop (length (chars text.now)) (columns_by bytes.old beside.old)) }
 {
-    let mut at = 0;
-    let mut len = 0;
+    let mut at = front;
+    let mut len = front;
     'chars: while at < text.len() {
         let (column, size) = short_char(text, at)?;
-        columns[len] = column;
+        put_at(bytes, beside, len, column);
         len += 1;
         at += size;
     }
@@ -91,11 +109,11 @@ fn put_short_chars(columns: &mut [char], text: &[u8]) -> Option<usize>
 
 /// Writes blanks over columns: mostly over one, since most texts have one character of two bytes.
 #[inline(always)]
-fn put_few_blanks(columns: &mut [char])
+fn put_few_blanks(columns: &mut [u8])
     ensures { columns.new ≡ replicate (length columns.old) 32 }
 {
     if columns.len() == 1 {
-        columns[0] = ' ';
+        columns[0] = b' ';
     } else {
         put_blanks(columns);
     }
@@ -103,27 +121,12 @@ fn put_few_blanks(columns: &mut [char])
 
 /// Writes blanks over the columns from a place up to another.
 #[inline(always)]
-fn put_blanks_between(columns: &mut [char], first: usize, end: usize)
+fn put_blanks_between(columns: &mut [u8], first: usize, end: usize)
     requires order { first ≤ end }
     requires room { end ≤ length columns.old }
     ensures { columns.new ≡ with_columns first (replicate (end - first) 32) columns.old }
 {
     put_few_blanks(&mut columns[first..end]);
-}
-
-/// The characters of a text over columns that hold its bytes as characters. Tells how many characters there
-/// are, if each has one or two bytes.
-#[inline(always)]
-fn put_short_text(columns: &mut [char], text: &[u8]) -> Option<usize>
-    requires over { columns.old ≡ padded (length columns.old) text.now }
-    requires fits { length text.now ≤ length columns.old }
-    ensures len { length columns.new ≡ length columns.old }
-    ensures utf8 { OnSome result (is_utf8 text.now ≡ true) }
-    ensures columns { IfSome result (λ len. Holds columns.new (chars text.now) len) }
-{
-    let len = put_short_chars(columns, text)?;
-    put_blanks_between(columns, len, text.len());
-    Some(len)
 }
 
 /// Whether eight bytes are ASCII.
@@ -150,52 +153,56 @@ fn ascii_front(text: &[u8]) -> usize
     at
 }
 
-/// The characters of a text over columns that hold its bytes as characters: those in front that are ASCII
-/// stay. Tells how many characters there are, if each has one or two bytes.
+/// The characters of a text over columns whose bytes are its own: those in front that are ASCII stay. Tells how many
+/// characters there are, if each has one or two bytes.
 #[inline(never)]
-fn put_short_beyond(columns: &mut [char], text: &[u8]) -> Option<usize>
-    requires over { columns.old ≡ padded (length columns.old) text.now }
-    requires fits { length text.now ≤ length columns.old }
-    ensures len { length columns.new ≡ length columns.old }
+fn put_short_beyond(bytes: &mut [u8], beside: &mut [char], text: &[u8]) -> Option<usize>
+    requires over { bytes.old ≡ padded (length bytes.old) text.now }
+    requires fits { length text.now ≤ length bytes.old }
+    requires beside { length bytes.old ≤ length beside.old }
+    ensures len { length bytes.new ≡ length bytes.old }
+    ensures room { length beside.new ≡ length beside.old }
     ensures utf8 { OnSome result (is_utf8 text.now ≡ true) }
-    ensures columns { IfSome result (λ len. Holds columns.new (chars text.now) len) }
+    ensures columns { IfSome result (λ len. Holds (columns_by bytes.new beside.new) (chars text.now) len) }
 {
-    let at = ascii_front(text);
-    let (_, bytes) = text.split_at(at);
-    let (_, rest) = columns.split_at_mut(at);
-    let len = put_short_text(rest, bytes)?;
-    Some(at + len)
+    let front = ascii_front(text);
+    let len = put_short_chars(bytes, beside, text, front)?;
+    put_blanks_between(bytes, len, text.len());
+    Some(len)
 }
 
 /// The characters of a text over as many of the columns, and blanks over the others, whatever its characters
 /// are.
 #[inline(never)]
-fn put_any(columns: &mut [char], text: &[u8]) -> Result<usize, Stop>
-    requires { length text.now ≤ length columns.old }
-    ensures len { length columns.new ≡ length columns.old }
-    ensures columns { IfOk result (λ len. Holds columns.new (chars text.now) len) }
+fn put_any(bytes: &mut [u8], beside: &mut [char], text: &[u8]) -> Result<usize, Stop>
+    requires bytes { length text.now ≤ length bytes.old }
+    requires beside { length bytes.old ≤ length beside.old }
+    ensures len { length bytes.new ≡ length bytes.old }
+    ensures room { length beside.new ≡ length beside.old }
+    ensures columns { IfOk result (λ len. Holds (columns_by bytes.new beside.new) (chars text.now) len) }
     ensures utf8 { OnOk result (is_utf8 text.now ≡ true) }
     ensures err { IfErr result (IfFault (λ number. (number ≡ 20) × (is_utf8 text.now ≡ false))) }
 {
     match str::from_utf8(text) {
-        Ok(text) => Ok(put_text(columns, text)),
+        Ok(text) => Ok(put_text(bytes, beside, text)),
         Err(_) => Err(Stop::Fault(20)),
     }
 }
 
-/// The characters of a text over columns that hold its bytes as characters. Tells how many characters there
-/// are.
+/// The characters of a text over columns whose bytes are its own. Tells how many characters there are.
 #[inline(always)]
-pub fn put_beyond(columns: &mut [char], text: &[u8]) -> Result<usize, Stop>
-    requires over { columns.old ≡ padded (length columns.old) text.now }
-    requires fits { length text.now ≤ length columns.old }
-    ensures len { length columns.new ≡ length columns.old }
-    ensures columns { IfOk result (λ len. Holds columns.new (chars text.now) len) }
+pub fn put_beyond(bytes: &mut [u8], beside: &mut [char], text: &[u8]) -> Result<usize, Stop>
+    requires over { bytes.old ≡ padded (length bytes.old) text.now }
+    requires fits { length text.now ≤ length bytes.old }
+    requires beside { length bytes.old ≤ length beside.old }
+    ensures len { length bytes.new ≡ length bytes.old }
+    ensures room { length beside.new ≡ length beside.old }
+    ensures columns { IfOk result (λ len. Holds (columns_by bytes.new beside.new) (chars text.now) len) }
     ensures utf8 { OnOk result (is_utf8 text.now ≡ true) }
     ensures err { IfErr result (IfFault (λ number. (number ≡ 20) × (is_utf8 text.now ≡ false))) }
 {
-    match put_short_beyond(columns, text) {
+    match put_short_beyond(bytes, beside, text) {
         Some(len) => Ok(len),
-        None => put_any(columns, text),
+        None => put_any(bytes, beside, text),
     }
 }

@@ -1,18 +1,21 @@
 //! A line of a file, as columns.
 
-ghost use Rattle.std.specs.Prelude.{◌≡◌, ◌<◌, ◌≤◌, ◌-◌, ◌++◌, ℕ, List, drop, length, replicate, take, true, false, Some, IfOk, IfErr, IfSome, OnOk};
+ghost use Rattle.std.specs.Prelude.{◌≡◌, ◌<◌, ◌≤◌, ◌-◌, ◌++◌, ◌∷◌, [], ℕ, List, drop, length, replicate, take, true, false, Some, IfOk, IfErr, IfSome, OnOk};
 ghost use Rattle.cse_dict.specs.Dictionary.{number_of_type};
 ghost use Rattle.std.specs.Str.{chars, is_utf8};
 ghost use Rattle.cse_lines.specs.declared.decode.Beginning.TheVariants.{Alike, Apart};
 ghost use Rattle.cse_lines.specs.declared.decode.Stop.TheVariants.{Memory};
-ghost use Rattle.cse_lines.specs.Field.{TellApart, field_at, layout_of, least_width, padded, record_len, record_of, type_span, width_of};
+ghost use Rattle.cse_lines.specs.Field.{TellApart, field_at, last_column, layout_of, least_width, padded, record_len, record_of, type_span, width_of};
 ghost use Rattle.cse_lines.specs.Runs.{line_fault};
+ghost use Rattle.cse_lines.specs.Bytes.{columns_lent};
 ghost use Rattle.cse_lines.specs.Decoding.{BeginsAs, Holds, IfFault, IsDecoded, IsTyped};
 
+use crate::columns::{Columns, put_columns};
 use crate::cut::{MOST_BYTES, split_end, split_mark};
 use crate::filled::Filled;
-use crate::layout::{Layout, field_at, is_same};
+use crate::layout::{Layout, Span, field_at, is_same_at};
 use crate::line::Ending;
+use crate::same::is_same;
 use cse_dict::Dictionary;
 use std::alloc::AllocError;
 
@@ -59,19 +62,6 @@ pub struct Head {
     pub beginning: Beginning,
 }
 
-/// The characters of a text, in place of what was there, and maybe blanks behind them. Tells how many
-/// characters there are.
-fn read_columns(text: &[u8], columns: &mut Filled) -> Result<usize, Stop>
-    ensures columns { IfOk result (λ len. Holds columns.new (chars text.now) len) }
-    ensures utf8 { OnOk result (is_utf8 text.now ≡ true) }
-    ensures err { IfErr result (IfFault (λ number. (number ≡ 20) × (is_utf8 text.now ≡ false))) }
-{
-    if columns.read(text)? {
-        return Ok(text.len());
-    }
-    columns.read_beyond(text)
-}
-
 /// The columns of a line of the record.
 fn record_len(dictionary: &Dictionary, record_number: Option<u16>) -> usize
     ensures { result ≡ record_len dictionary.now record_number }
@@ -83,6 +73,32 @@ fn record_len(dictionary: &Dictionary, record_number: Option<u16>) -> usize
         },
         None => 0,
     }
+}
+
+/// The number of the record of a type, which has at most 16 columns.
+#[inline(never)]
+fn record_of_any(dictionary: &Dictionary, columns: Columns<'_>) -> Option<u16>
+    requires { length (columns_lent columns) ≤ 16 }
+    ensures { result ≡ number_of_type (columns_lent columns.entry) dictionary.now }
+{
+    let mut characters = [' '; 16];
+    let front = &mut characters[..columns.len()];
+    put_columns(front, columns);
+    dictionary.record_of(front)
+}
+
+/// The number of the record whose type stands at a place, which has at most 16 columns, and mostly one.
+#[inline(always)]
+fn record_of(dictionary: &Dictionary, columns: Columns<'_>, span: Span) -> Option<u16>
+    requires few { span.len ≤ 16 }
+    requires there { last_column (span ∷ []) ≤ length (columns_lent columns) }
+    ensures { result ≡ number_of_type (field_at span (columns_lent columns.entry)) dictionary.now }
+{
+    if span.len == 1 {
+        let first = (span.start as usize).saturating_sub(1);
+        return dictionary.record_of(&[columns.at(first)]);
+    }
+    record_of_any(dictionary, field_at(columns, span))
 }
 
 /// How a line begins that has the record type of the line before it, and doesn't begin alike.
@@ -102,26 +118,27 @@ fn told_apart(layout: &Layout) -> Beginning
 fn record_in(
     dictionary: &Dictionary,
     layout: &Layout,
-    columns: &[char],
-    last: Option<(&[char], Option<u16>)>,
+    columns: Columns<'_>,
+    last: Option<(Columns<'_>, Option<u16>)>,
 ) -> (Option<u16>, Beginning)
     requires layout { layout.now ≡ layout_of dictionary.now }
-    requires wide { least_width dictionary.now ≤ length columns.now }
-    requires last { IfSome last (λ l. IsTyped dictionary.now l.0.now l.1) }
-    ensures number { result.0 ≡ number_of_type (field_at (type_span dictionary.now) columns.now) dictionary.now }
-    ensures same { IfSome last.entry (λ l. BeginsAs dictionary.now result.1 columns.now l.0.now) }
+    requires wide { least_width dictionary.now ≤ length (columns_lent columns) }
+    requires last { IfSome last (λ l. IsTyped dictionary.now (columns_lent l.0) l.1) }
+    ensures number { result.0 ≡ number_of_type (field_at (type_span dictionary.now) (columns_lent columns.entry)) dictionary.now }
+    ensures same { IfSome last.entry (λ l. BeginsAs dictionary.now result.1 (columns_lent columns.entry) (columns_lent l.0)) }
 {
     let width = layout.least_width();
     let span = layout.record_type();
     if let Some((before, number)) = last {
-        if is_same(&columns[..width], &before[..width]) {
+        if is_same(columns, before, 0, width) {
             return (number, Beginning::Alike);
         }
-        if is_same(field_at(columns, span), field_at(before, span)) {
+        if is_same_at(columns, before, span) {
             return (number, told_apart(layout));
         }
     }
-    let number = dictionary.record_of(field_at(columns, span));
+    let _shape = dictionary.shape();
+    let number = record_of(dictionary, columns, span);
     (number, Beginning::Unknown)
 }
 
@@ -132,17 +149,17 @@ fn widen(
     layout: &Layout,
     columns: &mut Filled,
     len: usize,
-    last: Option<(&[char], Option<u16>)>,
+    last: Option<(Columns<'_>, Option<u16>)>,
 ) -> Result<(Option<u16>, Beginning), AllocError>
     requires layout { layout.now ≡ layout_of dictionary.now }
-    requires last { IfSome last (λ l. IsTyped dictionary.now l.0.now l.1) }
+    requires last { IfSome last (λ l. IsTyped dictionary.now (columns_lent l.0) l.1) }
     ensures number { IfOk result (λ known. (text : List ℕ) → Holds columns.old text len → known.0 ≡ record_of dictionary.now text) }
-    ensures same { IfOk result (λ known. IfSome last.entry (λ l. BeginsAs dictionary.now known.1 columns.new l.0.now)) }
+    ensures same { IfOk result (λ known. IfSome last.entry (λ l. BeginsAs dictionary.now known.1 columns.new (columns_lent l.0))) }
     ensures columns { OnOk result ((text : List ℕ) → Holds columns.old text len → columns.new ≡ padded (width_of dictionary.now text) text) }
 {
     let least_width = layout.least_width();
     columns.pad(least_width)?;
-    let (record_number, beginning) = record_in(dictionary, layout, columns.as_slice(), last);
+    let (record_number, beginning) = record_in(dictionary, layout, columns.columns(), last);
     let width = len.max(least_width);
     columns.set_width(width.max(record_len(dictionary, record_number)))?;
     Ok((record_number, beginning))
@@ -155,13 +172,13 @@ pub fn decode(
     layout: &Layout,
     line: &[u8],
     front: bool,
-    last: Option<(&[char], Option<u16>)>,
+    last: Option<(Columns<'_>, Option<u16>)>,
     columns: &mut Filled,
 ) -> Result<Head, Stop>
     requires layout { layout.now ≡ layout_of dictionary.now }
-    requires last { IfSome last (λ l. IsTyped dictionary.now l.0.now l.1) }
+    requires last { IfSome last (λ l. IsTyped dictionary.now (columns_lent l.0) l.1) }
     ensures ok { IfOk result (λ head. IsDecoded dictionary.now (front, line.now) columns.new head) }
-    ensures same { IfOk result (λ head. IfSome last.entry (λ l. BeginsAs dictionary.now head.beginning columns.new l.0.now)) }
+    ensures same { IfOk result (λ head. IfSome last.entry (λ l. BeginsAs dictionary.now head.beginning columns.new (columns_lent l.0))) }
     ensures err { IfErr result (IfFault (λ number. line_fault (front, line.now) ≡ Some number)) }
     ensures low { IfErr result (IfFault (λ number. number < 70)) }
 {
@@ -170,7 +187,7 @@ pub fn decode(
     if text.len() > MOST_BYTES {
         return Err(Stop::Fault(21));
     }
-    let len = read_columns(text, columns)?;
+    let len = columns.read(text)?;
     if len > MOST_COLUMNS {
         return Err(Stop::Fault(21));
     }

@@ -10,9 +10,8 @@ ghost use Rattle.cse_lines.specs.Taking.{Cuts, RefusesAt};
 use crate::buffer::Buffer;
 use crate::cut::first_line;
 use crate::decode::Stop;
-use crate::filled::Filled;
 use crate::layout::Layout;
-use crate::run::{Room, Run};
+use crate::run::{Lines, Run};
 use crate::take::{end_run, take_line};
 use cse_dict::Dictionary;
 use std::alloc::{AllocError, Global};
@@ -41,8 +40,8 @@ pub fn gather(
     dictionary: &Dictionary,
     layout: &Layout,
     run: &mut Run,
-    room: &mut Room,
-    columns: &mut Filled,
+    room: &mut Option<Box<Lines>>,
+    read: &mut Box<Lines>,
     buffer: &mut Buffer,
     first: bool,
     ended: bool,
@@ -60,9 +59,9 @@ pub fn gather(
             return Ok(None);
         };
         let len = line.len();
-        let last = take_line(dictionary, layout, run, columns, line, front)?;
+        let last = take_line(dictionary, layout, run, &mut read.columns, line, front)?;
         if let Some(head) = last {
-            let given = end_run(alloc, run, room, columns, head, line)?;
+            let given = end_run(alloc, run, room, read, head, line)?;
             buffer.drop_front(len);
             return Ok(Some(given));
         }

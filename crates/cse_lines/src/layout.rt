@@ -1,9 +1,12 @@
 //! The columns that a dictionary names on each line.
 
-ghost use Rattle.std.specs.Prelude.{◌≡◌, ◌==◌, ◌+◌, ◌-◌, ◌≤◌, ◌++◌, [], ◌∷◌, filter, length, map, true, IfOk, IfSome, OnOk};
+ghost use Rattle.std.specs.Prelude.{◌≡◌, ◌==◌, ◌+◌, ◌-◌, ◌<◌, ◌≤◌, ◌++◌, [], ◌∷◌, filter, length, map, true, IfOk, IfSome, OnOk};
 ghost use Rattle.std.specs.Str.{bytes_eq};
+ghost use Rattle.cse_lines.specs.Bytes.{columns_lent};
 ghost use Rattle.cse_lines.specs.Field.{AreFront, HaveSame, TellApart, field_at, fields_at, id_spans, last_column, layout_of, span_of};
 
+use crate::columns::Columns;
+use crate::same::is_same;
 use cse_dict::Dictionary;
 use cse_value::shape::{ID_OWNER, ItemShape};
 use std::alloc::{AllocError, Global};
@@ -150,59 +153,33 @@ fn is_filled(record_type: Span, blocks: &[Span], width: usize) -> bool
 }
 
 /// What stands at a place.
-pub fn field_at(columns: &[char], span: Span) -> &[char]
-    requires { last_column (span ∷ []) ≤ length columns.now }
-    ensures { result.now ≡ field_at span columns.now }
+pub fn field_at(columns: Columns<'_>, span: Span) -> Columns<'_>
+    requires { last_column (span ∷ []) ≤ length (columns_lent columns) }
+    ensures { columns_lent result ≡ field_at span (columns_lent columns.entry) }
 {
     let first = (span.start as usize).saturating_sub(1);
-    &columns[first..first + span.len as usize]
+    columns.part(first, span.len as usize)
 }
 
-/// Whether four columns are the same. All are looked at, so that the compiler takes them at once.
+/// Whether the same stands at a place.
 #[inline(always)]
-fn are_four_same(a: &[char], b: &[char]) -> bool
-    requires left { length a.now ≡ 4 }
-    requires right { length b.now ≡ 4 }
-    ensures same { result ≡ true → a.now ≡ b.now }
-    ensures all { a.now ≡ b.now → result ≡ true }
+pub(crate) fn is_same_at(a: Columns<'_>, b: Columns<'_>, span: Span) -> bool
+    requires left { last_column (span ∷ []) ≤ length (columns_lent a) }
+    requires right { last_column (span ∷ []) ≤ length (columns_lent b) }
+    ensures { result ≡ bytes_eq (field_at span (columns_lent a.entry)) (field_at span (columns_lent b.entry)) }
 {
-    let first = a[0] == b[0];
-    let second = a[1] == b[1];
-    let third = a[2] == b[2];
-    let last = a[3] == b[3];
-    first & second & third & last
-}
-
-/// Whether columns are the same. Those that are compared here are few, so it takes one by one.
-pub fn is_same(a: &[char], b: &[char]) -> bool
-    ensures { result ≡ bytes_eq a.now b.now }
-{
-    if a.len() != b.len() {
-        return false;
-    }
-    let mut at = 0;
-    'fours: while 4 <= a.len() - at {
-        if !are_four_same(&a[at..at + 4], &b[at..at + 4]) {
-            return false;
-        }
-        at += 4;
-    }
-    'columns: for i in at..a.len() {
-        if a[i] != b[i] {
-            return false;
-        }
-    }
-    true
+    let first = (span.start as usize).saturating_sub(1);
+    is_same(a, b, first, span.len as usize)
 }
 
 /// Whether the same stands at these places.
-fn are_equal(spans: &[Span], a: &[char], b: &[char]) -> bool
-    requires left { last_column spans.now ≤ length a.now }
-    requires right { last_column spans.now ≤ length b.now }
-    ensures { result ≡ bytes_eq (fields_at spans.now a.now) (fields_at spans.now b.now) }
+fn are_equal(spans: &[Span], a: Columns<'_>, b: Columns<'_>) -> bool
+    requires left { last_column spans.now ≤ length (columns_lent a) }
+    requires right { last_column spans.now ≤ length (columns_lent b) }
+    ensures { result ≡ bytes_eq (fields_at spans.now (columns_lent a.entry)) (fields_at spans.now (columns_lent b.entry)) }
 {
     'spans: for span in spans {
-        if !is_same(field_at(a, *span), field_at(b, *span)) {
+        if !is_same_at(a, b, *span) {
             return false;
         }
     }
@@ -252,10 +229,10 @@ impl Layout {
     }
 
     /// Whether two lines have the same id columns.
-    pub fn has_same_ids(&self, a: &[char], b: &[char]) -> bool
-        requires left { last_column self.now.ids ≤ length a.now }
-        requires right { last_column self.now.ids ≤ length b.now }
-        ensures { result ≡ bytes_eq (fields_at self.now.ids a.now) (fields_at self.now.ids b.now) }
+    pub fn has_same_ids(&self, a: Columns<'_>, b: Columns<'_>) -> bool
+        requires left { last_column self.now.ids ≤ length (columns_lent a) }
+        requires right { last_column self.now.ids ≤ length (columns_lent b) }
+        ensures { result ≡ bytes_eq (fields_at self.now.ids (columns_lent a.entry)) (fields_at self.now.ids (columns_lent b.entry)) }
     {
         are_equal(&self.blocks, a, b)
     }

@@ -9,10 +9,9 @@ ghost use Rattle.cse_lines.specs.Resting.{IsLayoutOf, IsResting, TakesRest, read
 use crate::buffer::{Buffer, ReadFault};
 use crate::decode::Stop;
 use crate::error::DataError;
-use crate::filled::Filled;
 use crate::gather::gather;
 use crate::layout::Layout;
-use crate::run::{Room, Run};
+use crate::run::{Lines, Run, keep_lines};
 use cse_dict::Dictionary;
 use cse_value::Input;
 use std::alloc::{AllocError, Global};
@@ -50,8 +49,8 @@ fn next_run<R: Input>(
     layout: &Layout,
     input: &mut R,
     run: &mut Run,
-    room: &mut Room,
-    columns: &mut Filled,
+    room: &mut Option<Box<Lines>>,
+    read: &mut Box<Lines>,
     buffer: &mut Buffer,
     ended: &mut bool,
     reads: &mut u64,
@@ -75,7 +74,7 @@ fn next_run<R: Input>(
             layout,
             run,
             room,
-            columns,
+            read,
             buffer,
             lines == 0,
             *ended,
@@ -125,8 +124,8 @@ pub fn next_by_layout<R: Input>(
     layout: &mut Option<Layout>,
     input: &mut R,
     run: &mut Run,
-    room: &mut Room,
-    columns: &mut Filled,
+    room: &mut Option<Box<Lines>>,
+    read: &mut Option<Box<Lines>>,
     buffer: &mut Buffer,
     ended: &mut bool,
     reads: &mut u64,
@@ -150,7 +149,13 @@ pub fn next_by_layout<R: Input>(
     let Some(known) = layout else {
         unreachable!();
     };
+    let Ok(()) = keep_lines(alloc, read) else {
+        return Err(error(90));
+    };
+    let Some(read) = read else {
+        unreachable!();
+    };
     next_run(
-        alloc, dictionary, known, input, run, room, columns, buffer, ended, reads, lines,
+        alloc, dictionary, known, input, run, room, read, buffer, ended, reads, lines,
     )
 }

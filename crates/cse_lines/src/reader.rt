@@ -6,10 +6,9 @@ ghost use Rattle.cse_lines.specs.Reader.{HoldsLittle, Next, held_of};
 
 use crate::buffer::Buffer;
 use crate::error::DataError;
-use crate::filled::Filled;
 use crate::layout::Layout;
 use crate::next::next_by_layout;
-use crate::run::{Lines, Room, Run};
+use crate::run::{Lines, Run};
 use cse_dict::Dictionary;
 use cse_value::Input;
 use std::alloc::Global;
@@ -31,8 +30,10 @@ pub struct RunReader<'a> {
     dictionary: &'a Dictionary,
     layout: Option<Layout>,
     run: Run,
-    room: Room,
-    columns: Filled,
+    /// A run that was given back.
+    room: Option<Box<Lines>>,
+    /// What the next line is read into.
+    read: Option<Box<Lines>>,
     buffer: Buffer,
     ended: bool,
     reads: u64,
@@ -68,7 +69,7 @@ impl<'a> Drop for RunReader<'a> {
             layout: _layout,
             run: _run,
             room: _room,
-            columns: _columns,
+            read: _read,
             buffer: _buffer,
             ended: _ended,
             reads: _reads,
@@ -93,8 +94,8 @@ impl<'a> RunReader<'a> {
             dictionary,
             layout: None,
             run: Run::new(alloc, 1),
-            room: Room::new(alloc),
-            columns: Filled::new(alloc),
+            room: None,
+            read: None,
             buffer: Buffer::new(alloc),
             ended: false,
             reads: 0,
@@ -123,14 +124,14 @@ impl<'a> RunReader<'a> {
         }
     }
 
-    /// Takes back the columns and the lines of a run that was given: their memory, unless it is large, serves
-    /// a later run. A caller who gives each run back before the next but one lets the reader read on in the memory
+    /// Takes back the lines of a run that was given, with their columns: their memory, unless it is large, serves a
+    /// later run. A caller who gives each run back before the next but one lets the reader read on in the memory
     /// that it has.
-    pub fn take_back(&mut self, columns: Vec<char>, lines: Box<Lines>)
+    pub fn take_back(&mut self, lines: Box<Lines>)
         ensures { self.new ≡ self.old }
     {
-        if columns.len() <= MOST_ROOM {
-            self.room = Room::of(columns, lines);
+        if lines.columns.len() <= MOST_ROOM {
+            self.room = Some(lines);
         }
     }
 
@@ -161,7 +162,7 @@ impl<'a> RunReader<'a> {
             input,
             &mut self.run,
             &mut self.room,
-            &mut self.columns,
+            &mut self.read,
             &mut self.buffer,
             &mut self.ended,
             &mut self.reads,
@@ -175,8 +176,8 @@ impl<'a> RunReader<'a> {
             Ok(None) => Ok(None),
             Err(error) => {
                 self.run = Run::new(self.alloc, self.lines + 1);
-                self.room = Room::new(self.alloc);
-                self.columns = Filled::new(self.alloc);
+                self.room = None;
+                self.read = None;
                 self.buffer = Buffer::new(self.alloc);
                 self.error = Some(error);
                 Err(error)

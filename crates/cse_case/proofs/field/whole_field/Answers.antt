@@ -1,8 +1,12 @@
-use Rattle.std.proofs.Common.{refl, arith, ap, ◌∙◌}
-use Rattle.std.proofs.lemmas.List.{take_rest}
-use Rattle.cse_case.specs.Field.{field_of}
-use Rattle.cse_case.proofs.FieldLaws.{whole_here}
+use Rattle.std.proofs.Common.{arith}
+use Rattle.cse_lines.specs.Bytes.{beside_lent}
+use Rattle.cse_lines.proofs.BytesLaws.{length-columns_by}
+use Rattle.cse_lines.specs.Bytes.{columns_lent}
+use Rattle.cse_case.proofs.FieldLaws.{whole_behind}
 use Rattle.cse_case.proofs.field.whole_field.Goals as goal
 
 pub returns-clause-columns : goal.returns-clause-columns
-returns-clause-columns c = whole_here c.args.item.now _ _ _ refl (omega arith) ∙ ap (field_of c.args.item.now) (take_rest c.args.columns.now c.args.first)
+returns-clause-columns c = whole_behind c.args.item.now (columns_lent c.args.columns) c.args.first
+
+pub overflow_add-result : goal.overflow_add-result
+overflow_add-result c = omega (arith, c.requires.whole, length-columns_by c.args.columns.bytes.now (beside_lent c.args.columns), c.ranges.columns)

@@ -1,8 +1,9 @@
+use Rattle.cse_lines.specs.Bytes.{columns_lent}
 use Rattle.cse_case.proofs.WriteLaws.{Trimmed}
 use Rattle.cse_case.proofs.write.kept.Given as goal
 
 abbrev pub invariant-blanks : goal.invariant-blanks
-invariant-blanks l = Trimmed l.columns l.len l.n
+invariant-blanks l = Trimmed (columns_lent l.columns) l.len l.n
 
 abbrev pub decreases-blanks : goal.decreases-blanks
 decreases-blanks l = l.n

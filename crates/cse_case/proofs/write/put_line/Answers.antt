@@ -2,6 +2,7 @@ use Rattle.std.proofs.Common.{◌≡◌, ◌≤◌, ◌-◌, ◌++◌, length, t
 use Rattle.std.specs.Prelude.{encode_utf8_all}
 use Rattle.std.proofs.lemmas.List.{take-append-drop, take_rest}
 use Rattle.std.proofs.lemmas.Str.{encodes-append}
+use Rattle.cse_lines.specs.Bytes.{columns_lent}
 use Rattle.cse_lines.specs.Laid.{laid_line}
 use Rattle.cse_lines.specs.Line.{end_bytes}
 use Rattle.cse_lines.specs.Written.{kept_columns, written_line}
@@ -13,20 +14,21 @@ pub returns : goal.returns
 unfolding written_line
 returns g c =
     let line = c.args.line in
-    let kept = c.kept-kept.result.now in
+    let kept = columns_lent c.kept-kept.result in
     let at = c.put_parts-at.result in
+    let rest : columns_lent c.part.result ≡ take (length kept - at) (drop at kept) = c.part.ensures ∙ ap (λ k. take (k - at) (drop at kept)) c.len.ensures in
     let n = c.write_columns-n.result in
     let end = c.write_end-end.result in
     let bytes = c.write_columns-n.new.bytes in
     let behind = c.write_end-end.new.bytes in
     let front = encode_utf8_all (take at kept) in
-    let fits : n ≤ length bytes = omega (arith, c.write_columns-n.ensures.few, length-rest kept at, c.put_parts-at.ensures.few, c.write_columns-n.auto.bytes) in
-    let end_fits : end ≤ length behind = omega (arith, c.write_end-end.ensures.few, c.write_end-end.auto.bytes, length-rest bytes n, c.write_columns-n.ensures.few, length-rest kept at, c.put_parts-at.ensures.few, c.write_columns-n.auto.bytes) in
-    let columns : kept ≡ kept_columns line.len (laid_line c.args.columns.now line).columns = c.kept-kept.ensures ∙ ap (kept_columns line.len) c.line_columns.ensures in
+    let fits : n ≤ length bytes = omega (arith, c.write_columns-n.ensures.few, length-rest kept at, ap length rest, c.put_parts-at.ensures.few, c.write_columns-n.auto.bytes) in
+    let end_fits : end ≤ length behind = omega (arith, c.write_end-end.ensures.few, c.write_end-end.auto.bytes, length-rest bytes n, c.write_columns-n.ensures.few, length-rest kept at, ap length rest, c.put_parts-at.ensures.few, c.write_columns-n.auto.bytes) in
+    let columns : kept ≡ kept_columns line.len (laid_line (columns_lent c.args.columns) line).columns = c.kept-kept.ensures ∙ ap (kept_columns line.len) c.line_columns.ensures in
     let whole : encode_utf8_all kept ≡ front ++ take n bytes =
     ap encode_utf8_all (sym (take-append-drop at kept)) ∙ encodes-append (take at kept) (drop at kept)
-    ∙ ap (λ l. front ++ l) (ap encode_utf8_all (sym (take_rest kept at)) ∙ sym c.write_columns-n.ensures.bytes) in
-    let all : front ++ (take n bytes ++ take end behind) ≡ encode_utf8_all (kept_columns line.len (laid_line c.args.columns.now line).columns) ++ end_bytes line.ending =
+    ∙ ap (λ l. front ++ l) (ap encode_utf8_all (sym (take_rest kept at) ∙ sym rest) ∙ sym c.write_columns-n.ensures.bytes) in
+    let all : front ++ (take n bytes ++ take end behind) ≡ encode_utf8_all (kept_columns line.len (laid_line (columns_lent c.args.columns) line).columns) ++ end_bytes line.ending =
     sym (append_assoc front (take n bytes) (take end behind)) ∙ ap (λ l. l ++ take end behind) (sym whole)
     ∙ ap (λ l. encode_utf8_all kept ++ l) c.write_end-end.ensures.bytes ∙ ap (λ l. encode_utf8_all l ++ end_bytes line.ending) columns in
     Puts-as _ _ _ _ (ap (λ l. front ++ l) (put_after bytes behind n (512 - n) end fits end_fits) ∙ all)

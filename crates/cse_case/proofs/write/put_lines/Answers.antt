@@ -7,6 +7,7 @@ use Rattle.cse_lines.specs.Laid.{laid_line, laid_lines}
 use Rattle.cse_lines.specs.Written.{written_line}
 use Rattle.cse_lines.proofs.LaidLaws.{laid_within}
 use Rattle.cse_output.proofs.GatherLaws.{Puts-then, Puts-as}
+use Rattle.cse_lines.specs.Bytes.{columns_lent}
 use Rattle.cse_case.proofs.CaseLaws.{laid_padded, written-more}
 use Rattle.cse_case.proofs.write.put_lines.Goals as goal
 
@@ -14,14 +15,14 @@ abbrev no : Line
 no = record { first = 0; width = 0; len = 0; ending = FileEnd; record_number = None }
 
 pub put_line-requires-clause-within : goal.put_line-requires-clause-within
-put_line-requires-clause-within g c = laid_within 0 c.args.columns.now c.args.lines.now c.lines.line-index (get_or c.args.lines.now c.lines.line-index no) c.requires c.lines-test.true (get_or_default c.args.lines.now c.lines.line-index no (get_or c.args.lines.now c.lines.line-index no) c.lines-test.true)
+put_line-requires-clause-within g c = laid_within 0 (columns_lent c.args.columns) c.args.lines.now c.lines.line-index (get_or c.args.lines.now c.lines.line-index no) c.requires c.lines-test.true (get_or_default c.args.lines.now c.lines.line-index no (get_or c.args.lines.now c.lines.line-index no) c.lines-test.true)
 
 pub put_line-requires-clause-padded : goal.put_line-requires-clause-padded
-put_line-requires-clause-padded g c = laid_padded 0 c.args.columns.now c.args.lines.now c.lines.line-index (get_or c.args.lines.now c.lines.line-index no) c.requires c.lines-test.true (get_or_default c.args.lines.now c.lines.line-index no (get_or c.args.lines.now c.lines.line-index no) c.lines-test.true)
+put_line-requires-clause-padded g c = laid_padded 0 (columns_lent c.args.columns) c.args.lines.now c.lines.line-index (get_or c.args.lines.now c.lines.line-index no) c.requires c.lines-test.true (get_or_default c.args.lines.now c.lines.line-index no (get_or c.args.lines.now c.lines.line-index no) c.lines-test.true)
 
 pub lines-preserved : goal.lines-preserved
 lines-preserved g c =
-    let columns = c.args.columns.now in
+    let columns = (columns_lent c.args.columns) in
     let lines = c.args.lines.now in
     let i = c.lines.line-index in
     let line = get_or lines i no in

@@ -1,12 +1,14 @@
-use Rattle.std.proofs.Common.{◌≡◌, ◌-◌, ◌++◌, length, take, ap, sym, ◌∙◌, arith}
+use Rattle.std.proofs.Common.{◌≡◌, ◌<◌, ◌-◌, ◌++◌, length, take, ap, sym, ◌∙◌, arith}
 use Rattle.std.specs.Prelude.{encode_utf8_all}
-use Rattle.cse_case.proofs.WriteLaws.{encode-more, length-rest, put_after}
+use Rattle.cse_lines.specs.Bytes.{columns_lent}
+use Rattle.cse_case.proofs.WriteLaws.{encode-more, get_or_any, length-rest, put_after}
 use Rattle.cse_case.proofs.write.write_utf8.Goals as goal
 
 pub columns-preserved : goal.columns-preserved
 columns-preserved c =
-    let columns = c.args.columns.now in
-    let i = c.columns.column-index in
+    let columns = (columns_lent c.args.columns) in
+    let i = c.columns.i in
+    let within : i < length columns = omega (arith, c.columns-test.true, c.len-i-end.ensures) in
     let bytes = c.columns.bytes in
     let new = c.write_column-n.new.bytes in
     let n = c.write_column-n.result in
@@ -14,8 +16,8 @@ columns-preserved c =
     record {
       few = omega (arith, c.columns.invariant.few, c.write_column-n.ensures.few);
       bytes = put_after bytes new c.columns.n (length bytes - c.columns.n) n
-          (omega (arith, c.columns.invariant.few, c.requires, c.columns-test.true, c.columns.auto.bytes))
-          (omega (arith, room, c.columns.invariant.few, c.write_column-n.ensures.few, c.requires, c.columns-test.true, c.columns.auto.bytes))
+          (omega (arith, c.columns.invariant.few, c.requires, within, c.columns.auto.bytes))
+          (omega (arith, room, c.columns.invariant.few, c.write_column-n.ensures.few, c.requires, within, c.columns.auto.bytes))
           ∙ ap (λ l. l ++ take n new) c.columns.invariant.bytes ∙ ap (λ l. encode_utf8_all (take i columns) ++ l) c.write_column-n.ensures.bytes
-          ∙ sym (encode-more columns i c.column-item.result c.columns-test.true c.column-item.is);
+          ∙ sym (encode-more columns i c.at.result within (c.at.ensures ∙ get_or_any columns i 0 c.at.result within));
     }

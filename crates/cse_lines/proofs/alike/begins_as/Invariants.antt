@@ -3,12 +3,12 @@ use Rattle.cse_lines.proofs.alike.begins_as.Given as goal
 
 abbrev pub invariant-fours : goal.invariant-fours
 invariant-fours l = record {
-  fits : l.at ≤ length l.columns;
-  same : take l.at l.bytes ≡ take l.at l.columns;
+  fits : l.at ≤ length l.others;
+  same : take l.at l.bytes ≡ take l.at l.others;
 }
 
 abbrev pub decreases-fours : goal.decreases-fours
-decreases-fours l = length l.columns - l.at
+decreases-fours l = length l.others - l.at
 
-abbrev pub invariant-columns : goal.invariant-columns
-invariant-columns l = take l.i l.bytes ≡ take l.i l.columns
+abbrev pub invariant-bytes : goal.invariant-bytes
+invariant-bytes l = take l.i l.bytes ≡ take l.i l.others

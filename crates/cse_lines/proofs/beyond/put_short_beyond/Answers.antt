@@ -1,37 +1,38 @@
-use Rattle.std.proofs.Common.{◌≡◌, ◌≤◌, ◌∙◌, length, drop, ap, arith, subst, length-drop}
-use Rattle.std.specs.Str.{IsUtf8, chars}
-use Rattle.std.proofs.lemmas.Str.{IsUtf8-from_is_utf8, is_utf8-from_IsUtf8}
-use Rattle.cse_lines.specs.Field.{padded}
-use Rattle.cse_lines.proofs.DecodeLaws.{Holds-beyond, chars_fit, padded_behind, utf8_front}
+use Rattle.std.proofs.Common.{◌≡◌, ◌≤◌, ◌-◌, ◌∙◌, ◌++◌, ℕ, length, drop, replicate, ap, sym, subst, arith}
+use Rattle.std.specs.Str.{chars}
+use Rattle.std.proofs.lemmas.Str.{IsUtf8-from_is_utf8}
+use Rattle.cse_lines.specs.Bytes.{columns_by}
+use Rattle.cse_lines.specs.Decoding.{Holds}
+use Rattle.cse_lines.specs.Run.{with_columns}
+use Rattle.cse_lines.proofs.BytesLaws.{IsAscii-blanks, behind_bytes, front_bytes, length-columns_by, with_ascii}
+use Rattle.cse_lines.proofs.DecodeLaws.{Holds-blanked, chars_fit}
+use Rattle.std.proofs.lemmas.List.{length-replicate}
 use Rattle.cse_lines.proofs.beyond.put_short_beyond.Goals as goal
 
-pub put_short_text-requires-clause-over : goal.put_short_text-requires-clause-over
-put_short_text-requires-clause-over c =
-    padded_behind c.args.columns.now c.args.text.now _ _ c.ascii_front-at.result c.requires.over c.ascii_front-at.ensures.fits c.split_at_mut-rest.ensures.back c.split_at.ensures.back
+pub put_short_chars-requires-clause-over : goal.put_short_chars-requires-clause-over
+put_short_chars-requires-clause-over c =
+    front_bytes c.args.bytes.now c.args.beside.now c.args.text.now c.ascii_front-front.result c.requires.over c.ascii_front-front.ensures.fits c.ascii_front-front.ensures.ascii
 
-pub put_short_text-requires-clause-fits : goal.put_short_text-requires-clause-fits
-put_short_text-requires-clause-fits c =
-    let at = c.ascii_front-at.result in
-    omega (arith, ap length c.split_at.ensures.back, length-drop at c.args.text.now, ap length c.split_at_mut-rest.ensures.back, length-drop at c.args.columns.now, c.requires.fits)
-
-pub returns-clause-utf8 : goal.returns-clause-utf8
-returns-clause-utf8 c =
-    let text = c.args.text.now in
-    let at = c.ascii_front-at.result in
-    is_utf8-from_IsUtf8 text (utf8_front text at c.ascii_front-at.ensures.ascii (subst IsUtf8 c.split_at.ensures.back (IsUtf8-from_is_utf8 _ c.in_ok-len.ensures.utf8)))
+pub put_blanks_between-requires-clause-order : goal.put_blanks_between-requires-clause-order
+put_blanks_between-requires-clause-order c =
+    omega (arith, chars_fit c.args.text.now (IsUtf8-from_is_utf8 c.args.text.now c.in_ok-len.ensures.utf8), c.in_ok-len.ensures.count)
 
 pub returns-clause-columns : goal.returns-clause-columns
 returns-clause-columns c =
     let text = c.args.text.now in
-    let columns = c.args.columns.now in
-    let at = c.ascii_front-at.result in
-    let own : c.split_at.result.1.now ≡ drop at text = c.split_at.ensures.back in
-    let back : c.split_at_mut-rest.result.1.now ≡ drop at columns = c.split_at_mut-rest.ensures.back in
-    let utf8 : IsUtf8 (drop at text) = subst IsUtf8 own (IsUtf8-from_is_utf8 _ c.in_ok-len.ensures.utf8) in
-    let low : length (chars (drop at text)) ≤ length (drop at columns) =
-    omega (arith, chars_fit (drop at text) utf8, length-drop at text, length-drop at columns, c.requires.fits) in
-    let wide : length c.put_short_text.new.columns ≡ length (drop at columns) = c.in_ok-len.ensures.len ∙ ap length back in
-    rw c.split_at_mut-rest.ensures.front
-    (Holds-beyond columns text c.put_short_text.new.columns at c.in_ok-len.len c.requires.over c.ascii_front-at.ensures.fits c.ascii_front-at.ensures.ascii low
-    (c.in_ok-len.ensures.columns.count ∙ ap (λ l. length (chars l)) own)
-    (c.in_ok-len.ensures.columns.is ∙ ap (λ n. padded n (chars c.split_at.result.1.now)) wide ∙ ap (λ l. padded (length (drop at columns)) (chars l)) own))
+    let first = columns_by c.args.bytes.now c.args.beside.now in
+    let bytes = c.put_short_chars.new.bytes in
+    let beside = c.put_short_chars.new.beside in
+    let n = c.in_ok-len.len in
+    let blanks = replicate (length text - n) 32 in
+    let fit = chars_fit text (IsUtf8-from_is_utf8 text c.in_ok-len.ensures.utf8) in
+    let wide = length-columns_by c.args.bytes.now c.args.beside.now in
+    let few : n ≤ length text = omega (arith, fit, c.in_ok-len.ensures.count) in
+    let is : columns_by c.put_blanks_between.new.columns beside ≡ with_columns n blanks (columns_by bytes beside) =
+    ap (λ l. columns_by l beside) c.put_blanks_between.ensures
+    ∙ with_ascii n blanks bytes beside (IsAscii-blanks (length text - n)) (omega (arith, few, length-replicate {A = ℕ} (length text - n) 32, c.requires.fits, c.in_ok-len.ensures.len)) in
+    let room : length text ≤ length first = omega (arith, wide, c.requires.fits) in
+    let held : Holds (with_columns n blanks (columns_by bytes beside)) (chars text) n =
+    Holds-blanked first text (chars text) (columns_by bytes beside) n (behind_bytes c.args.bytes.now c.args.beside.now text c.requires.over c.requires.fits)
+    room c.in_ok-len.ensures.count few (c.in_ok-len.ensures.columns ∙ ap (λ k. chars text ++ drop k first) (sym c.in_ok-len.ensures.count)) in
+    subst (λ l. Holds l (chars text) n) (sym is) held

@@ -1,5 +1,6 @@
 use Rattle.std.proofs.Common.{◌≡◌, ◌≤◌, ◌-◌, ◌++◌, true, drop, length, take}
 use Rattle.std.specs.Str.{chars, is_utf8}
+use Rattle.cse_lines.specs.Bytes.{columns_by}
 use Rattle.cse_lines.proofs.beyond.put_short_chars.Given as goal
 
 abbrev pub invariant-chars : goal.invariant-chars
@@ -7,7 +8,9 @@ invariant-chars l = record {
   fits : l.at ≤ length l.text;
   utf8 : is_utf8 (take l.at l.text) ≡ true;
   count : l.len ≡ length (chars (take l.at l.text));
-  columns : l.columns ≡ chars (take l.at l.text) ++ drop l.len l.initial.columns;
+  wide : length l.bytes ≡ length l.initial.bytes;
+  room : length l.beside ≡ length l.initial.beside;
+  columns : columns_by l.bytes l.beside ≡ chars (take l.at l.text) ++ drop l.len (columns_by l.initial.bytes l.initial.beside);
 }
 
 abbrev pub decreases-chars : goal.decreases-chars

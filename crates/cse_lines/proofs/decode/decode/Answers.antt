@@ -39,7 +39,7 @@ returns-clause-ok c =
     let line : FileLine = (c.args.front, c.args.line.now) in
     let text : c.split_mark-marked.result.1.now ≡ text_of line = c.split_mark-marked.ensures.text ∙ ap (without_mark c.args.front) c.split_end-ending.ensures.text in
     let short = rw text at c.if-text-gt-MOST_BYTES.false in
-    let held : Holds c.read_columns.new.columns (columns_of line) c.in_ok-len.len = subst (λ (cs : List ℕ). Holds c.read_columns.new.columns cs c.in_ok-len.len) (ap chars text) c.in_ok-len.ensures.columns in
+    let held : Holds c.read.new.self (columns_of line) c.in_ok-len.len = subst (λ (cs : List ℕ). Holds c.read.new.self cs c.in_ok-len.len) (ap chars text) c.in_ok-len.ensures.columns in
     let len : c.in_ok-len.len ≡ length (columns_of line) = held.count in
     let wide : c.widen.new.columns ≡ padded (width_of d (columns_of line)) (columns_of line) = c.in_ok-record_number.ensures.columns (columns_of line) held in
     record {

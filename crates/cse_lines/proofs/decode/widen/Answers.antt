@@ -1,5 +1,6 @@
 use Rattle.std.proofs.Common.{◌≡◌, ◌-◌, ◌++◌, ℕ, List, max, length, replicate, take, arith, ap, sym, ◌≤◌, ◌∙◌}
 use Rattle.cse_dict.specs.Dictionary.{number_of_type}
+use Rattle.cse_lines.specs.Bytes.{columns_lent}
 use Rattle.cse_lines.specs.Field.{field_at, padded, record_len, record_of, type_span, least_width}
 use Rattle.cse_lines.proofs.DecodeLaws.{columns_held, record_of_is, length-padded, type_held}
 use Rattle.cse_lines.proofs.LastLaws.{BeginsAs-cut, IfSome-more, take_cut}
@@ -10,7 +11,7 @@ pub record_in-record_number-requires-clause-wide : goal.record_in-record_number-
 record_in-record_number-requires-clause-wide c =
     let d = c.args.dictionary.now in
     let least : c.least_width-least_width.result ≡ least_width d = c.least_width-least_width.ensures ∙ ap (λ l. l.least_width) c.requires.layout in
-    let here : c.as_slice.result.now ≡ padded (least_width d) c.args.columns.now = c.as_slice.ensures ∙ c.in_ok-pad.ensures ∙ ap (λ w. padded w c.args.columns.now) least in
+    let here : (columns_lent c.columns.result) ≡ padded (least_width d) c.args.columns.now = c.columns.ensures ∙ c.in_ok-pad.ensures ∙ ap (λ w. padded w c.args.columns.now) least in
     rw here (omega (arith, length-padded (least_width d) c.args.columns.now))
 
 pub returns-clause-number : goal.returns-clause-number
@@ -19,7 +20,7 @@ returns-clause-number c = λ text held.
     let columns = c.args.columns.now in
     let least : c.least_width-least_width.result ≡ least_width d = c.least_width-least_width.ensures ∙ ap (λ l. l.least_width) c.requires.layout in
     c.record_in-record_number.ensures.number ∙ ap (λ x. number_of_type x d)
-    (ap (field_at (type_span d)) (c.as_slice.ensures ∙ c.in_ok-pad.ensures ∙ ap (λ w. padded w columns) least) ∙ type_held d columns text c.args.len held)
+    (ap (field_at (type_span d)) (c.columns.ensures ∙ c.in_ok-pad.ensures ∙ ap (λ w. padded w columns) least) ∙ type_held d columns text c.args.len held)
     ∙ record_of_is d text
 
 pub returns-clause-columns : goal.returns-clause-columns
@@ -41,9 +42,9 @@ returns-clause-same c =
     let least : c.least_width-least_width.result ≡ least_width d = c.least_width-least_width.ensures ∙ ap (λ l. l.least_width) c.requires.layout in
     let padded_is : c.pad.new.self ≡ padded (least_width d) columns = c.in_ok-pad.ensures ∙ ap (λ w. padded w columns) least in
     let width : least_width d ≤ c.max.result = omega (arith, c.max.ensures, c.max-width.ensures, least) in
-    let begins : take (least_width d) c.set_width.new.self ≡ take (least_width d) c.as_slice.result.now =
+    let begins : take (least_width d) c.set_width.new.self ≡ take (least_width d) (columns_lent c.columns.result) =
     ap (take (least_width d)) c.in_ok-set_width.ensures
     ∙ take_cut (least_width d) c.max.result c.pad.new.self (replicate (c.max.result - length c.pad.new.self) 32) width (omega (arith, ap length padded_is, length-padded (least_width d) columns))
-    ∙ ap (take (least_width d)) (sym c.as_slice.ensures) in
-    IfSome-more (λ l. BeginsAs d c.record_in-record_number.result.1 c.as_slice.result.now l.0.now) (λ l. BeginsAs d c.record_in-record_number.result.1 c.set_width.new.self l.0.now) c.args.last
-    (λ l h. BeginsAs-cut d c.record_in-record_number.result.1 c.set_width.new.self c.as_slice.result.now l.0.now begins h) c.record_in-record_number.ensures.same
+    ∙ ap (take (least_width d)) (sym c.columns.ensures) in
+    IfSome-more (λ l. BeginsAs d c.record_in-record_number.result.1 (columns_lent c.columns.result) (columns_lent l.0)) (λ l. BeginsAs d c.record_in-record_number.result.1 c.set_width.new.self (columns_lent l.0)) c.args.last
+    (λ l h. BeginsAs-cut d c.record_in-record_number.result.1 c.set_width.new.self (columns_lent c.columns.result) (columns_lent l.0) begins h) c.record_in-record_number.ensures.same

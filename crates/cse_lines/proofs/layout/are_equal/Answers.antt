@@ -1,24 +1,25 @@
 use Rattle.std.proofs.Common.{◌+◌, drop, sym, ◌∙◌, ap}
 use Rattle.std.specs.Str.{bytes_eq}
+use Rattle.cse_lines.specs.Bytes.{columns_lent}
 use Rattle.cse_lines.specs.Field.{fields_at}
 use Rattle.cse_lines.proofs.FieldLaws.{fields_eq-same, fields_eq-other, spans_at}
 use Rattle.cse_lines.proofs.TakeLaws.{other_ids, same_ids}
 use Rattle.cse_lines.proofs.layout.are_equal.Goals as goal
 
-pub returns-then-not-is_same : goal.returns-then-not-is_same
-returns-then-not-is_same c =
-    let a = c.args.a.now in
-    let b = c.args.b.now in
+pub returns-then-not-is_same_at : goal.returns-then-not-is_same_at
+returns-then-not-is_same_at c =
+    let a = columns_lent c.args.a in
+    let b = columns_lent c.args.b in
     let i = c.spans.span-index in
     let at = spans_at c.args.spans.now i a b c.spans-test.true c.spans.invariant.left c.spans.invariant.right in
     sym (c.spans.invariant.same ∙ ap (λ ss. bytes_eq (fields_at ss a) (fields_at ss b)) at.is
     ∙ fields_eq-other _ (drop (i + 1) c.args.spans.now) a b at.left at.right
-    (λ e. other_ids _ _ _ c.is_same.ensures c.if-not-is_same.true (c.field_at.ensures ∙ e ∙ sym c.field_at-in-spans.ensures)))
+    (other_ids _ _ _ c.is_same_at.ensures c.if-not-is_same_at.true))
 
 pub spans-preserved : goal.spans-preserved
 spans-preserved c =
-    let a = c.args.a.now in
-    let b = c.args.b.now in
+    let a = columns_lent c.args.a in
+    let b = columns_lent c.args.b in
     let i = c.spans.span-index in
     let at = spans_at c.args.spans.now i a b c.spans-test.true c.spans.invariant.left c.spans.invariant.right in
     record {
@@ -26,5 +27,5 @@ spans-preserved c =
       right = at.right_rest;
       same = c.spans.invariant.same ∙ ap (λ ss. bytes_eq (fields_at ss a) (fields_at ss b)) at.is
           ∙ fields_eq-same _ (drop (i + 1) c.args.spans.now) a b at.left at.right
-          (sym c.field_at.ensures ∙ same_ids _ _ _ c.is_same.ensures c.if-not-is_same.false ∙ c.field_at-in-spans.ensures);
+          (same_ids _ _ _ c.is_same_at.ensures c.if-not-is_same_at.false);
     }

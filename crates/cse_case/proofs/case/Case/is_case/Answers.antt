@@ -12,4 +12,4 @@ returns c =
     let v = c.self.inside in
     ap (λ n. nat_lt n c.len-2.result) (c.len.ensures ∙ (ap (λ (t : Table). t.unseen.len) c.deref.ensures ∙ (v.table.value.unseen.ok.0 ∙ ap length c.self.invariant.unseen_are)))
     ∙ (ap (nat_lt (length (unseen_of (shape_of v.items).records v.first_line (map (λ l. l.record_number) v.kept.value.lines.items)))) (c.len-2.ensures ∙ (ap (λ (k : Lines). k.lines.len) c.deref-2.ensures ∙ v.kept.value.lines.ok.0))
-    ∙ (is_case_by_count (shape_of v.items).records v.first_line v.columns.items v.kept.value.lines.items ∙ ap (λ (x : CaseText). is_case (records_of x) (types_of x.run.lines)) c.self.view_is))
+    ∙ (is_case_by_count (shape_of v.items).records v.first_line v.kept.value.columns v.kept.value.lines.items ∙ ap (λ (x : CaseText). is_case (records_of x) (types_of x.run.lines)) c.self.view_is))

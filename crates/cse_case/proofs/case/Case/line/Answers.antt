@@ -3,6 +3,7 @@ use Rattle.std.proofs.lemmas.List.{get_or_read, length-drop}
 use Rattle.cse_lines.specs.Columns.{LineText}
 use Rattle.cse_dict.specs.Dictionary.{DictionaryText}
 use Rattle.cse_dict.specs.Sound.{IsSound}
+use Rattle.cse_lines.specs.declared.run.Lines.{Lines}
 use Rattle.cse_case.specs.Field.{field_of, item_at}
 use Rattle.cse_case.specs.Case.{CaseText, items_of}
 use Rattle.cse_case.proofs.FieldLaws.{field_from}
@@ -25,12 +26,12 @@ columns_from-requires c =
     let begins = get_or_read v.table.value.firsts.items (span.start + c.args.occurrence - 1) c.index-first.result.now (omega (arith, c.requires.occurrence.0)) (first_in _ _ c.deref-2.ensures _ _ c.index-first.ensures) 0 in
     let own = line_of c.args.self.now _ _ _ _ _ _ _ _ _ _ _ c.args.number c.args.occurrence c.index-first.result.now span c.self.view_is c.self.invariant c.requires.there
     (span_in _ _ c.deref.ensures _ _ c.index-span.ensures) c.requires.occurrence begins in
-    omega (arith, own.begins, own.within, ap length c.deref-3.ensures.value)
+    omega (arith, own.begins, own.within, ap length (c.columns.ensures ∙ ap (λ (k : Lines). k.columns) c.deref-3.ensures))
 
 pub returns : goal.returns
 returns c item low owns =
     let v = c.self.inside in
-    let columns = v.columns.items in
+    let columns = v.kept.value.columns in
     let span = c.index-span.result.now in
     let first = c.index-first.result.now in
     let own = item_at (items_of c.args.self.now) item in
@@ -39,7 +40,7 @@ returns c item low owns =
     let begins = get_or_read v.table.value.firsts.items (span.start + c.args.occurrence - 1) first (omega (arith, c.requires.occurrence.0)) (first_in _ _ c.deref-2.ensures _ _ c.index-first.ensures) 0 in
     let at = own_item c.args.self.now _ _ _ _ _ _ _ _ _ _ _ c.args.number c.args.occurrence first item span c.self.view_is c.self.invariant sound c.requires.there
     (span_in _ _ c.deref.ensures _ _ c.index-span.ensures) c.requires.occurrence low owns begins in
-    let all = c.columns_from.ensures ∙ ap (λ cs. drop first cs) c.deref-3.ensures.value in
+    let all = c.columns_from.ensures ∙ ap (λ cs. drop first cs) (c.columns.ensures ∙ ap (λ (k : Lines). k.columns) c.deref-3.ensures) in
     record {
       start = item_starts c.args.self.now item sound low;
       whole = omega (arith, at.whole, at.own.begins, at.own.within, ap length all, length-drop first columns);

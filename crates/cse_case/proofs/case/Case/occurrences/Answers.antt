@@ -16,4 +16,4 @@ returns c =
     let size : length (records_of c.args.self.now) ≡ length records = ap (λ (x : CaseText). length (records_of x)) (sym c.self.view_is) in
     let within : r < length v.table.value.spans.items = omega (arith, c.requires, c.self.invariant.table.size) in
     count_is records v.kept.value.lines.items v.table.value.firsts.items v.table.value.spans.items r c.index-span.result.now c.self.invariant.table within (span_in _ _ c.deref.ensures _ _ c.index-span.ensures)
-    ∙ (ap (λ ts. length (occurrence_places records r ts)) (sym (types_laid v.columns.items v.kept.value.lines.items)) ∙ ap (λ (x : CaseText). length (places_of x r)) c.self.view_is)
+    ∙ (ap (λ ts. length (occurrence_places records r ts)) (sym (types_laid v.kept.value.columns v.kept.value.lines.items)) ∙ ap (λ (x : CaseText). length (places_of x r)) c.self.view_is)

@@ -9,4 +9,4 @@ use Rattle.cse_case.proofs.case.Case.unseen.Goals as goal
 pub returns : goal.returns
 returns c =
     let v = c.self.inside in
-    c.deref-2.ensures.value ∙ (ap (λ (t : Table). t.unseen.items) c.deref.ensures ∙ (c.self.invariant.unseen_are ∙ (ap (unseen_of (shape_of v.items).records v.first_line) (sym (types_laid v.columns.items v.kept.value.lines.items)) ∙ ap unseen_lines c.self.view_is)))
+    c.deref-2.ensures.value ∙ (ap (λ (t : Table). t.unseen.items) c.deref.ensures ∙ (c.self.invariant.unseen_are ∙ (ap (unseen_of (shape_of v.items).records v.first_line) (sym (types_laid v.kept.value.columns v.kept.value.lines.items)) ∙ ap unseen_lines c.self.view_is)))

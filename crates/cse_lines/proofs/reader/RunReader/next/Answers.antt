@@ -35,5 +35,5 @@ holds_none d layout run uncut ended reads lines none unmarked number empty few c
 
 pub invariant_of-self-in-Err : goal.invariant_of-self-in-Err
 invariant_of-self-in-Err g c =
-    holds_none _ _ c.new.result c.new-in-Err-3.result _ c.next_by_layout-answer.new.reads c.self.inside.lines c.new.ensures.lines c.new.ensures.marked c.new.ensures.first_line c.new-in-Err-3.ensures
+    holds_none _ _ c.new.result c.new-in-Err.result _ c.next_by_layout-answer.new.reads c.self.inside.lines c.new.ensures.lines c.new.ensures.marked c.new.ensures.first_line c.new-in-Err.ensures
     c.in-Err.ensures.few_reads (omega (arith, c.in-Err.ensures.next.rises, c.self.invariant.rests.few_lines)) c.in-Err.ensures.layout

@@ -2,7 +2,7 @@ use Rattle.std.proofs.Common.{◌≡◌, ℕ, List, ◌++◌, ◌∷◌, [], ◌
 use Rattle.cse_lines.specs.declared.line.Line.{Line}
 use Rattle.cse_lines.specs.declared.decode.Head.{Head}
 use Rattle.cse_lines.specs.Laid.{IsLaid, laid_lines, line_behind}
-use Rattle.cse_lines.specs.Lines.{bytes_in, lines_in}
+use Rattle.cse_lines.specs.Lines.{bytes_in, columns_kept, lines_in}
 use Rattle.cse_lines.specs.Written.{written_line}
 use Rattle.cse_lines.specs.Run.{RunText, with_line}
 use Rattle.cse_lines.specs.Decoding.{line_with}
@@ -19,27 +19,31 @@ pushed now all columns text lines head e f h =
 
 pub invariant_of-self-2 : goal.invariant_of-self-2
 invariant_of-self-2 c =
-    let columns = c.self.inside.columns in
+    let columns = columns_kept c.self.inside.lines in
+    let were : c.deref_mut.result.now.columns ≡ columns = ap (λ v. v.columns) c.deref_mut.ensures.value ∙ (sym (ap columns_kept c.in-Some.is) ∙ c.in_ok-keep_lines.ensures.same.columns) in
+    let wrote : c.push.new.self.columns ≡ columns ++ c.args.columns.now = c.in_ok-push.ensures.columns ∙ ap (λ l. l ++ c.args.columns.now) were in
     let lines = lines_in c.self.inside.lines in
-    let now = c.in_ok-push.ensures.lines ∙ ap (λ ls. ls ++ line_behind columns c.args.columns.now c.args.head ∷ []) (ap (λ v. v.lines.items) c.deref_mut.ensures.value ∙ (sym (ap lines_in c.in-Some.is) ∙ c.in_ok-keep_lines.ensures.same.lines)) in
+    let now = c.in_ok-push.ensures.lines ∙ ap (λ cs. c.deref_mut.result.now.lines.items ++ line_behind cs c.args.columns.now c.args.head ∷ []) were ∙ ap (λ ls. ls ++ line_behind columns c.args.columns.now c.args.head ∷ []) (ap (λ v. v.lines.items) c.deref_mut.ensures.value ∙ (sym (ap lines_in c.in-Some.is) ∙ c.in_ok-keep_lines.ensures.same.lines)) in
     record {
-      laid = rw (c.in_ok-push.ensures.columns, now) (IsLaid-push 0 columns c.args.columns.now lines c.args.head c.requires.fits c.self.invariant.laid);
+      laid = rw (wrote, now) (IsLaid-push 0 columns c.args.columns.now lines c.args.head c.requires.fits c.self.invariant.laid);
       written = written-push (laid_lines columns lines) _ (line_with c.args.columns.now c.args.head) (bytes_in c.self.inside.lines) _ c.behind_mark-bytes.result.now c.self.invariant.written
           (c.behind_mark-bytes.ensures (written_line (line_with c.args.columns.now c.args.head)) c.requires.bytes)
           (c.in_ok-push.ensures.bytes ∙ ap (λ bs. bs ++ c.behind_mark-bytes.result.now) (ap (λ v. v.bytes.items) c.deref_mut.ensures.value ∙ (sym (ap bytes_in c.in-Some.is) ∙ c.in_ok-keep_lines.ensures.same.bytes)))
-          (pushed c.push.new.columns c.push.new.self.lines.items columns c.args.columns.now lines c.args.head c.in_ok-push.ensures.columns now c.self.invariant.laid);
+          (pushed c.push.new.self.columns c.push.new.self.lines.items columns c.args.columns.now lines c.args.head wrote now c.self.invariant.laid);
     }
 
 pub returns : goal.returns
 returns c =
-    let columns = c.self.inside.columns in
+    let columns = columns_kept c.self.inside.lines in
+    let were : c.deref_mut.result.now.columns ≡ columns = ap (λ v. v.columns) c.deref_mut.ensures.value ∙ (sym (ap columns_kept c.in-Some.is) ∙ c.in_ok-keep_lines.ensures.same.columns) in
+    let wrote : c.push.new.self.columns ≡ columns ++ c.args.columns.now = c.in_ok-push.ensures.columns ∙ ap (λ l. l ++ c.args.columns.now) were in
     let lines = lines_in c.self.inside.lines in
     let marked : c.if-self.self ≡ c.self.inside.marked || c.args.head.marked = elim c.if-self.branch [
       | then-self w ↦ w.self-is ∙ rw w.if-self.true refl
       | else-self w ↦ w.self-is ∙ rw w.if-self.false refl
     ] in
-    let now = c.in_ok-push.ensures.lines ∙ ap (λ ls. ls ++ line_behind columns c.args.columns.now c.args.head ∷ []) (ap (λ v. v.lines.items) c.deref_mut.ensures.value ∙ (sym (ap lines_in c.in-Some.is) ∙ c.in_ok-keep_lines.ensures.same.lines)) in
-    let laid = pushed c.push.new.columns c.push.new.self.lines.items columns c.args.columns.now lines c.args.head c.in_ok-push.ensures.columns now c.self.invariant.laid in
+    let now = c.in_ok-push.ensures.lines ∙ ap (λ cs. c.deref_mut.result.now.lines.items ++ line_behind cs c.args.columns.now c.args.head ∷ []) were ∙ ap (λ ls. ls ++ line_behind columns c.args.columns.now c.args.head ∷ []) (ap (λ v. v.lines.items) c.deref_mut.ensures.value ∙ (sym (ap lines_in c.in-Some.is) ∙ c.in_ok-keep_lines.ensures.same.lines)) in
+    let laid = pushed c.push.new.self.columns c.push.new.self.lines.items columns c.args.columns.now lines c.args.head wrote now c.self.invariant.laid in
     let old : RunText = record { lines = laid_lines columns lines; marked = c.self.inside.marked; first_line = c.self.inside.first_line } in
     ap (λ ls. (let r : RunText = record { lines = ls; marked = c.if-self.self; first_line = c.self.inside.first_line } in r)) laid
     ∙ ap (λ m. (let r : RunText = record { lines = laid_lines columns lines ++ line_with c.args.columns.now c.args.head ∷ []; marked = m; first_line = c.self.inside.first_line } in r)) marked

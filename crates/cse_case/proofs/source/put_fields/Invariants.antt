@@ -1,0 +1,10 @@
+use Rattle.std.proofs.Common.{◌≡◌, ◌≤◌, length, take}
+use Rattle.cse_lines.specs.Bytes.{columns_lent}
+use Rattle.cse_lines.specs.Field.{fields_at}
+use Rattle.cse_case.proofs.source.put_fields.Given as goal
+
+abbrev pub invariant-spans : goal.invariant-spans
+invariant-spans l = record {
+  within : l.at ≤ length l.fields.items;
+  put : take l.at l.fields.items ≡ fields_at (take l.span-index l.spans) (columns_lent l.columns);
+}

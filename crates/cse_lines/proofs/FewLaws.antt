@@ -1,0 +1,63 @@
+-- Laws of a number that is written into a few columns.
+use Rattle.std.proofs.Common.{◌≡◌, ℕ, zero, suc, Bool, true, false, cond, ◌+◌, ◌-◌, ◌/◌, ◌%◌, ◌<◌, ◌≤◌, List, [], ◌∷◌, ◌++◌, length, replicate, ap, sym, ◌∙◌, arith, append_assoc, length-append, slice_set}
+use Rattle.std.proofs.lemmas.Fmt.{decimal_digit, decimal_step}
+use Rattle.std.specs.Fmt.{decimal}
+use Rattle.std.specs.Str.{IsAscii}
+use Rattle.std.proofs.lemmas.Fmt.{IsAscii-decimal}
+use Rattle.std.proofs.lemmas.Str.{IsAscii-append}
+
+-- a number behind a character, in so many columns
+abbrev pub aligned : ℕ → ℕ → ℕ → List ℕ
+aligned width filler n = replicate (width - length (decimal n)) filler ++ decimal n
+
+-- a digit alone
+pub digit_alone : (width filler n : ℕ) → n < 10 → aligned (width + 1) filler n ≡ replicate width filler ++ ((48 + n) ∷ [])
+digit_alone width filler n small =
+    ap (λ ds. replicate (width + 1 - length ds) filler ++ ds) (decimal_digit n small)
+    ∙ ap (λ k. replicate k filler ++ ((48 + n) ∷ [])) (let one : width + 1 - 1 ≡ width = omega arith in one)
+
+-- the last digit, and those before it
+pub digit_behind : (width filler n : ℕ) → 10 ≤ n → n < 1000 → aligned (width + 1) filler n ≡ aligned width filler (n / 10) ++ ((48 + n % 10) ∷ [])
+digit_behind width filler n more small =
+    let front = decimal (n / 10) in
+    let last = (48 + n % 10) ∷ [] in
+    let long : width + 1 - length (front ++ last) ≡ width - length front = omega (arith, length-append front last) in
+    ap (λ ds. replicate (width + 1 - length ds) filler ++ ds) (decimal_step n more (omega arith))
+    ∙ ap (λ k. replicate k filler ++ (front ++ last)) long
+    ∙ sym (append_assoc (replicate (width - length front) filler) front last)
+
+-- two columns
+pub two_low : (filler n d : ℕ) → n < 10 → d ≡ 48 + n → filler ∷ d ∷ [] ≡ aligned 2 filler n
+two_low filler n d small is = ap (λ x. filler ∷ x ∷ []) is ∙ sym (digit_alone 1 filler n small)
+
+pub two_high : (filler n a b : ℕ) → 10 ≤ n → n < 100 → a ≡ 48 + n / 10 → b ≡ 48 + n % 10 → a ∷ b ∷ [] ≡ aligned 2 filler n
+two_high filler n a b more small first last =
+    ap (λ x. x ∷ b ∷ []) first ∙ ap (λ x. (48 + n / 10) ∷ x ∷ []) last
+    ∙ sym (digit_behind 1 filler n more (omega arith) ∙ ap (λ l. l ++ ((48 + n % 10) ∷ [])) (digit_alone 0 filler (n / 10) (omega arith)))
+
+-- three columns
+pub three_low : (filler n d : ℕ) → n < 10 → d ≡ 48 + n → filler ∷ filler ∷ d ∷ [] ≡ aligned 3 filler n
+three_low filler n d small is = ap (λ x. filler ∷ filler ∷ x ∷ []) is ∙ sym (digit_alone 2 filler n small)
+
+pub three_high : (filler n a b d : ℕ) → 10 ≤ n → n < 1000 → a ∷ b ∷ [] ≡ aligned 2 filler (n / 10) → d ≡ 48 + n % 10 → a ∷ b ∷ d ∷ [] ≡ aligned 3 filler n
+three_high filler n a b d more small front last =
+    ap (λ l. l ++ (d ∷ [])) front ∙ ap (λ x. aligned 2 filler (n / 10) ++ (x ∷ [])) last ∙ sym (digit_behind 2 filler n more small)
+
+-- a column alone
+pub one_column : (columns : List ℕ) (filler n d : ℕ) → length columns ≡ 1 → n < 10 → d ≡ 48 + n → slice_set columns 0 d ≡ aligned (length columns) filler n
+one_column [] filler n d one small is = absurd (omega arith)
+one_column (x ∷ []) filler n d one small is = ap (λ y. y ∷ []) is ∙ sym (digit_alone 0 filler n small)
+one_column (x ∷ y ∷ ys) filler n d one small is = absurd (omega arith)
+
+pub one_has_room : (columns : List ℕ) (n : ℕ) → length columns ≡ 1 → n < 10 → length (decimal n) ≤ length columns
+one_has_room columns n one small = omega (arith, ap length (decimal_digit n small))
+
+same_ascii : (k x : ℕ) → x < 128 → IsAscii (replicate k x)
+same_ascii zero x h i = omega arith
+same_ascii (suc k) x h zero = h
+same_ascii (suc k) x h (suc i) = same_ascii k x h i
+
+-- few digits with blanks or zeros before them are ASCII
+pub few_ascii : (k n : ℕ) (fill : Bool) → n < 1000 → IsAscii (replicate k (cond fill 48 32) ++ decimal n)
+few_ascii k n true low = IsAscii-append (replicate k 48) (decimal n) (same_ascii k 48 (omega arith)) (IsAscii-decimal n (omega (arith, low)))
+few_ascii k n false low = IsAscii-append (replicate k 32) (decimal n) (same_ascii k 32 (omega arith)) (IsAscii-decimal n (omega (arith, low)))
