@@ -1,6 +1,6 @@
 //! A dictionary with its id items, which are listed when they are first needed.
 
-ghost use Rattle.std.specs.Prelude.{◌≡◌, ◌<◌, ◌+◌, ◌-◌, ◌^◌, ◌++◌, ◌≤◌, ℕ, length, min, replicate, take, drop, IfOk, OnOk};
+ghost use Rattle.std.specs.Prelude.{◌≡◌, ◌<◌, ◌+◌, ◌-◌, ◌^◌, ◌++◌, ◌≤◌, ℕ, length, min, replicate, take, drop, true, IfOk, OnOk};
 ghost use Rattle.cse_lines.specs.Field.{field_at, fields_at, ids_of};
 ghost use Rattle.cse_lines.specs.Run.{line_at};
 ghost use Rattle.cse_case.specs.Fit.{line_width};
@@ -88,12 +88,9 @@ fn put_at(
     Ok(end)
 }
 
-/// Writes what stands at these places, one after the other, over others, which mostly are as many.
-fn put_fields(
-    fields: &mut Vec<char>,
-    spans: &[Span],
-    columns: Columns<'_>,
-) -> Result<(), AllocError>
+/// Writes what stands at these places, one after the other, over others.
+#[inline(never)]
+fn put_each(fields: &mut Vec<char>, spans: &[Span], columns: Columns<'_>) -> Result<(), AllocError>
     ensures { OnOk result (fields.new.items ≡ fields_at spans.now (columns_lent columns.entry)) }
 {
     let mut at = 0;
@@ -102,6 +99,37 @@ fn put_fields(
     }
     fields.truncate(at);
     Ok(())
+}
+
+/// Writes what stands at a place over as many characters, and tells whether it did: where the line reaches so far, and it is
+/// ASCII.
+#[inline(always)]
+fn put_alone(fields: &mut Vec<char>, span: Span, columns: Columns<'_>) -> bool
+    ensures { result ≡ true → fields.new.items ≡ field_at span (columns_lent columns.entry) }
+{
+    let start = (span.start as usize).saturating_sub(1);
+    let len = span.len as usize;
+    if fields.len() != len || columns.len() < start + len {
+        return false;
+    }
+    put_bytes(fields, piece(columns.bytes, start, len))
+}
+
+/// Writes what stands at these places, one after the other, over others, which mostly are as many. Mostly they are one place.
+#[inline(always)]
+fn put_fields(
+    fields: &mut Vec<char>,
+    spans: &[Span],
+    columns: Columns<'_>,
+) -> Result<(), AllocError>
+    ensures { OnOk result (fields.new.items ≡ fields_at spans.now (columns_lent columns.entry)) }
+{
+    if let [span] = spans {
+        if put_alone(fields, *span, columns) {
+            return Ok(());
+        }
+    }
+    put_each(fields, spans, columns)
 }
 
 impl<'a> Source<'a> {

@@ -1,4 +1,4 @@
-use Rattle.std.proofs.Common.{◌≡◌, ◌≤◌, ◌-◌, drop, length, length-take, ap, sym, subst, take, ◌∙◌, arith}
+use Rattle.std.proofs.Common.{◌≡◌, ◌≤◌, ap, sym, subst, take, ◌∙◌, arith}
 use Rattle.std.specs.Prelude.{IfSome}
 use Rattle.cse_dict.specs.Dictionary.{number_of_type}
 use Rattle.cse_lines.specs.Bytes.{columns_lent}

@@ -1,10 +1,8 @@
-use Rattle.std.proofs.Common.{◌≡◌, ◌++◌, ◌<◌, length, ap, sym, ◌∙◌, arith, refl}
+use Rattle.std.proofs.Common.{◌≡◌, ◌<◌, length, ap, sym, ◌∙◌, arith, refl}
 use Rattle.cse_lines.specs.Bytes.{columns_lent}
 use Rattle.cse_lines.specs.Line.{FileLine}
 use Rattle.cse_lines.specs.Columns.{id_of, line_text}
 use Rattle.cse_lines.specs.Taking.{run_id}
-use Rattle.cse_lines.specs.Decoding.{line_with}
-use Rattle.cse_lines.specs.Written.{mark_bytes, written_line}
 use Rattle.cse_lines.proofs.WrittenLaws.{line-bytes}
 use Rattle.cse_lines.proofs.LastLaws.{begins_last, last_typed}
 use Rattle.cse_lines.proofs.TakeLaws.{fault_of-many, least_fits, own_ids, with_line-read}

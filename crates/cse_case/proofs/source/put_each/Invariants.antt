@@ -1,7 +1,7 @@
 use Rattle.std.proofs.Common.{◌≡◌, ◌≤◌, length, take}
 use Rattle.cse_lines.specs.Bytes.{columns_lent}
 use Rattle.cse_lines.specs.Field.{fields_at}
-use Rattle.cse_case.proofs.source.put_fields.Given as goal
+use Rattle.cse_case.proofs.source.put_each.Given as goal
 
 abbrev pub invariant-spans : goal.invariant-spans
 invariant-spans l = record {

@@ -3,7 +3,7 @@ use Rattle.cse_lines.specs.Bytes.{columns_lent}
 use Rattle.cse_lines.specs.Field.{field_at}
 use Rattle.cse_lines.specs.declared.layout.Span.{Span}
 use Rattle.cse_case.proofs.IdLaws.{fields_at-more}
-use Rattle.cse_case.proofs.source.put_fields.Goals as goal
+use Rattle.cse_case.proofs.source.put_each.Goals as goal
 
 pub spans-preserved : goal.spans-preserved
 spans-preserved c =
