@@ -59,7 +59,7 @@ impl<'a> Model for Case<'a> {
       run = record { lines = laid_lines c.kept.value.columns c.kept.value.lines.items; marked = c.marked; first_line = c.first_line };
     } };
 
-    ghost invariant = { λ c. IsKept c.items c.kept.value.columns c.kept.value.lines.items c.kept.value.bytes.items c.is_set c.first_line c.table.value.firsts.items c.table.value.spans.items c.table.value.unseen.items };
+    ghost invariant = { λ c. IsKept c.items c.kept.value.columns c.kept.value.lines.items c.kept.value.bytes c.is_set c.first_line c.table.value.firsts.items c.table.value.spans.items c.table.value.unseen.items };
 }
 
 // Written out, so that a crate that owns a case calls this drop and does not prove one for each part.
@@ -411,7 +411,7 @@ impl<'a> Case<'a> {
         if self.is_set {
             put_lines(gatherer, out, self.kept.columns.columns(), &self.kept.lines);
         } else {
-            gatherer.put(out, &self.kept.bytes);
+            gatherer.put(out, self.kept.bytes.as_slice());
         }
     }
 

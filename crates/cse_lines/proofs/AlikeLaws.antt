@@ -205,7 +205,7 @@ written_like line width last len end plain =
 
 -- the head of a line of that form
 abbrev pub head_like : Line → Head
-head_like last = record { len = last.len; ending = last.ending; record_number = last.record_number; marked = false; beginning = Alike }
+head_like last = record { len = last.len; ending = last.ending; record_number = last.record_number; marked = false; beginning = Alike; is_ascii = true }
 
 -- a line that was pushed behind lines that lie in columns
 module _ (columns : List ℕ) (lines : List Line) (last : Line) (line : List ℕ) (laid : IsLaid 0 columns lines) (len : length (before_end line) ≡ last.len) (fits : last.len ≤ last.width) where

@@ -1,5 +1,7 @@
 -- Laws of a number that is written into a few columns.
 use Rattle.std.proofs.Common.{◌≡◌, ℕ, zero, suc, Bool, true, false, cond, ◌+◌, ◌-◌, ◌/◌, ◌%◌, ◌<◌, ◌≤◌, List, [], ◌∷◌, ◌++◌, length, replicate, ap, sym, ◌∙◌, arith, append_assoc, length-append, slice_set}
+use Rattle.std.proofs.Common.{◌^◌, inl, inr, refl}
+use Rattle.std.proofs.lemmas.Bool.{cases_lt}
 use Rattle.std.proofs.lemmas.Fmt.{decimal_digit, decimal_step}
 use Rattle.std.specs.Fmt.{decimal}
 use Rattle.std.specs.Str.{IsAscii}
@@ -49,8 +51,41 @@ one_column [] filler n d one small is = absurd (omega arith)
 one_column (x ∷ []) filler n d one small is = ap (λ y. y ∷ []) is ∙ sym (digit_alone 0 filler n small)
 one_column (x ∷ y ∷ ys) filler n d one small is = absurd (omega arith)
 
+-- all columns of two, and of three
+pub two_set : (columns : List ℕ) (a b : ℕ) → length columns ≡ 2 → slice_set (slice_set columns 0 a) 1 b ≡ a ∷ b ∷ []
+two_set [] a b len = absurd (omega arith)
+two_set (x ∷ []) a b len = absurd (omega arith)
+two_set (x ∷ y ∷ []) a b len = refl
+two_set (x ∷ y ∷ z ∷ rest) a b len = absurd (omega arith)
+
+pub three_set : (columns : List ℕ) (a b d : ℕ) → length columns ≡ 3 → slice_set (slice_set (slice_set columns 0 a) 1 b) 2 d ≡ a ∷ b ∷ d ∷ []
+three_set [] a b d len = absurd (omega arith)
+three_set (x ∷ []) a b d len = absurd (omega arith)
+three_set (x ∷ y ∷ []) a b d len = absurd (omega arith)
+three_set (x ∷ y ∷ z ∷ []) a b d len = refl
+three_set (x ∷ y ∷ z ∷ w ∷ rest) a b d len = absurd (omega arith)
+
 pub one_has_room : (columns : List ℕ) (n : ℕ) → length columns ≡ 1 → n < 10 → length (decimal n) ≤ length columns
 one_has_room columns n one small = omega (arith, ap length (decimal_digit n small))
+
+-- how many digits a number has at least
+one_digit : (n : ℕ) → n < 2 ^ 64 → 1 ≤ length (decimal n)
+one_digit n small = elim (cases_lt n 10) [
+  | inl low ↦ omega (arith, ap length (decimal_digit n low))
+  | inr high ↦ omega (arith, ap length (decimal_step n high small), length-append (decimal (n / 10)) ((48 + n % 10) ∷ []))
+]
+
+one_more : (n k : ℕ) → 10 ≤ n → n < 2 ^ 64 → k ≤ length (decimal (n / 10)) → k + 1 ≤ length (decimal n)
+one_more n k high small h = omega (arith, h, ap length (decimal_step n high small), length-append (decimal (n / 10)) ((48 + n % 10) ∷ []))
+
+pub two_digits : (n : ℕ) → 10 ≤ n → n < 2 ^ 64 → 2 ≤ length (decimal n)
+two_digits n high small = one_more n 1 high small (one_digit (n / 10) (omega arith))
+
+pub three_digits : (n : ℕ) → 100 ≤ n → n < 2 ^ 64 → 3 ≤ length (decimal n)
+three_digits n high small = one_more n 2 (omega arith) small (two_digits (n / 10) (omega arith) (omega arith))
+
+pub four_digits : (n : ℕ) → 1000 ≤ n → n < 2 ^ 64 → 4 ≤ length (decimal n)
+four_digits n high small = one_more n 3 (omega arith) small (three_digits (n / 10) (omega arith) (omega arith))
 
 same_ascii : (k x : ℕ) → x < 128 → IsAscii (replicate k x)
 same_ascii zero x h i = omega arith

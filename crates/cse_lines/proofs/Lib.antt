@@ -3,6 +3,7 @@ pub mod LaidLaws
 pub mod LineLaws
 pub mod RunLaws
 pub mod FieldLaws
+pub mod CopyLaws
 pub mod DecodeLaws
 pub mod WrittenLaws
 pub mod TakeLaws

@@ -5,6 +5,11 @@ use Rattle.std.specs.Option.{SomeIff}
 use Rattle.std.specs.Char.{IsScalar, encode_utf8}
 use Rattle.std.specs.Str.{IsUtf8, chars, is_utf8}
 use lib.Utf8.{scalars}
+use Rattle.std.proofs.Common.{append_assoc, drop, drop-drop, length}
+use Rattle.std.proofs.lemmas.List.{drop_at, take_at}
+use Rattle.std.specs.Str.{IsAscii}
+use Rattle.std.proofs.lemmas.Str.{IsUtf8-from_ascii, chars-IsAscii}
+use Rattle.cse_lines.specs.Run.{with_columns}
 use Rattle.std.proofs.lemmas.Str.{IsUtf8-append, IsUtf8-encode, IsUtf8-from_is_utf8, chars-append, chars-encodes, is_utf8-from_IsUtf8}
 
 pub two_bytes : (lead other : ℕ) → 194 ≤ lead → lead ≤ 223 → 128 ≤ other → other ≤ 191 → encode_utf8 ((lead - 192) * 64 + (other - 128)) ≡ lead ∷ other ∷ []
@@ -34,3 +39,23 @@ pub of_two : (found : Option ℕ) (lead other : ℕ) → 194 ≤ lead → lead �
     → IfSome found (λ c. encode_utf8 c ≡ lead ∷ other ∷ [])
 of_two None lead other low high least most s = tt
 of_two (Some c) lead other low high least most s = ap encode_utf8 s.1 ∙ two_bytes lead other low high least most
+
+-- a front of a text, and the bytes of ASCII behind it
+pub chars_more : (front more piece : List ℕ) → is_utf8 front ≡ true → IsAscii piece → more ≡ front ++ piece → chars more ≡ chars front ++ piece
+chars_more front more piece utf8 ascii is =
+    ap chars is ∙ chars-append front piece (IsUtf8-from_is_utf8 front utf8) ∙ ap (λ l. chars front ++ l) (chars-IsAscii piece ascii)
+
+pub utf8_more : (front more piece : List ℕ) → is_utf8 front ≡ true → IsAscii piece → more ≡ front ++ piece → is_utf8 more ≡ true
+utf8_more front more piece utf8 ascii is =
+    is_utf8-from_IsUtf8 more (subst IsUtf8 (sym is) (IsUtf8-append front piece (IsUtf8-from_is_utf8 front utf8) (IsUtf8-from_ascii piece ascii)))
+
+-- columns that are written behind those in front
+pub with_behind : (front columns field : List ℕ) (n : ℕ) → n ≡ length front → with_columns n field (front ++ drop n columns) ≡ (front ++ field) ++ drop (n + length field) columns
+with_behind front columns field n is =
+    let k = length field in
+    let rest = drop n columns in
+    let behind : drop (n + k) (front ++ rest) ≡ drop (n + k) columns =
+    sym (drop-drop k n (front ++ rest)) ∙ ap (drop k) (drop_at front rest n (sym is)) ∙ drop-drop k n columns in
+    ap (λ l. l ++ (field ++ drop (n + k) (front ++ rest))) (take_at front rest n (sym is))
+    ∙ ap (λ l. front ++ (field ++ l)) behind
+    ∙ sym (append_assoc front field (drop (n + k) columns))

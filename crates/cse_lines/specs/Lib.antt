@@ -17,3 +17,4 @@ pub mod Taking
 pub mod Alike
 pub mod Reading
 pub mod Same
+pub mod Few

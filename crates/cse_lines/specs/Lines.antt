@@ -10,7 +10,7 @@ lines_in (Some kept) = kept.value.lines.items
 
 abbrev pub bytes_in : Option (Box Lines) → List ℕ
 bytes_in None = []
-bytes_in (Some kept) = kept.value.bytes.items
+bytes_in (Some kept) = kept.value.bytes
 
 abbrev pub columns_kept : Option (Box Lines) → List ℕ
 columns_kept None = []

@@ -8,7 +8,8 @@ ghost use Rattle.cse_lines.specs.Decoding.{Holds, IfFault};
 ghost use Rattle.cse_lines.specs.Field.{padded};
 ghost use Rattle.cse_lines.specs.Run.{with_columns};
 
-use crate::columns::put_at;
+use crate::columns::{piece, put_at};
+use crate::copy::put_piece;
 use crate::decode::Stop;
 use crate::fill::put_blanks;
 use std::simd::prelude::*;
@@ -77,6 +78,40 @@ fn short_char(text: &[u8], at: usize) -> Option<(char, usize)>
     Some((column, 2))
 }
 
+/// Whether eight bytes are ASCII.
+#[inline(always)]
+fn are_ascii(text: &[u8]) -> bool
+    requires { length text.now ≡ 8 }
+    ensures { result ≡ true → IsAscii text.now }
+{
+    u8x8::from_slice(text)
+        .simd_ge(u8x8::splat(128))
+        .to_bitmask()
+        == 0
+}
+
+/// Writes the next eight bytes of a text over the columns from a place on, if they are ASCII, and tells whether they are.
+#[inline(always)]
+fn put_eight(bytes: &mut [u8], len: usize, text: &[u8], at: usize) -> bool
+    requires at { at < length text.now }
+    requires len { len ≤ at }
+    requires bytes { length text.now ≤ length bytes.old }
+    ensures fits { result ≡ true → at + 8 ≤ length text.now }
+    ensures ascii { result ≡ true → IsAscii (take 8 (drop at text.now)) }
+    ensures bytes { result ≡ true → bytes.new ≡ with_columns len (take 8 (drop at text.now)) bytes.old }
+    ensures same { result ≡ false → bytes.new ≡ bytes.old }
+{
+    if text.len() - at < 8 || text[at] >= 128 {
+        return false;
+    }
+    let eight = piece(text, at, 8);
+    if !are_ascii(eight) {
+        return false;
+    }
+    put_piece::<8>(&mut bytes[len..len + 8], eight);
+    true
+}
+
 /// Writes the characters of a text over the columns from a place on, where as many bytes of it are before them, and tells
 /// behind which column they end, if each has one or two bytes.
 fn put_short_chars(
@@ -99,10 +134,15 @@ fn put_short_chars(
     let mut at = front;
     let mut len = front;
     'chars: while at < text.len() {
-        let (column, size) = short_char(text, at)?;
-        put_at(bytes, beside, len, column);
-        len += 1;
-        at += size;
+        if put_eight(bytes, len, text, at) {
+            len += 8;
+            at += 8;
+        } else {
+            let (column, size) = short_char(text, at)?;
+            put_at(bytes, beside, len, column);
+            len += 1;
+            at += size;
+        }
     }
     Some(len)
 }
@@ -127,18 +167,6 @@ fn put_blanks_between(columns: &mut [u8], first: usize, end: usize)
     ensures { columns.new ≡ with_columns first (replicate (end - first) 32) columns.old }
 {
     put_few_blanks(&mut columns[first..end]);
-}
-
-/// Whether eight bytes are ASCII.
-#[inline(always)]
-fn are_ascii(text: &[u8]) -> bool
-    requires { length text.now ≡ 8 }
-    ensures { result ≡ true → IsAscii text.now }
-{
-    u8x8::from_slice(text)
-        .simd_ge(u8x8::splat(128))
-        .to_bitmask()
-        == 0
 }
 
 /// How many bytes from the front are ASCII, as far as eight at once are.

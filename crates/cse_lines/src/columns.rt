@@ -1,6 +1,6 @@
 //! Columns as bytes: a byte of ASCII is its column, and a column beyond ASCII stands beside the bytes.
 
-ghost use Rattle.std.specs.Prelude.{◌≡◌, ◌<◌, ◌≤◌, ◌+◌, ℕ, [], length, get_or, set, take, drop, true};
+ghost use Rattle.std.specs.Prelude.{◌≡◌, ◌<◌, ◌≤◌, ◌+◌, ℕ, [], length, get_or, set, take, drop, true, false};
 ghost use Rattle.std.specs.Str.{IsAscii};
 ghost use Rattle.std.specs.Int.{to_le_bytes, w32};
 ghost use Rattle.cse_lines.specs.Bytes.{AreBytesOf, HasRoom, columns_by, columns_in, columns_lent};
@@ -111,6 +111,7 @@ pub fn put_bytes(characters: &mut [char], bytes: &[u8]) -> bool
     requires { length characters.old ≡ length bytes.now }
     ensures characters { characters.new ≡ bytes.now }
     ensures ascii { result ≡ true → IsAscii bytes.now }
+    ensures beyond { result ≡ false → IsAscii bytes.now → ⊥ }
 {
     let mut bits = 0u8;
     'bytes: for (i, byte) in bytes.iter().enumerate() {

@@ -60,6 +60,8 @@ pub struct Head {
     pub marked: bool,
     /// How it begins beside the line before it.
     pub beginning: Beginning,
+    /// Whether it has as many columns as bytes.
+    pub is_ascii: bool,
 }
 
 /// The columns of a line of the record.
@@ -198,5 +200,6 @@ pub fn decode(
         record_number,
         marked,
         beginning,
+        is_ascii: len == text.len(),
     })
 }

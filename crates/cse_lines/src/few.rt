@@ -7,6 +7,7 @@ ghost use Rattle.std.specs.Prelude.{◌≡◌, ◌<◌, ◌≤◌, ◌+◌, ◌-
 ghost use Rattle.std.specs.Fmt.{decimal};
 ghost use Rattle.std.specs.Str.{IsAscii};
 ghost use Rattle.cse_value.specs.Field.{put_whole};
+ghost use Rattle.cse_lines.specs.Few.{IsFew};
 
 /// The character of a digit.
 #[inline(always)]
@@ -53,6 +54,7 @@ fn put_few(columns: &mut [u8], number: u64, filler: u8) -> bool
     ensures len { length columns.new ≡ length columns.old }
     ensures low { result ≡ true → number < 1000 }
     ensures room { result ≡ true → length (decimal number) ≤ length columns.old }
+    ensures some { 0 < length columns.old → length columns.old ≤ 3 → length (decimal number) ≤ length columns.old → result ≡ true }
     ensures columns { result ≡ true → columns.new ≡ replicate (length columns.old - length (decimal number)) filler ++ decimal number }
     ensures same { result ≡ false → columns.new ≡ columns.old }
 {
@@ -102,6 +104,7 @@ pub fn put_small(columns: &mut [u8], number: i64, zero_fill: bool) -> bool
     ensures len { length columns.new ≡ length columns.old }
     ensures columns { result ≡ true → columns.new ≡ put_whole (length columns.old) zero_fill number }
     ensures ascii { result ≡ true → IsAscii columns.new }
+    ensures some { 0 < length columns.old → IsFew (length columns.old) number → result ≡ true }
     ensures same { result ≡ false → columns.new ≡ columns.old }
 {
     put_few(columns, number.cast_unsigned(), filler_byte(zero_fill))

@@ -7,10 +7,12 @@ ghost use Rattle.cse_lines.specs.Decoding.{Holds, IfFault};
 ghost use Rattle.cse_lines.specs.Field.{padded};
 ghost use Rattle.cse_lines.specs.Alike.{IsPlain};
 ghost use Rattle.cse_lines.specs.Bytes.{HasRoom, columns_by, columns_in, columns_lent};
+ghost use Rattle.cse_lines.specs.Few.{IsFew};
 ghost use Rattle.cse_lines.specs.Run.{with_columns};
 
 use crate::beyond::put_beyond;
 use crate::columns::{Columns, OwnColumns};
+use crate::copy::put_beside;
 use crate::decode::Stop;
 use crate::few::put_small;
 use crate::fill::{put_blanks, put_line};
@@ -70,7 +72,8 @@ fn put_beyond_in(
 }
 
 /// Fills bytes up to a length.
-fn fill_bytes(bytes: &mut Vec<u8>, len: usize) -> Result<(), AllocError>
+#[inline(never)]
+pub(crate) fn fill_bytes(bytes: &mut Vec<u8>, len: usize) -> Result<(), AllocError>
     ensures room { OnOk result (len ≤ length bytes.new.items) }
     ensures same { take (length bytes.old.items) bytes.new.items ≡ bytes.old.items }
     ensures wide { length bytes.old.items ≤ length bytes.new.items }
@@ -122,16 +125,6 @@ fn fill_up(own: &mut OwnColumns, len: usize) -> Result<(), AllocError>
     Ok(())
 }
 
-/// Copies so many characters beside bytes over those from a place on.
-#[inline(never)]
-fn put_beside(beside: &mut Vec<char>, first: usize, len: usize, there: &[char])
-    requires room { first + len ≤ length beside.old.items }
-    requires there { len ≤ length there.now }
-    ensures { beside.new.items ≡ with_columns first (take len there.now) beside.old.items }
-{
-    beside[first..first + len].copy_from_slice(&there[..len]);
-}
-
 /// Writes columns over those from a place on. What stands beside their bytes goes along, where some are beyond ASCII.
 #[inline(always)]
 fn put_over(own: &mut OwnColumns, first: usize, len: usize, text: &OwnColumns)
@@ -154,6 +147,7 @@ fn put_few_in(bytes: &mut Vec<u8>, start: usize, len: usize, number: i64, zero_f
     requires { start + len ≤ length bytes.old.items }
     ensures bytes { result ≡ true → bytes.new.items ≡ with_columns start (put_whole len zero_fill number) bytes.old.items }
     ensures ascii { result ≡ true → IsAscii (put_whole len zero_fill number) }
+    ensures some { 0 < len → IsFew len number → result ≡ true }
     ensures same { result ≡ false → bytes.new.items ≡ bytes.old.items }
 {
     put_small(&mut bytes[start..start + len], number, zero_fill)
@@ -323,6 +317,7 @@ impl Filled {
     pub fn put_few(&mut self, start: usize, len: usize, number: i64, zero_fill: bool) -> bool
         requires { start + len ≤ length self.old }
         ensures columns { result ≡ true → self.new ≡ with_columns start (put_whole len zero_fill number) self.old }
+        ensures some { 0 < len → IsFew len number → result ≡ true }
         ensures same { result ≡ false → self.new ≡ self.old }
     {
         put_few_in(&mut self.own.bytes, start, len, number, zero_fill)

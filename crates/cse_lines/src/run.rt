@@ -15,6 +15,7 @@ use crate::columns::Columns;
 use crate::decode::Head;
 use crate::filled::Filled;
 use crate::line::Line;
+use crate::run_bytes::RunBytes;
 use std::alloc::{AllocError, Global};
 use std::marker::Model;
 
@@ -23,8 +24,10 @@ use std::marker::Model;
 #[derive(Drop)]
 pub struct Lines {
     pub lines: Vec<Line>,
-    pub bytes: Vec<u8>,
+    pub bytes: RunBytes,
     pub columns: Filled,
+    /// Whether the last line is ASCII. Behind one that isn't, no lines are looked for that are like it.
+    is_ascii: bool,
 }
 
 /// Consecutive lines with equal id columns. The columns of all lines stand in one list, one line after
@@ -66,13 +69,14 @@ impl Drop for Run {
 #[inline(never)]
 pub(crate) fn new_lines(alloc: Global) -> Result<Box<Lines>, AllocError>
     ensures lines { IfOk result (λ own. own.value.lines.items ≡ []) }
-    ensures bytes { IfOk result (λ own. own.value.bytes.items ≡ []) }
+    ensures bytes { IfOk result (λ own. own.value.bytes ≡ []) }
     ensures columns { IfOk result (λ own. own.value.columns ≡ []) }
 {
     let none = Lines {
         lines: Vec::new(alloc),
-        bytes: Vec::new(alloc),
+        bytes: RunBytes::new(alloc),
         columns: Filled::new(alloc),
+        is_ascii: true,
     };
     Ok(Box::new(alloc, none)?)
 }
@@ -141,13 +145,14 @@ impl Lines {
     fn begin(&mut self, head: Head, bytes: &[u8]) -> Result<(), AllocError>
         ensures columns { self.new.columns ≡ self.old.columns }
         ensures lines { OnOk result (self.new.lines.items ≡ line_behind [] self.old.columns head ∷ []) }
-        ensures bytes { OnOk result (self.new.bytes.items ≡ bytes.now) }
+        ensures bytes { OnOk result (self.new.bytes ≡ bytes.now) }
     {
         self.lines.clear();
-        self.bytes.clear();
+        self.bytes.truncate(0);
         let line = line_from(0, self.columns.len(), head);
-        self.bytes.extend_from_slice(bytes)?;
+        self.bytes.push(bytes)?;
         self.lines.push(line)?;
+        self.is_ascii = head.is_ascii;
         Ok(())
     }
 
@@ -156,17 +161,18 @@ impl Lines {
     fn push(&mut self, text: &Filled, head: Head, bytes: &[u8]) -> Result<(), AllocError>
         ensures columns { OnOk result (self.new.columns ≡ self.old.columns ++ text.now) }
         ensures lines { OnOk result (self.new.lines.items ≡ self.old.lines.items ++ line_behind self.old.columns text.now head ∷ []) }
-        ensures bytes { OnOk result (self.new.bytes.items ≡ self.old.bytes.items ++ bytes.now) }
+        ensures bytes { OnOk result (self.new.bytes ≡ self.old.bytes ++ bytes.now) }
         ensures same_columns { OnErr result (self.new.columns ≡ self.old.columns) }
         ensures same_lines { OnErr result (self.new.lines.items ≡ self.old.lines.items) }
-        ensures same_bytes { OnErr result (self.new.bytes.items ≡ self.old.bytes.items) }
+        ensures same_bytes { OnErr result (self.new.bytes ≡ self.old.bytes) }
     {
         let len = self.bytes.len();
-        self.bytes.extend_from_slice(bytes)?;
+        self.bytes.push(bytes)?;
         if let Err(refused) = push_line(&mut self.columns, &mut self.lines, text, head) {
             self.bytes.truncate(len);
             return Err(refused);
         }
+        self.is_ascii = head.is_ascii;
         Ok(())
     }
 
@@ -174,20 +180,20 @@ impl Lines {
     /// Tells how many bytes.
     #[inline(always)]
     fn push_alike(&mut self, width: usize, bytes: &[u8]) -> Result<usize, AllocError>
-        requires whole { IsWhole self.old.columns self.old.lines.items self.old.bytes.items }
-        ensures whole { IsWhole self.new.columns self.new.lines.items self.new.bytes.items }
+        requires whole { IsWhole self.old.columns self.old.lines.items self.old.bytes }
+        ensures whole { IsWhole self.new.columns self.new.lines.items self.new.bytes }
         ensures fits { IfOk result (λ n. n ≤ length bytes.now) }
         ensures more { IfOk result (λ n. (marked : Bool) (first_line : ℕ) → GoesOnFrom width (laid_run self.old.columns self.old.lines.items marked first_line) bytes.now (laid_run self.new.columns self.new.lines.items marked first_line) (drop n bytes.now)) }
     {
         let count = self.lines.len();
-        if count == 0 {
+        if count == 0 || !self.is_ascii {
             return Ok(0);
         }
         let last = self.lines[count - 1];
         let len = self.columns.len();
         let taken = push_lines(&mut self.columns, &mut self.lines, last, width, bytes);
         if taken > 0 {
-            if let Err(refused) = self.bytes.extend_from_slice(&bytes[..taken]) {
+            if let Err(refused) = self.bytes.push(&bytes[..taken]) {
                 self.columns.truncate(len);
                 self.lines.truncate(count);
                 return Err(refused);

@@ -1,7 +1,7 @@
 use Rattle.std.proofs.Common.{◌≡◌, get_or, inl, inr, ◌∙◌, arith}
-use Rattle.std.proofs.lemmas.Bool.{cases_lt}
+use Rattle.std.proofs.lemmas.Bool.{cases_lt, ltb-false}
 use Rattle.std.proofs.lemmas.List.{ext_get_or, get_or-set_other, get_or-set_same}
-use Rattle.std.proofs.lemmas.Nat.{le_or_l, le_or_r}
+use Rattle.std.proofs.lemmas.Nat.{le_or_l, le_or_r, or_lt}
 use Rattle.cse_lines.proofs.columns.put_bytes.Goals as goal
 
 pub bytes-preserved : goal.bytes-preserved
@@ -19,7 +19,11 @@ bytes-preserved c =
         | inl below ↦ let before = c.bytes.invariant.low k below in omega (arith, le_or_l c.bytes.bits byte)
         | inr above ↦ let last : k ≡ i = omega arith in rw last (le_or_r c.bytes.bits byte)
       ];
+      beyond = λ ascii. or_lt 7 c.bytes.bits byte (c.bytes.invariant.beyond (λ k below. ascii k (omega arith))) (ascii i (omega arith));
     }
 
 pub returns-clause-characters : goal.returns-clause-characters
 returns-clause-characters c = ext_get_or 0 _ _ (omega arith) (λ k h. c.bytes.invariant.same k (omega arith))
+
+pub returns-clause-beyond : goal.returns-clause-beyond
+returns-clause-beyond c above ascii = omega (arith, ltb-false c.bytes.bits 128 above, c.bytes.invariant.beyond (λ k _. ascii k))

@@ -59,7 +59,7 @@ invariant_of-self c =
     let within : first + (item.start - 1) + length field ≤ length old =
     omega (arith, at.whole, at.own.begins, at.own.within, entry_wide c.args.entry item.len, ap (λ (i : ItemShape). i.start) c.item.ensures.item, ap (λ (i : ItemShape). i.len) c.item.ensures.item) in
     let len : length new ≡ length old = ap length c.write_field.ensures.columns ∙ ap (λ (k : Lines). length (with_columns (first + (item.start - 1)) field k.columns)) c.deref_mut.ensures.value ∙ length-with_columns (first + (item.start - 1)) field old within in
-    subst (λ (k : Lines). IsKept v.items new k.lines.items k.bytes.items true v.first_line v.table.value.firsts.items v.table.value.spans.items v.table.value.unseen.items) (sym c.deref_mut.ensures.value)
+    subst (λ (k : Lines). IsKept v.items new k.lines.items k.bytes true v.first_line v.table.value.firsts.items v.table.value.spans.items v.table.value.unseen.items) (sym c.deref_mut.ensures.value)
     (record {
       some = c.self.invariant.some;
       wide = c.self.invariant.wide;

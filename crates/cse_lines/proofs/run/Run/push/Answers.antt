@@ -28,7 +28,7 @@ invariant_of-self-2 c =
       laid = rw (wrote, now) (IsLaid-push 0 columns c.args.columns.now lines c.args.head c.requires.fits c.self.invariant.laid);
       written = written-push (laid_lines columns lines) _ (line_with c.args.columns.now c.args.head) (bytes_in c.self.inside.lines) _ c.behind_mark-bytes.result.now c.self.invariant.written
           (c.behind_mark-bytes.ensures (written_line (line_with c.args.columns.now c.args.head)) c.requires.bytes)
-          (c.in_ok-push.ensures.bytes ∙ ap (λ bs. bs ++ c.behind_mark-bytes.result.now) (ap (λ v. v.bytes.items) c.deref_mut.ensures.value ∙ (sym (ap bytes_in c.in-Some.is) ∙ c.in_ok-keep_lines.ensures.same.bytes)))
+          (c.in_ok-push.ensures.bytes ∙ ap (λ bs. bs ++ c.behind_mark-bytes.result.now) (ap (λ v. v.bytes) c.deref_mut.ensures.value ∙ (sym (ap bytes_in c.in-Some.is) ∙ c.in_ok-keep_lines.ensures.same.bytes)))
           (pushed c.push.new.self.columns c.push.new.self.lines.items columns c.args.columns.now lines c.args.head wrote now c.self.invariant.laid);
     }
 
