@@ -10,6 +10,14 @@ use Rattle.std.proofs.lemmas.List.{drop_at, take_at}
 use Rattle.std.specs.Str.{IsAscii}
 use Rattle.std.proofs.lemmas.Str.{IsUtf8-from_ascii, chars-IsAscii}
 use Rattle.cse_lines.specs.Run.{with_columns}
+use Rattle.std.proofs.Common.{get_or, inl, inr, map, ◌<◌}
+use Rattle.std.specs.List.{prefix_len}
+use Rattle.std.specs.Prelude.{not}
+use Rattle.std.specs.Simd.Lanes.{chunk, mask_l}
+use lib.Count.{count_trailing_zeros}
+use Rattle.memchr.proofs.lemmas.LaneLemmas.{is_set}
+use Rattle.std.proofs.lemmas.Bool.{cases_eq, leb-false}
+use Rattle.std.proofs.lemmas.Simd.{length-chunk, none_from_empty_mask, run_in_chunk_fails, trailing_mask_l}
 use Rattle.std.proofs.lemmas.Str.{IsUtf8-append, IsUtf8-encode, IsUtf8-from_is_utf8, chars-append, chars-encodes, is_utf8-from_IsUtf8}
 
 pub two_bytes : (lead other : ℕ) → 194 ≤ lead → lead ≤ 223 → 128 ≤ other → other ≤ 191 → encode_utf8 ((lead - 192) * 64 + (other - 128)) ≡ lead ∷ other ∷ []
@@ -59,3 +67,16 @@ with_behind front columns field n is =
     ap (λ l. l ++ (field ++ drop (n + k) (front ++ rest))) (take_at front rest n (sym is))
     ∙ ap (λ l. front ++ (field ++ l)) behind
     ∙ sym (append_assoc front field (drop (n + k) columns))
+
+-- the bytes before the first one whose bit is set
+pub before_mask : (text : List ℕ) (n mask at : ℕ) → length text ≡ n → n ≤ 64 → mask ≡ mask_l (map is_set (chunk 0 n text)) → at ≡ count_trailing_zeros 64 mask
+    → (k : ℕ) → k < at → k < n → get_or text k 0 < 128
+unfolding count_trailing_zeros
+before_mask text n mask at len few is found k low below =
+    let part : length (chunk 0 n text) ≡ n = length-chunk 0 n text (omega (arith, len)) in
+    elim (cases_eq mask 0) [
+      | inl none ↦ leb-false 128 (get_or text k 0) (none_from_empty_mask is_set text 0 n 0 (omega (arith, len)) (sym is ∙ none) k (omega arith) (omega arith))
+      | inr some ↦
+          let counted : at ≡ prefix_len (λ x. not (is_set x)) (chunk 0 n text) = found ∙ ap (count_trailing_zeros 64) is ∙ trailing_mask_l is_set 64 (chunk 0 n text) (omega (arith, part)) (omega (arith, is)) in
+          leb-false 128 (get_or text k 0) (run_in_chunk_fails is_set text 0 n at 0 (omega (arith, len)) counted k (omega arith) (omega arith))
+    ]

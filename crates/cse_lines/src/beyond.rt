@@ -169,14 +169,30 @@ fn put_blanks_between(columns: &mut [u8], first: usize, end: usize)
     put_few_blanks(&mut columns[first..end]);
 }
 
-/// How many bytes from the front are ASCII, as far as eight at once are.
+/// How many of eight bytes stand before the first that isn't ASCII.
+#[inline(always)]
+fn ascii_count(text: &[u8]) -> usize
+    requires { length text.now ≡ 8 }
+    ensures fits { result ≤ 8 }
+    ensures ascii { IsAscii (take result text.now) }
+{
+    let beyond = u8x8::from_slice(text).simd_ge(u8x8::splat(128));
+    let count = beyond.to_bitmask().trailing_zeros() as usize;
+    count.min(8)
+}
+
+/// How many bytes from the front are ASCII, as far as eight at once are looked at.
 fn ascii_front(text: &[u8]) -> usize
     ensures fits { result ≤ length text.now }
     ensures ascii { IsAscii (take result text.now) }
 {
     let mut at = 0;
-    'eights: while 8 <= text.len() - at && are_ascii(&text[at..at + 8]) {
-        at += 8;
+    'eights: while 8 <= text.len() - at {
+        let count = ascii_count(piece(text, at, 8));
+        at += count;
+        if count < 8 {
+            return at;
+        }
     }
     at
 }
