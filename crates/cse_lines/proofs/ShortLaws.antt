@@ -9,8 +9,11 @@ use Rattle.std.proofs.Common.{append_assoc, drop, drop-drop, length}
 use Rattle.std.proofs.lemmas.List.{drop_at, take_at}
 use Rattle.std.specs.Str.{IsAscii}
 use Rattle.std.proofs.lemmas.Str.{IsUtf8-from_ascii, chars-IsAscii}
+use Rattle.cse_lines.specs.Bytes.{columns_by}
 use Rattle.cse_lines.specs.Run.{with_columns}
-use Rattle.std.proofs.Common.{get_or, inl, inr, map, ◌<◌}
+use Rattle.cse_lines.proofs.BytesLaws.{with_ascii}
+use Rattle.cse_lines.proofs.DecodeLaws.{set_behind}
+use Rattle.std.proofs.Common.{get_or, inl, inr, map, set, take, ◌<◌, length-append, length-drop, length-take-le, take-add, take-append-drop}
 use Rattle.std.specs.List.{prefix_len}
 use Rattle.std.specs.Prelude.{not}
 use Rattle.std.specs.Simd.Lanes.{chunk, mask_l}
@@ -80,3 +83,57 @@ before_mask text n mask at len few is found k low below =
           let counted : at ≡ prefix_len (λ x. not (is_set x)) (chunk 0 n text) = found ∙ ap (count_trailing_zeros 64) is ∙ trailing_mask_l is_set 64 (chunk 0 n text) (omega (arith, part)) (omega (arith, is)) in
           leb-false 128 (get_or text k 0) (run_in_chunk_fails is_set text 0 n at 0 (omega (arith, len)) counted k (omega arith) (omega arith))
     ]
+
+-- nothing is written
+pub with_none : (at : ℕ) (columns : List ℕ) → with_columns at [] columns ≡ columns
+with_none at columns = (let e : at + 0 ≡ at = omega arith in ap (λ n. take at columns ++ drop n columns) e) ∙ take-append-drop at columns
+
+-- columns that are written behind others that were written
+pub with_further : (at : ℕ) (field more columns : List ℕ) → at + length field ≤ length columns → with_columns (at + length field) more (with_columns at field columns) ≡ with_columns at (field ++ more) columns
+with_further at field more columns fits =
+    let n = at + length field in
+    let front = take at columns ++ field in
+    let len : n ≡ length front = omega (arith, length-append (take at columns) field, length-take-le at columns (omega (arith, fits))) in
+    let end : n + length more ≡ at + length (field ++ more) = omega (arith, length-append field more) in
+    ap (with_columns n more) (sym (append_assoc (take at columns) field (drop n columns)))
+    ∙ with_behind front columns more n len
+    ∙ ap (λ k. (front ++ more) ++ drop k columns) end
+    ∙ append_assoc front more (drop (at + length (field ++ more)) columns)
+    ∙ append_assoc (take at columns) field (more ++ drop (at + length (field ++ more)) columns)
+    ∙ ap (λ l. take at columns ++ l) (sym (append_assoc field more (drop (at + length (field ++ more)) columns)))
+
+-- the next pieces of a text
+pub next_piece : (text : List ℕ) (at count : ℕ) → take count (drop at text) ++ take 8 (drop (at + count) text) ≡ take (count + 8) (drop at text)
+next_piece text at count = ap (λ l. take count (drop at text) ++ take 8 l) (sym (drop-drop count at text)) ∙ sym (take-add count 8 (drop at text))
+
+-- what was written of a text, with one character more
+pub one_char : (text first all new : List ℕ) (at len size column : ℕ) → is_utf8 (take at text) ≡ true → len ≡ length (chars (take at text)) → all ≡ chars (take at text) ++ drop len first → len < length first
+    → IsScalar column → take (at + size) text ≡ take at text ++ encode_utf8 column → new ≡ set all len column
+    → (is_utf8 (take (at + size) text) ≡ true) × (len + 1 ≡ length (chars (take (at + size) text))) × (new ≡ chars (take (at + size) text) ++ drop (len + 1) first)
+one_char text first all new at len size column utf8 count were room scalar written wrote =
+    let front = take at text in
+    let is = chars_next front (take (at + size) text) column utf8 scalar written in (
+      utf8_next front (take (at + size) text) column utf8 scalar written,
+      omega (arith, count, ap length is, length-append (chars front) (column ∷ [])),
+      wrote ∙ ap (λ l. set l len column) were ∙ set_behind (chars front) first len column count room ∙ ap (λ l. l ++ drop (len + 1) first) (sym is),
+    )
+
+-- and with bytes of ASCII more
+pub more_bytes : (text first bytes beside new : List ℕ) (at len n : ℕ) → is_utf8 (take at text) ≡ true → len ≡ length (chars (take at text)) → columns_by bytes beside ≡ chars (take at text) ++ drop len first
+    → at + n ≤ length text → IsAscii (take n (drop at text)) → len + n ≤ length bytes → new ≡ with_columns len (take n (drop at text)) bytes
+    → (is_utf8 (take (at + n) text) ≡ true) × (len + n ≡ length (chars (take (at + n) text))) × (columns_by new beside ≡ chars (take (at + n) text) ++ drop (len + n) first)
+more_bytes text first bytes beside new at len n utf8 count were within ascii room wrote =
+    let front = take at text in
+    let piece = take n (drop at text) in
+    let long : length piece ≡ n = length-take-le n (drop at text) (omega (arith, within, length-drop at text)) in
+    let more : take (at + n) text ≡ front ++ piece = take-add at n text in
+    let is = chars_more front (take (at + n) text) piece utf8 ascii more in (
+      utf8_more front (take (at + n) text) piece utf8 ascii more,
+      omega (arith, count, ap length is, length-append (chars front) piece, long),
+      ap (λ l. columns_by l beside) wrote
+          ∙ with_ascii len piece bytes beside ascii (omega (arith, long, room))
+          ∙ ap (with_columns len piece) were
+          ∙ with_behind (chars front) first piece len count
+          ∙ ap (λ l. l ++ drop (len + length piece) first) (sym is)
+          ∙ ap (λ k. chars (take (at + n) text) ++ drop (len + k) first) long,
+    )

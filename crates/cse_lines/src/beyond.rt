@@ -93,7 +93,7 @@ fn are_ascii(text: &[u8]) -> bool
 /// Writes the next eight bytes of a text over the columns from a place on, if they are ASCII, and tells whether they are.
 #[inline(always)]
 fn put_eight(bytes: &mut [u8], len: usize, text: &[u8], at: usize) -> bool
-    requires at { at < length text.now }
+    requires at { at ≤ length text.now }
     requires len { len ≤ at }
     requires bytes { length text.now ≤ length bytes.old }
     ensures fits { result ≡ true → at + 8 ≤ length text.now }
@@ -110,6 +110,24 @@ fn put_eight(bytes: &mut [u8], len: usize, text: &[u8], at: usize) -> bool
     }
     put_piece::<8>(&mut bytes[len..len + 8], eight);
     true
+}
+
+/// Writes the next bytes of a text over the columns from a place on, eight at once, as long as these are ASCII, and tells
+/// how many.
+#[inline(always)]
+fn put_eights(bytes: &mut [u8], len: usize, text: &[u8], at: usize) -> usize
+    requires at { at ≤ length text.now }
+    requires len { len ≤ at }
+    requires bytes { length text.now ≤ length bytes.old }
+    ensures fits { at + result ≤ length text.now }
+    ensures ascii { IsAscii (take result (drop at text.now)) }
+    ensures bytes { bytes.new ≡ with_columns len (take result (drop at text.now)) bytes.old }
+{
+    let mut count = 0;
+    'eights: while put_eight(bytes, len + count, text, at + count) {
+        count += 8;
+    }
+    count
 }
 
 /// Writes the characters of a text over the columns from a place on, where as many bytes of it are before them, and tells
@@ -134,14 +152,14 @@ fn put_short_chars(
     let mut at = front;
     let mut len = front;
     'chars: while at < text.len() {
-        if put_eight(bytes, len, text, at) {
-            len += 8;
-            at += 8;
-        } else {
-            let (column, size) = short_char(text, at)?;
-            put_at(bytes, beside, len, column);
-            len += 1;
-            at += size;
+        let (column, size) = short_char(text, at)?;
+        put_at(bytes, beside, len, column);
+        len += 1;
+        at += size;
+        if size == 2 {
+            let count = put_eights(bytes, len, text, at);
+            len += count;
+            at += count;
         }
     }
     Some(len)
@@ -188,11 +206,11 @@ fn ascii_front(text: &[u8]) -> usize
 {
     let mut at = 0;
     'eights: while 8 <= text.len() - at {
-        let count = ascii_count(piece(text, at, 8));
-        at += count;
-        if count < 8 {
-            return at;
+        let eight = piece(text, at, 8);
+        if !are_ascii(eight) {
+            return at + ascii_count(eight);
         }
+        at += 8;
     }
     at
 }

@@ -11,12 +11,16 @@ further text piece at count is few front more =
     let same : take count piece ≡ take count (drop at text) = ap (take count) is ∙ take-take count 8 (drop at text) few in
     subst IsAscii (ap (λ l. take at text ++ l) same ∙ sym (take-add at count text)) (IsAscii-append (take at text) (take count piece) front more)
 
-pub returns-then-count-lt8-clause-ascii : goal.returns-then-count-lt8-clause-ascii
-returns-then-count-lt8-clause-ascii c =
-    further c.args.text.now c.piece.result.now c.eights.at c.ascii_count-count.result c.piece.ensures c.ascii_count-count.ensures.fits c.eights.invariant.ascii c.ascii_count-count.ensures.ascii
-
 pub eights-preserved : goal.eights-preserved
-eights-preserved c = record {
-  fits = omega (arith, c.eights-test.true, c.eights.invariant.fits, c.ascii_count-count.ensures.fits);
-  ascii = further c.args.text.now c.piece.result.now c.eights.at c.ascii_count-count.result c.piece.ensures c.ascii_count-count.ensures.fits c.eights.invariant.ascii c.ascii_count-count.ensures.ascii;
-}
+eights-preserved c =
+    let text = c.args.text.now in
+    let at = c.eights.at in
+    let more : take 8 (drop at text) ≡ c.piece-eight.result.now = sym c.piece-eight.ensures in
+    record {
+      fits = omega (arith, c.eights-test.true, c.eights.invariant.fits);
+      ascii = subst IsAscii (ap (λ l. take at text ++ l) (sym more) ∙ sym (take-add at 8 text)) (IsAscii-append (take at text) c.piece-eight.result.now c.eights.invariant.ascii (c.are_ascii.ensures c.if-not-are_ascii.false));
+    }
+
+pub returns-then-not-are_ascii-clause-ascii : goal.returns-then-not-are_ascii-clause-ascii
+returns-then-not-are_ascii-clause-ascii c =
+    further c.args.text.now c.piece-eight.result.now c.eights.at c.ascii_count.result c.piece-eight.ensures c.ascii_count.ensures.fits c.eights.invariant.ascii c.ascii_count.ensures.ascii

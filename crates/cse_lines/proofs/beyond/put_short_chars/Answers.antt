@@ -1,13 +1,11 @@
-use Rattle.std.proofs.Common.{◌≡◌, ◌<◌, ◌+◌, ◌++◌, ◌∷◌, [], length, set, take, drop, sym, ap, ◌∙◌, refl, arith, length-append, length-take-le, take-append-drop}
+use Rattle.std.proofs.Common.{◌≡◌, ◌<◌, ◌+◌, ◌++◌, length, take, drop, sym, ap, ◌∙◌, refl, arith, length-take-le, take-append-drop}
 use Rattle.std.proofs.lemmas.Str.{IsUtf8-from_ascii, IsUtf8-from_is_utf8, chars-IsAscii, is_utf8-from_IsUtf8}
 use Rattle.std.specs.Str.{chars}
 use Rattle.cse_lines.specs.Bytes.{columns_by}
 use Rattle.cse_lines.proofs.BytesLaws.{length-columns_by}
-use Rattle.cse_lines.proofs.DecodeLaws.{chars_fit, set_behind}
-use Rattle.cse_lines.proofs.ShortLaws.{chars_more, chars_next, utf8_more, utf8_next, with_behind}
-use Rattle.std.proofs.Common.{◌≤◌, take-add, length-drop}
-use Rattle.cse_lines.specs.Run.{with_columns}
-use Rattle.cse_lines.proofs.BytesLaws.{with_ascii}
+use Rattle.cse_lines.proofs.DecodeLaws.{chars_fit}
+use Rattle.cse_lines.proofs.ShortLaws.{more_bytes, one_char}
+use Rattle.std.proofs.Common.{◌≤◌, length-drop}
 use Rattle.cse_lines.proofs.LaidLaws.{length-with_columns}
 use Rattle.cse_lines.proofs.beyond.put_short_chars.Goals as goal
 
@@ -36,65 +34,66 @@ put_at-requires c =
       beside = omega (arith, few, len, c.chars.invariant.count, c.chars.invariant.room, c.requires.bytes, c.requires.beside, c.in_ok-column.ensures.fits, c.in_ok-column.ensures.some);
     }
 
-pub put_eight-requires-clause-len : goal.put_eight-requires-clause-len
-put_eight-requires-clause-len c =
-    let front = take c.chars.at c.args.text.now in
-    omega (arith, chars_fit front (IsUtf8-from_is_utf8 front c.chars.invariant.utf8), length-take-le c.chars.at c.args.text.now c.chars.invariant.fits, c.chars.invariant.count)
-
-pub overflow_add-len-else-put_eight : goal.overflow_add-len-else-put_eight
-overflow_add-len-else-put_eight c =
+pub overflow_add-len : goal.overflow_add-len
+overflow_add-len c =
     let front = take c.chars.at c.args.text.now in
     omega (arith, chars_fit front (IsUtf8-from_is_utf8 front c.chars.invariant.utf8), length-take-le c.chars.at c.args.text.now c.chars.invariant.fits, c.chars.invariant.count, c.chars.auto.at-fits, c.chars-test.true)
 
-pub chars-preserved-then-put_eight : goal.chars-preserved-then-put_eight
-chars-preserved-then-put_eight c =
-    let text = c.args.text.now in
-    let at = c.chars.at in
-    let front = take at text in
-    let piece = take 8 (drop at text) in
-    let done = c.if-put_eight.true in
-    let first = columns_by c.args.bytes.now c.args.beside.now in
-    let within = c.put_eight.ensures.fits done in
-    let ascii = c.put_eight.ensures.ascii done in
-    let long : length piece ≡ 8 = length-take-le 8 (drop at text) (omega (arith, within, length-drop at text)) in
-    let more : take (at + 8) text ≡ front ++ piece = take-add at 8 text in
-    let is = chars_more front (take (at + 8) text) piece c.chars.invariant.utf8 ascii more in
-    let few = chars_fit front (IsUtf8-from_is_utf8 front c.chars.invariant.utf8) in
-    let room : c.chars.len + length piece ≤ length c.chars.bytes =
-    omega (arith, few, long, within, length-take-le at text c.chars.invariant.fits, c.chars.invariant.count, c.chars.invariant.wide, c.requires.bytes) in
-    let wrote = c.put_eight.ensures.bytes done in
-    record {
-      fits = within;
-      utf8 = utf8_more front (take (at + 8) text) piece c.chars.invariant.utf8 ascii more;
-      count = omega (arith, c.chars.invariant.count, ap length is, length-append (chars front) piece, long);
-      wide = ap length wrote ∙ length-with_columns c.chars.len piece c.chars.bytes room ∙ c.chars.invariant.wide;
-      room = c.chars.invariant.room;
-      columns = ap (λ l. columns_by l c.chars.beside) wrote
-          ∙ with_ascii c.chars.len piece c.chars.bytes c.chars.beside ascii room
-          ∙ ap (with_columns c.chars.len piece) c.chars.invariant.columns
-          ∙ with_behind (chars front) first piece c.chars.len c.chars.invariant.count
-          ∙ ap (λ l. l ++ drop (c.chars.len + length piece) first) (sym is)
-          ∙ ap (λ n. chars (take (at + 8) text) ++ drop (c.chars.len + n) first) long;
-    }
+pub put_eights-count-requires-clause-len : goal.put_eights-count-requires-clause-len
+put_eights-count-requires-clause-len c =
+    let front = take c.chars.at c.args.text.now in
+    omega (arith, chars_fit front (IsUtf8-from_is_utf8 front c.chars.invariant.utf8), length-take-le c.chars.at c.args.text.now c.chars.invariant.fits, c.chars.invariant.count, c.in_ok-column.ensures.some)
+
+pub overflow_add-len-then-size-eq2 : goal.overflow_add-len-then-size-eq2
+overflow_add-len-then-size-eq2 c =
+    let front = take c.chars.at c.args.text.now in
+    omega (arith, chars_fit front (IsUtf8-from_is_utf8 front c.chars.invariant.utf8), length-take-le c.chars.at c.args.text.now c.chars.invariant.fits, c.chars.invariant.count, c.in_ok-column.ensures.some, c.put_eights-count.ensures.fits, c.type_inv)
 
 pub chars-preserved : goal.chars-preserved
 chars-preserved c =
     let text = c.args.text.now in
-    let front = take c.chars.at text in
-    let column = c.in_ok-column.column in
+    let at = c.chars.at in
+    let len = c.chars.len in
+    let front = take at text in
     let first = columns_by c.args.bytes.now c.args.beside.now in
-    let same = c.put_eight.ensures.same c.if-put_eight.false in
     let few = chars_fit front (IsUtf8-from_is_utf8 front c.chars.invariant.utf8) in
-    let room : c.chars.len < length first =
-    omega (arith, few, length-take-le c.chars.at text c.chars.invariant.fits, c.chars.invariant.count, c.requires.bytes, length-columns_by c.args.bytes.now c.args.beside.now, c.in_ok-column.ensures.fits, c.in_ok-column.ensures.some) in
-    let is = chars_next front _ column c.chars.invariant.utf8 c.in_ok-column.ensures.scalar c.in_ok-column.ensures.written in
+    let room : len < length first =
+    omega (arith, few, length-take-le at text c.chars.invariant.fits, c.chars.invariant.count, c.requires.bytes, length-columns_by c.args.bytes.now c.args.beside.now, c.in_ok-column.ensures.fits, c.in_ok-column.ensures.some) in
+    let one = one_char text first (columns_by c.chars.bytes c.chars.beside) (columns_by c.put_at.new.bytes c.put_at.new.beside) at len _ c.in_ok-column.column c.chars.invariant.utf8 c.chars.invariant.count
+    c.chars.invariant.columns room c.in_ok-column.ensures.scalar c.in_ok-column.ensures.written c.put_at.ensures.columns in
     record {
       fits = c.in_ok-column.ensures.fits;
-      utf8 = utf8_next front _ column c.chars.invariant.utf8 c.in_ok-column.ensures.scalar c.in_ok-column.ensures.written;
-      count = omega (arith, c.chars.invariant.count, ap length is, length-append (chars front) (column ∷ []));
-      wide = c.put_at.ensures.len ∙ ap length same ∙ c.chars.invariant.wide;
+      utf8 = one.0;
+      count = one.1;
+      wide = c.put_at.ensures.len ∙ c.chars.invariant.wide;
       room = c.put_at.ensures.room ∙ c.chars.invariant.room;
-      columns = c.put_at.ensures.columns ∙ ap (λ l. set (columns_by l c.chars.beside) c.chars.len column) same
-          ∙ ap (λ l. set l c.chars.len column) c.chars.invariant.columns
-          ∙ set_behind (chars front) first c.chars.len column c.chars.invariant.count room ∙ ap (λ l. l ++ drop (c.chars.len + 1) first) (sym is);
+      columns = one.2;
+    }
+
+pub chars-preserved-then-size-eq2 : goal.chars-preserved-then-size-eq2
+chars-preserved-then-size-eq2 c =
+    let text = c.args.text.now in
+    let at = c.chars.at in
+    let len = c.chars.len in
+    let behind = at + c.in_ok-column.size in
+    let front = take at text in
+    let first = columns_by c.args.bytes.now c.args.beside.now in
+    let few = chars_fit front (IsUtf8-from_is_utf8 front c.chars.invariant.utf8) in
+    let here = length-take-le at text c.chars.invariant.fits in
+    let wide : length c.put_at.new.bytes ≡ length c.args.bytes.now = c.put_at.ensures.len ∙ c.chars.invariant.wide in
+    let room : len < length first =
+    omega (arith, few, here, c.chars.invariant.count, c.requires.bytes, length-columns_by c.args.bytes.now c.args.beside.now, c.in_ok-column.ensures.fits, c.in_ok-column.ensures.some) in
+    let one = one_char text first (columns_by c.chars.bytes c.chars.beside) (columns_by c.put_at.new.bytes c.put_at.new.beside) at len _ c.in_ok-column.column c.chars.invariant.utf8 c.chars.invariant.count
+    c.chars.invariant.columns room c.in_ok-column.ensures.scalar c.in_ok-column.ensures.written c.put_at.ensures.columns in
+    let fits : len + 1 + c.put_eights-count.result ≤ length c.put_at.new.bytes =
+    omega (arith, few, here, wide, c.chars.invariant.count, c.requires.bytes, c.in_ok-column.ensures.some, c.put_eights-count.ensures.fits) in
+    let more = more_bytes text first c.put_at.new.bytes c.put_at.new.beside c.put_eights-count.new.bytes _ (len + 1) c.put_eights-count.result one.0 one.1 one.2 c.put_eights-count.ensures.fits c.put_eights-count.ensures.ascii fits c.put_eights-count.ensures.bytes in
+    let long : length (take c.put_eights-count.result (drop behind text)) ≡ c.put_eights-count.result = length-take-le c.put_eights-count.result (drop behind text) (omega (arith, c.put_eights-count.ensures.fits, length-drop behind text)) in
+    record {
+      fits = c.put_eights-count.ensures.fits;
+      utf8 = more.0;
+      count = more.1;
+      wide = ap length c.put_eights-count.ensures.bytes ∙ length-with_columns (len + 1) _ c.put_at.new.bytes (omega (arith, long, fits)) ∙ wide;
+      room = c.put_at.ensures.room ∙ c.chars.invariant.room;
+      columns = more.2;
     }
