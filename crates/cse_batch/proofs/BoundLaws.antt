@@ -41,17 +41,17 @@ store_after_case v law store t kept fit same = by (is_case (records_of t) (types
     by true = (fits_after v law (Some t) refl (unedited store t) (case_events v.image (occurrences_in (Some t))) fits (case_there v.image (occurrences_in (Some t)))).store
     by false = kept
 
-store_after_run : (v : VerifiedProgram) → EventsEnd v → (p : Progress) (run : List FileLine) → 0 < length run → StoreFits v.image p.store → StoreFits v.image (after_run v p run).store
+pub store_after_run : (v : VerifiedProgram) → EventsEnd v → (p : Progress) (run : List FileLine) → 0 < length run → StoreFits v.image p.store → StoreFits v.image (after_run v p run).store
 unfolding after_run
 store_after_run v law p run some kept = store_after_case v law p.store (next_case v p run) kept (fits_read v.dictionary (next_case v p run).ids (p.lines + 1) run some) refl
 
-store_begun : (v : VerifiedProgram) → EventsEnd v → (store : Kept) → StoreFits v.image store → StoreFits v.image (begun v store).store
+pub store_begun : (v : VerifiedProgram) → EventsEnd v → (store : Kept) → StoreFits v.image store → StoreFits v.image (begun v store).store
 unfolding begun after_application
 store_begun v law store kept = (ends_well v law (without_case store) (moment codes.ApplicationPreproc 0 0) (fits_application v codes.ApplicationPreproc store refl tt kept)).fits.store
 
 -- ---- each given run has a line
 
-abbrev AllSome : List (List FileLine) → Type 0
+abbrev pub AllSome : List (List FileLine) → Type 0
 AllSome [] = Unit {0}
 AllSome (run ∷ runs) = (0 < length run) × AllSome runs
 
@@ -78,7 +78,7 @@ some_before d (Some fault) ended lines = some_but_last (runs_of d (take (fault.0
 some_before d None true lines = some_in d lines
 some_before d None false lines = some_but_last (runs_of d lines) (some_in d lines)
 
-some_given : (d : DictionaryText) (ended : Bool) (lines : List FileLine) → AllSome (given_of d ended lines)
+pub some_given : (d : DictionaryText) (ended : Bool) (lines : List FileLine) → AllSome (given_of d ended lines)
 unfolding given_of
 some_given d ended lines = some_before d (first_fault d [] 0 lines) ended lines
 
