@@ -1,5 +1,5 @@
 //! A plain Rust program that does the work of a copy case by case, to compare times with those that
-//! `cse_bench` and `whole.py` print.
+//! `times.py` and `whole.py` print.
 //!
 //!     rustc -O copy.rs && ./copy            3,000,000 short lines in memory, three to a household, with six id columns
 //!     ./copy IN OUT                         a file, with three id columns
