@@ -1,0 +1,206 @@
+#!/usr/bin/env python3
+"""Keeps what the gate costs: processor seconds by crate, for its proof, its tests and its edits.
+
+usage: docs/gate-cost.py ./gate --anew     runs this, or any `rt` command, and writes what it took to docs/gate-cost.csv
+       docs/gate-cost.py --to FILE WORD..  the same into another file
+       docs/gate-cost.py --table           puts docs/gate-cost.csv into docs/GATE.md as a table
+       docs/gate-cost.py --current         sees that this table is the one that --table would put there
+
+Beforehand it times one program that is always the same, so that the tables of two machines can be compared. While the command
+runs, it looks at the checks below it twice a second, so each one is short by half a second at most. The table is printed too,
+to standard error. Where the command fails nothing is written. The status is the command's.
+"""
+import collections
+import csv
+import os
+import re
+import subprocess
+import sys
+import time
+
+ROOT = os.path.dirname(os.path.dirname(os.path.realpath(__file__)))
+FILE = os.path.join(ROOT, "docs/gate-cost.csv")
+PAGE = os.path.join(ROOT, "docs/GATE.md")
+MARKS = "<!-- docs/gate-cost.py writes this table -->\n", "<!-- the table ends -->\n"
+KINDS = "proof", "tests", "edits", "all"
+SHOWN = 5
+TICK = os.sysconf("SC_CLK_TCK")
+
+
+def fixed_program():
+    """The processor seconds of a program that is always the same: sums, products and a table of 4,096 places."""
+    began, table, number = time.process_time(), {}, 1
+    for turn in range(4_000_000):
+        number = (number * 1_103_515_245 + 12_345) % 2_147_483_648
+        table[number >> 19] = turn
+    return time.process_time() - began
+
+
+def said(*words):
+    try:
+        return subprocess.run(words, cwd=ROOT, capture_output=True, text=True).stdout.strip()
+    except OSError:
+        return ""
+
+
+def machine():
+    """What the table is of: the machine with its speed, the kit, the day and the text."""
+    with open("/proc/cpuinfo", encoding="utf-8") as file:
+        model = re.search(r"(?m)^model name\s*: (.*)$", file.read())
+    return {
+        "machine": model[1] if model else os.uname().machine,
+        "processors": len(os.sched_getaffinity(0)),
+        "speed": f"{min(fixed_program() for _ in range(3)):.2f}",
+        "kit": said("rt", "version"),
+        "date": time.strftime("%Y-%m-%d"),
+        "commit": said("git", "describe", "--always", "--dirty"),
+    }
+
+
+def processes():
+    """Each process: its id, its parent, when it began, its name and its processor seconds."""
+    for pid in filter(str.isdigit, os.listdir("/proc")):
+        try:
+            with open(f"/proc/{pid}/stat", encoding="utf-8", errors="replace") as file:
+                name, _, rest = file.read().partition(" (")[2].rpartition(") ")
+        except OSError:
+            continue
+        words = rest.split()
+        yield int(pid), int(words[1]), words[19], name, (int(words[11]) + int(words[12])) / TICK
+
+
+def check_of(pid):
+    """The crate and the kind of the check that a process is, or nothing."""
+    try:
+        with open(f"/proc/{pid}/cmdline", encoding="utf-8", errors="replace") as file:
+            words = file.read().split("\0")
+        where = os.readlink(f"/proc/{pid}/cwd")
+    except OSError:
+        return None
+    if not words[0].endswith("/rattle"):
+        return None
+    crate = words[words.index("--crate-name") + 1] if "--crate-name" in words else os.path.basename(where)
+    return crate, "edits" if "/rt-edit-" in where else "tests" if "--test" in words else "proof"
+
+
+def look(root, checks, seconds):
+    """Notes the processor seconds of each check below a process."""
+    there = {pid: (parent, began, name, used) for pid, parent, began, name, used in processes()}
+    below = {root}
+    for pid in there:
+        path = []
+        while pid in there and pid not in below:
+            path.append(pid)
+            pid = there[pid][0]
+        below.update(path if pid in below else [])
+    for pid in below & there.keys():
+        _, began, name, used = there[pid]
+        # (the name changes where a process becomes another program)
+        key = pid, began, name
+        if key not in checks:
+            checks[key] = check_of(pid)
+        if checks[key]:
+            seconds[key] = used
+
+
+def run(words):
+    """Runs a command: its status, and the costs of its checks by crate."""
+    checks, seconds = {}, {}
+    with subprocess.Popen(words) as it:
+        while it.poll() is None:
+            look(it.pid, checks, seconds)
+            try:
+                it.wait(0.5)
+            except subprocess.TimeoutExpired:
+                pass
+    costs = collections.defaultdict(lambda: dict.fromkeys(KINDS, 0))
+    for key, used in seconds.items():
+        crate, kind = checks[key]
+        costs[crate][kind] += used
+        costs[crate]["all"] += used
+    return it.returncode, {crate: {kind: round(used) for kind, used in cost.items()} for crate, cost in costs.items()}
+
+
+def dearest_first(costs):
+    return sorted(costs.items(), key=lambda it: (-it[1]["all"], it[0]))
+
+
+def write(path, head, costs):
+    with open(path, "w", encoding="utf-8", newline="") as file:
+        rows = csv.writer(file, lineterminator="\n")
+        rows.writerows(head.items())
+        rows.writerow(["crate", *KINDS])
+        rows.writerows([crate, *cost.values()] for crate, cost in dearest_first(costs))
+
+
+def read(path):
+    with open(path, encoding="utf-8", newline="") as file:
+        rows = list(csv.reader(file))
+    start = next(at for at, row in enumerate(rows) if row[0] == "crate")
+    costs = {crate: dict(zip(KINDS, map(int, numbers))) for crate, *numbers in rows[start + 1 :]}
+    return dict(rows[:start]), costs
+
+
+def longest_chain(costs):
+    """The crates that wait for one another the longest, by their proofs, and how many seconds these take."""
+    with open(os.path.join(ROOT, "crates.txt"), encoding="utf-8") as file:
+        lines = {name: uses.split() for name, uses in re.findall(r"(?m)^(\w+)[^:\n]*:(.*)$", file.read())}
+    chains = {}
+
+    def chain(name):
+        if name not in chains:
+            seconds, path = max([chain(it) for it in lines[name] if it in lines], default=(0, []))
+            chains[name] = seconds + costs.get(name, {}).get("proof", 0), [*path, name]
+        return chains[name]
+
+    return max(chain(name) for name in lines)
+
+
+def table(head, costs):
+    """The lines of the table: the dearest crates, the others together, and the sums; then what they are of."""
+    ordered = dearest_first(costs)
+    row = lambda name, cells: f"| {name} | {' | '.join(str(it) for it in cells)} |\n"
+    yield row("processor seconds", KINDS)
+    yield "|---" * (len(KINDS) + 1) + "|\n"
+    for crate, cost in ordered[:SHOWN]:
+        yield row(crate, cost.values())
+    if ordered[SHOWN:]:
+        yield row(f"{len(ordered) - SHOWN} others", (sum(cost[kind] for _, cost in ordered[SHOWN:]) for kind in KINDS))
+    sums = [sum(cost[kind] for cost in costs.values()) for kind in KINDS]
+    yield row("**sum, minutes**", (f"**{it / 60:.0f}**" for it in sums))
+    speed = f"{head['speed']} seconds for the fixed program" if head["speed"] else "speed not taken"
+    yield f"\n{head['machine']}, {head['processors']} processors, {speed}; {head['date']}, commit {head['commit']}, {head['kit']}. "
+    seconds, path = longest_chain(costs)
+    yield f"The longest chain of proofs takes {seconds / 60:.0f} minutes of processor: {', '.join(path)}.\n"
+
+
+def page_with_table():
+    with open(PAGE, encoding="utf-8") as file:
+        before, _, rest = file.read().partition(MARKS[0])
+    return before + MARKS[0] + "".join(table(*read(FILE))) + MARKS[1] + rest.partition(MARKS[1])[2]
+
+
+def main(words):
+    if words == ["--table"]:
+        text = page_with_table()
+        with open(PAGE, "w", encoding="utf-8") as file:
+            file.write(text)
+        return 0
+    if words == ["--current"]:
+        with open(PAGE, encoding="utf-8") as file:
+            return int(file.read() != page_with_table())
+    to = FILE
+    if words[:1] == ["--to"]:
+        to, words = (words + [""])[1], words[2:]
+    if not words or words[0].startswith("-"):
+        sys.exit(__doc__)
+    head = machine()
+    status, costs = run(words)
+    print("".join(table(head, costs)), end="", file=sys.stderr)
+    if not status and costs:
+        write(to, head, costs)
+    return status
+
+
+if __name__ == "__main__":
+    sys.exit(main(sys.argv[1:]))
