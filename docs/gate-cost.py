@@ -142,7 +142,7 @@ def read(path):
 
 
 def longest_chain(costs):
-    """The crates that wait for one another the longest, by their proofs, and how many seconds these take."""
+    """The crates that wait for one another the longest, by their proofs."""
     with open(os.path.join(ROOT, "crates.txt"), encoding="utf-8") as file:
         lines = {name: uses.split() for name, uses in re.findall(r"(?m)^(\w+)[^:\n]*:(.*)$", file.read())}
     chains = {}
@@ -153,7 +153,7 @@ def longest_chain(costs):
             chains[name] = seconds + costs.get(name, {}).get("proof", 0), [*path, name]
         return chains[name]
 
-    return max(chain(name) for name in lines)
+    return max(chain(name) for name in lines)[1]
 
 
 def table(head, costs):
@@ -170,8 +170,9 @@ def table(head, costs):
     yield row("**sum, minutes**", (f"**{it / 60:.0f}**" for it in sums))
     speed = f"{head['speed']} seconds for the fixed program" if head["speed"] else "speed not taken"
     yield f"\n{head['machine']}, {head['processors']} processors, {speed}; {head['date']}, commit {head['commit']}, {head['kit']}. "
-    seconds, path = longest_chain(costs)
-    yield f"The longest chain of proofs takes {seconds / 60:.0f} minutes of processor: {', '.join(path)}.\n"
+    chain = head["chain"].split()
+    minutes = sum(costs.get(name, {}).get("proof", 0) for name in chain) / 60
+    yield f"The longest chain of proofs takes {minutes:.0f} minutes of processor: {', '.join(chain)}.\n"
 
 
 def page_with_table():
@@ -196,6 +197,7 @@ def main(words):
         sys.exit(__doc__)
     head = machine()
     status, costs = run(words)
+    head["chain"] = " ".join(longest_chain(costs))
     print("".join(table(head, costs)), end="", file=sys.stderr)
     if not status and costs:
         write(to, head, costs)
