@@ -1,8 +1,8 @@
 #!/usr/bin/env python3
 """Keeps what the gate costs: processor seconds by crate, for its proof, its tests and its edits.
 
-usage: docs/gate-cost.py ./gate --anew     runs this, or any `rt` command, and writes what it took to docs/gate-cost.csv
-       docs/gate-cost.py --to FILE WORD..  the same into another file
+usage: docs/gate-cost.py ./gate            runs the gate, and puts what it took into docs/gate-cost.csv and the table of docs/GATE.md
+       docs/gate-cost.py --to FILE WORD..  runs any command, and puts what its checks took into FILE
        docs/gate-cost.py --table           puts docs/gate-cost.csv into docs/GATE.md as a table
        docs/gate-cost.py --current         sees that this table is the one that --table would put there
 
@@ -181,11 +181,15 @@ def page_with_table():
     return before + MARKS[0] + "".join(table(*read(FILE))) + MARKS[1] + rest.partition(MARKS[1])[2]
 
 
+def put_table():
+    text = page_with_table()
+    with open(PAGE, "w", encoding="utf-8") as file:
+        file.write(text)
+
+
 def main(words):
     if words == ["--table"]:
-        text = page_with_table()
-        with open(PAGE, "w", encoding="utf-8") as file:
-            file.write(text)
+        put_table()
         return 0
     if words == ["--current"]:
         with open(PAGE, encoding="utf-8") as file:
@@ -201,6 +205,8 @@ def main(words):
     print("".join(table(head, costs)), end="", file=sys.stderr)
     if not status and costs:
         write(to, head, costs)
+        if to == FILE:
+            put_table()
     return status
 
 
