@@ -117,8 +117,10 @@ def run(words):
     for key, used in seconds.items():
         crate, kind = checks[key]
         costs[crate][kind] += used
-        costs[crate]["all"] += used
-    return it.returncode, {crate: {kind: round(used) for kind, used in cost.items()} for crate, cost in costs.items()}
+    for cost in costs.values():
+        cost.update({kind: round(used) for kind, used in cost.items()})
+        cost["all"] = sum(cost.values())
+    return it.returncode, costs
 
 
 def dearest_first(costs):
