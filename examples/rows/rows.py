@@ -14,6 +14,7 @@ import time
 
 import endings
 import logic
+import moving
 import sizes
 
 
@@ -113,8 +114,8 @@ def main():
     parser.add_argument("--timeout", type=float, default=120)
     args = parser.parse_args()
     wrong = seen = 0
-    looks = [(row.name, lambda program, row=row: look(program, row)) for row in [*logic.rows(), *sizes.rows()]]
-    looks += [(name, lambda program, check=check: check(program)) for name, check in endings.checks(same)]
+    looks = [(row.name, lambda program, row=row: look(program, row)) for row in [*logic.rows(), *moving.rows(), *sizes.rows()]]
+    looks += [(name, lambda program, check=check: check(program)) for name, check in [*endings.checks(same), *moving.checks(same)]]
     for name, check in looks:
         if args.only not in name:
             continue
