@@ -1,6 +1,7 @@
 """Errors of the kinds that CENSUS.apc looks for: of whom, how often, and what is to become of each.
 
-A record has one error at most, and what an error leans on has none: so each is found by one message, and by no other.
+A person or a death has one error at most, a dwelling one of each list, and what an error leans on has none. So each is found
+by one message, and by no other.
 """
 from dataclasses import dataclass
 
