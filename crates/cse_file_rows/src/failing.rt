@@ -50,8 +50,7 @@ fn holds_its_lines_where_a_writer_fails(rt: HostRuntime) -> Result<(), Fail> {
         (9999, 0, 1, 0, 0),
     ] {
         let mut reports = reports_of(alloc, &AGE_MESSAGES).ok_or("no reports")?;
-        let mut memory = Writes::new(Vec::new(alloc));
-        give_ages(&rt, alloc, &mut reports, &mut memory, 0)?;
+        give_ages(&rt, &mut reports)?;
         let out = make_slow(alloc, at_most, fails_at, takes_none_at);
         end_ages(&rt, &reports, out, ended);
         let out = make_slow(alloc, at_most, fails_at, takes_none_at);

@@ -1,8 +1,9 @@
 //! Worked rows of the libraries below: tests of their public calls, of what no clause says. They stand apart so that each of
-//! these libraries is proved once, and not a second time with its tests.
+//! these libraries is proved once, and not a second time with its tests. Of calls whose answer is a definition one row stays
+//! here; the others are laws of cse_test_laws.
 //!
-//! - `dictionaries`, `dictionary_rows`: dictionaries, and the first fault of those that are none.
-//! - `images`: images of both versions, and bytes that break a rule.
+//! - `dictionaries`, `dictionary_rows`: dictionaries, and their limits.
+//! - `images`: images of both versions.
 //! - `typings`, `events`, `programs`, `opcodes`: programs that may run, and those that may not.
 //! - `answers`, `bounds`, `chains`, `limits`, `nests`, `shapes`: what the verifier tells of programs.
 //! - `parts`: how their programs are made.

@@ -1,15 +1,13 @@
-//! Worked rows of the lowest libraries: tests of public calls of cse_value, cse_sections and cse_parts, of what no
-//! clause says. They stand apart so that each of these libraries is proved once, and not a second time with its tests.
+//! Worked rows of the lowest libraries: tests of public calls of cse_value, cse_sections and cse_parts, of what no clause
+//! says, and one row of each call whose answer is a definition, as it is built. The other rows of those are laws of
+//! cse_test_laws. They stand apart so that each of these libraries is proved once, and not a second time with its tests.
 //!
 //! - `numbers`, `texts`: values, how they compare, and their columns.
-//! - `columns`: the columns of a text, for both.
 //! - `devices`: devices that fail, and what errors say.
 //! - `spelled`: whole numbers, as a value of a dictionary spells them.
 //! - `parts`: parts of images: placeholders, names, single fields and instructions.
 #![tactic(auto)]
 
-#[cfg(test)]
-mod columns;
 #[cfg(test)]
 mod devices;
 #[cfg(test)]

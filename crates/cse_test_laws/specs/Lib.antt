@@ -1,0 +1,13 @@
+pub mod Rows
+pub mod Numbers
+pub mod Fields
+pub mod Texts
+pub mod Placeholders
+pub mod Parts
+pub mod Spelled
+pub mod DictionaryFaults
+pub mod Dictionaries
+pub mod Images
+pub mod Decks
+pub mod Reports
+pub mod Runs
