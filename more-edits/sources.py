@@ -6,7 +6,8 @@ RUST = re.compile(r'''//[^\n]*|/\*.*?\*/|b?r(\#*)".*?"\1|[bc]?"(?:[^"\\]|\\.)*"|
 ANTT = re.compile(r'("(?:[^"\\\n]|\\.)*")|\{-.*?-\}|(?<!\S)--[^\n]*', re.S)
 WORD = re.compile(r"[^\W\d][\w']*")
 CLAUSE = ("requires", "ensures", "ghost")
-PAIRS = {"(": ")", "[": "]", "{": "}"}
+PAIRS = "([{"
+DECLARED = ("struct", "enum", "union", "trait", "type", "const", "static", "macro_rules")
 
 
 def read(path):
@@ -76,74 +77,86 @@ class Item:
 
 
 def end_of_item(tokens, at):
-    while at < len(tokens) and tokens[at] not in ("{", ";"):
-        at = end_of_group(tokens, at) + 1 if tokens[at] in PAIRS else at + 1
-    if at < len(tokens) and tokens[at] == "{":
-        at = end_of_group(tokens, at)
-        # (a static or a const goes on behind its value's braces, up to its semicolon)
-    return at
+    """Where an item ends that is no function and no impl."""
+    is_value = tokens[at] in ("const", "static", "type", "ghost", "use")
+    while at < len(tokens) and tokens[at] != ";":
+        if tokens[at] in PAIRS:
+            is_last = tokens[at] == "{" and not is_value
+            at = end_of_group(tokens, at)
+            if is_last:
+                break
+        at += 1
+    return min(at, len(tokens) - 1)
 
 
 def owner_of(head):
     """The type that an impl's head names, and whether it is the impl of a trait."""
-    head = re.sub(r"\bwhere\b.*", "", head)
+    head = re.sub(r"\bwhere\b.*", "", head).replace("impl", " ", 1)
+    while re.search(r"<[^<>]*>", head):
+        head = re.sub(r"<[^<>]*>", "", head)
     trait, _, rest = head.partition(" for ")
-    name = re.sub(r"<[^<>]*>", "", re.sub(r"<[^<>]*>", "", re.sub(r"<[^<>]*>", "", (rest or trait).replace("impl", " ", 1))))
-    found = re.findall(r"\w+", re.sub(r"&(?:'\w+)?|\bmut\b", " ", name))
+    found = re.findall(r"\w+", re.sub(r"&(?:'\w+)?|\bmut\b", " ", rest or trait))
     return (found[-1] if found else ""), bool(rest)
+
+
+def function(tokens, start, at, owner, of_trait):
+    """The function whose words `const` or `fn` stand at `at`, if the crates above see it, and where it ends. A `const fn` counts with its body."""
+    name_at = tokens.index("fn", at) + 2
+    head = end_of_head(tokens, name_at)
+    end = end_of_group(tokens, head) if head < len(tokens) and tokens[head] == "{" else head
+    is_const = tokens[at] == "const"
+    if not (of_trait or is_const or "pub" in tokens[start:at]):
+        return [], end
+    kind = "fn" if not owner else "part" if of_trait else "method"
+    return [Item(kind, tokens[name_at], owner, "".join(tokens[start:(end if is_const else head) + 1]))], end
+
+
+def block(tokens, at, derived):
+    """What an impl has, and where it ends."""
+    brace = tokens.index("{", at)
+    head, end = "".join(tokens[at:brace]), end_of_group(tokens, brace)
+    owner, of_trait = owner_of(head)
+    return [Item("part", owner, owner, derived + head), *items_of(tokens[brace + 1:end], owner, of_trait)], end
+
+
+def declaration(tokens, start, at, owner, derived):
+    """A type, a trait, a constant, or a ghost member of an impl, and where it ends."""
+    end = end_of_item(tokens, at)
+    text, kind = derived + "".join(tokens[start:end + 1]), tokens[at]
+    if kind in DECLARED:
+        name = next((it for it in tokens[at + 1:end] if re.match(r"[^\W\d]\w*$", it) and it != "mut"), "")
+        return [Item("part" if owner else "type", owner or name, owner, text)], end
+    is_member = kind == "ghost" and owner and "use" not in tokens[at:at + 3]
+    return [Item("part", owner, owner, text)] if is_member else [], end
 
 
 def items_of(tokens, owner=None, of_trait=False):
     """Yields each item of a file or of an impl."""
-    at, start, attributes = 0, 0, []
+    at, start, derived = 0, 0, ""
     while at < len(tokens):
         token = tokens[at]
         if token == "#":
-            end = at + 1 + (tokens[at + 1] == "!")
-            end = end_of_group(tokens, end)
-            attributes.append("".join(tokens[at:end + 1]))
+            end = end_of_group(tokens, at + 1 + (tokens[at + 1] == "!"))
+            attribute = "".join(tokens[at:end + 1])
+            derived += attribute if attribute.startswith("#[derive") else ""
             at = start = end + 1
-            continue
-        if token in (" ", ";", "}", "pub", "unsafe", "extern") or token[0] == '"':
+        elif token in " ;}":
             at += 1
-            start = at if token in (" ", ";", "}") and tokens[start] != "pub" else start
-            continue
-        if token == "(":
+            start = at if tokens[start] != "pub" else start
+        elif token in ("pub", "unsafe", "extern") or token[0] == '"':
+            at += 1
+        elif token == "(":
             at = end_of_group(tokens, at) + 1
-            continue
-        derived = "".join(it for it in attributes if it.startswith("#[derive"))
-        rest = "".join(tokens[at:at + 8])
-        is_const_fn = re.match(r"const (unsafe )?fn\b", rest)
-        if token == "fn" or is_const_fn:
-            name_at = tokens.index("fn", at) + 2
-            end = end_of_head(tokens, name_at)
-            body = end_of_group(tokens, end) if end < len(tokens) and tokens[end] == "{" else end
-            is_open = of_trait or "pub" in tokens[start:at]
-            if is_open or is_const_fn:
-                kind = "method" if owner and not of_trait else "part" if owner else "fn"
-                yield Item(kind, tokens[name_at], owner, "".join(tokens[start:(body if is_const_fn else end) + 1]))
-            at = body + 1
-        elif token == "impl":
-            head_end = at
-            while head_end < len(tokens) and tokens[head_end] != "{":
-                head_end += 1
-            head, end = "".join(tokens[at:head_end]), end_of_group(tokens, head_end)
-            who, is_trait = owner_of(head)
-            yield Item("part", who, who, derived + head)
-            yield from items_of(tokens[head_end + 1:end], who, is_trait)
-            at = end + 1
         else:
-            end = end_of_item(tokens, at)
-            if token in ("const", "static", "type") or token == "ghost":
-                end = max(end, next((k for k in range(end, len(tokens)) if tokens[k] == ";"), end)) if tokens[min(end, len(tokens) - 1)] == "}" else end
-            text = derived + "".join(tokens[start:end + 1])
-            if token in ("struct", "enum", "union", "trait", "type", "const", "static", "macro_rules"):
-                name = next((it for it in tokens[at + 1:end] if re.match(r"[^\W\d]\w*$", it) and it != "mut"), "")
-                yield Item("part" if owner else "type", owner or name, owner, text)
-            elif token == "ghost" and owner and not rest.startswith("ghost use"):
-                yield Item("part", owner, owner, text)
-            at = end + 1
-        start, attributes = at, []
+            if token == "fn" or token == "const" and "fn" in tokens[at + 1:at + 5]:
+                found, end = function(tokens, start, at, owner, of_trait)
+            elif token == "impl":
+                found, end = block(tokens, at, derived)
+            else:
+                found, end = declaration(tokens, start, at, owner, derived)
+            yield from found
+            at = start = end + 1
+            derived = ""
 
 
 def rust_imports(text):
