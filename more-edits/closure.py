@@ -51,7 +51,7 @@ class Reached:
         self.closure, self.said, self.below = closure, said, closure.below(crate)
         self.seen, self.pieces = set(), []
 
-    def path(self, path, extra=()):
+    def path(self, path):
         """What a path of a use line leads to: a file of definitions, statements, or items of a .rt file."""
         parts = [it.strip("«»") for it in re.split(r"::|\.", path.removeprefix("Rattle."))]
         name = parts[0]
@@ -63,6 +63,9 @@ class Reached:
                 file = "/".join(parts[1:end]) + ".antt"
                 if self.file(library, file):
                     break
+            else:
+                # (a file that Lib.antt hands on from a crate below)
+                self.file(library, f"{parts[1]}/Lib.antt")
         for word in parts[1:]:
             self.named(library, word)
 
@@ -94,11 +97,10 @@ class Reached:
             self.pieces.append(f"{library.name} {item.text}")
             for it in sorted(item.words & library.types):
                 self.named(library, it)
-            for it in sorted(item.words & set(item.imports)):
-                for path in sorted(item.imports[it]):
-                    self.path(path)
-            for path in sorted(path for bound, paths in item.imports.items() if not bound.isidentifier() and bound.strip("◌") in item.text for path in paths):
-                self.path(path)
+            for bound, paths in sorted(item.imports.items()):
+                if bound in item.words or not bound.isidentifier() and bound.strip("◌") in item.text:
+                    for path in sorted(paths):
+                        self.path(path)
             for name in sorted(item.words & self.below - {library.name}):
                 for it in sorted(item.words & self.closure.library(name).types):
                     self.named(self.closure.library(name), it)
@@ -134,7 +136,8 @@ class Closure:
                 paths.update(re.findall(r"\bcse_\w+(?:::\w+)+", plain))
                 said |= sources.words(plain) if ending == ".rt" else set()
                 pieces.append(f"{os.path.relpath(path, folder)}\n{plain}")
-        return pieces, frozenset(said), frozenset(it for it in paths if it.startswith(("Rattle.cse_", "cse_")))
+        paths = frozenset(it for it in paths if it.startswith(("Rattle.cse_", "cse_")))
+        return pieces, frozenset(said | sources.words(" ".join(paths))), paths
 
     def reached(self, crate, more):
         """What a crate reads of those below, where its text also has the words `more`."""
