@@ -1,4 +1,5 @@
 pub mod FaultLaws
+pub mod OutcomeLaws
 pub mod PrintLaws
 pub mod TriedLaws
 pub mod VerdictLaws

@@ -9,6 +9,7 @@
 //! - `run_image`: `run`, an image over a data file. `gathered`: bytes in memory.
 //! - `files`: the files of the commands.
 //! - `printing`, `fault`: lines for a device. `outcome`: the exit status.
+//! - `start`: what the program is: a command, what is told of it, and its status.
 #![tactic(auto)]
 
 pub mod commands;
@@ -20,6 +21,7 @@ pub mod outcome;
 pub mod plan;
 pub mod printing;
 pub mod run_image;
+pub mod start;
 pub mod try_image;
 pub mod verdict;
 pub mod verify_image;

@@ -1,0 +1,69 @@
+//! The start of the program: a command is carried out, what it has not done is told, and its status answered.
+
+ghost use Rattle.std.specs.Prelude.{◌≡◌, false};
+ghost use Rattle.std.specs.Io.KnownBytes.{Appends};
+ghost use Rattle.cse_value.specs.Writing.{AppendsFront, FailsAtErr, WritesAll};
+ghost use Rattle.cse_commands.specs.Ending.{exit_status};
+ghost use Rattle.cse_commands.specs.FaultLine.{outcome_text};
+ghost use Rattle.cse_commands.specs.declared.start.TheConstants.{USAGE};
+
+use crate::commands::carry_out;
+use crate::fault::fault_line;
+use crate::outcome::{Stop, exit_status};
+use cse_value::{Failed, Output, Writes, write_all};
+use std::process::ExitCode;
+use std::rt::{Env, Files};
+
+/// What is told of words that are no command.
+pub const USAGE: &str = "usage: one of
+
+  csbatch compile DICT LOGIC IMAGE [--messages F] [--order F]  reads DICT, LOGIC and each F; writes IMAGE; ends with 0, 1 or 3
+  csbatch verify DICT IMAGE                                    reads DICT and IMAGE; writes no file; ends with 0, 1 or 3
+  csbatch run DICT IMAGE DATA OUT LIST FREQ [--decks F]        reads DICT, IMAGE, F where it is there, and DATA; writes OUT, LIST, FREQ and F; ends with 0, 1 or 3
+  csbatch try IMAGE                                            reads IMAGE; writes no file; ends with 0, 1 or 3
+
+compile makes an image of logic, with its messages and its edit order. verify tells whether an image may run with a
+dictionary, and how many steps it may take. run edits a data file, and begins with the hot decks of a file. try runs
+what an image does before the first case, and prints its messages.
+The status is 0 where it is done, 1 where something was refused, 2 for words that are no command, and 3 where a file, a
+device or memory failed. At 1 and 3 a line on standard error tells the fault.
+";
+
+/// The program: it does what its words ask for, and tells on standard error what it has not done.
+pub fn start(rt: HostRuntime) -> ExitCode {
+    let mut errors = Writes::new(rt.stderr());
+    ExitCode::from(carry_out_and_tell(&rt, &mut errors))
+}
+
+/// Does what the words ask for, tells what was not done, and answers the exit status.
+pub fn carry_out_and_tell<R: Env + Files + Print + AllocGlobal, W: Output>(
+    rt: &R,
+    errors: &mut W,
+) -> u8 {
+    let outcome = carry_out(rt);
+    tell(&outcome, errors)
+}
+
+/// Tells what a command came to, all of it or a front where the device fails: the fault as a line, the usage where its
+/// words are none, and of work that is done nothing.
+fn write_outcome<W: Output>(outcome: &Result<(), Stop>, errors: &mut W) -> Result<(), Failed>
+    ensures bytes { WritesAll result (W.contents errors.old) (W.contents errors.new) (outcome_text USAGE.now outcome.now) }
+    ensures failed { FailsAtErr result (W.has_failed errors.old) (W.has_failed errors.new) }
+{
+    match outcome {
+        Ok(()) => Ok(()),
+        Err(Stop::Usage) => write_all(errors, USAGE.as_bytes()),
+        Err(Stop::Refused(fault)) => fault_line(fault, errors),
+    }
+}
+
+/// Tells the fault of a command as a line, and the usage where its words are none; of work that is done nothing. What the
+/// device doesn't take is not told. Answers the exit status.
+pub fn tell<W: Output>(outcome: &Result<(), Stop>, errors: &mut W) -> u8
+    ensures status { result ≡ exit_status outcome.now }
+    ensures front { AppendsFront (W.contents errors.old) (W.contents errors.new) (outcome_text USAGE.now outcome.now) }
+    ensures told { W.has_failed errors.new ≡ false → Appends (W.contents errors.old) (W.contents errors.new) (outcome_text USAGE.now outcome.now) }
+{
+    let _ = write_outcome(outcome, errors);
+    exit_status(outcome)
+}

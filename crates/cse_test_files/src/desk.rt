@@ -1,0 +1,183 @@
+//! The desk of a command: its words, the files of one folder, and what it prints. Each file that it opens is noted, and
+//! one of them may be amiss.
+
+use std::alloc::Global;
+use std::cell::RefCell;
+use std::env::FillError;
+use std::fmt::Display;
+use std::fs::{Metadata, OpenOptions};
+use std::io::{self, ErrorKind};
+use std::rt::{Env, Files};
+
+/// What is amiss at a desk.
+#[derive(Clone, Copy)]
+pub enum Amiss {
+    Nothing,
+    /// A file may not be opened.
+    Closed(&'static str),
+    /// A file may be opened to be read, and not to be written.
+    Kept(&'static str),
+    /// A folder stands where a file should.
+    Folder(&'static str),
+    /// What is written to a file goes to a full device.
+    Full(&'static str),
+    /// Nothing can be printed.
+    Mute,
+}
+
+/// A desk over the files of a runtime.
+#[derive(Drop)]
+pub struct Desk<'a, R> {
+    pub files: &'a R,
+    pub alloc: Global,
+    /// The folder in which its files lie.
+    pub room: &'a str,
+    /// The words after the program's name.
+    pub words: &'a [&'a str],
+    pub amiss: Amiss,
+    /// The files that were opened, or should have been, with `>` before each that is written, and blanks between them.
+    pub opened: RefCell<String>,
+    pub printed: RefCell<Vec<u8>>,
+}
+
+impl<R> Desk<'_, R> {
+    /// Notes that a file is opened.
+    fn note(&self, writes: bool, path: &str) -> io::Result<()> {
+        let Ok(mut opened) = self.opened.try_borrow_mut() else {
+            return Err(io::Error::from(ErrorKind::ResourceBusy));
+        };
+        if !opened.is_empty() {
+            opened.push(' ')?;
+        }
+        if writes {
+            opened.push('>')?;
+        }
+        opened.push_str(path)?;
+        Ok(())
+    }
+}
+
+/// What a desk doesn't do.
+fn unsupported<T>() -> io::Result<T> {
+    Err(io::Error::from(ErrorKind::Unsupported))
+}
+
+/// What a desk doesn't allow.
+fn denied<T>() -> io::Result<T> {
+    Err(io::Error::from(ErrorKind::PermissionDenied))
+}
+
+impl<R> Alloc for Desk<'_, R> {
+    type A = Global;
+
+    fn alloc(&self) -> Global {
+        self.alloc
+    }
+}
+
+impl<R> Env for Desk<'_, R> {
+    fn arg(&self, i: usize, buf: &mut [u8]) -> Result<usize, FillError> {
+        let word = match i {
+            0 => "csbatch",
+            _ => match self.words.get(i - 1) {
+                Some(word) => *word,
+                None => return Err(FillError::NotPresent),
+            },
+        };
+        let bytes = word.as_bytes();
+        match buf.get_mut(..bytes.len()) {
+            Some(front) => {
+                front.copy_from_slice(bytes);
+                Ok(bytes.len())
+            }
+            None => Err(FillError::TooLong),
+        }
+    }
+
+    fn var(&self, _name: &str, _buf: &mut [u8]) -> Result<usize, FillError> {
+        Err(FillError::NotPresent)
+    }
+
+    fn var_at(&self, _i: usize, _buf: &mut [u8]) -> Result<usize, FillError> {
+        Err(FillError::NotPresent)
+    }
+}
+
+impl<R> Print for Desk<'_, R> {
+    fn print<D: Display + Drop>(&self, value: D) -> io::Result<()> {
+        let text = format!(in self.alloc; "{value}")?;
+        self.write_all(text.as_bytes())
+    }
+
+    fn println<D: Display + Drop>(&self, value: D) -> io::Result<()> {
+        let text = format!(in self.alloc; "{value}\n")?;
+        self.write_all(text.as_bytes())
+    }
+
+    fn write_all(&self, bytes: &[u8]) -> io::Result<()> {
+        match (self.amiss, self.printed.try_borrow_mut()) {
+            (Amiss::Mute, _) => Err(io::Error::from(ErrorKind::StorageFull)),
+            (_, Ok(mut printed)) => Ok(printed.extend_from_slice(bytes)?),
+            (_, Err(_)) => Err(io::Error::from(ErrorKind::ResourceBusy)),
+        }
+    }
+}
+
+// The commands open files, and do nothing else with them.
+impl<R: Files> Files for Desk<'_, R> {
+    type File = R::File;
+
+    type Dir = R::Dir;
+
+    fn open_file(&self, how: &OpenOptions, path: &str) -> io::Result<R::File> {
+        let writes = how.asks_write();
+        self.note(writes, path)?;
+        match self.amiss {
+            Amiss::Closed(file) if file == path => return denied(),
+            Amiss::Kept(file) if file == path && writes => return denied(),
+            Amiss::Folder(file) if file == path => return self.files.open_file(how, self.room),
+            Amiss::Full(file) if file == path && writes => {
+                return self.files.open_file(how, "/dev/full");
+            }
+            _ => {}
+        }
+        let place = format!(in self.alloc; "{}/{path}", self.room)?;
+        self.files.open_file(how, place.as_str())
+    }
+
+    fn open_dir(&self, _path: &str) -> io::Result<R::Dir> {
+        unsupported()
+    }
+
+    fn metadata(&self, _path: &str) -> io::Result<Metadata> {
+        unsupported()
+    }
+
+    fn symlink_metadata(&self, _path: &str) -> io::Result<Metadata> {
+        unsupported()
+    }
+
+    fn copy(&self, _from: &str, _to: &str) -> io::Result<u64> {
+        unsupported()
+    }
+
+    fn rename(&self, _from: &str, _to: &str) -> io::Result<()> {
+        unsupported()
+    }
+
+    fn remove_file(&self, _path: &str) -> io::Result<()> {
+        unsupported()
+    }
+
+    fn create_dir(&self, _path: &str) -> io::Result<()> {
+        unsupported()
+    }
+
+    fn remove_dir(&self, _path: &str) -> io::Result<()> {
+        unsupported()
+    }
+
+    fn remove_dir_all<B: std::alloc::Allocator>(&self, _alloc: B, _path: &str) -> io::Result<()> {
+        unsupported()
+    }
+}
