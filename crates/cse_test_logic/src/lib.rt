@@ -4,10 +4,13 @@
 //! and from no run.
 //!
 //! - `row`: what a row is, and what comes of it. `rows`: the tests, which name the first row that comes out otherwise.
+//! - `edits`: the rows by one call, from their texts to the texts of a run.
 //! - `sample`: rows of the sample dictionary. `variants`: rows of it with a key more. `faults`: logic that is refused.
 //! - `values`: numbers, texts, conditions, loops, functions and messages. `town`: items, occurrences, hot decks and events.
 #![tactic(auto)]
 
+#[cfg(test)]
+mod edits;
 #[cfg(test)]
 mod faults;
 #[cfg(test)]

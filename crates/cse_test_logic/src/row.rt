@@ -163,7 +163,7 @@ fn run_comes_out<C: Code>(
 }
 
 /// Whether these are the row's lines, listing, frequencies and decks.
-fn are_texts(found: &[Vec<u8>; 4], row: &Row) -> bool {
+pub(crate) fn are_texts(found: &[Vec<u8>; 4], row: &Row) -> bool {
     let [out, listing, frequencies, saved] = found;
     out.as_slice() == row.out
         && listing.as_slice() == row.listing

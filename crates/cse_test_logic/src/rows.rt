@@ -1,5 +1,6 @@
 //! The tests: each names the first row that comes out otherwise.
 
+use crate::edits::first_edited_otherwise;
 use crate::faults::REFUSED;
 use crate::row::{first_refused_otherwise, first_wrong};
 use crate::sample::{ROWS as OF_SAMPLE, SAMPLE};
@@ -37,4 +38,10 @@ fn values(rt: HostRuntime) {
 #[test]
 fn town(rt: HostRuntime) {
     assert_none(&rt, first_wrong(rt.alloc(), TOWN, &OF_TOWN));
+}
+
+#[test]
+fn edits(rt: HostRuntime) {
+    assert_none(&rt, first_edited_otherwise(rt.alloc(), SAMPLE, &OF_SAMPLE));
+    assert_none(&rt, first_edited_otherwise(rt.alloc(), TOWN, &OF_TOWN));
 }

@@ -1,0 +1,4 @@
+pub mod Events
+pub mod Runs
+pub mod Whole
+pub mod Edits

@@ -1,0 +1,8 @@
+-- The first ones of runs that have a line each have one.
+use Rattle.std.specs.Prelude.{List, [], ◌∷◌, ◌++◌}
+use Rattle.cse_lines.specs.Line.{FileLine}
+use Rattle.cse_batch.proofs.BoundLaws.{AllSome}
+
+pub some_front : (runs more : List (List FileLine)) → AllSome (runs ++ more) → AllSome runs
+some_front [] more some = tt
+some_front (run ∷ runs) more some = (some.0, some_front runs more some.1)

@@ -1,0 +1,3 @@
+pub mod Logic
+pub mod Laws
+pub mod Edit
