@@ -1,5 +1,5 @@
 -- Why logic becomes no image; why a run over files has no store to begin with, or stops.
-use Rattle.std.specs.Prelude.{◌≡◌, ℕ, Bool, true, false, List, [], Option, Some, Result, Ok, Err}
+use Rattle.std.specs.Prelude.{◌≡◌, ◌⊎◌, ℕ, Bool, true, false, List, [], Option, Some, Result, Ok, Err}
 use Rattle.cse_parts.specs.Image.{Image}
 use Rattle.cse_dict.specs.Dictionary.{DictionaryText}
 use Rattle.cse_build.specs.declared.error.BuildFault.{BuildFault}
@@ -18,6 +18,10 @@ use Rattle.cse_commands.specs.Ending.{fault_at, fault_in_text, plain_fault}
 -- want of memory, which tells nothing else
 abbrev pub IsMemory : Stop → Type 0
 IsMemory stop = stop ≡ Refused (plain_fault 90)
+
+-- a file that can't be opened, or want of memory
+abbrev pub IsNotOpened : Stop → Type 0
+IsNotOpened stop = (stop ≡ Refused (plain_fault 72)) ⊎ IsMemory stop
 
 -- an answer is this store, unless memory ran out
 abbrev pub IsStoreOf : Kept → Result Kept Stop → Type 0

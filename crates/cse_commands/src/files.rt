@@ -1,12 +1,17 @@
 //! The files of the commands.
 
+ghost use Rattle.std.specs.Prelude.{IfErr};
+ghost use Rattle.cse_commands.specs.Stops.{IsNotOpened};
+
 use crate::outcome::{Asked, Stop};
 use std::fs;
 use std::io::{ErrorKind, Read, Write};
 use std::rt::Files;
 
 /// A file that is read: 72 where it can't be opened.
-pub fn opened<R: Files>(rt: &R, path: &str) -> Result<R::File, Stop> {
+pub fn opened<R: Files>(rt: &R, path: &str) -> Result<R::File, Stop>
+    ensures { IfErr result IsNotOpened }
+{
     match fs::open(rt, path) {
         Ok(file) => Ok(file),
         Err(error) => Err(Stop::of_failure(Asked::Open, error.kind())),
@@ -14,7 +19,9 @@ pub fn opened<R: Files>(rt: &R, path: &str) -> Result<R::File, Stop> {
 }
 
 /// A file that is written from its beginning: 72 where it can't be opened.
-pub fn created<R: Files>(rt: &R, path: &str) -> Result<R::File, Stop> {
+pub fn created<R: Files>(rt: &R, path: &str) -> Result<R::File, Stop>
+    ensures { IfErr result IsNotOpened }
+{
     match fs::create(rt, path) {
         Ok(file) => Ok(file),
         Err(error) => Err(Stop::of_failure(Asked::Open, error.kind())),

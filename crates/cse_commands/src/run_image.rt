@@ -1,10 +1,11 @@
 //! `run`: an image over a data file, from the files of its words to those of its outputs.
 
-ghost use Rattle.std.specs.Prelude.{◌≡◌, [], Some, IfOk, IfErr, IfSome, IfNone};
+ghost use Rattle.std.specs.Prelude.{◌≡◌, ℕ, List, [], Option, Some, IfOk, IfErr, IfSome, IfNone};
 ghost use Rattle.cse_decks.specs.Store.{Kept, StoreFits, first_kept};
 ghost use Rattle.cse_decks.specs.DeckText.{IsDeckText};
 ghost use Rattle.cse_batch.specs.RunClauses.{RunsWhole, contents, failures};
-ghost use Rattle.cse_commands.specs.Stops.{IsMemory, IsStoreOf, TellsDeckFault, TellsRunFault};
+ghost use Rattle.cse_commands.specs.Stops.{IsMemory, IsNotOpened, IsStoreOf, TellsDeckFault, TellsRunFault};
+ghost use Rattle.cse_commands.specs.Ran.{Tells};
 
 use crate::fault::{Fault, NO_MEMORY};
 use crate::files::{bytes_where_there, created, file_bytes, opened, write_file};
@@ -15,6 +16,7 @@ use cse_batch::{Totals, check_image, run};
 use cse_decks::{Store, load};
 use cse_dict::Dictionary;
 use cse_image::{Code, Program};
+use cse_noted::Noted;
 use cse_value::{Input, Output, Reads, Writes};
 use cse_verify::Verified;
 use std::alloc::Global;
@@ -55,12 +57,12 @@ fn run_verified<R: Files + AllocGlobal, C: Code>(
 ) -> Result<Totals, Stop> {
     let Some(path) = paths.decks else {
         let store = store_of(rt.alloc(), verified.program(), None)?;
-        let (totals, _) = run_over(rt, verified, store, paths)?;
+        let (totals, _) = run_over(rt, verified, store, paths)?.into_told()?;
         return Ok(totals);
     };
     let text = bytes_where_there(rt, path)?;
     let store = store_of(rt.alloc(), verified.program(), text.as_deref())?;
-    let (totals, decks) = run_over(rt, verified, store, paths)?;
+    let (totals, decks) = run_over(rt, verified, store, paths)?.into_told()?;
     write_file(rt, path, decks.bytes())?;
     Ok(totals)
 }
@@ -101,20 +103,50 @@ fn store_said<C: Code>(alloc: Global, program: &Program<C>, text: &[u8]) -> Resu
     }
 }
 
-/// Runs the program over the data file to the files of the outputs, and gathers the deck text.
-fn run_over<R: Files + AllocGlobal, C: Code>(
+/// What a run over files came to, and the devices of the four files that it opened. Each device of an output
+/// tells the bytes that its file took.
+#[derive(Drop)]
+pub struct Ran<F> {
+    /// The totals and the gathered deck text, or why the run stopped.
+    pub told: Result<(Totals, Gathered), Stop>,
+    pub input: Reads<F>,
+    pub out: Writes<Noted<F>>,
+    pub listing: Writes<Noted<F>>,
+    pub frequencies: Writes<Noted<F>>,
+}
+
+impl<F: Drop> Ran<F> {
+    /// What the run came to. The files are closed.
+    fn into_told(self) -> Result<(Totals, Gathered), Stop>
+        ensures { result ≡ self.told }
+    {
+        self.told
+    }
+}
+
+/// Runs the program over the data file to the files of the outputs, and gathers the deck text. The files are
+/// opened in the order of the words; `Err` tells that one can't be opened.
+pub fn run_over<R: Files + AllocGlobal, C: Code>(
     rt: &R,
     verified: &Verified<'_, C>,
     store: Store,
     paths: &RunPaths<'_>,
-) -> Result<(Totals, Gathered), Stop>
+) -> Result<Ran<R::File>, Stop>
     requires { StoreFits verified.now.image store }
+    // Of a whole run each file took its text of the batch, and of any other a front of it.
+    ensures took { IfOk result (λ ran. (before : Option (List ℕ)) × Tells verified.now store before (⟦<Reads<R::File> as Input>⟧.remaining ran.input)
+        (contents (⟦<Writes<Noted<R::File>> as Output>⟧.contents ran.out) (⟦<Writes<Noted<R::File>> as Output>⟧.contents ran.listing)
+        (⟦<Writes<Noted<R::File>> as Output>⟧.contents ran.frequencies))
+        (⟦<Reads<R::File> as Input>⟧.has_failed ran.input)
+        (failures (⟦<Writes<Noted<R::File>> as Output>⟧.has_failed ran.out) (⟦<Writes<Noted<R::File>> as Output>⟧.has_failed ran.listing)
+        (⟦<Writes<Noted<R::File>> as Output>⟧.has_failed ran.frequencies)) ran.told) }
+    ensures not_opened { IfErr result IsNotOpened }
 {
     let mut input = Reads::new(opened(rt, paths.data)?);
-    let mut out = Writes::new(created(rt, paths.out)?);
-    let mut listing = Writes::new(created(rt, paths.list)?);
-    let mut frequencies = Writes::new(created(rt, paths.freq)?);
-    run_on(
+    let mut out = Writes::new(Noted::new(created(rt, paths.out)?));
+    let mut listing = Writes::new(Noted::new(created(rt, paths.list)?));
+    let mut frequencies = Writes::new(Noted::new(created(rt, paths.freq)?));
+    let told = run_on(
         rt.alloc(),
         verified,
         store,
@@ -122,7 +154,14 @@ fn run_over<R: Files + AllocGlobal, C: Code>(
         &mut out,
         &mut listing,
         &mut frequencies,
-    )
+    );
+    Ok(Ran {
+        told,
+        input,
+        out,
+        listing,
+        frequencies,
+    })
 }
 
 /// Runs the program over the bytes of a device to those of three, and gathers the deck text. A deck text that

@@ -1,0 +1,10 @@
+use Rattle.std.proofs.Common.{◌∙◌}
+use Rattle.cse_commands.proofs.RanLaws.{tells_of_three}
+use Rattle.cse_commands.proofs.run_image.run_over.Goals as goal
+
+pub returns-clause-took : goal.returns-clause-took
+returns-clause-took g c = (
+  _,
+  tells_of_three _ _ _ _ _ _ _ _ _ _ _ c.run_on-told.ensures.whole c.run_on-told.ensures.stopped
+      (c.new-out.ensures.bytes ∙ c.new.ensures) (c.new-listing.ensures.bytes ∙ c.new-2.ensures) (c.new-frequencies.ensures.bytes ∙ c.new-3.ensures),
+)
