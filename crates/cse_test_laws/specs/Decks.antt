@@ -59,11 +59,14 @@ abbrev pub texts : List (List ℕ × Option (List ℕ))
 texts =
     (codes "CSEB DECKS 1\nEND\n", Some (codes "CSEB DECKS 1\nARRAY AGE_HD 2 4\n0\n0\n0\n0\n0\n0\n0\n0\nARRAY CUBE 1 3 2\n7\n8\n0\n0\n0\n0\nEND\n"))
     ∷ (codes "CSEB DECKS 1\nARRAY AGE_HD 2 4\n35\n0\n0\n0\n0\n0\n0\n0\nEND\n", Some (codes "CSEB DECKS 1\nARRAY AGE_HD 2 4\n35\n0\n0\n0\n0\n0\n0\n0\nARRAY CUBE 1 3 2\n7\n8\n0\n0\n0\n0\nEND\n"))
-    ∷ (codes "CSEB DECKS 1\n"
-        ++ codes "ARRAY CUBE 1 3 2\n9223372036854775807\n-9223372036854775808\nNOTAPPL\nMISSING\nDEFAULT\n-1\n"
-        ++ codes "ARRAY AGE_HD 2 4\n1\n2\n3\n4\n5\n6\n7\n8\nEND\n", Some (codes "CSEB DECKS 1\n"
-        ++ codes "ARRAY AGE_HD 2 4\n1\n2\n3\n4\n5\n6\n7\n8\n"
-        ++ codes "ARRAY CUBE 1 3 2\n9223372036854775807\n-9223372036854775808\nNOTAPPL\nMISSING\nDEFAULT\n-1\nEND\n")) ∷ []
+    ∷ (
+      codes "CSEB DECKS 1\n"
+          ++ codes "ARRAY CUBE 1 3 2\n9223372036854775807\n-9223372036854775808\nNOTAPPL\nMISSING\nDEFAULT\n-1\n"
+          ++ codes "ARRAY AGE_HD 2 4\n1\n2\n3\n4\n5\n6\n7\n8\nEND\n",
+      Some (codes "CSEB DECKS 1\n"
+          ++ codes "ARRAY AGE_HD 2 4\n1\n2\n3\n4\n5\n6\n7\n8\n"
+          ++ codes "ARRAY CUBE 1 3 2\n9223372036854775807\n-9223372036854775808\nNOTAPPL\nMISSING\nDEFAULT\n-1\nEND\n"),
+    ) ∷ []
 
 -- a cell where a text was loaded
 abbrev pub cell_of : ℕ × ℕ → Result Kept DeckError → Option Num
