@@ -1,0 +1,78 @@
+-- What a run changed, line beside line. A line that was read stands beside the one that was written in its place. An item
+-- occurs in the seen lines of its record, and an id item in each line. It is changed where one of its columns is another one;
+-- past its end a line has blanks. Ends of lines and the byte order mark are no columns.
+use Rattle.std.specs.Prelude.{ℕ, suc, zero, ◌+◌, ◌-◌, Bool, true, false, not, ◌==◌, ◌&&◌, ◌||◌, map, List, [], ◌∷◌, length, count_by, slice_index_or, Option, None, Some, if◌then◌else◌}
+use Rattle.cse_value.specs.declared.shape.ItemShape.{ItemShape}
+use Rattle.cse_value.specs.declared.shape.RecordShape.{RecordShape}
+use Rattle.cse_lines.specs.Columns.{LineText, no_line}
+use Rattle.cse_case.specs.Seen.{occurrence_places}
+use Rattle.cse_changes.specs.declared.count.Count.{Count}
+
+-- one of so many columns from a place on is another one, with blanks behind the last
+unfoldable pub differ : ℕ → ℕ → List ℕ → List ℕ → Bool
+differ at zero before after = false
+differ at (suc n) before after = not (slice_index_or before at 32 == slice_index_or after at 32) || differ (at + 1) n before after
+
+-- the item is changed
+abbrev pub is_changed : ItemShape → List ℕ → List ℕ → Bool
+is_changed item before after = differ (item.start - 1) item.len before after
+
+-- the records of lines
+abbrev pub types_of : List LineText → List (Option ℕ)
+types_of lines = map (λ line. line.record_number) lines
+
+-- the places of all lines, the first of which has this one
+abbrev pub places_from : ℕ → List (Option ℕ) → List ℕ
+places_from n [] = []
+places_from n (line ∷ lines) = n ∷ places_from (n + 1) lines
+
+-- the places in a run, from 0, at which an item occurs
+abbrev pub item_places : List RecordShape → ItemShape → List (Option ℕ) → List ℕ
+item_places records item lines = if item.owner == 255 then places_from 0 lines else occurrence_places records item.owner lines
+
+-- the line at a place
+abbrev pub columns_at : List LineText → ℕ → List ℕ
+columns_at lines place = (slice_index_or lines place no_line).columns
+
+-- the item is changed at a place
+abbrev pub is_changed_at : ItemShape → List LineText → List LineText → ℕ → Bool
+is_changed_at item before after place = is_changed item (columns_at before place) (columns_at after place)
+
+-- how many places there are, and at how many of them an item is changed
+abbrev pub counted : ItemShape → List LineText → List LineText → List ℕ → Count
+counted item before after places = record { occurrences = length places; changed = count_by (is_changed_at item before after) places }
+
+-- in two runs side by side: how often an item occurs, and how often it is changed
+unfoldable pub count_in : List RecordShape → ItemShape → List LineText → List LineText → Count
+count_in records item before after = counted item before after (item_places records item (types_of before))
+
+-- two counts as one
+abbrev pub plus : Count → Count → Count
+plus a b = record { occurrences = a.occurrences + b.occurrences; changed = a.changed + b.changed }
+
+-- nothing is counted
+abbrev pub no_count : Count
+no_count = record { occurrences = 0; changed = 0 }
+
+-- the lines are of one record
+abbrev pub is_same_record : Option ℕ → Option ℕ → Bool
+is_same_record None None = true
+is_same_record None (Some n) = false
+is_same_record (Some m) None = false
+is_same_record (Some m) (Some n) = m == n
+
+-- they have the same id items
+unfoldable pub has_same_ids : List ItemShape → List ℕ → List ℕ → Bool
+has_same_ids [] before after = true
+has_same_ids (item ∷ items) before after = not (item.owner == 255 && is_changed item before after) && has_same_ids items before after
+
+-- they pair up
+abbrev pub is_pair : List ItemShape → LineText → LineText → Bool
+is_pair items before after = is_same_record before.record_number after.record_number && has_same_ids items before.columns after.columns
+
+-- the place of the first line that has none beside it, or one that is no pair of it; the first of these lines has this place
+unfoldable pub first_apart : List ItemShape → ℕ → List LineText → List LineText → Option ℕ
+first_apart items n [] [] = None
+first_apart items n [] (line ∷ lines) = Some n
+first_apart items n (line ∷ lines) [] = Some n
+first_apart items n (before ∷ befores) (after ∷ afters) = if is_pair items before after then first_apart items (n + 1) befores afters else Some n

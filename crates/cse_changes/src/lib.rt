@@ -1,0 +1,22 @@
+//! What a run changed: two data files of one dictionary, line beside line.
+//!
+//! - `count`: how often an item occurs, and how often it was changed.
+//! - `lines`: the lines of a run, with their records and columns.
+//! - `item`: an item in two runs, side by side.
+//! - `pair`: which lines pair up.
+//! - `sums`: the counts of all items.
+//! - `worked`: rows that were worked by hand.
+#![tactic(auto)]
+
+mod count;
+mod item;
+mod lines;
+mod pair;
+mod sums;
+#[cfg(test)]
+mod worked;
+
+pub use count::Count;
+pub use lines::RunLines;
+pub use pair::first_apart;
+pub use sums::add_run;
