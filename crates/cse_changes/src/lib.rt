@@ -1,6 +1,8 @@
 //! What a run changed: two data files of one dictionary, line beside line.
 //!
 //! - `count`: how often an item occurs, and how often it was changed.
+//! - `fault`: why a comparison stops.
+//! - `files`: two files, side by side.
 //! - `lines`: the lines of a run, with their records and columns.
 //! - `item`: an item in two runs, side by side.
 //! - `pair`: which lines pair up.
@@ -9,6 +11,8 @@
 #![tactic(auto)]
 
 mod count;
+mod fault;
+mod files;
 mod item;
 mod lines;
 mod pair;
@@ -17,6 +21,8 @@ mod sums;
 mod worked;
 
 pub use count::Count;
+pub use fault::Fault;
+pub use files::compare;
 pub use lines::RunLines;
 pub use pair::first_apart;
 pub use sums::add_run;

@@ -1,6 +1,6 @@
 //! Which lines pair up.
 
-ghost use Rattle.std.specs.Prelude.{◌≡◌, ◌<◌, ◌==◌, ◌&&◌, IfNone, length, slice_index_or};
+ghost use Rattle.std.specs.Prelude.{◌≡◌, ◌<◌, ◌≤◌, ◌==◌, ◌&&◌, IfNone, IfSome, length, slice_index_or};
 ghost use Rattle.cse_lines.specs.Bytes.{columns_lent};
 ghost use Rattle.cse_lines.specs.Columns.{no_line};
 ghost use Rattle.cse_changes.specs.Changes.{first_apart, has_same_ids, is_changed, is_pair, is_same_record};
@@ -53,6 +53,7 @@ fn is_pair(items: &[ItemShape], before: &RunLines, after: &RunLines, place: usiz
 /// The place, from 0, of the first line of two runs that has none beside it, or one that is no pair of it.
 pub fn first_apart(items: &[ItemShape], before: &RunLines, after: &RunLines) -> Option<usize>
     ensures is { result ≡ first_apart items.now 0 before.now after.now }
+    ensures within { IfSome result (λ place. place ≤ length before.now) }
     ensures as_many { IfNone result (length before.now ≡ length after.now) }
 {
     let len = before.len().min(after.len());

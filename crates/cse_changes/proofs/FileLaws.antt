@@ -1,0 +1,127 @@
+-- Laws of a file that is read, run of lines by run of lines.
+use Rattle.std.proofs.Common.{◌≡◌, ℕ, ◌+◌, ◌*◌, ◌^◌, ◌<◌, ◌≤◌, Bool, true, false, List, [], ◌∷◌, ◌++◌, length, Option, None, Some, Ok, Err, Result, refl, ap, sym, ◌∙◌, subst, arith, append_assoc, append-nil, add_assoc, zero-add, eq-eqb, ne_eqb, map}
+use Rattle.std.specs.Io.KnownBytes.{Consumes, IsAtEnd}
+use Rattle.std.proofs.KnownBytes.{Consumes-trans, Consumes-nil}
+use Rattle.std.proofs.lemmas.List.{length-map}
+use Rattle.cse_dict.specs.Dictionary.{DictionaryText}
+use Rattle.cse_lines.specs.declared.error.DataError.{DataError}
+use Rattle.cse_lines.specs.Line.{FileLine, lines_in}
+use Rattle.cse_lines.specs.Columns.{line_text}
+use Rattle.cse_lines.specs.Run.{RunText, written_run}
+use Rattle.cse_lines.specs.Runs.{given, given_of, fault_in, later_by, MayFollow}
+use Rattle.cse_lines.specs.Reader.{GivesRun, Next, ReaderText, held_of, is_front}
+use Rattle.cse_changes.specs.Files.{IsRead, IsReadSoFar, lines_of}
+
+-- the runs so far: their bytes, and that the rest is given of what is held and may follow
+pub record SoFar (before now : Option (List ℕ)) (d : DictionaryText) (r : ReaderText) (text : List ℕ) (runs : List (List FileLine)) : Type 0 where
+  pub dictionary : r.dictionary ≡ d
+  pub reads : Consumes before now (text ++ held_of r)
+  pub goes_on : (later : Bool) (more : List ℕ) → MayFollow r.ended later more → given d true later ((text ++ held_of r) ++ more) ≡ runs ++ given d (is_front r) later (held_of r ++ more)
+  pub fault : (later : Bool) (more : List ℕ) → MayFollow r.ended later more → fault_in d true later ((text ++ held_of r) ++ more) ≡ later_by r.lines (fault_in d (is_front r) later (held_of r ++ more))
+
+later_by-none : (f : Option (ℕ × ℕ)) → later_by 0 f ≡ f
+later_by-none None = refl
+later_by-none (Some f) = ap (λ n. Some (n, f.1)) (zero-add (f.0))
+
+later_by-later_by : (a b : ℕ) (f : Option (ℕ × ℕ)) → later_by a (later_by b f) ≡ later_by (a + b) f
+later_by-later_by a b None = refl
+later_by-later_by a b (Some f) = ap (λ n. Some (n, f.1)) (sym (add_assoc a b (f.0)))
+
+nothing_given : (d : DictionaryText) (front : Bool) → given d front true [] ≡ []
+unfolding given_of lines_in
+nothing_given d front = refl
+
+nothing_faulty : (d : DictionaryText) (front : Bool) → fault_in d front true [] ≡ None
+unfolding fault_in lines_in
+nothing_faulty d front = refl
+
+-- nothing was read
+pub SoFar-none : (now : Option (List ℕ)) (d : DictionaryText) (r : ReaderText) → r.dictionary ≡ d → held_of r ≡ [] → r.lines ≡ 0 → SoFar now now d r [] []
+SoFar-none now d r same none front =
+    let first : is_front r ≡ true = eq-eqb r.lines 0 front in
+    record {
+      dictionary = same;
+      reads = rw none (Consumes-nil now);
+      goes_on = λ later more h. ap (λ f. given d f later (held_of r ++ more)) (sym first);
+      fault = λ later more h. ap (λ f. fault_in d f later (held_of r ++ more)) (sym first) ∙ (sym (later_by-none (fault_in d (is_front r) later (held_of r ++ more))) ∙ ap (λ n. later_by n (fault_in d (is_front r) later (held_of r ++ more))) (sym front));
+    }
+
+-- what may follow what was read may follow what was held
+may_follow : (ended ended' later : Bool) (taken more : List ℕ) → (ended ≡ true → (taken ≡ []) × (ended' ≡ true)) → MayFollow ended' later more → MayFollow ended later (taken ++ more)
+may_follow ended ended' later taken more stays h = λ e.
+    let s = stays e in
+    let f = h (s.1) in
+    (f.0, ap (λ l. l ++ more) (s.0) ∙ f.1)
+
+-- what was read so far, and the runs that are given of it
+pub so_far : (before now : Option (List ℕ)) (d : DictionaryText) (r : ReaderText) (text : List ℕ) (runs : List (List FileLine)) → SoFar before now d r text runs → (r.ended ≡ true → IsAtEnd now)
+    → IsReadSoFar d before now (runs ++ given d (is_front r) r.ended (held_of r))
+so_far before now d r text runs s end = record {
+  bytes = text ++ held_of r;
+  ended = r.ended;
+  reads = s.reads;
+  end = end;
+  runs_are = ap (given d true r.ended) (sym (append-nil (text ++ held_of r))) ∙ (s.goes_on r.ended [] (λ e. (e, refl)) ∙ ap (λ l. runs ++ given d (is_front r) r.ended l) (append-nil (held_of r)));
+}
+
+module _ (before now after : Option (List ℕ)) (d : DictionaryText) (r r' : ReaderText) (text : List ℕ) (runs : List (List FileLine)) (s : SoFar before now d r text runs) where
+  module _ (run : RunText) (n : Next now after r r' (Ok (Some run))) where
+    pub gives : GivesRun d (held_of r ++ n.taken) (held_of r') (is_front r) r'.ended (r.lines + 1) run
+    gives = subst (λ (x : DictionaryText). GivesRun x (held_of r ++ n.taken) (held_of r') (is_front r) r'.ended (r.lines + 1) run) s.dictionary n.answers
+
+    shift : (text ++ held_of r) ++ n.taken ≡ (text ++ written_run run) ++ held_of r'
+    shift = append_assoc text (held_of r) n.taken ∙ (ap (λ l. text ++ l) gives.whole ∙ sym (append_assoc text (written_run run) (held_of r')))
+
+    -- its lines
+    pub run_lines : run.lines ≡ lines_of d gives.lines
+    run_lines = ap (λ (x : RunText). x.lines) gives.is
+
+    pub as_many : length run.lines ≡ length gives.lines
+    as_many = ap length run_lines ∙ length-map gives.lines (line_text d)
+
+    pub lines_now : r'.lines ≡ r.lines + length gives.lines
+    lines_now = n.lines ∙ ap (λ k. r.lines + k) as_many
+
+    behind : is_front r' ≡ false
+    behind = ne_eqb r'.lines 0 (λ e. absurd (omega (arith, lines_now, gives.some)))
+
+    -- a run more was read
+    pub SoFar-run : SoFar before after d r' (text ++ written_run run) (runs ++ gives.lines ∷ [])
+    SoFar-run = record {
+      dictionary = n.dictionary ∙ s.dictionary;
+      reads = subst (Consumes before after) shift (Consumes-trans before now after (text ++ held_of r) n.taken s.reads n.consumes);
+      goes_on = λ later rest h.
+          let before' = s.goes_on later (n.taken ++ rest) (may_follow r.ended r'.ended later n.taken rest n.stays h) in
+          let first = gives.first later rest h in
+          ap (λ l. given d true later (l ++ rest)) (sym shift)
+          ∙ (ap (given d true later) (append_assoc (text ++ held_of r) n.taken rest)
+          ∙ (before' ∙ (ap (λ l. runs ++ given d (is_front r) later l) (sym (append_assoc (held_of r) n.taken rest))
+          ∙ (ap (λ l. runs ++ l) first ∙ (ap (λ f. runs ++ (gives.lines ∷ given d f later (held_of r' ++ rest))) (sym behind)
+          ∙ sym (append_assoc runs (gives.lines ∷ []) (given d (is_front r') later (held_of r' ++ rest))))))));
+      fault = λ later rest h.
+          let before' = s.fault later (n.taken ++ rest) (may_follow r.ended r'.ended later n.taken rest n.stays h) in
+          let first = gives.fault later rest h in
+          ap (λ l. fault_in d true later (l ++ rest)) (sym shift)
+          ∙ (ap (fault_in d true later) (append_assoc (text ++ held_of r) n.taken rest)
+          ∙ (before' ∙ (ap (λ l. later_by r.lines (fault_in d (is_front r) later l)) (sym (append_assoc (held_of r) n.taken rest))
+          ∙ (ap (later_by r.lines) first ∙ (later_by-later_by r.lines (length gives.lines) (fault_in d false later (held_of r' ++ rest))
+          ∙ (ap (λ k. later_by k (fault_in d false later (held_of r' ++ rest))) (sym lines_now) ∙ ap (λ f. later_by r'.lines (fault_in d f later (held_of r' ++ rest))) (sym behind)))))));
+    }
+
+  module _ (n : Next now after r r' (Ok None)) where
+    all : (text ++ held_of r) ++ n.taken ≡ text
+    all = append_assoc text (held_of r) n.taken ∙ (ap (λ l. text ++ l) n.answers.none ∙ append-nil text)
+
+    -- the end was read, and these are all runs
+    pub is_read : IsRead d before after runs
+    is_read = record {
+      bytes = text;
+      reads = subst (Consumes before after) all (Consumes-trans before now after (text ++ held_of r) n.taken s.reads n.consumes);
+      end = n.answers.end;
+      sound = ap (fault_in d true true) (sym all)
+          ∙ (s.fault true n.taken (λ e. (refl, (n.stays e).0)) ∙ (ap (λ l. later_by r.lines (fault_in d (is_front r) true l)) n.answers.none ∙ ap (later_by r.lines) (nothing_faulty d (is_front r))));
+      runs_are = ap (given d true true) (sym all)
+          ∙ (s.goes_on true n.taken (λ e. (refl, (n.stays e).0))
+          ∙ (ap (λ l. runs ++ given d (is_front r) true l) n.answers.none
+          ∙ (ap (λ l. runs ++ l) (nothing_given d (is_front r)) ∙ append-nil runs)));
+    }

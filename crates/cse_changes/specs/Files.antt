@@ -1,0 +1,115 @@
+-- Two files of one dictionary side by side, run of lines beside run of lines: what is counted of all items where they pair up,
+-- and why a comparison stops where they don't.
+use Rattle.std.specs.Prelude.{◌≡◌, ◌<◌, ◌≤◌, ◌⊎◌, ℕ, ◌+◌, Bool, true, false, map, List, [], ◌∷◌, ◌++◌, length, sum_by, slice_index_or, Option, None, Some}
+use Rattle.std.specs.Io.KnownBytes.{Consumes, IsAtEnd}
+use Rattle.cse_value.specs.declared.shape.ItemShape.{ItemShape}
+use Rattle.cse_dict.specs.Dictionary.{DictionaryText, shape_of}
+use Rattle.cse_lines.specs.declared.error.DataError.{DataError}
+use Rattle.cse_lines.specs.Line.{FileLine}
+use Rattle.cse_lines.specs.Columns.{LineText, line_text}
+use Rattle.cse_lines.specs.Runs.{fault_in, given}
+use Rattle.cse_case.specs.Field.{item_at}
+use Rattle.cse_changes.specs.declared.count.Count.{Count}
+use Rattle.cse_changes.specs.declared.fault.Fault.{Fault}
+use Rattle.cse_changes.specs.declared.fault.Fault.TheVariants.{Data, Out, Apart, Memory}
+use Rattle.cse_changes.specs.Changes.{count_in, first_apart, no_count, plus}
+
+-- a run that was read, and the one that was written in its place
+abbrev pub RunPair : Type 0
+RunPair = List FileLine × List FileLine
+
+abbrev pub befores : List RunPair → List (List FileLine)
+befores pairs = map (λ p. p.0) pairs
+
+abbrev pub afters : List RunPair → List (List FileLine)
+afters pairs = map (λ p. p.1) pairs
+
+-- the lines of a run
+abbrev pub lines_of : DictionaryText → List FileLine → List LineText
+lines_of d run = map (line_text d) run
+
+-- the place of the first line of two runs that is apart
+abbrev pub apart_in : DictionaryText → List FileLine → List FileLine → Option ℕ
+apart_in d before after = first_apart (shape_of d).items 0 (lines_of d before) (lines_of d after)
+
+-- all their lines pair up
+abbrev pub ArePairs : DictionaryText → List RunPair → Type 0
+ArePairs d [] = Unit {0}
+ArePairs d (p ∷ ps) = (apart_in d (p.0) (p.1) ≡ None) × ArePairs d ps
+
+-- how often an item occurs in them, and how often it is changed
+abbrev pub total : DictionaryText → ItemShape → List RunPair → Count
+total d item [] = no_count
+total d item (p ∷ ps) = plus (count_in (shape_of d).records item (lines_of d (p.0)) (lines_of d (p.1))) (total d item ps)
+
+-- the counts are those of the items
+pub record AreCounts (d : DictionaryText) (pairs : List RunPair) (counts : List Count) : Type 0 where
+  pub as_many : length counts ≡ length (shape_of d).items
+  pub each : (n : ℕ) → n < length (shape_of d).items → slice_index_or counts n no_count ≡ total d (item_at (shape_of d).items n) pairs
+
+-- A file was read to its end, and none of its lines is faulty: these are its runs.
+pub record IsRead (d : DictionaryText) (before after : Option (List ℕ)) (runs : List (List FileLine)) : Type 0 where
+  pub bytes : List ℕ
+  pub reads : Consumes before after bytes
+  pub end : IsAtEnd after
+  pub sound : fault_in d true true bytes ≡ None
+  pub runs_are : given d true true bytes ≡ runs
+
+-- So far a file was read, and these are the runs of it that are given.
+pub record IsReadSoFar (d : DictionaryText) (before after : Option (List ℕ)) (runs : List (List FileLine)) : Type 0 where
+  pub bytes : List ℕ
+  pub ended : Bool
+  pub reads : Consumes before after bytes
+  pub end : ended ≡ true → IsAtEnd after
+  pub runs_are : given d true ended bytes ≡ runs
+
+-- Both were read to their ends, all lines pair up, and the counts are those of all runs.
+pub record IsCompared (d : DictionaryText) (before after before' after' : Option (List ℕ)) (counts : List Count) : Type 0 where
+  pub pairs : List RunPair
+  pub read : IsRead d before after (befores pairs)
+  pub written : IsRead d before' after' (afters pairs)
+  pub are_pairs : ArePairs d pairs
+  pub counts_are : AreCounts d pairs counts
+
+-- how many lines the first runs have
+abbrev pub lines_in : List RunPair → ℕ
+lines_in pairs = sum_by (λ p. length (p.0)) pairs
+
+-- in which line of the next runs they are apart; of two runs it is the first such line, and of one that has none beside it the first one
+abbrev pub apart_next : DictionaryText → List (List FileLine) → List (List FileLine) → Option ℕ
+apart_next d [] [] = None
+apart_next d [] (after ∷ afters) = Some 0
+apart_next d (before ∷ befores) [] = Some 0
+apart_next d (before ∷ befores) (after ∷ afters) = apart_in d before after
+
+-- The lines of some runs pair up, and then comes one that is apart, by its number in the file: either both files give a next run, and these are
+-- apart, or one has ended, and the other gives a run.
+pub record IsApart (d : DictionaryText) (before after before' after' : Option (List ℕ)) (line : ℕ) : Type 0 where
+  pub pairs : List RunPair
+  pub are_pairs : ArePairs d pairs
+  pub more : List (List FileLine)
+  pub more' : List (List FileLine)
+  pub read : IsReadSoFar d before after (befores pairs ++ more)
+  pub written : IsReadSoFar d before' after' (afters pairs ++ more')
+  pub read_ended : more ≡ [] → read.ended ≡ true
+  pub written_ended : more' ≡ [] → written.ended ≡ true
+  pub place : ℕ
+  pub apart : apart_next d more more' ≡ Some place
+  pub line_is : line ≡ lines_in pairs + place + 1
+
+-- so is a comparison that stops at a line
+abbrev pub IfApart : (ℕ → Type 0) → Fault → Type 0
+IfApart P (Data error) = Unit {0}
+IfApart P (Out error) = Unit {0}
+IfApart P (Apart line) = P line
+IfApart P Memory = Unit {0}
+
+-- of two runs that come after so many lines: the line that is apart
+pub record IsApartIn (items : List ItemShape) (before after : List LineText) (lines line : ℕ) : Type 0 where
+  pub place : ℕ
+  pub apart : first_apart items 0 before after ≡ Some place
+  pub line_is : line ≡ lines + place + 1
+
+-- no count is above this
+abbrev pub AreFew : List ItemShape → List Count → ℕ → Type 0
+AreFew items counts most = (n : ℕ) → n < length items → ((slice_index_or counts n no_count).occurrences ≤ most) × ((slice_index_or counts n no_count).changed ≤ most)

@@ -1,0 +1,33 @@
+//! Why a comparison stops.
+
+ghost use Rattle.std.specs.Prelude.{◌≡◌};
+ghost use Rattle.cse_changes.specs.declared.fault.Fault.TheVariants.{Memory};
+
+use cse_lines::DataError;
+use std::alloc::AllocError;
+use thiserror::Error;
+
+/// Why a comparison stops.
+#[derive(Clone, Copy, Debug, PartialEq, Eq, Error)]
+pub enum Fault {
+    /// The file that was read has a fault.
+    #[error("data: {0}")]
+    Data(DataError),
+    /// The file that was written has one.
+    #[error("out: {0}")]
+    Out(DataError),
+    /// The first line that has none beside it, or one of another record or with other ids; counted from 1.
+    #[error("line {line} is no pair")]
+    Apart { line: u64 },
+    /// Want of memory.
+    #[error("want of memory")]
+    Memory,
+}
+
+impl From<AllocError> for Fault {
+    ghost from_gives = { λ _ e. e ≡ Memory };
+
+    fn from(_refused: AllocError) -> Fault {
+        Fault::Memory
+    }
+}

@@ -1,0 +1,119 @@
+//! Two files, side by side.
+
+ghost use Rattle.std.specs.Prelude.{◌≡◌, ◌<◌, ◌≤◌, ◌+◌, ◌*◌, ◌^◌, ℕ, None, IfErr, IfOk, OnOk, length, replicate, slice_index_or};
+ghost use Rattle.cse_case.specs.Field.{item_at};
+ghost use Rattle.cse_changes.specs.Changes.{count_in, first_apart, no_count, plus};
+ghost use Rattle.cse_changes.specs.Files.{AreFew, IfApart, IsApart, IsApartIn, IsCompared};
+
+use crate::count::Count;
+use crate::fault::Fault;
+use crate::lines::RunLines;
+use crate::pair::first_apart;
+use crate::sums::add_run;
+use cse_dict::Dictionary;
+use cse_lines::{Run, RunReader};
+use cse_value::Input;
+use cse_value::shape::{ItemShape, RecordShape};
+use std::alloc::{AllocError, Global};
+
+/// So many counts of nothing.
+fn no_counts(alloc: Global, len: usize) -> Result<Vec<Count>, AllocError>
+    ensures { IfOk result (λ counts. counts.items ≡ replicate len no_count) }
+{
+    let none = Count {
+        occurrences: 0,
+        changed: 0,
+    };
+    let mut counts = Vec::new(alloc);
+    counts.resize(len, none)?;
+    Ok(counts)
+}
+
+/// Counts each item in the next runs of both files, if all their lines pair up, and adds it to what was counted. So many
+/// lines stand before them. Tells how many lines they have.
+fn add_runs(
+    records: &[RecordShape],
+    items: &[ItemShape],
+    before: Run,
+    after: Run,
+    lines: u64,
+    counts: &mut [Count],
+) -> Result<u64, Fault>
+    requires some { 0 < length before.lines }
+    requires some_after { 0 < length after.lines }
+    requires counts { length counts.old ≡ length items.now }
+    requires room { lines + length before.lines ≤ 2 ^ 40 * 65536 }
+    requires few { AreFew items.now counts.old lines }
+    ensures len { length counts.new ≡ length counts.old }
+    ensures lines { IfOk result (λ n. n ≡ length before.lines) }
+    ensures pairs { OnOk result (first_apart items.now 0 before.lines after.lines ≡ None) }
+    ensures each { OnOk result ((n : ℕ) → n < length items.now → slice_index_or counts.new n no_count ≡ plus (slice_index_or counts.old n no_count) (count_in records.now (item_at items.now n) before.lines after.lines)) }
+    ensures few { OnOk result (AreFew items.now counts.new (lines + length before.lines)) }
+    ensures apart { IfErr result (IfApart (IsApartIn items.now before.lines after.lines lines)) }
+{
+    let Some(before) = RunLines::of(before) else {
+        unreachable!();
+    };
+    let Some(after) = RunLines::of(after) else {
+        unreachable!();
+    };
+    let len = before.len() as u64;
+    if let Some(place) = first_apart(items, &before, &after) {
+        let line = lines + place as u64 + 1;
+        return Err(Fault::Apart { line });
+    }
+    add_run(records, items, &before, &after, counts);
+    Ok(len)
+}
+
+/// Counts each item in a file that was read and one that was written in its place, line beside line: how often it occurs,
+/// and how often it is changed. Both are read once, and a run of each is held.
+pub fn compare<R: Input, S: Input>(
+    alloc: Global,
+    dictionary: &Dictionary,
+    read: &mut R,
+    written: &mut S,
+) -> Result<Vec<Count>, Fault>
+    ensures ok { IfOk result (λ counts. IsCompared dictionary.now (R.remaining read.old) (R.remaining read.new) (S.remaining written.old) (S.remaining written.new) counts.items) }
+    ensures apart { IfErr result (IfApart (IsApart dictionary.now (R.remaining read.old) (R.remaining read.new) (S.remaining written.old) (S.remaining written.new))) }
+{
+    let shape = dictionary.shape();
+    let mut counts = no_counts(alloc, shape.items.len())?;
+    let mut reader = RunReader::new(alloc, dictionary);
+    let mut other = RunReader::new(alloc, dictionary);
+    let mut lines = 0u64;
+    'runs: loop {
+        match reader.next(read) {
+            Err(error) => return Err(Fault::Data(error)),
+            Ok(None) => match other.next(written) {
+                Err(error) => return Err(Fault::Out(error)),
+                Ok(None) => return Ok(counts),
+                Ok(Some(_)) => {
+                    let line = lines + 1;
+                    return Err(Fault::Apart { line });
+                }
+            },
+            Ok(Some(before)) => match other.next(written) {
+                Err(error) => return Err(Fault::Out(error)),
+                Ok(None) => {
+                    let line = lines + 1;
+                    return Err(Fault::Apart { line });
+                }
+                Ok(Some(after)) => {
+                    let added = add_runs(
+                        &shape.records,
+                        &shape.items,
+                        before,
+                        after,
+                        lines,
+                        &mut counts,
+                    );
+                    match added {
+                        Ok(len) => lines += len,
+                        Err(fault) => return Err(fault),
+                    }
+                }
+            },
+        }
+    }
+}
