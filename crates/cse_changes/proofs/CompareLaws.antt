@@ -1,5 +1,5 @@
 -- Laws of a comparison of two files.
-use Rattle.std.proofs.Common.{◌≡◌, ℕ, zero, suc, ◌+◌, ◌*◌, ◌^◌, ◌<◌, ◌≤◌, Bool, true, false, List, [], ◌∷◌, ◌++◌, length, get_or, Option, None, Some, Ok, Err, refl, ap, sym, ◌∙◌, subst, arith, append_assoc, append-nil, add_assoc, zero-add, map, replicate}
+use Rattle.std.proofs.Common.{◌≡◌, ℕ, zero, suc, ◌+◌, ◌*◌, ◌^◌, ◌<◌, ◌≤◌, Bool, true, false, List, [], ◌∷◌, ◌++◌, length, get_or, Option, None, Some, Ok, Err, refl, ap, sym, ◌∙◌, subst, arith, append_assoc, append-nil, add_assoc, ◌⊎◌, zero-add, map, replicate}
 use Rattle.std.specs.Prelude.{sum_by}
 use Rattle.std.specs.Io.KnownBytes.{IsAtEnd}
 use Rattle.std.proofs.lemmas.List.Sums.{sum_by-append}
@@ -8,6 +8,7 @@ use Rattle.cse_value.specs.declared.shape.RecordShape.{RecordShape}
 use Rattle.cse_changes.specs.declared.fault.Fault.{Fault}
 use Rattle.cse_changes.specs.declared.fault.Fault.TheVariants.{Apart, Data, Memory, Out}
 use Rattle.cse_dict.specs.Dictionary.{DictionaryText, shape_of}
+use Rattle.cse_lines.specs.declared.error.DataError.{DataError}
 use Rattle.cse_lines.specs.Line.{FileLine}
 use Rattle.cse_lines.specs.Columns.{LineText}
 use Rattle.cse_lines.specs.Run.{RunText}
@@ -16,8 +17,8 @@ use Rattle.cse_lines.specs.Reader.{Next, ReaderText, held_of, is_front}
 use Rattle.cse_case.specs.Field.{item_at}
 use Rattle.cse_changes.specs.declared.count.Count.{Count}
 use Rattle.cse_changes.specs.Changes.{count_in, first_apart, no_count, plus}
-use Rattle.cse_changes.specs.Files.{AreCounts, AreFew, ArePairs, IfApart, IsApart, IsApartIn, IsCompared, IsRead, IsReadSoFar, RunPair, afters, apart_in, befores, lines_in, lines_of, total}
-use Rattle.cse_changes.proofs.FileLaws.{SoFar, SoFar-none, SoFar-run, as_many, gives, is_read, lines_now, run_lines, so_far}
+use Rattle.cse_changes.specs.Files.{AreCounts, AreFew, ArePairs, HasReadFault, HasWrittenFault, Stops, IfApart, IsApart, IsApartIn, IsCompared, IsRead, IsReadSoFar, RunPair, afters, apart_in, befores, lines_in, lines_of, total}
+use Rattle.cse_changes.proofs.FileLaws.{SoFar, SoFar-none, SoFar-run, as_many, gives, is_read, lines_now, run_lines, so_far, has_fault}
 
 plus_assoc : (a b c : Count) → plus (plus a b) c ≡ plus a (plus b c)
 plus_assoc a b c =
@@ -67,11 +68,12 @@ pub record IsAdded (records : List RecordShape) (items : List ItemShape) (before
   pub few : AreFew items new (lines + length before)
 
 -- what a fault says follows
-pub if_apart : (P Q : ℕ → Type 0) (fault : Fault) → ((line : ℕ) → P line → Q line) → IfApart P fault → IfApart Q fault
-if_apart P Q (Data e) h p = tt
-if_apart P Q (Out e) h p = tt
-if_apart P Q (Apart line) h p = h line p
-if_apart P Q Memory h p = tt
+pub if_apart : (d : DictionaryText) (before after before' after' : Option (List ℕ)) (failed failed' : Bool) (P : ℕ → Type 0) (fault : Fault) → ((line : ℕ) → P line → IsApart d before after before' after' line) → IfApart P fault
+    → Stops d before after before' after' failed failed' fault
+if_apart d before after before' after' failed failed' P (Data e) h p = absurd p
+if_apart d before after before' after' failed failed' P (Out e) h p = absurd p
+if_apart d before after before' after' failed failed' P (Apart line) h p = h line p
+if_apart d before after before' after' failed failed' P Memory h p = absurd p
 
 -- what a comparison knows between runs
 pub record Comparing (d : DictionaryText) (before now : Option (List ℕ)) (r : ReaderText) (before' now' : Option (List ℕ)) (r' : ReaderText) (counts : List Count) (lines : ℕ) : Type 0 where
@@ -92,16 +94,16 @@ none_of (suc n) zero = refl
 none_of (suc n) (suc k) = none_of n k
 
 -- nothing was read
-pub Comparing-none : (d : DictionaryText) (now now' : Option (List ℕ)) (r r' : ReaderText) (counts : List Count) → r.dictionary ≡ d → held_of r ≡ [] → r.lines ≡ 0 → r'.dictionary ≡ d → held_of r' ≡ [] → r'.lines ≡ 0
+pub Comparing-none : (d : DictionaryText) (now now' : Option (List ℕ)) (r r' : ReaderText) (counts : List Count) → r.dictionary ≡ d → held_of r ≡ [] → r.reads ≡ 0 → r.lines ≡ 0 → r'.dictionary ≡ d → held_of r' ≡ [] → r'.reads ≡ 0 → r'.lines ≡ 0
     → counts ≡ replicate (length (shape_of d).items) no_count → length counts ≡ length (shape_of d).items → Comparing d now now r now' now' r' counts 0
-Comparing-none d now now' r r' counts same none front same' none' front' are len =
+Comparing-none d now now' r r' counts same none unread front same' none' unread' front' are len =
     let each : (n : ℕ) → get_or counts n no_count ≡ no_count = λ n. ap (λ l. get_or l n no_count) are ∙ none_of (length (shape_of d).items) n in
     record {
       pairs = [];
       text = [];
       text' = [];
-      read = SoFar-none now d r same none front;
-      written = SoFar-none now' d r' same' none' front';
+      read = SoFar-none now d r same none unread front;
+      written = SoFar-none now' d r' same' none' unread' front';
       are_pairs = tt;
       counts_are = record { as_many = len; each = λ n low. each n };
       few = λ n low. (omega (arith, ap (λ (x : Count). x.occurrences) (each n)), omega (arith, ap (λ (x : Count). x.changed) (each n)));
@@ -221,4 +223,41 @@ module _ (d : DictionaryText) (before now after before' now' after' : Option (Li
         place = 0;
         apart = refl;
         line_is = omega (arith, c.lines_in_are);
+      }
+
+  -- a file has a fault: the one that was read
+  pub stops_read : (error : DataError) (failed : Bool) → Next now after r s (Err error) → (s.ended ≡ true → IsAtEnd after) → (error.number ≡ 70 → (failed ≡ true) ⊎ (s.reads ≡ 2 ^ 40)) → (r'.ended ≡ true → IsAtEnd now')
+      → HasReadFault d before after before' now' failed error
+  stops_read error failed n end reading end' = record {
+    pairs = c.pairs;
+    are_pairs = c.are_pairs;
+    more = given d (is_front r') r'.ended (held_of r');
+    read = has_fault before now after d r s c.text (befores c.pairs) c.read error n failed end reading;
+    written = so_far before' now' d r' c.text' (afters c.pairs) c.written end';
+  }
+
+  -- the one that was written, when the other has ended
+  pub stops_ended : (error : DataError) (failed : Bool) → Next now after r s (Ok None) → Next now' after' r' s' (Err error) → (s'.ended ≡ true → IsAtEnd after') → (error.number ≡ 70 → (failed ≡ true) ⊎ (s'.reads ≡ 2 ^ 40))
+      → HasWrittenFault d before after before' after' failed error
+  stops_ended error failed n n' end' reading = record {
+    pairs = c.pairs;
+    are_pairs = c.are_pairs;
+    more = [];
+    read = whole d before after (befores c.pairs) (is_read before now after d r s c.text (befores c.pairs) c.read n);
+    written = has_fault before' now' after' d r' s' c.text' (afters c.pairs) c.written error n' failed end' reading;
+  }
+
+  -- and when the other gives a run
+  pub stops_written : (run : RunText) (error : DataError) (failed : Bool) → (n : Next now after r s (Ok (Some run))) → Next now' after' r' s' (Err error) → (s.ended ≡ true → IsAtEnd after) → (s'.ended ≡ true → IsAtEnd after')
+      → (error.number ≡ 70 → (failed ≡ true) ⊎ (s'.reads ≡ 2 ^ 40)) → HasWrittenFault d before after before' after' failed error
+  stops_written run error failed n n' end end' reading =
+      let next = (gives before now after d r s c.text (befores c.pairs) c.read run n).lines in
+      let later = given d (is_front s) s.ended (held_of s) in
+      record {
+        pairs = c.pairs;
+        are_pairs = c.are_pairs;
+        more = next ∷ later;
+        read = subst (IsReadSoFar d before after) (append_assoc (befores c.pairs) (next ∷ []) later)
+            (so_far before after d s _ (befores c.pairs ++ next ∷ []) (SoFar-run before now after d r s c.text (befores c.pairs) c.read run n) end);
+        written = has_fault before' now' after' d r' s' c.text' (afters c.pairs) c.written error n' failed end' reading;
       }

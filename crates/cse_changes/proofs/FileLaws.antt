@@ -1,5 +1,5 @@
 -- Laws of a file that is read, run of lines by run of lines.
-use Rattle.std.proofs.Common.{◌≡◌, ℕ, ◌+◌, ◌*◌, ◌^◌, ◌<◌, ◌≤◌, Bool, true, false, List, [], ◌∷◌, ◌++◌, length, Option, None, Some, Ok, Err, Result, refl, ap, sym, ◌∙◌, subst, arith, append_assoc, append-nil, add_assoc, zero-add, eq-eqb, ne_eqb, map}
+use Rattle.std.proofs.Common.{◌≡◌, ℕ, ◌+◌, ◌*◌, ◌^◌, ◌<◌, ◌≤◌, Bool, true, false, List, [], ◌∷◌, ◌++◌, length, Option, None, Some, Ok, Err, Result, refl, ap, sym, ◌∙◌, subst, arith, append_assoc, append-nil, length-append, ◌⊎◌, inl, inr, add_assoc, zero-add, eq-eqb, ne_eqb, map}
 use Rattle.std.specs.Io.KnownBytes.{Consumes, IsAtEnd}
 use Rattle.std.proofs.KnownBytes.{Consumes-trans, Consumes-nil}
 use Rattle.std.proofs.lemmas.List.{length-map}
@@ -9,13 +9,14 @@ use Rattle.cse_lines.specs.Line.{FileLine, lines_in}
 use Rattle.cse_lines.specs.Columns.{line_text}
 use Rattle.cse_lines.specs.Run.{RunText, written_run}
 use Rattle.cse_lines.specs.Runs.{given, given_of, fault_in, later_by, MayFollow}
-use Rattle.cse_lines.specs.Reader.{GivesRun, Next, ReaderText, held_of, is_front}
-use Rattle.cse_changes.specs.Files.{IsRead, IsReadSoFar, lines_of}
+use Rattle.cse_lines.specs.Reader.{GivesRun, IsError, Next, ReaderText, held_of, is_front}
+use Rattle.cse_changes.specs.Files.{HasFault, IsRead, IsReadSoFar, lines_of}
 
 -- the runs so far: their bytes, and that the rest is given of what is held and may follow
 pub record SoFar (before now : Option (List ℕ)) (d : DictionaryText) (r : ReaderText) (text : List ℕ) (runs : List (List FileLine)) : Type 0 where
   pub dictionary : r.dictionary ≡ d
   pub reads : Consumes before now (text ++ held_of r)
+  pub counted : r.reads ≤ length (text ++ held_of r)
   pub goes_on : (later : Bool) (more : List ℕ) → MayFollow r.ended later more → given d true later ((text ++ held_of r) ++ more) ≡ runs ++ given d (is_front r) later (held_of r ++ more)
   pub fault : (later : Bool) (more : List ℕ) → MayFollow r.ended later more → fault_in d true later ((text ++ held_of r) ++ more) ≡ later_by r.lines (fault_in d (is_front r) later (held_of r ++ more))
 
@@ -36,12 +37,13 @@ unfolding fault_in lines_in
 nothing_faulty d front = refl
 
 -- nothing was read
-pub SoFar-none : (now : Option (List ℕ)) (d : DictionaryText) (r : ReaderText) → r.dictionary ≡ d → held_of r ≡ [] → r.lines ≡ 0 → SoFar now now d r [] []
-SoFar-none now d r same none front =
+pub SoFar-none : (now : Option (List ℕ)) (d : DictionaryText) (r : ReaderText) → r.dictionary ≡ d → held_of r ≡ [] → r.reads ≡ 0 → r.lines ≡ 0 → SoFar now now d r [] []
+SoFar-none now d r same none unread front =
     let first : is_front r ≡ true = eq-eqb r.lines 0 front in
     record {
       dictionary = same;
       reads = rw none (Consumes-nil now);
+      counted = omega arith;
       goes_on = λ later more h. ap (λ f. given d f later (held_of r ++ more)) (sym first);
       fault = λ later more h. ap (λ f. fault_in d f later (held_of r ++ more)) (sym first) ∙ (sym (later_by-none (fault_in d (is_front r) later (held_of r ++ more))) ∙ ap (λ n. later_by n (fault_in d (is_front r) later (held_of r ++ more))) (sym front));
     }
@@ -90,6 +92,7 @@ module _ (before now after : Option (List ℕ)) (d : DictionaryText) (r r' : Rea
     SoFar-run = record {
       dictionary = n.dictionary ∙ s.dictionary;
       reads = subst (Consumes before after) shift (Consumes-trans before now after (text ++ held_of r) n.taken s.reads n.consumes);
+      counted = omega (arith, s.counted, n.counted, ap length shift, length-append (text ++ held_of r) n.taken);
       goes_on = λ later rest h.
           let before' = s.goes_on later (n.taken ++ rest) (may_follow r.ended r'.ended later n.taken rest n.stays h) in
           let first = gives.first later rest h in
@@ -124,4 +127,42 @@ module _ (before now after : Option (List ℕ)) (d : DictionaryText) (r r' : Rea
           ∙ (s.goes_on true n.taken (λ e. (refl, (n.stays e).0))
           ∙ (ap (λ l. runs ++ given d (is_front r) true l) n.answers.none
           ∙ (ap (λ l. runs ++ l) (nothing_given d (is_front r)) ∙ append-nil runs)));
+    }
+
+  module _ (error : DataError) (n : Next now after r r' (Err error)) where
+    is_error : IsError d (held_of r ++ n.taken) (is_front r) r'.ended r.lines error
+    is_error = subst (λ (x : DictionaryText). IsError x (held_of r ++ n.taken) (is_front r) r'.ended r.lines error) s.dictionary n.answers
+
+    joined : (text ++ held_of r) ++ n.taken ≡ text ++ (held_of r ++ n.taken)
+    joined = append_assoc text (held_of r) n.taken
+
+    none_given : given d (is_front r) r'.ended (held_of r ++ n.taken) ≡ [] → given d true r'.ended (text ++ (held_of r ++ n.taken)) ≡ runs
+    none_given none =
+        ap (given d true r'.ended) (sym joined) ∙ (s.goes_on r'.ended n.taken (λ e. ((n.stays e).1, (n.stays e).0)) ∙ (ap (λ l. runs ++ l) none ∙ append-nil runs))
+
+    few_reads : (failed : Bool) → (failed ≡ true) ⊎ (r'.reads ≡ 2 ^ 40) → (failed ≡ true) ⊎ (2 ^ 40 ≤ length (text ++ (held_of r ++ n.taken)))
+    few_reads failed (inl f) = inl f
+    few_reads failed (inr f) = inr (omega (arith, s.counted, n.counted, ap length joined, length-append (text ++ held_of r) n.taken))
+
+    both_none : (error.number < 70) ⊎ (error.number ≡ 70) → given d (is_front r) r'.ended (held_of r ++ n.taken) ≡ []
+    both_none (inl low) = (is_error.faulty low).none
+    both_none (inr e) = (is_error.needed e).none
+
+    -- the file has this fault
+    pub has_fault : (failed : Bool) → (r'.ended ≡ true → IsAtEnd after) → (error.number ≡ 70 → (failed ≡ true) ⊎ (r'.reads ≡ 2 ^ 40)) → HasFault d before after failed runs error
+    has_fault failed end reading = record {
+      bytes = text ++ (held_of r ++ n.taken);
+      ended = r'.ended;
+      reads = subst (Consumes before after) joined (Consumes-trans before now after (text ++ held_of r) n.taken s.reads n.consumes);
+      end = end;
+      faulty = λ low.
+          let f = is_error.faulty low in
+          (r.lines + f.place, (ap (fault_in d true r'.ended) (sym joined) ∙ (s.fault r'.ended n.taken (λ e. ((n.stays e).1, (n.stays e).0)) ∙ ap (later_by r.lines) f.fault), f.line));
+      needed = λ e.
+          let f = is_error.needed e in
+          (f.unended, ap (fault_in d true r'.ended) (sym joined) ∙ (s.fault r'.ended n.taken (λ e. ((n.stays e).1, (n.stays e).0)) ∙ ap (later_by r.lines) f.sound));
+      runs_are = λ low. none_given (both_none low);
+      reading = λ e. few_reads failed (reading e);
+      other = is_error.number;
+      no_line = is_error.line;
     }

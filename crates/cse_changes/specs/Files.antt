@@ -1,6 +1,6 @@
 -- Two files of one dictionary side by side, run of lines beside run of lines: what is counted of all items where they pair up,
 -- and why a comparison stops where they don't.
-use Rattle.std.specs.Prelude.{◌≡◌, ◌<◌, ◌≤◌, ◌⊎◌, ℕ, ◌+◌, Bool, true, false, map, List, [], ◌∷◌, ◌++◌, length, sum_by, slice_index_or, Option, None, Some}
+use Rattle.std.specs.Prelude.{◌≡◌, ◌<◌, ◌≤◌, ◌⊎◌, ◌^◌, ℕ, ◌+◌, Bool, true, false, map, List, [], ◌∷◌, ◌++◌, length, sum_by, slice_index_or, Option, None, Some}
 use Rattle.std.specs.Io.KnownBytes.{Consumes, IsAtEnd}
 use Rattle.cse_value.specs.declared.shape.ItemShape.{ItemShape}
 use Rattle.cse_dict.specs.Dictionary.{DictionaryText, shape_of}
@@ -97,12 +97,49 @@ pub record IsApart (d : DictionaryText) (before after before' after' : Option (L
   pub apart : apart_next d more more' ≡ Some place
   pub line_is : line ≡ lines_in pairs + place + 1
 
--- so is a comparison that stops at a line
+-- So far a file was read, and it has a fault, or gives no more bytes: 20 to 22 are those of its first faulty line, 70 comes only where a read is needed,
+-- and then the device has failed, or 2^40 reads gave bytes; another fault is want of memory. All runs that are given before are these, unless memory lacks.
+pub record HasFault (d : DictionaryText) (before after : Option (List ℕ)) (failed : Bool) (runs : List (List FileLine)) (error : DataError) : Type 0 where
+  pub bytes : List ℕ
+  pub ended : Bool
+  pub reads : Consumes before after bytes
+  pub end : ended ≡ true → IsAtEnd after
+  pub faulty : error.number < 70 → (place : ℕ) × ((fault_in d true ended bytes ≡ Some (place, error.number)) × (error.line ≡ place + 1))
+  pub needed : error.number ≡ 70 → (ended ≡ false) × (fault_in d true ended bytes ≡ None)
+  pub runs_are : (error.number < 70) ⊎ (error.number ≡ 70) → given d true ended bytes ≡ runs
+  pub reading : error.number ≡ 70 → (failed ≡ true) ⊎ (2 ^ 40 ≤ length bytes)
+  pub other : 70 ≤ error.number → (error.number ≡ 70) ⊎ (error.number ≡ 90)
+  pub no_line : 70 ≤ error.number → error.line ≡ 0
+
+-- All lines of the runs before pair up, and then the file that was read has the fault.
+pub record HasReadFault (d : DictionaryText) (before after before' after' : Option (List ℕ)) (failed : Bool) (error : DataError) : Type 0 where
+  pub pairs : List RunPair
+  pub are_pairs : ArePairs d pairs
+  pub more : List (List FileLine)
+  pub read : HasFault d before after failed (befores pairs) error
+  pub written : IsReadSoFar d before' after' (afters pairs ++ more)
+
+-- So has the one that was written.
+pub record HasWrittenFault (d : DictionaryText) (before after before' after' : Option (List ℕ)) (failed : Bool) (error : DataError) : Type 0 where
+  pub pairs : List RunPair
+  pub are_pairs : ArePairs d pairs
+  pub more : List (List FileLine)
+  pub read : IsReadSoFar d before after (befores pairs ++ more)
+  pub written : HasFault d before' after' failed (afters pairs) error
+
+-- why a comparison stopped
+abbrev pub Stops : DictionaryText → Option (List ℕ) → Option (List ℕ) → Option (List ℕ) → Option (List ℕ) → Bool → Bool → Fault → Type 0
+Stops d before after before' after' failed failed' (Data error) = HasReadFault d before after before' after' failed error
+Stops d before after before' after' failed failed' (Out error) = HasWrittenFault d before after before' after' failed' error
+Stops d before after before' after' failed failed' (Apart line) = IsApart d before after before' after' line
+Stops d before after before' after' failed failed' Memory = Unit {0}
+
+-- of two runs: no fault but one of a line that is apart
 abbrev pub IfApart : (ℕ → Type 0) → Fault → Type 0
-IfApart P (Data error) = Unit {0}
-IfApart P (Out error) = Unit {0}
+IfApart P (Data error) = ⊥
+IfApart P (Out error) = ⊥
 IfApart P (Apart line) = P line
-IfApart P Memory = Unit {0}
+IfApart P Memory = ⊥
 
 -- of two runs that come after so many lines: the line that is apart
 pub record IsApartIn (items : List ItemShape) (before after : List LineText) (lines line : ℕ) : Type 0 where

@@ -3,7 +3,7 @@
 ghost use Rattle.std.specs.Prelude.{◌≡◌, ◌<◌, ◌≤◌, ◌+◌, ◌*◌, ◌^◌, ℕ, None, IfErr, IfOk, OnOk, length, replicate, slice_index_or};
 ghost use Rattle.cse_case.specs.Field.{item_at};
 ghost use Rattle.cse_changes.specs.Changes.{count_in, first_apart, no_count, plus};
-ghost use Rattle.cse_changes.specs.Files.{AreFew, IfApart, IsApart, IsApartIn, IsCompared};
+ghost use Rattle.cse_changes.specs.Files.{AreFew, IfApart, IsApartIn, IsCompared, Stops};
 
 use crate::count::Count;
 use crate::fault::Fault;
@@ -75,7 +75,7 @@ pub fn compare<R: Input, S: Input>(
     written: &mut S,
 ) -> Result<Vec<Count>, Fault>
     ensures ok { IfOk result (λ counts. IsCompared dictionary.now (R.remaining read.old) (R.remaining read.new) (S.remaining written.old) (S.remaining written.new) counts.items) }
-    ensures apart { IfErr result (IfApart (IsApart dictionary.now (R.remaining read.old) (R.remaining read.new) (S.remaining written.old) (S.remaining written.new))) }
+    ensures stops { IfErr result (Stops dictionary.now (R.remaining read.old) (R.remaining read.new) (S.remaining written.old) (S.remaining written.new) (R.has_failed read.new) (S.has_failed written.new)) }
 {
     let shape = dictionary.shape();
     let mut counts = no_counts(alloc, shape.items.len())?;

@@ -7,7 +7,7 @@ use Rattle.cse_dict.specs.Dictionary.{shape_of}
 use Rattle.cse_changes.specs.declared.count.Count.{Count}
 use Rattle.cse_changes.specs.Changes.{no_count}
 use Rattle.cse_changes.specs.Files.{IsApart, IsApartIn}
-use Rattle.cse_changes.proofs.CompareLaws.{Comparing, Comparing-more, Comparing-none, IsAdded, apart_here, compared, ended_first, ended_second, if_apart}
+use Rattle.cse_changes.proofs.CompareLaws.{Comparing, Comparing-more, Comparing-none, IsAdded, apart_here, compared, ended_first, ended_second, if_apart, stops_ended, stops_read, stops_written}
 use Rattle.cse_changes.proofs.files.compare.Goals as goal
 
 pub runs-init : goal.runs-init
@@ -17,8 +17,8 @@ runs-init g c =
     let len : c.len.result ≡ length (shape_of d).items = omega (arith, c.len.ensures, c.shape-shape.result.now.items.ok.0, ap (λ (s : ShapeLists). length s.items) shape) in
     let are : c.in_ok-counts.counts.items ≡ replicate (length (shape_of d).items) no_count = c.in_ok-counts.ensures ∙ ap (λ n. replicate n no_count) len in
     record {
-      comparing = Comparing-none d _ _ c.new-reader.result c.new-other.result c.in_ok-counts.counts.items c.new-reader.ensures.dictionary c.new-reader.ensures.held c.new-reader.ensures.lines
-          c.new-other.ensures.dictionary c.new-other.ensures.held c.new-other.ensures.lines are (ap length are ∙ length-replicate (length (shape_of d).items) no_count);
+      comparing = Comparing-none d _ _ c.new-reader.result c.new-other.result c.in_ok-counts.counts.items c.new-reader.ensures.dictionary c.new-reader.ensures.held c.new-reader.ensures.reads c.new-reader.ensures.lines
+          c.new-other.ensures.dictionary c.new-other.ensures.held c.new-other.ensures.reads c.new-other.ensures.lines are (ap length are ∙ length-replicate (length (shape_of d).items) no_count);
       sound = c.new-reader.ensures.error;
       sound_other = c.new-other.ensures.error;
       end = λ e. absurd (false≢true (sym c.new-reader.ensures.ended ∙ e));
@@ -33,29 +33,29 @@ returns-in-Ok-None-next-clause-ok g c =
     let other = rw c.in-Ok-None-next.field-0-is at (c.in-Ok-None-next.ensures.next inv.sound_other) in
     compared _ _ _ _ _ _ _ _ _ _ _ _ _ inv.comparing next other
 
-pub returns-in-Ok-Some-next-clause-apart : goal.returns-in-Ok-Some-next-clause-apart
-returns-in-Ok-Some-next-clause-apart g c =
+pub returns-in-Ok-Some-next-clause-stops : goal.returns-in-Ok-Some-next-clause-stops
+returns-in-Ok-Some-next-clause-stops g c =
     let inv = c.runs.invariant in
     let next = rw c.in-Ok-None.field-0-is at (c.in-Ok-None.ensures.next inv.sound) in
     let other = rw c.in-Ok-Some-next.field-0-is at (c.in-Ok-Some-next.ensures.next inv.sound_other) in
     ended_first _ _ _ _ _ _ _ _ _ _ _ _ _ inv.comparing _ next other c.in-Ok-Some-next.ensures.end
 
-pub returns-in-Ok-None-next-2-clause-apart : goal.returns-in-Ok-None-next-2-clause-apart
-returns-in-Ok-None-next-2-clause-apart g c =
+pub returns-in-Ok-None-next-2-clause-stops : goal.returns-in-Ok-None-next-2-clause-stops
+returns-in-Ok-None-next-2-clause-stops g c =
     let inv = c.runs.invariant in
     let next = rw c.in-Ok-Some.field-0-is at (c.in-Ok-Some.ensures.next inv.sound) in
     let other = rw c.in-Ok-None-next-2.field-0-is at (c.in-Ok-None-next-2.ensures.next inv.sound_other) in
     ended_second _ _ _ _ _ _ _ _ _ _ _ _ _ inv.comparing _ next other c.in-Ok-Some.ensures.end
 
-pub returns-in-Err-added-clause-apart : goal.returns-in-Err-added-clause-apart
-returns-in-Err-added-clause-apart g c =
+pub returns-in-Err-added-clause-stops : goal.returns-in-Err-added-clause-stops
+returns-in-Err-added-clause-stops g c =
     let d = c.args.dictionary.now in
     let inv = c.runs.invariant in
     let next = rw c.in-Ok-Some.field-0-is at (c.in-Ok-Some.ensures.next inv.sound) in
     let other = rw c.in-Ok-Some-next-2.field-0-is at (c.in-Ok-Some-next-2.ensures.next inv.sound_other) in
     let shape : shape_lists c.shape-shape.result.now ≡ shape_of d = c.shape-shape.ensures.shape in
     let items = c.deref-in-Ok-Some-next-2.ensures.value ∙ ap (λ (s : ShapeLists). s.items) shape in
-    if_apart _ _ _ (λ line h. apart_here d _ _ _ _ _ _ _ _ _ _ _ _ inv.comparing _ _ next other c.in-Ok-Some.ensures.end c.in-Ok-Some-next-2.ensures.end line
+    if_apart d _ _ _ _ _ _ _ _ (λ line h. apart_here d _ _ _ _ _ _ _ _ _ _ _ _ inv.comparing _ _ next other c.in-Ok-Some.ensures.end c.in-Ok-Some-next-2.ensures.end line
     (subst (λ l. IsApartIn l c.in-Ok-Some.before.lines c.in-Ok-Some-next-2.after.lines c.runs.lines line) items h)) c.in-Err-added.ensures.apart
 
 pub runs-preserved : goal.runs-preserved
@@ -86,3 +86,20 @@ runs-preserved g c =
       end_other = c.in-Ok-Some-next-2.ensures.end;
       few = omega (arith, said.lines, more.lines_are, c.in-Ok-Some.ensures.few);
     }
+
+pub returns-in-Err-clause-stops : goal.returns-in-Err-clause-stops
+returns-in-Err-clause-stops g c =
+    let inv = c.runs.invariant in
+    stops_read _ _ _ _ _ _ (g.S.Input.remaining c.runs.written) _ _ _ c.runs.other _ _ inv.comparing c.in-Err.error _ (c.in-Err.ensures.next inv.sound) c.in-Err.ensures.end (c.in-Err.ensures.failed inv.sound) inv.end_other
+
+pub returns-in-Err-next-clause-stops : goal.returns-in-Err-next-clause-stops
+returns-in-Err-next-clause-stops g c =
+    let inv = c.runs.invariant in
+    let next = rw c.in-Ok-None.field-0-is at (c.in-Ok-None.ensures.next inv.sound) in
+    stops_ended _ _ _ _ _ _ _ _ _ _ _ _ _ inv.comparing c.in-Err-next.error _ next (c.in-Err-next.ensures.next inv.sound_other) c.in-Err-next.ensures.end (c.in-Err-next.ensures.failed inv.sound_other)
+
+pub returns-in-Err-next-2-clause-stops : goal.returns-in-Err-next-2-clause-stops
+returns-in-Err-next-2-clause-stops g c =
+    let inv = c.runs.invariant in
+    let next = rw c.in-Ok-Some.field-0-is at (c.in-Ok-Some.ensures.next inv.sound) in
+    stops_written _ _ _ _ _ _ _ _ _ _ _ _ _ inv.comparing _ c.in-Err-next-2.error _ next (c.in-Err-next-2.ensures.next inv.sound_other) c.in-Ok-Some.ensures.end c.in-Err-next-2.ensures.end (c.in-Err-next-2.ensures.failed inv.sound_other)
