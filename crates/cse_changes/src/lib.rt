@@ -23,6 +23,3 @@ mod worked;
 pub use count::Count;
 pub use fault::Fault;
 pub use files::compare;
-pub use lines::RunLines;
-pub use pair::first_apart;
-pub use sums::add_run;

@@ -1,127 +1,156 @@
-//! Rows that were worked by hand: two runs of one household, and what is told of them.
-
-ghost use Rattle.std.specs.Prelude.{◌≡◌};
+//! Rows that were worked by hand: two files, and what is told of them.
 
 use crate::count::Count;
-use crate::lines::RunLines;
-use crate::pair::first_apart;
-use crate::sums::add_run;
+use crate::fault::Fault;
+use crate::files::compare;
 use cse_dict::Dictionary;
-use cse_lines::RunReader;
 use cse_value::Reads;
 use std::alloc::Global;
 use std::test::Fail;
 
-/// Persons in households, two at most. DECADE lies over the first column of AGE, and a line may be longer than its record.
+/// Persons in households, two at most. DECADE lies over the first column of AGE.
 const PERSONS: &str =
     "[Dictionary]\nName=D\nRecordTypeStart=1\nRecordTypeLen=1\n[Level]\nName=L\n[IdItems]\n[Item]\nName=HH\nStart=2\nLen=3\n[Record]\nName=PERSON\nRecordTypeValue='P'\nRecordLen=9\nMaxRecords=2\n[Item]\nName=SEX\nStart=5\nLen=1\n[Item]\nName=AGE\nStart=7\nLen=3\n[Item]\nName=DECADE\nItemType=SubItem\nStart=7\nLen=1\n";
 
 /// Two persons, a line of no record, and a person too many.
-const HOUSE: &str = "P0011 035\nP0012 030\nX001 abc\nP0011 007\n";
+const HOUSE: &[u8] = b"P0011 035\nP0012 030\nX001 abc\nP0011 007\n";
 
-/// What is told of two runs: how often HH, SEX, AGE and DECADE are changed, or the place of the first line that is apart.
-type Told = Result<[u64; 4], usize>;
+/// Two households.
+const TOWN: &[u8] = b"P0011 035\nP0012 030\nP0021 040\n";
 
-/// Runs, and what is told of them.
-type Row = (&'static str, &'static str, Told);
+/// How often HH, SEX, AGE and DECADE are there and changed; or the kind of a fault and its line.
+type Told = Result<[(u64, u64); 4], (u8, u64)>;
 
-const ROWS: [Row; 14] = [
-    (HOUSE, HOUSE, Ok([0, 0, 0, 0])),
-    // one item on one line
+/// Two files, and what is told of them.
+type Row = (&'static [u8], &'static [u8], Told);
+
+/// The kinds of faults: of the file that was read, of the one that was written, of both.
+const READ: u8 = 1;
+
+const WRITTEN: u8 = 2;
+
+const APART: u8 = 3;
+
+const NOTHING: Told = Ok([(4, 0), (2, 0), (2, 0), (2, 0)]);
+
+const ROWS: [Row; 24] = [
+    (b"", b"", Ok([(0, 0), (0, 0), (0, 0), (0, 0)])),
+    (HOUSE, HOUSE, NOTHING),
+    // one item on one line, and on each line
     (
         HOUSE,
-        "P0011 035\nP0011 030\nX001 abc\nP0011 007\n",
-        Ok([0, 1, 0, 0]),
-    ),
-    // one item on each line
-    (
-        HOUSE,
-        "P0012 035\nP0011 030\nX001 abc\nP0011 007\n",
-        Ok([0, 2, 0, 0]),
-    ),
-    // an item that lies over another, and a column that is of one alone
-    (
-        HOUSE,
-        "P0011 135\nP0012 030\nX001 abc\nP0011 007\n",
-        Ok([0, 0, 1, 1]),
+        b"P0011 035\nP0011 030\nX001 abc\nP0011 007\n",
+        Ok([(4, 0), (2, 1), (2, 0), (2, 0)]),
     ),
     (
         HOUSE,
-        "P0011 036\nP0012 039\nX001 abc\nP0011 007\n",
-        Ok([0, 0, 2, 0]),
+        b"P0012 035\nP0011 030\nX001 abc\nP0011 007\n",
+        Ok([(4, 0), (2, 2), (2, 0), (2, 0)]),
     ),
-    // unseen lines
+    // an item that lies over another, and columns of one alone
     (
         HOUSE,
-        "P0011 035\nP0012 030\nX001 xyz\nP0012 107\n",
-        Ok([0, 0, 0, 0]),
+        b"P0011 135\nP0012 030\nX001 abc\nP0011 007\n",
+        Ok([(4, 0), (2, 0), (2, 1), (2, 1)]),
     ),
-    // the last line has no LF, and another end
     (
-        "P0011 035\nP0012 030",
-        "P0011 035\nP0012 031\r\n",
-        Ok([0, 0, 1, 0]),
+        HOUSE,
+        b"P0011 036\nP0012 041\nX001 abc\nP0011 007\n",
+        Ok([(4, 0), (2, 0), (2, 2), (2, 0)]),
     ),
-    ("\u{feff}P0011 035\n", "P0011 035", Ok([0, 0, 0, 0])),
-    // a line that is longer than its record, and shorter ones
-    ("P0011 035\n", "P0011 035 more\n", Ok([0, 0, 0, 0])),
-    ("P0011\n", "P0011    \n", Ok([0, 0, 0, 0])),
-    ("P0011\n", "P0011 0\n", Ok([0, 0, 1, 1])),
-    // no line beside one, lines of other records, other ids
-    ("P0011 035\nP0012 030", "P0011 035\n", Err(1)),
-    ("P0011 035\nP0012 030\n", "P0011 035\nX0012 030\n", Err(1)),
-    ("P0011 035\n", "P0021 035\n", Err(0)),
+    // unseen lines, and a column of no item
+    (
+        HOUSE,
+        b"P0011 035\nP0012 030\nX001 xyz\nP0012 107\n",
+        NOTHING,
+    ),
+    (
+        HOUSE,
+        b"P0011x035\nP0012 030\nX001 abc\nP0011 007\n",
+        NOTHING,
+    ),
+    // the last line has no LF, ends of lines, the mark
+    (
+        b"P0011 035\nP0012 030",
+        b"P0011 035\r\nP0012 031\n",
+        Ok([(2, 0), (2, 0), (2, 1), (2, 0)]),
+    ),
+    (
+        b"\xef\xbb\xbfP0011 035\n",
+        b"P0011 035",
+        Ok([(1, 0), (1, 0), (1, 0), (1, 0)]),
+    ),
+    // longer lines than their record, and shorter ones
+    (
+        b"P0011 035\n",
+        b"P0011 035 more\n",
+        Ok([(1, 0), (1, 0), (1, 0), (1, 0)]),
+    ),
+    (
+        b"P0011\n",
+        b"P0011    \n",
+        Ok([(1, 0), (1, 0), (1, 0), (1, 0)]),
+    ),
+    (
+        b"P0011\n",
+        b"P0011 0\n",
+        Ok([(1, 0), (1, 0), (1, 1), (1, 1)]),
+    ),
+    // a character beyond ASCII is one column
+    (
+        b"P0011 035\n",
+        b"P001\xc3\xa9 035\n",
+        Ok([(1, 0), (1, 1), (1, 0), (1, 0)]),
+    ),
+    // two households: each has its own occurrences
+    (
+        TOWN,
+        b"P0012 035\nP0012 030\nP0022 140\n",
+        Ok([(3, 0), (3, 2), (3, 1), (3, 1)]),
+    ),
+    // lines that are no pairs: none beside one, of another record, with other ids, in another place
+    (b"P0011 035\nP0012 030", b"P0011 035\n", Err((APART, 2))),
+    (b"P0011 035\n", b"P0011 035\nP0012 030", Err((APART, 2))),
+    (TOWN, b"P0011 035\nP0012 030\n", Err((APART, 3))),
+    (b"P0011 035\nP0012 030\n", TOWN, Err((APART, 3))),
+    (
+        b"P0011 035\nP0012 030\n",
+        b"P0011 035\nX0012 030\n",
+        Err((APART, 2)),
+    ),
+    (TOWN, b"P0011 035\nP0012 030\nP0031 040\n", Err((APART, 3))),
+    (TOWN, b"P0011 035\nP0021 040\nP0012 030\n", Err((APART, 2))),
+    // faulty lines
+    (
+        b"P0011 035\nP0021 040\n\xff\n",
+        b"P0011 035\nP0021 040\n",
+        Err((READ, 3)),
+    ),
+    (
+        b"P0011 035\nP0021 040\n",
+        b"P0011 035\n\xff\n",
+        Err((WRITTEN, 2)),
+    ),
 ];
 
-/// The lines of the first run of a file.
-fn lines_of(alloc: Global, dictionary: &Dictionary, file: &str) -> Option<RunLines> {
-    let mut input = Reads::new(file.as_bytes());
-    let mut reader = RunReader::new(alloc, dictionary);
-    match reader.next(&mut input) {
-        Ok(Some(run)) => RunLines::of(run),
-        _ => None,
-    }
+/// How often an item is there and changed.
+fn pair(count: Count) -> (u64, u64) {
+    (count.occurrences, count.changed)
 }
 
-/// What is told of two runs, if the items are four, and occur in this many lines.
-fn told(dictionary: &Dictionary, before: &RunLines, after: &RunLines) -> Option<Told> {
-    let shape = dictionary.shape();
-    if let Some(place) = first_apart(&shape.items, before, after) {
-        return Some(Err(place));
-    }
-    if shape.items.len() != 4 {
-        return None;
-    }
-    let none = Count {
-        occurrences: 0,
-        changed: 0,
-    };
-    let mut counts = [none; 4];
-    let lines = before.len() as u64;
-    add_run(&shape.records, &shape.items, before, after, &mut counts);
-    if counts[0].occurrences != lines || counts[1].occurrences != lines.min(2) {
-        return None;
-    }
-    Some(Ok([
-        counts[0].changed,
-        counts[1].changed,
-        counts[2].changed,
-        counts[3].changed,
-    ]))
-}
-
-/// Whether this is told of two files.
-fn holds(alloc: Global, dictionary: &Dictionary, row: &Row) -> bool {
-    let (before, after, wanted) = row;
-    let Some(before) = lines_of(alloc, dictionary, before) else {
-        return false;
-    };
-    let Some(after) = lines_of(alloc, dictionary, after) else {
-        return false;
-    };
-    match told(dictionary, &before, &after) {
-        Some(found) => found == *wanted,
-        None => false,
+/// What is told of two files, if the items are four.
+fn told(alloc: Global, dictionary: &Dictionary, before: &[u8], after: &[u8]) -> Option<Told> {
+    let mut read = Reads::new(before);
+    let mut written = Reads::new(after);
+    match compare(alloc, dictionary, &mut read, &mut written) {
+        Ok(counts) => match counts.as_slice() {
+            [a, b, c, d] => Some(Ok([pair(*a), pair(*b), pair(*c), pair(*d)])),
+            _ => None,
+        },
+        Err(Fault::Data(error)) => Some(Err((READ, error.line))),
+        Err(Fault::Out(error)) => Some(Err((WRITTEN, error.line))),
+        Err(Fault::Apart { line }) => Some(Err((APART, line))),
+        Err(Fault::Memory) => None,
     }
 }
 
@@ -130,8 +159,8 @@ fn rows(rt: HostRuntime) -> Result<(), Fail> {
     let dictionary = Dictionary::read(rt.alloc(), PERSONS.as_bytes())
         .ok()
         .ok_or("no dictionary")?;
-    for row in &ROWS {
-        assert!(rt; holds(rt.alloc(), &dictionary, row));
+    for (before, after, wanted) in &ROWS {
+        assert!(rt; told(rt.alloc(), &dictionary, before, after) == Some(*wanted));
     }
     Ok(())
 }
