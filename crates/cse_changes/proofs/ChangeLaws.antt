@@ -1,5 +1,5 @@
 -- Laws of what was changed, place by place.
-use Rattle.std.proofs.Common.{◌≡◌, ℕ, zero, suc, ◌+◌, ◌-◌, ◌<◌, ◌≤◌, Bool, true, false, not, ◌||◌, ◌&&◌, List, [], ◌∷◌, length, get_or, take, drop, Option, None, Some, cond, refl, ap, sym, ◌∙◌, arith, add-one, add_assoc, eq-eqb, ne_eqb, eqb, nat_lt, map, lt-ltb, le-ltb, drop_of_length-le, if◌then◌else◌, zero-add, ltb-true, ltb-false, min, inl, inr}
+use Rattle.std.proofs.Common.{◌≡◌, ℕ, zero, suc, ◌+◌, ◌-◌, ◌<◌, ◌≤◌, Bool, true, false, not, ◌||◌, ◌&&◌, List, [], ◌∷◌, length, get_or, take, drop, Option, None, Some, cond, refl, ap, sym, ◌∙◌, arith, add-one, eq-eqb, ne_eqb, nat_lt, drop_of_length-le, if◌then◌else◌, ltb-true, ltb-false, min, inl, inr}
 use Rattle.std.specs.Prelude.{count_by, ◌==◌}
 use Rattle.std.proofs.lemmas.Bool.{cases_lt, false≢true}
 use Rattle.std.proofs.lemmas.List.Sums.{sum_by-cons}

@@ -1,10 +1,10 @@
 //! An item in two runs of lines, side by side.
 
-ghost use Rattle.std.specs.Prelude.{◌≡◌, ◌<◌, ◌≤◌, ◌+◌, ◌^◌, ◌&&◌, length, get_or, nat_lt, take, count_by};
+ghost use Rattle.std.specs.Prelude.{◌≡◌, ◌<◌, ◌≤◌, ◌+◌, ◌^◌, ◌&&◌, length, get_or, nat_lt, take};
 ghost use Rattle.cse_lines.specs.Bytes.{columns_lent};
 ghost use Rattle.cse_case.specs.Seen.{is_of, places_from as own_places};
 ghost use Rattle.cse_value.specs.Occurrences.{most_occurrences};
-ghost use Rattle.cse_changes.specs.Changes.{columns_at, count_in, counted, differ, is_changed, places_from, types_of};
+ghost use Rattle.cse_changes.specs.Changes.{count_in, counted, differ, is_changed, places_from, types_of};
 
 use crate::count::Count;
 use crate::lines::RunLines;

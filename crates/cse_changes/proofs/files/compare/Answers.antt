@@ -1,13 +1,12 @@
-use Rattle.std.proofs.Common.{◌≡◌, ℕ, ◌+◌, ◌≤◌, ◌*◌, ◌^◌, List, length, replicate, ap, sym, ◌∙◌, refl, arith, subst, Option, None, Some, Ok, Err, true}
+use Rattle.std.proofs.Common.{◌≡◌, length, replicate, ap, sym, ◌∙◌, arith, subst}
 use Rattle.std.specs.Vec.{with_items}
 use Rattle.std.proofs.lemmas.Bool.{false≢true}
 use Rattle.std.proofs.lemmas.List.{length-replicate, with_items_is}
 use Rattle.cse_value.specs.Shape.{ShapeLists, shape_lists}
 use Rattle.cse_dict.specs.Dictionary.{shape_of}
-use Rattle.cse_changes.specs.declared.count.Count.{Count}
 use Rattle.cse_changes.specs.Changes.{no_count}
-use Rattle.cse_changes.specs.Files.{IsApart, IsApartIn}
-use Rattle.cse_changes.proofs.CompareLaws.{Comparing, Comparing-more, Comparing-none, IsAdded, apart_here, compared, ended_first, ended_second, if_apart, stops_ended, stops_read, stops_written}
+use Rattle.cse_changes.specs.Files.{IsApartIn}
+use Rattle.cse_changes.proofs.CompareLaws.{Comparing-more, Comparing-none, IsAdded, apart_here, compared, ended_first, ended_second, if_apart, stops_ended, stops_read, stops_written}
 use Rattle.cse_changes.proofs.files.compare.Goals as goal
 
 pub runs-init : goal.runs-init

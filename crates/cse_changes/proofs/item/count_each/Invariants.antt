@@ -1,4 +1,4 @@
-use Rattle.std.proofs.Common.{◌≡◌, ℕ, List, ◌+◌, ◌≤◌}
+use Rattle.std.proofs.Common.{◌≡◌, ◌+◌, ◌≤◌}
 use Rattle.std.specs.Prelude.{count_by}
 use Rattle.cse_changes.specs.Changes.{is_changed_at, places_from, types_of}
 use Rattle.cse_changes.proofs.ChangeLaws.{left_each}

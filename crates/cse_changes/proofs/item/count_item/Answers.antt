@@ -1,4 +1,4 @@
-use Rattle.std.proofs.Common.{◌≡◌, sym, ◌∙◌}
+use Rattle.std.proofs.Common.{sym, ◌∙◌}
 use Rattle.cse_changes.proofs.ChangeLaws.{id_counts, own_counts}
 use Rattle.cse_changes.proofs.item.count_item.Goals as goal
 

@@ -1,13 +1,12 @@
-use Rattle.std.proofs.Common.{◌≡◌, ◌+◌, ◌<◌, length, get_or, take, ap, sym, ◌∙◌, arith, cond}
+use Rattle.std.proofs.Common.{◌≡◌, ◌+◌, ◌<◌, length, get_or, ap, sym, ◌∙◌, arith, cond}
 use Rattle.std.specs.Prelude.{count_by}
 use Rattle.cse_lines.specs.Bytes.{columns_lent}
 use Rattle.cse_lines.specs.Columns.{no_line}
-use Rattle.cse_case.specs.Seen.{is_of, places_from as own_places}
-use Rattle.cse_changes.specs.Changes.{columns_at, is_changed, is_changed_at, types_of}
-use Rattle.cse_changes.proofs.ChangeLaws.{at_most_one, byte_is, count_next, left, left_none, left_passed, left_seen, length_next}
+use Rattle.cse_case.specs.Seen.{is_of}
+use Rattle.cse_changes.specs.Changes.{columns_at, is_changed, is_changed_at}
+use Rattle.cse_changes.proofs.ChangeLaws.{at_most_one, byte_is, count_next, left_passed, left_seen, length_next}
 use Rattle.cse_changes.proofs.item.count_seen.Goals as goal
 use Rattle.cse_changes.proofs.item.count_seen.Goals.{then-is_next, else-is_next}
-use Rattle.std.proofs.lemmas.List.{length-map}
 use Rattle.std.specs.Prelude.{◌&&◌, nat_lt}
 
 pub lines-preserved : goal.lines-preserved

@@ -1,4 +1,4 @@
-use Rattle.std.proofs.Common.{◌≡◌, ◌+◌, ap, sym, ◌∙◌, drop, not, ◌&&◌}
+use Rattle.std.proofs.Common.{◌+◌, ap, sym, ◌∙◌, drop, not, ◌&&◌}
 use Rattle.cse_lines.specs.Bytes.{columns_lent}
 use Rattle.cse_changes.specs.Changes.{has_same_ids}
 use Rattle.cse_changes.proofs.ChangeLaws.{ids_none, ids_on}
