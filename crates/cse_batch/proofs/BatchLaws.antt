@@ -1,9 +1,9 @@
 -- The texts of batches over more and more runs.
 use Rattle.std.proofs.Common.{◌≡◌, ℕ, Bool, true, false, List, [], ◌∷◌, ◌++◌, Option, Some, None, refl, sym, ap, ◌∙◌, subst, append_assoc, append-nil}
 use Rattle.std.specs.Prelude.{not, is_some, ◌&&◌}
-use Rattle.cse_parts.specs.Image.{MessageLists}
-use Rattle.cse_parts.specs.declared.entries.EventCode.{EventCode}
-use Rattle.cse_parts.specs.declared.entries.EventCode.TheVariants.{ApplicationPostproc}
+use Rattle.cse_image_parts.specs.Image.{MessageLists}
+use Rattle.cse_image_parts.specs.declared.entries.EventCode.{EventCode}
+use Rattle.cse_image_parts.specs.declared.entries.EventCode.TheVariants.{ApplicationPostproc}
 use Rattle.cse_lines.specs.Line.{FileLine}
 use Rattle.cse_lines.specs.Runs.{given, fault_in}
 use Rattle.cse_verify.specs.Verified.{VerifiedProgram}

@@ -2,12 +2,12 @@
 use Rattle.std.specs.Prelude.{◌==◌, if◌then◌else◌}
 use Rattle.std.proofs.Common.{◌≡◌, ℕ, ◌⊎◌, inl, inr, ap, ◌∙◌, subst, Result, Ok, Err}
 use Rattle.cse_value.specs.Shape.{ShapeLists}
-use Rattle.cse_parts.specs.Image.{Image}
+use Rattle.cse_image_parts.specs.Image.{Image}
 use Rattle.cse_image.specs.declared.error.ImageError.{ImageError}
 use Rattle.cse_image.specs.Place.{Answers}
-use Rattle.cse_typing.specs.declared.refusal.Refusal.{Refusal}
-use Rattle.cse_typing.specs.Typed.{IsTyped, IsOutOfMemory}
-use Rattle.cse_bounds.specs.Bounded.{IsBounded}
+use Rattle.cse_code_typing.specs.declared.refusal.Refusal.{Refusal}
+use Rattle.cse_code_typing.specs.Typed.{IsTyped, IsOutOfMemory}
+use Rattle.cse_code_bounds.specs.Bounded.{IsBounded}
 use Rattle.cse_batch.specs.declared.image.CheckFault.{CheckFault}
 use Rattle.cse_batch.specs.declared.image.CheckFault.TheVariants as faults
 use Rattle.cse_batch.specs.Checked.{of_reading, of_verifying}

@@ -7,7 +7,7 @@ use Rattle.std.proofs.KnownBytes.{Appends-nil, Appends-trans, Consumes-nil}
 use Rattle.cse_value.specs.declared.device.Failed.{Failed}
 use Rattle.cse_value.specs.Writing.{AppendsFront, FailsAtErr, WritesAll}
 use Rattle.cse_value.proofs.WriteLaws.{AppendsFront-after}
-use Rattle.cse_parts.specs.declared.entries.EventCode.TheVariants.{ApplicationPostproc}
+use Rattle.cse_image_parts.specs.declared.entries.EventCode.TheVariants.{ApplicationPostproc}
 use Rattle.cse_dict.specs.Dictionary.{item_names}
 use Rattle.cse_lines.specs.Runs.{fault_in, given}
 use Rattle.cse_decks.specs.Store.{Kept}

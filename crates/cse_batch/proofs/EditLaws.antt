@@ -3,13 +3,13 @@ use Rattle.std.proofs.Common.{◌≡◌, ℕ, Bool, true, List, [], ◌∷◌, �
 use Rattle.std.specs.Prelude.{replicate}
 use Rattle.std.specs.Option.{option_map_or}
 use Rattle.cse_value.specs.declared.number.Num.{Num}
-use Rattle.cse_parts.specs.declared.entries.EventCode.{EventCode}
-use Rattle.cse_parts.specs.declared.entries.EventCode.TheVariants as codes
-use Rattle.cse_parts.specs.Image.{Image, MessageLists}
+use Rattle.cse_image_parts.specs.declared.entries.EventCode.{EventCode}
+use Rattle.cse_image_parts.specs.declared.entries.EventCode.TheVariants as codes
+use Rattle.cse_image_parts.specs.Image.{Image, MessageLists}
 use Rattle.cse_lines.specs.Line.{FileLine}
 use Rattle.cse_lines.specs.Run.{written_run}
 use Rattle.cse_case.specs.Case.{CaseText}
-use Rattle.cse_bounds.specs.CaseEvents.{Moment, moment}
+use Rattle.cse_code_bounds.specs.CaseEvents.{Moment, moment}
 use Rattle.cse_decks.specs.Store.{Kept, StoreFits}
 use Rattle.cse_output.specs.Gathering.{Going, Gathering, Puts}
 use Rattle.cse_report.specs.Listing.{BeginsCase, BeginsRun, Report}

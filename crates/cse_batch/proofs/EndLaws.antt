@@ -6,18 +6,18 @@ use Rattle.std.proofs.lemmas.Bool.{eqb-true, false≢true}
 use Rattle.std.proofs.lemmas.List.Sums.{sum_by-cons}
 use Rattle.std.proofs.lemmas.Option.{same_Some}
 use Rattle.cse_value.specs.declared.shape.ItemShape.{ItemShape}
-use Rattle.cse_parts.specs.declared.entries.EventCode.{EventCode}
-use Rattle.cse_parts.specs.declared.entries.EventCode.TheVariants as codes
-use Rattle.cse_parts.specs.declared.entries.EventEntry.{EventEntry}
-use Rattle.cse_parts.specs.Codes.{event_code}
-use Rattle.cse_parts.specs.Image.{Image}
+use Rattle.cse_image_parts.specs.declared.entries.EventCode.{EventCode}
+use Rattle.cse_image_parts.specs.declared.entries.EventCode.TheVariants as codes
+use Rattle.cse_image_parts.specs.declared.entries.EventEntry.{EventEntry}
+use Rattle.cse_image_parts.specs.Codes.{event_code}
+use Rattle.cse_image_parts.specs.Image.{Image}
 use Rattle.cse_case.specs.Case.{CaseText, records_of, types_of}
 use Rattle.cse_case.specs.Seen.{is_case}
 use Rattle.cse_case.specs.Fit.{IsFit}
-use Rattle.cse_typing.specs.Handlers.{is_of, routine_of}
-use Rattle.cse_bounds.specs.Bound.{bound}
-use Rattle.cse_bounds.specs.CaseEvents.{Moment, moment, event, item_events, occurrence_events, record_events, records_events, case_events, event_bound, events_bound}
-use Rattle.cse_bounds.specs.EventBound.{case_bound, times_in_run}
+use Rattle.cse_code_typing.specs.Handlers.{is_of, routine_of}
+use Rattle.cse_code_bounds.specs.Bound.{bound}
+use Rattle.cse_code_bounds.specs.CaseEvents.{Moment, moment, event, item_events, occurrence_events, record_events, records_events, case_events, event_bound, events_bound}
+use Rattle.cse_code_bounds.specs.EventBound.{case_bound, times_in_run}
 use Rattle.cse_decks.specs.Store.{Kept, StoreFits}
 use Rattle.cse_verify.specs.Verified.{VerifiedProgram}
 use Rattle.cse_steps.specs.State.{State, World}

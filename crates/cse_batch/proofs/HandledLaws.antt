@@ -7,13 +7,13 @@ use Rattle.std.proofs.lemmas.Bool.{ltb-false, or_parts}
 use Rattle.std.proofs.lemmas.List.{nil_from_length}
 use Rattle.std.proofs.lemmas.Option.{none-some, same_Some}
 use Rattle.cse_value.specs.declared.shape.ItemShape.{ItemShape}
-use Rattle.cse_parts.specs.declared.entries.Event.{Event}
-use Rattle.cse_parts.specs.declared.entries.EventCode.TheVariants as codes
-use Rattle.cse_parts.specs.Image.{Image}
+use Rattle.cse_image_parts.specs.declared.entries.Event.{Event}
+use Rattle.cse_image_parts.specs.declared.entries.EventCode.TheVariants as codes
+use Rattle.cse_image_parts.specs.Image.{Image}
 use Rattle.cse_case.specs.Case.{CaseText}
 use Rattle.cse_decks.specs.Store.{Kept}
-use Rattle.cse_typing.specs.Handlers.{routine_of}
-use Rattle.cse_bounds.specs.CaseEvents.{Moment, moment, event, event_bound, item_events, occurrence_events, record_events, records_events}
+use Rattle.cse_code_typing.specs.Handlers.{routine_of}
+use Rattle.cse_code_bounds.specs.CaseEvents.{Moment, moment, event, event_bound, item_events, occurrence_events, record_events, records_events}
 use Rattle.cse_verify.specs.Verified.{VerifiedProgram}
 use Rattle.cse_steps.specs.State.{State}
 use Rattle.cse_steps.specs.Run.{first, first_calls}

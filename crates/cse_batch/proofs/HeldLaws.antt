@@ -1,6 +1,6 @@
 -- Reports that are held while a run goes on.
 use Rattle.std.proofs.Common.{◌≡◌, ℕ, List, [], ◌∷◌, ◌++◌, refl, sym, ap, ◌∙◌, append_assoc, append-nil}
-use Rattle.cse_parts.specs.Image.{MessageLists}
+use Rattle.cse_image_parts.specs.Image.{MessageLists}
 use Rattle.cse_report.specs.Listing.{Report, heading_after, lines_from, lines_of, listing}
 use Rattle.cse_report.specs.Held.{Held, Flushes, Progress, Step, after_steps, begun, ending, flushed, given, reported, reports_in, stepped, unwritten}
 use Rattle.cse_report.specs.Unended.{unended}

@@ -4,7 +4,7 @@ use Rattle.std.specs.Prelude.{count_by}
 use Rattle.std.specs.List.{AllByRecursion}
 use Rattle.std.proofs.lemmas.Bool.{cases_lt, eq-eqb}
 use Rattle.std.proofs.lemmas.List.Sums.{sum_by-cons}
-use Rattle.cse_typing.specs.Order.{NamesEachOnce}
+use Rattle.cse_code_typing.specs.Order.{NamesEachOnce}
 
 -- a number that is not among the elements
 some_is_one : (r rest all : ℕ) → all ≡ (cond (eqb r r) 1 0) + rest → all ≡ 0 → ⊥

@@ -2,10 +2,10 @@
 use Rattle.std.proofs.Common.{◌≡◌, ℕ, suc, ◌+◌, ◌-◌, ◌<◌, true, drop, map, Result, Ok, Err, OnOk, arith, List, [], ◌∷◌, ◌++◌, Option, Some, refl, sym, ap, ◌∙◌, subst}
 use Rattle.std.specs.Prelude.{is_some}
 use Rattle.std.proofs.lemmas.List.{map-append}
-use Rattle.cse_parts.specs.declared.entries.Event.{Event}
+use Rattle.cse_image_parts.specs.declared.entries.Event.{Event}
 use Rattle.cse_value.specs.declared.shape.ItemShape.{ItemShape}
 use Rattle.cse_case.specs.Case.{CaseText}
-use Rattle.cse_bounds.specs.CaseEvents.{Moment, item_events, occurrence_events, record_events, records_events}
+use Rattle.cse_code_bounds.specs.CaseEvents.{Moment, item_events, occurrence_events, record_events, records_events}
 use Rattle.cse_decks.specs.Store.{Kept}
 use Rattle.cse_report.specs.Held.{Held}
 use Rattle.cse_report.specs.Listing.{Gives}

@@ -7,7 +7,7 @@ use Rattle.std.proofs.lemmas.Bool.{false≢true}
 use Rattle.std.proofs.lemmas.List.{length-map}
 use Rattle.std.proofs.lemmas.List.Folds.{flat_map-map}
 use Rattle.std.proofs.lemmas.Option.{get_or_from_slice_get, slice_get-map}
-use Rattle.cse_parts.specs.declared.entries.EventCode.TheVariants.{ApplicationPreproc}
+use Rattle.cse_image_parts.specs.declared.entries.EventCode.TheVariants.{ApplicationPreproc}
 use Rattle.cse_dict.specs.Dictionary.{DictionaryText}
 use Rattle.cse_lines.specs.declared.line.Ending.{Ending}
 use Rattle.cse_lines.specs.Line.{FileLine}
@@ -20,7 +20,7 @@ use Rattle.cse_lines.specs.Written.{mark_bytes, written_line}
 use Rattle.cse_case.specs.Case.{CaseText, case_of}
 use Rattle.cse_case.specs.Fit.{IsFit}
 use Rattle.cse_case.proofs.FitLaws.{fits_read}
-use Rattle.cse_bounds.specs.CaseEvents.{event_bound, moment}
+use Rattle.cse_code_bounds.specs.CaseEvents.{event_bound, moment}
 use Rattle.cse_decks.specs.Store.{Kept, StoreFits}
 use Rattle.cse_verify.specs.Verified.{VerifiedProgram}
 use Rattle.cse_steps.specs.State.{State}

@@ -6,14 +6,14 @@
 use Rattle.std.specs.Prelude.{ℕ, ◌+◌, Bool, true, ◌&&◌, not, is_some, if◌then◌else◌, List, [], ◌∷◌, ◌++◌, length, map, replicate, None}
 use Rattle.std.specs.Option.{option_map_or}
 use Rattle.cse_value.specs.declared.number.Num.{Num}
-use Rattle.cse_parts.specs.declared.entries.EventCode.{EventCode}
-use Rattle.cse_parts.specs.declared.entries.EventCode.TheVariants.{ApplicationPreproc, ApplicationPostproc}
+use Rattle.cse_image_parts.specs.declared.entries.EventCode.{EventCode}
+use Rattle.cse_image_parts.specs.declared.entries.EventCode.TheVariants.{ApplicationPreproc, ApplicationPostproc}
 use Rattle.cse_dict.specs.Dictionary.{DictionaryText, item_names}
 use Rattle.cse_lines.specs.Line.{FileLine}
 use Rattle.cse_lines.specs.Run.{written_run}
 use Rattle.cse_lines.specs.Runs.{given, fault_in}
 use Rattle.cse_case.specs.Case.{CaseText, case_of, unseen_lines}
-use Rattle.cse_bounds.specs.CaseEvents.{moment}
+use Rattle.cse_code_bounds.specs.CaseEvents.{moment}
 use Rattle.cse_verify.specs.Verified.{VerifiedProgram}
 use Rattle.cse_decks.specs.Store.{Kept}
 use Rattle.cse_decks.specs.Deck.{deck_text}

@@ -1,14 +1,14 @@
 -- Which images may run with a dictionary, and why others may not.
 use Rattle.std.specs.Prelude.{◌≡◌, ◌==◌, ℕ, List, length, Err, if◌then◌else◌}
 use Rattle.cse_value.specs.Shape.{ShapeLists}
-use Rattle.cse_parts.specs.Image.{Image}
+use Rattle.cse_image_parts.specs.Image.{Image}
 use Rattle.cse_image.specs.declared.error.ImageError.{ImageError}
 use Rattle.cse_image.specs.Spelling.{StandFor}
 use Rattle.cse_image.specs.Reading.{reading}
 use Rattle.cse_image.specs.Place.{placed}
-use Rattle.cse_typing.specs.declared.refusal.Refusal.{Refusal}
-use Rattle.cse_typing.specs.Typed.{IsTyped}
-use Rattle.cse_bounds.specs.Bounded.{IsBounded}
+use Rattle.cse_code_typing.specs.declared.refusal.Refusal.{Refusal}
+use Rattle.cse_code_typing.specs.Typed.{IsTyped}
+use Rattle.cse_code_bounds.specs.Bounded.{IsBounded}
 use Rattle.cse_verify.specs.FirstFault.{IsFirstFault}
 use Rattle.cse_batch.specs.declared.image.CheckFault.{CheckFault}
 use Rattle.cse_batch.specs.declared.image.CheckFault.TheVariants as faults

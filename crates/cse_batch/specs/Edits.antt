@@ -1,8 +1,8 @@
 -- What a run of lines comes to, and an event of the application.
 use Rattle.std.specs.Prelude.{◌≡◌, ℕ, Bool, List, Option, Some}
-use Rattle.cse_parts.specs.declared.entries.EventCode.{EventCode}
+use Rattle.cse_image_parts.specs.declared.entries.EventCode.{EventCode}
 use Rattle.cse_case.specs.Case.{CaseText}
-use Rattle.cse_bounds.specs.CaseEvents.{moment}
+use Rattle.cse_code_bounds.specs.CaseEvents.{moment}
 use Rattle.cse_decks.specs.Store.{Kept}
 use Rattle.cse_output.specs.Gathering.{Going, Gathering}
 use Rattle.cse_report.specs.Held.{begun as no_reports, flushed}

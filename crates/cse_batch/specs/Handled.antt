@@ -3,10 +3,10 @@ use Rattle.std.specs.Prelude.{◌≡◌, ◌<◌, ◌==◌, ◌||◌, nat_lt, �
 use Rattle.std.specs.List.{AllByRecursion, filter_map}
 use Rattle.cse_value.specs.declared.shape.ItemShape.{ItemShape}
 use Rattle.cse_dict.specs.Dictionary.{shape_of}
-use Rattle.cse_parts.specs.declared.entries.Event.{Event}
-use Rattle.cse_parts.specs.declared.entries.EventCode.TheVariants.{LevelPreproc, LevelPostproc, RecordPreproc, RecordPostproc, ItemPreproc, ItemPostproc}
-use Rattle.cse_parts.specs.Image.{Image}
-use Rattle.cse_bounds.specs.CaseEvents.{event}
+use Rattle.cse_image_parts.specs.declared.entries.Event.{Event}
+use Rattle.cse_image_parts.specs.declared.entries.EventCode.TheVariants.{LevelPreproc, LevelPostproc, RecordPreproc, RecordPostproc, ItemPreproc, ItemPostproc}
+use Rattle.cse_image_parts.specs.Image.{Image}
+use Rattle.cse_code_bounds.specs.CaseEvents.{event}
 use Rattle.cse_verify.specs.Verified.{VerifiedProgram}
 use Rattle.cse_machine.specs.declared.handled.Handled.{Handled}
 use Rattle.cse_machine.specs.Handled.{handled_by}

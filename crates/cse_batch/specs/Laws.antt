@@ -4,9 +4,9 @@ use Rattle.cse_lines.specs.Line.{FileLine}
 use Rattle.cse_lines.specs.Runs.{given}
 use Rattle.cse_case.specs.Case.{CaseText}
 use Rattle.cse_case.specs.Fit.{IsFit}
-use Rattle.cse_parts.specs.declared.entries.EventCode.TheVariants.{ApplicationPreproc, ApplicationPostproc}
-use Rattle.cse_bounds.specs.CaseEvents.{Moment, moment}
-use Rattle.cse_bounds.specs.EventBound.{case_bound, run_bound}
+use Rattle.cse_image_parts.specs.declared.entries.EventCode.TheVariants.{ApplicationPreproc, ApplicationPostproc}
+use Rattle.cse_code_bounds.specs.CaseEvents.{Moment, moment}
+use Rattle.cse_code_bounds.specs.EventBound.{case_bound, run_bound}
 use Rattle.cse_decks.specs.Store.{Kept, StoreFits}
 use Rattle.cse_report.specs.Unended.{Begins, unended}
 use Rattle.cse_verify.specs.Verified.{VerifiedProgram}

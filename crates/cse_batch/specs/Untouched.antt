@@ -3,7 +3,7 @@
 -- ends never change, and a line into which no step wrote is written byte for byte, as each unseen line is.
 use Rattle.std.specs.Prelude.{◌≡◌, ◌⊎◌, ℕ, ◌+◌, Bool, true, false, List, [], ◌∷◌, ◌++◌, length, map, slice_get, slice_index_or, encode_utf8_all, Some, None}
 use Rattle.std.specs.List.{flat_map}
-use Rattle.cse_parts.specs.declared.instruction.Instr.{Instr}
+use Rattle.cse_image_parts.specs.declared.instruction.Instr.{Instr}
 use Rattle.cse_dict.specs.Dictionary.{DictionaryText}
 use Rattle.cse_lines.specs.Line.{FileLine, end_bytes, ending_of, is_marked}
 use Rattle.cse_lines.specs.Columns.{columns_of, id_of, line_text}
@@ -15,7 +15,7 @@ use Rattle.cse_case.specs.Case.{CaseText, case_of, records_of, types_of}
 use Rattle.cse_case.specs.Seen.{is_case}
 use Rattle.cse_case.specs.Sight.{IsUnseenAt}
 use Rattle.cse_decks.specs.Store.{Kept, StoreFits}
-use Rattle.cse_typing.specs.Code.{code_of}
+use Rattle.cse_code_typing.specs.Code.{code_of}
 use Rattle.cse_verify.specs.Verified.{VerifiedProgram}
 use Rattle.cse_steps.specs.Columns.{is_write}
 use Rattle.cse_steps.specs.Events.{IsWrittenIn}

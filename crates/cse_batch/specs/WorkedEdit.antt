@@ -2,11 +2,11 @@
 use Rattle.std.specs.Prelude.{◌≡◌, pos, true, false, List, [], ◌∷◌, ◌++◌, codes, length, None}
 use Rattle.cse_value.specs.declared.shape.ItemKind.TheVariants.{Number}
 use Rattle.cse_value.specs.declared.shape.ItemShape.{ItemShape}
-use Rattle.cse_parts.specs.declared.entries.Ambient.TheVariants as ambients
-use Rattle.cse_parts.specs.declared.entries.EventCode.TheVariants.{LevelPreproc}
-use Rattle.cse_parts.specs.declared.entries.Gift.TheVariants as gifts
-use Rattle.cse_parts.specs.declared.instruction.Instr.{Instr}
-use Rattle.cse_parts.specs.declared.instruction.Op.TheVariants as ops
+use Rattle.cse_image_parts.specs.declared.entries.Ambient.TheVariants as ambients
+use Rattle.cse_image_parts.specs.declared.entries.EventCode.TheVariants.{LevelPreproc}
+use Rattle.cse_image_parts.specs.declared.entries.Gift.TheVariants as gifts
+use Rattle.cse_image_parts.specs.declared.instruction.Instr.{Instr}
+use Rattle.cse_image_parts.specs.declared.instruction.Op.TheVariants as ops
 use Rattle.cse_dict.specs.Dictionary.{DictionaryText}
 use Rattle.cse_output.specs.Gathering.{line}
 use Rattle.cse_verify.specs.Verified.{VerifiedProgram}

@@ -1,7 +1,7 @@
 //! A run of lines: its heading and unseen lines, and its events.
 
 ghost use Rattle.std.specs.Prelude.{◌≡◌, Some, OnOk};
-ghost use Rattle.cse_parts.specs.Image.{Image};
+ghost use Rattle.cse_image_parts.specs.Image.{Image};
 ghost use Rattle.cse_report.specs.AllReported.{all_reported};
 ghost use Rattle.cse_report.specs.Reports.{ReportsFit};
 ghost use Rattle.cse_batch.specs.Batch.{unseen_reports};

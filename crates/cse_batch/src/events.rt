@@ -1,10 +1,10 @@
 //! The events of a case, in order.
 
 ghost use Rattle.std.specs.Prelude.{◌≡◌, ◌≤◌, Some, OnOk};
-ghost use Rattle.cse_bounds.specs.CaseEvents.{case_events, event, item_events, moment, occurrence_events, record_events, records_events};
+ghost use Rattle.cse_code_bounds.specs.CaseEvents.{case_events, event, item_events, moment, occurrence_events, record_events, records_events};
 ghost use Rattle.cse_report.specs.Reports.{ReportsFit};
 ghost use Rattle.cse_steps.specs.Fits.{IsThere, occurrences_in};
-ghost use Rattle.cse_typing.specs.Handlers.{routine_of};
+ghost use Rattle.cse_code_typing.specs.Handlers.{routine_of};
 ghost use Rattle.cse_machine.specs.Handled.{handled_by};
 ghost use Rattle.cse_batch.specs.Handled.{AreHandled, IsHandledRecord};
 ghost use Rattle.cse_batch.specs.Scene.{GoesOn, scene, scene_after, scene_after_all};

@@ -1,7 +1,7 @@
 //! What runs the events of a verified program.
 
 ghost use Rattle.std.specs.Prelude.{◌≡◌, Option, Some, None, IfOk, OnErr, OnOk, true};
-ghost use Rattle.cse_bounds.specs.CaseEvents.{moment};
+ghost use Rattle.cse_code_bounds.specs.CaseEvents.{moment};
 ghost use Rattle.cse_verify.specs.Verified.{VerifiedProgram};
 ghost use Rattle.cse_case.specs.Fit.{IsFit};
 ghost use Rattle.cse_decks.specs.Store.{StoreFits};

@@ -4,7 +4,7 @@ use Rattle.std.specs.Prelude.{◌||◌, nat_eq, IsTrue, Result, Ok, Err, IfOk, I
 use Rattle.std.specs.Str.{IsUtf8, is_utf8}
 use Rattle.std.proofs.lemmas.Str.{IsUtf8-from_is_utf8}
 use Rattle.std.proofs.lemmas.Bool.{eqb-true}
-use Rattle.cse_parts.specs.Image.{Image}
+use Rattle.cse_image_parts.specs.Image.{Image}
 use Rattle.cse_image.specs.Spelling.{Spells}
 use Rattle.cse_dict.specs.Dictionary.{DictionaryText, shape_of}
 use Rattle.cse_syntax.specs.declared.error.SyntaxError.{SyntaxError}
@@ -14,18 +14,18 @@ use Rattle.cse_syntax.specs.Tree as syntax
 use Rattle.cse_syntax.specs.Grammar.{IsSource}
 use Rattle.cse_syntax.specs.Text.{pieces, pieces_of}
 use Rattle.cse_syntax.specs.Source.{IsSourceText, said_from}
-use Rattle.cse_typed.specs.Typed.{Tree}
+use Rattle.cse_logic_tree.specs.Typed.{Tree}
 use Rattle.cse_types.specs.declared.error.TypeError.{TypeError}
 use Rattle.cse_types.specs.Fault as types
 use Rattle.cse_types.specs.Fault.{at_line}
 use Rattle.cse_types.specs.MessageFile.{MessageText, ReadsMessages, file_lines}
 use Rattle.cse_types.specs.OrderFile.{ReadsOrder}
 use Rattle.cse_types.specs.WellTyped.{IsTypedAs}
-use Rattle.cse_typing.specs.Typed.{IsTyped}
-use Rattle.cse_bounds.specs.Bounded.{IsBounded}
+use Rattle.cse_code_typing.specs.Typed.{IsTyped}
+use Rattle.cse_code_bounds.specs.Bounded.{IsBounded}
 use Rattle.cse_compile.specs.Program.{IsProgramOf}
-use Rattle.cse_checked_code.specs.Costs.{KeepsCosts}
-use Rattle.cse_room.specs.Within.{IsWithin}
+use Rattle.cse_law_sources_are_sound.specs.Costs.{KeepsCosts}
+use Rattle.cse_law_sources_have_room.specs.Within.{IsWithin}
 use Rattle.cse_build.specs.declared.error.BuildFault.{BuildFault}
 use Rattle.cse_build.specs.Fault.{at_no_place, of_syntax, of_type, out_of_memory}
 use Rattle.cse_build.specs.Build.{AreEntries, AreNamed, IsBuilt, IsFault, IsFaultBehind, IsImage, IsLimitFault, IsLogic, IsLogicFault, IsMessageFault, IsOrderFault, IsSourceFault, IsTextFault}

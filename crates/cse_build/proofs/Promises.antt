@@ -5,18 +5,18 @@ use Rattle.std.proofs.Math.Logic.{∥∥₁_elim, ∥∥₁_prop}
 use Rattle.cse_dict.specs.Dictionary.{DictionaryText, shape_of}
 use Rattle.cse_dict.specs.Sound.{IsSound as IsSoundDictionary}
 use Rattle.cse_syntax.specs.Grammar.{spell_tree}
-use Rattle.cse_typed.specs.Typed.{Tree}
-use Rattle.cse_typed.specs.Erase.{erase_tree}
+use Rattle.cse_logic_tree.specs.Typed.{Tree}
+use Rattle.cse_logic_tree.specs.Erase.{erase_tree}
 use Rattle.cse_types.specs.Checked.{Checked, IsChecked}
 use Rattle.cse_compile.specs.declared.error.CompileError.{CompileError}
 use Rattle.cse_compile.specs.Compiled.{HasNoRoom, IsSound, MayTakeLong}
 use Rattle.cse_compile.specs.Fault.{IsReason}
-use Rattle.cse_checked_code.specs.Costs.{KeepsCosts}
-use Rattle.cse_checked_code.proofs.SoundLaws.{grammar_suffices}
-use Rattle.cse_checked_code.proofs.CaseCosts.{long_only_at_cost}
-use Rattle.cse_room.specs.Given.{ShapeFits, AreTexts, AreUtf8}
-use Rattle.cse_room.specs.Within.{IsWithin}
-use Rattle.cse_room.proofs.Whole.{large_alone}
+use Rattle.cse_law_sources_are_sound.specs.Costs.{KeepsCosts}
+use Rattle.cse_law_sources_are_sound.proofs.SoundLaws.{grammar_suffices}
+use Rattle.cse_law_sources_are_sound.proofs.CaseCosts.{long_only_at_cost}
+use Rattle.cse_law_sources_have_room.specs.Given.{ShapeFits, AreTexts, AreUtf8}
+use Rattle.cse_law_sources_have_room.specs.Within.{IsWithin}
+use Rattle.cse_law_sources_have_room.proofs.Whole.{large_alone}
 
 differ : IsTrue false → ⊥
 differ h = cc

@@ -8,7 +8,7 @@ use Rattle.cse_syntax.specs.Source.{IsSourceText, said}
 use Rattle.cse_syntax.specs.Text.{Piece}
 use Rattle.cse_syntax.specs.Grammar.{IsSource}
 use Rattle.cse_syntax.proofs.Whole.{one_tree}
-use Rattle.cse_typed.specs.Typed.{Tree}
+use Rattle.cse_logic_tree.specs.Typed.{Tree}
 use Rattle.cse_types.specs.MessageFile.{MessageText, file_lines, messages_behind}
 use Rattle.cse_types.specs.OrderFile.{IsOrder}
 use Rattle.cse_types.specs.WellTyped.{IsTypedAs}

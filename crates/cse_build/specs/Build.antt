@@ -1,22 +1,22 @@
 -- What is built of logic, a message file and an order file, and why nothing is.
 use Rattle.std.specs.Prelude.{◌≡◌, ◌≤◌, ◌⊎◌, ℕ, true, false, List, Some, None, Ok}
 use Rattle.std.specs.Str.{is_utf8}
-use Rattle.cse_parts.specs.Image.{Image}
+use Rattle.cse_image_parts.specs.Image.{Image}
 use Rattle.cse_image.specs.Spelling.{Spells}
 use Rattle.cse_dict.specs.Dictionary.{DictionaryText, shape_of}
 use Rattle.cse_syntax.specs.Tree as syntax
 use Rattle.cse_syntax.specs.Source.{IsSourceText}
-use Rattle.cse_typed.specs.Typed.{Tree}
+use Rattle.cse_logic_tree.specs.Typed.{Tree}
 use Rattle.cse_types.specs.declared.error.TypeError.{TypeError}
 use Rattle.cse_types.specs.Fault.{at_line}
 use Rattle.cse_types.specs.MessageFile.{MessageText, ReadsMessages, file_lines, first_fault}
 use Rattle.cse_types.specs.OrderFile.{IsOrder, FirstFaulty}
 use Rattle.cse_types.specs.WellTyped.{IsTypedAs}
-use Rattle.cse_typing.specs.Typed.{IsTyped}
-use Rattle.cse_bounds.specs.Bounded.{IsBounded}
+use Rattle.cse_code_typing.specs.Typed.{IsTyped}
+use Rattle.cse_code_bounds.specs.Bounded.{IsBounded}
 use Rattle.cse_compile.specs.Program.{IsProgramOf}
-use Rattle.cse_checked_code.specs.Costs.{KeepsCosts}
-use Rattle.cse_room.specs.Within.{IsWithin}
+use Rattle.cse_law_sources_are_sound.specs.Costs.{KeepsCosts}
+use Rattle.cse_law_sources_have_room.specs.Within.{IsWithin}
 use Rattle.cse_build.specs.declared.error.BuildFault.{BuildFault}
 use Rattle.cse_build.specs.Fault.{at_no_place, no_text, of_type, out_of_memory}
 

@@ -5,17 +5,17 @@
 
 ghost use Rattle.std.specs.Prelude.{◌≡◌, ◌⊎◌, ℕ, List, true, IfOk, IfErr};
 ghost use Rattle.std.specs.Str.{is_utf8};
-ghost use Rattle.cse_parts.specs.Image.{Image};
+ghost use Rattle.cse_image_parts.specs.Image.{Image};
 ghost use Rattle.cse_image.specs.Spelling.{Spells};
 ghost use Rattle.cse_syntax.specs.Tree as syntax;
 ghost use Rattle.cse_syntax.specs.Source.{IsSourceText};
-ghost use Rattle.cse_typed.specs.Typed as typed_spec;
+ghost use Rattle.cse_logic_tree.specs.Typed as typed_spec;
 ghost use Rattle.cse_syntax.specs.Grammar.{spell_tree};
-ghost use Rattle.cse_typed.specs.Erase.{erase_tree};
+ghost use Rattle.cse_logic_tree.specs.Erase.{erase_tree};
 ghost use Rattle.cse_types.specs.Answer.{checked};
 ghost use Rattle.cse_types.specs.OrderFile.{IsOrderOf};
 ghost use Rattle.cse_types.specs.WellTyped.{IsTypedAs};
-ghost use Rattle.cse_room.specs.Given.{AreTexts, AreUtf8};
+ghost use Rattle.cse_law_sources_have_room.specs.Given.{AreTexts, AreUtf8};
 ghost use Rattle.cse_build.specs.Build.{AreSound, IsBuilt, IsFault};
 ghost use Rattle.cse_build.specs.Build.{AreNamed, IsFaultBehind, IsImage, IsLimitFault, IsLogic, IsLogicFault, IsSourceFault};
 ghost use Rattle.cse_build.specs.Fault.{IsReason, out_of_memory};

@@ -3,16 +3,16 @@
 ghost use Rattle.std.specs.Prelude.{◌≡◌, IfOk, IfErr};
 ghost use Rattle.cse_dict.specs.Dictionary.{shape_of};
 ghost use Rattle.cse_syntax.specs.Grammar.{spell_tree};
-ghost use Rattle.cse_typed.specs.Erase.{erase_tree};
-ghost use Rattle.cse_typing.specs.Typed.{IsTyped};
-ghost use Rattle.cse_bounds.specs.Bounded.{IsBounded};
+ghost use Rattle.cse_logic_tree.specs.Erase.{erase_tree};
+ghost use Rattle.cse_code_typing.specs.Typed.{IsTyped};
+ghost use Rattle.cse_code_bounds.specs.Bounded.{IsBounded};
 ghost use Rattle.cse_types.specs.Answer.{checked};
 ghost use Rattle.cse_compile.specs.Compiled.{HasNoRoom};
 ghost use Rattle.cse_compile.specs.Fault.{IsReason};
 ghost use Rattle.cse_compile.specs.Program.{IsProgramOf};
-ghost use Rattle.cse_checked_code.specs.Costs.{KeepsCosts};
-ghost use Rattle.cse_room.specs.Given.{AreTexts, AreUtf8};
-ghost use Rattle.cse_room.specs.Within.{IsWithin};
+ghost use Rattle.cse_law_sources_are_sound.specs.Costs.{KeepsCosts};
+ghost use Rattle.cse_law_sources_have_room.specs.Given.{AreTexts, AreUtf8};
+ghost use Rattle.cse_law_sources_have_room.specs.Within.{IsWithin};
 
 use crate::reading::read_shape;
 use cse_compile::CompileError;

@@ -5,7 +5,7 @@ ghost use Rattle.std.specs.List.{AllByRecursion};
 ghost use Rattle.std.specs.Str.{is_utf8};
 ghost use Rattle.cse_value.specs.Shape.{shape_lists};
 ghost use Rattle.cse_image.specs.Spelling.{ItemFits, RecordFits, SetFits};
-ghost use Rattle.cse_room.specs.Given.{ShapeFits};
+ghost use Rattle.cse_law_sources_have_room.specs.Given.{ShapeFits};
 
 use cse_syntax::Token;
 use cse_value::shape::{ItemShape, RecordShape, SetShape, Shape};

@@ -1,7 +1,7 @@
 -- The exit status of what a command came to, and the faults that it tells.
 use Rattle.std.specs.Prelude.{ℕ, ◌==◌, ◌||◌, if◌then◌else◌, Option, None, Some, Result, Ok, Err}
 use Rattle.cse_image.specs.declared.error.ImageError.{ImageError}
-use Rattle.cse_typing.specs.declared.refusal.Refusal.{Refusal}
+use Rattle.cse_code_typing.specs.declared.refusal.Refusal.{Refusal}
 use Rattle.cse_batch.specs.declared.image.CheckFault.{CheckFault}
 use Rattle.cse_batch.specs.declared.image.CheckFault.TheVariants as checks
 use Rattle.cse_commands.specs.declared.fault.Fault.{Fault}

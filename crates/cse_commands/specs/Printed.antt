@@ -1,7 +1,7 @@
 -- What `try`, `compile` and `run` print.
 use Rattle.std.specs.Prelude.{ℕ, List, [], ◌∷◌, ◌++◌, codes, decimal}
 use Rattle.std.specs.List.{flat_map}
-use Rattle.cse_parts.specs.Image.{MessageLists}
+use Rattle.cse_image_parts.specs.Image.{MessageLists}
 use Rattle.cse_report.specs.declared.argument.Arg.{Arg}
 use Rattle.cse_report.specs.Listing.{Gives}
 use Rattle.cse_report.specs.Held.{texts_of}

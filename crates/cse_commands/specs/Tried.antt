@@ -2,9 +2,9 @@
 use Rattle.std.specs.Prelude.{◌≡◌, ℕ, Bool, true, false, ◌||◌, List, [], Option, None, Result, Ok, Err, codes}
 use Rattle.std.specs.Io.KnownBytes.{Appends}
 use Rattle.cse_value.specs.Writing.{AppendsFront}
-use Rattle.cse_parts.specs.declared.entries.EventCode.TheVariants.{ApplicationPreproc}
-use Rattle.cse_parts.specs.Image.{Image}
-use Rattle.cse_bounds.specs.CaseEvents.{Moment, moment}
+use Rattle.cse_image_parts.specs.declared.entries.EventCode.TheVariants.{ApplicationPreproc}
+use Rattle.cse_image_parts.specs.Image.{Image}
+use Rattle.cse_code_bounds.specs.CaseEvents.{Moment, moment}
 use Rattle.cse_verify.specs.Verified.{VerifiedProgram}
 use Rattle.cse_decks.specs.Store.{Kept, first_kept}
 use Rattle.cse_steps.specs.State.{Told}

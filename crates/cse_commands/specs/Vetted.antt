@@ -3,7 +3,7 @@ use Rattle.std.specs.Prelude.{◌≡◌, ℕ, Bool, true, false, ◌||◌, List,
 use Rattle.std.specs.Io.KnownBytes.{Appends}
 use Rattle.cse_value.specs.Writing.{AppendsFront}
 use Rattle.cse_value.specs.Shape.{ShapeLists}
-use Rattle.cse_parts.specs.Image.{Image}
+use Rattle.cse_image_parts.specs.Image.{Image}
 use Rattle.cse_sections.specs.Sections.{sections_of}
 use Rattle.cse_dict.specs.Dictionary.{DictionaryText, dictionary_of, shape_of}
 use Rattle.cse_dict.specs.Reading.{text_faults, IsAnswer}

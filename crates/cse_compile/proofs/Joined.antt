@@ -2,13 +2,13 @@
 use Rattle.std.proofs.Common.{◌≡◌, ℕ, List, [], ◌∷◌, length, map, refl, sym, ap, subst, ◌∙◌}
 use Rattle.std.specs.Global.{Vec}
 use Rattle.cse_value.specs.Shape.{shape_lists}
-use Rattle.cse_parts.specs.declared.entries.Array.{Array}
-use Rattle.cse_parts.specs.Image.{Image, ArrayLists, array_lists, message_lists, routine_lists}
+use Rattle.cse_image_parts.specs.declared.entries.Array.{Array}
+use Rattle.cse_image_parts.specs.Image.{Image, ArrayLists, array_lists, message_lists, routine_lists}
 use Rattle.cse_dict.specs.Dictionary.{DictionaryText, shape_of}
-use Rattle.cse_typed.specs.Typed.{Tree}
-use Rattle.cse_tables.specs.Tables.{globals_in, arrays_in, message_of}
-use Rattle.cse_tables.specs.Order.{edit_order}
-use Rattle.cse_emit.specs.Setting.{sizes_of}
+use Rattle.cse_logic_tree.specs.Typed.{Tree}
+use Rattle.cse_compile_sections.specs.Tables.{globals_in, arrays_in, message_of}
+use Rattle.cse_compile_sections.specs.Order.{edit_order}
+use Rattle.cse_compile_code.specs.Setting.{sizes_of}
 use Rattle.cse_compile.specs.declared.parts.Said.{Said}
 use Rattle.cse_compile.specs.declared.routes.Routes.{Routes}
 use Rattle.cse_compile.specs.Stands.{AllStand}

@@ -3,18 +3,18 @@ use Rattle.std.proofs.Common.{◌≡◌, ◌≤◌, ℕ, Bool, true, false, List
 use Rattle.std.specs.Prelude.{◌⊎◌, ◌||◌, nat_eq, IsTrue, Result, IfErr}
 use Rattle.std.proofs.lemmas.Result.{IfErr-weaker}
 use Rattle.cse_value.specs.Shape.{ShapeLists}
-use Rattle.cse_parts.specs.Image.{Image}
+use Rattle.cse_image_parts.specs.Image.{Image}
 use Rattle.cse_image.specs.Spelling.{Fits}
 use Rattle.cse_dict.specs.Dictionary.{DictionaryText, shape_of}
-use Rattle.cse_typing.specs.declared.refusal.Refusal.{Refusal}
-use Rattle.cse_typing.specs.Typed.{IsTyped, IsOutOfMemory, BreaksRules, MayNotStand, HasNoStack, IsOfOtherShape, Refuses}
-use Rattle.cse_typing.proofs.TypedLaws.{never_typed}
-use Rattle.cse_bounds.specs.Bounded.{IsBounded}
+use Rattle.cse_code_typing.specs.declared.refusal.Refusal.{Refusal}
+use Rattle.cse_code_typing.specs.Typed.{IsTyped, IsOutOfMemory, BreaksRules, MayNotStand, HasNoStack, IsOfOtherShape, Refuses}
+use Rattle.cse_code_typing.proofs.TypedLaws.{never_typed}
+use Rattle.cse_code_bounds.specs.Bounded.{IsBounded}
 use Rattle.cse_verify.specs.FirstFault.{IsUntypedRoutine, IsTooLongRoutine, AreUnfitEvents, IsTooLongCase, IsFirstFault}
-use Rattle.cse_typed.specs.Typed.{Tree}
+use Rattle.cse_logic_tree.specs.Typed.{Tree}
 use Rattle.cse_compile.specs.declared.error.CompileError.{CompileError}
 use Rattle.cse_compile.specs.Fault.{IsLimit, IsReason}
-use Rattle.cse_pools.specs.Pools.{PoolsFit}
+use Rattle.cse_compile_pools.specs.Pools.{PoolsFit}
 use Rattle.cse_compile.specs.Program.{IsProgramOf, pools_of}
 use Rattle.cse_compile.specs.Compiled.{HasNoRoom, IsSound, MayTakeLong, IsRefused}
 use Rattle.cse_compile.proofs.Spelled.{same_fit}

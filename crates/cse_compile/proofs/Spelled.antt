@@ -9,24 +9,24 @@ use Rattle.std.proofs.lemmas.List.{length-append, length-map}
 use Rattle.std.proofs.lemmas.Option.{none-some, same_Some, slice_get_within}
 use Rattle.cse_value.specs.declared.shape.RecordShape.{RecordShape}
 use Rattle.cse_value.specs.Shape.{ShapeLists}
-use Rattle.cse_parts.specs.declared.instruction.Op.{Op}
-use Rattle.cse_parts.specs.declared.instruction.Op.TheVariants as ops
-use Rattle.cse_parts.specs.declared.instruction.Instr.{Instr}
-use Rattle.cse_parts.specs.declared.version.Version.TheVariants as versions
-use Rattle.cse_parts.specs.Fields.{instructions_in, last_event}
-use Rattle.cse_parts.specs.Image.{Image, Lists, RoutineLists}
-use Rattle.cse_parts.specs.Limits.{most_routines}
-use Rattle.cse_parts.specs.Opcodes.{shape}
-use Rattle.cse_codec.specs.Reader.{AllAfter}
-use Rattle.cse_codec.specs.Spelling.{SectionFits}
+use Rattle.cse_image_parts.specs.declared.instruction.Op.{Op}
+use Rattle.cse_image_parts.specs.declared.instruction.Op.TheVariants as ops
+use Rattle.cse_image_parts.specs.declared.instruction.Instr.{Instr}
+use Rattle.cse_image_parts.specs.declared.version.Version.TheVariants as versions
+use Rattle.cse_image_parts.specs.Fields.{instructions_in, last_event}
+use Rattle.cse_image_parts.specs.Image.{Image, Lists, RoutineLists}
+use Rattle.cse_image_parts.specs.Limits.{most_routines}
+use Rattle.cse_image_parts.specs.Opcodes.{shape}
+use Rattle.cse_image_codec.specs.Reader.{AllAfter}
+use Rattle.cse_image_codec.specs.Spelling.{SectionFits}
 use Rattle.cse_image.specs.Spelling.{RoutineFits, InstrFits, ListsFit, Fits, RecordFits, ItemFits, SetFits, OrderFits, GlobalFits, ArrayFits, MessageFits, EventFits}
 use Rattle.cse_image.proofs.Totals.{total_small, room_left}
 use Rattle.cse_dict.specs.Dictionary.{DictionaryText, shape_of}
-use Rattle.cse_typing.specs.Shapes as shapes
-use Rattle.cse_typed.specs.Typed.{Tree}
-use Rattle.cse_pools.specs.Pools.{PoolLists, PoolsFit, no_pools}
-use Rattle.cse_tables.specs.Outline.{Outline, Handler, functions_in}
-use Rattle.cse_emit.specs.Wide.{Wide, Constant, Chars, Turns, Plain}
+use Rattle.cse_code_typing.specs.Shapes as shapes
+use Rattle.cse_logic_tree.specs.Typed.{Tree}
+use Rattle.cse_compile_pools.specs.Pools.{PoolLists, PoolsFit, no_pools}
+use Rattle.cse_compile_sections.specs.Outline.{Outline, Handler, functions_in}
+use Rattle.cse_compile_code.specs.Wide.{Wide, Constant, Chars, Turns, Plain}
 use Rattle.cse_compile.specs.Program.{IsProgramOf, all_code, declarations, entry_of, handlers, outlines, pools_of, sizes}
 use Rattle.cse_compile.specs.Room.{AreSmall, HasCodeOf, Hold, IsHeld, IsSmall, CannotHold, NoCodeFits}
 use Rattle.cse_compile.specs.Stands.{Stands, AllStand, instr}

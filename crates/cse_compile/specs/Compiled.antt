@@ -1,12 +1,12 @@
 -- Which sources are sound, and what stands against their programs.
 use Rattle.std.specs.Prelude.{◌≡◌, ℕ, List}
 use Rattle.cse_value.specs.Shape.{ShapeLists}
-use Rattle.cse_parts.specs.Image.{Image}
+use Rattle.cse_image_parts.specs.Image.{Image}
 use Rattle.cse_image.specs.Spelling.{Fits}
 use Rattle.cse_dict.specs.Dictionary.{DictionaryText, shape_of}
-use Rattle.cse_typing.specs.Typed.{IsTyped}
-use Rattle.cse_bounds.specs.Bounded.{IsBounded}
-use Rattle.cse_typed.specs.Typed.{Tree}
+use Rattle.cse_code_typing.specs.Typed.{IsTyped}
+use Rattle.cse_code_bounds.specs.Bounded.{IsBounded}
+use Rattle.cse_logic_tree.specs.Typed.{Tree}
 use Rattle.cse_compile.specs.declared.error.CompileError.{CompileError}
 use Rattle.cse_compile.specs.Fault.{IsReason}
 use Rattle.cse_compile.specs.Program.{IsProgramOf}

@@ -2,8 +2,8 @@
 use Rattle.std.specs.Prelude.{map}
 use Rattle.std.specs.String.{string_bytes}
 use Rattle.std.specs.Global.{Vec}
-use Rattle.cse_parts.specs.declared.entries.Array.{Array}
-use Rattle.cse_parts.specs.Image.{Image, array_lists, message_lists, routine_lists}
+use Rattle.cse_image_parts.specs.declared.entries.Array.{Array}
+use Rattle.cse_image_parts.specs.Image.{Image, array_lists, message_lists, routine_lists}
 use Rattle.cse_compile.specs.declared.parts.Said.{Said}
 use Rattle.cse_compile.specs.declared.routes.Routes.{Routes}
 

@@ -5,13 +5,13 @@ use Rattle.std.specs.Ordering.{int_eq}
 use Rattle.std.specs.Set.{is_member}
 use Rattle.std.specs.Str.{IsUtf8, bytes_eq}
 use Rattle.cse_value.specs.declared.shape.RecordShape.{RecordShape}
-use Rattle.cse_parts.specs.Image.{Image}
-use Rattle.cse_parts.specs.Limits.{most_constants, most_instructions, most_limits, most_texts}
+use Rattle.cse_image_parts.specs.Image.{Image}
+use Rattle.cse_image_parts.specs.Limits.{most_constants, most_instructions, most_limits, most_texts}
 use Rattle.cse_image.specs.Spelling.{Fits, TextFits}
-use Rattle.cse_tables.specs.Outline.{Outline, parameters_of}
-use Rattle.cse_pools.specs.Pools.{PoolLists, PoolsFit, with_constant, with_limit, with_text}
-use Rattle.cse_emit.specs.Wide.{Wide, Constant, Chars, Turns, Plain}
-use Rattle.cse_emit.specs.Routines.{routine_size}
+use Rattle.cse_compile_sections.specs.Outline.{Outline, parameters_of}
+use Rattle.cse_compile_pools.specs.Pools.{PoolLists, PoolsFit, with_constant, with_limit, with_text}
+use Rattle.cse_compile_code.specs.Wide.{Wide, Constant, Chars, Turns, Plain}
+use Rattle.cse_compile_code.specs.Routines.{routine_size}
 use Rattle.cse_compile.specs.Program.{all_code, entry_of, pools_of, setting_for}
 use Rattle.cse_compile.specs.Stands.{AllStand}
 

@@ -1,10 +1,10 @@
 -- Which instructions of an image stand for which wide ones: the same, but that a constant, a text and a loop's limit stand in tables.
 use Rattle.std.specs.Prelude.{◌≡◌, ℕ, List, [], ◌∷◌, ◌++◌, Some, slice_get}
-use Rattle.cse_parts.specs.declared.instruction.Op.{Op}
-use Rattle.cse_parts.specs.declared.instruction.Op.TheVariants as ops
-use Rattle.cse_parts.specs.declared.instruction.Instr.{Instr}
-use Rattle.cse_pools.specs.Pools.{PoolLists}
-use Rattle.cse_emit.specs.Wide.{Wide, Constant, Chars, Turns, Plain}
+use Rattle.cse_image_parts.specs.declared.instruction.Op.{Op}
+use Rattle.cse_image_parts.specs.declared.instruction.Op.TheVariants as ops
+use Rattle.cse_image_parts.specs.declared.instruction.Instr.{Instr}
+use Rattle.cse_compile_pools.specs.Pools.{PoolLists}
+use Rattle.cse_compile_code.specs.Wide.{Wide, Constant, Chars, Turns, Plain}
 
 abbrev pub instr : Op → ℕ → ℕ → ℕ → Instr
 instr op a b c = record { op = op; a = a; b = b; c = c }

@@ -2,11 +2,11 @@
 
 ghost use Rattle.std.specs.Prelude.{◌≡◌, IfOk, IfErr};
 ghost use Rattle.cse_dict.specs.Dictionary.{shape_of};
-ghost use Rattle.cse_parts.specs.Image.{image_of};
+ghost use Rattle.cse_image_parts.specs.Image.{image_of};
 ghost use Rattle.cse_image.specs.Spelling.{Fits};
-ghost use Rattle.cse_typing.specs.Typed.{IsTyped};
-ghost use Rattle.cse_bounds.specs.Bounded.{IsBounded};
-ghost use Rattle.cse_typed.specs.Typed.{tree as tree_view};
+ghost use Rattle.cse_code_typing.specs.Typed.{IsTyped};
+ghost use Rattle.cse_code_bounds.specs.Bounded.{IsBounded};
+ghost use Rattle.cse_logic_tree.specs.Typed.{tree as tree_view};
 ghost use Rattle.cse_compile.specs.Fault.{IsReason};
 ghost use Rattle.cse_compile.specs.Program.{IsProgramOf};
 ghost use Rattle.cse_compile.specs.Compiled.{HasNoRoom, IsSound, MayTakeLong, IsRefused};
@@ -15,8 +15,8 @@ use crate::error::{BEYOND, CompileError};
 use crate::parts::parts_of;
 use cse_dict::Dictionary;
 use cse_image::Program;
-use cse_parts::entries::Parts;
-use cse_typed::Tree;
+use cse_image_parts::entries::Parts;
+use cse_logic_tree::Tree;
 use cse_verify::verify;
 use std::alloc::Global;
 

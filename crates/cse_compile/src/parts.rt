@@ -2,24 +2,24 @@
 
 ghost use Rattle.std.specs.Prelude.{◌≡◌, map, length, IfOk, IfErr};
 ghost use Rattle.cse_dict.specs.Dictionary.{shape_of};
-ghost use Rattle.cse_parts.specs.Image.{message_lists, array_lists, image_of};
-ghost use Rattle.cse_typed.specs.Typed.{tree as tree_view};
+ghost use Rattle.cse_image_parts.specs.Image.{message_lists, array_lists, image_of};
+ghost use Rattle.cse_logic_tree.specs.Typed.{tree as tree_view};
 ghost use Rattle.cse_value.specs.Shape.{shape_lists};
-ghost use Rattle.cse_tables.specs.Tables as tables_spec;
-ghost use Rattle.cse_tables.specs.Order as order_spec;
+ghost use Rattle.cse_compile_sections.specs.Tables as tables_spec;
+ghost use Rattle.cse_compile_sections.specs.Order as order_spec;
 ghost use Rattle.cse_compile.specs.Joined.{image_from};
 ghost use Rattle.cse_compile.specs.Program as spec;
 ghost use Rattle.cse_compile.specs.Program.{IsProgramOf};
 ghost use Rattle.cse_compile.specs.Compiled.{HasNoRoom};
 ghost use Rattle.cse_compile.specs.Fault.{IsLimit};
-ghost use Rattle.cse_pools.specs.Pools.{PoolsFit};
+ghost use Rattle.cse_compile_pools.specs.Pools.{PoolsFit};
 
 use crate::error::CompileError;
 use crate::routes::{Routes, declarations_of, routes_of};
+use cse_compile_sections::{arrays_of, edit_order, globals_of, messages_of};
 use cse_dict::Dictionary;
-use cse_parts::entries::{Array, GlobalVariable, Message, Parts};
-use cse_tables::{arrays_of, edit_order, globals_of, messages_of};
-use cse_typed::Tree;
+use cse_image_parts::entries::{Array, GlobalVariable, Message, Parts};
+use cse_logic_tree::Tree;
 use cse_value::shape::{ItemShape, RecordShape, SetShape, Shape};
 use std::alloc::{AllocError, Global};
 

@@ -4,18 +4,18 @@ ghost use Rattle.std.specs.Prelude.{◌≡◌, ◌≤◌, ◌^◌, length, Match
 ghost use Rattle.std.specs.Bool.{Decides};
 ghost use Rattle.cse_syntax.specs.Leaf.{text_of};
 ghost use Rattle.cse_image.specs.Spelling.{TextFits};
-ghost use Rattle.cse_emit.specs.Wide as w;
+ghost use Rattle.cse_compile_code.specs.Wide as w;
 ghost use Rattle.cse_compile.specs.Stands.{Stands, AllStand, IsMore};
 ghost use Rattle.std.specs.Str.{IsUtf8};
-ghost use Rattle.cse_pools.specs.declared.pools.PoolError.TheVariants.{Full};
+ghost use Rattle.cse_compile_pools.specs.declared.pools.PoolError.TheVariants.{Full};
 ghost use Rattle.cse_compile.specs.Fault.{IsLimit};
 ghost use Rattle.cse_compile.specs.Room.{CannotHold, LacksRoom, with_entry};
 
 use crate::error::{BEYOND, CompileError, WANT_OF_MEMORY};
-use cse_emit::Wide;
-use cse_parts::instruction::{Instr, Op};
-use cse_parts::texts::{is_plain_text, is_short_text};
-use cse_pools::{PoolError, Pools};
+use cse_compile_code::Wide;
+use cse_compile_pools::{PoolError, Pools};
+use cse_image_parts::instruction::{Instr, Op};
+use cse_image_parts::texts::{is_plain_text, is_short_text};
 use std::alloc::Global;
 
 fn pool_error(error: PoolError) -> CompileError

@@ -1,30 +1,30 @@
 //! The routines of a typed source with their code, and the events that run them.
 
-ghost use Rattle.cse_parts.specs.Limits.{most_routines};
+ghost use Rattle.cse_image_parts.specs.Limits.{most_routines};
 ghost use Rattle.std.specs.Prelude.{◌≡◌, ◌≤◌, [], ◌++◌, map, length, IfOk, IfErr};
 ghost use Rattle.cse_dict.specs.Dictionary.{shape_of};
-ghost use Rattle.cse_parts.specs.Image.{routine_lists};
-ghost use Rattle.cse_typed.specs.Typed.{tree as tree_view, declaration as declaration_view};
-ghost use Rattle.cse_emit.specs.Setting.{sizes_of};
-ghost use Rattle.cse_tables.specs.Outline as outline_spec;
-ghost use Rattle.cse_tables.specs.Outline.{functions_in};
-ghost use Rattle.cse_tables.specs.Events as events_spec;
+ghost use Rattle.cse_image_parts.specs.Image.{routine_lists};
+ghost use Rattle.cse_logic_tree.specs.Typed.{tree as tree_view, declaration as declaration_view};
+ghost use Rattle.cse_compile_code.specs.Setting.{sizes_of};
+ghost use Rattle.cse_compile_sections.specs.Outline as outline_spec;
+ghost use Rattle.cse_compile_sections.specs.Outline.{functions_in};
+ghost use Rattle.cse_compile_sections.specs.Events as events_spec;
 ghost use Rattle.cse_compile.specs.Stands.{AllStand};
 ghost use Rattle.cse_compile.specs.Pooled.{pools_in};
 ghost use Rattle.cse_compile.specs.Program as spec;
 ghost use Rattle.cse_compile.specs.Fault.{IsLimit};
 ghost use Rattle.cse_compile.specs.Room.{NoCodeFits};
-ghost use Rattle.cse_pools.specs.Pools.{PoolsFit};
+ghost use Rattle.cse_compile_pools.specs.Pools.{PoolsFit};
 
 use crate::coding::{code_all, with_handlers};
 use crate::error::{BEYOND, CompileError, WANT_OF_MEMORY};
 use crate::pooled::{Pooled, resolved};
+use cse_compile_code::Emitter;
+use cse_compile_sections::{Handler, Outline, event_table, function_outlines, handlers_of};
 use cse_dict::Dictionary;
-use cse_emit::Emitter;
-use cse_parts::entries::{Array, EventEntry, Routine};
-use cse_parts::limits::MOST_ROUTINES;
-use cse_tables::{Handler, Outline, event_table, function_outlines, handlers_of};
-use cse_typed::{Declaration, Tree};
+use cse_image_parts::entries::{Array, EventEntry, Routine};
+use cse_image_parts::limits::MOST_ROUTINES;
+use cse_logic_tree::{Declaration, Tree};
 use cse_value::shape::RecordShape;
 use std::alloc::{AllocError, Global};
 

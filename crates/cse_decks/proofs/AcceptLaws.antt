@@ -8,8 +8,8 @@ use Rattle.std.proofs.lemmas.Bool.{cond-true, cond-false, and_from}
 use Rattle.std.proofs.lemmas.List.{set-get_or}
 use Rattle.std.proofs.lemmas.Slice.Eq.{bytes_eq-Decides}
 use Rattle.cse_value.specs.declared.number.Num.{Num}
-use Rattle.cse_parts.specs.Image.{Image, ArrayLists}
-use Rattle.cse_codec.specs.Reader.{AllAfter}
+use Rattle.cse_image_parts.specs.Image.{Image, ArrayLists}
+use Rattle.cse_image_codec.specs.Reader.{AllAfter}
 use Rattle.cse_image.specs.Spelling.{ArrayFits, Fits}
 use Rattle.cse_output.specs.Gathering.{line}
 use Rattle.cse_decks.specs.declared.due.Due.{Due}

@@ -3,7 +3,7 @@ use Rattle.std.proofs.Common.{◌≡◌, ℕ, List, [], ◌∷◌, Option, Some,
 use Rattle.std.specs.Prelude.{IfOk, slice_get, slice_set}
 use Rattle.std.specs.List.{AllByRecursion}
 use Rattle.cse_value.specs.declared.number.Num.{Num}
-use Rattle.cse_parts.specs.Image.{Image, ArrayLists}
+use Rattle.cse_image_parts.specs.Image.{Image, ArrayLists}
 use Rattle.cse_image.specs.Spelling.{Fits}
 use Rattle.cse_decks.specs.declared.error.DeckError.{DeckError}
 use Rattle.cse_decks.specs.Store.{Kept, CellsFit, ArraysFit, first_kept}

@@ -7,7 +7,7 @@ use Rattle.std.proofs.lemmas.List.{take-append-drop, length-take-le, length-drop
 use Rattle.std.proofs.lemmas.List.Concat.{flat_map-append}
 use Rattle.cse_value.specs.declared.number.Num.{Num}
 use Rattle.cse_value.specs.declared.number.Num.TheVariants.{Whole}
-use Rattle.cse_parts.specs.Image.{Image, ArrayLists}
+use Rattle.cse_image_parts.specs.Image.{Image, ArrayLists}
 use Rattle.cse_image.specs.Spelling.{Fits}
 use Rattle.cse_output.specs.Gathering.{line}
 use Rattle.cse_decks.specs.declared.due.Due.{Due}

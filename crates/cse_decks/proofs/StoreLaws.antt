@@ -7,17 +7,17 @@ use Rattle.std.proofs.lemmas.Bool.{lt-ltb}
 use Rattle.std.proofs.lemmas.Bool.Decides.{nat_tests}
 use Rattle.cse_value.specs.Number.{fits_i64}
 use Rattle.std.proofs.lemmas.List.{length-replicate, length-take, length-map, length-set}
-use Rattle.cse_codec.specs.Reader.{AllAfter}
+use Rattle.cse_image_codec.specs.Reader.{AllAfter}
 use Rattle.cse_value.specs.declared.number.Num.{Num}
 use Rattle.cse_value.specs.declared.number.Num.TheVariants.{Whole}
 use Rattle.cse_value.specs.Texts.{blanks}
 use Rattle.cse_value.specs.Field.{put_text}
-use Rattle.cse_parts.specs.declared.entries.GlobalKind.{GlobalKind}
-use Rattle.cse_parts.specs.declared.entries.GlobalKind.TheVariants as kinds
-use Rattle.cse_parts.specs.declared.entries.GlobalVariable.{GlobalVariable}
-use Rattle.cse_parts.specs.declared.entries.Array.{Array}
-use Rattle.cse_parts.specs.Fields.{is_dimension_count, fits_global_length, fits_cells}
-use Rattle.cse_parts.specs.Image.{Image, ArrayLists, array_lists}
+use Rattle.cse_image_parts.specs.declared.entries.GlobalKind.{GlobalKind}
+use Rattle.cse_image_parts.specs.declared.entries.GlobalKind.TheVariants as kinds
+use Rattle.cse_image_parts.specs.declared.entries.GlobalVariable.{GlobalVariable}
+use Rattle.cse_image_parts.specs.declared.entries.Array.{Array}
+use Rattle.cse_image_parts.specs.Fields.{is_dimension_count, fits_global_length, fits_cells}
+use Rattle.cse_image_parts.specs.Image.{Image, ArrayLists, array_lists}
 use Rattle.cse_image.specs.Spelling.{ArrayFits, GlobalFits, Fits}
 use Rattle.cse_decks.specs.declared.global.GlobalValue.{GlobalValue}
 use Rattle.cse_decks.specs.declared.global.GlobalValue.TheVariants.{Number, Words}

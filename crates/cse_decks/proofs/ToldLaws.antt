@@ -9,7 +9,7 @@ use Rattle.std.proofs.lemmas.List.{set-set, set-get_or, get_or-set_same, take_mo
 use Rattle.std.proofs.lemmas.Slice.Eq.{bytes_eq-Decides}
 use Rattle.cse_value.specs.declared.number.Num.{Num}
 use Rattle.cse_value.specs.Field.{shown, fits_num}
-use Rattle.cse_parts.specs.Image.{Image, ArrayLists}
+use Rattle.cse_image_parts.specs.Image.{Image, ArrayLists}
 use Rattle.cse_image.specs.Spelling.{Fits}
 use Rattle.cse_output.specs.Gathering.{line}
 use Rattle.cse_decks.specs.declared.due.Due.{Due}

@@ -8,7 +8,7 @@ use Rattle.std.specs.Char.{is_ascii_digit}
 use Rattle.cse_value.specs.declared.number.Num.{Num}
 use Rattle.cse_value.specs.declared.number.Num.TheVariants.{NotAppl, Missing, Undef}
 use Rattle.cse_value.specs.Field.{field, shown}
-use Rattle.cse_parts.specs.Image.{Image, ArrayLists}
+use Rattle.cse_image_parts.specs.Image.{Image, ArrayLists}
 use Rattle.cse_decks.specs.declared.due.Due.{Due}
 use Rattle.cse_decks.specs.declared.due.Due.TheVariants.{Heading, Opening, Cell, Nothing}
 use Rattle.cse_decks.specs.declared.error.DeckError.{DeckError}

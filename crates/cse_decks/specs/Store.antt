@@ -6,11 +6,11 @@ use Rattle.cse_value.specs.declared.number.Num.{Num}
 use Rattle.cse_value.specs.declared.number.Num.TheVariants.{Whole}
 use Rattle.cse_value.specs.Texts.{blanks}
 use Rattle.cse_value.specs.Field.{fits_num, put_text}
-use Rattle.cse_parts.specs.declared.entries.GlobalKind.{GlobalKind}
-use Rattle.cse_parts.specs.declared.entries.GlobalKind.TheVariants as kinds
-use Rattle.cse_parts.specs.declared.entries.GlobalVariable.{GlobalVariable}
-use Rattle.cse_parts.specs.Fields.{product}
-use Rattle.cse_parts.specs.Image.{Image, ArrayLists}
+use Rattle.cse_image_parts.specs.declared.entries.GlobalKind.{GlobalKind}
+use Rattle.cse_image_parts.specs.declared.entries.GlobalKind.TheVariants as kinds
+use Rattle.cse_image_parts.specs.declared.entries.GlobalVariable.{GlobalVariable}
+use Rattle.cse_image_parts.specs.Fields.{product}
+use Rattle.cse_image_parts.specs.Image.{Image, ArrayLists}
 use Rattle.cse_decks.specs.declared.global.GlobalValue.{GlobalValue}
 use Rattle.cse_decks.specs.declared.global.GlobalValue.TheVariants.{Number, Words}
 

@@ -1,7 +1,7 @@
 //! The cells of saved arrays, read from text.
 
 ghost use Rattle.std.specs.Prelude.{◌≡◌, map, Ok, IfOk};
-ghost use Rattle.cse_parts.specs.Image.{array_lists};
+ghost use Rattle.cse_image_parts.specs.Image.{array_lists};
 ghost use Rattle.cse_decks.specs.Store.{Kept, ArraysFit, StoreFits};
 ghost use Rattle.cse_decks.specs.DeckText.{IsDeckText, IsStore};
 ghost use Rattle.cse_decks.specs.FirstFault.{TellsFirstFault};

@@ -3,7 +3,7 @@
 ghost use Rattle.std.specs.Prelude.{◌≡◌, ◌<◌, ◌+◌, ◌++◌, map, position, slice_get, length, IfOk, OnOk, take};
 ghost use Rattle.std.specs.List.{flat_map, slice_index_or};
 ghost use Rattle.std.specs.Str.{bytes_eq};
-ghost use Rattle.cse_parts.specs.Image.{array_lists};
+ghost use Rattle.cse_image_parts.specs.Image.{array_lists};
 ghost use Rattle.cse_decks.specs.Deck.{size_word, array_line};
 ghost use Rattle.cse_decks.specs.Loading.{Reads, due_at, is_open, opened, opening, Tells, array_read, cell_read, heading_read, opening_read, line_read, lacking, is_done};
 ghost use Rattle.cse_decks.specs.Loading.{cell_of as value_of};

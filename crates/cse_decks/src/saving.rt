@@ -3,7 +3,7 @@
 ghost use Rattle.std.specs.Prelude.{◌≡◌, Ok, map, length};
 ghost use Rattle.std.specs.List.{flat_map};
 ghost use Rattle.cse_value.specs.Writing.{WritesAll, FailsAtErr};
-ghost use Rattle.cse_parts.specs.Image.{array_lists};
+ghost use Rattle.cse_image_parts.specs.Image.{array_lists};
 ghost use Rattle.cse_decks.specs.Store.{StoreFits};
 ghost use Rattle.cse_decks.specs.Deck.{size_word, cell_line, array_line, saved_block, blocks, deck_text};
 ghost use Rattle.cse_decks.specs.DeckText.{saved_kept};

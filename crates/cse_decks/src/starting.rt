@@ -3,13 +3,13 @@
 ghost use Rattle.std.specs.Prelude.{◌≡◌, ◌≤◌, ◌-◌, ◌++◌, pos, IfOk, OnOk, map, length, replicate};
 ghost use Rattle.std.specs.List.{AllByRecursion};
 ghost use Rattle.cse_value.specs.Texts.{blanks};
-ghost use Rattle.cse_parts.specs.Image.{array_lists};
+ghost use Rattle.cse_image_parts.specs.Image.{array_lists};
 ghost use Rattle.cse_decks.specs.Store.{first_global, first_cells};
 
 use crate::cells::ArrayCells;
 use crate::global::{GlobalValue, KeptText};
 use cse_image::{Array, GlobalKind, GlobalVariable};
-use cse_parts::rules::cells_for;
+use cse_image_parts::rules::cells_for;
 use cse_value::{Num, TEXT_LEN, Text};
 use std::alloc::{AllocError, Global};
 

@@ -1,7 +1,7 @@
 //! The store: globals, and the cells of arrays.
 
 ghost use Rattle.std.specs.Prelude.{◌≡◌, ◌<◌, Some, IsSome, IfOk, length};
-ghost use Rattle.cse_parts.specs.Image.{Image};
+ghost use Rattle.cse_image_parts.specs.Image.{Image};
 ghost use Rattle.cse_decks.specs.Store.{ArraysFit, StoreFits, first_kept, number_at, text_at, cells_of, with_global, with_cell, rewritten};
 ghost use Rattle.std.specs.Prelude.{slice_get, slice_set, [], is_some};
 ghost use Rattle.std.specs.List.{slice_index_or};

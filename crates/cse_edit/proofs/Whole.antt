@@ -5,10 +5,10 @@ use Rattle.std.proofs.lemmas.List.{append-nil}
 use Rattle.cse_value.specs.declared.number.Num.{Num}
 use Rattle.cse_value.specs.declared.shape.ItemShape.{ItemShape}
 use Rattle.cse_value.specs.Shape.{ShapeLists}
-use Rattle.cse_parts.specs.declared.version.Version.TheVariants as versions
-use Rattle.cse_parts.specs.declared.entries.EventCode.{EventCode}
-use Rattle.cse_parts.specs.declared.entries.EventCode.TheVariants as codes
-use Rattle.cse_parts.specs.Image.{Image, MessageLists, ArrayLists}
+use Rattle.cse_image_parts.specs.declared.version.Version.TheVariants as versions
+use Rattle.cse_image_parts.specs.declared.entries.EventCode.{EventCode}
+use Rattle.cse_image_parts.specs.declared.entries.EventCode.TheVariants as codes
+use Rattle.cse_image_parts.specs.Image.{Image, MessageLists, ArrayLists}
 use Rattle.cse_output.specs.Gathering.{line}
 use Rattle.cse_dict.specs.Dictionary.{DictionaryText, item_names, shape_of}
 use Rattle.cse_dict.specs.Sound.{IsSound}
@@ -18,7 +18,7 @@ use Rattle.cse_case.specs.Case.{CaseText, case_of, places_of, records_of, types_
 use Rattle.cse_case.specs.Seen.{is_case}
 use Rattle.cse_case.specs.Fit.{IsFit}
 use Rattle.cse_case.proofs.FitLaws.{fits_read}
-use Rattle.cse_bounds.specs.CaseEvents.{Moment, moment, case_events, records_events}
+use Rattle.cse_code_bounds.specs.CaseEvents.{Moment, moment, case_events, records_events}
 use Rattle.cse_decks.specs.Store.{Kept, StoreFits, first_kept, first_global, first_cells}
 use Rattle.cse_decks.specs.declared.error.DeckError.{DeckError}
 use Rattle.cse_decks.specs.Loading.{loaded, read_text, unread, with_arrays}
@@ -30,15 +30,15 @@ use Rattle.cse_verify.specs.Verified.{VerifiedProgram, MayRun}
 use Rattle.cse_steps.specs.State.{World}
 use Rattle.cse_steps.specs.Fits.{FitsFirst, FitsWorld, IsThere, is_of_run, occurrences_in}
 use Rattle.cse_steps.specs.Laws.{EventsEnd}
-use Rattle.cse_typed.specs.Typed.{Tree}
-use Rattle.cse_tables.specs.Tables.{globals_in, arrays_in, message_of}
-use Rattle.cse_tables.specs.Order.{edit_order}
+use Rattle.cse_logic_tree.specs.Typed.{Tree}
+use Rattle.cse_compile_sections.specs.Tables.{globals_in, arrays_in, message_of}
+use Rattle.cse_compile_sections.specs.Order.{edit_order}
 use Rattle.cse_compile.specs.Program.{IsProgramOf}
 use Rattle.cse_meaning.specs.Meaning.{declarations, meaning}
 use Rattle.cse_meaning.specs.Means.{IsEventOf, Means, begins}
-use Rattle.cse_meant.specs.Meant.{CompiledCodeMeans}
-use Rattle.cse_meant.proofs.Built.{built_programs_mean}
-use Rattle.cse_parts.specs.declared.version.Version.{Version}
+use Rattle.cse_law_programs_mean.specs.Meant.{CompiledCodeMeans}
+use Rattle.cse_law_programs_mean.proofs.Built.{built_programs_mean}
+use Rattle.cse_image_parts.specs.declared.version.Version.{Version}
 use Rattle.cse_image.specs.Spelling.{SpellsIn, Spells, StandFor, program_in}
 use Rattle.cse_build.specs.Build.{IsBuilt}
 use Rattle.cse_batch.specs.declared.totals.Totals.{Totals}

@@ -6,8 +6,8 @@ use Rattle.cse_dict.specs.Dictionary.{DictionaryText, dictionary_of}
 use Rattle.cse_dict.specs.Reading.{text_faults, IsAnswer}
 use Rattle.cse_lines.specs.Line.{FileLine}
 use Rattle.cse_lines.specs.Runs.{given, fault_in}
-use Rattle.cse_parts.specs.Image.{Image}
-use Rattle.cse_typed.specs.Typed.{Tree}
+use Rattle.cse_image_parts.specs.Image.{Image}
+use Rattle.cse_logic_tree.specs.Typed.{Tree}
 use Rattle.cse_build.specs.Build.{AreSound, IsFault}
 use Rattle.cse_build.specs.Fault.{IsReason}
 use Rattle.cse_decks.specs.Loading.{loaded}

@@ -3,7 +3,7 @@ use Rattle.std.specs.Prelude.{◌≡◌, ℕ, Bool, true, List, ◌++◌}
 use Rattle.cse_image.specs.Spelling.{StandFor}
 use Rattle.cse_lines.specs.Line.{FileLine}
 use Rattle.cse_lines.specs.Runs.{given}
-use Rattle.cse_typed.specs.Typed.{Tree}
+use Rattle.cse_logic_tree.specs.Typed.{Tree}
 use Rattle.cse_verify.specs.Verified.{VerifiedProgram}
 use Rattle.cse_decks.specs.Loading.{loaded}
 use Rattle.cse_decks.specs.Store.{Kept, StoreFits, first_kept}

@@ -2,28 +2,28 @@
 -- it; what a batch puts together of events is as in `cse_batch`.
 use Rattle.std.specs.Prelude.{ℕ, ◌+◌, Bool, true, false, if◌then◌else◌, List, [], ◌∷◌, ◌++◌, length, map, replicate, Result, Ok, Err}
 use Rattle.cse_value.specs.declared.number.Num.{Num}
-use Rattle.cse_parts.specs.Image.{ArrayLists}
+use Rattle.cse_image_parts.specs.Image.{ArrayLists}
 use Rattle.cse_decks.specs.declared.due.Due.TheVariants.{Heading}
 use Rattle.cse_decks.specs.declared.error.DeckError.{DeckError}
 use Rattle.cse_decks.specs.Loading.{Reading, read_text}
-use Rattle.cse_parts.specs.declared.entries.EventCode.{EventCode}
-use Rattle.cse_parts.specs.declared.entries.EventCode.TheVariants.{ApplicationPreproc, ApplicationPostproc, LevelPreproc, LevelPostproc}
+use Rattle.cse_image_parts.specs.declared.entries.EventCode.{EventCode}
+use Rattle.cse_image_parts.specs.declared.entries.EventCode.TheVariants.{ApplicationPreproc, ApplicationPostproc, LevelPreproc, LevelPostproc}
 use Rattle.cse_output.specs.Gathering.{line}
 use Rattle.cse_dict.specs.Dictionary.{DictionaryText, item_names, shape_of}
 use Rattle.cse_lines.specs.Line.{FileLine}
 use Rattle.cse_lines.specs.Runs.{given}
 use Rattle.cse_case.specs.Case.{CaseText, case_of, places_of, records_of, types_of}
 use Rattle.cse_case.specs.Seen.{is_case}
-use Rattle.cse_bounds.specs.CaseEvents.{Moment, moment, records_events}
+use Rattle.cse_code_bounds.specs.CaseEvents.{Moment, moment, records_events}
 use Rattle.cse_decks.specs.Store.{Kept, first_global, first_cells}
 use Rattle.cse_decks.specs.Deck.{heading, ending, blocks}
 use Rattle.cse_report.specs.Listing.{listing}
 use Rattle.cse_report.specs.Unended.{unended}
 use Rattle.cse_report.specs.Frequency.{all_imputed, frequencies_text}
 use Rattle.cse_steps.specs.State.{World}
-use Rattle.cse_typed.specs.Typed.{Tree}
-use Rattle.cse_tables.specs.Tables.{globals_in, arrays_in, message_of}
-use Rattle.cse_tables.specs.Order.{edit_order}
+use Rattle.cse_logic_tree.specs.Typed.{Tree}
+use Rattle.cse_compile_sections.specs.Tables.{globals_in, arrays_in, message_of}
+use Rattle.cse_compile_sections.specs.Order.{edit_order}
 use Rattle.cse_meaning.specs.Meaning.{declarations, meaning}
 use Rattle.cse_meaning.specs.Means.{begins}
 use Rattle.cse_batch.specs.declared.totals.Totals.{Totals}

@@ -5,7 +5,7 @@ ghost use Rattle.cse_edit.specs.Laws.{BatchesMean};
 
 use cse_dict::Dictionary;
 use cse_image::{Code, none_begins_another};
-use cse_meant::compiled_code_means;
+use cse_law_programs_mean::compiled_code_means;
 use cse_steps::event_ends;
 use cse_verify::Verified;
 

@@ -1,23 +1,23 @@
 -- The laws of fields of one byte, or two, that stand for a value.
 use Rattle.std.proofs.Common.{ℕ, Bool, Option, arith}
 use Rattle.cse_value.specs.declared.shape.ItemKind.{ItemKind}
-use Rattle.cse_parts.specs.declared.entries.GlobalKind.{GlobalKind}
-use Rattle.cse_parts.specs.declared.entries.LocalKind.{LocalKind}
-use Rattle.cse_parts.specs.declared.entries.Ambient.{Ambient}
-use Rattle.cse_parts.specs.declared.entries.Gift.{Gift}
-use Rattle.cse_parts.specs.declared.entries.EventCode.{EventCode}
-use Rattle.cse_parts.specs.declared.instruction.Op.{Op}
-use Rattle.cse_parts.specs.declared.version.Version.{Version}
-use Rattle.cse_parts.specs.Codes.{HasOneCode, flag_code, flag_of, item_kind_code, item_kind_of, global_kind_code, global_kind_of, local_kind_code, local_kind_of, ambient_code, ambient_of, gift_code, gift_of, event_code, event_code_of}
-use Rattle.cse_parts.specs.Versions.{version_code, version_of}
-use Rattle.cse_parts.specs.Opcodes.{op_code, op_of}
-use Rattle.cse_parts.proofs.CodeLaws.{flag_code_is_one, item_kind_code_is_one, global_kind_code_is_one, local_kind_code_is_one, ambient_code_is_one, gift_code_is_one, event_code_is_one, version_code_is_one}
-use Rattle.cse_parts.proofs.OpcodeLaws.{op_code_is_one}
-use Rattle.cse_codec.specs.declared.fault.Rule.{Rule}
-use Rattle.cse_codec.specs.declared.fault.Rule.TheVariants.{Header, Form}
-use Rattle.cse_codec.specs.Reader.{number, decoded}
-use Rattle.cse_codec.specs.Spelling.{u8, u16}
-use Rattle.cse_codec.proofs.Algebra.{Laws, decoded_laws, number_laws}
+use Rattle.cse_image_parts.specs.declared.entries.GlobalKind.{GlobalKind}
+use Rattle.cse_image_parts.specs.declared.entries.LocalKind.{LocalKind}
+use Rattle.cse_image_parts.specs.declared.entries.Ambient.{Ambient}
+use Rattle.cse_image_parts.specs.declared.entries.Gift.{Gift}
+use Rattle.cse_image_parts.specs.declared.entries.EventCode.{EventCode}
+use Rattle.cse_image_parts.specs.declared.instruction.Op.{Op}
+use Rattle.cse_image_parts.specs.declared.version.Version.{Version}
+use Rattle.cse_image_parts.specs.Codes.{HasOneCode, flag_code, flag_of, item_kind_code, item_kind_of, global_kind_code, global_kind_of, local_kind_code, local_kind_of, ambient_code, ambient_of, gift_code, gift_of, event_code, event_code_of}
+use Rattle.cse_image_parts.specs.Versions.{version_code, version_of}
+use Rattle.cse_image_parts.specs.Opcodes.{op_code, op_of}
+use Rattle.cse_image_parts.proofs.CodeLaws.{flag_code_is_one, item_kind_code_is_one, global_kind_code_is_one, local_kind_code_is_one, ambient_code_is_one, gift_code_is_one, event_code_is_one, version_code_is_one}
+use Rattle.cse_image_parts.proofs.OpcodeLaws.{op_code_is_one}
+use Rattle.cse_image_codec.specs.declared.fault.Rule.{Rule}
+use Rattle.cse_image_codec.specs.declared.fault.Rule.TheVariants.{Header, Form}
+use Rattle.cse_image_codec.specs.Reader.{number, decoded}
+use Rattle.cse_image_codec.specs.Spelling.{u8, u16}
+use Rattle.cse_image_codec.proofs.Algebra.{Laws, decoded_laws, number_laws}
 use Rattle.cse_image.specs.Reading.{flag_at}
 
 byte_laws : {X : Type 0} (code : X → ℕ) (value : ℕ → Option X) → ((x : X) → HasOneCode code value x) → Laws (decoded Form value (number 1)) (λ x. u8 (code x)) (λ x. Unit {0})

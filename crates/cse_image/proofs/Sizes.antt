@@ -3,8 +3,8 @@ use Rattle.std.proofs.Common.{◌≡◌, ℕ, ◌<◌, ◌≤◌, true, ◌&&◌
 use Rattle.std.specs.List.{list_all}
 use Rattle.std.specs.Prelude.{slice_index}
 use Rattle.std.proofs.lemmas.Bool.{leb-true, and_parts}
-use Rattle.cse_parts.specs.Texts.{is_upper, is_name_char, is_name}
-use Rattle.cse_parts.specs.Fields.{is_dimension_count}
+use Rattle.cse_image_parts.specs.Texts.{is_upper, is_name_char, is_name}
+use Rattle.cse_image_parts.specs.Fields.{is_dimension_count}
 
 pub some_rank : (n : ℕ) → is_dimension_count n ≡ true → 0 < n
 some_rank n e = let p : (leb 1 n ≡ true) × (leb n 3 ≡ true) = and_parts _ _ e in omega (arith, leb-true 1 n p.0)

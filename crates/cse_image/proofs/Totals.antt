@@ -4,13 +4,13 @@ use Rattle.std.specs.List.{sum_by, sum}
 use Rattle.std.proofs.lemmas.Bool.{leb-true, and_parts}
 use Rattle.std.proofs.lemmas.List.{append-nil}
 use Rattle.std.proofs.lemmas.List.Sums.{sum_by_push, sum-map}
-use Rattle.cse_parts.specs.declared.entries.Routine.{Routine}
-use Rattle.cse_parts.specs.Image.{RoutineLists, routine_lists, Lists}
+use Rattle.cse_image_parts.specs.declared.entries.Routine.{Routine}
+use Rattle.cse_image_parts.specs.Image.{RoutineLists, routine_lists, Lists}
 use Rattle.std.proofs.Common.{take, get_or, length}
 use Rattle.std.proofs.lemmas.List.{take_more, map_push}
-use Rattle.cse_parts.specs.Fields.{instructions_in, is_room_for_code}
-use Rattle.cse_parts.specs.declared.version.Version.{Version}
-use Rattle.cse_codec.specs.Reader.{AllAfter}
+use Rattle.cse_image_parts.specs.Fields.{instructions_in, is_room_for_code}
+use Rattle.cse_image_parts.specs.declared.version.Version.{Version}
+use Rattle.cse_image_codec.specs.Reader.{AllAfter}
 use Rattle.cse_image.specs.Spelling.{RoutineFits, ListsFit}
 use Rattle.std.proofs.Common.{append_assoc, sym, true, ap, ◌∙◌}
 

@@ -5,20 +5,20 @@ use Rattle.std.proofs.lemmas.Bool.{and_parts, le-leb, lt-ltb}
 use Rattle.std.proofs.lemmas.Bool.Decides.{nat_tests}
 use Rattle.std.proofs.lemmas.List.{length-map}
 use Rattle.std.proofs.lemmas.List.FromFn.{length-range_with_len}
-use Rattle.cse_parts.specs.declared.instruction.Instr.{Instr}
-use Rattle.cse_parts.specs.declared.instruction.Op.{Op}
-use Rattle.cse_parts.specs.declared.instruction.Op.TheVariants as ops
-use Rattle.cse_parts.specs.declared.entries.Gift.{Gift}
-use Rattle.cse_parts.specs.declared.version.Version.{Version}
-use Rattle.cse_parts.specs.declared.version.Version.TheVariants as versions
-use Rattle.cse_parts.specs.Versions.{may_give, is_counting}
-use Rattle.cse_parts.specs.Image.{RoutineLists, Image}
-use Rattle.cse_parts.specs.Fields.{instructions_in}
-use Rattle.cse_parts.specs.Opcodes.{Range, shape, any_limit, lies_in, fits_b}
-use Rattle.cse_parts.specs.Upgrade.{greater, own_limit, greatest_limit, one_to, upgrade_instr, upgrade}
-use Rattle.cse_codec.specs.Reader.{AllAfter}
-use Rattle.cse_codec.specs.Spelling.{SectionFits}
-use Rattle.cse_codec.proofs.Algebra.{each_after}
+use Rattle.cse_image_parts.specs.declared.instruction.Instr.{Instr}
+use Rattle.cse_image_parts.specs.declared.instruction.Op.{Op}
+use Rattle.cse_image_parts.specs.declared.instruction.Op.TheVariants as ops
+use Rattle.cse_image_parts.specs.declared.entries.Gift.{Gift}
+use Rattle.cse_image_parts.specs.declared.version.Version.{Version}
+use Rattle.cse_image_parts.specs.declared.version.Version.TheVariants as versions
+use Rattle.cse_image_parts.specs.Versions.{may_give, is_counting}
+use Rattle.cse_image_parts.specs.Image.{RoutineLists, Image}
+use Rattle.cse_image_parts.specs.Fields.{instructions_in}
+use Rattle.cse_image_parts.specs.Opcodes.{Range, shape, any_limit, lies_in, fits_b}
+use Rattle.cse_image_parts.specs.Upgrade.{greater, own_limit, greatest_limit, one_to, upgrade_instr, upgrade}
+use Rattle.cse_image_codec.specs.Reader.{AllAfter}
+use Rattle.cse_image_codec.specs.Spelling.{SectionFits}
+use Rattle.cse_image_codec.proofs.Algebra.{each_after}
 use Rattle.cse_image.specs.Spelling.{LimitFits, RoutineFits, InstrFits, ListsFit, FitsIn, Fits, spelling, SpellsIn, Spells, program_in, StandFor}
 
 -- ---- limits

@@ -2,18 +2,18 @@
 use Rattle.std.proofs.Common.{◌≡◌, ℕ, Bool, true, false, cond, eqb, List, [], ◌++◌, length, Result, Ok, Err, refl, sym, ap, ◌∙◌, inl}
 use Rattle.std.proofs.lemmas.Bool.{eqb-true}
 use Rattle.std.proofs.lemmas.List.{append-nil, nil_from_length}
-use Rattle.cse_codec.specs.declared.fault.Fault.{Fault}
-use Rattle.cse_codec.specs.declared.fault.Rule.TheVariants.{LeftOver}
-use Rattle.cse_codec.specs.declared.fault.Stop.{Stop}
-use Rattle.cse_codec.specs.declared.fault.Stop.TheVariants as stops
+use Rattle.cse_image_codec.specs.declared.fault.Fault.{Fault}
+use Rattle.cse_image_codec.specs.declared.fault.Rule.TheVariants.{LeftOver}
+use Rattle.cse_image_codec.specs.declared.fault.Stop.{Stop}
+use Rattle.cse_image_codec.specs.declared.fault.Stop.TheVariants as stops
 use Rattle.cse_image.specs.declared.error.ImageError.{ImageError}
 use Rattle.cse_image.specs.Place.{error_of, Answers}
-use Rattle.cse_parts.specs.Image.{Image}
-use Rattle.cse_codec.specs.Reader.{fault, without_rest, Fails}
-use Rattle.cse_parts.specs.declared.version.Version.{Version}
+use Rattle.cse_image_parts.specs.Image.{Image}
+use Rattle.cse_image_codec.specs.Reader.{fault, without_rest, Fails}
+use Rattle.cse_image_parts.specs.declared.version.Version.{Version}
 use Rattle.cse_image.specs.Reading.{Edition, edition, edition_at, whole_edition, programs, reading}
 use Rattle.cse_image.specs.Spelling.{spelling_in, SpellsIn, program_in, StandFor}
-use Rattle.cse_codec.specs.Reader.{IsBytes}
+use Rattle.cse_image_codec.specs.Reader.{IsBytes}
 use Rattle.cse_image.proofs.ImageLaws.{edition_laws}
 
 ended_ok : {A : Type 0} (b : Bool) (f : Fault) (x y : A) → cond b (Ok x) (Err f) ≡ Ok y → (b ≡ true) × (x ≡ y)

@@ -2,5 +2,5 @@ pub mod Spelling
 pub mod Reading
 pub mod Place
 pub mod View
-pub use Rattle.cse_parts.specs.Image
-pub use Rattle.cse_parts.specs.Placeholders
+pub use Rattle.cse_image_parts.specs.Image
+pub use Rattle.cse_image_parts.specs.Placeholders

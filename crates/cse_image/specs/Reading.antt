@@ -5,23 +5,23 @@ use Rattle.std.specs.Str.{bytes_eq}
 use Rattle.cse_value.specs.declared.shape.RecordShape.{RecordShape}
 use Rattle.cse_value.specs.declared.shape.ItemShape.{ItemShape}
 use Rattle.cse_value.specs.declared.shape.SetShape.{SetShape}
-use Rattle.cse_parts.specs.declared.entries.GlobalVariable.{GlobalVariable}
-use Rattle.cse_parts.specs.declared.entries.Local.{Local}
-use Rattle.cse_parts.specs.declared.entries.EventEntry.{EventEntry}
-use Rattle.cse_parts.specs.declared.instruction.Instr.{Instr}
-use Rattle.cse_parts.specs.declared.limits.TheConstants.{MOST_RECORDS, MOST_ITEMS, MOST_SETS, MOST_ORDER, MOST_CONSTANTS, MOST_LIMITS, MOST_TEXTS, MOST_GLOBALS, MOST_ARRAYS, MOST_MESSAGES, MOST_ROUTINES, MOST_EVENTS}
-use Rattle.cse_parts.specs.Image.{ArrayLists, MessageLists, RoutineLists, Lists, Image}
-use Rattle.cse_parts.specs.declared.version.Version.{Version}
-use Rattle.cse_parts.specs.declared.version.Version.TheVariants as versions
-use Rattle.cse_parts.specs.Versions.{version_of, may_give}
-use Rattle.cse_parts.specs.Codes.{flag_of, item_kind_of, global_kind_of, local_kind_of, ambient_of, gift_of, event_code_of}
-use Rattle.cse_parts.specs.Texts.{is_text, is_short, is_name, is_new}
-use Rattle.cse_parts.specs.Fields.{fits_global_length, fits_local_length, fits_owner, fits_kind, are_locals, is_limit, is_dimension_count, is_dimension, cells_in, is_room_for_cells, fits_cells, instructions_in, is_room_for_code, last_event, is_after}
-use Rattle.cse_parts.specs.Opcodes.{op_of, fits_a, fits_b, fits_c}
-use Rattle.cse_parts.specs.Placeholders.{has_few_placeholders}
-use Rattle.cse_codec.specs.declared.fault.Rule.TheVariants.{Header, Form, Limit}
-use Rattle.cse_codec.specs.declared.fault.Fault.{Fault}
-use Rattle.cse_codec.specs.Reader.{Reader, ◌>>=◌, done, some_bytes, number, signed, checked, decoded, many, each, counted, whole, without_rest}
+use Rattle.cse_image_parts.specs.declared.entries.GlobalVariable.{GlobalVariable}
+use Rattle.cse_image_parts.specs.declared.entries.Local.{Local}
+use Rattle.cse_image_parts.specs.declared.entries.EventEntry.{EventEntry}
+use Rattle.cse_image_parts.specs.declared.instruction.Instr.{Instr}
+use Rattle.cse_image_parts.specs.declared.limits.TheConstants.{MOST_RECORDS, MOST_ITEMS, MOST_SETS, MOST_ORDER, MOST_CONSTANTS, MOST_LIMITS, MOST_TEXTS, MOST_GLOBALS, MOST_ARRAYS, MOST_MESSAGES, MOST_ROUTINES, MOST_EVENTS}
+use Rattle.cse_image_parts.specs.Image.{ArrayLists, MessageLists, RoutineLists, Lists, Image}
+use Rattle.cse_image_parts.specs.declared.version.Version.{Version}
+use Rattle.cse_image_parts.specs.declared.version.Version.TheVariants as versions
+use Rattle.cse_image_parts.specs.Versions.{version_of, may_give}
+use Rattle.cse_image_parts.specs.Codes.{flag_of, item_kind_of, global_kind_of, local_kind_of, ambient_of, gift_of, event_code_of}
+use Rattle.cse_image_parts.specs.Texts.{is_text, is_short, is_name, is_new}
+use Rattle.cse_image_parts.specs.Fields.{fits_global_length, fits_local_length, fits_owner, fits_kind, are_locals, is_limit, is_dimension_count, is_dimension, cells_in, is_room_for_cells, fits_cells, instructions_in, is_room_for_code, last_event, is_after}
+use Rattle.cse_image_parts.specs.Opcodes.{op_of, fits_a, fits_b, fits_c}
+use Rattle.cse_image_parts.specs.Placeholders.{has_few_placeholders}
+use Rattle.cse_image_codec.specs.declared.fault.Rule.TheVariants.{Header, Form, Limit}
+use Rattle.cse_image_codec.specs.declared.fault.Fault.{Fault}
+use Rattle.cse_image_codec.specs.Reader.{Reader, ◌>>=◌, done, some_bytes, number, signed, checked, decoded, many, each, counted, whole, without_rest}
 use Rattle.cse_image.specs.Spelling.{magic, program_in}
 
 -- a field of so many bytes that must be 0

@@ -7,23 +7,23 @@ use Rattle.byteorder.specs.Endian.{little_bytes}
 use Rattle.cse_value.specs.declared.shape.RecordShape.{RecordShape}
 use Rattle.cse_value.specs.declared.shape.ItemShape.{ItemShape}
 use Rattle.cse_value.specs.declared.shape.SetShape.{SetShape}
-use Rattle.cse_parts.specs.declared.entries.GlobalVariable.{GlobalVariable}
-use Rattle.cse_parts.specs.declared.entries.Local.{Local}
-use Rattle.cse_parts.specs.declared.entries.EventEntry.{EventEntry}
-use Rattle.cse_parts.specs.declared.instruction.Instr.{Instr}
-use Rattle.cse_parts.specs.declared.limits.TheConstants.{MOST_RECORDS, MOST_ITEMS, MOST_SETS, MOST_ORDER, MOST_CONSTANTS, MOST_LIMITS, MOST_TEXTS, MOST_GLOBALS, MOST_ARRAYS, MOST_MESSAGES, MOST_ROUTINES, MOST_EVENTS}
-use Rattle.cse_parts.specs.Image.{ArrayLists, MessageLists, RoutineLists, Lists, Image}
-use Rattle.cse_parts.specs.declared.version.Version.{Version}
-use Rattle.cse_parts.specs.declared.version.Version.TheVariants as versions
-use Rattle.cse_parts.specs.Versions.{version_code, may_give}
-use Rattle.cse_parts.specs.Upgrade.{upgrade}
-use Rattle.cse_parts.specs.Codes.{flag_code, item_kind_code, global_kind_code, local_kind_code, ambient_code, gift_code, event_code}
-use Rattle.cse_parts.specs.Texts.{is_text, is_short, is_name, is_new}
-use Rattle.cse_parts.specs.Fields.{fits_global_length, fits_local_length, fits_owner, fits_kind, are_locals, is_limit, is_dimension_count, is_dimension, cells_in, is_room_for_cells, fits_cells, instructions_in, is_room_for_code, last_event, is_after}
-use Rattle.cse_parts.specs.Opcodes.{op_code, fits_a, fits_b, fits_c}
-use Rattle.cse_parts.specs.Placeholders.{has_few_placeholders}
-use Rattle.cse_codec.specs.Reader.{AllAfter}
-use Rattle.cse_codec.specs.Spelling.{◌⧺◌, u8, u16, u32, i64, section, SectionFits}
+use Rattle.cse_image_parts.specs.declared.entries.GlobalVariable.{GlobalVariable}
+use Rattle.cse_image_parts.specs.declared.entries.Local.{Local}
+use Rattle.cse_image_parts.specs.declared.entries.EventEntry.{EventEntry}
+use Rattle.cse_image_parts.specs.declared.instruction.Instr.{Instr}
+use Rattle.cse_image_parts.specs.declared.limits.TheConstants.{MOST_RECORDS, MOST_ITEMS, MOST_SETS, MOST_ORDER, MOST_CONSTANTS, MOST_LIMITS, MOST_TEXTS, MOST_GLOBALS, MOST_ARRAYS, MOST_MESSAGES, MOST_ROUTINES, MOST_EVENTS}
+use Rattle.cse_image_parts.specs.Image.{ArrayLists, MessageLists, RoutineLists, Lists, Image}
+use Rattle.cse_image_parts.specs.declared.version.Version.{Version}
+use Rattle.cse_image_parts.specs.declared.version.Version.TheVariants as versions
+use Rattle.cse_image_parts.specs.Versions.{version_code, may_give}
+use Rattle.cse_image_parts.specs.Upgrade.{upgrade}
+use Rattle.cse_image_parts.specs.Codes.{flag_code, item_kind_code, global_kind_code, local_kind_code, ambient_code, gift_code, event_code}
+use Rattle.cse_image_parts.specs.Texts.{is_text, is_short, is_name, is_new}
+use Rattle.cse_image_parts.specs.Fields.{fits_global_length, fits_local_length, fits_owner, fits_kind, are_locals, is_limit, is_dimension_count, is_dimension, cells_in, is_room_for_cells, fits_cells, instructions_in, is_room_for_code, last_event, is_after}
+use Rattle.cse_image_parts.specs.Opcodes.{op_code, fits_a, fits_b, fits_c}
+use Rattle.cse_image_parts.specs.Placeholders.{has_few_placeholders}
+use Rattle.cse_image_codec.specs.Reader.{AllAfter}
+use Rattle.cse_image_codec.specs.Spelling.{◌⧺◌, u8, u16, u32, i64, section, SectionFits}
 
 -- ---- spellings
 

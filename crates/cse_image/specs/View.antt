@@ -1,12 +1,12 @@
 -- Instructions that lie in bytes, eight bytes each.
 use Rattle.std.specs.Prelude.{◌≡◌, ◌/◌, ℕ, List, [], map, length, Result, Ok, Err}
 use Rattle.std.specs.List.{flat_map, AllByRecursion}
-use Rattle.cse_codec.specs.declared.fault.Fault.{Fault}
-use Rattle.cse_codec.specs.Reader.{each}
-use Rattle.cse_parts.specs.declared.instruction.Instr.{Instr}
-use Rattle.cse_parts.specs.declared.version.Version.{Version}
-use Rattle.cse_parts.specs.declared.version.Version.TheVariants as versions
-use Rattle.cse_parts.specs.Upgrade.{upgrade_instr}
+use Rattle.cse_image_codec.specs.declared.fault.Fault.{Fault}
+use Rattle.cse_image_codec.specs.Reader.{each}
+use Rattle.cse_image_parts.specs.declared.instruction.Instr.{Instr}
+use Rattle.cse_image_parts.specs.declared.version.Version.{Version}
+use Rattle.cse_image_parts.specs.declared.version.Version.TheVariants as versions
+use Rattle.cse_image_parts.specs.Upgrade.{upgrade_instr}
 use Rattle.cse_image.specs.Reading.{instr_at}
 use Rattle.cse_image.specs.Spelling.{instr, InstrFits}
 

@@ -5,24 +5,24 @@ ghost use Rattle.std.specs.Bool.{Decides};
 ghost use Rattle.std.specs.Int.{w64};
 ghost use Rattle.std.specs.List.{AllByRecursion};
 ghost use Rattle.std.specs.String.{string_bytes};
-ghost use Rattle.cse_codec.specs.Reader.{AllAfter};
-ghost use Rattle.cse_parts.specs.Image.{array_lists, message_lists, routine_lists};
-ghost use Rattle.cse_parts.specs.declared.version.Version.TheVariants as versions;
-ghost use Rattle.cse_parts.specs.Fields.{cells_in, is_dimension_count, fits_cells};
+ghost use Rattle.cse_image_codec.specs.Reader.{AllAfter};
+ghost use Rattle.cse_image_parts.specs.Image.{array_lists, message_lists, routine_lists};
+ghost use Rattle.cse_image_parts.specs.declared.version.Version.TheVariants as versions;
+ghost use Rattle.cse_image_parts.specs.Fields.{cells_in, is_dimension_count, fits_cells};
 ghost use Rattle.cse_image.specs.Spelling.{RecordFits, ItemFits, SetFits, LimitFits, TextFits, GlobalFits, DimensionFits, ArrayFits, MessageFits, LocalFits, LocalsFit, RoutineFits, EventFits, InstrFits};
 
-use cse_parts::entries::{Array, EventEntry, GlobalVariable, Local, Message, Routine};
-use cse_parts::instruction::Instr;
-use cse_parts::limits::{MOST_CELLS, MOST_DIMENSIONS, MOST_INSTRUCTIONS};
-use cse_parts::opcodes::{is_right_a, is_right_b, is_right_c};
-use cse_parts::placeholders::are_few_placeholders;
-use cse_parts::rules::{
+use cse_image_parts::entries::{Array, EventEntry, GlobalVariable, Local, Message, Routine};
+use cse_image_parts::instruction::Instr;
+use cse_image_parts::limits::{MOST_CELLS, MOST_DIMENSIONS, MOST_INSTRUCTIONS};
+use cse_image_parts::opcodes::{is_right_a, is_right_b, is_right_c};
+use cse_image_parts::placeholders::are_few_placeholders;
+use cse_image_parts::rules::{
     comes_after, has_parameters, has_room_for_cells, has_room_for_code, is_count_of_dimensions,
     is_right_cell_count, is_right_dimension, is_right_global_length, is_right_kind, is_right_limit,
     is_right_local_length, is_right_owner,
 };
-use cse_parts::texts::{is_array_name, is_new_name, is_plain_text, is_short_text};
-use cse_parts::version::{Version, may_give};
+use cse_image_parts::texts::{is_array_name, is_new_name, is_plain_text, is_short_text};
+use cse_image_parts::version::{Version, may_give};
 use cse_value::shape::{ItemShape, RecordShape, SetShape};
 
 /// Reading the fields of a record tells their ranges.

@@ -1,9 +1,9 @@
 //! A list of instructions, in memory or elsewhere.
 
 ghost use Rattle.std.specs.Prelude.{◌≡◌, ◌<◌, List, Some, length, slice_get};
-ghost use Rattle.cse_parts.specs.declared.instruction.Instr.{Instr as AnInstr};
+ghost use Rattle.cse_image_parts.specs.declared.instruction.Instr.{Instr as AnInstr};
 
-use cse_parts::instruction::Instr;
+use cse_image_parts::instruction::Instr;
 
 /// A list of instructions.
 pub trait Code {

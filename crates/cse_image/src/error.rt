@@ -3,7 +3,7 @@
 ghost use Rattle.std.specs.Prelude.{◌≡◌};
 ghost use Rattle.cse_image.specs.Place.{number_of, error_of};
 
-use cse_codec::{Rule, Stop};
+use cse_image_codec::{Rule, Stop};
 use std::error::Error;
 use std::fmt;
 

@@ -5,11 +5,11 @@ ghost use Rattle.std.specs.Bool.{Decides};
 ghost use Rattle.std.specs.Int.{w64};
 ghost use Rattle.std.specs.List.{AllByRecursion};
 ghost use Rattle.std.specs.String.{string_bytes};
-ghost use Rattle.cse_codec.specs.Reader.{AllAfter};
-ghost use Rattle.cse_codec.specs.Spelling.{SectionFits};
-ghost use Rattle.cse_parts.specs.declared.version.Version.TheVariants as versions;
-ghost use Rattle.cse_parts.specs.Image.{array_lists, message_lists, routine_lists, lists_of};
-ghost use Rattle.cse_parts.specs.Fields.{instructions_in, last_event};
+ghost use Rattle.cse_image_codec.specs.Reader.{AllAfter};
+ghost use Rattle.cse_image_codec.specs.Spelling.{SectionFits};
+ghost use Rattle.cse_image_parts.specs.declared.version.Version.TheVariants as versions;
+ghost use Rattle.cse_image_parts.specs.Image.{array_lists, message_lists, routine_lists, lists_of};
+ghost use Rattle.cse_image_parts.specs.Fields.{instructions_in, last_event};
 ghost use Rattle.cse_image.specs.Spelling.{RecordFits, ItemFits, SetFits, OrderFits, LimitFits, TextFits, GlobalFits, ArrayFits, MessageFits, RoutineFits, EventFits, InstrFits, ListsFit};
 
 use crate::checking::{
@@ -17,13 +17,13 @@ use crate::checking::{
     read_numbers, read_records, read_sets, routine_fits, text_fits,
 };
 use crate::reading::total_of;
-use cse_parts::entries::{Array, EventEntry, GlobalVariable, Message, Routine, Tables};
-use cse_parts::instruction::Instr;
-use cse_parts::limits::{
+use cse_image_parts::entries::{Array, EventEntry, GlobalVariable, Message, Routine, Tables};
+use cse_image_parts::instruction::Instr;
+use cse_image_parts::limits::{
     MOST_ARRAYS, MOST_CONSTANTS, MOST_EVENTS, MOST_GLOBALS, MOST_INSTRUCTIONS, MOST_ITEMS,
     MOST_LIMITS, MOST_MESSAGES, MOST_ORDER, MOST_RECORDS, MOST_ROUTINES, MOST_SETS, MOST_TEXTS,
 };
-use cse_parts::rules::{cells_for, last_of};
+use cse_image_parts::rules::{cells_for, last_of};
 use cse_value::shape::{ItemShape, RecordShape, SetShape};
 
 fn records_fit(records: &[RecordShape]) -> bool

@@ -1,10 +1,10 @@
 //! Laws of the spellings.
 
 ghost use Rattle.std.specs.Prelude.{◌≡◌, ◌++◌, ℕ, List, []};
-ghost use Rattle.cse_parts.specs.declared.version.Version.{Version as AVersion};
-ghost use Rattle.cse_parts.specs.declared.version.Version.TheVariants as versions;
-ghost use Rattle.cse_parts.specs.Image.{Image};
-ghost use Rattle.cse_parts.specs.Upgrade.{upgrade};
+ghost use Rattle.cse_image_parts.specs.declared.version.Version.{Version as AVersion};
+ghost use Rattle.cse_image_parts.specs.declared.version.Version.TheVariants as versions;
+ghost use Rattle.cse_image_parts.specs.Image.{Image};
+ghost use Rattle.cse_image_parts.specs.Upgrade.{upgrade};
 ghost use Rattle.cse_image.specs.Spelling.{spelling, SpellsIn, Spells};
 
 /// A program has one spelling in version 2, and a program of version 1 has one in version 1.

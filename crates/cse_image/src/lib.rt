@@ -20,15 +20,15 @@ mod view;
 mod writing;
 
 pub use code::{Code, Owned};
-pub use cse_parts::entries::{
+pub use cse_image_parts::entries::{
     Ambient, Array, Event, EventCode, EventEntry, Gift, GlobalKind, GlobalVariable, Local,
     LocalKind, Message, Parts, Routine, Tables,
 };
-pub use cse_parts::instruction::{Instr, Op};
-pub use cse_parts::placeholders::{
+pub use cse_image_parts::instruction::{Instr, Op};
+pub use cse_image_parts::placeholders::{
     ArgumentKind, Kinds, Piece, Pieces, count_placeholders, kind_at,
 };
-pub use cse_parts::version::Version;
+pub use cse_image_parts::version::Version;
 pub use error::ImageError;
 pub use laws::{none_begins_another, one_spelling, upgrade_has_a_spelling};
 pub use program::{Program, read_image, write_image};

@@ -4,7 +4,7 @@ ghost use Rattle.std.specs.Prelude.{◌≡◌, List, ℕ, MatchOption, IfOk, IfE
 ghost use Rattle.std.specs.Bool.{Decides};
 ghost use Rattle.std.specs.List.{flat_map};
 ghost use Rattle.std.specs.String.{string_bytes};
-ghost use Rattle.cse_parts.specs.Image.{Image, lists_of, image_of, image_with, array_lists, message_lists, routine_lists};
+ghost use Rattle.cse_image_parts.specs.Image.{Image, lists_of, image_of, image_with, array_lists, message_lists, routine_lists};
 ghost use Rattle.cse_image.specs.Spelling.{Fits, Spells, StandFor, spelling, instr};
 ghost use Rattle.cse_image.specs.Reading.{reading};
 ghost use Rattle.cse_image.specs.Place.{Answers, placed, out_of_memory};
@@ -15,8 +15,10 @@ use crate::fitting::{each_instr_fits, is_code_of, tables_fit};
 use crate::sections::put_tables;
 use crate::view::{CodeView, view_image};
 use crate::writing::{put_header, put_instr};
-use cse_parts::entries::{Array, EventEntry, GlobalVariable, Message, Parts, Routine, Tables};
-use cse_parts::instruction::Instr;
+use cse_image_parts::entries::{
+    Array, EventEntry, GlobalVariable, Message, Parts, Routine, Tables,
+};
+use cse_image_parts::instruction::Instr;
 use cse_value::shape::{ItemShape, RecordShape, SetShape};
 use std::alloc::{AllocError, Global};
 use std::marker::Model;

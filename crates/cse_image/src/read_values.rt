@@ -2,31 +2,31 @@
 
 ghost use Rattle.std.specs.Prelude.{◌≡◌, [], map};
 ghost use Rattle.std.specs.String.{string_bytes};
-ghost use Rattle.cse_codec.specs.Reader.{Gives, GivesFault, number, signed, checked, decoded, many, counted};
-ghost use Rattle.cse_codec.specs.declared.fault.Rule.TheVariants.{Form};
-ghost use Rattle.cse_parts.specs.Codes.{global_kind_of as kind_of};
-ghost use Rattle.cse_parts.specs.Fields.{fits_global_length};
-ghost use Rattle.cse_parts.specs.Image.{message_lists};
+ghost use Rattle.cse_image_codec.specs.Reader.{Gives, GivesFault, number, signed, checked, decoded, many, counted};
+ghost use Rattle.cse_image_codec.specs.declared.fault.Rule.TheVariants.{Form};
+ghost use Rattle.cse_image_parts.specs.Codes.{global_kind_of as kind_of};
+ghost use Rattle.cse_image_parts.specs.Fields.{fits_global_length};
+ghost use Rattle.cse_image_parts.specs.Image.{message_lists};
 ghost use Rattle.cse_image.specs.Reading.{limit_at, limits_at, characters_at, text_at, global_at, message_at};
 
 use crate::read_shape::flag_of;
-use cse_codec::{
+use cse_image_codec::{
     Fault, Rule, Stop, broken, bytes_at, count_at, i64s_at, u8_at, u16_at, u32_at, u32s_at,
     zero_u8_at,
 };
-use cse_parts::codes::global_kind_named;
-use cse_parts::entries::{GlobalKind, GlobalVariable, Message};
-use cse_parts::limits::{
+use cse_image_parts::codes::global_kind_named;
+use cse_image_parts::entries::{GlobalKind, GlobalVariable, Message};
+use cse_image_parts::limits::{
     MOST_CONSTANTS, MOST_GLOBALS, MOST_LIMITS, MOST_MESSAGES, MOST_ORDER, MOST_TEXTS,
 };
-use cse_parts::placeholders::are_few_placeholders;
-use cse_parts::rules::{is_right_global_length, is_right_limit};
-use cse_parts::texts::{is_short_text, plain_text};
-use cse_parts::version::Version;
+use cse_image_parts::placeholders::are_few_placeholders;
+use cse_image_parts::rules::{is_right_global_length, is_right_limit};
+use cse_image_parts::texts::{is_short_text, plain_text};
+use cse_image_parts::version::Version;
 use std::alloc::Global;
 
 /// The table of the edit order: how many records, then the place of each; and the bytes after it.
-#[tactic(auto, unfolding(cse_codec::specs::Reader::then_at, cse_codec::specs::Reader::counted))]
+#[tactic(auto, unfolding(cse_image_codec::specs::Reader::then_at, cse_image_codec::specs::Reader::counted))]
 pub fn order_of(alloc: Global, bytes: &[u8]) -> Result<(Vec<u32>, &[u8]), Stop>
     ensures { Gives (λ x. (x.0.items, x.1.now)) result (counted MOST_ORDER (λ _. number 4) bytes.now) }
 {
@@ -35,7 +35,7 @@ pub fn order_of(alloc: Global, bytes: &[u8]) -> Result<(Vec<u32>, &[u8]), Stop>
 }
 
 /// The table of constants: their count, then each; and the bytes after it.
-#[tactic(auto, unfolding(cse_codec::specs::Reader::then_at, cse_codec::specs::Reader::counted))]
+#[tactic(auto, unfolding(cse_image_codec::specs::Reader::then_at, cse_image_codec::specs::Reader::counted))]
 pub fn constants_of(alloc: Global, bytes: &[u8]) -> Result<(Vec<i64>, &[u8]), Stop>
     ensures { Gives (λ x. (x.0.items, x.1.now)) result (counted MOST_CONSTANTS (λ _. signed) bytes.now) }
 {
@@ -44,7 +44,7 @@ pub fn constants_of(alloc: Global, bytes: &[u8]) -> Result<(Vec<i64>, &[u8]), St
 }
 
 /// A limit of a counting loop.
-#[tactic(auto, unfolding(cse_codec::specs::Reader::checked, crate::specs::Reading::limit_at))]
+#[tactic(auto, unfolding(cse_image_codec::specs::Reader::checked, crate::specs::Reading::limit_at))]
 fn limit_of(bytes: &[u8]) -> Result<(u32, &[u8]), Fault>
     ensures { GivesFault (λ x. (x.0, x.1.now)) result (limit_at bytes.now) }
 {
@@ -55,7 +55,7 @@ fn limit_of(bytes: &[u8]) -> Result<(u32, &[u8]), Fault>
     Ok((limit, rest))
 }
 
-#[tactic(auto, using(cse_codec::proofs::Loop::many_step, cse_codec::proofs::Loop::many_done))]
+#[tactic(auto, using(cse_image_codec::proofs::Loop::many_step, cse_image_codec::proofs::Loop::many_done))]
 fn limits_in(alloc: Global, count: u32, bytes: &[u8]) -> Result<(Vec<u32>, &[u8]), Stop>
     ensures { Gives (λ x. (x.0.items, x.1.now)) result (many (λ _. limit_at) [] count bytes.now) }
 {
@@ -70,7 +70,7 @@ fn limits_in(alloc: Global, count: u32, bytes: &[u8]) -> Result<(Vec<u32>, &[u8]
 }
 
 /// The table of limits, which version 1 has not.
-#[tactic(auto, unfolding(cse_codec::specs::Reader::then_at, cse_codec::specs::Reader::done, cse_codec::specs::Reader::counted, crate::specs::Reading::limits_at))]
+#[tactic(auto, unfolding(cse_image_codec::specs::Reader::then_at, cse_image_codec::specs::Reader::done, cse_image_codec::specs::Reader::counted, crate::specs::Reading::limits_at))]
 pub fn limits_of(alloc: Global, version: Version, bytes: &[u8]) -> Result<(Vec<u32>, &[u8]), Stop>
     ensures { Gives (λ x. (x.0.items, x.1.now)) result (limits_at version bytes.now) }
 {
@@ -84,7 +84,7 @@ pub fn limits_of(alloc: Global, version: Version, bytes: &[u8]) -> Result<(Vec<u
 }
 
 /// The characters of a text.
-#[tactic(auto, unfolding(cse_codec::specs::Reader::checked, crate::specs::Reading::characters_at))]
+#[tactic(auto, unfolding(cse_image_codec::specs::Reader::checked, crate::specs::Reading::characters_at))]
 fn characters_of(len: u16, bytes: &[u8]) -> Result<(&str, &[u8]), Fault>
     ensures { GivesFault (λ x. (x.0.now, x.1.now)) result (characters_at len bytes.now) }
 {
@@ -98,7 +98,7 @@ fn characters_of(len: u16, bytes: &[u8]) -> Result<(&str, &[u8]), Fault>
     Ok((text, rest))
 }
 
-#[tactic(auto, unfolding(cse_codec::specs::Reader::then_at, cse_codec::specs::Reader::done, crate::specs::Reading::text_at))]
+#[tactic(auto, unfolding(cse_image_codec::specs::Reader::then_at, cse_image_codec::specs::Reader::done, crate::specs::Reading::text_at))]
 fn text_of(alloc: Global, bytes: &[u8]) -> Result<(String, &[u8]), Stop>
     ensures { Gives (λ x. (string_bytes x.0, x.1.now)) result (text_at bytes.now) }
 {
@@ -107,7 +107,7 @@ fn text_of(alloc: Global, bytes: &[u8]) -> Result<(String, &[u8]), Stop>
     Ok((String::from_str(alloc, text)?, rest))
 }
 
-#[tactic(auto, using(cse_codec::proofs::Loop::many_done))]
+#[tactic(auto, using(cse_image_codec::proofs::Loop::many_done))]
 fn texts_in(alloc: Global, count: u32, bytes: &[u8]) -> Result<(Vec<String>, &[u8]), Stop>
     ensures { Gives (λ x. (map string_bytes x.0.items, x.1.now)) result (many (λ _. text_at) [] count bytes.now) }
 {
@@ -122,7 +122,7 @@ fn texts_in(alloc: Global, count: u32, bytes: &[u8]) -> Result<(Vec<String>, &[u
 }
 
 /// The table of texts: their count, then each; and the bytes after it.
-#[tactic(auto, unfolding(cse_codec::specs::Reader::then_at, cse_codec::specs::Reader::counted))]
+#[tactic(auto, unfolding(cse_image_codec::specs::Reader::then_at, cse_image_codec::specs::Reader::counted))]
 pub fn texts_of(alloc: Global, bytes: &[u8]) -> Result<(Vec<String>, &[u8]), Stop>
     ensures { Gives (λ x. (map string_bytes x.0.items, x.1.now)) result (counted MOST_TEXTS (λ _. text_at) bytes.now) }
 {
@@ -130,7 +130,7 @@ pub fn texts_of(alloc: Global, bytes: &[u8]) -> Result<(Vec<String>, &[u8]), Sto
     texts_in(alloc, count, rest)
 }
 
-#[tactic(auto, unfolding(cse_codec::specs::Reader::decoded))]
+#[tactic(auto, unfolding(cse_image_codec::specs::Reader::decoded))]
 fn global_kind_of(bytes: &[u8]) -> Result<(GlobalKind, &[u8]), Fault>
     ensures { GivesFault (λ x. (x.0, x.1.now)) result (decoded Form kind_of (number 1) bytes.now) }
 {
@@ -141,7 +141,7 @@ fn global_kind_of(bytes: &[u8]) -> Result<(GlobalKind, &[u8]), Fault>
     }
 }
 
-#[tactic(auto, unfolding(cse_codec::specs::Reader::checked))]
+#[tactic(auto, unfolding(cse_image_codec::specs::Reader::checked))]
 fn global_length_of(kind: GlobalKind, bytes: &[u8]) -> Result<(u16, &[u8]), Fault>
     ensures { GivesFault (λ x. (x.0, x.1.now)) result (checked Form (fits_global_length kind) (number 2) bytes.now) }
 {
@@ -152,7 +152,7 @@ fn global_length_of(kind: GlobalKind, bytes: &[u8]) -> Result<(u16, &[u8]), Faul
     Ok((length, rest))
 }
 
-#[tactic(auto, unfolding(cse_codec::specs::Reader::then_at, cse_codec::specs::Reader::done, crate::specs::Reading::zero_at, crate::specs::Reading::global_at))]
+#[tactic(auto, unfolding(cse_image_codec::specs::Reader::then_at, cse_image_codec::specs::Reader::done, crate::specs::Reading::zero_at, crate::specs::Reading::global_at))]
 fn global_of(bytes: &[u8]) -> Result<(GlobalVariable, &[u8]), Fault>
     ensures { GivesFault (λ x. (x.0, x.1.now)) result (global_at bytes.now) }
 {
@@ -162,7 +162,7 @@ fn global_of(bytes: &[u8]) -> Result<(GlobalVariable, &[u8]), Fault>
     Ok((GlobalVariable { kind, length }, rest))
 }
 
-#[tactic(auto, using(cse_codec::proofs::Loop::many_step, cse_codec::proofs::Loop::many_done))]
+#[tactic(auto, using(cse_image_codec::proofs::Loop::many_step, cse_image_codec::proofs::Loop::many_done))]
 fn globals_in(alloc: Global, count: u32, bytes: &[u8]) -> Result<(Vec<GlobalVariable>, &[u8]), Stop>
     ensures { Gives (λ x. (x.0.items, x.1.now)) result (many (λ _. global_at) [] count bytes.now) }
 {
@@ -177,7 +177,7 @@ fn globals_in(alloc: Global, count: u32, bytes: &[u8]) -> Result<(Vec<GlobalVari
 }
 
 /// The table of globals: their count, then each; and the bytes after it.
-#[tactic(auto, unfolding(cse_codec::specs::Reader::then_at, cse_codec::specs::Reader::counted))]
+#[tactic(auto, unfolding(cse_image_codec::specs::Reader::then_at, cse_image_codec::specs::Reader::counted))]
 pub fn globals_of(alloc: Global, bytes: &[u8]) -> Result<(Vec<GlobalVariable>, &[u8]), Stop>
     ensures { Gives (λ x. (x.0.items, x.1.now)) result (counted MOST_GLOBALS (λ _. global_at) bytes.now) }
 {
@@ -185,7 +185,7 @@ pub fn globals_of(alloc: Global, bytes: &[u8]) -> Result<(Vec<GlobalVariable>, &
     globals_in(alloc, count, rest)
 }
 
-#[tactic(auto, unfolding(cse_codec::specs::Reader::then_at, cse_codec::specs::Reader::done, cse_codec::specs::Reader::checked, crate::specs::Reading::zero_at, crate::specs::Reading::message_at))]
+#[tactic(auto, unfolding(cse_image_codec::specs::Reader::then_at, cse_image_codec::specs::Reader::done, cse_image_codec::specs::Reader::checked, crate::specs::Reading::zero_at, crate::specs::Reading::message_at))]
 fn message_of(alloc: Global, bytes: &[u8]) -> Result<(Message, &[u8]), Stop>
     ensures { Gives (λ x. (message_lists x.0, x.1.now)) result (message_at bytes.now) }
 {
@@ -207,7 +207,7 @@ fn message_of(alloc: Global, bytes: &[u8]) -> Result<(Message, &[u8]), Stop>
     ))
 }
 
-#[tactic(auto, using(cse_codec::proofs::Loop::many_done))]
+#[tactic(auto, using(cse_image_codec::proofs::Loop::many_done))]
 fn messages_in(alloc: Global, count: u32, bytes: &[u8]) -> Result<(Vec<Message>, &[u8]), Stop>
     ensures { Gives (λ x. (map message_lists x.0.items, x.1.now)) result (many (λ _. message_at) [] count bytes.now) }
 {
@@ -222,7 +222,7 @@ fn messages_in(alloc: Global, count: u32, bytes: &[u8]) -> Result<(Vec<Message>,
 }
 
 /// The table of messages: their count, then each; and the bytes after it.
-#[tactic(auto, unfolding(cse_codec::specs::Reader::then_at, cse_codec::specs::Reader::counted))]
+#[tactic(auto, unfolding(cse_image_codec::specs::Reader::then_at, cse_image_codec::specs::Reader::counted))]
 pub fn messages_of(alloc: Global, bytes: &[u8]) -> Result<(Vec<Message>, &[u8]), Stop>
     ensures { Gives (λ x. (map message_lists x.0.items, x.1.now)) result (counted MOST_MESSAGES (λ _. message_at) bytes.now) }
 {

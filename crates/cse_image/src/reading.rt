@@ -1,23 +1,23 @@
 //! The tables of an image: all sections but the code.
 
 ghost use Rattle.std.specs.Prelude.{◌≡◌, ◌≤◌, IfOk, map};
-ghost use Rattle.cse_codec.specs.Reader.{Gives};
-ghost use Rattle.cse_parts.specs.Image.{routine_lists, lists_of};
-ghost use Rattle.cse_parts.specs.Fields.{instructions_in};
+ghost use Rattle.cse_image_codec.specs.Reader.{Gives};
+ghost use Rattle.cse_image_parts.specs.Image.{routine_lists, lists_of};
+ghost use Rattle.cse_image_parts.specs.Fields.{instructions_in};
 ghost use Rattle.cse_image.specs.Reading.{lists_at};
 
 use crate::read_arrays::arrays_of;
 use crate::read_routines::{events_of, routines_of};
 use crate::read_shape::{items_of, records_of, sets_of};
 use crate::read_values::{constants_of, globals_of, limits_of, messages_of, order_of, texts_of};
-use cse_codec::Stop;
-use cse_parts::entries::{Routine, Tables};
-use cse_parts::limits::MOST_INSTRUCTIONS;
-use cse_parts::version::Version;
+use cse_image_codec::Stop;
+use cse_image_parts::entries::{Routine, Tables};
+use cse_image_parts::limits::MOST_INSTRUCTIONS;
+use cse_image_parts::version::Version;
 use std::alloc::Global;
 
 /// All tables behind the header, in the order of the format, and the bytes of the code after them.
-#[tactic(auto, unfolding(cse_codec::specs::Reader::then_at, cse_codec::specs::Reader::done, crate::specs::Reading::lists_at))]
+#[tactic(auto, unfolding(cse_image_codec::specs::Reader::then_at, cse_image_codec::specs::Reader::done, crate::specs::Reading::lists_at))]
 pub fn tables_of(alloc: Global, version: Version, bytes: &[u8]) -> Result<(Tables, &[u8]), Stop>
     ensures exact { Gives (λ x. (lists_of x.0, x.1.now)) result (lists_at version bytes.now) }
     ensures room { IfOk result (λ x. instructions_in (map routine_lists x.0.routines.items) ≤ MOST_INSTRUCTIONS) }

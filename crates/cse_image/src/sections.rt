@@ -4,19 +4,19 @@ ghost use Rattle.std.specs.Prelude.{◌≡◌, ◌++◌, map, OnOk, FitsSigned};
 ghost use Rattle.std.specs.Int.{w64};
 ghost use Rattle.std.specs.List.{flat_map};
 ghost use Rattle.std.specs.String.{string_bytes};
-ghost use Rattle.cse_codec.specs.Spelling.{◌⧺◌, section, SectionFits, u32 as u32_spelling, i64 as i64_spelling};
-ghost use Rattle.cse_parts.specs.declared.version.Version.TheVariants as versions;
-ghost use Rattle.cse_parts.specs.Image.{array_lists, message_lists, routine_lists, lists_of};
-ghost use Rattle.cse_parts.specs.Fields.{instructions_in, last_event};
+ghost use Rattle.cse_image_codec.specs.Spelling.{◌⧺◌, section, SectionFits, u32 as u32_spelling, i64 as i64_spelling};
+ghost use Rattle.cse_image_parts.specs.declared.version.Version.TheVariants as versions;
+ghost use Rattle.cse_image_parts.specs.Image.{array_lists, message_lists, routine_lists, lists_of};
+ghost use Rattle.cse_image_parts.specs.Fields.{instructions_in, last_event};
 ghost use Rattle.cse_image.specs.Spelling.{ListsFit, RecordFits, ItemFits, SetFits, OrderFits, LimitFits, TextFits, GlobalFits, ArrayFits, MessageFits, RoutineFits, EventFits, record_shape, item_shape, set_shape, text as text_spelling, global as global_spelling, array as array_spelling, message as message_spelling, routine as routine_spelling, event as event_spelling, lists as lists_spelling};
 
 use crate::writing::{
     put_array, put_event, put_global, put_item, put_message, put_record, put_routine, put_set,
     put_text,
 };
-use cse_codec::{put_i64s, put_u32, put_u32s};
-use cse_parts::entries::{Array, EventEntry, GlobalVariable, Message, Routine, Tables};
-use cse_parts::limits::{
+use cse_image_codec::{put_i64s, put_u32, put_u32s};
+use cse_image_parts::entries::{Array, EventEntry, GlobalVariable, Message, Routine, Tables};
+use cse_image_parts::limits::{
     MOST_ARRAYS, MOST_CONSTANTS, MOST_EVENTS, MOST_GLOBALS, MOST_ITEMS, MOST_LIMITS, MOST_MESSAGES,
     MOST_ORDER, MOST_RECORDS, MOST_ROUTINES, MOST_SETS, MOST_TEXTS,
 };
@@ -108,7 +108,7 @@ fn put_events(out: &mut Vec<u8>, events: &[EventEntry]) -> Result<(), AllocError
     Ok(())
 }
 
-#[tactic(auto, using(cse_codec::proofs::Places::count_small), unfolding(cse_codec::specs::Spelling::section))]
+#[tactic(auto, using(cse_image_codec::proofs::Places::count_small), unfolding(cse_image_codec::specs::Spelling::section))]
 fn section_of_records(out: &mut Vec<u8>, records: &[RecordShape]) -> Result<(), AllocError>
     requires { SectionFits MOST_RECORDS (λ _. RecordFits) records.now }
     ensures { OnOk result (out.new.items ≡ out.old.items ++ section record_shape records.now) }
@@ -117,7 +117,7 @@ fn section_of_records(out: &mut Vec<u8>, records: &[RecordShape]) -> Result<(), 
     put_records(out, records)
 }
 
-#[tactic(auto, using(cse_codec::proofs::Places::count_small), unfolding(cse_codec::specs::Spelling::section))]
+#[tactic(auto, using(cse_image_codec::proofs::Places::count_small), unfolding(cse_image_codec::specs::Spelling::section))]
 fn section_of_items(out: &mut Vec<u8>, items: &[ItemShape]) -> Result<(), AllocError>
     requires { SectionFits MOST_ITEMS (λ _. ItemFits) items.now }
     ensures { OnOk result (out.new.items ≡ out.old.items ++ section item_shape items.now) }
@@ -126,7 +126,7 @@ fn section_of_items(out: &mut Vec<u8>, items: &[ItemShape]) -> Result<(), AllocE
     put_items(out, items)
 }
 
-#[tactic(auto, using(cse_codec::proofs::Places::count_small), unfolding(cse_codec::specs::Spelling::section))]
+#[tactic(auto, using(cse_image_codec::proofs::Places::count_small), unfolding(cse_image_codec::specs::Spelling::section))]
 fn section_of_sets(out: &mut Vec<u8>, sets: &[SetShape]) -> Result<(), AllocError>
     requires { SectionFits MOST_SETS (λ _. SetFits) sets.now }
     ensures { OnOk result (out.new.items ≡ out.old.items ++ section set_shape sets.now) }
@@ -135,7 +135,7 @@ fn section_of_sets(out: &mut Vec<u8>, sets: &[SetShape]) -> Result<(), AllocErro
     put_sets(out, sets)
 }
 
-#[tactic(auto, using(cse_codec::proofs::Places::count_small), unfolding(cse_codec::specs::Spelling::section))]
+#[tactic(auto, using(cse_image_codec::proofs::Places::count_small), unfolding(cse_image_codec::specs::Spelling::section))]
 fn section_of_order(out: &mut Vec<u8>, order: &[u32]) -> Result<(), AllocError>
     requires { SectionFits MOST_ORDER (λ _. OrderFits) order.now }
     ensures { OnOk result (out.new.items ≡ out.old.items ++ section u32_spelling order.now) }
@@ -144,7 +144,7 @@ fn section_of_order(out: &mut Vec<u8>, order: &[u32]) -> Result<(), AllocError>
     put_u32s(out, order)
 }
 
-#[tactic(auto, using(cse_codec::proofs::Places::count_small), unfolding(cse_codec::specs::Spelling::section))]
+#[tactic(auto, using(cse_image_codec::proofs::Places::count_small), unfolding(cse_image_codec::specs::Spelling::section))]
 fn section_of_constants(out: &mut Vec<u8>, constants: &[i64]) -> Result<(), AllocError>
     requires { SectionFits MOST_CONSTANTS (λ _. FitsSigned w64) constants.now }
     ensures { OnOk result (out.new.items ≡ out.old.items ++ section i64_spelling constants.now) }
@@ -153,7 +153,7 @@ fn section_of_constants(out: &mut Vec<u8>, constants: &[i64]) -> Result<(), Allo
     put_i64s(out, constants)
 }
 
-#[tactic(auto, using(cse_codec::proofs::Places::count_small), unfolding(cse_codec::specs::Spelling::section))]
+#[tactic(auto, using(cse_image_codec::proofs::Places::count_small), unfolding(cse_image_codec::specs::Spelling::section))]
 fn section_of_limits(out: &mut Vec<u8>, limits: &[u32]) -> Result<(), AllocError>
     requires { SectionFits MOST_LIMITS (λ _. LimitFits) limits.now }
     ensures { OnOk result (out.new.items ≡ out.old.items ++ section u32_spelling limits.now) }
@@ -162,7 +162,7 @@ fn section_of_limits(out: &mut Vec<u8>, limits: &[u32]) -> Result<(), AllocError
     put_u32s(out, limits)
 }
 
-#[tactic(auto, using(cse_codec::proofs::Places::count_small), unfolding(cse_codec::specs::Spelling::section))]
+#[tactic(auto, using(cse_image_codec::proofs::Places::count_small), unfolding(cse_image_codec::specs::Spelling::section))]
 fn section_of_texts(out: &mut Vec<u8>, texts: &[String]) -> Result<(), AllocError>
     requires { SectionFits MOST_TEXTS (λ _. TextFits) (map string_bytes texts.now) }
     ensures { OnOk result (out.new.items ≡ out.old.items ++ section text_spelling (map string_bytes texts.now)) }
@@ -171,7 +171,7 @@ fn section_of_texts(out: &mut Vec<u8>, texts: &[String]) -> Result<(), AllocErro
     put_texts(out, texts)
 }
 
-#[tactic(auto, using(cse_codec::proofs::Places::count_small), unfolding(cse_codec::specs::Spelling::section))]
+#[tactic(auto, using(cse_image_codec::proofs::Places::count_small), unfolding(cse_image_codec::specs::Spelling::section))]
 fn section_of_globals(out: &mut Vec<u8>, globals: &[GlobalVariable]) -> Result<(), AllocError>
     requires { SectionFits MOST_GLOBALS (λ _. GlobalFits) globals.now }
     ensures { OnOk result (out.new.items ≡ out.old.items ++ section global_spelling globals.now) }
@@ -180,7 +180,7 @@ fn section_of_globals(out: &mut Vec<u8>, globals: &[GlobalVariable]) -> Result<(
     put_globals(out, globals)
 }
 
-#[tactic(auto, using(cse_codec::proofs::Places::count_small), unfolding(cse_codec::specs::Spelling::section))]
+#[tactic(auto, using(cse_image_codec::proofs::Places::count_small), unfolding(cse_image_codec::specs::Spelling::section))]
 fn section_of_arrays(out: &mut Vec<u8>, arrays: &[Array]) -> Result<(), AllocError>
     requires { SectionFits MOST_ARRAYS ArrayFits (map array_lists arrays.now) }
     ensures { OnOk result (out.new.items ≡ out.old.items ++ section array_spelling (map array_lists arrays.now)) }
@@ -189,7 +189,7 @@ fn section_of_arrays(out: &mut Vec<u8>, arrays: &[Array]) -> Result<(), AllocErr
     put_arrays(out, arrays)
 }
 
-#[tactic(auto, using(cse_codec::proofs::Places::count_small), unfolding(cse_codec::specs::Spelling::section))]
+#[tactic(auto, using(cse_image_codec::proofs::Places::count_small), unfolding(cse_image_codec::specs::Spelling::section))]
 fn section_of_messages(out: &mut Vec<u8>, messages: &[Message]) -> Result<(), AllocError>
     requires { SectionFits MOST_MESSAGES (λ _. MessageFits) (map message_lists messages.now) }
     ensures { OnOk result (out.new.items ≡ out.old.items ++ section message_spelling (map message_lists messages.now)) }
@@ -198,7 +198,7 @@ fn section_of_messages(out: &mut Vec<u8>, messages: &[Message]) -> Result<(), Al
     put_messages(out, messages)
 }
 
-#[tactic(auto, using(cse_codec::proofs::Places::count_small), unfolding(cse_codec::specs::Spelling::section))]
+#[tactic(auto, using(cse_image_codec::proofs::Places::count_small), unfolding(cse_image_codec::specs::Spelling::section))]
 fn section_of_routines(out: &mut Vec<u8>, routines: &[Routine]) -> Result<(), AllocError>
     requires { SectionFits MOST_ROUTINES (λ before. RoutineFits versions.Two (instructions_in before)) (map routine_lists routines.now) }
     ensures { OnOk result (out.new.items ≡ out.old.items ++ section routine_spelling (map routine_lists routines.now)) }
@@ -207,7 +207,7 @@ fn section_of_routines(out: &mut Vec<u8>, routines: &[Routine]) -> Result<(), Al
     put_routines(out, routines)
 }
 
-#[tactic(auto, using(cse_codec::proofs::Places::count_small), unfolding(cse_codec::specs::Spelling::section))]
+#[tactic(auto, using(cse_image_codec::proofs::Places::count_small), unfolding(cse_image_codec::specs::Spelling::section))]
 fn section_of_events(out: &mut Vec<u8>, events: &[EventEntry]) -> Result<(), AllocError>
     requires { SectionFits MOST_EVENTS (λ before. EventFits (last_event before)) events.now }
     ensures { OnOk result (out.new.items ≡ out.old.items ++ section event_spelling events.now) }

@@ -2,12 +2,12 @@
 //! it is read.
 
 ghost use Rattle.std.specs.Prelude.{◌≡◌, ◌<◌, ◌≤◌, take, ◌-◌, List, Some, Ok, IfOk, length, map, slice_get};
-ghost use Rattle.cse_codec.specs.Reader.{Gives, GivesFault, each};
-ghost use Rattle.cse_parts.specs.declared.instruction.Instr.{Instr as AnInstr};
-ghost use Rattle.cse_parts.specs.declared.version.Version.TheVariants as versions;
-ghost use Rattle.cse_parts.specs.Fields.{instructions_in};
-ghost use Rattle.cse_parts.specs.Image.{Image, lists_of, image_with, routine_lists};
-ghost use Rattle.cse_parts.specs.Upgrade.{greater, own_limit, greatest_limit, one_to};
+ghost use Rattle.cse_image_codec.specs.Reader.{Gives, GivesFault, each};
+ghost use Rattle.cse_image_parts.specs.declared.instruction.Instr.{Instr as AnInstr};
+ghost use Rattle.cse_image_parts.specs.declared.version.Version.TheVariants as versions;
+ghost use Rattle.cse_image_parts.specs.Fields.{instructions_in};
+ghost use Rattle.cse_image_parts.specs.Image.{Image, lists_of, image_with, routine_lists};
+ghost use Rattle.cse_image_parts.specs.Upgrade.{greater, own_limit, greatest_limit, one_to};
 ghost use Rattle.cse_image.specs.Place.{Answers, placed};
 ghost use Rattle.cse_image.specs.Reading.{instr_at, edition, edition_at, whole_edition as spec_whole_edition, reading};
 ghost use Rattle.cse_image.specs.Spelling.{program_in, StandFor};
@@ -19,11 +19,11 @@ use crate::program::Program;
 use crate::read_code::instr_of;
 use crate::read_shape::header_of;
 use crate::reading::{tables_of, total_of};
-use cse_codec::{Fault, Rule, Stop, broken};
-use cse_parts::entries::{Routine, Tables};
-use cse_parts::instruction::Instr;
-use cse_parts::limits::MOST_INSTRUCTIONS;
-use cse_parts::version::{Version, is_counting_loop};
+use cse_image_codec::{Fault, Rule, Stop, broken};
+use cse_image_parts::entries::{Routine, Tables};
+use cse_image_parts::instruction::Instr;
+use cse_image_parts::limits::MOST_INSTRUCTIONS;
+use cse_image_parts::version::{Version, is_counting_loop};
 use std::alloc::{AllocError, Global};
 use std::marker::Model;
 
@@ -141,7 +141,7 @@ fn greater_of(a: u16, b: u16) -> u16
 }
 
 /// The greatest limit that code of version 1 holds, and 0 where it holds none.
-#[tactic(auto, unfolding(cse_parts::specs::Upgrade::greatest_limit))]
+#[tactic(auto, unfolding(cse_image_parts::specs::Upgrade::greatest_limit))]
 fn greatest_in(bytes: &[u8]) -> u16
     requires { IsCodeOf versions.One (code_in versions.One bytes.now) bytes.now }
     ensures { result ≡ greatest_limit (code_in versions.One bytes.now) }
@@ -154,7 +154,7 @@ fn greatest_in(bytes: &[u8]) -> u16
 }
 
 /// The limits 1, 2, .. up to n.
-#[tactic(auto, unfolding(cse_parts::specs::Upgrade::one_to))]
+#[tactic(auto, unfolding(cse_image_parts::specs::Upgrade::one_to))]
 fn limits_to(alloc: Global, n: u16) -> Result<Vec<u32>, AllocError>
     ensures { IfOk result (λ v. v.items ≡ one_to n) }
 {
@@ -219,7 +219,7 @@ fn view_code_of<'a>(
 }
 
 /// The version, the tables and the code that the bytes begin with, and what follows them.
-#[tactic(auto, unfolding(cse_codec::specs::Reader::then_at, cse_codec::specs::Reader::done, crate::specs::Reading::edition_at))]
+#[tactic(auto, unfolding(cse_image_codec::specs::Reader::then_at, cse_image_codec::specs::Reader::done, crate::specs::Reading::edition_at))]
 fn parts_of(alloc: Global, bytes: &[u8]) -> Result<((Version, Tables, &[u8]), &[u8]), Stop>
     ensures exact { Gives (λ x. (edition x.0.0 (image_with x.0.1 (code_in x.0.0 x.0.2.now)), x.1.now)) result (edition_at bytes.now) }
     ensures code { IfOk result (λ x. IsCodeOf x.0.0 (code_in x.0.0 x.0.2.now) x.0.2.now) }

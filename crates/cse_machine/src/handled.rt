@@ -3,8 +3,8 @@
 ghost use Rattle.std.specs.Prelude.{◌≡◌};
 ghost use Rattle.cse_machine.specs.Handled.{handled_by};
 
+use cse_code_typing::routine_of;
 use cse_image::{Code, Event};
-use cse_typing::routine_of;
 use cse_verify::Verified;
 
 /// An event with the routine that a program has for it.

@@ -3,17 +3,17 @@ use Rattle.std.proofs.Common.{◌≡◌, ℕ, ◌+◌, ◌<◌, true, false, Lis
 use Rattle.std.specs.Prelude.{slice_get, option_map, option_and_then, is_some}
 use Rattle.std.proofs.lemmas.List.{append-nil}
 use Rattle.cse_value.specs.declared.number.Num.{Num}
-use Rattle.cse_parts.specs.declared.instruction.Op.TheVariants as ops
-use Rattle.cse_parts.specs.declared.entries.Gift.TheVariants as gifts
-use Rattle.cse_parts.specs.declared.entries.Local.{Local}
-use Rattle.cse_parts.specs.declared.entries.LocalKind.{LocalKind}
-use Rattle.cse_parts.specs.declared.entries.LocalKind.TheVariants as locals
-use Rattle.cse_parts.specs.Image.{RoutineLists}
+use Rattle.cse_image_parts.specs.declared.instruction.Op.TheVariants as ops
+use Rattle.cse_image_parts.specs.declared.entries.Gift.TheVariants as gifts
+use Rattle.cse_image_parts.specs.declared.entries.Local.{Local}
+use Rattle.cse_image_parts.specs.declared.entries.LocalKind.{LocalKind}
+use Rattle.cse_image_parts.specs.declared.entries.LocalKind.TheVariants as locals
+use Rattle.cse_image_parts.specs.Image.{RoutineLists}
 use Rattle.cse_case.specs.Case.{CaseText}
-use Rattle.cse_typing.specs.declared.kind.Kind.TheVariants as kind
-use Rattle.cse_typing.specs.Kinds.{kind_by}
-use Rattle.cse_typing.specs.Order.{is_run}
-use Rattle.cse_emit.specs.Wide.{with_c}
+use Rattle.cse_code_typing.specs.declared.kind.Kind.TheVariants as kind
+use Rattle.cse_code_typing.specs.Kinds.{kind_by}
+use Rattle.cse_code_typing.specs.Order.{is_run}
+use Rattle.cse_compile_code.specs.Wide.{with_c}
 use Rattle.cse_steps.specs.Cell.{Cell, Number}
 use Rattle.cse_steps.specs.State.{Call, World}
 use Rattle.cse_steps.specs.Operands.{taken_by_kind, arguments_onto, arguments_taken}

@@ -7,16 +7,16 @@ use Rattle.std.proofs.lemmas.Nat.{mul-add-lt}
 use Rattle.std.proofs.lemmas.Option.{slice_get-map, get_or_from_slice_get}
 use Rattle.cse_value.specs.declared.number.Num.{Num}
 use Rattle.cse_value.specs.declared.number.Num.TheVariants.{Undef}
-use Rattle.cse_parts.specs.declared.instruction.Op.TheVariants as ops
-use Rattle.cse_parts.specs.Fields.{product}
-use Rattle.cse_parts.specs.Image.{ArrayLists}
+use Rattle.cse_image_parts.specs.declared.instruction.Op.TheVariants as ops
+use Rattle.cse_image_parts.specs.Fields.{product}
+use Rattle.cse_image_parts.specs.Image.{ArrayLists}
 use Rattle.cse_case.specs.Case.{CaseText}
 use Rattle.cse_decks.specs.Store.{cells_of, cell_count, with_cell}
 use Rattle.cse_decks.proofs.StoreLaws.{cell_stays}
-use Rattle.cse_emit.specs.Wide.{with_a, with_c, pops}
-use Rattle.cse_emit.specs.Setting.{Setting, size_at}
-use Rattle.cse_emit.specs.Numbers.{count, behind}
-use Rattle.cse_typed.specs.Typed.{Numbers, no_number, number_and}
+use Rattle.cse_compile_code.specs.Wide.{with_a, with_c, pops}
+use Rattle.cse_compile_code.specs.Setting.{Setting, size_at}
+use Rattle.cse_compile_code.specs.Numbers.{count, behind}
+use Rattle.cse_logic_tree.specs.Typed.{Numbers, no_number, number_and}
 use Rattle.cse_steps.specs.Cell.{Cell, Number, Index}
 use Rattle.cse_steps.specs.State.{Call, World, in_store}
 use Rattle.cse_steps.specs.Operands.{is_within, place_among, cell_place, popped}

@@ -5,25 +5,25 @@ use Rattle.cse_value.specs.Field.{put_text}
 use Rattle.std.specs.Prelude.{slice_get, slice_set, option_and_then, option_map}
 use Rattle.cse_value.specs.declared.number.Num.{Num}
 use Rattle.cse_case.specs.Case.{CaseText}
-use Rattle.cse_parts.specs.declared.instruction.Op.TheVariants as ops
-use Rattle.cse_parts.specs.declared.entries.GlobalVariable.{GlobalVariable}
-use Rattle.cse_parts.specs.declared.entries.GlobalKind.{GlobalKind}
-use Rattle.cse_parts.specs.declared.entries.GlobalKind.TheVariants as globals
-use Rattle.cse_parts.specs.declared.entries.Local.{Local}
-use Rattle.cse_parts.specs.declared.entries.LocalKind.{LocalKind}
-use Rattle.cse_parts.specs.declared.entries.LocalKind.TheVariants as locals
-use Rattle.cse_typing.specs.Kinds.{global_kind, local_kind, kind_by}
-use Rattle.cse_typing.specs.declared.kind.Kind.TheVariants as kind
-use Rattle.cse_typing.specs.Signature.{local_at}
-use Rattle.cse_typed.specs.declared.tree.Variable.{Variable}
-use Rattle.cse_typed.specs.declared.tree.Variable.TheVariants as v
-use Rattle.cse_emit.specs.Setting.{Setting, result_local}
-use Rattle.cse_emit.specs.Wide.{with_c}
-use Rattle.cse_emit.specs.Numbers.{store, number_size, number_code}
-use Rattle.cse_emit.specs.Statements.{statement_size, statement_code}
-use Rattle.cse_emitted.specs.Fit.{IsNumberVariable}
-use Rattle.cse_emitted.proofs.Lengths.{number_length}
-use Rattle.cse_typing.specs.Code.{code_of}
+use Rattle.cse_image_parts.specs.declared.instruction.Op.TheVariants as ops
+use Rattle.cse_image_parts.specs.declared.entries.GlobalVariable.{GlobalVariable}
+use Rattle.cse_image_parts.specs.declared.entries.GlobalKind.{GlobalKind}
+use Rattle.cse_image_parts.specs.declared.entries.GlobalKind.TheVariants as globals
+use Rattle.cse_image_parts.specs.declared.entries.Local.{Local}
+use Rattle.cse_image_parts.specs.declared.entries.LocalKind.{LocalKind}
+use Rattle.cse_image_parts.specs.declared.entries.LocalKind.TheVariants as locals
+use Rattle.cse_code_typing.specs.Kinds.{global_kind, local_kind, kind_by}
+use Rattle.cse_code_typing.specs.declared.kind.Kind.TheVariants as kind
+use Rattle.cse_code_typing.specs.Signature.{local_at}
+use Rattle.cse_logic_tree.specs.declared.tree.Variable.{Variable}
+use Rattle.cse_logic_tree.specs.declared.tree.Variable.TheVariants as v
+use Rattle.cse_compile_code.specs.Setting.{Setting, result_local}
+use Rattle.cse_compile_code.specs.Wide.{with_c}
+use Rattle.cse_compile_code.specs.Numbers.{store, number_size, number_code}
+use Rattle.cse_compile_code.specs.Statements.{statement_size, statement_code}
+use Rattle.cse_law_code_is_typed.specs.Fit.{IsNumberVariable}
+use Rattle.cse_law_code_is_typed.proofs.Lengths.{number_length}
+use Rattle.cse_code_typing.specs.Code.{code_of}
 use Rattle.cse_decks.specs.declared.global.GlobalValue.{GlobalValue}
 use Rattle.cse_decks.specs.declared.global.GlobalValue.TheVariants as values
 use Rattle.cse_decks.specs.Store.{with_global, rewritten}

@@ -3,18 +3,18 @@ use Rattle.std.proofs.Common.{◌≡◌, ℕ, ◌+◌, ◌<◌, Bool, true, fals
 use Rattle.std.specs.Prelude.{option_and_then, option_map, if◌then◌else◌, ◌||◌, not}
 use Rattle.std.proofs.lemmas.Bool.{and_from, le-leb, lt-ltb}
 use Rattle.cse_value.specs.declared.number.Num.{Num}
-use Rattle.cse_parts.specs.declared.instruction.Op.TheVariants as ops
+use Rattle.cse_image_parts.specs.declared.instruction.Op.TheVariants as ops
 use Rattle.cse_dict.specs.Dictionary.{DictionaryText, shape_of, row_in, spans_at}
 use Rattle.cse_case.specs.Case.{CaseText}
-use Rattle.cse_typing.specs.Code.{code_of}
-use Rattle.cse_typing.specs.Signature.{rows_of}
-use Rattle.cse_typed.specs.declared.tree.Pick.{Pick}
-use Rattle.cse_emit.specs.Wide as wide
-use Rattle.cse_emit.specs.Wide.{Wide, pops}
-use Rattle.cse_emit.specs.Setting.{Setting}
-use Rattle.cse_emit.specs.Numbers.{present_size, number_of_item, can_fail, deepest, picks_size, picks_code}
-use Rattle.cse_emitted.specs.Fit.{row_count, ArePicks}
-use Rattle.cse_emitted.proofs.Lengths.{item_length, pops_length}
+use Rattle.cse_code_typing.specs.Code.{code_of}
+use Rattle.cse_code_typing.specs.Signature.{rows_of}
+use Rattle.cse_logic_tree.specs.declared.tree.Pick.{Pick}
+use Rattle.cse_compile_code.specs.Wide as wide
+use Rattle.cse_compile_code.specs.Wide.{Wide, pops}
+use Rattle.cse_compile_code.specs.Setting.{Setting}
+use Rattle.cse_compile_code.specs.Numbers.{present_size, number_of_item, can_fail, deepest, picks_size, picks_code}
+use Rattle.cse_law_code_is_typed.specs.Fit.{row_count, ArePicks}
+use Rattle.cse_law_code_is_typed.proofs.Lengths.{item_length, pops_length}
 use Rattle.cse_steps.specs.Cell.{Cell, Number}
 use Rattle.cse_steps.specs.State.{Call, World}
 use Rattle.cse_steps.specs.Operands.{is_within, row_within}

@@ -5,17 +5,17 @@ use Rattle.std.specs.Option.{option_map_or}
 use Rattle.std.proofs.lemmas.Option.{slice_get-map}
 use Rattle.cse_value.specs.declared.number.Num.{Num}
 use Rattle.cse_value.specs.declared.number.Num.TheVariants.{Undef}
-use Rattle.cse_parts.specs.declared.entries.GlobalVariable.{GlobalVariable}
+use Rattle.cse_image_parts.specs.declared.entries.GlobalVariable.{GlobalVariable}
 use Rattle.cse_case.specs.Case.{CaseText, places_of}
 use Rattle.cse_decks.specs.declared.global.GlobalValue.{GlobalValue}
 use Rattle.cse_decks.specs.declared.global.GlobalValue.TheVariants as values
 use Rattle.cse_decks.specs.Store.{variable_of}
-use Rattle.cse_typing.specs.declared.kind.Kind.TheVariants as kind
-use Rattle.cse_typing.specs.Kinds.{global_kind}
-use Rattle.cse_typing.specs.Order.{is_run}
-use Rattle.cse_typing.specs.Signature.{global_at}
+use Rattle.cse_code_typing.specs.declared.kind.Kind.TheVariants as kind
+use Rattle.cse_code_typing.specs.Kinds.{global_kind}
+use Rattle.cse_code_typing.specs.Order.{is_run}
+use Rattle.cse_code_typing.specs.Signature.{global_at}
 use Rattle.cse_verify.specs.Verified.{VerifiedProgram}
-use Rattle.cse_emit.specs.Setting.{Setting}
+use Rattle.cse_compile_code.specs.Setting.{Setting}
 use Rattle.cse_steps.specs.Cell.{Number}
 use Rattle.cse_steps.specs.State.{World}
 use Rattle.cse_steps.specs.Fits.{FitsWorld, occurrences_in}

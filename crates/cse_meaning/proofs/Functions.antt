@@ -5,24 +5,24 @@ use Rattle.std.proofs.lemmas.Option.{same_Some, slice_get_within}
 use Rattle.std.proofs.lemmas.Bool.{eqb-true, eq-eqb, false≢true}
 use Rattle.cse_value.specs.declared.number.Num.{Num}
 use Rattle.cse_value.specs.declared.number.Num.TheVariants.{Whole, Undef}
-use Rattle.cse_parts.specs.declared.entries.Gift.TheVariants as gifts
-use Rattle.cse_parts.specs.declared.entries.Local.{Local}
-use Rattle.cse_parts.specs.declared.instruction.Op.TheVariants as ops
-use Rattle.cse_parts.specs.Image.{RoutineLists}
+use Rattle.cse_image_parts.specs.declared.entries.Gift.TheVariants as gifts
+use Rattle.cse_image_parts.specs.declared.entries.Local.{Local}
+use Rattle.cse_image_parts.specs.declared.instruction.Op.TheVariants as ops
+use Rattle.cse_image_parts.specs.Image.{RoutineLists}
 use Rattle.cse_case.specs.Case.{CaseText}
-use Rattle.cse_typing.specs.Code.{code_of}
-use Rattle.cse_typing.specs.declared.kind.Kind.{Kind}
-use Rattle.cse_typing.specs.declared.kind.Kind.TheVariants as kind
-use Rattle.cse_typing.specs.Kinds.{local_kind}
-use Rattle.cse_typing.specs.Order.{is_run}
+use Rattle.cse_code_typing.specs.Code.{code_of}
+use Rattle.cse_code_typing.specs.declared.kind.Kind.{Kind}
+use Rattle.cse_code_typing.specs.declared.kind.Kind.TheVariants as kind
+use Rattle.cse_code_typing.specs.Kinds.{local_kind}
+use Rattle.cse_code_typing.specs.Order.{is_run}
 use Rattle.cse_verify.specs.Verified.{VerifiedProgram}
-use Rattle.cse_typed.specs.declared.tree.Variable.TheVariants as v
-use Rattle.cse_typed.specs.Typed.{Function}
-use Rattle.cse_tables.specs.Outline.{outline_of, routine_of, numbers, number_local}
-use Rattle.cse_emit.specs.Setting.{Setting}
-use Rattle.cse_emit.specs.Routines.{no_loop, routine_code}
-use Rattle.cse_emit.specs.Statements.{block_size, block_code, exit_code}
-use Rattle.cse_emitted.proofs.Blocks.{block_length}
+use Rattle.cse_logic_tree.specs.declared.tree.Variable.TheVariants as v
+use Rattle.cse_logic_tree.specs.Typed.{Function}
+use Rattle.cse_compile_sections.specs.Outline.{outline_of, routine_of, numbers, number_local}
+use Rattle.cse_compile_code.specs.Setting.{Setting}
+use Rattle.cse_compile_code.specs.Routines.{no_loop, routine_code}
+use Rattle.cse_compile_code.specs.Statements.{block_size, block_code, exit_code}
+use Rattle.cse_law_code_is_typed.proofs.Blocks.{block_length}
 use Rattle.cse_steps.specs.Cell.{Cell, Number}
 use Rattle.cse_steps.specs.State.{Call, World}
 use Rattle.cse_steps.specs.Step.{acts, first_local}

@@ -6,12 +6,12 @@ use Rattle.cse_value.specs.declared.number.Num.{Num}
 use Rattle.cse_value.specs.declared.number.Num.TheVariants.{Whole, NotAppl, Missing, Undef}
 use Rattle.cse_value.specs.Number.{holds}
 use Rattle.cse_value.specs.Texts.{holds_of_order, text_order}
-use Rattle.cse_parts.specs.declared.instruction.Op.{Op}
-use Rattle.cse_parts.specs.declared.instruction.Op.TheVariants as ops
-use Rattle.cse_parts.specs.declared.instruction.Instr.{Instr}
-use Rattle.cse_parts.specs.Image.{Lists}
+use Rattle.cse_image_parts.specs.declared.instruction.Op.{Op}
+use Rattle.cse_image_parts.specs.declared.instruction.Op.TheVariants as ops
+use Rattle.cse_image_parts.specs.declared.instruction.Instr.{Instr}
+use Rattle.cse_image_parts.specs.Image.{Lists}
 use Rattle.cse_decks.specs.declared.global.GlobalValue.{GlobalValue}
-use Rattle.cse_typing.specs.Code.{code_of}
+use Rattle.cse_code_typing.specs.Code.{code_of}
 use Rattle.cse_verify.specs.Verified.{VerifiedProgram}
 use Rattle.cse_syntax.specs.declared.tree.Operator.{Operator}
 use Rattle.cse_syntax.specs.declared.tree.Operator.TheVariants as operators
@@ -19,9 +19,9 @@ use Rattle.cse_syntax.specs.declared.tree.Relation.{Relation}
 use Rattle.cse_syntax.specs.declared.tree.Relation.TheVariants as relations
 use Rattle.cse_syntax.specs.declared.tree.Special.{Special}
 use Rattle.cse_syntax.specs.declared.tree.Special.TheVariants as specials
-use Rattle.cse_emit.specs.Wide as wide
-use Rattle.cse_emit.specs.Wide.{Wide, bare, with_a, with_c}
-use Rattle.cse_emit.specs.Numbers.{special_number, relation_number, operation_of}
+use Rattle.cse_compile_code.specs.Wide as wide
+use Rattle.cse_compile_code.specs.Wide.{Wide, bare, with_a, with_c}
+use Rattle.cse_compile_code.specs.Numbers.{special_number, relation_number, operation_of}
 use Rattle.cse_steps.specs.Cell.{Cell, Number, Words}
 use Rattle.cse_steps.specs.State.{Call, World, State}
 use Rattle.cse_steps.specs.Operands as operands

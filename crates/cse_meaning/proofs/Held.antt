@@ -8,22 +8,22 @@ use Rattle.cse_case.specs.Case.{CaseText}
 use Rattle.cse_decks.specs.declared.global.GlobalValue.TheVariants as values
 use Rattle.cse_decks.specs.Store.{variable_of, with_global}
 use Rattle.cse_decks.proofs.StoreLaws.{length-put_text}
-use Rattle.cse_parts.specs.Image.{RoutineLists}
-use Rattle.cse_typing.specs.declared.kind.Kind.{Kind}
-use Rattle.cse_typing.specs.declared.kind.Kind.TheVariants as kind
-use Rattle.cse_typing.specs.Signature.{local_at}
+use Rattle.cse_image_parts.specs.Image.{RoutineLists}
+use Rattle.cse_code_typing.specs.declared.kind.Kind.{Kind}
+use Rattle.cse_code_typing.specs.declared.kind.Kind.TheVariants as kind
+use Rattle.cse_code_typing.specs.Signature.{local_at}
 use Rattle.cse_verify.specs.Verified.{VerifiedProgram}
-use Rattle.cse_typed.specs.declared.tree.Variable.{Variable}
-use Rattle.cse_typed.specs.declared.tree.Variable.TheVariants as v
-use Rattle.cse_emit.specs.Setting.{Setting, result_local}
-use Rattle.cse_emitted.specs.Fit.{IsNumberVariable}
+use Rattle.cse_logic_tree.specs.declared.tree.Variable.{Variable}
+use Rattle.cse_logic_tree.specs.declared.tree.Variable.TheVariants as v
+use Rattle.cse_compile_code.specs.Setting.{Setting, result_local}
+use Rattle.cse_law_code_is_typed.specs.Fit.{IsNumberVariable}
 use Rattle.cse_steps.specs.Cell.{Cell, Number}
 use Rattle.cse_steps.specs.State.{World, in_store}
 use Rattle.cse_steps.specs.Fits.{FitsWorld}
 use Rattle.cse_steps.proofs.Lists.{map_set}
 use Rattle.cse_value.specs.Field.{put_text}
-use Rattle.cse_parts.specs.declared.entries.GlobalVariable.{GlobalVariable}
-use Rattle.cse_parts.specs.declared.entries.GlobalKind.TheVariants as globals
+use Rattle.cse_image_parts.specs.declared.entries.GlobalVariable.{GlobalVariable}
+use Rattle.cse_image_parts.specs.declared.entries.GlobalKind.TheVariants as globals
 use Rattle.cse_meaning.specs.Setting.{Context, Locals}
 use Rattle.cse_meaning.specs.Writing.{local_set, global_set}
 use Rattle.cse_meaning.specs.Runs.{Spot}

@@ -6,16 +6,16 @@ use Rattle.std.proofs.lemmas.Bool.{and_from, eq-eqb, le-leb}
 use Rattle.cse_value.specs.declared.number.Num.{Num}
 use Rattle.cse_value.specs.declared.number.Num.TheVariants.{Whole, NotAppl, Missing, Undef}
 use Rattle.cse_value.specs.declared.shape.ItemShape.{ItemShape}
-use Rattle.cse_parts.specs.declared.instruction.Op.TheVariants as ops
+use Rattle.cse_image_parts.specs.declared.instruction.Op.TheVariants as ops
 use Rattle.cse_dict.specs.Dictionary.{shape_of}
 use Rattle.cse_case.specs.Case.{CaseText, places_of, place_of, number_at, text_at}
-use Rattle.cse_typing.specs.Signature.{id_number, id_text, number_item, text_item, is_record}
-use Rattle.cse_typed.specs.declared.tree.Found.{Found}
-use Rattle.cse_typed.specs.declared.tree.Found.TheVariants as h
-use Rattle.cse_emit.specs.Wide.{Wide, with_a, with_c}
-use Rattle.cse_emit.specs.Setting.{Setting}
-use Rattle.cse_emit.specs.Numbers.{guarded, here_size, here_code}
-use Rattle.cse_emitted.specs.Fit.{IsFound}
+use Rattle.cse_code_typing.specs.Signature.{id_number, id_text, number_item, text_item, is_record}
+use Rattle.cse_logic_tree.specs.declared.tree.Found.{Found}
+use Rattle.cse_logic_tree.specs.declared.tree.Found.TheVariants as h
+use Rattle.cse_compile_code.specs.Wide.{Wide, with_a, with_c}
+use Rattle.cse_compile_code.specs.Setting.{Setting}
+use Rattle.cse_compile_code.specs.Numbers.{guarded, here_size, here_code}
+use Rattle.cse_law_code_is_typed.specs.Fit.{IsFound}
 use Rattle.cse_steps.specs.Cell.{Cell, Number, Words, Occurrence}
 use Rattle.cse_steps.specs.State.{Call, World}
 use Rattle.cse_steps.specs.Operands.{is_within, whole_within}

@@ -6,25 +6,25 @@ use Rattle.std.proofs.lemmas.List.{length-set}
 use Rattle.std.proofs.lemmas.Bool.{eqb-true, ne_eqb}
 use Rattle.cse_value.specs.declared.number.Num.{Num}
 use Rattle.cse_value.specs.Number.{is_condition}
-use Rattle.cse_parts.specs.declared.instruction.Op.TheVariants as ops
+use Rattle.cse_image_parts.specs.declared.instruction.Op.TheVariants as ops
 use Rattle.cse_case.specs.Case.{CaseText}
 use Rattle.cse_dict.specs.Sound.{IsSound}
-use Rattle.cse_typing.specs.Code.{code_of}
-use Rattle.cse_typing.specs.Signature.{local_at}
-use Rattle.cse_typing.specs.declared.kind.Kind.TheVariants as kind
-use Rattle.cse_typed.specs.declared.tree.Variable.{Variable}
-use Rattle.cse_typed.specs.declared.tree.Variable.TheVariants as v
-use Rattle.cse_typed.specs.Typed as tree
-use Rattle.cse_typed.specs.Typed.{Limit, Fixed, Counted, Counting, Which, Statement, Statements, Arms}
-use Rattle.cse_typed.specs.Typed.{Empty, Set, SetText, SetItem, SetTextItem, SetCell, CallOf, If, For, Do, Jump', Impute, PutDeck, ErrMsg, no_statement, statement_and, no_arm, else_of, arm}
-use Rattle.cse_emit.specs.Wide.{Wide, with_c, jump, jump_size, jump_over}
-use Rattle.cse_emit.specs.Setting.{Setting, result_local}
-use Rattle.cse_emit.specs.declared.setting.Loop.{Loop}
-use Rattle.cse_emit.specs.Numbers.{store, number_size, number_code}
-use Rattle.cse_emit.specs.Statements.{exit_code_by, front_size, front_code, guard_size, guard_code}
-use Rattle.cse_emitted.specs.Fit.{IsExit, IsNumberVariable, NumberFits}
-use Rattle.cse_emitted.proofs.Lengths.{number_length}
-use Rattle.cse_emitted.proofs.Blocks.{front_length}
+use Rattle.cse_code_typing.specs.Code.{code_of}
+use Rattle.cse_code_typing.specs.Signature.{local_at}
+use Rattle.cse_code_typing.specs.declared.kind.Kind.TheVariants as kind
+use Rattle.cse_logic_tree.specs.declared.tree.Variable.{Variable}
+use Rattle.cse_logic_tree.specs.declared.tree.Variable.TheVariants as v
+use Rattle.cse_logic_tree.specs.Typed as tree
+use Rattle.cse_logic_tree.specs.Typed.{Limit, Fixed, Counted, Counting, Which, Statement, Statements, Arms}
+use Rattle.cse_logic_tree.specs.Typed.{Empty, Set, SetText, SetItem, SetTextItem, SetCell, CallOf, If, For, Do, Jump', Impute, PutDeck, ErrMsg, no_statement, statement_and, no_arm, else_of, arm}
+use Rattle.cse_compile_code.specs.Wide.{Wide, with_c, jump, jump_size, jump_over}
+use Rattle.cse_compile_code.specs.Setting.{Setting, result_local}
+use Rattle.cse_compile_code.specs.declared.setting.Loop.{Loop}
+use Rattle.cse_compile_code.specs.Numbers.{store, number_size, number_code}
+use Rattle.cse_compile_code.specs.Statements.{exit_code_by, front_size, front_code, guard_size, guard_code}
+use Rattle.cse_law_code_is_typed.specs.Fit.{IsExit, IsNumberVariable, NumberFits}
+use Rattle.cse_law_code_is_typed.proofs.Lengths.{number_length}
+use Rattle.cse_law_code_is_typed.proofs.Blocks.{front_length}
 use Rattle.cse_steps.specs.Cell.{Cell, Number, Occurrence}
 use Rattle.cse_steps.specs.State.{Open, Call, World}
 use Rattle.cse_steps.specs.Operands.{is_within}

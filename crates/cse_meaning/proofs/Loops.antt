@@ -4,23 +4,23 @@ use Rattle.std.specs.Prelude.{pos, option_and_then, if◌then◌else◌}
 use Rattle.std.proofs.lemmas.Bool.{and_from, le-leb, eq-eqb}
 use Rattle.cse_value.specs.declared.number.Num.{Num}
 use Rattle.cse_value.specs.declared.number.Num.TheVariants.{Whole}
-use Rattle.cse_parts.specs.declared.instruction.Op.TheVariants as ops
+use Rattle.cse_image_parts.specs.declared.instruction.Op.TheVariants as ops
 use Rattle.cse_case.specs.Case.{CaseText, places_of}
 use Rattle.cse_dict.specs.Dictionary.{shape_of}
 use Rattle.cse_dict.specs.Sound.{IsSound}
-use Rattle.cse_typing.specs.Signature.{is_record}
-use Rattle.cse_typed.specs.declared.tree.Variable.{Variable}
-use Rattle.cse_typed.specs.declared.tree.Variable.TheVariants as v
-use Rattle.cse_typed.specs.Typed as tree
-use Rattle.cse_typed.specs.Typed.{Limit, Fixed, Counted, Counting, Which, Statement, Statements, Arms}
-use Rattle.cse_typed.specs.Typed.{Empty, Set, SetText, SetItem, SetTextItem, SetCell, CallOf, If, For, Do, Jump', Impute, PutDeck, ErrMsg, no_statement, statement_and, no_arm, else_of, arm}
-use Rattle.cse_emit.specs.Wide as wide
-use Rattle.cse_emit.specs.Wide.{pops, Wide, bare, with_a, with_c, jump, jump_size, jump_over}
-use Rattle.cse_emit.specs.Setting.{Setting}
-use Rattle.cse_emit.specs.declared.setting.Loop.{Loop}
-use Rattle.cse_emit.specs.Numbers.{store, number_size, number_code}
-use Rattle.cse_emit.specs.Statements.{step_code, loop_to}
-use Rattle.cse_emitted.specs.Fit.{IsNumberVariable}
+use Rattle.cse_code_typing.specs.Signature.{is_record}
+use Rattle.cse_logic_tree.specs.declared.tree.Variable.{Variable}
+use Rattle.cse_logic_tree.specs.declared.tree.Variable.TheVariants as v
+use Rattle.cse_logic_tree.specs.Typed as tree
+use Rattle.cse_logic_tree.specs.Typed.{Limit, Fixed, Counted, Counting, Which, Statement, Statements, Arms}
+use Rattle.cse_logic_tree.specs.Typed.{Empty, Set, SetText, SetItem, SetTextItem, SetCell, CallOf, If, For, Do, Jump', Impute, PutDeck, ErrMsg, no_statement, statement_and, no_arm, else_of, arm}
+use Rattle.cse_compile_code.specs.Wide as wide
+use Rattle.cse_compile_code.specs.Wide.{pops, Wide, bare, with_a, with_c, jump, jump_size, jump_over}
+use Rattle.cse_compile_code.specs.Setting.{Setting}
+use Rattle.cse_compile_code.specs.declared.setting.Loop.{Loop}
+use Rattle.cse_compile_code.specs.Numbers.{store, number_size, number_code}
+use Rattle.cse_compile_code.specs.Statements.{step_code, loop_to}
+use Rattle.cse_law_code_is_typed.specs.Fit.{IsNumberVariable}
 use Rattle.cse_steps.specs.Cell.{Cell, Number}
 use Rattle.cse_steps.specs.State.{Open, Call, World}
 use Rattle.cse_steps.specs.Operands.{is_within, combined, turns_of}
@@ -41,7 +41,7 @@ use Rattle.cse_meaning.specs.Plain.{IsOwn}
 use Rattle.cse_meaning.specs.Lands.{Around, Lands}
 use Rattle.cse_meaning.proofs.Facts.{many_of, as_first, many_first, case_here}
 use Rattle.cse_meaning.proofs.Items.{current_goes, occurrence_number_goes}
-use Rattle.cse_typing.specs.Order.{is_run}
+use Rattle.cse_code_typing.specs.Order.{is_run}
 use Rattle.cse_meaning.proofs.Going.{acts_at, constant_goes, left, joined, plain_at, named}
 use Rattle.cse_meaning.proofs.Simulation.{number_goes}
 use Rattle.cse_meaning.proofs.Held.{set_fits}

@@ -2,25 +2,25 @@
 use Rattle.std.proofs.Common.{◌≡◌, ℕ, ◌+◌, List, [], ◌∷◌, ◌++◌, length, map, reverse, Option, Some, refl, sym, ap, ◌∙◌, arith}
 use Rattle.std.specs.Prelude.{slice_get, option_and_then}
 use Rattle.std.proofs.lemmas.List.{append-nil}
-use Rattle.cse_parts.specs.declared.instruction.Op.TheVariants as ops
-use Rattle.cse_parts.specs.declared.placeholders.ArgumentKind.{ArgumentKind}
-use Rattle.cse_parts.specs.declared.placeholders.ArgumentKind.TheVariants as arguments
-use Rattle.cse_parts.specs.Image.{MessageLists}
-use Rattle.cse_parts.specs.Placeholders.{message_kinds}
+use Rattle.cse_image_parts.specs.declared.instruction.Op.TheVariants as ops
+use Rattle.cse_image_parts.specs.declared.placeholders.ArgumentKind.{ArgumentKind}
+use Rattle.cse_image_parts.specs.declared.placeholders.ArgumentKind.TheVariants as arguments
+use Rattle.cse_image_parts.specs.Image.{MessageLists}
+use Rattle.cse_image_parts.specs.Placeholders.{message_kinds}
 use Rattle.cse_report.specs.declared.argument.Arg.{Arg}
 use Rattle.cse_report.specs.declared.argument.Arg.TheVariants as args
 use Rattle.cse_case.specs.Case.{CaseText}
-use Rattle.cse_typing.specs.declared.kind.Kind.{Kind}
-use Rattle.cse_typing.specs.declared.kind.Kind.TheVariants as kind
-use Rattle.cse_typing.specs.Kinds.{argument_kind}
-use Rattle.cse_typing.specs.Code.{code_of}
+use Rattle.cse_code_typing.specs.declared.kind.Kind.{Kind}
+use Rattle.cse_code_typing.specs.declared.kind.Kind.TheVariants as kind
+use Rattle.cse_code_typing.specs.Kinds.{argument_kind}
+use Rattle.cse_code_typing.specs.Code.{code_of}
 use Rattle.cse_verify.specs.Verified.{VerifiedProgram}
-use Rattle.cse_typed.specs.Typed.{Argument, OfNumber, OfWords}
-use Rattle.cse_emit.specs.Wide.{with_c}
-use Rattle.cse_emit.specs.Setting.{Setting}
-use Rattle.cse_emit.specs.Statements.{argument_size, argument_code, arguments_size, arguments_code}
-use Rattle.cse_emitted.specs.Fit.{kind_of, ArgumentFits, ArgumentsFit}
-use Rattle.cse_emitted.proofs.Blocks.{argument_length}
+use Rattle.cse_logic_tree.specs.Typed.{Argument, OfNumber, OfWords}
+use Rattle.cse_compile_code.specs.Wide.{with_c}
+use Rattle.cse_compile_code.specs.Setting.{Setting}
+use Rattle.cse_compile_code.specs.Statements.{argument_size, argument_code, arguments_size, arguments_code}
+use Rattle.cse_law_code_is_typed.specs.Fit.{kind_of, ArgumentFits, ArgumentsFit}
+use Rattle.cse_law_code_is_typed.proofs.Blocks.{argument_length}
 use Rattle.cse_steps.specs.Cell.{Cell, Number, Words}
 use Rattle.cse_steps.specs.State.{Call, World, with_given}
 use Rattle.cse_steps.specs.Operands.{args_onto}

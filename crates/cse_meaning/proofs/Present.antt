@@ -5,19 +5,19 @@ use Rattle.std.specs.Option.{option_map_or}
 use Rattle.std.specs.Str.{chars}
 use Rattle.cse_value.specs.declared.number.Num.{Num}
 use Rattle.cse_value.specs.declared.number.Num.TheVariants.{Whole, Undef}
-use Rattle.cse_parts.specs.declared.instruction.Op.TheVariants as ops
+use Rattle.cse_image_parts.specs.declared.instruction.Op.TheVariants as ops
 use Rattle.cse_dict.specs.Dictionary.{DictionaryText, shape_of, row_in, spans_at}
 use Rattle.cse_case.specs.Case.{CaseText, place_of, number_at, text_at}
-use Rattle.cse_typing.specs.Signature.{number_item, text_item, rows_of}
-use Rattle.cse_typed.specs.declared.tree.Field.{Field}
-use Rattle.cse_typed.specs.declared.tree.Found.{Found}
-use Rattle.cse_typed.specs.declared.tree.Present.{Present}
-use Rattle.cse_typed.specs.declared.tree.Present.TheVariants as present
-use Rattle.cse_emit.specs.Wide as wide
-use Rattle.cse_emit.specs.Wide.{with_a, with_b, with_c, undefined}
-use Rattle.cse_emit.specs.Setting.{Setting}
-use Rattle.cse_emit.specs.Numbers.{guarded, here_size, here_code, present_size, number_of_item, text_of_item}
-use Rattle.cse_emitted.specs.Fit.{IsEntry, IsRecord, IsFound, IsNumberField, IsTextField, IsNumberPresent, IsTextPresent}
+use Rattle.cse_code_typing.specs.Signature.{number_item, text_item, rows_of}
+use Rattle.cse_logic_tree.specs.declared.tree.Field.{Field}
+use Rattle.cse_logic_tree.specs.declared.tree.Found.{Found}
+use Rattle.cse_logic_tree.specs.declared.tree.Present.{Present}
+use Rattle.cse_logic_tree.specs.declared.tree.Present.TheVariants as present
+use Rattle.cse_compile_code.specs.Wide as wide
+use Rattle.cse_compile_code.specs.Wide.{with_a, with_b, with_c, undefined}
+use Rattle.cse_compile_code.specs.Setting.{Setting}
+use Rattle.cse_compile_code.specs.Numbers.{guarded, here_size, here_code, present_size, number_of_item, text_of_item}
+use Rattle.cse_law_code_is_typed.specs.Fit.{IsEntry, IsRecord, IsFound, IsNumberField, IsTextField, IsNumberPresent, IsTextPresent}
 use Rattle.cse_steps.specs.Cell.{Cell, Number, Words, Occurrence}
 use Rattle.cse_steps.specs.State.{Call, World}
 use Rattle.cse_steps.specs.Operands.{flag}

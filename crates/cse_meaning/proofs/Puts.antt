@@ -6,22 +6,22 @@ use Rattle.std.proofs.lemmas.Bool.{and_parts, leb-true}
 use Rattle.cse_value.specs.declared.number.Num.{Num}
 use Rattle.cse_value.specs.declared.number.Num.TheVariants.{Whole}
 use Rattle.cse_value.specs.declared.shape.ItemShape.{ItemShape}
-use Rattle.cse_parts.specs.declared.instruction.Op.TheVariants as ops
+use Rattle.cse_image_parts.specs.declared.instruction.Op.TheVariants as ops
 use Rattle.cse_dict.specs.Dictionary.{shape_of}
 use Rattle.cse_dict.specs.Sound.{IsSound}
 use Rattle.cse_case.specs.Case.{CaseText, places_of, with_number, with_text}
-use Rattle.cse_typing.specs.Code.{code_of}
+use Rattle.cse_code_typing.specs.Code.{code_of}
 use Rattle.cse_verify.specs.Verified.{VerifiedProgram}
-use Rattle.cse_typing.specs.Signature.{number_item, text_item}
-use Rattle.cse_typed.specs.declared.tree.Field.{Field}
-use Rattle.cse_typed.specs.declared.tree.Found.TheVariants as h
-use Rattle.cse_typed.specs.Typed.{Which, Here, At}
-use Rattle.cse_emit.specs.Wide.{with_c, occurrence}
-use Rattle.cse_emit.specs.Setting.{Setting}
-use Rattle.cse_emit.specs.Numbers.{number_size, number_code}
-use Rattle.cse_emit.specs.Statements.{which_size, which_code}
-use Rattle.cse_emitted.specs.Fit.{IsEntry, IsRecord, WhichFits}
-use Rattle.cse_emitted.proofs.Lengths.{number_length}
+use Rattle.cse_code_typing.specs.Signature.{number_item, text_item}
+use Rattle.cse_logic_tree.specs.declared.tree.Field.{Field}
+use Rattle.cse_logic_tree.specs.declared.tree.Found.TheVariants as h
+use Rattle.cse_logic_tree.specs.Typed.{Which, Here, At}
+use Rattle.cse_compile_code.specs.Wide.{with_c, occurrence}
+use Rattle.cse_compile_code.specs.Setting.{Setting}
+use Rattle.cse_compile_code.specs.Numbers.{number_size, number_code}
+use Rattle.cse_compile_code.specs.Statements.{which_size, which_code}
+use Rattle.cse_law_code_is_typed.specs.Fit.{IsEntry, IsRecord, WhichFits}
+use Rattle.cse_law_code_is_typed.proofs.Lengths.{number_length}
 use Rattle.cse_steps.specs.Cell.{Cell, Number, Words, Occurrence}
 use Rattle.cse_steps.specs.State.{Call, World, in_case, with_imputed}
 use Rattle.cse_steps.specs.Operands.{is_within, whole_within, with_occurrence}

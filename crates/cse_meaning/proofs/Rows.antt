@@ -11,7 +11,7 @@ use Rattle.cse_dict.specs.Dictionary.{DictionaryText, SetText, shape_of, row_in}
 use Rattle.cse_dict.specs.Sound.{IsSound, IsSoundSet}
 use Rattle.cse_dict.specs.declared.rows.Span.{Span}
 use Rattle.cse_dict.proofs.RowLaws.{row_in-below}
-use Rattle.cse_typing.specs.Signature.{is_numeric, rows_by}
+use Rattle.cse_code_typing.specs.Signature.{is_numeric, rows_by}
 use Rattle.cse_meaning.specs.Laid.{KeepsRows}
 
 sound_at : (d : DictionaryText) (xs : List SetText) (k : ℕ) (x : SetText) → AllByRecursion (IsSoundSet d) xs → slice_get xs k ≡ Some x → IsSoundSet d x

@@ -5,31 +5,31 @@ use Rattle.std.proofs.lemmas.Bool.{false≢true}
 use Rattle.cse_value.specs.declared.number.Num.{Num}
 use Rattle.cse_value.specs.declared.number.Num.TheVariants.{Whole, Undef}
 use Rattle.cse_value.specs.Occurrences.{most_occurrences}
-use Rattle.cse_parts.specs.declared.instruction.Op.TheVariants as ops
-use Rattle.cse_parts.specs.declared.entries.Local.{Local}
-use Rattle.cse_parts.specs.Image.{ArrayLists}
+use Rattle.cse_image_parts.specs.declared.instruction.Op.TheVariants as ops
+use Rattle.cse_image_parts.specs.declared.entries.Local.{Local}
+use Rattle.cse_image_parts.specs.Image.{ArrayLists}
 use Rattle.cse_dict.specs.Dictionary.{DictionaryText, shape_of}
 use Rattle.cse_case.specs.Case.{CaseText}
 use Rattle.cse_decks.specs.declared.global.GlobalValue.{GlobalValue}
 use Rattle.cse_decks.specs.declared.global.GlobalValue.TheVariants as values
 use Rattle.cse_decks.specs.Store.{number_in, text_in}
-use Rattle.cse_typing.specs.Code.{code_of}
-use Rattle.cse_typing.specs.declared.kind.Kind.{Kind}
-use Rattle.cse_typing.specs.declared.kind.Kind.TheVariants as kind
-use Rattle.cse_typing.specs.Kinds.{local_kind}
-use Rattle.cse_typing.specs.Order.{is_run}
-use Rattle.cse_typing.specs.Signature.{global_at}
-use Rattle.cse_typed.specs.declared.tree.Variable.{Variable}
-use Rattle.cse_typed.specs.declared.tree.Variable.TheVariants as v
-use Rattle.cse_typed.specs.declared.tree.Pick.{Pick}
-use Rattle.cse_typed.specs.Typed as tree
-use Rattle.cse_typed.specs.Typed.{Numbers, Operations, no_number, number_and, no_operation, operation_and}
-use Rattle.cse_emit.specs.Wide as wide
-use Rattle.cse_emit.specs.Wide.{Wide, bare, with_a, with_b, with_c, jump, undefined, pops}
-use Rattle.cse_emit.specs.Setting.{Setting, size_at, result_local}
-use Rattle.cse_emit.specs.Numbers.{can_fail, deepest, picks_size, picks_code, deck_size, deck_code, load, present_size, number_of_item, number_size, number_code, words_size, words_code, operations_size, operations_code, indexes_size, indexes_code, numbers_size, numbers_code, count, behind}
-use Rattle.cse_emitted.specs.Fit.{IsDeck, IsNumberVariable, numbers_kinds, NumberFits, WordsFit, NumbersFit, OperationsFit}
-use Rattle.cse_emitted.proofs.Lengths.{picks_length, item_length, pops_length, indexes_length, numbers_length, number_length, words_length}
+use Rattle.cse_code_typing.specs.Code.{code_of}
+use Rattle.cse_code_typing.specs.declared.kind.Kind.{Kind}
+use Rattle.cse_code_typing.specs.declared.kind.Kind.TheVariants as kind
+use Rattle.cse_code_typing.specs.Kinds.{local_kind}
+use Rattle.cse_code_typing.specs.Order.{is_run}
+use Rattle.cse_code_typing.specs.Signature.{global_at}
+use Rattle.cse_logic_tree.specs.declared.tree.Variable.{Variable}
+use Rattle.cse_logic_tree.specs.declared.tree.Variable.TheVariants as v
+use Rattle.cse_logic_tree.specs.declared.tree.Pick.{Pick}
+use Rattle.cse_logic_tree.specs.Typed as tree
+use Rattle.cse_logic_tree.specs.Typed.{Numbers, Operations, no_number, number_and, no_operation, operation_and}
+use Rattle.cse_compile_code.specs.Wide as wide
+use Rattle.cse_compile_code.specs.Wide.{Wide, bare, with_a, with_b, with_c, jump, undefined, pops}
+use Rattle.cse_compile_code.specs.Setting.{Setting, size_at, result_local}
+use Rattle.cse_compile_code.specs.Numbers.{can_fail, deepest, picks_size, picks_code, deck_size, deck_code, load, present_size, number_of_item, number_size, number_code, words_size, words_code, operations_size, operations_code, indexes_size, indexes_code, numbers_size, numbers_code, count, behind}
+use Rattle.cse_law_code_is_typed.specs.Fit.{IsDeck, IsNumberVariable, numbers_kinds, NumberFits, WordsFit, NumbersFit, OperationsFit}
+use Rattle.cse_law_code_is_typed.proofs.Lengths.{picks_length, item_length, pops_length, indexes_length, numbers_length, number_length, words_length}
 use Rattle.cse_steps.specs.Cell.{Cell, Number, Words, Index}
 use Rattle.cse_steps.specs.State.{Call, World}
 use Rattle.cse_steps.specs.Step.{acts, or_to}

@@ -4,30 +4,30 @@ use Rattle.std.specs.Prelude.{is_some, take, slice_get, if◌then◌else◌, ◌
 use Rattle.std.specs.Option.{option_map_or}
 use Rattle.std.proofs.lemmas.Bool.{eq-eqb}
 use Rattle.cse_value.specs.declared.number.Num.TheVariants.{Whole}
-use Rattle.cse_parts.specs.declared.instruction.Op.TheVariants as ops
+use Rattle.cse_image_parts.specs.declared.instruction.Op.TheVariants as ops
 use Rattle.cse_case.specs.Case.{CaseText}
 use Rattle.cse_dict.specs.Sound.{IsSound}
-use Rattle.cse_typing.specs.Code.{code_of}
-use Rattle.cse_typing.specs.Signature.{global_at}
-use Rattle.cse_typing.specs.declared.kind.Kind.TheVariants as kind
+use Rattle.cse_code_typing.specs.Code.{code_of}
+use Rattle.cse_code_typing.specs.Signature.{global_at}
+use Rattle.cse_code_typing.specs.declared.kind.Kind.TheVariants as kind
 use Rattle.cse_syntax.specs.declared.tree.Jump.{Jump}
 use Rattle.cse_syntax.specs.declared.tree.Jump.TheVariants as j
-use Rattle.cse_typed.specs.declared.tree.Field.{Field}
-use Rattle.cse_typed.specs.Typed as tree
-use Rattle.cse_typed.specs.Typed.{Limit, Fixed, Counted, Counting, Which, Statement, Statements, Arms}
-use Rattle.cse_typed.specs.Typed.{Empty, Set, SetText, SetItem, SetTextItem, SetCell, CallOf, If, For, Do, Jump', Impute, PutDeck, ErrMsg, no_statement, statement_and, no_arm, else_of, arm}
-use Rattle.cse_emit.specs.Wide as wide
-use Rattle.cse_emit.specs.Wide.{pops, Wide, bare, with_a, with_c, jump, jump_size, jump_over}
-use Rattle.cse_emit.specs.Setting.{Setting}
-use Rattle.cse_emit.specs.declared.setting.Loop.{Loop}
-use Rattle.cse_emit.specs.Numbers.{deepest, picks_size, picks_code, count, behind, indexes_size, indexes_code, number_size, number_code, words_size, words_code, numbers_size, numbers_code}
-use Rattle.cse_emit.specs.Statements.{turn_limit, turns_size, head_size, head_code, step_code, drops_size, drops_code, arguments_size, arguments_code, jump_code, which_size, which_code, front_size, guard_size, loop_to, statement_size, statement_code, block_size, block_code, arms_size, arms_code}
-use Rattle.cse_emitted.specs.Fit.{IsDeck, IsArray, IsMessage, ArgumentsFit, IsExit, JumpFits, IsNumberField, IsTextField, IsFunction, WhichFits, WordsFit, NumbersFit, NumberFits, StatementFits, BlockFits, ArmsFit}
-use Rattle.cse_emitted.proofs.Lengths.{picks_length, indexes_length, number_length, words_length, numbers_length}
-use Rattle.cse_emitted.proofs.Blocks.{head_length, arguments_length, which_length, statement_length, block_length}
+use Rattle.cse_logic_tree.specs.declared.tree.Field.{Field}
+use Rattle.cse_logic_tree.specs.Typed as tree
+use Rattle.cse_logic_tree.specs.Typed.{Limit, Fixed, Counted, Counting, Which, Statement, Statements, Arms}
+use Rattle.cse_logic_tree.specs.Typed.{Empty, Set, SetText, SetItem, SetTextItem, SetCell, CallOf, If, For, Do, Jump', Impute, PutDeck, ErrMsg, no_statement, statement_and, no_arm, else_of, arm}
+use Rattle.cse_compile_code.specs.Wide as wide
+use Rattle.cse_compile_code.specs.Wide.{pops, Wide, bare, with_a, with_c, jump, jump_size, jump_over}
+use Rattle.cse_compile_code.specs.Setting.{Setting}
+use Rattle.cse_compile_code.specs.declared.setting.Loop.{Loop}
+use Rattle.cse_compile_code.specs.Numbers.{deepest, picks_size, picks_code, count, behind, indexes_size, indexes_code, number_size, number_code, words_size, words_code, numbers_size, numbers_code}
+use Rattle.cse_compile_code.specs.Statements.{turn_limit, turns_size, head_size, head_code, step_code, drops_size, drops_code, arguments_size, arguments_code, jump_code, which_size, which_code, front_size, guard_size, loop_to, statement_size, statement_code, block_size, block_code, arms_size, arms_code}
+use Rattle.cse_law_code_is_typed.specs.Fit.{IsDeck, IsArray, IsMessage, ArgumentsFit, IsExit, JumpFits, IsNumberField, IsTextField, IsFunction, WhichFits, WordsFit, NumbersFit, NumberFits, StatementFits, BlockFits, ArmsFit}
+use Rattle.cse_law_code_is_typed.proofs.Lengths.{picks_length, indexes_length, number_length, words_length, numbers_length}
+use Rattle.cse_law_code_is_typed.proofs.Blocks.{head_length, arguments_length, which_length, statement_length, block_length}
 use Rattle.cse_steps.specs.Cell.{Cell, Number, Occurrence}
 use Rattle.cse_steps.specs.State.{Open, Call, World, in_store, with_given}
-use Rattle.cse_parts.specs.Image.{ArrayLists}
+use Rattle.cse_image_parts.specs.Image.{ArrayLists}
 use Rattle.cse_steps.proofs.Calls.{case_for_callee}
 use Rattle.cse_decks.specs.Store.{with_global, rewritten}
 use Rattle.cse_syntax.specs.Tree.{Spelling}
@@ -40,7 +40,7 @@ use Rattle.cse_meaning.specs.Reading as reading
 use Rattle.cse_meaning.specs.Reading.{many, sizes_of, deck_place, variable}
 use Rattle.cse_meaning.proofs.Turns.{as_many_turns, limit_may, limit_goes, turns_go}
 use Rattle.cse_meaning.proofs.Decks.{picks_go}
-use Rattle.cse_typed.specs.declared.tree.Pick.{Pick}
+use Rattle.cse_logic_tree.specs.declared.tree.Pick.{Pick}
 use Rattle.cse_meaning.specs.Writing.{cell_set, text_set, local_set, global_set, item_set, text_item_set, imputed}
 use Rattle.cse_meaning.specs.Expressions.{number_of, words_of, numbers_of, indexes_of, and_then}
 use Rattle.cse_meaning.specs.Statements.{limit, turns as meant_turns, arguments_of, jumped, Flow, Fell, Broke, then_do, which_of, put_at, does, all_do, arms_do}
@@ -50,7 +50,7 @@ use Rattle.cse_meaning.specs.Follows.{Follows}
 use Rattle.cse_meaning.specs.Plain.{IsOwn, IsPlain, ArePlain, EachPlain, ArePlainArguments, IsPlainPlace, IsPlainStatement, IsPlainBlock, ArePlainArms}
 use Rattle.cse_meaning.specs.Lands.{Around, IsInside, Lands, StatementsLand}
 use Rattle.cse_meaning.proofs.Facts.{many_first, global_text}
-use Rattle.cse_typing.specs.Order.{is_run}
+use Rattle.cse_code_typing.specs.Order.{is_run}
 use Rattle.cse_meaning.proofs.Going.{left, joined, stays, plain_at, named, then_goes}
 use Rattle.cse_meaning.proofs.Rows.{keeps_rows}
 use Rattle.cse_meaning.proofs.Arrays as Arrays

@@ -8,19 +8,19 @@ use Rattle.cse_value.specs.declared.number.Num.TheVariants.{Whole, NotAppl, Miss
 use Rattle.cse_value.specs.declared.shape.RecordShape.{RecordShape}
 use Rattle.cse_value.specs.Number.{sum_of, difference_of, quotient_of, fits_i64, is_zero, cut}
 use Rattle.cse_value.specs.Occurrences.{most_occurrences}
-use Rattle.cse_parts.specs.declared.instruction.Op.TheVariants as ops
+use Rattle.cse_image_parts.specs.declared.instruction.Op.TheVariants as ops
 use Rattle.cse_dict.specs.Dictionary.{DictionaryText, shape_of}
 use Rattle.cse_case.specs.Case.{CaseText, places_of}
 use Rattle.cse_case.specs.Fit.{IsFit}
 use Rattle.cse_syntax.specs.declared.tree.Count.TheVariants as counts
 use Rattle.cse_syntax.specs.declared.tree.Special.TheVariants as specials
-use Rattle.cse_typed.specs.Typed.{Limit, Fixed, Counted, Counting}
-use Rattle.cse_emit.specs.Wide as wide
-use Rattle.cse_emit.specs.Wide.{bare, with_a}
-use Rattle.cse_emit.specs.Setting.{Setting}
-use Rattle.cse_emit.specs.Statements as emit
-use Rattle.cse_emit.specs.Statements.{known, limit_code, turn_limit, turns_size_by, turns_code_by}
-use Rattle.cse_emitted.specs.Fit.{LimitFits}
+use Rattle.cse_logic_tree.specs.Typed.{Limit, Fixed, Counted, Counting}
+use Rattle.cse_compile_code.specs.Wide as wide
+use Rattle.cse_compile_code.specs.Wide.{bare, with_a}
+use Rattle.cse_compile_code.specs.Setting.{Setting}
+use Rattle.cse_compile_code.specs.Statements as emit
+use Rattle.cse_compile_code.specs.Statements.{known, limit_code, turn_limit, turns_size_by, turns_code_by}
+use Rattle.cse_law_code_is_typed.specs.Fit.{LimitFits}
 use Rattle.cse_steps.specs.Cell.{Cell, Number}
 use Rattle.cse_steps.specs.State.{World}
 use Rattle.cse_steps.specs.Operands.{turns_of, combined}

@@ -3,17 +3,17 @@ use Rattle.std.specs.Prelude.{ℕ, ◌+◌, if◌then◌else◌, [], ◌∷◌, 
 use Rattle.cse_value.specs.declared.number.Num.{Num}
 use Rattle.cse_value.specs.Number.{is_condition}
 use Rattle.cse_case.specs.Case.{CaseText}
-use Rattle.cse_parts.specs.declared.instruction.Op.TheVariants as ops
+use Rattle.cse_image_parts.specs.declared.instruction.Op.TheVariants as ops
 use Rattle.cse_syntax.specs.Tree.{Spelling}
-use Rattle.cse_typed.specs.declared.tree.Variable.{Variable}
-use Rattle.cse_typed.specs.declared.tree.Variable.TheVariants as v
-use Rattle.cse_typed.specs.Typed as tree
-use Rattle.cse_emit.specs.Wide.{with_c}
-use Rattle.cse_emit.specs.Setting.{Setting, result_local}
-use Rattle.cse_emit.specs.Numbers.{number_size, number_code}
-use Rattle.cse_emit.specs.declared.setting.Loop.{Loop}
-use Rattle.cse_emit.specs.Statements.{statement_size, statement_code}
-use Rattle.cse_emitted.specs.Fit.{IsNumberVariable, NumberFits}
+use Rattle.cse_logic_tree.specs.declared.tree.Variable.{Variable}
+use Rattle.cse_logic_tree.specs.declared.tree.Variable.TheVariants as v
+use Rattle.cse_logic_tree.specs.Typed as tree
+use Rattle.cse_compile_code.specs.Wide.{with_c}
+use Rattle.cse_compile_code.specs.Setting.{Setting, result_local}
+use Rattle.cse_compile_code.specs.Numbers.{number_size, number_code}
+use Rattle.cse_compile_code.specs.declared.setting.Loop.{Loop}
+use Rattle.cse_compile_code.specs.Statements.{statement_size, statement_code}
+use Rattle.cse_law_code_is_typed.specs.Fit.{IsNumberVariable, NumberFits}
 use Rattle.cse_steps.specs.Cell.{Number}
 use Rattle.cse_steps.specs.State.{World}
 use Rattle.cse_steps.specs.Fits.{FitsWorld}

@@ -10,8 +10,8 @@ use Rattle.cse_value.specs.Occurrences.{most_occurrences}
 use Rattle.cse_dict.specs.Dictionary.{shape_of}
 use Rattle.cse_syntax.specs.Leaf.{text_of}
 use Rattle.std.specs.Option.{option_map_or}
-use Rattle.cse_typed.specs.Typed.{Number, Words, Numbers, Operations, Constant, Special', Variable', Item, ItemAt, Cell, Call, Group, Int, IsSpecial, Deck, TotOcc, MaxOcc, CurOcc, InSet, Minus, Not, Compare, CompareTexts, Chain}
-use Rattle.cse_typed.specs.Typed.{Quoted, TextGlobal, TextItem, TextItemAt, TextGroup, no_number, number_and, no_operation, operation_and}
+use Rattle.cse_logic_tree.specs.Typed.{Number, Words, Numbers, Operations, Constant, Special', Variable', Item, ItemAt, Cell, Call, Group, Int, IsSpecial, Deck, TotOcc, MaxOcc, CurOcc, InSet, Minus, Not, Compare, CompareTexts, Chain}
+use Rattle.cse_logic_tree.specs.Typed.{Quoted, TextGlobal, TextItem, TextItemAt, TextGroup, no_number, number_and, no_operation, operation_and}
 use Rattle.cse_steps.specs.State.{World}
 use Rattle.cse_meaning.specs.Setting.{Context, Locals, Valued, Functions}
 use Rattle.cse_meaning.specs.Reading.{special, is_special, one_if, rel, operated, number_of_one, many, found, number_at, words_at, number_here, words_here, variable, text, sizes_of, first_size, other_sizes, cell, row, deck_place}

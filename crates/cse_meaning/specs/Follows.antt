@@ -1,13 +1,13 @@
 -- The functions of a program do what they mean.
 use Rattle.std.specs.Prelude.{◌≡◌, ◌<◌, ℕ, true, false, List, [], ◌∷◌, map, take, Option, Some, slice_get, is_some}
 use Rattle.cse_value.specs.declared.number.Num.{Num}
-use Rattle.cse_parts.specs.declared.entries.Gift.TheVariants as gifts
-use Rattle.cse_parts.specs.declared.entries.Local.{Local}
-use Rattle.cse_parts.specs.Image.{RoutineLists}
+use Rattle.cse_image_parts.specs.declared.entries.Gift.TheVariants as gifts
+use Rattle.cse_image_parts.specs.declared.entries.Local.{Local}
+use Rattle.cse_image_parts.specs.Image.{RoutineLists}
 use Rattle.cse_case.specs.Case.{CaseText}
-use Rattle.cse_typing.specs.declared.kind.Kind.TheVariants as kind
-use Rattle.cse_typing.specs.Kinds.{local_kind}
-use Rattle.cse_typing.specs.Order.{is_run}
+use Rattle.cse_code_typing.specs.declared.kind.Kind.TheVariants as kind
+use Rattle.cse_code_typing.specs.Kinds.{local_kind}
+use Rattle.cse_code_typing.specs.Order.{is_run}
 use Rattle.cse_verify.specs.Verified.{VerifiedProgram}
 use Rattle.cse_steps.specs.Cell.{Number}
 use Rattle.cse_steps.specs.State.{Call, World, State}

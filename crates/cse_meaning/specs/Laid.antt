@@ -2,15 +2,15 @@
 use Rattle.std.specs.Prelude.{◌≡◌, ◌<◌, ◌≤◌, ℕ, ◌==◌, true, false, List, ◌∷◌, length, map, Option, Some, slice_get, is_some}
 use Rattle.std.specs.List.{list_any}
 use Rattle.cse_value.specs.declared.number.Num.{Num}
-use Rattle.cse_parts.specs.Image.{ArrayLists}
+use Rattle.cse_image_parts.specs.Image.{ArrayLists}
 use Rattle.cse_dict.specs.Dictionary.{DictionaryText, shape_of, row_in, spans_at}
 use Rattle.cse_case.specs.Case.{CaseText}
-use Rattle.cse_typing.specs.declared.kind.Kind.TheVariants as kind
-use Rattle.cse_typing.specs.Order.{is_run}
-use Rattle.cse_typing.specs.Signature.{local_at, rows_of}
-use Rattle.cse_typing.specs.Typed.{scene_of}
-use Rattle.cse_emit.specs.Setting.{Setting, result_local}
-use Rattle.cse_emitted.specs.Fit as fit
+use Rattle.cse_code_typing.specs.declared.kind.Kind.TheVariants as kind
+use Rattle.cse_code_typing.specs.Order.{is_run}
+use Rattle.cse_code_typing.specs.Signature.{local_at, rows_of}
+use Rattle.cse_code_typing.specs.Typed.{scene_of}
+use Rattle.cse_compile_code.specs.Setting.{Setting, result_local}
+use Rattle.cse_law_code_is_typed.specs.Fit as fit
 use Rattle.cse_steps.specs.Cell.{Cell, Number, Occurrence}
 use Rattle.cse_steps.specs.State.{Open, World}
 use Rattle.cse_steps.specs.Operands.{is_within}

@@ -2,12 +2,12 @@
 use Rattle.std.specs.Prelude.{◌≡◌, ℕ, ◌+◌, Bool, true, List, [], ◌∷◌, length, Option, Some, None, slice_get}
 use Rattle.cse_case.specs.Case.{CaseText}
 use Rattle.cse_dict.specs.Sound.{IsSound}
-use Rattle.cse_typing.specs.Code.{code_of}
-use Rattle.cse_typed.specs.Typed.{Statement}
-use Rattle.cse_emit.specs.Setting.{Setting}
-use Rattle.cse_emit.specs.declared.setting.Loop.{Loop}
-use Rattle.cse_emit.specs.Statements.{statement_size, statement_code}
-use Rattle.cse_emitted.specs.Fit.{IsExit, StatementFits}
+use Rattle.cse_code_typing.specs.Code.{code_of}
+use Rattle.cse_logic_tree.specs.Typed.{Statement}
+use Rattle.cse_compile_code.specs.Setting.{Setting}
+use Rattle.cse_compile_code.specs.declared.setting.Loop.{Loop}
+use Rattle.cse_compile_code.specs.Statements.{statement_size, statement_code}
+use Rattle.cse_law_code_is_typed.specs.Fit.{IsExit, StatementFits}
 use Rattle.cse_steps.specs.Cell.{Cell, Number}
 use Rattle.cse_steps.specs.State.{Open, World}
 use Rattle.cse_steps.specs.Step.{ends_at, given_back}

@@ -2,14 +2,14 @@
 use Rattle.std.specs.Prelude.{ℕ, zero, suc, ◌==◌, if◌then◌else◌, Bool, ◌&&◌, List, [], length, map, find, Option, Some, None, slice_get}
 use Rattle.cse_value.specs.declared.number.Num.{Num}
 use Rattle.cse_value.specs.declared.number.Num.TheVariants.{Undef}
-use Rattle.cse_parts.specs.Codes.{event_code}
-use Rattle.cse_parts.specs.declared.entries.Event.{Event}
-use Rattle.cse_parts.specs.Image.{ArrayLists}
+use Rattle.cse_image_parts.specs.Codes.{event_code}
+use Rattle.cse_image_parts.specs.declared.entries.Event.{Event}
+use Rattle.cse_image_parts.specs.Image.{ArrayLists}
 use Rattle.cse_dict.specs.Dictionary.{DictionaryText}
-use Rattle.cse_bounds.specs.CaseEvents.{Moment}
-use Rattle.cse_typed.specs.Typed.{Function, Declaration, Tree}
-use Rattle.cse_tables.specs.Tables.{arrays_in, functions_in}
-use Rattle.cse_tables.specs.Outline.{Handler, handlers_in}
+use Rattle.cse_code_bounds.specs.CaseEvents.{Moment}
+use Rattle.cse_logic_tree.specs.Typed.{Function, Declaration, Tree}
+use Rattle.cse_compile_sections.specs.Tables.{arrays_in, functions_in}
+use Rattle.cse_compile_sections.specs.Outline.{Handler, handlers_in}
 use Rattle.cse_steps.specs.State.{World}
 use Rattle.cse_meaning.specs.Setting.{Context, Locals, Valued, Functions}
 use Rattle.cse_meaning.specs.Statements.{Flow, Fell, Broke, Skipped, Left, all_do}

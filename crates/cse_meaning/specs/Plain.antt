@@ -4,14 +4,14 @@ use Rattle.cse_value.specs.Number.{fits_i64, is_zero}
 use Rattle.cse_value.specs.Occurrences.{most_occurrences}
 use Rattle.cse_value.specs.declared.shape.RecordShape.{RecordShape}
 use Rattle.cse_syntax.specs.declared.tree.Count.TheVariants as counts
-use Rattle.cse_typed.specs.declared.tree.Variable.{Variable}
-use Rattle.cse_typed.specs.declared.tree.Variable.TheVariants as v
-use Rattle.cse_typed.specs.Typed as tree
-use Rattle.cse_emit.specs.Statements.{turn_limit}
+use Rattle.cse_logic_tree.specs.declared.tree.Variable.{Variable}
+use Rattle.cse_logic_tree.specs.declared.tree.Variable.TheVariants as v
+use Rattle.cse_logic_tree.specs.Typed as tree
+use Rattle.cse_compile_code.specs.Statements.{turn_limit}
 use Rattle.cse_meaning.specs.Statements.{turns}
-use Rattle.cse_typed.specs.Typed.{Which, Here, At, Limit, Fixed, Counted, Counting, Argument, OfNumber, OfWords, Statement, Statements, Arms}
-use Rattle.cse_typed.specs.Typed.{Empty, Set, SetText, SetItem, SetTextItem, SetCell, CallOf, If, For, Do, Jump', Impute, PutDeck, ErrMsg, no_statement, statement_and, no_arm, else_of, arm}
-use Rattle.cse_typed.specs.Typed.{Numbers, Operations, no_number, number_and, no_operation, operation_and}
+use Rattle.cse_logic_tree.specs.Typed.{Which, Here, At, Limit, Fixed, Counted, Counting, Argument, OfNumber, OfWords, Statement, Statements, Arms}
+use Rattle.cse_logic_tree.specs.Typed.{Empty, Set, SetText, SetItem, SetTextItem, SetCell, CallOf, If, For, Do, Jump', Impute, PutDeck, ErrMsg, no_statement, statement_and, no_arm, else_of, arm}
+use Rattle.cse_logic_tree.specs.Typed.{Numbers, Operations, no_number, number_and, no_operation, operation_and}
 
 abbrev pub IsOwn : ℕ → Variable → Type 0
 IsOwn n (v.Global g) = Unit {0}

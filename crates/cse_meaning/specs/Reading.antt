@@ -16,14 +16,14 @@ use Rattle.cse_syntax.specs.declared.tree.Relation.{Relation}
 use Rattle.cse_syntax.specs.declared.tree.Relation.TheVariants as relations
 use Rattle.cse_syntax.specs.declared.tree.Special.{Special}
 use Rattle.cse_syntax.specs.declared.tree.Special.TheVariants as specials
-use Rattle.cse_typed.specs.declared.tree.Variable.{Variable}
-use Rattle.cse_typed.specs.declared.tree.Variable.TheVariants as v
-use Rattle.cse_typed.specs.declared.tree.Found.{Found}
-use Rattle.cse_typed.specs.declared.tree.Found.TheVariants as h
-use Rattle.cse_typed.specs.declared.tree.Field.{Field}
-use Rattle.cse_typed.specs.declared.tree.Present.{Present}
-use Rattle.cse_typed.specs.declared.tree.Present.TheVariants as p
-use Rattle.cse_typed.specs.declared.tree.Pick.{Pick}
+use Rattle.cse_logic_tree.specs.declared.tree.Variable.{Variable}
+use Rattle.cse_logic_tree.specs.declared.tree.Variable.TheVariants as v
+use Rattle.cse_logic_tree.specs.declared.tree.Found.{Found}
+use Rattle.cse_logic_tree.specs.declared.tree.Found.TheVariants as h
+use Rattle.cse_logic_tree.specs.declared.tree.Field.{Field}
+use Rattle.cse_logic_tree.specs.declared.tree.Present.{Present}
+use Rattle.cse_logic_tree.specs.declared.tree.Present.TheVariants as p
+use Rattle.cse_logic_tree.specs.declared.tree.Pick.{Pick}
 use Rattle.cse_steps.specs.State.{World}
 use Rattle.cse_meaning.specs.Setting.{Context, Locals, turn_of}
 

@@ -1,11 +1,11 @@
 -- What the laws of runs speak of: a run from one state to another, and code that stands in a routine.
 use Rattle.std.specs.Prelude.{◌≡◌, ℕ, ◌+◌, List, [], ◌∷◌, Some, slice_get}
-use Rattle.cse_parts.specs.declared.instruction.Instr.{Instr}
-use Rattle.cse_parts.specs.Image.{Lists, RoutineLists}
-use Rattle.cse_typing.specs.Code.{code_of}
+use Rattle.cse_image_parts.specs.declared.instruction.Instr.{Instr}
+use Rattle.cse_image_parts.specs.Image.{Lists, RoutineLists}
+use Rattle.cse_code_typing.specs.Code.{code_of}
 use Rattle.cse_verify.specs.Verified.{VerifiedProgram}
-use Rattle.cse_emit.specs.Wide.{Wide}
-use Rattle.cse_emitted.specs.Stands.{Stands}
+use Rattle.cse_compile_code.specs.Wide.{Wide}
+use Rattle.cse_law_code_is_typed.specs.Stands.{Stands}
 use Rattle.cse_steps.specs.Cell.{Cell}
 use Rattle.cse_steps.specs.State.{Open, Call, World, State}
 use Rattle.cse_steps.specs.Run.{run}

@@ -2,10 +2,10 @@
 -- stack, to the world that its meaning leaves. It may call the functions below its routine, which do what they mean.
 use Rattle.std.specs.Prelude.{ℕ, ◌+◌, List, length, Option}
 use Rattle.cse_case.specs.Case.{CaseText}
-use Rattle.cse_typed.specs.Typed as tree
-use Rattle.cse_emit.specs.Setting.{Setting}
-use Rattle.cse_emit.specs.Numbers.{number_size, number_code, words_size, words_code}
-use Rattle.cse_emitted.specs.Fit.{NumberFits, WordsFit}
+use Rattle.cse_logic_tree.specs.Typed as tree
+use Rattle.cse_compile_code.specs.Setting.{Setting}
+use Rattle.cse_compile_code.specs.Numbers.{number_size, number_code, words_size, words_code}
+use Rattle.cse_law_code_is_typed.specs.Fit.{NumberFits, WordsFit}
 use Rattle.cse_steps.specs.Cell.{Cell, Number, Words}
 use Rattle.cse_steps.specs.State.{World}
 use Rattle.cse_steps.specs.Fits.{FitsWorld}

@@ -1,30 +1,30 @@
 -- The routines of a program are those of a typed source.
 use Rattle.std.specs.Prelude.{◌≡◌, ◌≤◌, ℕ, Bool, false, List, [], length, map, Option, Some, slice_get}
-use Rattle.cse_parts.specs.Image.{ArrayLists, RoutineLists}
+use Rattle.cse_image_parts.specs.Image.{ArrayLists, RoutineLists}
 use Rattle.cse_dict.specs.Dictionary.{shape_of}
 use Rattle.cse_dict.specs.Sound.{IsSound}
 use Rattle.cse_value.specs.declared.shape.ItemShape.{ItemShape}
-use Rattle.cse_parts.specs.declared.entries.Event.{Event}
-use Rattle.cse_parts.specs.declared.entries.Gift.TheVariants as gifts
+use Rattle.cse_image_parts.specs.declared.entries.Event.{Event}
+use Rattle.cse_image_parts.specs.declared.entries.Gift.TheVariants as gifts
 use Rattle.cse_case.specs.Case.{CaseText}
 use Rattle.cse_decks.specs.Store.{Kept}
-use Rattle.cse_bounds.specs.CaseEvents.{Moment}
-use Rattle.cse_typing.specs.Handlers.{routine_of}
+use Rattle.cse_code_bounds.specs.CaseEvents.{Moment}
+use Rattle.cse_code_typing.specs.Handlers.{routine_of}
 use Rattle.cse_steps.specs.Laws.{EventsEnd}
 use Rattle.cse_steps.specs.Fits.{FitsFirst}
-use Rattle.cse_typing.specs.Code.{code_of}
+use Rattle.cse_code_typing.specs.Code.{code_of}
 use Rattle.cse_verify.specs.Verified.{VerifiedProgram}
-use Rattle.cse_typed.specs.declared.tree.Field.{Field}
-use Rattle.cse_typed.specs.declared.tree.Owner.{Owner}
-use Rattle.cse_typed.specs.declared.tree.Owner.TheVariants as owners
-use Rattle.cse_typed.specs.Typed.{Statements, Function, Tree}
-use Rattle.cse_tables.specs.declared.outlines.Sort.TheVariants as sorts
-use Rattle.cse_tables.specs.Outline.{Outline, outline_of, result_at, event_of, routine_of as routine_for}
-use Rattle.cse_tables.specs.Tables.{functions_in}
-use Rattle.cse_emit.specs.Setting.{Setting}
-use Rattle.cse_emit.specs.Routines.{routine_code}
-use Rattle.cse_emitted.specs.Fit.{BlockFits}
-use Rattle.cse_emitted.specs.Emitted.{spot_of}
+use Rattle.cse_logic_tree.specs.declared.tree.Field.{Field}
+use Rattle.cse_logic_tree.specs.declared.tree.Owner.{Owner}
+use Rattle.cse_logic_tree.specs.declared.tree.Owner.TheVariants as owners
+use Rattle.cse_logic_tree.specs.Typed.{Statements, Function, Tree}
+use Rattle.cse_compile_sections.specs.declared.outlines.Sort.TheVariants as sorts
+use Rattle.cse_compile_sections.specs.Outline.{Outline, outline_of, result_at, event_of, routine_of as routine_for}
+use Rattle.cse_compile_sections.specs.Tables.{functions_in}
+use Rattle.cse_compile_code.specs.Setting.{Setting}
+use Rattle.cse_compile_code.specs.Routines.{routine_code}
+use Rattle.cse_law_code_is_typed.specs.Fit.{BlockFits}
+use Rattle.cse_law_code_is_typed.specs.Emitted.{spot_of}
 use Rattle.cse_meaning.specs.Setting.{Context}
 use Rattle.cse_meaning.specs.Runs.{StandAt}
 use Rattle.cse_meaning.specs.Follows.{Follows}

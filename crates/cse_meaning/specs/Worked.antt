@@ -3,12 +3,12 @@ use Rattle.std.specs.Prelude.{◌≡◌, ℕ, ℤ, pos, negsuc, Bool, true, fals
 use Rattle.cse_value.specs.declared.number.Num.{Num}
 use Rattle.cse_value.specs.declared.number.Num.TheVariants.{Whole, NotAppl, Undef}
 use Rattle.cse_value.specs.declared.shape.ItemKind.TheVariants as kinds
-use Rattle.cse_parts.specs.declared.entries.EventCode.TheVariants as events
+use Rattle.cse_image_parts.specs.declared.entries.EventCode.TheVariants as events
 use Rattle.cse_dict.specs.declared.rows.Span.{Span}
 use Rattle.cse_dict.specs.Dictionary.{DictionaryText, ItemText}
 use Rattle.cse_lines.specs.Columns.{LineText, no_line}
 use Rattle.cse_case.specs.Case.{CaseText}
-use Rattle.cse_bounds.specs.CaseEvents.{Moment, moment}
+use Rattle.cse_code_bounds.specs.CaseEvents.{Moment, moment}
 use Rattle.cse_decks.specs.Store.{Kept}
 use Rattle.cse_decks.specs.declared.global.GlobalValue.TheVariants as globals
 use Rattle.cse_report.specs.declared.argument.Arg.{Arg}
@@ -17,17 +17,17 @@ use Rattle.cse_syntax.specs.Tree.{Spelling, Own}
 use Rattle.cse_syntax.specs.declared.tree.Operator.TheVariants as operators
 use Rattle.cse_syntax.specs.declared.tree.Relation.TheVariants as relations
 use Rattle.cse_syntax.specs.declared.tree.Special.TheVariants as specials
-use Rattle.cse_typed.specs.declared.tree.Variable.TheVariants as v
-use Rattle.cse_typed.specs.declared.tree.Found.TheVariants as h
-use Rattle.cse_typed.specs.declared.tree.Field.{Field}
-use Rattle.cse_typed.specs.declared.tree.Present.{Present}
-use Rattle.cse_typed.specs.declared.tree.Present.TheVariants as p
-use Rattle.cse_typed.specs.declared.tree.Pick.{Pick}
-use Rattle.cse_typed.specs.declared.tree.Owner.{Owner}
-use Rattle.cse_typed.specs.declared.tree.Owner.TheVariants as owners
-use Rattle.cse_typed.specs.Typed.{Number, numbers, Constant, Special', Variable', Item, ItemAt, Cell, Call, Int, Deck, TotOcc, Minus, Compare, Chain, no_operation, operation_and}
-use Rattle.cse_typed.specs.Typed.{Here, OfNumber, Fixed, Statement, statements, Set, SetItem, SetCell, If, For, Do, Impute, PutDeck, ErrMsg, no_arm, else_of, arm}
-use Rattle.cse_typed.specs.Typed.{Sized, Whole as Signed, Declaration, Numeric, Array', Function', Plain, Tree}
+use Rattle.cse_logic_tree.specs.declared.tree.Variable.TheVariants as v
+use Rattle.cse_logic_tree.specs.declared.tree.Found.TheVariants as h
+use Rattle.cse_logic_tree.specs.declared.tree.Field.{Field}
+use Rattle.cse_logic_tree.specs.declared.tree.Present.{Present}
+use Rattle.cse_logic_tree.specs.declared.tree.Present.TheVariants as p
+use Rattle.cse_logic_tree.specs.declared.tree.Pick.{Pick}
+use Rattle.cse_logic_tree.specs.declared.tree.Owner.{Owner}
+use Rattle.cse_logic_tree.specs.declared.tree.Owner.TheVariants as owners
+use Rattle.cse_logic_tree.specs.Typed.{Number, numbers, Constant, Special', Variable', Item, ItemAt, Cell, Call, Int, Deck, TotOcc, Minus, Compare, Chain, no_operation, operation_and}
+use Rattle.cse_logic_tree.specs.Typed.{Here, OfNumber, Fixed, Statement, statements, Set, SetItem, SetCell, If, For, Do, Impute, PutDeck, ErrMsg, no_arm, else_of, arm}
+use Rattle.cse_logic_tree.specs.Typed.{Sized, Whole as Signed, Declaration, Numeric, Array', Function', Plain, Tree}
 use Rattle.cse_steps.specs.State.{World, nothing_told}
 use Rattle.cse_meaning.specs.Meaning.{meaning}
 

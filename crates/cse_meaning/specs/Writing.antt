@@ -5,9 +5,9 @@ use Rattle.cse_value.specs.declared.number.Num.{Num}
 use Rattle.cse_decks.specs.declared.global.GlobalValue.TheVariants as globals
 use Rattle.cse_decks.specs.Store.{with_global, with_cell, rewritten}
 use Rattle.cse_case.specs.Case as case
-use Rattle.cse_typed.specs.declared.tree.Variable.{Variable}
-use Rattle.cse_typed.specs.declared.tree.Variable.TheVariants as v
-use Rattle.cse_typed.specs.declared.tree.Field.{Field}
+use Rattle.cse_logic_tree.specs.declared.tree.Variable.{Variable}
+use Rattle.cse_logic_tree.specs.declared.tree.Variable.TheVariants as v
+use Rattle.cse_logic_tree.specs.declared.tree.Field.{Field}
 use Rattle.cse_steps.specs.State.{World, in_case, in_store, with_imputed}
 use Rattle.cse_meaning.specs.Setting.{Context, Locals}
 use Rattle.cse_meaning.specs.Reading.{place_in}

@@ -2,8 +2,8 @@
 use Rattle.std.proofs.Common.{◌≡◌, ℕ, ◌<◌, true, false, List, [], ◌∷◌, ◌++◌, length, get_or, Some, option_map, refl, ap, ◌∙◌}
 use Rattle.std.specs.Prelude.{map, slice_get, slice_set, slice_index}
 use Rattle.std.proofs.lemmas.Option.{slice_get-map, slice_get_read}
-use Rattle.cse_parts.specs.declared.entries.Message.{Message}
-use Rattle.cse_parts.specs.Image.{MessageLists, message_lists}
+use Rattle.cse_image_parts.specs.declared.entries.Message.{Message}
+use Rattle.cse_image_parts.specs.Image.{MessageLists, message_lists}
 use Rattle.cse_report.specs.declared.argument.Arg.{Arg}
 use Rattle.cse_report.specs.MessageText.{message_text}
 use Rattle.cse_report.specs.Counts.{one_more}

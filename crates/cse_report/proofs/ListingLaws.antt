@@ -4,7 +4,7 @@ use Rattle.std.specs.Prelude.{slice_set, slice_index}
 use Rattle.std.proofs.lemmas.List.{same_lists, length-set, get_or-set_other, length-replicate, get_or-replicate}
 use Rattle.std.proofs.lemmas.Grind.{get_or_default_zero, get_or-set_at}
 use Rattle.std.proofs.lemmas.Bool.{cases_eq, eq-eqb, ne_eqb}
-use Rattle.cse_parts.specs.Image.{MessageLists}
+use Rattle.cse_image_parts.specs.Image.{MessageLists}
 use Rattle.cse_report.specs.Counts.{most_count, capped, one_more}
 use Rattle.cse_report.specs.Listing.{Report, BeginsRun, BeginsCase, LeavesUnseen, Gives, first_line, lines_of, lines_from, heading_after, times, counts_from, counts_of, summary}
 use Rattle.cse_report.specs.Held.{counts_after, Progress, Step, Lists, Flushes, stepped, after_steps, reports_in, unwritten, GivesTheListing}

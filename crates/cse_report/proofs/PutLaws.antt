@@ -8,8 +8,8 @@ use Rattle.std.proofs.lemmas.List.{take_more}
 use Rattle.std.proofs.lemmas.List.Sums.{fold_more}
 use Rattle.std.proofs.lemmas.Grind.{flat_map-append}
 use Rattle.cse_dict.specs.Dictionary.{DictionaryText, ItemText, item_names, item_name_at}
-use Rattle.cse_parts.specs.declared.entries.Message.{Message}
-use Rattle.cse_parts.specs.Image.{message_lists}
+use Rattle.cse_image_parts.specs.declared.entries.Message.{Message}
+use Rattle.cse_image_parts.specs.Image.{message_lists}
 use Rattle.cse_report.specs.Listing.{count_line, count_lines}
 use Rattle.cse_output.specs.Gathering.{Going, Puts, line}
 use Rattle.cse_output.proofs.GatherLaws.{Puts-then, Puts-as}

@@ -1,6 +1,6 @@
 -- Laws of listings that have not ended, and of many reports.
 use Rattle.std.proofs.Common.{◌≡◌, ℕ, List, [], ◌∷◌, ◌++◌, refl, ap, sym, ◌∙◌, append_assoc, append-nil}
-use Rattle.cse_parts.specs.Image.{MessageLists}
+use Rattle.cse_image_parts.specs.Image.{MessageLists}
 use Rattle.cse_report.specs.Listing.{Report, lines_of, lines_from, heading_after}
 use Rattle.cse_report.specs.Held.{Held, reported, flushed, texts_of, stepped, Lists, unwritten}
 use Rattle.cse_report.specs.Unended.{GivesTheLinesSoFar, GrowsAtItsEnd}

@@ -11,10 +11,10 @@ use Rattle.std.proofs.lemmas.Str.{IsUtf8-nil, IsUtf8-append, IsUtf8-encode, IsUt
 use Rattle.std.proofs.lemmas.List.{get_or-drop, length-drop, length-append, length-replicate, get_or-replicate, get_or_past, take_more, map-append}
 use Rattle.std.proofs.lemmas.Bool.{cond_both, cond-false, eqb-true, ne_eqb, and_parts, cases_lt}
 use Rattle.cse_value.specs.Field.{filled}
-use Rattle.cse_parts.specs.declared.placeholders.Piece.{Piece}
-use Rattle.cse_parts.specs.declared.placeholders.Piece.TheVariants as pieces
-use Rattle.cse_parts.specs.Placeholders.{is_digit, width_of, number_of, piece_of, marked, piece_at, pieces_of, pieces_after}
-use Rattle.cse_parts.proofs.PieceLaws.{next_piece}
+use Rattle.cse_image_parts.specs.declared.placeholders.Piece.{Piece}
+use Rattle.cse_image_parts.specs.declared.placeholders.Piece.TheVariants as pieces
+use Rattle.cse_image_parts.specs.Placeholders.{is_digit, width_of, number_of, piece_of, marked, piece_at, pieces_of, pieces_after}
+use Rattle.cse_image_parts.proofs.PieceLaws.{next_piece}
 use Rattle.cse_report.specs.declared.argument.Arg.{Arg}
 use Rattle.cse_report.specs.MessageText.{text_of_pieces, piece_text, arguments_after, message_text}
 use Rattle.cse_report.specs.Filling.{IsPlaced, ArePlaced}

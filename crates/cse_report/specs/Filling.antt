@@ -1,8 +1,8 @@
 -- Where what stands for placeholders is UTF-8.
 use Rattle.std.specs.Prelude.{List, [], ◌∷◌}
 use Rattle.std.specs.Str.{IsUtf8}
-use Rattle.cse_parts.specs.declared.placeholders.Piece.{Piece}
-use Rattle.cse_parts.specs.declared.placeholders.Piece.TheVariants as pieces
+use Rattle.cse_image_parts.specs.declared.placeholders.Piece.{Piece}
+use Rattle.cse_image_parts.specs.declared.placeholders.Piece.TheVariants as pieces
 use Rattle.cse_report.specs.declared.argument.Arg.{Arg}
 use Rattle.cse_report.specs.MessageText.{number_by, words_by, arguments_after}
 

@@ -1,6 +1,6 @@
 -- A listing that is written as it grows: the lines that are held, and those that a device has.
 use Rattle.std.specs.Prelude.{◌≡◌, ℕ, List, [], ◌∷◌, ◌++◌, length, replicate, slice_set, slice_index, if◌then◌else◌}
-use Rattle.cse_parts.specs.Image.{MessageLists}
+use Rattle.cse_image_parts.specs.Image.{MessageLists}
 use Rattle.cse_report.specs.Counts.{one_more}
 use Rattle.cse_report.specs.Listing.{Report, BeginsRun, BeginsCase, LeavesUnseen, Gives, first_line, lines_of, heading_after, is_listed, given_text, summary, listing}
 

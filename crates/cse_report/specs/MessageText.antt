@@ -8,11 +8,11 @@ use Rattle.cse_value.specs.declared.number.Num.{Num}
 use Rattle.cse_value.specs.declared.number.Num.TheVariants.{Whole, NotAppl, Missing, Undef}
 use Rattle.cse_value.specs.Texts.{blanks}
 use Rattle.cse_value.specs.Field.{filled, shown, without_blanks}
-use Rattle.cse_parts.specs.declared.placeholders.ArgumentKind.{ArgumentKind}
-use Rattle.cse_parts.specs.declared.placeholders.ArgumentKind.TheVariants as kinds
-use Rattle.cse_parts.specs.declared.placeholders.Piece.{Piece}
-use Rattle.cse_parts.specs.declared.placeholders.Piece.TheVariants as pieces
-use Rattle.cse_parts.specs.Placeholders.{pieces_of, message_kinds}
+use Rattle.cse_image_parts.specs.declared.placeholders.ArgumentKind.{ArgumentKind}
+use Rattle.cse_image_parts.specs.declared.placeholders.ArgumentKind.TheVariants as kinds
+use Rattle.cse_image_parts.specs.declared.placeholders.Piece.{Piece}
+use Rattle.cse_image_parts.specs.declared.placeholders.Piece.TheVariants as pieces
+use Rattle.cse_image_parts.specs.Placeholders.{pieces_of, message_kinds}
 use Rattle.cse_report.specs.declared.argument.Arg.{Arg}
 use Rattle.cse_report.specs.declared.argument.Arg.TheVariants.{Number, Words}
 

@@ -1,6 +1,6 @@
 -- The reports of a run fit its program.
 use Rattle.std.specs.Prelude.{◌≡◌, length}
-use Rattle.cse_parts.specs.Image.{Image}
+use Rattle.cse_image_parts.specs.Image.{Image}
 use Rattle.cse_report.specs.declared.reports.Reports.{Reports}
 
 -- the program's messages with a count for each, and a table for each of its items

@@ -1,6 +1,6 @@
 -- A listing that has not ended: what was written of it, and what is held.
 use Rattle.std.specs.Prelude.{◌≡◌, ℕ, List, [], ◌++◌}
-use Rattle.cse_parts.specs.Image.{MessageLists}
+use Rattle.cse_image_parts.specs.Image.{MessageLists}
 use Rattle.cse_report.specs.Listing.{Report, first_line, lines_from}
 use Rattle.cse_report.specs.Held.{Step, after_steps, unwritten, reports_in}
 

@@ -11,7 +11,7 @@ ghost use Rattle.cse_report.specs.MessageText.{aligned, number_text, visible, wi
 ghost use Rattle.cse_report.specs.Filling.{IsPlaced};
 
 use crate::argument::Arg;
-use cse_parts::placeholders::{Piece, Pieces};
+use cse_image_parts::placeholders::{Piece, Pieces};
 use cse_value::{Num, show_num};
 use itoa::Buffer;
 use std::alloc::AllocError;

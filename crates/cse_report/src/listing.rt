@@ -4,7 +4,7 @@ ghost use Rattle.std.specs.Prelude.{◌≡◌, ◌<◌, ◌≤◌, ◌+◌, ◌+
 ghost use Rattle.std.specs.Option.{option_copied};
 ghost use Rattle.std.specs.Bool.{Decides, OnTrue};
 ghost use Rattle.cse_value.specs.Writing.{WritesAll, FailsAtErr};
-ghost use Rattle.cse_parts.specs.Image.{message_lists};
+ghost use Rattle.cse_image_parts.specs.Image.{message_lists};
 ghost use Rattle.cse_output.specs.Gathering.{going, Puts};
 ghost use Rattle.cse_report.specs.declared.argument.Arg.{Arg};
 ghost use Rattle.cse_report.specs.Counts.{one_more};
@@ -45,7 +45,7 @@ pub struct Listing {
 
 impl Model for Listing {
     ghost use Rattle.std.specs.Prelude.{◌≡◌, map, length};
-    ghost use Rattle.cse_parts.specs.Image.{message_lists};
+    ghost use Rattle.cse_image_parts.specs.Image.{message_lists};
     ghost use Rattle.cse_report.specs.Heading.{waiting};
     ghost use Rattle.cse_report.specs.Held.{Held};
     ghost use Rattle.cse_report.specs.Spans.{texts_at, AreTexts, Keeps};

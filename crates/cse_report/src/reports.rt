@@ -1,7 +1,7 @@
 //! What a run reports.
 
 ghost use Rattle.std.specs.Prelude.{◌≡◌, ◌<◌, ◌≤◌, List, [], not, false, OnOk, OnErr, IfOk, IsOk, length, replicate};
-ghost use Rattle.cse_parts.specs.Image.{Image};
+ghost use Rattle.cse_image_parts.specs.Image.{Image};
 ghost use Rattle.cse_report.specs.declared.argument.Arg.{Arg};
 ghost use Rattle.cse_report.specs.MessageText.{HasArguments};
 ghost use Rattle.cse_report.specs.Listing.{is_listed, text_of, BeginsRun, BeginsCase, LeavesUnseen, Gives};

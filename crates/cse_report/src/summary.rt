@@ -2,7 +2,7 @@
 
 ghost use Rattle.std.specs.Prelude.{◌≡◌, length, map};
 ghost use Rattle.cse_output.specs.Gathering.{going, Puts};
-ghost use Rattle.cse_parts.specs.Image.{message_lists};
+ghost use Rattle.cse_image_parts.specs.Image.{message_lists};
 ghost use Rattle.cse_report.specs.Listing.{number_line, number_word, count_line, count_lines, summary};
 
 use cse_image::Message;

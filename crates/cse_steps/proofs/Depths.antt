@@ -4,17 +4,17 @@ use Rattle.std.specs.Prelude.{slice_get, option_map}
 use Rattle.std.specs.Option.{option_map_or}
 use Rattle.std.proofs.lemmas.List.{length-map}
 use Rattle.std.proofs.lemmas.Option.{slice_get-map, slice_get_within}
-use Rattle.cse_parts.specs.Image.{RoutineLists}
+use Rattle.cse_image_parts.specs.Image.{RoutineLists}
 use Rattle.cse_dict.specs.Dictionary.{shape_of}
-use Rattle.cse_typing.specs.declared.control.Control.TheVariants.{Call as Calls, Return}
-use Rattle.cse_typing.specs.declared.depth.Depth.{Depth as Cells}
-use Rattle.cse_typing.specs.declared.kind.Kind.{Kind}
-use Rattle.cse_typing.specs.declared.kind.Kind.TheVariants as sorts
-use Rattle.cse_typing.specs.Bracket.{around}
-use Rattle.cse_typing.specs.Code.{code_of}
-use Rattle.cse_typing.specs.Depth.{no_depth, ◌⊕◌, count_of, locals_depth}
-use Rattle.cse_typing.specs.Kinds.{local_kind, gift_kinds}
-use Rattle.cse_typing.specs.Skeleton.{control, control_by, skeleton_of}
+use Rattle.cse_code_typing.specs.declared.control.Control.TheVariants.{Call as Calls, Return}
+use Rattle.cse_code_typing.specs.declared.depth.Depth.{Depth as Cells}
+use Rattle.cse_code_typing.specs.declared.kind.Kind.{Kind}
+use Rattle.cse_code_typing.specs.declared.kind.Kind.TheVariants as sorts
+use Rattle.cse_code_typing.specs.Bracket.{around}
+use Rattle.cse_code_typing.specs.Code.{code_of}
+use Rattle.cse_code_typing.specs.Depth.{no_depth, ◌⊕◌, count_of, locals_depth}
+use Rattle.cse_code_typing.specs.Kinds.{local_kind, gift_kinds}
+use Rattle.cse_code_typing.specs.Skeleton.{control, control_by, skeleton_of}
 use Rattle.cse_verify.specs.declared.depth.Depth.{Depth}
 use Rattle.cse_verify.specs.Chain.{Calling, AllWait, IsChain, kept_by, kept_in, open_in, locals_at, KeepsToDepth}
 use Rattle.cse_verify.specs.Verified.{VerifiedProgram}

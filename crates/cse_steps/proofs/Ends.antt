@@ -4,19 +4,19 @@ use Rattle.std.specs.Prelude.{slice_get, option_and_then, is_some}
 use Rattle.std.specs.Option.{option_map_or}
 use Rattle.std.proofs.lemmas.List.{length-map}
 use Rattle.std.proofs.lemmas.Option.{slice_get_within}
-use Rattle.cse_parts.specs.Image.{RoutineLists}
+use Rattle.cse_image_parts.specs.Image.{RoutineLists}
 use Rattle.cse_case.specs.Case.{CaseText}
 use Rattle.cse_decks.specs.Store.{Kept}
-use Rattle.cse_typing.specs.Code.{code_of}
-use Rattle.cse_typing.specs.Handlers.{routine_of}
-use Rattle.cse_typing.specs.Skeleton.{control, skeleton_of, most_occurrences}
-use Rattle.cse_typing.proofs.Around.{around_start}
-use Rattle.cse_bounds.specs.Bound.{bound}
-use Rattle.cse_bounds.specs.CaseEvents.{Moment, case_events, events_bound, KeepsMost}
-use Rattle.cse_bounds.specs.Walk.{begun}
-use Rattle.cse_bounds.specs.Rest.{rest}
-use Rattle.cse_bounds.specs.Calls.{AreCalls, RestFalls, RestIsBound, AllKeepRules, AllCallSmaller}
-use Rattle.cse_bounds.specs.EventBound.{case_bound}
+use Rattle.cse_code_typing.specs.Code.{code_of}
+use Rattle.cse_code_typing.specs.Handlers.{routine_of}
+use Rattle.cse_code_typing.specs.Skeleton.{control, skeleton_of, most_occurrences}
+use Rattle.cse_code_typing.proofs.Around.{around_start}
+use Rattle.cse_code_bounds.specs.Bound.{bound}
+use Rattle.cse_code_bounds.specs.CaseEvents.{Moment, case_events, events_bound, KeepsMost}
+use Rattle.cse_code_bounds.specs.Walk.{begun}
+use Rattle.cse_code_bounds.specs.Rest.{rest}
+use Rattle.cse_code_bounds.specs.Calls.{AreCalls, RestFalls, RestIsBound, AllKeepRules, AllCallSmaller}
+use Rattle.cse_code_bounds.specs.EventBound.{case_bound}
 use Rattle.cse_dict.specs.Dictionary.{shape_of}
 use Rattle.cse_value.specs.Shape.{ShapeLists}
 use Rattle.cse_verify.proofs.CallLaws.{calls_below}

@@ -5,8 +5,8 @@ use Rattle.std.proofs.lemmas.Option.{same_Some}
 use Rattle.std.proofs.lemmas.Bool.{cases_lt}
 use Rattle.cse_case.specs.Case.{CaseText}
 use Rattle.cse_decks.specs.Store.{Kept}
-use Rattle.cse_typing.specs.Handlers.{routine_of}
-use Rattle.cse_bounds.specs.CaseEvents.{Moment}
+use Rattle.cse_code_typing.specs.Handlers.{routine_of}
+use Rattle.cse_code_bounds.specs.CaseEvents.{Moment}
 use Rattle.cse_verify.specs.Verified.{VerifiedProgram}
 use Rattle.cse_steps.specs.State.{World, State, nothing_told}
 use Rattle.cse_steps.specs.Step.{step_of}

@@ -3,21 +3,21 @@ use Rattle.std.proofs.Common.{◌≡◌, ℕ, zero, suc, ◌+◌, ◌≤◌, Lis
 use Rattle.std.specs.Prelude.{slice_get, option_map, option_and_then, if◌then◌else◌, ◌==◌}
 use Rattle.std.specs.Option.{option_map_or}
 use Rattle.std.proofs.lemmas.Option.{slice_get-map}
-use Rattle.cse_parts.specs.declared.instruction.Op.{Op}
-use Rattle.cse_parts.specs.declared.instruction.Op.TheVariants as ops
-use Rattle.cse_parts.specs.declared.instruction.Instr.{Instr}
-use Rattle.cse_parts.specs.declared.entries.Event.{Event}
-use Rattle.cse_parts.specs.Image.{Image, Lists, RoutineLists}
-use Rattle.cse_parts.specs.Upgrade.{greatest_limit, one_to, zero_below, upgrade_instr, with_limits, upgrade, as_it_stands}
+use Rattle.cse_image_parts.specs.declared.instruction.Op.{Op}
+use Rattle.cse_image_parts.specs.declared.instruction.Op.TheVariants as ops
+use Rattle.cse_image_parts.specs.declared.instruction.Instr.{Instr}
+use Rattle.cse_image_parts.specs.declared.entries.Event.{Event}
+use Rattle.cse_image_parts.specs.Image.{Image, Lists, RoutineLists}
+use Rattle.cse_image_parts.specs.Upgrade.{greatest_limit, one_to, zero_below, upgrade_instr, with_limits, upgrade, as_it_stands}
 use Rattle.cse_dict.specs.Dictionary.{DictionaryText}
 use Rattle.cse_case.specs.Case.{CaseText}
 use Rattle.cse_decks.specs.Store.{Kept}
-use Rattle.cse_typing.specs.Code.{code_of}
-use Rattle.cse_typing.specs.Handlers.{routine_of}
-use Rattle.cse_typing.proofs.Twins.{FindsSame, AreTwins, AllTwins, twins_of_routine, code_mapped}
-use Rattle.cse_typing.proofs.Upgrades.{upgrade_twins}
-use Rattle.cse_bounds.specs.Bound.{bound}
-use Rattle.cse_bounds.specs.CaseEvents.{Moment, event_bound}
+use Rattle.cse_code_typing.specs.Code.{code_of}
+use Rattle.cse_code_typing.specs.Handlers.{routine_of}
+use Rattle.cse_code_typing.proofs.Twins.{FindsSame, AreTwins, AllTwins, twins_of_routine, code_mapped}
+use Rattle.cse_code_typing.proofs.Upgrades.{upgrade_twins}
+use Rattle.cse_code_bounds.specs.Bound.{bound}
+use Rattle.cse_code_bounds.specs.CaseEvents.{Moment, event_bound}
 use Rattle.cse_verify.specs.Verified.{VerifiedProgram}
 use Rattle.cse_verify.proofs.MeaningLaws.{upgrade_same}
 use Rattle.cse_steps.specs.State.{Open, Call, World, State, Told}

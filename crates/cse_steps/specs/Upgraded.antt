@@ -1,13 +1,13 @@
 -- A program of version 1 and its upgrade run the same.
 use Rattle.std.specs.Prelude.{◌≡◌, ℕ, ◌↔◌, Option}
-use Rattle.cse_parts.specs.declared.version.Version.TheVariants as versions
-use Rattle.cse_parts.specs.Image.{Image}
-use Rattle.cse_parts.specs.Upgrade.{upgrade, as_it_stands}
+use Rattle.cse_image_parts.specs.declared.version.Version.TheVariants as versions
+use Rattle.cse_image_parts.specs.Image.{Image}
+use Rattle.cse_image_parts.specs.Upgrade.{upgrade, as_it_stands}
 use Rattle.cse_image.specs.Spelling.{FitsIn}
 use Rattle.cse_dict.specs.Dictionary.{DictionaryText}
 use Rattle.cse_case.specs.Case.{CaseText}
 use Rattle.cse_decks.specs.Store.{Kept}
-use Rattle.cse_bounds.specs.CaseEvents.{Moment}
+use Rattle.cse_code_bounds.specs.CaseEvents.{Moment}
 use Rattle.cse_verify.specs.Verified.{VerifiedProgram}
 use Rattle.cse_steps.specs.State.{Told, State}
 use Rattle.cse_steps.specs.Step.{step}

@@ -1,14 +1,14 @@
 -- Worked rows: small programs, and the states that they come to.
 use Rattle.std.specs.Prelude.{◌≡◌, ℕ, ℤ, pos, Bool, true, false, List, [], ◌∷◌, length, map, replicate, Option, Some, None, option_map}
 use Rattle.std.specs.Option.{option_map_or}
-use Rattle.cse_parts.specs.declared.entries.Ambient.TheVariants as ambients
-use Rattle.cse_parts.specs.declared.entries.EventCode.TheVariants.{LevelPreproc}
-use Rattle.cse_parts.specs.declared.entries.Gift.TheVariants as gifts
-use Rattle.cse_parts.specs.declared.entries.Local.{Local}
-use Rattle.cse_parts.specs.declared.entries.LocalKind.TheVariants as locals
-use Rattle.cse_parts.specs.declared.instruction.Instr.{Instr}
-use Rattle.cse_parts.specs.declared.instruction.Op.{Op}
-use Rattle.cse_parts.specs.declared.instruction.Op.TheVariants as ops
+use Rattle.cse_image_parts.specs.declared.entries.Ambient.TheVariants as ambients
+use Rattle.cse_image_parts.specs.declared.entries.EventCode.TheVariants.{LevelPreproc}
+use Rattle.cse_image_parts.specs.declared.entries.Gift.TheVariants as gifts
+use Rattle.cse_image_parts.specs.declared.entries.Local.{Local}
+use Rattle.cse_image_parts.specs.declared.entries.LocalKind.TheVariants as locals
+use Rattle.cse_image_parts.specs.declared.instruction.Instr.{Instr}
+use Rattle.cse_image_parts.specs.declared.instruction.Op.{Op}
+use Rattle.cse_image_parts.specs.declared.instruction.Op.TheVariants as ops
 use Rattle.cse_dict.specs.Dictionary.{DictionaryText}
 use Rattle.cse_lines.specs.Columns.{no_line}
 use Rattle.cse_case.specs.Case.{CaseText}
@@ -17,7 +17,7 @@ use Rattle.cse_steps.specs.Cell.{Cell, Index, Words}
 use Rattle.cse_steps.specs.State.{Open, Call, State}
 use Rattle.cse_steps.specs.Operands.{arguments_taken}
 use Rattle.cse_steps.specs.Step.{current}
-use Rattle.cse_bounds.specs.CaseEvents.{moment}
+use Rattle.cse_code_bounds.specs.CaseEvents.{moment}
 use Rattle.cse_steps.specs.Run.{first, run}
 use Rattle.cse_steps.specs.Events.{Outcome, both}
 

@@ -1,15 +1,15 @@
 -- Worked rows: a small program that writes an item, and the columns that it writes.
 use Rattle.std.specs.Prelude.{◌≡◌, ℕ, pos, false, List, [], ◌∷◌, length, map, Option, Some, None, option_map, IfSome}
 use Rattle.cse_value.specs.declared.shape.ItemKind.TheVariants as kinds
-use Rattle.cse_parts.specs.declared.entries.Ambient.TheVariants as ambients
-use Rattle.cse_parts.specs.declared.entries.EventCode.TheVariants.{LevelPreproc}
-use Rattle.cse_parts.specs.declared.entries.Gift.TheVariants as gifts
-use Rattle.cse_parts.specs.declared.instruction.Instr.{Instr}
-use Rattle.cse_parts.specs.declared.instruction.Op.TheVariants as ops
+use Rattle.cse_image_parts.specs.declared.entries.Ambient.TheVariants as ambients
+use Rattle.cse_image_parts.specs.declared.entries.EventCode.TheVariants.{LevelPreproc}
+use Rattle.cse_image_parts.specs.declared.entries.Gift.TheVariants as gifts
+use Rattle.cse_image_parts.specs.declared.instruction.Instr.{Instr}
+use Rattle.cse_image_parts.specs.declared.instruction.Op.TheVariants as ops
 use Rattle.cse_dict.specs.Dictionary.{DictionaryText}
 use Rattle.cse_lines.specs.Columns.{LineText, no_line}
 use Rattle.cse_case.specs.Case.{CaseText}
-use Rattle.cse_bounds.specs.CaseEvents.{moment}
+use Rattle.cse_code_bounds.specs.CaseEvents.{moment}
 use Rattle.cse_verify.specs.Verified.{VerifiedProgram}
 use Rattle.cse_steps.specs.State.{State}
 use Rattle.cse_steps.specs.Run.{first, run}

@@ -4,8 +4,8 @@ use Rattle.std.specs.List.{count_by, range_with_len}
 use Rattle.cse_value.specs.declared.number.Num.{Num}
 use Rattle.cse_value.specs.declared.number.Num.TheVariants.{Whole}
 use Rattle.cse_value.specs.Texts.{blanks}
-use Rattle.cse_parts.specs.declared.entries.GlobalKind.TheVariants as globals
-use Rattle.cse_parts.specs.Image.{ArrayLists, Image}
+use Rattle.cse_image_parts.specs.declared.entries.GlobalKind.TheVariants as globals
+use Rattle.cse_image_parts.specs.Image.{ArrayLists, Image}
 use Rattle.cse_decks.specs.declared.error.DeckError.{DeckError}
 use Rattle.cse_decks.specs.declared.global.GlobalValue.TheVariants.{Words}
 use Rattle.cse_decks.specs.Deck.{deck_text}

@@ -2,8 +2,8 @@
 use Rattle.std.specs.Prelude.{◌≡◌, ℕ, ◌+◌, List, [], ◌∷◌, ◌++◌, length, map, take, drop, codes, replicate, Option, Some, None, Result, Ok, Err}
 use Rattle.std.specs.List.{flat_map, range_with_len}
 use Rattle.byteorder.specs.Endian.{little_bytes}
-use Rattle.cse_codec.specs.declared.fault.Fault.{Fault}
-use Rattle.cse_parts.specs.Image.{Image}
+use Rattle.cse_image_codec.specs.declared.fault.Fault.{Fault}
+use Rattle.cse_image_parts.specs.Image.{Image}
 use Rattle.cse_image.specs.Place.{placed}
 use Rattle.cse_image.specs.Reading.{reading}
 use Rattle.cse_image.specs.Spelling.{spelling}

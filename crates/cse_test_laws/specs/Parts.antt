@@ -1,18 +1,18 @@
 -- Worked rows of texts, names, single fields and instructions of an image.
 use Rattle.std.specs.Prelude.{ℕ, Bool, true, false, ◌&&◌, List, [], ◌∷◌, codes, Some}
 use Rattle.std.specs.Option.{option_map_or}
-use Rattle.cse_parts.specs.Codes.{event_code}
-use Rattle.cse_parts.specs.Fields.{fits_global_length, fits_local_length, fits_owner, fits_kind, is_room_for_cells, fits_cells, is_room_for_code, is_after}
-use Rattle.cse_parts.specs.Opcodes.{op_of, fits_a, fits_b, fits_c}
-use Rattle.cse_parts.specs.Texts.{is_text, is_name}
-use Rattle.cse_parts.specs.declared.entries.EventCode.{EventCode}
-use Rattle.cse_parts.specs.declared.entries.EventCode.TheVariants as events
-use Rattle.cse_parts.specs.declared.entries.EventEntry.{EventEntry}
-use Rattle.cse_parts.specs.declared.entries.GlobalKind.TheVariants as globals
-use Rattle.cse_parts.specs.declared.entries.LocalKind.TheVariants as locals
-use Rattle.cse_parts.specs.declared.instruction.Op.{Op}
-use Rattle.cse_parts.specs.declared.instruction.Op.TheVariants as ops
-use Rattle.cse_parts.specs.declared.version.Version.TheVariants as versions
+use Rattle.cse_image_parts.specs.Codes.{event_code}
+use Rattle.cse_image_parts.specs.Fields.{fits_global_length, fits_local_length, fits_owner, fits_kind, is_room_for_cells, fits_cells, is_room_for_code, is_after}
+use Rattle.cse_image_parts.specs.Opcodes.{op_of, fits_a, fits_b, fits_c}
+use Rattle.cse_image_parts.specs.Texts.{is_text, is_name}
+use Rattle.cse_image_parts.specs.declared.entries.EventCode.{EventCode}
+use Rattle.cse_image_parts.specs.declared.entries.EventCode.TheVariants as events
+use Rattle.cse_image_parts.specs.declared.entries.EventEntry.{EventEntry}
+use Rattle.cse_image_parts.specs.declared.entries.GlobalKind.TheVariants as globals
+use Rattle.cse_image_parts.specs.declared.entries.LocalKind.TheVariants as locals
+use Rattle.cse_image_parts.specs.declared.instruction.Op.{Op}
+use Rattle.cse_image_parts.specs.declared.instruction.Op.TheVariants as ops
+use Rattle.cse_image_parts.specs.declared.version.Version.TheVariants as versions
 use Rattle.cse_test_laws.specs.Rows.{Gives}
 
 -- an umlaut with a blank and a letter, half of it, a character below the blank, and U+007F

@@ -1,9 +1,9 @@
 -- Worked rows of the placeholders of messages.
 use Rattle.std.specs.Prelude.{◌≡◌, ℕ, Bool, true, false, List, [], ◌∷◌, length, map, codes}
-use Rattle.cse_parts.specs.Placeholders.{pieces_of, message_kinds, has_few_placeholders}
-use Rattle.cse_parts.specs.declared.placeholders.ArgumentKind.TheVariants as kinds
-use Rattle.cse_parts.specs.declared.placeholders.Piece.{Piece}
-use Rattle.cse_parts.specs.declared.placeholders.Piece.TheVariants as pieces
+use Rattle.cse_image_parts.specs.Placeholders.{pieces_of, message_kinds, has_few_placeholders}
+use Rattle.cse_image_parts.specs.declared.placeholders.ArgumentKind.TheVariants as kinds
+use Rattle.cse_image_parts.specs.declared.placeholders.Piece.{Piece}
+use Rattle.cse_image_parts.specs.declared.placeholders.Piece.TheVariants as pieces
 use Rattle.cse_test_laws.specs.Rows.{Gives}
 
 abbrev pub number : ℕ → Piece

@@ -4,7 +4,7 @@ use Rattle.std.specs.Str.{encode_utf8_all}
 use Rattle.cse_value.specs.declared.number.Num.{Num}
 use Rattle.cse_value.specs.declared.number.Num.TheVariants.{NotAppl, Missing, Undef}
 use Rattle.cse_dict.specs.declared.lookup.Unseen.TheVariants.{Unknown, Extra}
-use Rattle.cse_parts.specs.Image.{MessageLists}
+use Rattle.cse_image_parts.specs.Image.{MessageLists}
 use Rattle.cse_report.specs.declared.argument.Arg.{Arg}
 use Rattle.cse_report.specs.declared.argument.Arg.TheVariants.{Number, Words}
 use Rattle.cse_report.specs.Frequency.{all_imputed, frequencies_text}

@@ -1,4 +1,4 @@
-//! Rows of cse_parts: `Pieces`, `count_placeholders`, `kind_at`, `are_few_placeholders`, `plain_text`, `is_plain_text`,
+//! Rows of cse_image_parts: `Pieces`, `count_placeholders`, `kind_at`, `are_few_placeholders`, `plain_text`, `is_plain_text`,
 //! `array_name`, the rules of single fields, `event_code_number`, `op_named`, `is_right_a`, `is_right_b` and `is_right_c`;
 //! and of cse_sections: `whole_of` and `fits_columns`.
 

@@ -1,4 +1,4 @@
-//! Logic of the sample dictionary that is refused: the rest of the language's faults stand in `cse_rows`.
+//! Logic of the sample dictionary that is refused: the rest of the language's faults stand in `cse_test_checks`.
 
 /// Logic, and its fault: number, line and column.
 pub(crate) type Refused = (&'static str, (u8, u64, u64));

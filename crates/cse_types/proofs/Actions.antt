@@ -8,9 +8,9 @@ use Rattle.cse_value.specs.declared.shape.ItemKind.TheVariants as kind
 use Rattle.cse_syntax.specs.Tree as syntax
 use Rattle.cse_syntax.specs.declared.tree.Expression.{Expression}
 use Rattle.cse_syntax.specs.Tree.{Spelling, expr, exprs}
-use Rattle.cse_typed.specs.declared.tree.Variable.{Variable}
-use Rattle.cse_typed.specs.declared.tree.Found.{Found}
-use Rattle.cse_typed.specs.Typed.{Number, Words, Numbers, Set, SetText, SetCell, CallOf, PutDeck, Statement, Here, At}
+use Rattle.cse_logic_tree.specs.declared.tree.Variable.{Variable}
+use Rattle.cse_logic_tree.specs.declared.tree.Found.{Found}
+use Rattle.cse_logic_tree.specs.Typed.{Number, Words, Numbers, Set, SetText, SetCell, CallOf, PutDeck, Statement, Here, At}
 use Rattle.cse_types.specs.declared.meaning.Meaning.{Meaning}
 use Rattle.cse_types.specs.declared.meaning.Meaning.TheVariants as m
 use Rattle.cse_types.specs.Scope.{Scope, own_result, kind_and_owner, found}

@@ -1,11 +1,11 @@
 -- The values of a message, each beside its placeholder's kind.
 use Rattle.std.specs.Prelude.{Bool, true, false, ◌&&◌, MatchOption}
 use Rattle.std.proofs.Common.{◌≡◌, ℕ, ◌+◌, ◌<◌, ◌≤◌, get_or, drop, List, [], ◌∷◌, length, map, Option, Some, None, refl, ap, sym, ◌∙◌, option_map}
-use Rattle.cse_parts.specs.declared.placeholders.ArgumentKind.{ArgumentKind}
+use Rattle.cse_image_parts.specs.declared.placeholders.ArgumentKind.{ArgumentKind}
 use Rattle.cse_syntax.specs.declared.tree.Expression.{Expression}
 use Rattle.cse_syntax.specs.Tree.{expr, exprs}
-use Rattle.cse_typed.specs.declared.tree.Argument as rust
-use Rattle.cse_typed.specs.Typed.{Argument, argument}
+use Rattle.cse_logic_tree.specs.declared.tree.Argument as rust
+use Rattle.cse_logic_tree.specs.Typed.{Argument, argument}
 use Rattle.cse_types.specs.Scope.{Scope}
 use Rattle.cse_types.specs.Judge.{judge}
 use Rattle.cse_types.specs.JudgeStatement.{as_argument, first_kind, other_kinds, judge_arguments}

@@ -2,7 +2,7 @@
 use Rattle.std.proofs.Common.{◌≡◌, ℕ, ◌+◌, ◌<◌, ◌≤◌, List, [], ◌∷◌, ◌++◌, length, map, drop, get_or, Option, refl, sym, ap, ◌∙◌, append_assoc}
 use Rattle.cse_syntax.specs.Tree as syntax
 use Rattle.cse_syntax.specs.declared.tree.Declaration as rust
-use Rattle.cse_typed.specs.Typed.{Dimension}
+use Rattle.cse_logic_tree.specs.Typed.{Dimension}
 use Rattle.cse_types.specs.Scope.{Scope}
 use Rattle.cse_types.specs.JudgeTree.{arrays_judged}
 use Rattle.cse_types.proofs.Walks.{drop_is, past, append_none}

@@ -5,9 +5,9 @@ use Rattle.cse_syntax.specs.declared.tree.Statement as rusts
 use Rattle.cse_syntax.specs.declared.tree.Arm as rustarm
 use Rattle.cse_syntax.specs.Tree as syntax
 use Rattle.cse_syntax.specs.Tree.{Spelling, stmt, arm_tree}
-use Rattle.cse_typed.specs.declared.tree.Variable.{Variable}
-use Rattle.cse_typed.specs.Typed as typed
-use Rattle.cse_typed.specs.Typed.{Number, Statement, Statements, Arms, Counting, If, Do, statement_and, statements, arms, arm, no_arm, else_of}
+use Rattle.cse_logic_tree.specs.declared.tree.Variable.{Variable}
+use Rattle.cse_logic_tree.specs.Typed as typed
+use Rattle.cse_logic_tree.specs.Typed.{Number, Statement, Statements, Arms, Counting, If, Do, statement_and, statements, arms, arm, no_arm, else_of}
 use Rattle.cse_types.specs.Scope.{Scope}
 use Rattle.cse_types.specs.WellTyped.{messages_in, messages_of, messages_behind, kinds_of}
 use Rattle.cse_types.specs.Judge.{as_number, judge}

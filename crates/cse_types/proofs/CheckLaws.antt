@@ -8,8 +8,8 @@ use Rattle.cse_dict.specs.Dictionary.{DictionaryText}
 use Rattle.cse_syntax.specs.Word.{Word}
 use Rattle.cse_syntax.specs.Grammar.{IsSource, spell_tree}
 use Rattle.cse_syntax.specs.Tree as syntax
-use Rattle.cse_typed.specs.Typed.{Declaration, Procedure, Tree}
-use Rattle.cse_typed.specs.Erase.{erase_tree}
+use Rattle.cse_logic_tree.specs.Typed.{Declaration, Procedure, Tree}
+use Rattle.cse_logic_tree.specs.Erase.{erase_tree}
 use Rattle.cse_types.specs.declared.error.TypeError.{TypeError}
 use Rattle.cse_types.specs.MessageFile.{MessageText}
 use Rattle.cse_types.specs.WellTyped.{all_declarations, declared_in, tree_messages, declared_messages, IsTypedAs}

@@ -2,7 +2,7 @@
 use Rattle.std.proofs.Common.{◌≡◌, ℕ, ◌+◌, ◌<◌, ◌≤◌, Bool, true, false, zero, suc, List, [], ◌∷◌, ◌++◌, length, map, drop, drop-cons, get_or, refl, sym, ap, ◌∙◌, append_assoc, arith}
 use Rattle.std.specs.Prelude.{◌&&◌}
 use Rattle.cse_syntax.specs.Tree as syntax
-use Rattle.cse_typed.specs.Typed.{Entry}
+use Rattle.cse_logic_tree.specs.Typed.{Entry}
 use Rattle.cse_types.specs.declared.told.Told.{Told}
 use Rattle.cse_types.specs.Told.{told_of}
 use Rattle.cse_types.specs.Entries.{is_said, are_said}

@@ -14,7 +14,7 @@ use Rattle.cse_syntax.specs.Leaf.{is_within, is_digits, number_of, MOST}
 use Rattle.cse_syntax.specs.Tree as syntax
 use Rattle.cse_syntax.specs.Tree.{written, expr, exprs, operation_tree}
 use Rattle.cse_syntax.proofs.Rows.{indexed_is, chain_is}
-use Rattle.cse_typed.specs.Typed as typed
+use Rattle.cse_logic_tree.specs.Typed as typed
 use Rattle.cse_types.specs.Scope.{Scope, meant}
 use Rattle.cse_types.specs.WellTyped.{may_divide}
 use Rattle.cse_types.specs.Judge.{Judged, AsNumber, AsWords, Unknown, is_sound, compared, as_number, expr_count, indexed, is_end, judge, judge_all, judge_operation, judge_operations}

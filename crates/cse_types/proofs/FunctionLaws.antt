@@ -3,7 +3,7 @@ use Rattle.std.proofs.Common.{◌≡◌, ℕ, Bool, true, false, List, [], ◌�
 use Rattle.std.specs.Prelude.{◌||◌, not, option_map, Result, Ok, Err, OnOk}
 use Rattle.cse_syntax.specs.Tree as syntax
 use Rattle.cse_syntax.specs.Tree.{Spelling}
-use Rattle.cse_typed.specs.Typed.{Statements, Function}
+use Rattle.cse_logic_tree.specs.Typed.{Statements, Function}
 use Rattle.cse_types.specs.declared.fresh.Fresh.{Fresh}
 use Rattle.cse_types.specs.Scope.{Scope, Facts}
 use Rattle.cse_types.specs.WellTyped.{parameter_names}

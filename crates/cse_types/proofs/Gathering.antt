@@ -1,8 +1,8 @@
 -- What is gathered from one list of uses and then another.
 use Rattle.std.proofs.Common.{◌≡◌, ℕ, ◌+◌, ◌<◌, ◌≤◌, List, [], ◌∷◌, ◌++◌, length, map, drop, get_or, Option, refl, sym, ap, ◌∙◌, append_assoc}
 use Rattle.std.specs.Prelude.{Bool, true, false, ◌||◌, slice_get}
-use Rattle.cse_typed.specs.Typed as typed
-use Rattle.cse_typed.specs.Typed.{Number, Statements, Arms, no_arm, arm, arms}
+use Rattle.cse_logic_tree.specs.Typed as typed
+use Rattle.cse_logic_tree.specs.Typed.{Number, Statements, Arms, no_arm, arm, arms}
 use Rattle.cse_types.specs.declared.facts.Gathered.{Gathered}
 use Rattle.cse_types.specs.Scope.{Facts}
 use Rattle.cse_types.specs.Uses.{Use, TheCase, Calls, Assigns, uses, uses_of, uses_block, uses_arms, facts_need, needs_case, assigned_after, with_global, with_globals}

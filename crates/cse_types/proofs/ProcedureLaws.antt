@@ -1,13 +1,13 @@
 -- Procedures that are judged one after the other: what a loop over them keeps.
 use Rattle.std.proofs.Common.{◌≡◌, ℕ, ◌+◌, ◌<◌, List, [], ◌∷◌, ◌++◌, length, map, drop, get_or, Option, Some, None, refl, sym, ap, ◌∙◌, append_assoc, option_map}
 use Rattle.std.specs.Prelude.{Bool, true, false, ◌||◌, ◌&&◌, not}
-use Rattle.cse_typed.specs.declared.tree.Owner.{Owner}
+use Rattle.cse_logic_tree.specs.declared.tree.Owner.{Owner}
 use Rattle.cse_syntax.specs.Tree as syntax
 use Rattle.cse_syntax.specs.declared.tree.Procedure as rust
 use Rattle.cse_types.specs.declared.told.Told.{Told}
 use Rattle.cse_types.specs.Told.{told_of}
 use Rattle.cse_types.specs.Scope.{Scope}
-use Rattle.cse_typed.specs.Typed.{Statements, Both}
+use Rattle.cse_logic_tree.specs.Typed.{Statements, Both}
 use Rattle.cse_types.specs.WellTyped.{body_messages, procedure_messages, messages_of}
 use Rattle.cse_types.specs.JudgeStatement.{judge_block}
 use Rattle.cse_types.specs.JudgeTree.{owned, procedure_judged, procedures_judged, body_judged}

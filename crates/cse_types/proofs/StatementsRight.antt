@@ -4,17 +4,17 @@ use Rattle.std.specs.Prelude.{◌==◌, ◌&&◌, not, if◌then◌else◌, opti
 use Rattle.std.proofs.lemmas.Bool.{eqb-true, false≢true}
 use Rattle.cse_value.specs.declared.shape.ItemKind.{ItemKind}
 use Rattle.cse_value.specs.declared.shape.ItemKind.TheVariants as kind
-use Rattle.cse_parts.specs.declared.placeholders.ArgumentKind.{ArgumentKind}
-use Rattle.cse_parts.specs.declared.placeholders.ArgumentKind.TheVariants as argument
+use Rattle.cse_image_parts.specs.declared.placeholders.ArgumentKind.{ArgumentKind}
+use Rattle.cse_image_parts.specs.declared.placeholders.ArgumentKind.TheVariants as argument
 use Rattle.cse_syntax.specs.Tree as syntax
 use Rattle.cse_syntax.specs.Tree.{Spelling}
-use Rattle.cse_typed.specs.declared.tree.Variable.{Variable}
-use Rattle.cse_typed.specs.declared.tree.Found.{Found}
-use Rattle.cse_typed.specs.declared.tree.Field.{Field}
-use Rattle.cse_typed.specs.declared.tree.Pick.{Pick}
-use Rattle.cse_typed.specs.Typed.{Number, Words, Numbers, no_number, number_and, Which, Here, At, Argument, OfNumber, OfWords, Whole, Limit, Fixed, Counted, Counting, Statement, Statements, Arms}
-use Rattle.cse_typed.specs.Typed.{Empty, Set, SetText, SetItem, SetTextItem, SetCell, CallOf, If, Do, Jump', Impute, PutDeck, ErrMsg, no_statement, statement_and, no_arm, else_of, arm}
-use Rattle.cse_typed.specs.Erase.{erase, erase_words, erase_all, erase_which, erase_arguments, erase_limit, erase_counting, erase_statement, erase_block, erase_arms}
+use Rattle.cse_logic_tree.specs.declared.tree.Variable.{Variable}
+use Rattle.cse_logic_tree.specs.declared.tree.Found.{Found}
+use Rattle.cse_logic_tree.specs.declared.tree.Field.{Field}
+use Rattle.cse_logic_tree.specs.declared.tree.Pick.{Pick}
+use Rattle.cse_logic_tree.specs.Typed.{Number, Words, Numbers, no_number, number_and, Which, Here, At, Argument, OfNumber, OfWords, Whole, Limit, Fixed, Counted, Counting, Statement, Statements, Arms}
+use Rattle.cse_logic_tree.specs.Typed.{Empty, Set, SetText, SetItem, SetTextItem, SetCell, CallOf, If, Do, Jump', Impute, PutDeck, ErrMsg, no_statement, statement_and, no_arm, else_of, arm}
+use Rattle.cse_logic_tree.specs.Erase.{erase, erase_words, erase_all, erase_which, erase_arguments, erase_limit, erase_counting, erase_statement, erase_block, erase_arms}
 use Rattle.cse_types.specs.declared.meaning.Meaning.{Meaning}
 use Rattle.cse_types.specs.declared.meaning.Meaning.TheVariants as m
 use Rattle.cse_types.specs.Scope.{Scope, Loops, meant, variable_named, variable_meant, own_result, loop_variable, has_case, kind_and_owner, found, is_free, within}

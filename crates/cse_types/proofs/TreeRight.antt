@@ -8,13 +8,13 @@ use Rattle.cse_dict.specs.Dictionary.{DictionaryText}
 use Rattle.cse_dict.specs.Keys.{kept_name}
 use Rattle.cse_syntax.specs.Tree as syntax
 use Rattle.cse_syntax.specs.Tree.{Spelling}
-use Rattle.cse_typed.specs.declared.tree.Owner.{Owner}
-use Rattle.cse_typed.specs.Typed.{Whole, Statements, Dimension, Sized, Rows, Array, Function, Declaration, Numeric, Alpha, Array', Function', Body, Plain, Preproc, Both, Postproc, Procedure, Tree}
-use Rattle.cse_typed.specs.Erase.{erase_block, erase_dimension, erase_array, erase_declaration, erase_body, erase_procedure, erase_tree}
+use Rattle.cse_logic_tree.specs.declared.tree.Owner.{Owner}
+use Rattle.cse_logic_tree.specs.Typed.{Whole, Statements, Dimension, Sized, Rows, Array, Function, Declaration, Numeric, Alpha, Array', Function', Body, Plain, Preproc, Both, Postproc, Procedure, Tree}
+use Rattle.cse_logic_tree.specs.Erase.{erase_block, erase_dimension, erase_array, erase_declaration, erase_body, erase_procedure, erase_tree}
 use Rattle.cse_types.specs.declared.meaning.Meaning.{Meaning}
 use Rattle.cse_types.specs.declared.meaning.Meaning.TheVariants as m
 use Rattle.cse_types.specs.declared.meaning.Routine.TheVariants as r
-use Rattle.cse_typed.specs.declared.tree.Owner.TheVariants as o
+use Rattle.cse_logic_tree.specs.declared.tree.Owner.TheVariants as o
 use Rattle.cse_types.specs.MessageFile.{MessageText}
 use Rattle.cse_types.specs.Scope.{Scope, Facts, meant, in_dictionary}
 use Rattle.cse_types.specs.Uses.{facts_of}

@@ -2,7 +2,7 @@
 use Rattle.std.specs.Prelude.{Bool, true, false, ◌&&◌, ◌||◌, not, ◌==◌}
 use Rattle.std.proofs.Common.{subst, ◌-◌, zero, ◌≤◌, ◌<◌, get_or, drop, drop-cons, ◌≡◌, ℕ, suc, ◌+◌, List, [], ◌∷◌, ◌++◌, length, map, Option, Some, None, refl, ap, sym, ◌∙◌, arith, option_map, append_assoc}
 use Rattle.std.proofs.lemmas.Bool.{false≢true, eqb-true}
-use Rattle.cse_typed.specs.Typed.{Number, numbers}
+use Rattle.cse_logic_tree.specs.Typed.{Number, numbers}
 use Rattle.cse_types.specs.Judge.{sole}
 use Rattle.cse_types.specs.Walk.{walk, so_far, found_more, joined, only_if, is_there}
 

@@ -1,6 +1,6 @@
 -- What the checker answers.
 use Rattle.std.specs.Prelude.{◌≡◌, Result, Ok, Err}
-use Rattle.cse_typed.specs.Typed as typed
+use Rattle.cse_logic_tree.specs.Typed as typed
 use Rattle.cse_types.specs.declared.error.TypeError.{TypeError}
 use Rattle.cse_types.specs.declared.typed.Typed as rust
 use Rattle.cse_types.specs.Checked.{Checked}

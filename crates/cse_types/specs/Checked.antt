@@ -4,9 +4,9 @@ use Rattle.std.specs.Option.{option_map}
 use Rattle.cse_dict.specs.Dictionary.{DictionaryText}
 use Rattle.cse_syntax.specs.Tree as syntax
 use Rattle.cse_syntax.specs.Grammar.{IsSource, spell_tree}
-use Rattle.cse_typed.specs.declared.tree.Owner.TheVariants as o
-use Rattle.cse_typed.specs.Typed.{Declaration, Procedure, Tree}
-use Rattle.cse_typed.specs.Erase.{erase_tree}
+use Rattle.cse_logic_tree.specs.declared.tree.Owner.TheVariants as o
+use Rattle.cse_logic_tree.specs.Typed.{Declaration, Procedure, Tree}
+use Rattle.cse_logic_tree.specs.Erase.{erase_tree}
 use Rattle.cse_types.specs.declared.meaning.Meaning.{Meaning}
 use Rattle.cse_types.specs.declared.meaning.Routine.TheVariants as r
 use Rattle.cse_types.specs.MessageFile.{MessageText}

@@ -2,7 +2,7 @@
 use Rattle.std.specs.Prelude.{ℕ, Bool, true, false, ◌||◌, List, [], ◌∷◌, slice_get, Option}
 use Rattle.cse_types.specs.declared.facts.Gathered.{Gathered}
 use Rattle.cse_types.specs.Scope.{Facts}
-use Rattle.cse_typed.specs.Typed.{Statements}
+use Rattle.cse_logic_tree.specs.Typed.{Statements}
 use Rattle.cse_types.specs.Uses.{Use, TheCase, Calls, Assigns, uses_block, facts_need, facts_assign, needs_case, assigned_after, with_global, with_globals}
 
 -- what is known after a call of this function

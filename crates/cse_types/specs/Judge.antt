@@ -10,14 +10,14 @@ use Rattle.cse_syntax.specs.declared.tree.Query.{Query}
 use Rattle.cse_syntax.specs.declared.tree.Query.TheVariants as q
 use Rattle.cse_syntax.specs.Tree as syntax
 use Rattle.cse_syntax.specs.Tree.{Spelling}
-use Rattle.cse_typed.specs.declared.tree.Variable.{Variable}
-use Rattle.cse_typed.specs.declared.tree.Field.{Field}
-use Rattle.cse_typed.specs.declared.tree.Present.{Present}
-use Rattle.cse_typed.specs.declared.tree.Present.TheVariants as p
-use Rattle.cse_typed.specs.declared.tree.Pick.{Pick}
-use Rattle.cse_typed.specs.Typed.{Number, Words, Numbers, Operations, Constant, Special', Variable', Item, ItemAt, Cell, Call, Group, Int, IsSpecial, Deck, TotOcc, MaxOcc, CurOcc, InSet, Minus, Not, Compare, CompareTexts, Chain}
-use Rattle.cse_typed.specs.Typed.{Quoted, TextGlobal, TextItem, TextItemAt, TextGroup, no_number, number_and, no_operation, operation_and, number, words}
-use Rattle.cse_typed.specs.Typed.{Dimension, Sized, Rows}
+use Rattle.cse_logic_tree.specs.declared.tree.Variable.{Variable}
+use Rattle.cse_logic_tree.specs.declared.tree.Field.{Field}
+use Rattle.cse_logic_tree.specs.declared.tree.Present.{Present}
+use Rattle.cse_logic_tree.specs.declared.tree.Present.TheVariants as p
+use Rattle.cse_logic_tree.specs.declared.tree.Pick.{Pick}
+use Rattle.cse_logic_tree.specs.Typed.{Number, Words, Numbers, Operations, Constant, Special', Variable', Item, ItemAt, Cell, Call, Group, Int, IsSpecial, Deck, TotOcc, MaxOcc, CurOcc, InSet, Minus, Not, Compare, CompareTexts, Chain}
+use Rattle.cse_logic_tree.specs.Typed.{Quoted, TextGlobal, TextItem, TextItemAt, TextGroup, no_number, number_and, no_operation, operation_and, number, words}
+use Rattle.cse_logic_tree.specs.Typed.{Dimension, Sized, Rows}
 use Rattle.cse_types.specs.declared.judged.Judged.{Judged as RustJudged}
 use Rattle.cse_types.specs.declared.judged.Judged.TheVariants as j
 use Rattle.cse_types.specs.declared.meaning.Meaning.{Meaning}

@@ -8,9 +8,9 @@ use Rattle.cse_dict.specs.Dictionary.{DictionaryText}
 use Rattle.cse_dict.specs.Keys.{kept_name}
 use Rattle.cse_syntax.specs.Tree as syntax
 use Rattle.cse_syntax.specs.Tree.{Spelling}
-use Rattle.cse_typed.specs.declared.tree.Owner.{Owner}
-use Rattle.cse_typed.specs.declared.tree.Owner.TheVariants as o
-use Rattle.cse_typed.specs.Typed.{Whole, Statements, Dimension, Sized, Rows, Array, Function, Declaration, Numeric, Alpha, Array', Function', Body, Plain, Preproc, Both, Postproc, Procedure, Tree}
+use Rattle.cse_logic_tree.specs.declared.tree.Owner.{Owner}
+use Rattle.cse_logic_tree.specs.declared.tree.Owner.TheVariants as o
+use Rattle.cse_logic_tree.specs.Typed.{Whole, Statements, Dimension, Sized, Rows, Array, Function, Declaration, Numeric, Alpha, Array', Function', Body, Plain, Preproc, Both, Postproc, Procedure, Tree}
 use Rattle.cse_types.specs.declared.meaning.Meaning.{Meaning}
 use Rattle.cse_types.specs.declared.meaning.Routine.TheVariants as r
 use Rattle.cse_types.specs.MessageFile.{MessageText}

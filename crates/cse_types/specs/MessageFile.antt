@@ -3,7 +3,7 @@ use Rattle.std.specs.Prelude.{◌≡◌, ℕ, ◌+◌, not, ◌&&◌, ◌||◌, 
 use Rattle.std.specs.List.{list_any, starts_with}
 use Rattle.std.specs.Char.{is_ascii_digit}
 use Rattle.std.specs.Str.{is_utf8}
-use Rattle.cse_parts.specs.Texts.{is_text, is_short}
+use Rattle.cse_image_parts.specs.Texts.{is_text, is_short}
 use Rattle.cse_sections.specs.Number.{number_between}
 use Rattle.cse_sections.specs.Sections.{after_mark, lines_of}
 use Rattle.cse_types.specs.declared.error.TypeError.{TypeError}

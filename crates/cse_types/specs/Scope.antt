@@ -9,14 +9,14 @@ use Rattle.cse_dict.specs.Dictionary.{DictionaryText, ItemText, SetText, number_
 use Rattle.cse_dict.specs.Keys.{kept_name}
 use Rattle.cse_syntax.specs.Tree as syntax
 use Rattle.cse_syntax.specs.Tree.{Spelling}
-use Rattle.cse_typed.specs.Typed.{Dimension}
-use Rattle.cse_typed.specs.declared.tree.Variable.{Variable}
-use Rattle.cse_typed.specs.declared.tree.Variable.TheVariants as v
-use Rattle.cse_typed.specs.declared.tree.Found.{Found}
-use Rattle.cse_typed.specs.declared.tree.Found.TheVariants as h
-use Rattle.cse_typed.specs.declared.tree.Field.{Field}
-use Rattle.cse_typed.specs.declared.tree.Owner.{Owner}
-use Rattle.cse_typed.specs.declared.tree.Owner.TheVariants as o
+use Rattle.cse_logic_tree.specs.Typed.{Dimension}
+use Rattle.cse_logic_tree.specs.declared.tree.Variable.{Variable}
+use Rattle.cse_logic_tree.specs.declared.tree.Variable.TheVariants as v
+use Rattle.cse_logic_tree.specs.declared.tree.Found.{Found}
+use Rattle.cse_logic_tree.specs.declared.tree.Found.TheVariants as h
+use Rattle.cse_logic_tree.specs.declared.tree.Field.{Field}
+use Rattle.cse_logic_tree.specs.declared.tree.Owner.{Owner}
+use Rattle.cse_logic_tree.specs.declared.tree.Owner.TheVariants as o
 use Rattle.cse_types.specs.declared.meaning.Meaning.{Meaning}
 use Rattle.cse_types.specs.declared.meaning.Meaning.TheVariants as m
 use Rattle.cse_types.specs.declared.meaning.Routine.{Routine}

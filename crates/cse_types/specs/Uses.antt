@@ -1,13 +1,13 @@
 -- What statements use: calls, assignments of globals, and the case.
 use Rattle.std.specs.Prelude.{ℕ, Bool, true, false, ◌||◌, nat_eq, if◌then◌else◌, List, [], ◌∷◌, ◌++◌, length, slice_get, Option, Some, None}
 use Rattle.std.specs.List.{list_any}
-use Rattle.cse_typed.specs.declared.tree.Variable.{Variable}
-use Rattle.cse_typed.specs.declared.tree.Variable.TheVariants as v
-use Rattle.cse_typed.specs.Typed.{Number, Words, Numbers, Operations, Constant, Special', Variable', Item, ItemAt, Cell, Call, Group, Int, IsSpecial, Deck, TotOcc, MaxOcc, CurOcc, InSet, Minus, Not, Compare, CompareTexts, Chain}
-use Rattle.cse_typed.specs.Typed.{Quoted, TextGlobal, TextItem, TextItemAt, TextGroup, no_number, number_and, no_operation, operation_and}
-use Rattle.cse_typed.specs.Typed.{Which, Here, At, Argument, OfNumber, OfWords, Limit, Fixed, Counted, Counting, Statement, Statements, Arms}
-use Rattle.cse_typed.specs.Typed.{Empty, Set, SetText, SetItem, SetTextItem, SetCell, CallOf, If, For, Do, Jump', Impute, PutDeck, ErrMsg, no_statement, statement_and, no_arm, else_of, arm}
-use Rattle.cse_typed.specs.Typed.{Function}
+use Rattle.cse_logic_tree.specs.declared.tree.Variable.{Variable}
+use Rattle.cse_logic_tree.specs.declared.tree.Variable.TheVariants as v
+use Rattle.cse_logic_tree.specs.Typed.{Number, Words, Numbers, Operations, Constant, Special', Variable', Item, ItemAt, Cell, Call, Group, Int, IsSpecial, Deck, TotOcc, MaxOcc, CurOcc, InSet, Minus, Not, Compare, CompareTexts, Chain}
+use Rattle.cse_logic_tree.specs.Typed.{Quoted, TextGlobal, TextItem, TextItemAt, TextGroup, no_number, number_and, no_operation, operation_and}
+use Rattle.cse_logic_tree.specs.Typed.{Which, Here, At, Argument, OfNumber, OfWords, Limit, Fixed, Counted, Counting, Statement, Statements, Arms}
+use Rattle.cse_logic_tree.specs.Typed.{Empty, Set, SetText, SetItem, SetTextItem, SetCell, CallOf, If, For, Do, Jump', Impute, PutDeck, ErrMsg, no_statement, statement_and, no_arm, else_of, arm}
+use Rattle.cse_logic_tree.specs.Typed.{Function}
 use Rattle.cse_types.specs.Scope.{Facts, has_global}
 
 -- a record or an item is named, or a hot deck is used; a function is called; a global is assigned, or is the variable of a loop

@@ -13,9 +13,9 @@ use Rattle.std.specs.Map.{lookup}
 use Rattle.std.specs.Str.{bytes_eq}
 use Rattle.cse_value.specs.declared.shape.ItemKind.{ItemKind}
 use Rattle.cse_value.specs.declared.shape.ItemKind.TheVariants as kind
-use Rattle.cse_parts.specs.declared.placeholders.ArgumentKind.{ArgumentKind}
-use Rattle.cse_parts.specs.declared.placeholders.ArgumentKind.TheVariants as argument
-use Rattle.cse_parts.specs.Placeholders.{message_kinds}
+use Rattle.cse_image_parts.specs.declared.placeholders.ArgumentKind.{ArgumentKind}
+use Rattle.cse_image_parts.specs.declared.placeholders.ArgumentKind.TheVariants as argument
+use Rattle.cse_image_parts.specs.Placeholders.{message_kinds}
 use Rattle.cse_dict.specs.Dictionary.{DictionaryText, SetText as ValueSet}
 use Rattle.cse_dict.specs.Keys.{kept_name}
 use Rattle.cse_syntax.specs.declared.tree.Operator.{Operator}
@@ -25,19 +25,19 @@ use Rattle.cse_syntax.specs.declared.tree.Jump.TheVariants as j
 use Rattle.cse_syntax.specs.Leaf.{number_of, text_of, is_within, MOST}
 use Rattle.cse_syntax.specs.Tree as syntax
 use Rattle.cse_syntax.specs.Tree.{Spelling}
-use Rattle.cse_typed.specs.declared.tree.Variable.{Variable}
-use Rattle.cse_typed.specs.declared.tree.Field.{Field}
-use Rattle.cse_typed.specs.declared.tree.Present.{Present}
-use Rattle.cse_typed.specs.declared.tree.Present.TheVariants as p
-use Rattle.cse_typed.specs.declared.tree.Pick.{Pick}
-use Rattle.cse_typed.specs.declared.tree.Owner.{Owner}
-use Rattle.cse_typed.specs.declared.tree.Owner.TheVariants as o
-use Rattle.cse_typed.specs.Typed.{Number, Words, Numbers, Operations, Constant, Special', Variable', Item, ItemAt, Cell, Call, Group, Int, IsSpecial, Deck, TotOcc, MaxOcc, CurOcc, InSet, Minus, Not, Compare, CompareTexts, Chain}
-use Rattle.cse_typed.specs.Typed.{Quoted, TextGlobal, TextItem, TextItemAt, TextGroup, no_number, number_and, no_operation, operation_and}
-use Rattle.cse_typed.specs.Typed.{Which, Here, At, Argument, OfNumber, OfWords, Whole, Limit, Fixed, Counted, Counting, Statement, Statements, Arms}
-use Rattle.cse_typed.specs.Typed.{Empty, Set, SetText, SetItem, SetTextItem, SetCell, CallOf, If, For, Do, Jump', Impute, PutDeck, ErrMsg, no_statement, statement_and, no_arm, else_of, arm}
-use Rattle.cse_typed.specs.Typed.{Dimension, Sized, Rows, Array, Function, Declaration, Numeric, Alpha, Array', Function', Body, Plain, Preproc, Both, Postproc, Procedure, Entry, Tree}
-use Rattle.cse_typed.specs.Erase.{erase_statement, erase_block, erase_arms, erase_body, erase_declaration, erase_tree}
+use Rattle.cse_logic_tree.specs.declared.tree.Variable.{Variable}
+use Rattle.cse_logic_tree.specs.declared.tree.Field.{Field}
+use Rattle.cse_logic_tree.specs.declared.tree.Present.{Present}
+use Rattle.cse_logic_tree.specs.declared.tree.Present.TheVariants as p
+use Rattle.cse_logic_tree.specs.declared.tree.Pick.{Pick}
+use Rattle.cse_logic_tree.specs.declared.tree.Owner.{Owner}
+use Rattle.cse_logic_tree.specs.declared.tree.Owner.TheVariants as o
+use Rattle.cse_logic_tree.specs.Typed.{Number, Words, Numbers, Operations, Constant, Special', Variable', Item, ItemAt, Cell, Call, Group, Int, IsSpecial, Deck, TotOcc, MaxOcc, CurOcc, InSet, Minus, Not, Compare, CompareTexts, Chain}
+use Rattle.cse_logic_tree.specs.Typed.{Quoted, TextGlobal, TextItem, TextItemAt, TextGroup, no_number, number_and, no_operation, operation_and}
+use Rattle.cse_logic_tree.specs.Typed.{Which, Here, At, Argument, OfNumber, OfWords, Whole, Limit, Fixed, Counted, Counting, Statement, Statements, Arms}
+use Rattle.cse_logic_tree.specs.Typed.{Empty, Set, SetText, SetItem, SetTextItem, SetCell, CallOf, If, For, Do, Jump', Impute, PutDeck, ErrMsg, no_statement, statement_and, no_arm, else_of, arm}
+use Rattle.cse_logic_tree.specs.Typed.{Dimension, Sized, Rows, Array, Function, Declaration, Numeric, Alpha, Array', Function', Body, Plain, Preproc, Both, Postproc, Procedure, Entry, Tree}
+use Rattle.cse_logic_tree.specs.Erase.{erase_statement, erase_block, erase_arms, erase_body, erase_declaration, erase_tree}
 use Rattle.cse_types.specs.declared.meaning.Meaning.{Meaning}
 use Rattle.cse_types.specs.declared.meaning.Meaning.TheVariants as m
 use Rattle.cse_types.specs.declared.meaning.Routine.{Routine}

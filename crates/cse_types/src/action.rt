@@ -3,8 +3,8 @@
 ghost use Rattle.std.specs.Prelude.{◌≡◌, ◌||◌, not, false, map, Some, IfOk, OnOk};
 ghost use Rattle.std.specs.Option.{option_map};
 ghost use Rattle.cse_syntax.specs.Tree.{written, expr, exprs};
-ghost use Rattle.cse_typed.specs.Typed as typed;
-ghost use Rattle.cse_typed.specs.Typed.{statement};
+ghost use Rattle.cse_logic_tree.specs.Typed as typed;
+ghost use Rattle.cse_logic_tree.specs.Typed.{statement};
 ghost use Rattle.cse_types.specs.Scope.{meant};
 ghost use Rattle.cse_types.specs.WellTyped as well;
 ghost use Rattle.cse_types.specs.Judge.{as_number, expr_count, judge, judge_all};
@@ -15,8 +15,8 @@ use crate::assign::{assign, call_of, impute, put_deck};
 use crate::expression::{all_values, expression, value};
 use crate::faults::Faults;
 use crate::scope::Scope;
+use cse_logic_tree::{Statement, Variable};
 use cse_syntax::{Expression, Jump, Lexeme, Place};
-use cse_typed::{Statement, Variable};
 use std::alloc::{AllocError, Global};
 
 /// An assignment.

@@ -4,7 +4,7 @@ ghost use Rattle.std.specs.Prelude.{◌≡◌, ◌+◌, ◌<◌, ◌≤◌, leng
 ghost use Rattle.std.specs.Option.{option_map};
 ghost use Rattle.cse_syntax.specs.Tree as syntax;
 ghost use Rattle.cse_syntax.specs.Tree.{written};
-ghost use Rattle.cse_typed.specs.Typed as typed;
+ghost use Rattle.cse_logic_tree.specs.Typed as typed;
 ghost use Rattle.cse_types.specs.Scope.{meant};
 ghost use Rattle.cse_types.specs.WellTyped as well;
 ghost use Rattle.cse_types.specs.JudgeStatement.{whole_judged};
@@ -18,8 +18,8 @@ use crate::list::{both, keep};
 use crate::scope::Scope;
 use crate::set::number_set;
 use cse_dict::Dictionary;
+use cse_logic_tree::{Array, Dimension, Whole};
 use cse_syntax::{Array as Parsed, Dimension as ParsedDimension, Lexeme, Literal};
-use cse_typed::{Array, Dimension, Whole};
 use std::alloc::{AllocError, Global};
 
 /// The size that digits write: from 1 to the most.

@@ -3,14 +3,14 @@
 ghost use Rattle.std.specs.Prelude.{◌≡◌, ◌++◌, ◌∷◌, [], map, IfOk, OnOk};
 ghost use Rattle.std.specs.Option.{option_map};
 ghost use Rattle.cse_syntax.specs.Tree as syntax;
-ghost use Rattle.cse_typed.specs.Typed as typed;
+ghost use Rattle.cse_logic_tree.specs.Typed as typed;
 ghost use Rattle.cse_types.specs.JudgeTree as spec;
 
 use crate::array::dimensions;
 use crate::faults::Faults;
 use crate::scope::Scope;
+use cse_logic_tree::Dimension;
 use cse_syntax::{Array, Declaration};
-use cse_typed::Dimension;
 use std::alloc::{AllocError, Global};
 
 /// The dimensions of an array. Their faults are told where it is judged as a whole.

@@ -3,8 +3,8 @@
 ghost use Rattle.std.specs.Prelude.{◌≡◌, ◌==◌, ◌||◌, not, true, false, map, slice_get, Some, None, IfOk, OnOk};
 ghost use Rattle.std.specs.Option.{option_map};
 ghost use Rattle.cse_syntax.specs.Tree.{written};
-ghost use Rattle.cse_typed.specs.Typed as typed;
-ghost use Rattle.cse_typed.specs.Typed.{number, numbers, words, statement};
+ghost use Rattle.cse_logic_tree.specs.Typed as typed;
+ghost use Rattle.cse_logic_tree.specs.Typed.{number, numbers, words, statement};
 ghost use Rattle.cse_types.specs.Scope.{meant, kind_and_owner, found};
 ghost use Rattle.cse_types.specs.WellTyped.{dimensions_of, may_call};
 ghost use Rattle.cse_types.specs.Judge as judge;
@@ -20,8 +20,8 @@ use crate::judged::Judged;
 use crate::meaning::Meaning;
 use crate::place::place_at;
 use crate::scope::{Scope, kind_and_owner, own_result};
+use cse_logic_tree::{Field, Number, Pick, Statement, Variable, Which, Words};
 use cse_syntax::Lexeme;
-use cse_typed::{Field, Number, Pick, Statement, Variable, Which, Words};
 use cse_value::shape::ItemKind;
 use std::alloc::{AllocError, Global};
 

@@ -4,8 +4,8 @@ ghost use Rattle.std.specs.Prelude.{◌≡◌, map, length, slice_get, Some, Non
 ghost use Rattle.std.specs.Option.{option_map};
 ghost use Rattle.std.specs.List.{list_any, list_all};
 ghost use Rattle.cse_syntax.specs.Tree.{written};
-ghost use Rattle.cse_typed.specs.Typed as typed;
-ghost use Rattle.cse_typed.specs.Typed.{number, numbers};
+ghost use Rattle.cse_logic_tree.specs.Typed as typed;
+ghost use Rattle.cse_logic_tree.specs.Typed.{number, numbers};
 ghost use Rattle.cse_types.specs.Scope as scope_of;
 ghost use Rattle.cse_types.specs.WellTyped as well;
 ghost use Rattle.cse_types.specs.Judge as spec;
@@ -14,8 +14,8 @@ ghost use Rattle.cse_types.specs.Walk.{is_there, only_if, IsNoted, IsNotedAfter}
 use crate::faults::Faults;
 use crate::names::Globals;
 use crate::scope::{Facts, Scope, has_case};
+use cse_logic_tree::{Number, Variable};
 use cse_syntax::Lexeme;
-use cse_typed::{Number, Variable};
 
 fn is_same_variable(x: Variable, y: Variable) -> bool
     ensures { result ≡ scope_of.is_same_variable x y }

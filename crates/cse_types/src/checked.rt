@@ -4,7 +4,7 @@ ghost use Rattle.std.specs.Prelude.{◌≡◌, ◌≤◌, ◌⊎◌, not, false,
 ghost use Rattle.std.specs.Option.{option_map};
 ghost use Rattle.cse_syntax.specs.Tree as syntax;
 ghost use Rattle.cse_syntax.specs.Place as place;
-ghost use Rattle.cse_typed.specs.Typed as typed;
+ghost use Rattle.cse_logic_tree.specs.Typed as typed;
 ghost use Rattle.cse_types.specs.Answer.{IsAnswer, checked};
 ghost use Rattle.cse_types.specs.Checked.{IsChecked};
 ghost use Rattle.cse_types.specs.Fault.{out_of_memory};
@@ -20,8 +20,8 @@ use crate::order::Order;
 use crate::parts::judged;
 use crate::typed::Typed;
 use cse_dict::Dictionary;
+use cse_logic_tree::Tree;
 use cse_syntax::Source;
-use cse_typed::Tree;
 use std::alloc::Global;
 
 /// Want of memory has no place.

@@ -3,8 +3,8 @@
 ghost use Rattle.std.specs.Prelude.{◌≡◌, ◌&&◌, true, false, map, length, drop, slice_get, Some, None, IfOk, OnOk};
 ghost use Rattle.std.specs.Option.{option_map};
 ghost use Rattle.cse_syntax.specs.Tree.{written};
-ghost use Rattle.cse_typed.specs.Typed as typed;
-ghost use Rattle.cse_typed.specs.Typed.{number, dimension};
+ghost use Rattle.cse_logic_tree.specs.Typed as typed;
+ghost use Rattle.cse_logic_tree.specs.Typed.{number, dimension};
 ghost use Rattle.cse_types.specs.Scope.{meant};
 ghost use Rattle.cse_types.specs.Judge as spec;
 ghost use Rattle.cse_types.specs.Walk.{is_there, IsNoted, IsNotedAfter};
@@ -15,8 +15,8 @@ use crate::list::{both, keep};
 use crate::meaning::Meaning;
 use crate::scope::{Scope, has_case};
 use crate::set::{current, max_occ, record_of, tot_occ, whole_set};
+use cse_logic_tree::{Dimension, Number, Pick, Present};
 use cse_syntax::{Lexeme, Query};
-use cse_typed::{Dimension, Number, Pick, Present};
 use std::alloc::{AllocError, Global};
 
 /// The present value's place of a set's item, or the fault at this token.

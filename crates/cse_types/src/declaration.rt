@@ -4,7 +4,7 @@ ghost use Rattle.std.specs.Prelude.{◌≡◌, ◌++◌, map, length, Some, IfOk
 ghost use Rattle.std.specs.Option.{option_map};
 ghost use Rattle.cse_syntax.specs.Tree as syntax;
 ghost use Rattle.cse_syntax.specs.Tree.{written};
-ghost use Rattle.cse_typed.specs.Typed as typed;
+ghost use Rattle.cse_logic_tree.specs.Typed as typed;
 ghost use Rattle.cse_types.specs.WellTyped.{declared_messages};
 ghost use Rattle.cse_types.specs.JudgeTree as spec;
 ghost use Rattle.cse_types.specs.Told.{told_of};
@@ -16,8 +16,8 @@ use crate::function::function;
 use crate::list::{both, keep};
 use crate::scope::Scope;
 use crate::told::Told;
+use cse_logic_tree::{Array, Declaration, Function};
 use cse_syntax::{Declaration as Parsed, Lexeme};
-use cse_typed::{Array, Declaration, Function};
 use std::alloc::{AllocError, Global};
 
 /// Numbers.

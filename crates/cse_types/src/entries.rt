@@ -2,7 +2,7 @@
 
 ghost use Rattle.std.specs.Prelude.{◌≡◌, true, map, unwrap_or, IfOk};
 ghost use Rattle.cse_syntax.specs.Tree.{message};
-ghost use Rattle.cse_typed.specs.Typed as typed;
+ghost use Rattle.cse_logic_tree.specs.Typed as typed;
 ghost use Rattle.cse_types.specs.Entries.{is_said, are_said};
 ghost use Rattle.cse_types.specs.Told.{told_of};
 ghost use Rattle.cse_types.specs.MessageFile.{MessageText};
@@ -12,8 +12,8 @@ ghost use Rattle.cse_types.specs.WellTyped.{entry_of, message_meant, no_message}
 use crate::errmsg::message_number;
 use crate::messages::Messages;
 use crate::told::Told;
+use cse_logic_tree::Entry;
 use cse_syntax::{Message, text_of};
-use cse_typed::Entry;
 use std::alloc::{AllocError, Global};
 
 /// The number of a message, and its text.

@@ -2,11 +2,11 @@
 
 ghost use Rattle.std.specs.Prelude.{◌≡◌, ◌==◌, false, map, length, drop, nat_eq, find, Some, None, IfOk, OnOk};
 ghost use Rattle.std.specs.Option.{option_map};
-ghost use Rattle.cse_parts.specs.Placeholders.{message_kinds};
+ghost use Rattle.cse_image_parts.specs.Placeholders.{message_kinds};
 ghost use Rattle.cse_syntax.specs.Leaf as leaf;
 ghost use Rattle.cse_syntax.specs.Tree.{expr, exprs, message};
-ghost use Rattle.cse_typed.specs.Typed as typed;
-ghost use Rattle.cse_typed.specs.Typed.{argument, number, statement, words};
+ghost use Rattle.cse_logic_tree.specs.Typed as typed;
+ghost use Rattle.cse_logic_tree.specs.Typed.{argument, number, statement, words};
 ghost use Rattle.cse_types.specs.MessageFile.{MessageText};
 ghost use Rattle.cse_types.specs.WellTyped.{kinds_of, message_meant, message_number, numbered};
 ghost use Rattle.cse_types.specs.Judge.{expr_count, judge};
@@ -20,9 +20,9 @@ use crate::judged::Judged;
 use crate::list::{both, keep};
 use crate::messages::Messages;
 use crate::scope::Scope;
-use cse_parts::placeholders::{ArgumentKind, Kinds, count_placeholders};
+use cse_image_parts::placeholders::{ArgumentKind, Kinds, count_placeholders};
+use cse_logic_tree::{Argument, Number, Statement, Words};
 use cse_syntax::{Expression, Message};
-use cse_typed::{Argument, Number, Statement, Words};
 use std::alloc::{AllocError, Global};
 
 /// What stands between the quotes of a text.

@@ -6,8 +6,8 @@ ghost use Rattle.cse_syntax.specs.Leaf as leaf;
 ghost use Rattle.cse_syntax.specs.Leaf.{is_within, MOST};
 ghost use Rattle.cse_syntax.specs.Tree as syntax;
 ghost use Rattle.cse_syntax.specs.Tree.{written, expr, exprs, operations as operations_of, operation_tree as parsed};
-ghost use Rattle.cse_typed.specs.Typed as typed;
-ghost use Rattle.cse_typed.specs.Typed.{number, numbers, words, operations, operation_tree};
+ghost use Rattle.cse_logic_tree.specs.Typed as typed;
+ghost use Rattle.cse_logic_tree.specs.Typed.{number, numbers, words, operations, operation_tree};
 ghost use Rattle.cse_types.specs.Scope.{meant};
 ghost use Rattle.cse_types.specs.WellTyped.{may_call, value_of, may_divide};
 ghost use Rattle.cse_types.specs.Judge as spec;
@@ -25,8 +25,8 @@ use crate::meaning::Meaning;
 use crate::operator::{chained, compared, grouped, int, is_special, minus, negated};
 use crate::scope::{Scope, own_result};
 use crate::set::member;
+use cse_logic_tree::{Number, Operation, Variable, Words};
 use cse_syntax::{Expression, Function, Lexeme, Operation as Parsed, Operator, number_of};
-use cse_typed::{Number, Operation, Variable, Words};
 use std::alloc::{AllocError, Global};
 
 /// What a name without parentheses is.

@@ -1,14 +1,14 @@
 //! What statements use: whether they need a case, and the globals that they may assign.
 
 ghost use Rattle.std.specs.Prelude.{◌≡◌, ◌∷◌, ◌++◌, map, slice_get, Some, OnOk, IfOk, true};
-ghost use Rattle.cse_typed.specs.Typed as typed;
-ghost use Rattle.cse_typed.specs.Typed.{operation_tree};
+ghost use Rattle.cse_logic_tree.specs.Typed as typed;
+ghost use Rattle.cse_logic_tree.specs.Typed.{operation_tree};
 ghost use Rattle.cse_types.specs.Uses as spec;
 ghost use Rattle.cse_types.specs.Gather.{gather, with_call, with_use, facts_from};
 
 use crate::names::Globals;
 use crate::scope::Facts;
-use cse_typed::{
+use cse_logic_tree::{
     Argument, Arm, Counting, Limit, Number, Operation, Statement, Variable, Which, Words,
 };
 use std::alloc::{AllocError, Global};

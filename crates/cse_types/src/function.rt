@@ -5,7 +5,7 @@ ghost use Rattle.std.specs.Option.{option_map};
 ghost use Rattle.cse_dict.specs.Keys.{kept_name};
 ghost use Rattle.cse_syntax.specs.Tree as syntax;
 ghost use Rattle.cse_syntax.specs.Tree.{written};
-ghost use Rattle.cse_typed.specs.Typed as typed;
+ghost use Rattle.cse_logic_tree.specs.Typed as typed;
 ghost use Rattle.cse_types.specs.Told.{told_of};
 ghost use Rattle.cse_types.specs.Uses.{facts_of};
 ghost use Rattle.cse_types.specs.WellTyped.{messages_of, parameter_names};
@@ -22,8 +22,8 @@ use crate::names::{Parameters, kept};
 use crate::scope::{Facts, Scope};
 use crate::statement::block;
 use crate::told::Told;
+use cse_logic_tree::{Function, Statement};
 use cse_syntax::{Lexeme, Parameter, Statement as Parsed};
-use cse_typed::{Function, Statement};
 use std::alloc::{AllocError, Global};
 
 /// Where a parameter is at fault: at its own name, or at that of what bears the name, if that comes later.

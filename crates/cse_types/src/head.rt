@@ -4,7 +4,7 @@ ghost use Rattle.std.specs.Prelude.{◌≡◌, true, false, Some, None};
 ghost use Rattle.std.specs.Option.{option_map};
 ghost use Rattle.cse_syntax.specs.Tree as syntax;
 ghost use Rattle.cse_syntax.specs.Tree.{written};
-ghost use Rattle.cse_typed.specs.Typed as typed;
+ghost use Rattle.cse_logic_tree.specs.Typed as typed;
 ghost use Rattle.cse_types.specs.Scope as scope_of;
 ghost use Rattle.cse_types.specs.WellTyped.{signed_value, step_of, value_of};
 ghost use Rattle.cse_types.specs.JudgeStatement as spec;
@@ -17,8 +17,8 @@ use crate::faults::Faults;
 use crate::meaning::Meaning;
 use crate::scope::Scope;
 use crate::set::record_of;
+use cse_logic_tree::{Counting, Limit, Variable, Whole};
 use cse_syntax::{Counting as Parsed, Lexeme, Limit as ParsedLimit, Literal};
-use cse_typed::{Counting, Limit, Variable, Whole};
 
 /// The variable of a loop: a numeric global or a parameter.
 fn loop_variable(scope: &Scope<'_>, name: Lexeme<'_>) -> Option<Variable>

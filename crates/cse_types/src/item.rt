@@ -3,8 +3,8 @@
 ghost use Rattle.std.specs.Prelude.{◌≡◌, ◌≤◌, map, slice_get, Some, None, IfOk, OnOk};
 ghost use Rattle.std.specs.Option.{option_map};
 ghost use Rattle.cse_syntax.specs.Tree.{written};
-ghost use Rattle.cse_typed.specs.Typed as typed;
-ghost use Rattle.cse_typed.specs.Typed.{number, numbers, words, dimension};
+ghost use Rattle.cse_logic_tree.specs.Typed as typed;
+ghost use Rattle.cse_logic_tree.specs.Typed.{number, numbers, words, dimension};
 ghost use Rattle.cse_types.specs.Scope.{kind_and_owner, meant};
 ghost use Rattle.cse_types.specs.WellTyped.{set_kind, set_meant};
 ghost use Rattle.cse_types.specs.Judge as spec;
@@ -15,8 +15,8 @@ use crate::faults::Faults;
 use crate::judged::Judged;
 use crate::meaning::Meaning;
 use crate::scope::{Scope, has_case, kind_and_owner};
+use cse_logic_tree::{Field, Number, Present, Words};
 use cse_syntax::Lexeme;
-use cse_typed::{Field, Number, Present, Words};
 use cse_value::shape::ItemKind;
 use std::alloc::{AllocError, Global};
 

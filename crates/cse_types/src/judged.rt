@@ -1,6 +1,6 @@
 //! What an expression is found to be.
 
-use cse_typed::{Number, Words};
+use cse_logic_tree::{Number, Words};
 
 /// A number or a text, with its tree where it is sound; or of no known kind.
 #[derive(Drop)]

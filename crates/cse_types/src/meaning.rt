@@ -1,6 +1,6 @@
 //! What names mean, and where logic stands.
 
-use cse_typed::{Owner, Variable};
+use cse_logic_tree::{Owner, Variable};
 
 /// What a name means.
 #[derive(Clone, Copy, PartialEq, Eq)]

@@ -9,7 +9,7 @@ ghost use Rattle.cse_types.specs.MessageFile.{MessageText, ReadsMessages, Takes,
 
 use crate::error::{Stop, TypeError, error_at};
 use crate::gaps::{begins_with_gap, digit_count, without_gaps};
-use cse_parts::texts::{is_short_text, plain_text};
+use cse_image_parts::texts::{is_short_text, plain_text};
 use cse_sections::number::number_between;
 use cse_sections::sections::{after_mark, first_line};
 use cse_sections::text::is_utf8;

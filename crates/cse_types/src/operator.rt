@@ -2,16 +2,16 @@
 
 ghost use Rattle.std.specs.Prelude.{◌≡◌, ◌||◌, not, map, IfOk, OnOk};
 ghost use Rattle.std.specs.Option.{option_map};
-ghost use Rattle.cse_typed.specs.Typed as typed;
-ghost use Rattle.cse_typed.specs.Typed.{number, words, operations, operation_tree};
+ghost use Rattle.cse_logic_tree.specs.Typed as typed;
+ghost use Rattle.cse_logic_tree.specs.Typed.{number, words, operations, operation_tree};
 ghost use Rattle.cse_types.specs.Judge as spec;
 ghost use Rattle.cse_types.specs.Judge.{judged, is_sound, compared};
 ghost use Rattle.cse_types.specs.Walk.{is_there, joined, IsNoted};
 
 use crate::faults::Faults;
 use crate::judged::Judged;
+use cse_logic_tree::{Number, Operation, Words};
 use cse_syntax::Relation;
-use cse_typed::{Number, Operation, Words};
 use std::alloc::{AllocError, Global};
 
 pub fn minus<'a>(alloc: Global, x: Option<Number<'a>>) -> Result<Judged<'a>, AllocError>

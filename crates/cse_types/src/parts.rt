@@ -3,7 +3,7 @@
 ghost use Rattle.std.specs.Prelude.{◌≡◌, ◌&&◌, ◌||◌, not, false, true, [], map, length, Some, None, IfOk, OnOk};
 ghost use Rattle.std.specs.Option.{option_map};
 ghost use Rattle.cse_syntax.specs.Tree as syntax;
-ghost use Rattle.cse_typed.specs.Typed as typed;
+ghost use Rattle.cse_logic_tree.specs.Typed as typed;
 ghost use Rattle.cse_types.specs.Checked as spec;
 ghost use Rattle.cse_types.specs.Checked.{parts_judged, with_entries};
 ghost use Rattle.cse_types.specs.Entries.{are_said};
@@ -27,8 +27,8 @@ use crate::scope::Scope;
 use crate::table::{Table, table_of};
 use crate::told::Told;
 use cse_dict::Dictionary;
+use cse_logic_tree::{Declaration, Dimension, Owner, Procedure, Tree};
 use cse_syntax::{Procedure as ParsedProcedure, Tree as Parsed};
-use cse_typed::{Declaration, Dimension, Owner, Procedure, Tree};
 use std::alloc::{AllocError, Global};
 
 /// The declarations, if there are any, and the procedures.

@@ -2,8 +2,8 @@
 
 ghost use Rattle.std.specs.Prelude.{◌≡◌, map};
 ghost use Rattle.std.specs.Option.{option_map};
-ghost use Rattle.cse_typed.specs.Typed as typed;
-ghost use Rattle.cse_typed.specs.Typed.{number, numbers};
+ghost use Rattle.cse_logic_tree.specs.Typed as typed;
+ghost use Rattle.cse_logic_tree.specs.Typed.{number, numbers};
 ghost use Rattle.cse_types.specs.JudgeStatement as spec;
 ghost use Rattle.cse_types.specs.JudgeStatement.{placed};
 ghost use Rattle.cse_types.specs.Walk.{is_there, joined, IsNoted, IsNotedAfter};
@@ -11,7 +11,7 @@ ghost use Rattle.cse_types.specs.Walk.{is_there, joined, IsNoted, IsNotedAfter};
 use crate::faults::Faults;
 use crate::item::{field_at, sole};
 use crate::scope::Scope;
-use cse_typed::{Field, Found, Number, Which};
+use cse_logic_tree::{Field, Found, Number, Which};
 
 /// The occurrence that is found, or the fault 49.
 fn here<'a>(faults: &mut Faults, token: usize, found: Option<Found>) -> Option<Which<'a>>

@@ -4,7 +4,7 @@ ghost use Rattle.std.specs.Prelude.{◌≡◌, ◌≤◌, ◌++◌, ◌==◌, if
 ghost use Rattle.std.specs.Option.{option_map};
 ghost use Rattle.cse_syntax.specs.Tree as syntax;
 ghost use Rattle.cse_syntax.specs.Tree.{written};
-ghost use Rattle.cse_typed.specs.Typed as typed;
+ghost use Rattle.cse_logic_tree.specs.Typed as typed;
 ghost use Rattle.cse_types.specs.Scope as scopes;
 ghost use Rattle.cse_types.specs.WellTyped as well;
 ghost use Rattle.cse_types.specs.WellTyped.{body_messages, procedure_messages, procedure_scope};
@@ -20,8 +20,8 @@ use crate::scope::{Scope, in_dictionary, kind_and_owner};
 use crate::statement::block;
 use crate::told::Told;
 use cse_dict::Dictionary;
+use cse_logic_tree::{Body, Field, Owner, Procedure, Statement};
 use cse_syntax::{Body as ParsedBody, Lexeme, Procedure as Parsed, Statement as ParsedStatement};
-use cse_typed::{Body, Field, Owner, Procedure, Statement};
 use cse_value::shape::ItemKind;
 use std::alloc::{AllocError, Global};
 

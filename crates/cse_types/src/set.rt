@@ -3,8 +3,8 @@
 ghost use Rattle.std.specs.Prelude.{◌≡◌, ◌<◌, ◌≤◌, length, IfSome, map, nat_eq, position, slice_get, Some, None, IfOk, OnOk};
 ghost use Rattle.std.specs.Option.{option_map};
 ghost use Rattle.cse_syntax.specs.Tree.{written};
-ghost use Rattle.cse_typed.specs.Typed as typed;
-ghost use Rattle.cse_typed.specs.Typed.{number, dimension};
+ghost use Rattle.cse_logic_tree.specs.Typed as typed;
+ghost use Rattle.cse_logic_tree.specs.Typed.{number, dimension};
 ghost use Rattle.cse_types.specs.Scope.{meant};
 ghost use Rattle.cse_types.specs.WellTyped as well;
 ghost use Rattle.cse_types.specs.Judge as spec;
@@ -15,8 +15,8 @@ use crate::item::number_present;
 use crate::meaning::Meaning;
 use crate::scope::{Scope, has_case, kind_and_owner};
 use cse_dict::Dictionary;
+use cse_logic_tree::{Dimension, Number, Pick, Present};
 use cse_syntax::{Lexeme, Query};
-use cse_typed::{Dimension, Number, Pick, Present};
 use cse_value::shape::{ItemKind, SetShape};
 use std::alloc::{AllocError, Global};
 

@@ -4,8 +4,8 @@ ghost use Rattle.std.specs.Prelude.{◌≡◌, ◌+◌, [], ◌∷◌, ◌++◌,
 ghost use Rattle.std.specs.Option.{option_map};
 ghost use Rattle.cse_syntax.specs.Tree as syntax;
 ghost use Rattle.cse_syntax.specs.Tree.{written, stmt, arm_tree as parsed_arm, arms as parsed_arms, otherwise_tree as parsed_otherwise};
-ghost use Rattle.cse_typed.specs.Typed as typed;
-ghost use Rattle.cse_typed.specs.Typed.{number, statement, arm_tree, otherwise_tree, counting};
+ghost use Rattle.cse_logic_tree.specs.Typed as typed;
+ghost use Rattle.cse_logic_tree.specs.Typed.{number, statement, arm_tree, otherwise_tree, counting};
 ghost use Rattle.cse_types.specs.WellTyped.{messages_in, messages_of};
 ghost use Rattle.cse_types.specs.JudgeStatement as spec;
 ghost use Rattle.cse_types.specs.JudgeStatement.{judge_statement, judge_block, judge_arm, judge_each, messages_each, for_head, counting_judged, opened};
@@ -20,10 +20,10 @@ use crate::head::{counting, for_head};
 use crate::list::{both, keep};
 use crate::scope::Scope;
 use crate::told::Told;
+use cse_logic_tree::{Arm, Counting, Number, Statement, Variable};
 use cse_syntax::{
     Arm as ParsedArm, Counting as ParsedCounting, Expression, Lexeme, Message, Statement as Parsed,
 };
-use cse_typed::{Arm, Counting, Number, Statement, Variable};
 use std::alloc::{AllocError, Global};
 
 fn guarded<'a>(condition: Option<Number<'a>>, body: Option<Vec<Statement<'a>>>) -> Option<Arm<'a>>

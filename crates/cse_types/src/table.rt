@@ -13,8 +13,8 @@ use crate::fresh::is_new;
 use crate::meaning::Meaning;
 use crate::names::{Names, kept};
 use cse_dict::Dictionary;
+use cse_logic_tree::Variable;
 use cse_syntax::{Declaration, Lexeme};
-use cse_typed::Variable;
 use std::alloc::{AllocError, Global};
 
 /// The names that are declared, in upper case, whether each was new, and how many globals, arrays and functions there are.

@@ -1,12 +1,12 @@
 //! A source that was checked: its typed tree, and what it was made for.
 
-ghost use Rattle.cse_typed.specs.Typed as typed;
+ghost use Rattle.cse_logic_tree.specs.Typed as typed;
 ghost use Rattle.cse_types.specs.Checked.{IsChecked};
 
 use crate::messages::Messages;
 use crate::order::Order;
 use cse_dict::Dictionary;
-use cse_typed::Tree;
+use cse_logic_tree::Tree;
 
 /// A typed tree, and the dictionary, the messages and the order that it was made for. `check` alone makes one.
 pub struct Typed<'a> {

@@ -3,17 +3,17 @@ use Rattle.std.proofs.Common.{◌≡◌, ℕ, ◌<◌, Bool, true, false, cond, 
 use Rattle.std.specs.Prelude.{slice_get, option_map, IsTrue}
 use Rattle.std.proofs.lemmas.Bool.{and_parts, ltb-true}
 use Rattle.std.proofs.lemmas.Option.{slice_get-map, slice_get_within, same_Some}
-use Rattle.cse_parts.specs.declared.instruction.Op.{Op}
-use Rattle.cse_parts.specs.declared.instruction.Op.TheVariants as ops
-use Rattle.cse_parts.specs.declared.instruction.Instr.{Instr}
-use Rattle.cse_parts.specs.declared.entries.Ambient.{Ambient}
-use Rattle.cse_parts.specs.Image.{Lists, RoutineLists}
-use Rattle.cse_typing.specs.declared.control.Control.{Control}
-use Rattle.cse_typing.specs.declared.control.Control.TheVariants.{Branch, Call, Step}
-use Rattle.cse_typing.specs.Skeleton.{control_by, control, skeleton}
-use Rattle.cse_typing.specs.Order.{is_run}
-use Rattle.cse_typing.specs.Calls.{needs_case, calls_well, may_stand, AllMayStand, may_call}
-use Rattle.cse_bounds.specs.Bound.{CallsBelow}
+use Rattle.cse_image_parts.specs.declared.instruction.Op.{Op}
+use Rattle.cse_image_parts.specs.declared.instruction.Op.TheVariants as ops
+use Rattle.cse_image_parts.specs.declared.instruction.Instr.{Instr}
+use Rattle.cse_image_parts.specs.declared.entries.Ambient.{Ambient}
+use Rattle.cse_image_parts.specs.Image.{Lists, RoutineLists}
+use Rattle.cse_code_typing.specs.declared.control.Control.{Control}
+use Rattle.cse_code_typing.specs.declared.control.Control.TheVariants.{Branch, Call, Step}
+use Rattle.cse_code_typing.specs.Skeleton.{control_by, control, skeleton}
+use Rattle.cse_code_typing.specs.Order.{is_run}
+use Rattle.cse_code_typing.specs.Calls.{needs_case, calls_well, may_stand, AllMayStand, may_call}
+use Rattle.cse_code_bounds.specs.Bound.{CallsBelow}
 
 row_calls_none : (b : Bool) (c k : ℕ) → cond b (Branch c) Step ≡ Call k → ⊥
 row_calls_none true c k e = cc

@@ -6,22 +6,22 @@ use Rattle.std.proofs.lemmas.Bool.{cases_lt}
 use Rattle.std.proofs.lemmas.List.{length_push, get_or_append_left, get_or_push}
 use Rattle.std.proofs.lemmas.Option.{same_Some, slice_get_within, slice_get-map}
 use Rattle.cse_value.specs.Shape.{ShapeLists}
-use Rattle.cse_parts.specs.declared.instruction.Op.{Op}
-use Rattle.cse_parts.specs.declared.instruction.Op.TheVariants as ops
-use Rattle.cse_parts.specs.declared.instruction.Instr.{Instr}
-use Rattle.cse_parts.specs.Image.{Image, Lists, RoutineLists}
-use Rattle.cse_typing.specs.declared.kind.Kind.{Kind}
-use Rattle.cse_typing.specs.declared.depth.Depth.{Depth as Cells}
-use Rattle.cse_typing.specs.declared.control.Control.{Control}
-use Rattle.cse_typing.specs.declared.control.Control.TheVariants.{Call}
-use Rattle.cse_typing.specs.Code.{code_of}
-use Rattle.cse_typing.specs.Skeleton.{control_by, control, skeleton, skeleton_of}
-use Rattle.cse_typing.specs.Bracket.{around}
-use Rattle.cse_typing.specs.Rule.{rule}
-use Rattle.cse_typing.specs.Typing.{Stacks, IsTypingBelow}
-use Rattle.cse_typing.specs.Typed.{scene_of, IsTyped}
-use Rattle.cse_typing.specs.Depth.{no_depth, ◌⊕◌, greater, count_of, locals_depth, depth_at, or_none, call_depth, depth_by, place_depth, depth_below, AreDepths, greatest}
-use Rattle.cse_bounds.specs.Frames.{frames_in_call, most_frames, frames_below, frames_of, frames, greatest as greatest_number}
+use Rattle.cse_image_parts.specs.declared.instruction.Op.{Op}
+use Rattle.cse_image_parts.specs.declared.instruction.Op.TheVariants as ops
+use Rattle.cse_image_parts.specs.declared.instruction.Instr.{Instr}
+use Rattle.cse_image_parts.specs.Image.{Image, Lists, RoutineLists}
+use Rattle.cse_code_typing.specs.declared.kind.Kind.{Kind}
+use Rattle.cse_code_typing.specs.declared.depth.Depth.{Depth as Cells}
+use Rattle.cse_code_typing.specs.declared.control.Control.{Control}
+use Rattle.cse_code_typing.specs.declared.control.Control.TheVariants.{Call}
+use Rattle.cse_code_typing.specs.Code.{code_of}
+use Rattle.cse_code_typing.specs.Skeleton.{control_by, control, skeleton, skeleton_of}
+use Rattle.cse_code_typing.specs.Bracket.{around}
+use Rattle.cse_code_typing.specs.Rule.{rule}
+use Rattle.cse_code_typing.specs.Typing.{Stacks, IsTypingBelow}
+use Rattle.cse_code_typing.specs.Typed.{scene_of, IsTyped}
+use Rattle.cse_code_typing.specs.Depth.{no_depth, ◌⊕◌, greater, count_of, locals_depth, depth_at, or_none, call_depth, depth_by, place_depth, depth_below, AreDepths, greatest}
+use Rattle.cse_code_bounds.specs.Frames.{frames_in_call, most_frames, frames_below, frames_of, frames, greatest as greatest_number}
 use Rattle.cse_verify.proofs.CallLaws.{calls_below}
 use Rattle.cse_verify.specs.declared.depth.Depth.{Depth}
 use Rattle.cse_verify.specs.Depths.{IsDepthOf}

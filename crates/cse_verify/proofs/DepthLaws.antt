@@ -1,8 +1,8 @@
 -- The greatest of a table, taken from the front.
 use Rattle.std.proofs.Common.{◌≡◌, ℕ, List, drop}
 use Rattle.std.specs.Prelude.{max}
-use Rattle.cse_typing.specs.declared.depth.Depth.{Depth as Cells}
-use Rattle.cse_typing.specs.Depth.{greatest}
+use Rattle.cse_code_typing.specs.declared.depth.Depth.{Depth as Cells}
+use Rattle.cse_code_typing.specs.Depth.{greatest}
 
 -- the greatest so far, and what is to come, make the greatest of all
 pub record AreGreatest (xs : List Cells) (i nums texts ords : ℕ) : Type 0 where

@@ -4,20 +4,20 @@ use Rattle.std.specs.Prelude.{slice_get, false, ◌⊎◌}
 use Rattle.std.proofs.lemmas.Bool.{cases_lt, cases_order, false≢true}
 use Rattle.std.proofs.lemmas.Option.{same_Some, slice_get_within}
 use Rattle.cse_value.specs.Shape.{ShapeLists}
-use Rattle.cse_parts.specs.declared.instruction.Instr.{Instr}
-use Rattle.cse_parts.specs.Image.{Image, RoutineLists}
-use Rattle.cse_typing.specs.declared.control.Control.{Control}
-use Rattle.cse_typing.specs.declared.refusal.Refusal.{Refusal}
-use Rattle.cse_typing.specs.Code.{code_of}
-use Rattle.cse_typing.specs.Skeleton.{skeleton_of}
-use Rattle.cse_typing.specs.Bracket.{BreaksFirst}
-use Rattle.cse_typing.specs.Rule.{rule}
-use Rattle.cse_typing.specs.Typing.{HasTypingBelow, HasNoStackAt}
-use Rattle.cse_typing.specs.Calls.{may_stand, MayStandBelow}
-use Rattle.cse_typing.specs.Typed.{scene_of, IsTypedRoutine, AreTypedBelow, IsTyped, BreaksRules, MayNotStand, HasNoStack, IsNowhere, IsOfOtherShape, HasUnfitEvents}
-use Rattle.cse_typing.proofs.TypedLaws.{fewer_typed}
-use Rattle.cse_bounds.specs.Bound.{partial, bounds_below, bound, AreBoundedBelow, PassesLimit}
-use Rattle.cse_bounds.proofs.SumLaws.{partial_grows}
+use Rattle.cse_image_parts.specs.declared.instruction.Instr.{Instr}
+use Rattle.cse_image_parts.specs.Image.{Image, RoutineLists}
+use Rattle.cse_code_typing.specs.declared.control.Control.{Control}
+use Rattle.cse_code_typing.specs.declared.refusal.Refusal.{Refusal}
+use Rattle.cse_code_typing.specs.Code.{code_of}
+use Rattle.cse_code_typing.specs.Skeleton.{skeleton_of}
+use Rattle.cse_code_typing.specs.Bracket.{BreaksFirst}
+use Rattle.cse_code_typing.specs.Rule.{rule}
+use Rattle.cse_code_typing.specs.Typing.{HasTypingBelow, HasNoStackAt}
+use Rattle.cse_code_typing.specs.Calls.{may_stand, MayStandBelow}
+use Rattle.cse_code_typing.specs.Typed.{scene_of, IsTypedRoutine, AreTypedBelow, IsTyped, BreaksRules, MayNotStand, HasNoStack, IsNowhere, IsOfOtherShape, HasUnfitEvents}
+use Rattle.cse_code_typing.proofs.TypedLaws.{fewer_typed}
+use Rattle.cse_code_bounds.specs.Bound.{partial, bounds_below, bound, AreBoundedBelow, PassesLimit}
+use Rattle.cse_code_bounds.proofs.SumLaws.{partial_grows}
 use Rattle.cse_verify.specs.FirstFault.{IsUntypedRoutine, IsTooLongRoutine, AreUnfitEvents, IsTooLongCase, IsFirstFault, FirstReasonIsOne}
 
 refusal_eq : (e f : Refusal) → e.number ≡ f.number → e.routine ≡ f.routine → e.at ≡ f.at → e ≡ f

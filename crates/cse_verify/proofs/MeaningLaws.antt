@@ -5,27 +5,27 @@ use Rattle.std.specs.List.{sum_by}
 use Rattle.std.proofs.lemmas.List.{length-map}
 use Rattle.std.proofs.lemmas.List.Sums.{sum_by-cons}
 use Rattle.cse_value.specs.Shape.{ShapeLists}
-use Rattle.cse_parts.specs.declared.version.Version.TheVariants as versions
-use Rattle.cse_parts.specs.declared.entries.EventEntry.{EventEntry}
-use Rattle.cse_parts.specs.declared.instruction.Instr.{Instr}
-use Rattle.cse_parts.specs.Image.{Image, Lists, RoutineLists}
-use Rattle.cse_parts.specs.Upgrade.{greatest_limit, one_to, zero_below, upgrade_instr, with_limits, upgrade, as_it_stands}
+use Rattle.cse_image_parts.specs.declared.version.Version.TheVariants as versions
+use Rattle.cse_image_parts.specs.declared.entries.EventEntry.{EventEntry}
+use Rattle.cse_image_parts.specs.declared.instruction.Instr.{Instr}
+use Rattle.cse_image_parts.specs.Image.{Image, Lists, RoutineLists}
+use Rattle.cse_image_parts.specs.Upgrade.{greatest_limit, one_to, zero_below, upgrade_instr, with_limits, upgrade, as_it_stands}
 use Rattle.cse_image.specs.Spelling.{FitsIn}
-use Rattle.cse_typing.specs.declared.control.Control.{Control}
-use Rattle.cse_typing.specs.declared.depth.Depth.{Depth as Cells}
-use Rattle.cse_typing.specs.Code.{code_of}
-use Rattle.cse_typing.specs.Skeleton.{skeleton, skeleton_of}
-use Rattle.cse_typing.specs.Bracket.{KeepsRules}
-use Rattle.cse_typing.specs.Rule.{rule}
-use Rattle.cse_typing.specs.Typing.{Stacks, IsTypingBelow}
-use Rattle.cse_typing.specs.Calls.{AllMayStand}
-use Rattle.cse_typing.specs.Depth.{◌⊕◌, locals_depth, depth_below, AreDepths}
-use Rattle.cse_typing.specs.Typed.{scene_of, IsTypedRoutine, IsTyped}
-use Rattle.cse_typing.proofs.Twins.{AllTwins, twins_of_routine, code_mapped, same_skeleton, to_left, to_right, same_depth, stand_left, stand_right}
-use Rattle.cse_typing.proofs.Upgrades.{upgrade_twins}
-use Rattle.cse_bounds.specs.Bound.{partial, bounds_below, bound}
-use Rattle.cse_bounds.specs.EventBound.{times_in_case, case_bound}
-use Rattle.cse_bounds.specs.Frames.{most_frames, frames_below, frames, greatest as greatest_number}
+use Rattle.cse_code_typing.specs.declared.control.Control.{Control}
+use Rattle.cse_code_typing.specs.declared.depth.Depth.{Depth as Cells}
+use Rattle.cse_code_typing.specs.Code.{code_of}
+use Rattle.cse_code_typing.specs.Skeleton.{skeleton, skeleton_of}
+use Rattle.cse_code_typing.specs.Bracket.{KeepsRules}
+use Rattle.cse_code_typing.specs.Rule.{rule}
+use Rattle.cse_code_typing.specs.Typing.{Stacks, IsTypingBelow}
+use Rattle.cse_code_typing.specs.Calls.{AllMayStand}
+use Rattle.cse_code_typing.specs.Depth.{◌⊕◌, locals_depth, depth_below, AreDepths}
+use Rattle.cse_code_typing.specs.Typed.{scene_of, IsTypedRoutine, IsTyped}
+use Rattle.cse_code_typing.proofs.Twins.{AllTwins, twins_of_routine, code_mapped, same_skeleton, to_left, to_right, same_depth, stand_left, stand_right}
+use Rattle.cse_code_typing.proofs.Upgrades.{upgrade_twins}
+use Rattle.cse_code_bounds.specs.Bound.{partial, bounds_below, bound}
+use Rattle.cse_code_bounds.specs.EventBound.{times_in_case, case_bound}
+use Rattle.cse_code_bounds.specs.Frames.{most_frames, frames_below, frames, greatest as greatest_number}
 use Rattle.cse_verify.specs.declared.depth.Depth.{Depth}
 use Rattle.cse_verify.specs.Depths.{IsDepthOf}
 use Rattle.cse_verify.specs.Meaning.{MeansSame, UpgradeMeansSame}

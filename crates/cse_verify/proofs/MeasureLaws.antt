@@ -5,25 +5,25 @@ use Rattle.std.proofs.lemmas.Bool.{cases_lt}
 use Rattle.std.proofs.lemmas.List.{length_push, get_or_append_left, get_or_push, take-append-le, take_all}
 use Rattle.std.proofs.lemmas.Option.{slice_get_within, same_Some}
 use Rattle.cse_value.specs.Shape.{ShapeLists}
-use Rattle.cse_parts.specs.declared.instruction.Instr.{Instr}
-use Rattle.cse_parts.specs.Image.{Image, Lists, RoutineLists}
-use Rattle.cse_typing.specs.declared.control.Control.{Control}
-use Rattle.cse_typing.specs.declared.refusal.Refusal.{Refusal}
-use Rattle.cse_typing.specs.declared.depth.Depth.{Depth as Cells}
-use Rattle.cse_typing.specs.Depth.{IsDepth, AreDepths, KeepFew}
-use Rattle.cse_typing.specs.Code.{code_of}
-use Rattle.cse_typing.specs.Skeleton.{skeleton, skeleton_of}
-use Rattle.cse_typing.specs.Bracket.{KeepsRules}
-use Rattle.cse_typing.specs.Signature.{Scene}
-use Rattle.cse_typing.specs.Shapes.{shape_of}
-use Rattle.cse_typing.specs.Checked.{IsSound, FailsRules, FailsCalls, FailsTyping, Fails}
-use Rattle.cse_typing.specs.Typed.{scene_of, AreTypedBelow, IsTypedRoutine, IsOutOfMemory, BreaksRules, MayNotStand, HasNoStack}
-use Rattle.cse_typing.proofs.Few.{none_kept}
-use Rattle.cse_typing.proofs.TypedLaws.{routine_typed, typed_more}
-use Rattle.cse_bounds.specs.Limit.{step_limit}
-use Rattle.cse_bounds.specs.Bound.{partial, bounds_below, bound, AreBoundedBelow, PassesLimit, IsTooLong, CallsBelow}
-use Rattle.cse_bounds.specs.Frames.{most_frames, frames_below}
-use Rattle.cse_bounds.proofs.EventLaws.{length-bounds, table_small}
+use Rattle.cse_image_parts.specs.declared.instruction.Instr.{Instr}
+use Rattle.cse_image_parts.specs.Image.{Image, Lists, RoutineLists}
+use Rattle.cse_code_typing.specs.declared.control.Control.{Control}
+use Rattle.cse_code_typing.specs.declared.refusal.Refusal.{Refusal}
+use Rattle.cse_code_typing.specs.declared.depth.Depth.{Depth as Cells}
+use Rattle.cse_code_typing.specs.Depth.{IsDepth, AreDepths, KeepFew}
+use Rattle.cse_code_typing.specs.Code.{code_of}
+use Rattle.cse_code_typing.specs.Skeleton.{skeleton, skeleton_of}
+use Rattle.cse_code_typing.specs.Bracket.{KeepsRules}
+use Rattle.cse_code_typing.specs.Signature.{Scene}
+use Rattle.cse_code_typing.specs.Shapes.{shape_of}
+use Rattle.cse_code_typing.specs.Checked.{IsSound, FailsRules, FailsCalls, FailsTyping, Fails}
+use Rattle.cse_code_typing.specs.Typed.{scene_of, AreTypedBelow, IsTypedRoutine, IsOutOfMemory, BreaksRules, MayNotStand, HasNoStack}
+use Rattle.cse_code_typing.proofs.Few.{none_kept}
+use Rattle.cse_code_typing.proofs.TypedLaws.{routine_typed, typed_more}
+use Rattle.cse_code_bounds.specs.Limit.{step_limit}
+use Rattle.cse_code_bounds.specs.Bound.{partial, bounds_below, bound, AreBoundedBelow, PassesLimit, IsTooLong, CallsBelow}
+use Rattle.cse_code_bounds.specs.Frames.{most_frames, frames_below}
+use Rattle.cse_code_bounds.proofs.EventLaws.{length-bounds, table_small}
 use Rattle.cse_verify.proofs.CallLaws.{calls_below}
 use Rattle.cse_verify.specs.FirstFault.{IsUntypedRoutine, IsTooLongRoutine, IsFirstFault}
 use Rattle.cse_verify.specs.Measured.{AreMeasured, Exceeds}

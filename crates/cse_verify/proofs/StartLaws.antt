@@ -2,8 +2,8 @@
 use Rattle.std.proofs.Common.{◌≡◌, ℕ, ◌+◌, ◌<◌, ◌≤◌, List, [], ◌∷◌, ◌++◌, length, get_or, sym, ap, ◌∙◌, subst, ⊎_elim, arith}
 use Rattle.std.proofs.lemmas.Bool.{cases_lt}
 use Rattle.std.proofs.lemmas.List.{length_push, get_or_append_left, get_or_push}
-use Rattle.cse_parts.specs.Image.{RoutineLists}
-use Rattle.cse_typing.specs.Code.{start_of}
+use Rattle.cse_image_parts.specs.Image.{RoutineLists}
+use Rattle.cse_code_typing.specs.Code.{start_of}
 use Rattle.cse_verify.specs.Starts.{AreStarts}
 
 -- the starts of the first n routines

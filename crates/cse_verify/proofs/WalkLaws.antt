@@ -2,10 +2,10 @@
 use Rattle.std.proofs.Common.{◌≡◌, ℕ, zero, suc, ◌<◌, List, [], ◌∷◌, length, Some, refl, arith}
 use Rattle.std.specs.Prelude.{slice_get}
 use Rattle.cse_value.specs.Shape.{ShapeLists}
-use Rattle.cse_parts.specs.Image.{Image}
-use Rattle.cse_typing.specs.Code.{code_of}
-use Rattle.cse_typing.specs.Typed.{IsTyped}
-use Rattle.cse_bounds.specs.Calls.{AllKeepRules, AllCallSmaller}
+use Rattle.cse_image_parts.specs.Image.{Image}
+use Rattle.cse_code_typing.specs.Code.{code_of}
+use Rattle.cse_code_typing.specs.Typed.{IsTyped}
+use Rattle.cse_code_bounds.specs.Calls.{AllKeepRules, AllCallSmaller}
 use Rattle.cse_verify.proofs.CallLaws.{calls_below}
 
 there_or : {X : Type 0} (xs : List X) (r : ℕ) → r < length xs → (d : X) × (slice_get xs r ≡ Some d)

@@ -2,18 +2,18 @@
 use Rattle.std.specs.Prelude.{◌≡◌, ◌<◌, ◌≤◌, ℕ, ◌+◌, List, [], ◌∷◌, length, drop, Some, slice_get}
 use Rattle.std.specs.Option.{option_map_or}
 use Rattle.cse_value.specs.Shape.{ShapeLists}
-use Rattle.cse_parts.specs.declared.instruction.Op.TheVariants as ops
-use Rattle.cse_parts.specs.declared.instruction.Instr.{Instr}
-use Rattle.cse_parts.specs.Image.{Image, RoutineLists}
-use Rattle.cse_typing.specs.declared.kind.Kind.{Kind}
-use Rattle.cse_typing.specs.declared.depth.Depth.{Depth as Cells}
-use Rattle.cse_typing.specs.Code.{code_of}
-use Rattle.cse_typing.specs.Skeleton.{skeleton_of}
-use Rattle.cse_typing.specs.Bracket.{around}
-use Rattle.cse_typing.specs.Rule.{rule}
-use Rattle.cse_typing.specs.Typing.{Stacks, IsTypingBelow}
-use Rattle.cse_typing.specs.Typed.{scene_of}
-use Rattle.cse_typing.specs.Depth.{no_depth, ◌⊕◌, count_of, locals_depth, parameters_at}
+use Rattle.cse_image_parts.specs.declared.instruction.Op.TheVariants as ops
+use Rattle.cse_image_parts.specs.declared.instruction.Instr.{Instr}
+use Rattle.cse_image_parts.specs.Image.{Image, RoutineLists}
+use Rattle.cse_code_typing.specs.declared.kind.Kind.{Kind}
+use Rattle.cse_code_typing.specs.declared.depth.Depth.{Depth as Cells}
+use Rattle.cse_code_typing.specs.Code.{code_of}
+use Rattle.cse_code_typing.specs.Skeleton.{skeleton_of}
+use Rattle.cse_code_typing.specs.Bracket.{around}
+use Rattle.cse_code_typing.specs.Rule.{rule}
+use Rattle.cse_code_typing.specs.Typing.{Stacks, IsTypingBelow}
+use Rattle.cse_code_typing.specs.Typed.{scene_of}
+use Rattle.cse_code_typing.specs.Depth.{no_depth, ◌⊕◌, count_of, locals_depth, parameters_at}
 use Rattle.cse_verify.specs.declared.depth.Depth.{Depth}
 
 -- a call: its routine, the place where it stands, and the kinds of what lies on its stack, the topmost first

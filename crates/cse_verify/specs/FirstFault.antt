@@ -2,13 +2,13 @@
 -- routine 65, at the least place 69 or 66, and 67; then 69 for the order and the events; then 67 for a case.
 use Rattle.std.specs.Prelude.{◌≡◌, ℕ, ◌+◌, ◌<◌, length, ◌⊎◌}
 use Rattle.cse_value.specs.Shape.{ShapeLists}
-use Rattle.cse_parts.specs.Image.{Image}
-use Rattle.cse_typing.specs.declared.refusal.Refusal.{Refusal}
-use Rattle.cse_typing.specs.Shapes.{shape_of}
-use Rattle.cse_typing.specs.Typed.{AreTypedBelow, IsTyped, BreaksRules, MayNotStand, HasNoStack, IsNowhere, IsOfOtherShape, HasUnfitEvents}
-use Rattle.cse_bounds.specs.Limit.{step_limit}
-use Rattle.cse_bounds.specs.Bound.{AreBoundedBelow, IsTooLong}
-use Rattle.cse_bounds.specs.EventBound.{case_bound}
+use Rattle.cse_image_parts.specs.Image.{Image}
+use Rattle.cse_code_typing.specs.declared.refusal.Refusal.{Refusal}
+use Rattle.cse_code_typing.specs.Shapes.{shape_of}
+use Rattle.cse_code_typing.specs.Typed.{AreTypedBelow, IsTyped, BreaksRules, MayNotStand, HasNoStack, IsNowhere, IsOfOtherShape, HasUnfitEvents}
+use Rattle.cse_code_bounds.specs.Limit.{step_limit}
+use Rattle.cse_code_bounds.specs.Bound.{AreBoundedBelow, IsTooLong}
+use Rattle.cse_code_bounds.specs.EventBound.{case_bound}
 
 -- 65, 69 and 66 at a routine: those before it are typed, and bounded too
 pub record IsUntypedRoutine (s : ShapeLists) (x : Image) (e : Refusal) : Type 0 where

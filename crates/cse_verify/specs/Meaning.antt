@@ -1,17 +1,17 @@
 -- When two programs are one for the verifier, whatever the dictionary.
 use Rattle.std.specs.Prelude.{◌≡◌, ◌≤◌, ℕ, ◌↔◌}
 use Rattle.cse_value.specs.Shape.{ShapeLists}
-use Rattle.cse_parts.specs.declared.version.Version.TheVariants as versions
-use Rattle.cse_parts.specs.Image.{Image, RoutineLists}
-use Rattle.cse_parts.specs.Upgrade.{upgrade, as_it_stands}
+use Rattle.cse_image_parts.specs.declared.version.Version.TheVariants as versions
+use Rattle.cse_image_parts.specs.Image.{Image, RoutineLists}
+use Rattle.cse_image_parts.specs.Upgrade.{upgrade, as_it_stands}
 use Rattle.cse_image.specs.Spelling.{FitsIn}
-use Rattle.cse_typing.specs.Code.{code_of}
-use Rattle.cse_typing.specs.Skeleton.{skeleton_of}
-use Rattle.cse_typing.specs.Rule.{rule}
-use Rattle.cse_typing.specs.Typing.{Stacks, IsTypingBelow}
-use Rattle.cse_typing.specs.Typed.{scene_of, IsTyped}
-use Rattle.cse_bounds.specs.Bound.{bound}
-use Rattle.cse_bounds.specs.EventBound.{case_bound}
+use Rattle.cse_code_typing.specs.Code.{code_of}
+use Rattle.cse_code_typing.specs.Skeleton.{skeleton_of}
+use Rattle.cse_code_typing.specs.Rule.{rule}
+use Rattle.cse_code_typing.specs.Typing.{Stacks, IsTypingBelow}
+use Rattle.cse_code_typing.specs.Typed.{scene_of, IsTyped}
+use Rattle.cse_code_bounds.specs.Bound.{bound}
+use Rattle.cse_code_bounds.specs.EventBound.{case_bound}
 use Rattle.cse_verify.specs.declared.depth.Depth.{Depth}
 use Rattle.cse_verify.specs.Depths.{IsDepthOf}
 

@@ -1,14 +1,14 @@
 -- What the check of the routines finds beside their typing.
 use Rattle.std.specs.Prelude.{◌≡◌, ℕ, ◌*◌, ◌≤◌, List, length, EachIndex, slice_index}
 use Rattle.cse_value.specs.Shape.{ShapeLists}
-use Rattle.cse_parts.specs.Image.{Image}
-use Rattle.cse_typing.specs.declared.control.Control.{Control}
-use Rattle.cse_typing.specs.declared.refusal.Refusal.{Refusal}
-use Rattle.cse_typing.specs.declared.depth.Depth.{Depth as Cells}
-use Rattle.cse_typing.specs.Depth.{AreDepths, KeepFew, greatest}
-use Rattle.cse_typing.specs.Typed.{AreTypedBelow}
-use Rattle.cse_bounds.specs.Bound.{bounds_below, AreBoundedBelow, PassesLimit}
-use Rattle.cse_bounds.specs.Frames.{frames_below, greatest as greatest_number}
+use Rattle.cse_image_parts.specs.Image.{Image}
+use Rattle.cse_code_typing.specs.declared.control.Control.{Control}
+use Rattle.cse_code_typing.specs.declared.refusal.Refusal.{Refusal}
+use Rattle.cse_code_typing.specs.declared.depth.Depth.{Depth as Cells}
+use Rattle.cse_code_typing.specs.Depth.{AreDepths, KeepFew, greatest}
+use Rattle.cse_code_typing.specs.Typed.{AreTypedBelow}
+use Rattle.cse_code_bounds.specs.Bound.{bounds_below, AreBoundedBelow, PassesLimit}
+use Rattle.cse_code_bounds.specs.Frames.{frames_below, greatest as greatest_number}
 use Rattle.cse_verify.specs.declared.depth.Depth.{Depth}
 
 -- the routines below n are typed and bounded, and the tables are of their bounds, of their open

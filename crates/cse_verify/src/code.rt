@@ -1,7 +1,7 @@
 //! Where the code of a routine lies.
 
 ghost use Rattle.std.specs.Prelude.{◌≡◌, ◌<◌, length, IfOk};
-ghost use Rattle.cse_typing.specs.Code.{start_of};
+ghost use Rattle.cse_code_typing.specs.Code.{start_of};
 ghost use Rattle.cse_verify.specs.Starts.{AreStarts};
 
 use cse_image::{Code, Program};

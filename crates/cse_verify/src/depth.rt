@@ -1,10 +1,10 @@
 //! How much the calls of a run keep at most.
 
 ghost use Rattle.std.specs.Prelude.{◌≡◌};
-ghost use Rattle.cse_bounds.specs.Frames.{greatest as greatest_number};
+ghost use Rattle.cse_code_bounds.specs.Frames.{greatest as greatest_number};
 ghost use Rattle.cse_verify.specs.Measured.{IsGreatest};
 
-use cse_typing::Depth as Cells;
+use cse_code_typing::Depth as Cells;
 
 /// How much a run keeps at most at once, over all of its calls: numbers, texts, ordinals (indexes and
 /// occurrences), and open brackets.

@@ -1,11 +1,11 @@
 //! Whether the jumps and brackets of each routine keep their rules.
 
 ghost use Rattle.std.specs.Prelude.{OnOk, IfErr, ◌⊎◌};
-ghost use Rattle.cse_typing.specs.Rules.{AllKeepRules, FailsJumps};
-ghost use Rattle.cse_typing.specs.Typed.{IsOutOfMemory};
+ghost use Rattle.cse_code_typing.specs.Rules.{AllKeepRules, FailsJumps};
+ghost use Rattle.cse_code_typing.specs.Typed.{IsOutOfMemory};
 
+use cse_code_typing::{Refusal, check_jumps_and_brackets};
 use cse_image::{Code, Program};
-use cse_typing::{Refusal, check_jumps_and_brackets};
 use std::alloc::Global;
 
 /// Whether each routine keeps the rules of jumps and brackets (own). An opener and a later END that

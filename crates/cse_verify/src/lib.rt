@@ -1,7 +1,7 @@
 //! The verifier: whether a program may run.
 //!
 //! It is the public face of the verifier. What jumps, brackets and typings are is defined in
-//! `cse_typing`, and what bounds are in `cse_bounds`, on which it stands.
+//! `cse_code_typing`, and what bounds are in `cse_code_bounds`, on which it stands.
 //!
 //! - `verify`: whether a program may run with a dictionary; a `Verified` value tells how much it may take.
 //! - `check_jumps`: the rules of jumps and brackets alone.
@@ -9,7 +9,7 @@
 //! - `code_start`, `code_starts`: where the code of a routine lies.
 //! - `routine_of`: which routine an event runs.
 //!
-//! Its tests are those of cse_rows.
+//! Its tests are those of cse_test_checks.
 #![tactic(auto)]
 
 mod code;
@@ -22,8 +22,8 @@ mod verified;
 mod verifying;
 
 pub use code::{code_start, code_starts};
-pub use cse_bounds::STEP_LIMIT;
-pub use cse_typing::{NONE, Refusal, routine_of};
+pub use cse_code_bounds::STEP_LIMIT;
+pub use cse_code_typing::{NONE, Refusal, routine_of};
 pub use depth::Depth;
 pub use jumps::check_jumps;
 pub use laws::{first_reason_is_one, upgrade_means_the_same};

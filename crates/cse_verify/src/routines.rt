@@ -2,18 +2,18 @@
 
 ghost use Rattle.std.specs.Prelude.{◌≡◌, ℕ, ◌+◌, ◌*◌, ◌^◌, ◌<◌, ◌≤◌, [], ◌∷◌, ◌++◌, length, slice_index, EachIndex, IfOk, OnOk, IfErr, ◌⊎◌};
 ghost use Rattle.cse_value.specs.Shape.{shape_lists};
-ghost use Rattle.cse_typing.specs.Shapes.{shape_of};
-ghost use Rattle.cse_typing.specs.Bracket.{KeepsRules};
-ghost use Rattle.cse_typing.specs.Typed.{IsNowhere, IsOutOfMemory};
-ghost use Rattle.cse_bounds.specs.Bound.{partial, CallsBelow};
-ghost use Rattle.cse_bounds.specs.Limit.{step_limit};
-ghost use Rattle.cse_bounds.specs.Frames.{most_frames};
+ghost use Rattle.cse_code_typing.specs.Shapes.{shape_of};
+ghost use Rattle.cse_code_typing.specs.Bracket.{KeepsRules};
+ghost use Rattle.cse_code_typing.specs.Typed.{IsNowhere, IsOutOfMemory};
+ghost use Rattle.cse_code_bounds.specs.Bound.{partial, CallsBelow};
+ghost use Rattle.cse_code_bounds.specs.Limit.{step_limit};
+ghost use Rattle.cse_code_bounds.specs.Frames.{most_frames};
 ghost use Rattle.cse_verify.specs.FirstFault.{IsFirstFault};
 ghost use Rattle.cse_verify.specs.Measured.{AreMeasured, Exceeds};
 
-use cse_bounds::{bound_of, frames_of};
+use cse_code_bounds::{bound_of, frames_of};
+use cse_code_typing::{Depth as Cells, NONE, Refusal, RoutineCode, Surroundings, check_routine};
 use cse_image::{Code, Program};
-use cse_typing::{Depth as Cells, NONE, Refusal, RoutineCode, Surroundings, check_routine};
 use cse_value::shape::Shape;
 use std::alloc::{AllocError, Global};
 

@@ -3,7 +3,7 @@
 ghost use Rattle.std.specs.Prelude.{◌≡◌};
 ghost use Rattle.std.specs.Bool.{Decides};
 ghost use Rattle.cse_dict.specs.Dictionary.{shape_of as dictionary_shape};
-ghost use Rattle.cse_typing.specs.Shapes.{shape_of};
+ghost use Rattle.cse_code_typing.specs.Shapes.{shape_of};
 
 use cse_dict::Dictionary;
 use cse_image::{Code, Program};
@@ -13,5 +13,5 @@ use cse_image::{Code, Program};
 pub fn same_shape<C: Code>(dictionary: &Dictionary, program: &Program<C>) -> bool
     ensures { Decides result (dictionary_shape dictionary.now ≡ shape_of program.now) }
 {
-    cse_typing::same_shape(dictionary.shape(), program)
+    cse_code_typing::same_shape(dictionary.shape(), program)
 }

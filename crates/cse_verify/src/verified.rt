@@ -1,11 +1,11 @@
 //! A program that may run with a dictionary, and how much it may take.
 
 ghost use Rattle.std.specs.Prelude.{◌≡◌, ℕ, ◌<◌, ◌≤◌, List, length};
-ghost use Rattle.cse_bounds.specs.Bound.{bound};
-ghost use Rattle.cse_bounds.specs.Limit.{step_limit};
-ghost use Rattle.cse_bounds.specs.EventBound.{case_bound, run_bound};
-ghost use Rattle.cse_bounds.specs.Calls.{StepsKeepToBound, RestFalls, WalksGoOn, WalksStayInside, RestIsBound, OpensKeepToFrames};
-ghost use Rattle.cse_bounds.specs.CaseEvents.{Moment, case_events, events_bound, KeepsMost, KeepsTimes};
+ghost use Rattle.cse_code_bounds.specs.Bound.{bound};
+ghost use Rattle.cse_code_bounds.specs.Limit.{step_limit};
+ghost use Rattle.cse_code_bounds.specs.EventBound.{case_bound, run_bound};
+ghost use Rattle.cse_code_bounds.specs.Calls.{StepsKeepToBound, RestFalls, WalksGoOn, WalksStayInside, RestIsBound, OpensKeepToFrames};
+ghost use Rattle.cse_code_bounds.specs.CaseEvents.{Moment, case_events, events_bound, KeepsMost, KeepsTimes};
 ghost use Rattle.cse_dict.specs.Dictionary.{shape_of};
 ghost use Rattle.cse_verify.specs.Chain.{Calling, IsChain, KeepsToDepth};
 ghost use Rattle.cse_verify.specs.Depths.{IsDepthOf};
@@ -13,7 +13,7 @@ ghost use Rattle.cse_verify.specs.declared.depth.Depth.{Depth};
 ghost use Rattle.cse_verify.specs.Verified.{MayRun, IsKept};
 
 use crate::depth::Depth;
-use cse_bounds::{events_keep_to_bound, walks_keep_to_bound};
+use cse_code_bounds::{events_keep_to_bound, walks_keep_to_bound};
 use cse_dict::Dictionary;
 use cse_image::{Code, Owned, Program};
 use std::marker::Model;
@@ -136,7 +136,7 @@ impl<'a, C: Code> Verified<'a, C> {
     }
 
     /// A law: the steps that a call of a routine takes are at most `steps` tells, whatever its operands
-    /// decide. What each clause says stands at `walks_keep_to_bound` of `cse_bounds`.
+    /// decide. What each clause says stands at `walks_keep_to_bound` of `cse_code_bounds`.
     pub fn walks_keep_to_steps(&self)
         ensures steps { StepsKeepToBound self.now.image }
         ensures falls { RestFalls self.now.image }

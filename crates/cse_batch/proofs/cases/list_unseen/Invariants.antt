@@ -1,5 +1,5 @@
 use Rattle.std.proofs.Common.{◌≡◌, drop, map}
-use Rattle.cse_parts.specs.Image.{Image}
+use Rattle.cse_image_parts.specs.Image.{Image}
 use Rattle.cse_report.specs.AllReported.{all_reported}
 use Rattle.cse_report.specs.Listing.{LeavesUnseen}
 use Rattle.cse_report.specs.Reports.{ReportsFit}

@@ -1,5 +1,5 @@
 use Rattle.std.proofs.Common.{Some}
-use Rattle.cse_bounds.specs.CaseEvents.{records_events}
+use Rattle.cse_code_bounds.specs.CaseEvents.{records_events}
 use Rattle.cse_steps.specs.Fits.{occurrences_in}
 use Rattle.cse_batch.specs.Scene.{scene}
 use Rattle.cse_batch.proofs.SceneLaws.{records_same, scene_around}

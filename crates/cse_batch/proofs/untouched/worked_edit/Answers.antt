@@ -9,10 +9,10 @@ use Rattle.cse_lines.specs.Runs.{line_fault, given_of, fault_in}
 use Rattle.cse_lines.specs.Written.{written_line}
 use Rattle.cse_case.specs.Case.{places_of, place_of, with_number}
 use Rattle.cse_case.specs.Seen.{occurrence_places, unseen_of, is_case}
-use Rattle.cse_typing.specs.Bracket.{around, around_below}
-use Rattle.cse_typing.specs.Code.{code_of}
-use Rattle.cse_typing.specs.Skeleton.{control_by}
-use Rattle.cse_bounds.specs.Bound.{partial}
+use Rattle.cse_code_typing.specs.Bracket.{around, around_below}
+use Rattle.cse_code_typing.specs.Code.{code_of}
+use Rattle.cse_code_typing.specs.Skeleton.{control_by}
+use Rattle.cse_code_bounds.specs.Bound.{partial}
 use Rattle.cse_steps.specs.Run.{first}
 use Rattle.cse_steps.specs.Step.{acts}
 use Rattle.cse_batch.specs.Events.{final, edited}

@@ -1,9 +1,9 @@
 use Rattle.std.proofs.Common.{◌∙◌, ap, subst}
 use Rattle.cse_dict.specs.Dictionary.{DictionaryText, shape_of}
 use Rattle.cse_dict.specs.Sound.{IsSound as IsSoundDictionary}
-use Rattle.cse_typed.specs.Typed.{tree}
+use Rattle.cse_logic_tree.specs.Typed.{tree}
 use Rattle.cse_types.specs.Answer.{checked}
-use Rattle.cse_room.specs.Given.{ShapeFits}
+use Rattle.cse_law_sources_have_room.specs.Given.{ShapeFits}
 use Rattle.cse_build.proofs.Promises.{reasons_alone, no_room, within_limits, long_at_cost}
 use Rattle.cse_build.proofs.compiling.compile.Goals as goal
 

@@ -1,7 +1,7 @@
 use Rattle.std.proofs.Common.{◌∙◌, ap, arith, refl, length}
 use Rattle.std.proofs.lemmas.Result.{err_from_is_err_and}
-use Rattle.cse_parts.specs.Image.{Image}
-use Rattle.cse_typing.proofs.CodeLaws.{routines_are}
+use Rattle.cse_image_parts.specs.Image.{Image}
+use Rattle.cse_code_typing.proofs.CodeLaws.{routines_are}
 use Rattle.cse_commands.proofs.VerdictLaws.{no_lines, line_more, line_front}
 use Rattle.cse_commands.proofs.verdict.write_routines.Goals as goal
 

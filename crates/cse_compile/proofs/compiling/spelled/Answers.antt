@@ -1,5 +1,5 @@
 use Rattle.std.proofs.Common.{refl}
-use Rattle.cse_parts.specs.Image.{image_of}
+use Rattle.cse_image_parts.specs.Image.{image_of}
 use Rattle.cse_image.specs.Spelling.{spelling}
 use Rattle.cse_compile.proofs.compiling.spelled.Goals as goal
 

@@ -1,7 +1,7 @@
 use Rattle.std.proofs.Common.{◌∙◌, ap, List}
 use Rattle.std.specs.Prelude.{map}
-use Rattle.cse_parts.specs.declared.entries.Array.{Array}
-use Rattle.cse_parts.specs.Image.{Lists, array_lists}
+use Rattle.cse_image_parts.specs.declared.entries.Array.{Array}
+use Rattle.cse_image_parts.specs.Image.{Lists, array_lists}
 use Rattle.cse_decks.proofs.DeckTextLaws.{is_store, loaded_holds, says_store}
 use Rattle.cse_decks.proofs.FaultLaws.{tells_first_fault}
 use Rattle.cse_decks.proofs.loading.load.Goals as goal

@@ -1,6 +1,6 @@
 use Rattle.std.proofs.Common.{◌≡◌, ◌≤◌, ◌+◌, length}
 use Rattle.std.specs.Prelude.{map}
-use Rattle.cse_parts.specs.Image.{array_lists}
+use Rattle.cse_image_parts.specs.Image.{array_lists}
 use Rattle.cse_decks.specs.Loading.{read_text}
 use Rattle.cse_decks.proofs.loading.read_text.Given as goal
 

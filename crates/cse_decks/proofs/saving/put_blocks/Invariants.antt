@@ -1,6 +1,6 @@
 use Rattle.std.proofs.Common.{take}
 use Rattle.std.specs.Prelude.{map}
-use Rattle.cse_parts.specs.Image.{array_lists}
+use Rattle.cse_image_parts.specs.Image.{array_lists}
 use Rattle.cse_decks.specs.Deck.{blocks}
 use Rattle.cse_output.specs.Gathering.{going, Puts}
 use Rattle.cse_decks.proofs.saving.put_blocks.Given as goal

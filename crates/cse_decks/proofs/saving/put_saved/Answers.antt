@@ -1,6 +1,6 @@
 use Rattle.std.proofs.Common.{Bool, cond, [], ap, sym}
 use Rattle.std.specs.List.{flat_map}
-use Rattle.cse_parts.specs.Image.{array_lists}
+use Rattle.cse_image_parts.specs.Image.{array_lists}
 use Rattle.cse_output.specs.Gathering.{line}
 use Rattle.cse_decks.specs.Deck.{array_line, cell_line, block}
 use Rattle.cse_output.proofs.GatherLaws.{Puts-then, Puts-as}

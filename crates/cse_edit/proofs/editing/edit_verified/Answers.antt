@@ -1,6 +1,6 @@
 use Rattle.std.proofs.Common.{refl, subst}
 use Rattle.std.specs.Option.{option_copied}
-use Rattle.cse_parts.specs.Image.{Image}
+use Rattle.cse_image_parts.specs.Image.{Image}
 use Rattle.cse_decks.specs.Store.{StoreFits}
 use Rattle.cse_edit.specs.Edit.{IsNoStartOf, IsStartOf}
 use Rattle.cse_edit.proofs.Edits.{edits, no_start, stops}

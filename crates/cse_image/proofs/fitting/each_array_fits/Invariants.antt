@@ -1,7 +1,7 @@
 use Rattle.std.proofs.Common.{◌≡◌, ◌≤◌, [], take, map}
-use Rattle.cse_codec.specs.Reader.{AllAfter}
-use Rattle.cse_parts.specs.Image.{array_lists}
-use Rattle.cse_parts.specs.Fields.{cells_in}
+use Rattle.cse_image_codec.specs.Reader.{AllAfter}
+use Rattle.cse_image_parts.specs.Image.{array_lists}
+use Rattle.cse_image_parts.specs.Fields.{cells_in}
 use Rattle.cse_image.specs.Spelling.{ArrayFits}
 use Rattle.cse_image.proofs.fitting.each_array_fits.Given as goal
 

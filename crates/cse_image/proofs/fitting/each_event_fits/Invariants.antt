@@ -1,7 +1,7 @@
 use Rattle.std.proofs.Common.{[], take}
-use Rattle.cse_codec.specs.Reader.{AllAfter}
+use Rattle.cse_image_codec.specs.Reader.{AllAfter}
 use Rattle.cse_image.specs.Spelling.{EventFits}
-use Rattle.cse_parts.specs.Fields.{last_event}
+use Rattle.cse_image_parts.specs.Fields.{last_event}
 use Rattle.cse_image.proofs.fitting.each_event_fits.Given as goal
 
 abbrev pub invariant-loop-i : goal.invariant-loop-i

@@ -1,7 +1,7 @@
 use Rattle.std.proofs.Common.{[], take, map}
-use Rattle.cse_codec.specs.Reader.{AllAfter}
+use Rattle.cse_image_codec.specs.Reader.{AllAfter}
 use Rattle.cse_image.specs.Spelling.{MessageFits}
-use Rattle.cse_parts.specs.Image.{message_lists}
+use Rattle.cse_image_parts.specs.Image.{message_lists}
 use Rattle.cse_image.proofs.fitting.each_message_fits.Given as goal
 
 abbrev pub invariant-loop-message : goal.invariant-loop-message

@@ -1,10 +1,10 @@
 use Rattle.std.proofs.Common.{map, take}
-use Rattle.cse_parts.specs.declared.version.Version.TheVariants as versions
+use Rattle.cse_image_parts.specs.declared.version.Version.TheVariants as versions
 use Rattle.cse_image.specs.Spelling.{RoutineFits}
-use Rattle.cse_parts.specs.Image.{routine_lists}
-use Rattle.cse_parts.specs.Fields.{instructions_in}
+use Rattle.cse_image_parts.specs.Image.{routine_lists}
+use Rattle.cse_image_parts.specs.Fields.{instructions_in}
 use Rattle.cse_image.proofs.Totals.{sum_next, room_left}
-use Rattle.cse_codec.proofs.Places.{grow, refuse}
+use Rattle.cse_image_codec.proofs.Places.{grow, refuse}
 use Rattle.cse_image.proofs.fitting.each_routine_fits.Goals as goal
 
 pub returns-then-not-routine_fits : goal.returns-then-not-routine_fits

@@ -1,9 +1,9 @@
 use Rattle.std.proofs.Common.{◌≡◌, ◌≤◌, [], take, map}
-use Rattle.cse_codec.specs.Reader.{AllAfter}
-use Rattle.cse_parts.specs.declared.version.Version.TheVariants as versions
+use Rattle.cse_image_codec.specs.Reader.{AllAfter}
+use Rattle.cse_image_parts.specs.declared.version.Version.TheVariants as versions
 use Rattle.cse_image.specs.Spelling.{RoutineFits}
-use Rattle.cse_parts.specs.Image.{routine_lists}
-use Rattle.cse_parts.specs.Fields.{instructions_in}
+use Rattle.cse_image_parts.specs.Image.{routine_lists}
+use Rattle.cse_image_parts.specs.Fields.{instructions_in}
 use Rattle.cse_image.proofs.fitting.each_routine_fits.Given as goal
 
 abbrev pub invariant-loop-routine : goal.invariant-loop-routine

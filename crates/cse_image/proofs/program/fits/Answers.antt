@@ -1,5 +1,5 @@
-use Rattle.cse_parts.specs.declared.version.Version.TheVariants as versions
-use Rattle.cse_parts.specs.Image.{lists_of}
+use Rattle.cse_image_parts.specs.declared.version.Version.TheVariants as versions
+use Rattle.cse_image_parts.specs.Image.{lists_of}
 use Rattle.cse_image.proofs.Totals.{total_small}
 use Rattle.cse_image.proofs.program.fits.Goals as goal
 

@@ -1,6 +1,6 @@
 use Rattle.std.proofs.Common.{List, [], ◌∷◌, ◌++◌, ap, sym, ◌∙◌}
-use Rattle.cse_parts.specs.declared.instruction.Instr.{Instr}
-use Rattle.cse_codec.proofs.Places.{take_next}
+use Rattle.cse_image_parts.specs.declared.instruction.Instr.{Instr}
+use Rattle.cse_image_codec.proofs.Places.{take_next}
 use Rattle.cse_image.proofs.program.instructions_of.Goals as goal
 
 pub loop-i-preserved : goal.loop-i-preserved

@@ -1,7 +1,7 @@
 use Rattle.std.proofs.Common.{take}
 use Rattle.std.proofs.lemmas.List.{flat_map_more}
 use Rattle.cse_image.specs.Spelling.{instr}
-use Rattle.cse_codec.proofs.Places.{take_next}
+use Rattle.cse_image_codec.proofs.Places.{take_next}
 use Rattle.cse_image.proofs.program.put_code.Goals as goal
 
 pub loop-i-preserved : goal.loop-i-preserved

@@ -1,7 +1,7 @@
 use Rattle.std.proofs.Common.{◌≡◌, ◌-◌, ◌≤◌, [], map}
-use Rattle.cse_codec.specs.Reader.{many}
-use Rattle.cse_parts.specs.Image.{routine_lists}
-use Rattle.cse_parts.specs.Fields.{instructions_in}
+use Rattle.cse_image_codec.specs.Reader.{many}
+use Rattle.cse_image_parts.specs.Image.{routine_lists}
+use Rattle.cse_image_parts.specs.Fields.{instructions_in}
 use Rattle.cse_image.specs.Reading.{routine_at}
 use Rattle.cse_image.proofs.read_routines.routines_in.Given as goal
 

@@ -1,7 +1,7 @@
 use Rattle.std.proofs.Common.{arith}
-use Rattle.cse_parts.specs.Image.{array_lists}
+use Rattle.cse_image_parts.specs.Image.{array_lists}
 use Rattle.cse_image.specs.Spelling.{ArrayFits}
-use Rattle.cse_codec.proofs.Places.{at_place}
+use Rattle.cse_image_codec.proofs.Places.{at_place}
 use Rattle.cse_image.proofs.Sizes.{small_rank, name_size}
 use Rattle.cse_image.proofs.sections.put_arrays.Goals as goal
 

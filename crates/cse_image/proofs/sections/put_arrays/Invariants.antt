@@ -1,6 +1,6 @@
 use Rattle.std.proofs.Common.{◌≡◌, ◌++◌, take, map}
 use Rattle.std.specs.List.{flat_map}
-use Rattle.cse_parts.specs.Image.{array_lists}
+use Rattle.cse_image_parts.specs.Image.{array_lists}
 use Rattle.cse_image.specs.Spelling.{array}
 use Rattle.cse_image.proofs.sections.put_arrays.Given as goal
 

@@ -1,6 +1,6 @@
-use Rattle.cse_parts.specs.Image.{message_lists}
+use Rattle.cse_image_parts.specs.Image.{message_lists}
 use Rattle.cse_image.specs.Spelling.{MessageFits}
-use Rattle.cse_codec.proofs.Places.{at_place}
+use Rattle.cse_image_codec.proofs.Places.{at_place}
 use Rattle.cse_image.proofs.sections.put_messages.Goals as goal
 
 pub put_message-requires : goal.put_message-requires

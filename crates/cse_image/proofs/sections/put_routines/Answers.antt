@@ -1,8 +1,8 @@
-use Rattle.cse_parts.specs.Fields.{instructions_in}
-use Rattle.cse_parts.specs.Image.{routine_lists}
-use Rattle.cse_parts.specs.declared.version.Version.TheVariants as versions
+use Rattle.cse_image_parts.specs.Fields.{instructions_in}
+use Rattle.cse_image_parts.specs.Image.{routine_lists}
+use Rattle.cse_image_parts.specs.declared.version.Version.TheVariants as versions
 use Rattle.cse_image.specs.Spelling.{RoutineFits}
-use Rattle.cse_codec.proofs.Places.{at_place}
+use Rattle.cse_image_codec.proofs.Places.{at_place}
 use Rattle.cse_image.proofs.sections.put_routines.Goals as goal
 
 pub put_routine-requires : goal.put_routine-requires

@@ -1,6 +1,6 @@
 use Rattle.std.specs.String.{string_bytes}
 use Rattle.cse_image.specs.Spelling.{TextFits}
-use Rattle.cse_codec.proofs.Places.{at_place}
+use Rattle.cse_image_codec.proofs.Places.{at_place}
 use Rattle.cse_image.proofs.sections.put_texts.Goals as goal
 
 pub put_text-requires : goal.put_text-requires

@@ -1,7 +1,7 @@
 use Rattle.std.proofs.Common.{take, sym}
-use Rattle.cse_parts.specs.declared.version.Version.TheVariants as versions
-use Rattle.cse_parts.proofs.UpgradeLaws.{greatest_next}
-use Rattle.cse_codec.proofs.Places.{take_next}
+use Rattle.cse_image_parts.specs.declared.version.Version.TheVariants as versions
+use Rattle.cse_image_parts.proofs.UpgradeLaws.{greatest_next}
+use Rattle.cse_image_codec.proofs.Places.{take_next}
 use Rattle.cse_image.specs.View.{code_in}
 use Rattle.cse_image.proofs.view.greatest_in.Goals as goal
 

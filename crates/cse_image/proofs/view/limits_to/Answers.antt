@@ -1,5 +1,5 @@
 use Rattle.std.proofs.Common.{ℕ, ◌+◌, List, [], ◌∷◌, ◌++◌, ap, sym, ◌∙◌, add-one}
-use Rattle.cse_parts.proofs.UpgradeLaws.{one_to_next}
+use Rattle.cse_image_parts.proofs.UpgradeLaws.{one_to_next}
 use Rattle.cse_image.proofs.view.limits_to.Goals as goal
 
 pub loop-i-preserved : goal.loop-i-preserved

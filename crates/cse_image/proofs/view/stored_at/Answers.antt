@@ -1,5 +1,5 @@
 use Rattle.std.proofs.Common.{◌∙◌, ◌*◌, arith, ap, Some, drop, List, ℕ}
-use Rattle.cse_parts.specs.declared.instruction.Instr.{Instr}
+use Rattle.cse_image_parts.specs.declared.instruction.Instr.{Instr}
 use Rattle.cse_image.specs.Reading.{instr_at}
 use Rattle.cse_image.specs.View.{code_in}
 use Rattle.cse_image.proofs.Views.{code_len, code_at, read_same, read_unless}

@@ -1,5 +1,5 @@
 use Rattle.std.proofs.Common.{arith}
-use Rattle.cse_parts.specs.Image.{image_with}
+use Rattle.cse_image_parts.specs.Image.{image_with}
 use Rattle.cse_image.proofs.Upgrades.{standing_fits}
 use Rattle.cse_image.proofs.Whole.{reading_found, reading_only, stopped_only}
 use Rattle.cse_image.proofs.view.view_image.Goals as goal

@@ -1,6 +1,6 @@
 use Rattle.std.proofs.Common.{◌≡◌, length}
 use Rattle.std.specs.Prelude.{map, ◌↔◌}
-use Rattle.cse_parts.specs.Pieces.{kinds_left}
+use Rattle.cse_image_parts.specs.Pieces.{kinds_left}
 use Rattle.cse_report.specs.MessageText.{HasArguments, kind_of}
 use Rattle.cse_report.proofs.argument.takes.Given as goal
 

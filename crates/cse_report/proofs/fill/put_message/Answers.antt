@@ -1,5 +1,5 @@
 use Rattle.std.proofs.Common.{List, sym, subst}
-use Rattle.cse_parts.specs.declared.placeholders.Piece.{Piece}
+use Rattle.cse_image_parts.specs.declared.placeholders.Piece.{Piece}
 use Rattle.cse_report.specs.Filling.{ArePlaced}
 use Rattle.cse_report.proofs.Utf8Laws.{message_utf8}
 use Rattle.cse_report.proofs.fill.put_message.Goals as goal

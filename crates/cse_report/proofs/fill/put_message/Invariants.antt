@@ -1,6 +1,6 @@
 use Rattle.std.proofs.Common.{◌≡◌, ◌++◌, length}
-use Rattle.cse_parts.specs.Pieces.{pieces_left}
-use Rattle.cse_parts.specs.Placeholders.{pieces_of}
+use Rattle.cse_image_parts.specs.Pieces.{pieces_left}
+use Rattle.cse_image_parts.specs.Placeholders.{pieces_of}
 use Rattle.cse_report.specs.MessageText.{text_of_pieces}
 use Rattle.cse_report.specs.Filling.{ArePlaced}
 use Rattle.cse_report.proofs.fill.put_message.Given as goal

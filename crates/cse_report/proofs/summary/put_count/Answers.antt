@@ -1,6 +1,6 @@
 use Rattle.std.proofs.Common.{◌≡◌, List, ℕ, ◌++◌, ap, ◌∙◌}
 use Rattle.std.specs.Prelude.{codes}
-use Rattle.cse_parts.specs.Image.{message_lists}
+use Rattle.cse_image_parts.specs.Image.{message_lists}
 use Rattle.cse_output.specs.Gathering.{line}
 use Rattle.cse_output.proofs.GatherLaws.{Puts-then, Puts-as}
 use Rattle.cse_report.specs.Listing.{number_word, count_line}

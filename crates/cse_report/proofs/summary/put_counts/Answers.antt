@@ -1,6 +1,6 @@
 use Rattle.std.proofs.Common.{◌<◌, length, take, get_or, subst, sym}
 use Rattle.std.specs.Prelude.{map}
-use Rattle.cse_parts.specs.Image.{message_lists}
+use Rattle.cse_image_parts.specs.Image.{message_lists}
 use Rattle.cse_output.proofs.GatherLaws.{Puts-then, Puts-as}
 use Rattle.cse_report.specs.Listing.{count_line, count_lines}
 use Rattle.cse_report.proofs.PutLaws.{counts-next}

@@ -1,6 +1,6 @@
 use Rattle.std.proofs.Common.{List, ℕ, ◌++◌}
 use Rattle.std.specs.Prelude.{codes, map}
-use Rattle.cse_parts.specs.Image.{message_lists}
+use Rattle.cse_image_parts.specs.Image.{message_lists}
 use Rattle.cse_output.specs.Gathering.{line}
 use Rattle.cse_output.proofs.GatherLaws.{Puts-then}
 use Rattle.cse_report.specs.Listing.{number_line, count_lines, summary}

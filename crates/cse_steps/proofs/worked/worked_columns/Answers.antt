@@ -5,13 +5,13 @@ use Rattle.cse_value.specs.declared.shape.ItemShape.{ItemShape}
 use Rattle.cse_value.specs.declared.shape.ItemKind.TheVariants as kinds
 use Rattle.cse_value.specs.declared.number.Num.TheVariants.{NotAppl}
 use Rattle.cse_value.specs.Field.{put}
-use Rattle.cse_parts.specs.declared.instruction.Instr.{Instr}
-use Rattle.cse_parts.specs.declared.instruction.Op.TheVariants as ops
+use Rattle.cse_image_parts.specs.declared.instruction.Instr.{Instr}
+use Rattle.cse_image_parts.specs.declared.instruction.Op.TheVariants as ops
 use Rattle.cse_dict.specs.Dictionary.{shape_of}
 use Rattle.cse_case.specs.Case.{CaseText, place_of, places_of, with_number}
 use Rattle.cse_case.specs.Field.{HasColumn}
 use Rattle.cse_case.specs.Seen.{occurrence_places}
-use Rattle.cse_typing.specs.Code.{code_of}
+use Rattle.cse_code_typing.specs.Code.{code_of}
 use Rattle.cse_steps.specs.Cell.{Cell, Number, Occurrence}
 use Rattle.cse_steps.specs.State.{Call, State}
 use Rattle.cse_steps.specs.Step.{acts}

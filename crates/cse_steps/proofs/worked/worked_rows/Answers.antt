@@ -1,7 +1,7 @@
 use Rattle.std.proofs.Common.{refl}
 use Rattle.cse_case.specs.Case.{places_of}
 use Rattle.cse_case.specs.Seen.{occurrence_places}
-use Rattle.cse_typing.specs.Code.{code_of}
+use Rattle.cse_code_typing.specs.Code.{code_of}
 use Rattle.cse_steps.specs.Operands.{combined, popped}
 use Rattle.cse_steps.specs.Step.{acts}
 use Rattle.cse_steps.specs.Run.{first, run}

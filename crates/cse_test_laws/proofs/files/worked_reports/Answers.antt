@@ -1,9 +1,9 @@
 use Rattle.std.proofs.Common.{◌≡◌, List, length, ap, refl, arith}
-use Rattle.cse_parts.specs.declared.placeholders.ArgumentKind.{ArgumentKind}
+use Rattle.cse_image_parts.specs.declared.placeholders.ArgumentKind.{ArgumentKind}
 use Rattle.std.specs.Fmt.{digits}
 use Rattle.std.specs.Str.{chars, is_utf8}
 use lib.Utf8.{encode}
-use Rattle.cse_parts.specs.Placeholders.{pieces_after}
+use Rattle.cse_image_parts.specs.Placeholders.{pieces_after}
 use Rattle.cse_report.specs.MessageText.{words_text, message_text}
 use Rattle.cse_report.specs.Listing.{case_heading, summary}
 use Rattle.cse_report.specs.Frequency.{item_lines, frequencies_text}

@@ -1,12 +1,12 @@
 use Rattle.std.proofs.Common.{refl}
 use Rattle.std.specs.Str.{chars, is_utf8}
 use lib.Utf8.{encode}
-use Rattle.cse_codec.specs.Reader.{then_at, done, some_bytes, number, signed, checked, decoded, many, counted, whole}
-use Rattle.cse_codec.specs.Spelling.{section}
-use Rattle.cse_parts.specs.Placeholders.{pieces_after}
-use Rattle.cse_parts.specs.Opcodes.{shape, op_of}
-use Rattle.cse_parts.specs.Texts.{is_text, is_short, is_name, is_new}
-use Rattle.cse_parts.specs.Upgrade.{greatest_limit, one_to, zero_below}
+use Rattle.cse_image_codec.specs.Reader.{then_at, done, some_bytes, number, signed, checked, decoded, many, counted, whole}
+use Rattle.cse_image_codec.specs.Spelling.{section}
+use Rattle.cse_image_parts.specs.Placeholders.{pieces_after}
+use Rattle.cse_image_parts.specs.Opcodes.{shape, op_of}
+use Rattle.cse_image_parts.specs.Texts.{is_text, is_short, is_name, is_new}
+use Rattle.cse_image_parts.specs.Upgrade.{greatest_limit, one_to, zero_below}
 use Rattle.cse_image.specs.Reading.{zero_at, flag_at, header_at, record_at, item_at, set_at, limit_at, limits_at, characters_at, text_at, global_at, dimension_at, name_at, array_at, message_at, local_at, routine_at, event_at, instr_at, lists_at, edition_at, whole_edition, reading}
 use Rattle.cse_test_laws.proofs.images.worked_images.Goals as goal
 

@@ -1,8 +1,8 @@
 use Rattle.std.proofs.Common.{refl}
 use Rattle.std.specs.Str.{chars, is_utf8}
 use lib.Utf8.{encode}
-use Rattle.cse_parts.specs.Opcodes.{op_of, shape}
-use Rattle.cse_parts.specs.Texts.{is_text, is_name}
+use Rattle.cse_image_parts.specs.Opcodes.{op_of, shape}
+use Rattle.cse_image_parts.specs.Texts.{is_text, is_name}
 use Rattle.cse_test_laws.proofs.parts.worked_parts.Goals as goal
 
 pub returns : goal.returns

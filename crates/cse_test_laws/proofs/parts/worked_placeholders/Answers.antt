@@ -1,5 +1,5 @@
 use Rattle.std.proofs.Common.{refl}
-use Rattle.cse_parts.specs.Placeholders.{pieces_after}
+use Rattle.cse_image_parts.specs.Placeholders.{pieces_after}
 use Rattle.cse_test_laws.proofs.parts.worked_placeholders.Goals as goal
 
 pub returns : goal.returns

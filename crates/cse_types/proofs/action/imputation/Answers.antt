@@ -1,8 +1,8 @@
 use Rattle.std.proofs.Common.{◌∙◌, map}
 use Rattle.std.specs.Global.{Vec}
 use Rattle.cse_syntax.specs.Tree.{written, expr, exprs}
-use Rattle.cse_typed.specs.declared.tree.Number as rust
-use Rattle.cse_typed.specs.Typed.{number, numbers}
+use Rattle.cse_logic_tree.specs.declared.tree.Number as rust
+use Rattle.cse_logic_tree.specs.Typed.{number, numbers}
 use Rattle.cse_types.specs.Scope.{meant}
 use Rattle.cse_types.proofs.Actions.{values_count, imputed_value, imputed_noted}
 use Rattle.cse_types.proofs.action.imputation.Goals as goal

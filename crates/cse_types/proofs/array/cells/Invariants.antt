@@ -3,7 +3,7 @@ use Rattle.std.specs.Prelude.{◌||◌, not}
 use Rattle.cse_syntax.specs.declared.tree.Literal.{Literal}
 use Rattle.cse_types.specs.JudgeStatement.{whole_judged}
 use Rattle.cse_syntax.specs.Tree as syntax
-use Rattle.cse_typed.specs.Typed as typed
+use Rattle.cse_logic_tree.specs.Typed as typed
 use Rattle.cse_types.specs.JudgeTree as spec
 use Rattle.cse_types.specs.Walk.{is_there, walk, so_far}
 use Rattle.cse_types.proofs.array.cells.Given as goal

@@ -1,7 +1,7 @@
 use Rattle.std.proofs.Common.{ap, ◌∙◌, sym, subst, ◌≤◌, length, List}
 use Rattle.std.specs.Prelude.{◌||◌, not}
-use Rattle.cse_typed.specs.declared.tree.Dimension.{Dimension}
-use Rattle.cse_typed.specs.Typed.{dimension}
+use Rattle.cse_logic_tree.specs.declared.tree.Dimension.{Dimension}
+use Rattle.cse_logic_tree.specs.Typed.{dimension}
 use Rattle.cse_types.specs.Judge.{dimension_pick}
 use Rattle.cse_types.specs.Walk.{is_there}
 use Rattle.cse_types.proofs.Walks.{at_end, walk_made}

@@ -1,6 +1,6 @@
 use Rattle.std.proofs.Common.{◌≡◌, drop}
 use Rattle.std.specs.Prelude.{◌||◌, not}
-use Rattle.cse_typed.specs.Typed.{dimension}
+use Rattle.cse_logic_tree.specs.Typed.{dimension}
 use Rattle.cse_types.specs.Judge.{dimension_pick}
 use Rattle.cse_types.specs.Walk.{is_there, walk, so_far}
 use Rattle.cse_types.proofs.deck.all_picks.Given as goal

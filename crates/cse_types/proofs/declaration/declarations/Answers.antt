@@ -2,7 +2,7 @@ use Rattle.std.proofs.Common.{◌≡◌, ap, ◌∙◌, sym, subst, ◌<◌, ◌
 use Rattle.std.specs.Prelude.{◌||◌, not}
 use Rattle.cse_syntax.specs.declared.tree.Declaration.{Declaration}
 use Rattle.cse_syntax.specs.Tree as syntax
-use Rattle.cse_typed.specs.Typed as typed
+use Rattle.cse_logic_tree.specs.Typed as typed
 use Rattle.cse_types.specs.WellTyped.{declared_messages}
 use Rattle.cse_types.specs.JudgeTree as spec
 use Rattle.cse_types.specs.Told.{told_of}

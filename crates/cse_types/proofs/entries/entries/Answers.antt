@@ -1,5 +1,5 @@
 use Rattle.std.proofs.Common.{◌≡◌, ◌+◌, ◌++◌, ◌∷◌, [], drop, ap, ◌∙◌, sym, subst, ◌≤◌, length, map, List, true}
-use Rattle.cse_typed.specs.Typed as typed
+use Rattle.cse_logic_tree.specs.Typed as typed
 use Rattle.cse_types.specs.declared.told.Told.{Told}
 use Rattle.cse_types.specs.Entries.{are_said}
 use Rattle.cse_types.specs.Told.{told_of}

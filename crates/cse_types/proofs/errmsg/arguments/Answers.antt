@@ -1,7 +1,7 @@
 use Rattle.std.proofs.Common.{◌≡◌, ap, ◌∙◌, sym, subst, map, drop, ◌+◌, ◌<◌, ◌≤◌, length, get_or, List}
 use Rattle.std.specs.Prelude.{◌||◌, not}
 use Rattle.cse_syntax.specs.declared.tree.Expression.{Expression}
-use Rattle.cse_typed.specs.Typed.{argument}
+use Rattle.cse_logic_tree.specs.Typed.{argument}
 use Rattle.cse_types.specs.Walk.{is_there}
 use Rattle.cse_types.proofs.Walks.{step_noted_made}
 use Rattle.cse_types.proofs.Arguments.{arguments_step, arguments_end}

@@ -1,6 +1,6 @@
 use Rattle.std.proofs.Common.{ap, ◌∙◌, length}
 use Rattle.std.specs.Prelude.{◌==◌}
-use Rattle.cse_parts.specs.Placeholders.{message_kinds}
+use Rattle.cse_image_parts.specs.Placeholders.{message_kinds}
 use Rattle.cse_types.proofs.Actions.{values_count}
 use Rattle.cse_types.proofs.errmsg.has_values.Goals as goal
 

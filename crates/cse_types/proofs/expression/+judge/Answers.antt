@@ -5,8 +5,8 @@ use Rattle.cse_syntax.specs.declared.tree.Expression.{Expression}
 use Rattle.cse_syntax.specs.declared.tree.Operation.{Operation}
 use Rattle.cse_syntax.specs.Tree as syntax
 use Rattle.cse_syntax.specs.Tree.{expr}
-use Rattle.cse_typed.specs.Typed as typed
-use Rattle.cse_typed.specs.Typed.{Number, number}
+use Rattle.cse_logic_tree.specs.Typed as typed
+use Rattle.cse_logic_tree.specs.Typed.{Number, number}
 use Rattle.cse_types.specs.Judge.{AsNumber, judged, compared, judge, as_number, judge_operation, judge_operations}
 use Rattle.cse_types.specs.Walk.{is_there, walk, so_far, joined}
 use Rattle.cse_types.proofs.Walks.{step_made, step_noted_made, at_end, there_map, is_none, none_left, after_made_part, step_left}

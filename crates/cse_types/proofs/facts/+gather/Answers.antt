@@ -1,8 +1,8 @@
 use Rattle.std.proofs.Common.{◌≡◌, ◌∙◌, ap, sym, ◌<◌, ◌≤◌, length, get_or, map, refl, subst, List, ◌++◌}
-use Rattle.cse_typed.specs.declared.tree.Number.{Number}
-use Rattle.cse_typed.specs.declared.tree.Operation.{Operation}
-use Rattle.cse_typed.specs.Typed as typed
-use Rattle.cse_typed.proofs.Rows.{cell_is, call_is, chain_is}
+use Rattle.cse_logic_tree.specs.declared.tree.Number.{Number}
+use Rattle.cse_logic_tree.specs.declared.tree.Operation.{Operation}
+use Rattle.cse_logic_tree.specs.Typed as typed
+use Rattle.cse_logic_tree.proofs.Rows.{cell_is, call_is, chain_is}
 use Rattle.cse_types.specs.Uses as spec
 use Rattle.cse_types.specs.Gather.{gather}
 use Rattle.cse_types.proofs.Gathering.{gather_both, gather_call, gather_turn, gather_end}

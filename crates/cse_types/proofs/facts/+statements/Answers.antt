@@ -1,9 +1,9 @@
 use Rattle.std.proofs.Common.{◌≡◌, ◌∙◌, ap, sym, ◌<◌, ◌≤◌, length, get_or, map, refl, subst, List, ◌++◌, append_assoc, Option}
 use Rattle.std.specs.Global.{Vec}
-use Rattle.cse_typed.specs.declared.tree.Statement.{Statement}
-use Rattle.cse_typed.specs.declared.tree.Arm.{Arm}
-use Rattle.cse_typed.specs.Typed as typed
-use Rattle.cse_typed.proofs.Rows.{if_is, for_is, do_is}
+use Rattle.cse_logic_tree.specs.declared.tree.Statement.{Statement}
+use Rattle.cse_logic_tree.specs.declared.tree.Arm.{Arm}
+use Rattle.cse_logic_tree.specs.Typed as typed
+use Rattle.cse_logic_tree.proofs.Rows.{if_is, for_is, do_is}
 use Rattle.cse_types.specs.Uses as spec
 use Rattle.cse_types.specs.Gather.{gather}
 use Rattle.cse_types.proofs.Gathering.{gather_both, gather_turn, gather_end, gather_last, gather_if, gather_for, gather_do}

@@ -1,6 +1,6 @@
 use Rattle.std.proofs.Common.{◌≡◌, ◌<◌, ◌≤◌, length, get_or, map, refl, subst, List}
-use Rattle.cse_typed.specs.declared.tree.Argument.{Argument}
-use Rattle.cse_typed.specs.Typed as typed
+use Rattle.cse_logic_tree.specs.declared.tree.Argument.{Argument}
+use Rattle.cse_logic_tree.specs.Typed as typed
 use Rattle.cse_types.specs.Uses as spec
 use Rattle.cse_types.proofs.Gathering.{gather_turn, gather_end}
 use Rattle.cse_types.proofs.facts.arguments.Goals as goal

@@ -1,5 +1,5 @@
 use Rattle.std.proofs.Common.{◌≡◌, map, drop}
-use Rattle.cse_typed.specs.Typed as typed
+use Rattle.cse_logic_tree.specs.Typed as typed
 use Rattle.cse_types.specs.Uses as spec
 use Rattle.cse_types.specs.Gather.{gather}
 use Rattle.cse_types.proofs.facts.arguments.Given as goal

@@ -2,8 +2,8 @@ use Rattle.std.proofs.Common.{◌≡◌, ap, ◌∙◌, sym, subst, ◌++◌, �
 use Rattle.std.specs.Prelude.{◌||◌, not, option_map, IfOk, OnOk}
 use Rattle.cse_syntax.specs.Tree as syntax
 use Rattle.cse_syntax.specs.Tree.{written}
-use Rattle.cse_typed.specs.Typed as typed
-use Rattle.cse_typed.specs.Typed.{Statements}
+use Rattle.cse_logic_tree.specs.Typed as typed
+use Rattle.cse_logic_tree.specs.Typed.{Statements}
 use Rattle.cse_types.specs.declared.fresh.Fresh.{Fresh}
 use Rattle.cse_types.specs.Scope.{Scope, Facts}
 use Rattle.cse_types.specs.Uses.{facts_of}

@@ -1,6 +1,6 @@
 use Rattle.std.proofs.Common.{◌∙◌, ap, sym, arith}
 use Rattle.std.specs.Prelude.{◌||◌, not}
-use Rattle.cse_typed.specs.Typed.{number}
+use Rattle.cse_logic_tree.specs.Typed.{number}
 use Rattle.cse_types.specs.Walk.{is_there}
 use Rattle.cse_types.proofs.Walks.{sole_else, or_true}
 use Rattle.cse_types.proofs.item.only_one.Goals as goal

@@ -1,7 +1,7 @@
 use Rattle.std.proofs.Common.{◌≡◌, ◌∙◌, ap, sym, map, length, Option, ℕ, ◌+◌}
 use Rattle.std.specs.Prelude.{◌||◌, not, option_map}
 use Rattle.cse_syntax.specs.Tree as syntax
-use Rattle.cse_typed.specs.Typed as typed
+use Rattle.cse_logic_tree.specs.Typed as typed
 use Rattle.cse_types.specs.Scope.{Scope}
 use Rattle.cse_types.specs.WellTyped.{messages_of}
 use Rattle.cse_types.specs.JudgeStatement.{judge_block}

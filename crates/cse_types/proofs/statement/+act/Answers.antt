@@ -5,7 +5,7 @@ use Rattle.cse_syntax.specs.declared.tree.Arm as rustarm
 use Rattle.cse_syntax.specs.Tree as syntax
 use Rattle.cse_syntax.specs.Tree.{written, stmt, arm_tree as parsed_arm}
 use Rattle.cse_syntax.proofs.Rows.{if_is, for_is, do_is}
-use Rattle.cse_typed.specs.Typed.{statement, statements, arm_tree, counting, Do, else_of}
+use Rattle.cse_logic_tree.specs.Typed.{statement, statements, arm_tree, counting, Do, else_of}
 use Rattle.cse_types.specs.WellTyped.{messages_in, messages_of}
 use Rattle.cse_types.specs.Judge.{as_number, judge}
 use Rattle.cse_types.specs.JudgeStatement.{judge_statement, judge_block, messages_each, for_of, guarded, opened}

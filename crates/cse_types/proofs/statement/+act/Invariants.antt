@@ -1,6 +1,6 @@
 use Rattle.std.proofs.Common.{◌≡◌, length, map, drop}
 use Rattle.std.specs.Prelude.{◌++◌, ◌||◌, not}
-use Rattle.cse_typed.specs.Typed.{statement, arm_tree}
+use Rattle.cse_logic_tree.specs.Typed.{statement, arm_tree}
 use Rattle.cse_types.specs.Told.{told_of}
 use Rattle.cse_types.specs.Walk.{is_there, so_far}
 use Rattle.cse_types.proofs.Counted.{walk_from, gathered}

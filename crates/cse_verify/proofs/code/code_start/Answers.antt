@@ -1,8 +1,8 @@
 use Rattle.std.proofs.Common.{◌+◌, ◌<◌, ◌^◌, ap, ◌∙◌, arith, rules, length, List}
-use Rattle.cse_parts.specs.declared.instruction.Instr.{Instr}
-use Rattle.cse_parts.specs.Image.{routine_lists}
-use Rattle.cse_typing.specs.Code.{start_of}
-use Rattle.cse_typing.proofs.CodeLaws.{routine_at, lies_within, start_next, routines_are}
+use Rattle.cse_image_parts.specs.declared.instruction.Instr.{Instr}
+use Rattle.cse_image_parts.specs.Image.{routine_lists}
+use Rattle.cse_code_typing.specs.Code.{start_of}
+use Rattle.cse_code_typing.proofs.CodeLaws.{routine_at, lies_within, start_next, routines_are}
 use Rattle.cse_verify.proofs.code.code_start.Goals as goal
 
 pub returns-then-count-routine : goal.returns-then-count-routine

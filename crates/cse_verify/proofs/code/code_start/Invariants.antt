@@ -1,5 +1,5 @@
 use Rattle.std.proofs.Common.{◌≡◌, ◌≤◌}
-use Rattle.cse_typing.specs.Code.{start_of}
+use Rattle.cse_code_typing.specs.Code.{start_of}
 use Rattle.cse_verify.proofs.code.code_start.Given as goal
 
 -- the routines before, and how many they are

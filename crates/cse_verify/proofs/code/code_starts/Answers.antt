@@ -1,7 +1,7 @@
 use Rattle.std.proofs.Common.{◌+◌, ◌<◌, ◌^◌, ap, ◌∙◌, refl, arith, rules, length, List}
-use Rattle.cse_parts.specs.declared.instruction.Instr.{Instr}
-use Rattle.cse_parts.specs.Image.{routine_lists}
-use Rattle.cse_typing.proofs.CodeLaws.{routine_at, lies_within, start_next, routines_are}
+use Rattle.cse_image_parts.specs.declared.instruction.Instr.{Instr}
+use Rattle.cse_image_parts.specs.Image.{routine_lists}
+use Rattle.cse_code_typing.proofs.CodeLaws.{routine_at, lies_within, start_next, routines_are}
 use Rattle.cse_verify.proofs.StartLaws.{starts_none, starts_more, starts_all}
 use Rattle.cse_verify.proofs.code.code_starts.Goals as goal
 

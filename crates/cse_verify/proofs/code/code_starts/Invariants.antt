@@ -1,5 +1,5 @@
 use Rattle.std.proofs.Common.{◌≡◌}
-use Rattle.cse_typing.specs.Code.{start_of}
+use Rattle.cse_code_typing.specs.Code.{start_of}
 use Rattle.cse_verify.proofs.StartLaws.{AreStartsBelow}
 use Rattle.cse_verify.proofs.code.code_starts.Given as goal
 

@@ -1,14 +1,14 @@
 use Rattle.std.proofs.Common.{◌≡◌, ◌+◌, ◌*◌, ◌<◌, ◌^◌, List, length, refl, sym, ap, ◌∙◌, subst, arith, rules}
 use Rattle.cse_value.specs.Shape.{shape_lists}
-use Rattle.cse_parts.specs.declared.instruction.Instr.{Instr}
-use Rattle.cse_parts.specs.Image.{Lists, lists_of, routine_lists}
-use Rattle.cse_typing.specs.Code.{part}
-use Rattle.cse_typing.proofs.CodeLaws.{routine_at, lies_within, part_is, start_next, routines_are}
-use Rattle.cse_typing.specs.declared.depth.Depth.{Depth as Cells}
-use Rattle.cse_typing.specs.Depth.{IsAtMost, KeepFew, most_kept}
-use Rattle.cse_typing.proofs.Few.{few_more}
-use Rattle.cse_typing.proofs.Fitting.{routine_small}
-use Rattle.cse_typing.proofs.TypedLaws.{routine_typed, handed_on}
+use Rattle.cse_image_parts.specs.declared.instruction.Instr.{Instr}
+use Rattle.cse_image_parts.specs.Image.{Lists, lists_of, routine_lists}
+use Rattle.cse_code_typing.specs.Code.{part}
+use Rattle.cse_code_typing.proofs.CodeLaws.{routine_at, lies_within, part_is, start_next, routines_are}
+use Rattle.cse_code_typing.specs.declared.depth.Depth.{Depth as Cells}
+use Rattle.cse_code_typing.specs.Depth.{IsAtMost, KeepFew, most_kept}
+use Rattle.cse_code_typing.proofs.Few.{few_more}
+use Rattle.cse_code_typing.proofs.Fitting.{routine_small}
+use Rattle.cse_code_typing.proofs.TypedLaws.{routine_typed, handed_on}
 use Rattle.cse_verify.proofs.MeasureLaws.{measured_start, measured_more, depths_more, one_more, bounds_length, frames_length, untyped_here, too_long_here, keeps_here, calls_here, bounds_small, skeleton_here, all_measured}
 use Rattle.cse_verify.proofs.routines.check_routines.Goals as goal
 

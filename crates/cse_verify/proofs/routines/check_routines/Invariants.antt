@@ -1,6 +1,6 @@
 use Rattle.std.proofs.Common.{◌≡◌}
 use Rattle.cse_value.specs.Shape.{shape_lists}
-use Rattle.cse_typing.specs.Code.{start_of}
+use Rattle.cse_code_typing.specs.Code.{start_of}
 use Rattle.cse_verify.specs.Measured.{AreMeasured}
 use Rattle.cse_verify.proofs.routines.check_routines.Given as goal
 

@@ -1,9 +1,9 @@
 use Rattle.std.proofs.Common.{subst}
 use Rattle.std.specs.Prelude.{◌⊎◌}
 use Rattle.cse_value.specs.Shape.{ShapeLists}
-use Rattle.cse_typing.specs.Typed.{IsOutOfMemory}
+use Rattle.cse_code_typing.specs.Typed.{IsOutOfMemory}
 use Rattle.cse_verify.specs.FirstFault.{IsFirstFault}
-use Rattle.cse_typing.proofs.TypedLaws.{handed_on}
+use Rattle.cse_code_typing.proofs.TypedLaws.{handed_on}
 use Rattle.cse_verify.proofs.VerifiedLaws.{or_never, kept_of}
 use Rattle.cse_verify.proofs.verifying.verify.Goals as goal
 

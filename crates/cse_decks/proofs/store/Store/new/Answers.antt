@@ -1,9 +1,9 @@
 use Rattle.std.proofs.Common.{◌≡◌, ◌≤◌, [], List, length, ap, sym, subst, rules}
 use Rattle.std.specs.Prelude.{map}
 use Rattle.std.specs.List.{AllByRecursion}
-use Rattle.cse_codec.specs.Reader.{AllAfter}
-use Rattle.cse_parts.specs.declared.entries.Array.{Array}
-use Rattle.cse_parts.specs.Image.{Lists, ArrayLists, array_lists}
+use Rattle.cse_image_codec.specs.Reader.{AllAfter}
+use Rattle.cse_image_parts.specs.declared.entries.Array.{Array}
+use Rattle.cse_image_parts.specs.Image.{Lists, ArrayLists, array_lists}
 use Rattle.cse_image.specs.Spelling.{ArrayFits}
 use Rattle.cse_decks.specs.Store.{first_kept}
 use Rattle.cse_decks.proofs.StoreLaws.{arrays_small, first_arrays_hold, first_fits}

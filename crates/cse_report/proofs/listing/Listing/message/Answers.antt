@@ -3,8 +3,8 @@ use Rattle.std.specs.Prelude.{map, slice_get}
 use Rattle.std.specs.String.{string_bytes}
 use Rattle.std.proofs.lemmas.Bool.{false≢true}
 use Rattle.std.proofs.lemmas.List.{length-map, length-set}
-use Rattle.cse_parts.specs.declared.entries.Message.{Message}
-use Rattle.cse_parts.specs.Image.{message_lists}
+use Rattle.cse_image_parts.specs.declared.entries.Message.{Message}
+use Rattle.cse_image_parts.specs.Image.{message_lists}
 use Rattle.cse_report.specs.contracts.listing.Listing.{the_view}
 use Rattle.cse_report.specs.declared.listing.Listing.TheInside.{Inside}
 use Rattle.cse_report.specs.Heading.{waiting}

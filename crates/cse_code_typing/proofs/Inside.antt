@@ -1,0 +1,112 @@
+-- The innermost bracket around a place, from that around the place before it.
+use Rattle.std.proofs.Common.{◌≡◌, ℕ, zero, suc, ◌+◌, ◌<◌, ◌≤◌, List, [], ◌∷◌, ◌++◌, length, Option, Some, None, refl, sym, ap, ◌∙◌, subst, ⊎_elim, arith}
+use Rattle.std.specs.Prelude.{slice_get}
+use Rattle.std.proofs.lemmas.Bool.{cases_lt, cases_eq}
+use Rattle.std.proofs.lemmas.List.{length-append}
+use Rattle.cse_code_typing.specs.declared.control.Control.{Control}
+use Rattle.cse_code_typing.specs.Bracket.{IsBracket, IsAround, around, innermost}
+use Rattle.cse_code_typing.specs.Innermost.{innermost_below, Reaches, reach}
+use Rattle.cse_code_typing.proofs.Around.{first_least, innermost_around, is_around_from}
+
+module _ (code : List Control) where
+  -- a bracket around a place begins no later than the innermost one
+  pub reached : (p s : ℕ) → IsAround code s p → Reaches (innermost code p) s
+  unfolding around
+  reached p s a =
+      let r = first_least code p p s (is_around_from code s p a) a.2 in
+      subst (λ o. Reaches o s) (sym r.1) r.2
+
+  pub innermost_before : (p t : ℕ) → innermost code p ≡ Some t → t < p
+  innermost_before p t h = (innermost_around code p t h).2
+
+  -- the one around a place that reaches every other is the innermost
+  pub innermost_is : (p t : ℕ) → IsAround code t p → ((s : ℕ) → IsAround code s p → s ≤ t) → innermost code p ≡ Some t
+  unfolding around
+  innermost_is p t a all =
+      let r = first_least code p p t (is_around_from code t p a) a.2 in
+      let le = all r.0 (innermost_around code p r.0 r.1) in
+      let ge = r.2 in
+      let same : r.0 ≡ t = omega arith in
+      r.1 ∙ ap Some same
+
+  none_by : (p : ℕ) (o : Option ℕ) → innermost code p ≡ o → ((s : ℕ) → IsAround code s p → ⊥) → innermost code p ≡ None
+  none_by p None h never = h
+  none_by p (Some t) h never = absurd (never t (innermost_around code p t h))
+
+  pub innermost_none : (p : ℕ) → ((s : ℕ) → IsAround code s p → ⊥) → innermost code p ≡ None
+  innermost_none p never = none_by p (innermost code p) refl never
+
+  -- a bracket that begins is the innermost one around the next place
+  pub begun : (p e : ℕ) → IsBracket code p e → innermost code (suc p) ≡ Some p
+  begun p e b = innermost_is (suc p) p (e, b, omega arith, (let lt = b.0 in omega arith)) (λ s a. let lt = a.2 in omega arith)
+
+  -- where none begins, what is around the next place was around this one
+  pub went_on : (p s : ℕ) → ((e : ℕ) → IsBracket code p e → ⊥) → IsAround code s (suc p) → IsAround code s p
+  went_on p s never (e, b, lt, le) =
+      ⊎_elim
+      (λ (same : s ≡ p). absurd (never e (subst (λ n. IsBracket code n e) same b)))
+      (λ (ne : s ≡ p → ⊥). (e, b, omega arith, omega arith))
+      (cases_eq s p)
+
+  -- one opener further out
+  pub outward : (t q s : ℕ) → (IsAround code t q → ⊥) → IsAround code s q → s ≤ t → t < q → Reaches (innermost code t) s
+  outward t q s never a le before =
+      ⊎_elim
+      (λ (same : s ≡ t). absurd (never (subst (λ n. IsAround code n q) same a)))
+      (λ (ne : s ≡ t → ⊥). let f = a.3 in reached t s (a.0, a.1, omega arith, omega arith))
+      (cases_eq s t)
+
+  -- ---- the table
+
+  pub length-innermost_below : (n : ℕ) → length (innermost_below code n) ≡ n
+  unfolding innermost_below
+  length-innermost_below zero = refl
+  length-innermost_below (suc n) =
+      let ih = length-innermost_below n in
+      let l = length-append (innermost_below code n) (innermost code n ∷ []) in
+      omega arith
+
+  at_front : {X : Type 0} (xs : List X) (y : X) (k : ℕ) → k < length xs → slice_get (xs ++ y ∷ []) k ≡ slice_get xs k
+  at_front [] y k lt = absurd (omega arith)
+  at_front (x ∷ xs) y zero lt = refl
+  at_front (x ∷ xs) y (suc k) lt = at_front xs y k (omega arith)
+
+  at_end : {X : Type 0} (xs : List X) (y : X) (k : ℕ) → k ≡ length xs → slice_get (xs ++ y ∷ []) k ≡ Some y
+  at_end [] y zero is = refl
+  at_end [] y (suc k) is = absurd (omega arith)
+  at_end (x ∷ xs) y zero is = absurd (omega arith)
+  at_end (x ∷ xs) y (suc k) is = at_end xs y k (omega arith)
+
+  pub innermost_at : (n p : ℕ) → p < n → slice_get (innermost_below code n) p ≡ Some (innermost code p)
+  unfolding innermost_below
+  innermost_at zero p lt = absurd (omega arith)
+  innermost_at (suc n) p lt =
+      let size = length-innermost_below n in
+      ⊎_elim
+      (λ (l : p < n). at_front (innermost_below code n) (innermost code n) p (omega arith) ∙ innermost_at n p l)
+      (λ (l : n ≤ p).
+      let same : n ≡ p = omega arith in
+      at_end (innermost_below code n) (innermost code n) p (omega arith) ∙ ap (λ k. Some (innermost code k)) same)
+      (cases_lt p n)
+
+  pub innermost_start : innermost code 0 ≡ None
+  innermost_start = innermost_none 0 (λ s a. let lt = a.2 in omega arith)
+
+  pub table_more : (n : ℕ) (table more : List (Option ℕ)) (inner : Option ℕ) → table ≡ innermost_below code n → inner ≡ innermost code n → more ≡ table ++ inner ∷ [] → more ≡ innermost_below code (suc n)
+  unfolding innermost_below
+  table_more n table more inner is here grown = grown ∙ ap (λ l. l ++ inner ∷ []) is ∙ ap (λ o. innermost_below code n ++ o ∷ []) here
+
+  pub table_none : [] ≡ innermost_below code 0
+  unfolding innermost_below
+  table_none = refl
+
+  shorter_by : (t : ℕ) (o : Option ℕ) → innermost code t ≡ o → reach o < t + 1
+  shorter_by t None h = omega arith
+  shorter_by t (Some u) h = let lt = innermost_before t u h in omega arith
+
+  pub shorter : (t : ℕ) (opener next : Option ℕ) → opener ≡ Some t → next ≡ innermost code t → reach next < reach opener
+  shorter t opener next is told = subst (λ o. reach next < reach o) (sym is) (shorter_by t next (sym told))
+
+pub none_left : (opener : Option ℕ) (s : ℕ) → ((t : ℕ) → opener ≡ Some t → ⊥) → Reaches opener s → ⊥
+none_left None s never r = r
+none_left (Some t) s never r = never t refl

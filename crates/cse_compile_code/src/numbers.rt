@@ -1,0 +1,281 @@
+//! The code of expressions: the place goes in, and the place behind comes out.
+
+ghost use Rattle.std.specs.Prelude.{◌≡◌, ◌+◌, ◌≤◌, [], ◌∷◌, ◌++◌, map, OnOk, IfOk};
+ghost use Rattle.cse_image_parts.specs.declared.instruction.Op.TheVariants as ops;
+ghost use Rattle.cse_logic_tree.specs.Typed.{number, words, numbers, operations, operation_tree};
+ghost use Rattle.cse_compile_code.specs.Wide.{wide, with_a, with_c, jump, pops, undefined};
+ghost use Rattle.cse_compile_code.specs.Setting.{setting};
+ghost use Rattle.cse_compile_code.specs.Numbers as spec;
+
+use crate::emitter::Emitter;
+use crate::items::{UNDEFINED, operation_of, relation_number, special_number};
+use crate::setting::Setting;
+use crate::sizes::{behind, indexes_size};
+use crate::wide::Wide;
+use cse_image_parts::instruction::Op;
+use cse_logic_tree::{Number, Operation, Words};
+use std::alloc::AllocError;
+
+impl<'a> Emitter<'a> {
+    /// The cell that the indexes lead to, or `default` behind them.
+    fn cell(
+        &mut self,
+        place: usize,
+        array: usize,
+        subscripts: &Vec<Number>,
+    ) -> Result<usize, AllocError>
+        requires room { place + (spec.behind (numbers (map number subscripts.now.items)) + 3) ≤ 1000000 }
+        ensures code { OnOk result (self.new ≡ self.old ++ (with_c ops.LoadCell array ∷ jump (place + (spec.behind (numbers (map number subscripts.now.items)) + 3)) ∷ (pops (spec.behind (numbers (map number subscripts.now.items))) ++ undefined ∷ []))) }
+        ensures behind { IfOk result (λ n. n ≡ place + (spec.behind (numbers (map number subscripts.now.items)) + 3)) }
+    {
+        let count = behind(subscripts);
+        self.with_c(Op::LoadCell, array)?;
+        self.with_c(Op::Jump, place + (count + 3))?;
+        self.pops(count)?;
+        self.put(UNDEFINED)?;
+        Ok(place + (count + 3))
+    }
+
+    #[cycle(emit)]
+    #[tactic(auto, unfolding(crate::specs::Numbers::number_size, crate::specs::Numbers::number_code))]
+    pub fn number(&mut self, s: &Setting, place: usize, x: &Number<'a>) -> Result<usize, AllocError>
+        requires room { place + spec.number_size (number x.now) ≤ 1000000 }
+        ensures code { OnOk result (self.new ≡ self.old ++ spec.number_code (setting s.now) place (number x.now)) }
+        ensures behind { IfOk result (λ n. n ≡ place + spec.number_size (number x.now)) }
+    {
+        match x {
+            Number::Literal(_, value) => self.one(place, Wide::Constant(*value)),
+            Number::Special(_, value) => {
+                let special = special_number(*value);
+                self.one(place, Wide::Plain(Op::Special, special, 0, 0))
+            }
+            Number::Variable(_, variable) => self.number_of_variable(s, place, *variable),
+            Number::Item(_, item) => self.number_of_item(place, *item),
+            Number::ItemAt(_, field, subscript) => {
+                let taken = Wide::Plain(Op::ItemNumber, 0, 0, field.item as usize);
+                self.subscripted(s, place, subscript, taken, UNDEFINED, field.owner)
+            }
+            Number::Cell(_, array, subscripts) => {
+                self.number_of_cell(s, place, *array, subscripts)
+            }
+            Number::Call(_, function, arguments) => {
+                self.number_of_call(s, place, *function, arguments)
+            }
+            Number::Group(inner) | Number::Int(inner) => self.number(s, place, inner),
+            Number::IsSpecial(inner) => self.applied(s, place, inner, Op::IsSpecial, 0),
+            Number::Deck(_, array, picks) => self.number_of_deck(place, *array, picks),
+            Number::TotOcc(_, of) => self.one(place, Wide::Plain(Op::TotalOccurrences, *of, 0, 0)),
+            Number::MaxOcc(_, of) => {
+                let most = s.most_occurrences(*of);
+                self.one(place, Wide::Constant(most as i64))
+            }
+            Number::CurOcc(_, of, found) => {
+                let taken = Wide::Plain(Op::OccurrenceNumber, *of, 0, 0);
+                self.here(place, taken, UNDEFINED, *of, *found)
+            }
+            Number::InSet(_, item, _, set) => self.in_set(place, *item, *set),
+            Number::Minus(operand) => self.applied(s, place, operand, Op::Negate, 0),
+            Number::Not(operand) => self.applied(s, place, operand, Op::Not, 0),
+            Number::Compare(x, relation, y) => {
+                let second = self.number(s, place, x)?;
+                self.applied(s, second, y, Op::Compare, relation_number(*relation))
+            }
+            Number::CompareTexts(x, relation, y) => {
+                let second = self.words(s, place, x)?;
+                self.applied_to_words(s, second, y, Op::CompareText, relation_number(*relation))
+            }
+            Number::Chain(first, others) => {
+                let at = self.number(s, place, first)?;
+                let last = self.operations(s, at, others)?;
+                Ok(last)
+            }
+        }
+    }
+
+    #[cycle(emit)]
+    #[tactic(auto, unfolding(crate::specs::Numbers::words_size, crate::specs::Numbers::words_code))]
+    pub fn words(&mut self, s: &Setting, place: usize, x: &Words<'a>) -> Result<usize, AllocError>
+        requires room { place + spec.words_size (words x.now) ≤ 1000000 }
+        ensures code { OnOk result (self.new ≡ self.old ++ spec.words_code (setting s.now) place (words x.now)) }
+        ensures behind { IfOk result (λ n. n ≡ place + spec.words_size (words x.now)) }
+    {
+        match x {
+            Words::Literal(text) => self.one(place, Wide::Quoted(text.text)),
+            Words::Global(_, variable) => {
+                self.one(place, Wide::Plain(Op::LoadGlobal, 0, 0, *variable))
+            }
+            Words::Item(_, item) => self.text_of_item(place, *item),
+            Words::ItemAt(_, field, subscript) => {
+                let taken = Wide::Plain(Op::ItemText, 0, 0, field.item as usize);
+                self.subscripted(s, place, subscript, taken, Wide::Blank, field.owner)
+            }
+            Words::Group(inner) => self.words(s, place, inner),
+        }
+    }
+
+    /// A number, and an instruction that makes another of it.
+    #[cycle(emit)]
+    fn applied(
+        &mut self,
+        s: &Setting,
+        place: usize,
+        x: &Number<'a>,
+        op: Op,
+        a: u8,
+    ) -> Result<usize, AllocError>
+        requires room { place + (spec.number_size (number x.now) + 1) ≤ 1000000 }
+        ensures code { OnOk result (self.new ≡ self.old ++ (spec.number_code (setting s.now) place (number x.now) ++ with_a op a ∷ [])) }
+        ensures behind { IfOk result (λ n. n ≡ place + (spec.number_size (number x.now) + 1)) }
+    {
+        let at = self.number(s, place, x)?;
+        self.with_a(op, a)?;
+        Ok(at + 1)
+    }
+
+    /// A text, and an instruction that makes a number of it.
+    #[cycle(emit)]
+    fn applied_to_words(
+        &mut self,
+        s: &Setting,
+        place: usize,
+        x: &Words<'a>,
+        op: Op,
+        a: u8,
+    ) -> Result<usize, AllocError>
+        requires room { place + (spec.words_size (words x.now) + 1) ≤ 1000000 }
+        ensures code { OnOk result (self.new ≡ self.old ++ (spec.words_code (setting s.now) place (words x.now) ++ with_a op a ∷ [])) }
+        ensures behind { IfOk result (λ n. n ≡ place + (spec.words_size (words x.now) + 1)) }
+    {
+        let at = self.words(s, place, x)?;
+        self.with_a(op, a)?;
+        Ok(at + 1)
+    }
+
+    /// A number as an occurrence, which an instruction takes; where it is none, a value stands in its place.
+    #[cycle(emit)]
+    fn subscripted(
+        &mut self,
+        s: &Setting,
+        place: usize,
+        subscript: &Number<'a>,
+        taken: Wide<'a>,
+        none: Wide<'a>,
+        of: u8,
+    ) -> Result<usize, AllocError>
+        requires room { place + (spec.number_size (number subscript.now) + 4) ≤ 1000000 }
+        ensures code { OnOk result (self.new ≡ self.old ++ (spec.number_code (setting s.now) place (number subscript.now) ++ spec.guarded (wide taken.entry) (wide none.entry) of (place + spec.number_size (number subscript.now)))) }
+        ensures behind { IfOk result (λ n. n ≡ place + (spec.number_size (number subscript.now) + 4)) }
+    {
+        let at = self.number(s, place, subscript)?;
+        let last = self.guarded(at, taken, none, of)?;
+        Ok(last)
+    }
+
+    /// Indexes, and the cell that they lead to.
+    #[cycle(emit)]
+    fn number_of_cell(
+        &mut self,
+        s: &Setting,
+        place: usize,
+        array: usize,
+        subscripts: &Vec<Number<'a>>,
+    ) -> Result<usize, AllocError>
+        requires room { place + (spec.indexes_size (numbers (map number subscripts.now.items)) + (spec.behind (numbers (map number subscripts.now.items)) + 3)) ≤ 1000000 }
+        ensures code { OnOk result (self.new ≡ self.old ++ (spec.indexes_code (setting s.now) array (place + spec.indexes_size (numbers (map number subscripts.now.items)) + 2) 0 place (numbers (map number subscripts.now.items)) ++ (with_c ops.LoadCell array ∷ jump (place + spec.indexes_size (numbers (map number subscripts.now.items)) + (spec.behind (numbers (map number subscripts.now.items)) + 3)) ∷ (pops (spec.behind (numbers (map number subscripts.now.items))) ++ undefined ∷ [])))) }
+        ensures behind { IfOk result (λ n. n ≡ place + (spec.indexes_size (numbers (map number subscripts.now.items)) + (spec.behind (numbers (map number subscripts.now.items)) + 3))) }
+    {
+        let at = self.indexes(s, place, array, 2, subscripts)?;
+        let last = self.cell(at, array, subscripts)?;
+        Ok(last)
+    }
+
+    /// Arguments, and the call that takes them.
+    #[cycle(emit)]
+    fn number_of_call(
+        &mut self,
+        s: &Setting,
+        place: usize,
+        function: usize,
+        arguments: &Vec<Number<'a>>,
+    ) -> Result<usize, AllocError>
+        requires room { place + (spec.numbers_size (numbers (map number arguments.now.items)) + 1) ≤ 1000000 }
+        ensures code { OnOk result (self.new ≡ self.old ++ (spec.numbers_code (setting s.now) place (numbers (map number arguments.now.items)) ++ with_c ops.Call function ∷ [])) }
+        ensures behind { IfOk result (λ n. n ≡ place + (spec.numbers_size (numbers (map number arguments.now.items)) + 1)) }
+    {
+        let at = self.numbers(s, place, arguments)?;
+        self.with_c(Op::Call, function)?;
+        Ok(at + 1)
+    }
+
+    /// One after the other.
+    #[cycle(emit)]
+    #[tactic(auto, unfolding(crate::specs::Numbers::numbers_size, crate::specs::Numbers::numbers_code))]
+    pub fn numbers(
+        &mut self,
+        s: &Setting,
+        place: usize,
+        xs: &Vec<Number<'a>>,
+    ) -> Result<usize, AllocError>
+        requires room { place + spec.numbers_size (numbers (map number xs.now.items)) ≤ 1000000 }
+        ensures code { OnOk result (self.new ≡ self.old ++ spec.numbers_code (setting s.now) place (numbers (map number xs.now.items))) }
+        ensures behind { IfOk result (λ n. n ≡ place + spec.numbers_size (numbers (map number xs.now.items))) }
+    {
+        let mut at = place;
+        'all: for x in xs {
+            at = self.number(s, at, x)?;
+        }
+        Ok(at)
+    }
+
+    /// As indexes of an array. So many instructions behind them the indexes are dropped where the last one fails.
+    #[cycle(emit)]
+    #[tactic(auto, using(crate::proofs::Lists::count_is), unfolding(crate::specs::Numbers::indexes_size, crate::specs::Numbers::indexes_code))]
+    pub fn indexes(
+        &mut self,
+        s: &Setting,
+        place: usize,
+        array: usize,
+        behind: usize,
+        xs: &Vec<Number<'a>>,
+    ) -> Result<usize, AllocError>
+        requires room { place + spec.indexes_size (numbers (map number xs.now.items)) ≤ 1000000 }
+        requires within { behind ≤ 1000000 }
+        ensures code { OnOk result (self.new ≡ self.old ++ spec.indexes_code (setting s.now) array (place + spec.indexes_size (numbers (map number xs.now.items)) + behind) 0 place (numbers (map number xs.now.items))) }
+        ensures behind { IfOk result (λ n. n ≡ place + spec.indexes_size (numbers (map number xs.now.items))) }
+    {
+        let drops = place + indexes_size(xs) + behind;
+        let mut fail = drops + xs.len();
+        let mut direction = 0;
+        let mut at = place;
+        'all: for x in xs {
+            let index = self.number(s, at, x)?;
+            fail -= 1;
+            let size = s.size_at(array, direction);
+            self.put(Wide::Plain(Op::Index, 0, size, fail))?;
+            direction += 1;
+            at = index + 1;
+        }
+        Ok(at)
+    }
+
+    #[cycle(emit)]
+    #[tactic(auto, unfolding(crate::specs::Numbers::operations_size, crate::specs::Numbers::operations_code))]
+    pub fn operations(
+        &mut self,
+        s: &Setting,
+        place: usize,
+        xs: &Vec<Operation<'a>>,
+    ) -> Result<usize, AllocError>
+        requires room { place + spec.operations_size (operations (map operation_tree xs.now.items)) ≤ 1000000 }
+        ensures code { OnOk result (self.new ≡ self.old ++ spec.operations_code (setting s.now) place (operations (map operation_tree xs.now.items))) }
+        ensures behind { IfOk result (λ n. n ≡ place + spec.operations_size (operations (map operation_tree xs.now.items))) }
+    {
+        let mut at = place;
+        'all: for x in xs {
+            let operand = self.number(s, at, &x.operand)?;
+            self.bare(operation_of(x.operator))?;
+            at = operand + 1;
+        }
+        Ok(at)
+    }
+}

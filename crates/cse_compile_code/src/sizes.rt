@@ -1,0 +1,125 @@
+//! How many instructions expressions have. What is above a million is told as a million and one.
+
+ghost use Rattle.std.specs.Prelude.{◌≡◌, ◌+◌, ◌≤◌, min, map, length};
+ghost use Rattle.cse_logic_tree.specs.Typed.{number, words, numbers, operations, operation_tree};
+ghost use Rattle.cse_compile_code.specs.Numbers as spec;
+
+use crate::decks::{deck_size, picks_size};
+use cse_logic_tree::{Found, Number, Operation, Present, Words};
+
+/// What a size is told as that is above a million.
+pub const TOO_LONG: usize = 1000001;
+
+/// A sum of sizes.
+pub fn plus(a: usize, b: usize) -> usize
+    requires first { a ≤ 1000001 }
+    requires second { b ≤ 1000001 }
+    ensures { result ≡ min (a + b) 1000001 }
+{
+    (a + b).min(TOO_LONG)
+}
+
+pub fn here_size(found: Found) -> usize
+    ensures { result ≡ spec.here_size found }
+{
+    match found {
+        Found::Loop | Found::Event => 2,
+        Found::First => 5,
+    }
+}
+
+pub fn present_size(item: Present) -> usize
+    ensures { result ≡ spec.present_size item }
+{
+    match item {
+        Present::Id(_) => 1,
+        Present::Here(_, found) => here_size(found),
+    }
+}
+
+/// All subscripts but the first.
+#[tactic(auto, using(crate::proofs::Lists::behind_is))]
+pub fn behind(xs: &Vec<Number>) -> usize
+    ensures { result ≡ min (spec.behind (numbers (map number xs.now.items))) 1000001 }
+{
+    xs.len().saturating_sub(1).min(TOO_LONG)
+}
+
+#[cycle(size)]
+#[tactic(auto, unfolding(crate::specs::Numbers::number_size))]
+pub fn number_size(x: &Number) -> usize
+    ensures { result ≡ min (spec.number_size (number x.now)) 1000001 }
+{
+    match x {
+        Number::Literal(_, _) | Number::Special(_, _) | Number::Variable(_, _) => 1,
+        Number::Item(_, item) => present_size(*item),
+        Number::ItemAt(_, _, place) => plus(number_size(place), 4),
+        Number::Cell(_, _, subscripts) => plus(
+            indexes_size(subscripts),
+            plus(behind(subscripts), 3),
+        ),
+        Number::Call(_, _, arguments) => plus(numbers_size(arguments), 1),
+        Number::Group(inner) | Number::Int(inner) => number_size(inner),
+        Number::IsSpecial(inner) | Number::Minus(inner) | Number::Not(inner) => {
+            plus(number_size(inner), 1)
+        }
+        Number::Deck(_, _, picks) => plus(picks_size(picks), deck_size(picks)),
+        Number::TotOcc(_, _) | Number::MaxOcc(_, _) => 1,
+        Number::CurOcc(_, _, found) => here_size(*found),
+        Number::InSet(_, item, _, _) => present_size(*item) + 1,
+        Number::Compare(x, _, y) => plus(number_size(x), plus(number_size(y), 1)),
+        Number::CompareTexts(x, _, y) => plus(words_size(x), plus(words_size(y), 1)),
+        Number::Chain(first, others) => plus(number_size(first), operations_size(others)),
+    }
+}
+
+#[cycle(size)]
+#[tactic(auto, unfolding(crate::specs::Numbers::words_size))]
+pub fn words_size(x: &Words) -> usize
+    ensures { result ≡ min (spec.words_size (words x.now)) 1000001 }
+{
+    match x {
+        Words::Literal(_) | Words::Global(_, _) => 1,
+        Words::Item(_, item) => present_size(*item),
+        Words::ItemAt(_, _, place) => plus(number_size(place), 4),
+        Words::Group(inner) => words_size(inner),
+    }
+}
+
+/// One after the other.
+#[cycle(size)]
+#[tactic(auto, unfolding(crate::specs::Numbers::numbers_size))]
+pub fn numbers_size(xs: &Vec<Number>) -> usize
+    ensures { result ≡ min (spec.numbers_size (numbers (map number xs.now.items))) 1000001 }
+{
+    let mut size = 0usize;
+    'all: for x in xs {
+        size = plus(size, number_size(x));
+    }
+    size
+}
+
+/// As indexes.
+#[cycle(size)]
+#[tactic(auto, unfolding(crate::specs::Numbers::indexes_size))]
+pub fn indexes_size(xs: &Vec<Number>) -> usize
+    ensures { result ≡ min (spec.indexes_size (numbers (map number xs.now.items))) 1000001 }
+{
+    let mut size = 0usize;
+    'all: for x in xs {
+        size = plus(size, plus(number_size(x), 1));
+    }
+    size
+}
+
+#[cycle(size)]
+#[tactic(auto, unfolding(crate::specs::Numbers::operations_size))]
+pub fn operations_size(xs: &Vec<Operation>) -> usize
+    ensures { result ≡ min (spec.operations_size (operations (map operation_tree xs.now.items))) 1000001 }
+{
+    let mut size = 0usize;
+    'all: for x in xs {
+        size = plus(size, plus(number_size(&x.operand), 1));
+    }
+    size
+}

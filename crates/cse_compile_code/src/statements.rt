@@ -1,0 +1,249 @@
+//! The code of statements: the place goes in, and the place behind comes out.
+
+ghost use Rattle.std.specs.Prelude.{◌≡◌, ◌+◌, ◌≤◌, ◌==◌, if◌then◌else◌, [], ◌∷◌, ◌++◌, map, OnOk, IfOk};
+ghost use Rattle.cse_logic_tree.specs.Typed.{statement, block, arm_tree, counting};
+ghost use Rattle.cse_compile_code.specs.Setting.{setting};
+ghost use Rattle.cse_compile_code.specs.Statements as spec;
+
+use crate::block_sizes::{
+    arms_size, block_size, head_size, jump_size, otherwise_size, statement_size,
+};
+use crate::emitter::Emitter;
+use crate::heads::turn_limit;
+use crate::setting::{Loop, Setting};
+use crate::wide::Wide;
+use cse_image_parts::instruction::Op;
+use cse_logic_tree::{Arm, Counting, Statement, Variable};
+use cse_syntax::Jump;
+use std::alloc::AllocError;
+
+impl<'a> Emitter<'a> {
+    /// A routine is left; a function gives its result.
+    pub fn exit(&mut self, s: &Setting, place: usize) -> Result<usize, AllocError>
+        requires room { place + spec.exit_size (setting s.now) ≤ 1000000 }
+        ensures code { OnOk result (self.new ≡ self.old ++ spec.exit_code (setting s.now)) }
+        ensures behind { IfOk result (λ n. n ≡ place + spec.exit_size (setting s.now)) }
+    {
+        match s.result_at {
+            None => {
+                self.bare(Op::Return)?;
+                Ok(place + 1)
+            }
+            Some(result) => {
+                self.with_c(Op::LoadLocal, result)?;
+                self.bare(Op::Return)?;
+                Ok(place + 2)
+            }
+        }
+    }
+
+    fn jump(
+        &mut self,
+        s: &Setting,
+        around: Loop,
+        place: usize,
+        jump: Jump,
+    ) -> Result<usize, AllocError>
+        requires room { place + spec.jump_code_size (setting s.now) jump ≤ 1000000 }
+        ensures code { OnOk result (self.new ≡ self.old ++ spec.jump_code (setting s.now) around jump) }
+        ensures behind { IfOk result (λ n. n ≡ place + spec.jump_code_size (setting s.now) jump) }
+    {
+        match jump {
+            Jump::Break => {
+                self.with_c(Op::Break, around.end)?;
+                Ok(place + 1)
+            }
+            Jump::Next => {
+                self.with_c(Op::Jump, around.turn_end)?;
+                Ok(place + 1)
+            }
+            Jump::Exit => {
+                let end = self.exit(s, place)?;
+                Ok(end)
+            }
+        }
+    }
+
+    #[cycle(emit_block)]
+    #[tactic(auto, unfolding(crate::specs::Statements::statement_size, crate::specs::Statements::statement_code))]
+    pub fn statement(
+        &mut self,
+        s: &Setting,
+        around: Loop,
+        place: usize,
+        x: &Statement<'a>,
+    ) -> Result<usize, AllocError>
+        requires room { place + spec.statement_size (setting s.now) (statement x.now) ≤ 1000000 }
+        ensures code { OnOk result (self.new ≡ self.old ++ spec.statement_code (setting s.now) around place (statement x.now)) }
+        ensures behind { IfOk result (λ n. n ≡ place + spec.statement_size (setting s.now) (statement x.now)) }
+    {
+        match x {
+            Statement::Empty => Ok(place),
+            Statement::Set(_, variable, value) => {
+                self.number_into_variable(s, place, *variable, value)
+            }
+            Statement::SetText(_, variable, value) => {
+                self.words_into_variable(s, place, *variable, value)
+            }
+            Statement::SetItem(_, field, at, value) => {
+                self.number_into(s, place, Op::StoreNumber, *field, at, value)
+            }
+            Statement::SetTextItem(_, field, at, value) => {
+                self.words_into(s, place, *field, at, value)
+            }
+            Statement::SetCell(_, array, subscripts, value) => {
+                self.number_into_cell(s, place, *array, subscripts, value)
+            }
+            Statement::Call(_, function, arguments) => {
+                self.call_alone(s, place, *function, arguments)
+            }
+            Statement::If(first, others, otherwise) => {
+                let behind = otherwise_size(s, otherwise);
+                let rest = arms_size(s, others, behind);
+                let end = place + statement_size(s, x);
+                let second = self.arm(s, around, end, place, first, rest)?;
+                let third = self.arms(s, around, end, second, others, behind)?;
+                match otherwise {
+                    None => Ok(third),
+                    Some(body) => {
+                        let last = self.block(s, around, third, body)?;
+                        Ok(last)
+                    }
+                }
+            }
+            Statement::For(_, variable, _, of, body) => self.over(s, place, *variable, *of, body),
+            Statement::Do(head, body) => self.counted(s, place, head, body),
+            Statement::Jump(_, jump) => self.jump(s, around, place, *jump),
+            Statement::Impute(_, field, at, value) => {
+                self.number_into(s, place, Op::Impute, *field, at, value)
+            }
+            Statement::PutDeck(_, array, picks, value) => {
+                self.number_into_deck(s, place, *array, picks, value)
+            }
+            Statement::ErrMsg(_, index, values, _) => self.message(s, place, *index, values),
+        }
+    }
+
+    /// One after the other.
+    #[cycle(emit_block)]
+    #[tactic(auto, unfolding(crate::specs::Statements::block_size, crate::specs::Statements::block_code))]
+    pub fn block(
+        &mut self,
+        s: &Setting,
+        around: Loop,
+        place: usize,
+        xs: &Vec<Statement<'a>>,
+    ) -> Result<usize, AllocError>
+        requires room { place + spec.block_size (setting s.now) (block xs.now.items) ≤ 1000000 }
+        ensures code { OnOk result (self.new ≡ self.old ++ spec.block_code (setting s.now) around place (block xs.now.items)) }
+        ensures behind { IfOk result (λ n. n ≡ place + spec.block_size (setting s.now) (block xs.now.items)) }
+    {
+        let mut at = place;
+        'all: for x in xs {
+            at = self.statement(s, around, at, x)?;
+        }
+        Ok(at)
+    }
+
+    /// Over the occurrences of a record.
+    #[cycle(emit_block)]
+    fn over(
+        &mut self,
+        s: &Setting,
+        place: usize,
+        variable: Variable,
+        of: u8,
+        body: &Vec<Statement<'a>>,
+    ) -> Result<usize, AllocError>
+        requires room { place + (spec.block_size (setting s.now) (block body.now.items) + 5) ≤ 1000000 }
+        ensures code { OnOk result (self.new ≡ self.old ++ spec.over_code (setting s.now) place variable of (spec.block_size (setting s.now) (block body.now.items)) (spec.block_code (setting s.now) (spec.loop_to (place + 4 + spec.block_size (setting s.now) (block body.now.items)) (place + 4 + spec.block_size (setting s.now) (block body.now.items))) (place + 4) (block body.now.items))) }
+        ensures behind { IfOk result (λ n. n ≡ place + (spec.block_size (setting s.now) (block body.now.items) + 5)) }
+    {
+        let end = place + 4 + block_size(s, body);
+        self.put(Wide::Plain(Op::LoopOccurrences, of, 0, end))?;
+        self.with_a(Op::CurrentOccurrence, of)?;
+        self.with_a(Op::OccurrenceNumber, of)?;
+        self.store(s, variable)?;
+        self.block(s, Loop { turn_end: end, end }, place + 4, body)?;
+        self.with_c(Op::End, place)?;
+        Ok(end + 1)
+    }
+
+    /// So many turns as the head says.
+    #[cycle(emit_block)]
+    fn counted(
+        &mut self,
+        s: &Setting,
+        place: usize,
+        head: &Counting<'a>,
+        body: &Vec<Statement<'a>>,
+    ) -> Result<usize, AllocError>
+        requires room { place + (spec.head_size (setting s.now).records (counting head.now) + (spec.block_size (setting s.now) (block body.now.items) + 6)) ≤ 1000000 }
+        ensures code { OnOk result (self.new ≡ self.old ++ spec.counted_code (setting s.now) place (counting head.now) (spec.block_size (setting s.now) (block body.now.items)) (spec.block_code (setting s.now) (spec.loop_to (spec.turn_end_at (setting s.now) place (counting head.now) (spec.block_size (setting s.now) (block body.now.items))) (spec.turn_end_at (setting s.now) place (counting head.now) (spec.block_size (setting s.now) (block body.now.items)) + 4)) (spec.opener_at (setting s.now) place (counting head.now) + 1) (block body.now.items))) }
+        ensures behind { IfOk result (λ n. n ≡ place + (spec.head_size (setting s.now).records (counting head.now) + (spec.block_size (setting s.now) (block body.now.items) + 6))) }
+    {
+        let opener = place + head_size(s, head);
+        let turn_end = opener + 1 + block_size(s, body);
+        let end = turn_end + 4;
+        self.head(s, head)?;
+        self.put(Wide::Turns(turn_limit(s, head), end))?;
+        self.block(s, Loop { turn_end, end }, opener + 1, body)?;
+        self.step(s, head)?;
+        self.with_c(Op::End, opener)?;
+        Ok(end + 1)
+    }
+
+    /// One arm, with so many instructions behind it.
+    #[cycle(emit_block)]
+    fn arm(
+        &mut self,
+        s: &Setting,
+        around: Loop,
+        end: usize,
+        place: usize,
+        x: &Arm<'a>,
+        rest: usize,
+    ) -> Result<usize, AllocError>
+        requires room { place + spec.arm_size (setting s.now) (arm_tree x.now) rest ≤ 1000000 }
+        ensures code { OnOk result (self.new ≡ self.old ++ spec.arm_code (setting s.now) around end place (arm_tree x.now) rest) }
+        ensures behind { IfOk result (λ n. n ≡ place + spec.arm_size (setting s.now) (arm_tree x.now) rest) }
+    {
+        let test = self.number(s, place, &x.condition)?;
+        let behind = test + 1 + block_size(s, &x.body) + jump_size(rest);
+        self.with_c(Op::JumpUnless, behind)?;
+        self.block(s, around, test + 1, &x.body)?;
+        self.jump_over(end, rest)?;
+        Ok(behind)
+    }
+
+    /// The other arms, with so many instructions behind them.
+    #[cycle(emit_block)]
+    fn arms(
+        &mut self,
+        s: &Setting,
+        around: Loop,
+        end: usize,
+        place: usize,
+        others: &Vec<Arm<'a>>,
+        last: usize,
+    ) -> Result<usize, AllocError>
+        requires room { place + spec.arms_alone_size (setting s.now) (map arm_tree others.now.items) last ≤ 1000000 }
+        ensures code { OnOk result (self.new ≡ self.old ++ spec.arms_alone_code (setting s.now) around end place (map arm_tree others.now.items) last) }
+        ensures behind { IfOk result (λ n. n ≡ place + spec.arms_alone_size (setting s.now) (map arm_tree others.now.items) last) }
+    {
+        let mut at = place;
+        let mut left = others.len();
+        'all: for x in others {
+            left -= 1;
+            at = self.arm(s, around, end, at, x, rest_size(left, last))?;
+        }
+        Ok(at)
+    }
+}
+
+/// A size that is 0 where that of so many arms and what stands behind them is.
+fn rest_size(arms: usize, last: usize) -> usize
+    ensures { result ≡ (if arms == 0 then last else 1) }
+{
+    if arms == 0 { last } else { 1 }
+}

@@ -1,6 +1,0 @@
--- what the ranges of the code stand for
-use Rattle.cse_parts.specs.declared.opcodes.Numbers.{Numbers}
-use Rattle.cse_parts.specs.Opcodes.{Range}
-
-abbrev pub range : Numbers → Range
-range n = record { low = n.low; high = n.high }

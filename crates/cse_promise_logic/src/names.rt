@@ -1,0 +1,47 @@
+//! The typed tree, and the files beside the logic.
+
+ghost use Rattle.std.specs.Prelude.{◌≡◌, ◌≤◌, ◌⊎◌, IfOk, IfErr};
+ghost use Rattle.cse_syntax.specs.Tree as syntax;
+ghost use Rattle.cse_logic_tree.specs.Typed as typed;
+ghost use Rattle.cse_types.specs.Answer.{IsAnswer, checked};
+ghost use Rattle.cse_types.specs.Fault.{out_of_memory};
+ghost use Rattle.cse_types.specs.MessageFile.{ReadsMessages, file_lines};
+ghost use Rattle.cse_types.specs.OrderFile.{IsOrderOf, ReadsOrder};
+ghost use Rattle.cse_types.specs.WellTyped.{IsTypedAs};
+
+use cse_dict::Dictionary;
+use cse_syntax::Source;
+use cse_types::{Messages, Order, TypeError, Typed};
+use std::alloc::Global;
+
+/// `Messages::read`.
+pub fn read_messages(alloc: Global, text: &[u8]) -> Result<Messages, TypeError>
+    ensures { ReadsMessages result (file_lines text.now) }
+{
+    Messages::read(alloc, text)
+}
+
+/// `Order::read`.
+pub fn read_order(alloc: Global, dictionary: &Dictionary, text: &[u8]) -> Result<Order, TypeError>
+    ensures reads { ReadsOrder dictionary.now result (file_lines text.now) }
+    ensures order { IfOk result (λ o. IsOrderOf dictionary.now o) }
+{
+    Order::read(alloc, dictionary, text)
+}
+
+/// `check`.
+pub fn check<'a>(
+    alloc: Global,
+    dictionary: &'a Dictionary,
+    source: &Source<'a>,
+    messages: &'a Messages,
+    order: &'a Order,
+) -> Result<Typed<'a>, TypeError>
+    requires { IsOrderOf dictionary.now order.now }
+    ensures sound { IfOk result (λ t. IsTypedAs dictionary.now messages.now (syntax.tree source.now.tree) (checked t).tree) }
+    ensures made_for { IfOk result (λ t. ((checked t).dictionary ≡ dictionary.now) × ((checked t).messages ≡ messages.now) × ((checked t).order ≡ order.now)) }
+    ensures only { (t : typed.Tree) → IsTypedAs dictionary.now messages.now (syntax.tree source.now.tree) t → IsAnswer result t }
+    ensures cause { IfErr result (λ e. ((40 ≤ e.number) × (e.number ≤ 49)) ⊎ (e ≡ out_of_memory)) }
+{
+    cse_types::check(alloc, dictionary, source, messages, order)
+}

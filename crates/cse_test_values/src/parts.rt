@@ -1,0 +1,69 @@
+//! Parts of images, as they are built: placeholders, names, single fields and instructions, a row of each call. The others
+//! are laws of cse_test_laws.
+
+use cse_image_parts::codes::*;
+use cse_image_parts::entries::*;
+use cse_image_parts::instruction::Op;
+use cse_image_parts::opcodes::*;
+use cse_image_parts::placeholders::*;
+use cse_image_parts::rules::*;
+use cse_image_parts::texts::*;
+use cse_image_parts::version::*;
+
+/// How many pieces a text has, and the last placeholder of a number.
+fn count_pieces(text: &[u8]) -> (u64, Option<Piece>) {
+    let mut count = 0u64;
+    let mut number = None;
+    for piece in Pieces::new(text) {
+        count = count.saturating_add(1);
+        if piece.argument() == Some(ArgumentKind::Number) {
+            number = Some(piece);
+        }
+    }
+    (count, number)
+}
+
+#[test]
+fn placeholders(rt: HostRuntime) {
+    let last = Piece::Number {
+        width: 99,
+        zeros: true,
+    };
+    assert!(rt; count_pieces(b"a%%%s%3%099d%0d") == (9, Some(last)));
+    let text = b"adults %d of %s".as_slice();
+    assert!(rt; count_placeholders(text) == 2 && are_few_placeholders(text));
+    assert!(rt; kind_at(text, 1) == Some(ArgumentKind::Text) && kind_at(text, 2).is_none());
+}
+
+#[test]
+fn texts_and_names(rt: HostRuntime) {
+    assert!(rt; plain_text(b"\xc3\xa4 b") == Some("\u{e4} b"));
+    assert!(rt; plain_text(b"\xc3").is_none() && is_plain_text(" \x7f"));
+    assert!(rt; array_name(b"A_1").is_some() && array_name(b"1A").is_none());
+}
+
+#[test]
+fn fields(rt: HostRuntime) {
+    let last = EventEntry {
+        code: EventCode::ItemPreproc,
+        index: 4,
+        routine: 0,
+    };
+    let lengths = is_right_global_length(GlobalKind::Text, 255)
+        && !is_right_local_length(LocalKind::Occurrence, 1)
+        && !is_right_owner(LocalKind::Number, 7)
+        && !is_right_kind(2, 2, LocalKind::Occurrence);
+    let room = !has_room_for_cells(0, &[65535, 65535, 65535])
+        && is_right_cell_count(&[2, 3], 6)
+        && has_room_for_code(999_999, 1);
+    assert!(rt; lengths && room);
+    assert!(rt; comes_after(Some(last), EventCode::ItemPostproc, 0));
+    assert!(rt; event_code_number(EventCode::RecordPreproc) == 4);
+}
+
+#[test]
+fn instructions(rt: HostRuntime) {
+    assert!(rt; op_named(24) == Some(Op::Row) && op_named(46).is_none());
+    assert!(rt; is_right_a(Op::Row, 1) && is_right_b(Version::One, Op::Row, 65535));
+    assert!(rt; !is_right_c(Op::Row, 1, 1));
+}

@@ -1,5 +1,0 @@
-use Rattle.cse_typed.proofs.TokenCounts.{tree_counts}
-use Rattle.cse_typed.proofs.laws.tokens_are_counted.Goals as goal
-
-pub returns : goal.returns
-returns c = tree_counts

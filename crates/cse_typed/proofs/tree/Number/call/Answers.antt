@@ -1,5 +1,0 @@
-use Rattle.cse_typed.proofs.Rows.{call_is}
-use Rattle.cse_typed.proofs.tree.Number.call.Goals as goal
-
-pub returns : goal.returns
-returns c = call_is c.args.name c.args.function c.args.arguments

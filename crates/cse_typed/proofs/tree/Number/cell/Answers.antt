@@ -1,5 +1,0 @@
-use Rattle.cse_typed.proofs.Rows.{cell_is}
-use Rattle.cse_typed.proofs.tree.Number.cell.Goals as goal
-
-pub returns : goal.returns
-returns c = cell_is c.args.name c.args.array c.args.subscripts

@@ -1,5 +1,0 @@
-use Rattle.cse_typed.proofs.Rows.{chain_is}
-use Rattle.cse_typed.proofs.tree.Number.chain.Goals as goal
-
-pub returns : goal.returns
-returns c = chain_is c.args.first c.args.others

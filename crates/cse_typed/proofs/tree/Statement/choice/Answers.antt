@@ -1,5 +1,0 @@
-use Rattle.cse_typed.proofs.Rows.{if_is}
-use Rattle.cse_typed.proofs.tree.Statement.choice.Goals as goal
-
-pub returns : goal.returns
-returns c = if_is c.args.first c.args.others c.args.otherwise

@@ -1,8 +1,0 @@
-//! Laws of the definitions, each the contract of a function that does nothing.
-
-ghost use Rattle.cse_typed.specs.Tokens.{CountsTokens};
-
-/// A tree is written in as many tokens as its structure tells.
-pub fn tokens_are_counted()
-    ensures { CountsTokens }
-{}

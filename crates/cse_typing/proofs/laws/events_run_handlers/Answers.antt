@@ -1,5 +1,0 @@
-use Rattle.cse_typing.proofs.HandlerLaws.{handlers_run}
-use Rattle.cse_typing.proofs.laws.events_run_handlers.Goals as goal
-
-pub returns : goal.returns
-returns c = handlers_run

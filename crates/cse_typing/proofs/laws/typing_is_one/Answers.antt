@@ -1,5 +1,0 @@
-use Rattle.cse_typing.proofs.OneTyping.{one_typing}
-use Rattle.cse_typing.proofs.laws.typing_is_one.Goals as goal
-
-pub returns : goal.returns
-returns c = one_typing

@@ -1,6 +1,0 @@
-use Rattle.std.proofs.Common.{arith}
-use Rattle.cse_typing.proofs.NestLaws.{height}
-use Rattle.cse_typing.proofs.nest.Nest.len.Goals as goal
-
-pub returns : goal.returns
-returns g c = height c.self.inside.entries c.args.self.now c.self.inside.len c.self.view_is (let a = c.self.invariant.1 in let b = c.self.invariant.0 in omega arith)
