@@ -1,10 +1,12 @@
 #!/usr/bin/env python3
-"""Keeps what the gate costs: processor seconds by crate, for its proof, its tests and its edits.
+"""Keeps what the gate costs: processor seconds by crate, for its proof, its tests and its edits, and how long its proof took by the clock.
 
 usage: docs/gate-cost.py ./gate            runs the gate, and puts what it took into docs/gate-cost.csv and the table of docs/GATE.md
        docs/gate-cost.py --to FILE WORD..  runs any command, and puts what its checks took into FILE
        docs/gate-cost.py --table           puts docs/gate-cost.csv into docs/GATE.md as a table
        docs/gate-cost.py --current         sees that this table is the one that --table would put there
+
+A crate that the command took from what an earlier run on this machine proved has no check. Its row stays the one of that run.
 
 Beforehand it times one program that is always the same, so that the tables of two machines can be compared. While the command
 runs, it looks at the checks below it twice a second, so each one is short by half a second at most. The table is printed too,
@@ -23,6 +25,7 @@ FILE = os.path.join(ROOT, "docs/gate-cost.csv")
 PAGE = os.path.join(ROOT, "docs/GATE.md")
 MARKS = "<!-- docs/gate-cost.py writes this table -->\n", "<!-- the table ends -->\n"
 KINDS = "proof", "tests", "edits", "all"
+CLOCK = "clock"
 SHOWN = 5
 TICK = os.sysconf("SC_CLK_TCK")
 
@@ -83,8 +86,8 @@ def check_of(pid):
     return crate, "edits" if "/rt-edit-" in where else "tests" if "--test" in words else "proof"
 
 
-def look(root, checks, seconds):
-    """Notes the processor seconds of each check below a process."""
+def look(root, checks, seconds, clock):
+    """Notes the processor seconds of each check below a process, and when a proof was there first and last."""
     there = {pid: (parent, began, name, used) for pid, parent, began, name, used in processes()}
     below = {root}
     for pid in there:
@@ -101,14 +104,16 @@ def look(root, checks, seconds):
             checks[key] = check_of(pid)
         if checks[key]:
             seconds[key] = used
+            now = time.monotonic()
+            clock[checks[key]] = clock.get(checks[key], (now, now))[0], now
 
 
 def run(words):
     """Runs a command: its status, and the costs of its checks by crate."""
-    checks, seconds = {}, {}
+    checks, seconds, clock = {}, {}, {}
     with subprocess.Popen(words) as it:
         while it.poll() is None:
-            look(it.pid, checks, seconds)
+            look(it.pid, checks, seconds, clock)
             try:
                 it.wait(0.5)
             except subprocess.TimeoutExpired:
@@ -117,10 +122,23 @@ def run(words):
     for key, used in seconds.items():
         crate, kind = checks[key]
         costs[crate][kind] += used
-    for cost in costs.values():
+    for crate, cost in costs.items():
         cost.update({kind: round(used) for kind, used in cost.items()})
         cost["all"] = sum(cost.values())
+        first, last = clock.get((crate, "proof"), (0, 0))
+        cost[CLOCK] = round(last - first)
     return it.returncode, costs
+
+
+def with_kept(head, costs, path):
+    """The costs, with the rows of an earlier run on such a machine for crates of which nothing was checked."""
+    if not os.path.exists(path):
+        return costs
+    before, rows = read(path)
+    if before["machine"] != head["machine"] or before["kit"].split()[1:] != head["kit"].split()[1:]:
+        return costs
+    there = crates_with_theirs()
+    return {**{crate: cost for crate, cost in rows.items() if crate in there}, **costs}
 
 
 def dearest_first(costs):
@@ -131,28 +149,32 @@ def write(path, head, costs):
     with open(path, "w", encoding="utf-8", newline="") as file:
         rows = csv.writer(file, lineterminator="\n")
         rows.writerows(head.items())
-        rows.writerow(["crate", *KINDS])
-        rows.writerows([crate, *cost.values()] for crate, cost in dearest_first(costs))
+        rows.writerow(["crate", *KINDS, CLOCK])
+        rows.writerows([crate, *(cost[it] for it in (*KINDS, CLOCK))] for crate, cost in dearest_first(costs))
 
 
 def read(path):
     with open(path, encoding="utf-8", newline="") as file:
         rows = list(csv.reader(file))
     start = next(at for at, row in enumerate(rows) if row[0] == "crate")
-    costs = {crate: dict(zip(KINDS, map(int, numbers))) for crate, *numbers in rows[start + 1 :]}
+    costs = {crate: dict(zip((*KINDS, CLOCK), map(int, numbers))) for crate, *numbers in rows[start + 1 :]}
     return dict(rows[:start]), costs
 
 
-def longest_chain(costs):
-    """The crates that wait for one another the longest, by their proofs."""
+def crates_with_theirs():
+    """Each crate of crates.txt, and what it names."""
     with open(os.path.join(ROOT, "crates.txt"), encoding="utf-8") as file:
-        lines = {name: uses.split() for name, uses in re.findall(r"(?m)^(\w+)[^:\n]*:(.*)$", file.read())}
-    chains = {}
+        return {name: uses.split() for name, uses in re.findall(r"(?m)^(\w+)[^:\n]*:(.*)$", file.read())}
+
+
+def longest_chain(costs):
+    """The crates that wait for one another the longest, by the clock of their proofs."""
+    lines, chains = crates_with_theirs(), {}
 
     def chain(name):
         if name not in chains:
             seconds, path = max([chain(it) for it in lines[name] if it in lines], default=(0, []))
-            chains[name] = seconds + costs.get(name, {}).get("proof", 0), [*path, name]
+            chains[name] = seconds + costs.get(name, {}).get(CLOCK, 0), [*path, name]
         return chains[name]
 
     return max(chain(name) for name in lines)[1]
@@ -165,7 +187,7 @@ def table(head, costs):
     yield row("processor seconds", KINDS)
     yield "|---" * (len(KINDS) + 1) + "|\n"
     for crate, cost in ordered[:SHOWN]:
-        yield row(crate, cost.values())
+        yield row(crate, (cost[kind] for kind in KINDS))
     if ordered[SHOWN:]:
         yield row(f"{len(ordered) - SHOWN} others", (sum(cost[kind] for _, cost in ordered[SHOWN:]) for kind in KINDS))
     sums = [sum(cost[kind] for cost in costs.values()) for kind in KINDS]
@@ -173,8 +195,8 @@ def table(head, costs):
     speed = f"{head['speed']} seconds for the fixed program" if head["speed"] else "speed not taken"
     yield f"\n{head['machine']}, {head['processors']} processors, {speed}; {head['date']}, commit {head['commit']}, {head['kit']}. "
     chain = head["chain"].split()
-    minutes = sum(costs.get(name, {}).get("proof", 0) for name in chain) / 60
-    yield f"The longest chain of proofs takes {minutes:.0f} minutes of processor: {', '.join(chain)}.\n"
+    minutes = [sum(costs.get(name, {}).get(it, 0) for name in chain) / 60 for it in (CLOCK, "proof")]
+    yield f"The longest chain of proofs takes {minutes[0]:.0f} minutes of the clock ({minutes[1]:.0f} of processor): {', '.join(chain)}.\n"
 
 
 def page_with_table():
@@ -203,6 +225,7 @@ def main(words):
         sys.exit(__doc__)
     head = machine()
     status, costs = run(words)
+    costs = with_kept(head, costs, to)
     head["chain"] = " ".join(longest_chain(costs))
     print("".join(table(head, costs)), end="", file=sys.stderr)
     if not status and costs:
