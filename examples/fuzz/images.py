@@ -1,4 +1,4 @@
-"""An image made by hand, as docs/FORMATS.md has the format, so that programs with decks, loops and messages are
+"""An image made by hand, as docs/IMAGE.md has the format, so that programs with decks, loops and messages are
 mutated even where no compiler stands."""
 import struct
 
