@@ -196,7 +196,9 @@ def table(head, costs):
     yield f"\n{head['machine']}, {head['processors']} processors, {speed}; {head['date']}, commit {head['commit']}, {head['kit']}. "
     chain = head["chain"].split()
     minutes = [sum(costs.get(name, {}).get(it, 0) for name in chain) / 60 for it in (CLOCK, "proof")]
-    yield f"The longest chain of proofs takes {minutes[0]:.0f} minutes of the clock ({minutes[1]:.0f} of processor): {', '.join(chain)}.\n"
+    # (rows of a run before the clock was taken have none)
+    took = f"{minutes[0]:.0f} minutes of the clock ({minutes[1]:.0f} of processor)" if minutes[0] else f"{minutes[1]:.0f} minutes of processor"
+    yield f"The longest chain of proofs takes {took}: {', '.join(chain)}.\n"
 
 
 def page_with_table():
