@@ -1,11 +1,13 @@
-"""What the outcome of an edit hangs on, as one hash: the edit, its crate whole, what it reads of the crates below, and the kit."""
+"""What the outcome of an edit hangs on, as one hash: the edit, what counts of its crate and of the crates below, and the kit."""
 import functools
 import hashlib
 import os
 import re
 import subprocess
 
+import own
 import sources
+import trying
 
 HERE = os.path.dirname(os.path.realpath(__file__))
 
@@ -24,9 +26,13 @@ class Library:
                     if it.startswith("cse_"):
                         self.handed_on.setdefault(bound, set()).add(it)
             for item in sources.items_of(sources.rust_tokens(text)):
-                item.imports, item.words = imports, sources.words(item.text)
+                if item.kind == "other" or item.kind in ("fn", "method", "member") and not item.is_public:
+                    continue
+                item.said, item.words = item.text, sources.words(item.text)
+                item.paths = {path for bound, paths in imports.items() for path in paths
+                              if bound in item.words or not bound.isidentifier() and bound.strip("◌") in item.said}
                 self.items.setdefault(item.owner or item.name, []).append(item)
-        self.types = {name for name, items in self.items.items() if any(it.kind in ("type", "part") for it in items)}
+        self.types = {name for name, items in self.items.items() if any(it.kind not in ("fn", "method") for it in items)}
 
 
     @functools.lru_cache(maxsize=None)
@@ -37,7 +43,9 @@ class Library:
             return None
         text = sources.antt_text(sources.read(whole))
         imports = sources.antt_imports(text)
-        if path.startswith("proofs/"):
+        if path.startswith("specs/"):
+            text = sources.with_imports_in_order(text)
+        else:
             text = sources.statements(text)
             said = sources.words(text)
             imports = {bound: paths for bound, paths in imports.items() if bound in said or not bound.isidentifier()}
@@ -45,19 +53,32 @@ class Library:
 
 
 class Reached:
-    """What a crate reads of the crates below it, gathered from names: a set of pieces of text."""
+    """What a crate or a part of it reads of the crates below, gathered from names: a set of pieces of text."""
 
-    def __init__(self, closure, crate, said):
+    def __init__(self, closure, crate, said, paths):
         self.closure, self.said, self.below = closure, said, closure.below(crate)
         self.seen, self.pieces = set(), []
+        for path in paths:
+            self.path(path)
+        # (the items of the crates directly below that bear a name which was said)
+        for name in self.below & set(closure.uses[crate]):
+            library = closure.library(name)
+            for word in said & library.items.keys():
+                self.named(library, word)
+
+    def is_new(self, *key):
+        size = len(self.seen)
+        self.seen.add(key)
+        return len(self.seen) > size
 
     def path(self, path):
         """What a path of a use line leads to: a file of definitions, statements, or items of a .rt file."""
-        parts = [it.strip("«»") for it in re.split(r"::|\.", path.removeprefix("Rattle."))]
-        name = parts[0]
-        if name not in self.below:
+        if not self.is_new("path", path):
             return
-        library = self.closure.library(name)
+        parts = sources.parts_of(path)
+        if parts[0] not in self.below:
+            return
+        library = self.closure.library(parts[0])
         if len(parts) > 2 and parts[1] in ("specs", "proofs") and parts[2] != "declared":
             for end in range(len(parts), 2, -1):
                 file = "/".join(parts[1:end]) + ".antt"
@@ -73,50 +94,48 @@ class Reached:
         found = library.antt(file)
         if found is None:
             return False
-        if (library.name, file) not in self.seen:
-            self.seen.add((library.name, file))
+        if self.is_new(library.name, file):
             text, imports = found
             self.pieces.append(f"{library.name}/{file}\n{text}")
             for paths in imports.values():
-                for path in sorted(paths):
+                for path in paths:
                     self.path(path)
         return True
 
     def named(self, library, word):
         """The items of that name: a type with what is implemented for it, a constant, or a function that the crate names."""
-        for path in sorted(library.handed_on.get(word, ())):
-            if (path, "handed on") not in self.seen:
-                self.seen.add((path, "handed on"))
-                self.path(path)
+        if not self.is_new(library.name, "word", word):
+            return
+        for path in library.handed_on.get(word, ()):
+            self.path(path)
         for item in library.items.get(word, ()):
-            if item.kind == "fn" and item.name not in self.said or item.kind == "method" and item.name not in self.said:
+            if item.kind in ("fn", "method") and item.name not in self.said:
                 continue
-            if id(item) in self.seen:
-                continue
-            self.seen.add(id(item))
-            self.pieces.append(f"{library.name} {item.text}")
-            for it in sorted(item.words & library.types):
+            self.pieces.append(f"{library.name} {item.said}")
+            for it in item.words & library.types:
                 self.named(library, it)
-            for bound, paths in sorted(item.imports.items()):
-                if bound in item.words or not bound.isidentifier() and bound.strip("◌") in item.text:
-                    for path in sorted(paths):
-                        self.path(path)
-            for name in sorted(item.words & self.below - {library.name}):
-                for it in sorted(item.words & self.closure.library(name).types):
+            for path in item.paths:
+                self.path(path)
+            for name in item.words & self.below - {library.name}:
+                for it in item.words & self.closure.library(name).types:
                     self.named(self.closure.library(name), it)
 
 
 class Closure:
-    def __init__(self, root):
-        self.root = root
+    def __init__(self, root, kit=None):
+        self.root, self.kit = root, kit or self.kit_of()
         lines = re.findall(r"(?m)^(\w+)(?: staticlib)?:(.*)$", sources.read(os.path.join(root, "crates.txt")))
         self.uses = {name: rest.split() for name, rest in lines}
-        told = subprocess.run(["rt", "version"], capture_output=True, text=True, check=True).stdout
-        self.kit = re.search(r"logic (\w+)", told)[1]
         self.library = functools.lru_cache(maxsize=None)(lambda name: Library(root, name))
+        self.own = functools.lru_cache(maxsize=None)(lambda name: own.Own(os.path.join(root, "crates", name)))
         self.whole = functools.lru_cache(maxsize=None)(self.whole)
         self.below = functools.lru_cache(maxsize=None)(self.below)
         self.reached = functools.lru_cache(maxsize=None)(self.reached)
+
+    @staticmethod
+    def kit_of():
+        told = subprocess.run(["rt", "version"], capture_output=True, text=True, check=True).stdout
+        return re.search(r"logic (\w+)", told)[1]
 
     def below(self, crate):
         """The names of the repository's crates below one."""
@@ -142,21 +161,29 @@ class Closure:
     def reached(self, crate, more):
         """What a crate reads of those below, where its text also has the words `more`."""
         _, said, paths = self.whole(crate)
-        found = Reached(self, crate, said | more)
-        for path in sorted(paths):
-            found.path(path)
-        for name in sorted(found.below & set(self.uses[crate])):
-            library = self.library(name)
-            for word in sorted((said | more) & set(library.items)):
-                found.named(library, word)
-        return found
+        return Reached(self, crate, said | more, paths)
 
     def callable(self, crate):
         """The names of all functions of the crates below."""
         return frozenset(it.name for name in self.below(crate) for items in self.library(name).items.values() for it in items)
 
-    def hash(self, crate, text):
-        """The hash of an edit of a crate."""
+    def turned(self, crate, text, how):
+        """The functions whose bodies an edit turns; nothing where it turns something else, or where all of the crate counts by the way it ended."""
+        own = self.own(crate)
+        found = own.touched(list(trying.pairs(text)))
+        if not found or how[:1] in (["limit"], ["name"]):
+            return None
+        places = {it.name for it in found} | {piece.file for it in found for piece in own.proofs_of(it)}
+        return found if len(how) < 2 or how[1].split("::")[-1] in places else None
+
+    def hash(self, crate, text, how):
+        """The hash of an edit of a crate that ended in this way."""
+        turned = self.turned(crate, text, how)
+        if turned:
+            pieces, said, paths = self.own(crate).reached(turned, text)
+            found = Reached(self, crate, said, paths)
+            parts = [self.kit, " ".join(sorted(self.uses[crate])), text, *pieces, *sorted(found.pieces)]
+            return hashlib.sha256("\0".join(parts).encode()).hexdigest()[:16]
         new = sources.words(" ".join(re.findall(r"(?m)^new: (.*)$", text)))
         more = frozenset(new - self.whole(crate)[1]) & self.callable(crate)
         parts = [self.kit, " ".join(sorted(self.uses[crate])), text, *self.whole(crate)[0]]

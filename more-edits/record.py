@@ -8,11 +8,11 @@ HERE = os.path.dirname(os.path.realpath(__file__))
 PATH = os.path.join(HERE, "record.txt")
 
 
-def read():
+def read(path=PATH):
     """Each edit's line, in words: its hash, the date, how it ended, and where."""
-    if not os.path.isfile(PATH):
+    if not os.path.isfile(path):
         return {}
-    with open(PATH, encoding="utf-8") as it:
+    with open(path, encoding="utf-8") as it:
         lines = [line.split() for line in it if line.strip() and not line.startswith("#")]
     return {words[0]: words[1:] for words in lines}
 

@@ -1,4 +1,6 @@
 """What a text of the repository says, without comments and layout: the items of .rt files, the blocks of .antt files."""
+import functools
+import itertools
 import os
 import re
 
@@ -7,6 +9,8 @@ ANTT = re.compile(r'("(?:[^"\\\n]|\\.)*")|\{-.*?-\}|(?<!\S)--[^\n]*', re.S)
 WORD = re.compile(r"[^\W\d][\w']*")
 CLAUSE = ("requires", "ensures", "ghost")
 PAIRS = "([{"
+MARKS = {"pub", "abbrev", "unfoldable", "record", "data", "opaque", "ruleset"}
+SIGNATURE = re.compile(r"\S+(?: \{[^{}]*\})*\s:\s")
 DECLARED = ("struct", "enum", "union", "trait", "type", "const", "static", "macro_rules")
 
 
@@ -15,9 +19,10 @@ def read(path):
         return it.read()
 
 
-def rust_tokens(text):
-    """The tokens of a .rt text; a blank between two words stays as one."""
-    found = []
+@functools.lru_cache(maxsize=None)
+def rust_tokens_at(text):
+    """The tokens of a .rt text and where each stands; a blank between two words stays as one."""
+    found, places = [], []
     for it in RUST.finditer(text):
         word = it[0]
         if word.isspace() or word.startswith(("//", "/*")):
@@ -26,8 +31,14 @@ def rust_tokens(text):
             continue
         if word in "(){}[],;" and found and found[-1] == " ":
             found.pop()
+            places.pop()
         found.append(word)
-    return found
+        places.append(it.start())
+    return found, places
+
+
+def rust_tokens(text):
+    return rust_tokens_at(text)[0]
 
 
 def rust_text(text):
@@ -70,10 +81,35 @@ def end_of_head(tokens, at):
 
 
 class Item:
-    """An item of a .rt file: its kind, its name, whose it is where it stands in an impl, and what the crates above read of it."""
+    """An item of a .rt file: its kind, its name, whose it is where it stands in an impl, and its tokens: where it starts, where its head ends, where it ends."""
 
-    def __init__(self, kind, name, owner, text):
-        self.kind, self.name, self.owner, self.text = kind, name, owner, text
+    def __init__(self, kind, name, owner, places, attributes=""):
+        self.kind, self.name, self.owner, self.attributes = kind, name, owner, attributes
+        self.tokens, self.start, self.head, self.end = places
+        self.front, self.trait, self.is_const, self.is_public = "", "", False, False
+
+    def whole(self):
+        """The item with its attributes and its body."""
+        return self.attributes + "".join(self.tokens[self.start:self.end + 1])
+
+    def seen(self):
+        """What another function of the crate reads of this one: its head with its clauses. Where it has none, or hides its type, the body counts too."""
+        head = self.tokens[self.start:self.head]
+        is_read = self.is_const or "impl" in head or not any(it in CLAUSE for it in head)
+        return "".join(self.tokens[self.start:(self.end if is_read else self.head) + 1])
+
+    @property
+    def text(self):
+        """What the crates above read of the item."""
+        if self.kind == "impl":
+            return derived(self.attributes) + self.front
+        if self.kind in ("fn", "method", "member"):
+            return "".join(self.tokens[self.start:(self.end if self.is_const else self.head) + 1])
+        return derived(self.attributes) + "".join(self.tokens[self.start:self.end + 1])
+
+
+def derived(attributes):
+    return "".join(re.findall(r"#\[derive[^\]]*\]", attributes))
 
 
 def end_of_item(tokens, at):
@@ -90,55 +126,63 @@ def end_of_item(tokens, at):
 
 
 def owner_of(head):
-    """The type that an impl's head names, and whether it is the impl of a trait."""
+    """The type that an impl's head names, and the trait where it is the impl of one."""
     head = re.sub(r"\bwhere\b.*", "", head).replace("impl", " ", 1)
     while re.search(r"<[^<>]*>", head):
         head = re.sub(r"<[^<>]*>", "", head)
     trait, _, rest = head.partition(" for ")
     found = re.findall(r"\w+", re.sub(r"&(?:'\w+)?|\bmut\b", " ", rest or trait))
-    return (found[-1] if found else ""), bool(rest)
+    return (found[-1] if found else ""), (re.findall(r"\w+", trait) or [""])[-1] if rest else ""
 
 
-def function(tokens, start, at, owner, of_trait):
-    """The function whose words `const` or `fn` stand at `at`, if the crates above see it, and where it ends. A `const fn` counts with its body."""
+def function(tokens, start, at, holder, attributes):
+    """The function whose words `const` or `fn` stand at `at`."""
     name_at = tokens.index("fn", at) + 2
     head = end_of_head(tokens, name_at)
     end = end_of_group(tokens, head) if head < len(tokens) and tokens[head] == "{" else head
-    is_const = tokens[at] == "const"
-    if not (of_trait or is_const or "pub" in tokens[start:at]):
-        return [], end
-    kind = "fn" if not owner else "part" if of_trait else "method"
-    return [Item(kind, tokens[name_at], owner, "".join(tokens[start:(end if is_const else head) + 1]))], end
+    kind = "fn" if not holder else "member" if holder.trait else "method"
+    found = Item(kind, tokens[name_at], holder.name if holder else None, (tokens, start, head, end), attributes)
+    found.is_const = tokens[at] == "const"
+    found.is_public = bool(holder and holder.trait) or found.is_const or "pub" in tokens[start:at]
+    found.front, found.trait = (holder.front, holder.trait) if holder else ("", "")
+    return found
 
 
-def block(tokens, at, derived):
-    """What an impl has, and where it ends."""
+def impl_of(tokens, at, attributes):
+    """An impl, without what it has."""
     brace = tokens.index("{", at)
-    head, end = "".join(tokens[at:brace]), end_of_group(tokens, brace)
-    owner, of_trait = owner_of(head)
-    return [Item("part", owner, owner, derived + head), *items_of(tokens[brace + 1:end], owner, of_trait)], end
+    front = "".join(tokens[at:brace])
+    owner, trait = owner_of(front)
+    found = Item("impl", owner, owner, (tokens, at, brace, end_of_group(tokens, brace)), attributes)
+    found.front, found.trait = front, trait
+    return found
 
 
-def declaration(tokens, start, at, owner, derived):
-    """A type, a trait, a constant, or a ghost member of an impl, and where it ends."""
+def declaration(tokens, start, at, holder, attributes):
+    """A type, a trait, a constant, a ghost member of an impl, or whatever else stands there but an import."""
     end = end_of_item(tokens, at)
-    text, kind = derived + "".join(tokens[start:end + 1]), tokens[at]
-    if kind in DECLARED:
+    kind, name = "other", ""
+    if tokens[at] in DECLARED:
         name = next((it for it in tokens[at + 1:end] if re.match(r"[^\W\d]\w*$", it) and it != "mut"), "")
-        return [Item("part" if owner else "type", owner or name, owner, text)], end
-    is_member = kind == "ghost" and owner and "use" not in tokens[at:at + 3]
-    return [Item("part", owner, owner, text)] if is_member else [], end
+        kind = "part" if holder else "type"
+    elif tokens[at] == "use" or tokens[at] == "ghost" and "use" in tokens[at:at + 3]:
+        kind = "import"
+    elif tokens[at] == "mod" and "tactic" not in attributes:
+        kind = "import"
+    elif tokens[at] == "ghost" and holder:
+        kind = "part"
+    return Item(kind, holder.name if holder else name, holder.name if holder else None, (tokens, start, end, end), attributes)
 
 
-def items_of(tokens, owner=None, of_trait=False):
-    """Yields each item of a file or of an impl."""
-    at, start, derived = 0, 0, ""
-    while at < len(tokens):
+def items_of(tokens, at=0, stop=None, holder=None):
+    """Yields each item of a file, of an inline module or of an impl."""
+    start, attributes, stop = at, "", len(tokens) if stop is None else stop
+    while at < stop:
         token = tokens[at]
         if token == "#":
-            end = end_of_group(tokens, at + 1 + (tokens[at + 1] == "!"))
-            attribute = "".join(tokens[at:end + 1])
-            derived += attribute if attribute.startswith("#[derive") else ""
+            is_inner = tokens[at + 1] == "!"
+            end = end_of_group(tokens, at + 1 + is_inner)
+            attributes += "" if is_inner else "".join(tokens[at:end + 1])
             at = start = end + 1
         elif token in " ;}":
             at += 1
@@ -149,14 +193,19 @@ def items_of(tokens, owner=None, of_trait=False):
             at = end_of_group(tokens, at) + 1
         else:
             if token == "fn" or token == "const" and "fn" in tokens[at + 1:at + 5]:
-                found, end = function(tokens, start, at, owner, of_trait)
+                found = function(tokens, start, at, holder, attributes)
             elif token == "impl":
-                found, end = block(tokens, at, derived)
+                found = impl_of(tokens, at, attributes)
             else:
-                found, end = declaration(tokens, start, at, owner, derived)
-            yield from found
-            at = start = end + 1
-            derived = ""
+                found = declaration(tokens, start, at, holder, attributes)
+            if found.kind == "impl" or token == "mod" and tokens[found.end] == "}":
+                brace = found.head if found.kind == "impl" else tokens.index("{", at)
+                yield from [found] if found.kind == "impl" else []
+                yield from items_of(tokens, brace + 1, found.end, found if found.kind == "impl" else None)
+            elif found.kind != "import":
+                yield found
+            at = start = found.end + 1
+            attributes = ""
 
 
 def rust_imports(text):
@@ -195,19 +244,75 @@ def antt_imports(text):
     return found
 
 
+@functools.lru_cache(maxsize=None)
+def parts_of(path):
+    """The parts of a path of a use line."""
+    return [it.strip("«»") for it in re.split(r"::|\.", path.removeprefix("Rattle."))]
+
+
+@functools.lru_cache(maxsize=None)
+def inner_attributes(text):
+    """The attributes of a whole file."""
+    return "".join(re.findall(r"(?m)^#!\[.*\]", rust_text(text).replace("#!", "\n#!")))
+
+
+def with_imports_in_order(text):
+    """A text of antt whose imports stand by the names that they bind."""
+    blocks = re.split(r"\n(?=\S)", text)
+    uses = [f"{bound}={path}" for bound, paths in antt_imports(text).items() for path in paths]
+    return "\n".join([*sorted(uses), *(it for it in blocks if not it.startswith("use "))])
+
+
+class Declaration:
+    """What a text of antt declares: its names, the parameters of the sections around it, whether its body counts, and its blocks."""
+
+    def __init__(self, names, front, marks, block):
+        self.names, self.is_public, self.blocks = names, "pub" in marks or names[0] == "mutual", [front + block]
+        self.is_whole = bool(marks - {"pub"}) or names[0] == "mutual"
+        self.text = ""
+
+
+def declarations(text, front=""):
+    """Yields what a text of antt declares."""
+    for block in re.split(r"\n(?=\S)", text):
+        words = block.split()
+        marks = set(itertools.takewhile(MARKS.__contains__, words))
+        rest = [it for it in words if it not in MARKS] or [""]
+        if not words or rest[0] in ("use", "mod"):
+            continue
+        if rest[0] == "module":
+            head, _, body = block.partition(" where\n")
+            yield from declarations(re.sub(r"(?m)^  ", "", body), f"{front}{head}\n")
+        elif rest[0] == "mutual" and not marks and not re.search(r"(?m)^ +(?:pub )?(?:data|record|abbrev|unfoldable)\b", block):
+            yield from declarations(re.sub(r"(?m)^  ", "", block.partition("\n")[2]), front)
+        elif rest[0] == "mutual" or "data" in marks:
+            inner = re.findall(r"(?m)^ +(?:(?:pub|abbrev|unfoldable|record|data) )*(\S+)", block)
+            yield Declaration(list(dict.fromkeys([rest[0], *inner])), front, marks, block)
+        elif words[0].startswith("infix"):
+            yield Declaration([words[-1]], front, marks, block)
+        elif marks or SIGNATURE.match(block):
+            yield Declaration([rest[0]], front, marks, block)
+        else:
+            yield block
+
+
+def declared(text, is_whole=False):
+    """What a text of antt declares, each with its equations where these count."""
+    found, last = [], None
+    for it in declarations(text):
+        if isinstance(it, Declaration):
+            found.append(it)
+            last = it
+        elif last and (is_whole or last.is_whole):
+            last.blocks.append(it)
+    for it in found:
+        it.text = "\n".join(it.blocks)
+    return found
+
+
 def statements(text):
     """The public statements of a file of proofs and the definitions that other files can unfold, without the proofs."""
-    blocks = re.split(r"\n(?=\S)", text)
-    kept, names = [], set()
-    for block in blocks:
-        found = re.match(r"((?:pub|abbrev|unfoldable|record|data|opaque)\s+)+(\S+)", block)
-        if found and not block.startswith(("pub mod", "pub use")):
-            kept.append(block)
-            if re.match(r"(?:pub )?(?:abbrev|unfoldable)", block):
-                names.add(found[2])
-        elif block.split(" ", 1)[0] in names:
-            kept.append(block)
-    return "\n".join(kept)
+    return "\n".join(it.text for it in declared(text) if it.is_public or it.is_whole)
 
 
 def files(folder, ending):
