@@ -4,13 +4,16 @@
 usage: more-edits/test_closure.py
 
 Each row of CHANGES turns one text of one file. The hash of the edit of the body of `Row::put` has to change, or has to stay.
+Each row of RENAMINGS has words that `--carry` takes for a renaming, or refuses.
 Each line that is written is a row that fails, and then the status is 1.
 """
 import os
+import re
 import sys
 import tempfile
 
 sys.dont_write_bytecode = True
+import carry
 import closure
 
 FILES = {
@@ -218,6 +221,22 @@ WHOLE = [
     ("turns a constant", "file: src/rows.rt\nold: u32 = 10\nnew: u32 = 9\n", ["told"]),
     ("turns a definition", "file: specs/Rows.antt\nold: n ≡ 7\nnew: n ≡ 6\n", ["told"]),
 ]
+# (renamings: the words, what is renamed, and whether that is a renaming of the one tree into the other)
+RENAMINGS = [
+    ({"half": "halved"}, {"half": "halved"}, True),
+    ({"Kept": "Held", "cse_low": "cse_below"}, {"Kept": "Held", "cse_low": "cse_below"}, True),
+    ({"half": "put"}, {"half": "put"}, False),
+    ({"half": "halved"}, {}, False),
+    ({"nowhere": "there"}, {}, False),
+    ({"Prelude": "Prologue"}, {"Prelude": "Prologue"}, False),
+]
+
+
+def renamed(names):
+    """The repository with other words."""
+    def turn(text):
+        return re.sub(r"(?<![\w'])\w+(?![\w'])", lambda it: names.get(it[0], it[0]), text)
+    return {turn(path): turn(text) for path, text in FILES.items()}
 
 
 def hash_of(changed, edit, how):
@@ -249,7 +268,11 @@ def main():
         if hash_of(body, edit, how) == hash_of({}, edit, how) or hash_of(comment, edit, how) != hash_of({}, edit, how):
             print(f"an edit that {what}: not the whole crate counts")
             bad += 1
-    print(f"{len(ROWS) + len(WHOLE) + 1} rows, {bad} fail")
+    for words, turned, is_renaming in RENAMINGS:
+        if (not list(carry.unfit(words, FILES, renamed(turned)))) != is_renaming:
+            print(f"{words}: {'refused' if is_renaming else 'taken'} as a renaming")
+            bad += 1
+    print(f"{len(ROWS) + len(WHOLE) + len(RENAMINGS) + 1} rows, {bad} fail")
     return int(bad > 0)
 
 
