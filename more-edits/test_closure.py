@@ -107,6 +107,12 @@ fn unnamed(x: u32) -> u32
 {
     x / 2
 }
+
+pub fn back(row: &mut Row) -> bool
+    ensures { result ≡ true }
+{
+    row.put(1)
+}
 """,
     "crates/cse_high/specs/Rows.antt": """-- Rows.
 use Rattle.std.specs.Prelude.{ℕ, ◌+◌}
@@ -163,6 +169,7 @@ tail x = x
 """,
 }
 EDIT = "file: src/rows.rt\nold:         self.kept.keep(half(x));\nnew:         self.kept.keep(half(x) + 1);\n"
+CALL = "file: src/rows.rt\nold:         self.kept.keep(half(x));\nnew:         back(self);\n"
 BODY = "crates/cse_high/src/rows.rt"
 BESIDE = "crates/cse_high/src/beside.rt"
 LAWS = "crates/cse_high/proofs/Laws.antt"
@@ -262,6 +269,11 @@ def main():
     if hash_of(moves, EDIT, refused) != first:
         print("a lemma moved to another file: the hash changes")
         bad += 1
+    for new, changes in (("row.put(1 + 1)", STAYS), ("true", CHANGES)):
+        called = {BESIDE: FILES[BESIDE].replace("row.put(1)", new)}
+        if (hash_of(called, CALL, refused) != hash_of({}, CALL, refused)) != changes:
+            print(f"a call of {new} by what the edit calls: the hash {'stays' if changes else 'changes'}")
+            bad += 1
     for what, edit, how in WHOLE:
         body = {BESIDE: FILES[BESIDE].replace("self.size = x;", "let y = x; self.size = y;")}
         comment = {BODY: FILES[BODY].replace("//! Rows.", "//! Other rows.")}
@@ -272,7 +284,7 @@ def main():
         if (not list(carry.unfit(words, FILES, renamed(turned)))) != is_renaming:
             print(f"{words}: {'refused' if is_renaming else 'taken'} as a renaming")
             bad += 1
-    print(f"{len(ROWS) + len(WHOLE) + len(RENAMINGS) + 1} rows, {bad} fail")
+    print(f"{len(ROWS) + len(WHOLE) + len(RENAMINGS) + 3} rows, {bad} fail")
     return int(bad > 0)
 
 
