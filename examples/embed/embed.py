@@ -1,12 +1,17 @@
 #!/usr/bin/env python3
-"""Tries a program in Rattle that builds, verifies and runs an edit in memory: in a workspace of its own.
+"""Tries a program in Rattle, and one in C, which build, verify and run an edit in memory: in a workspace of their own.
 
-usage: embed.py FOLDER [try]     (`rt run` proves what isn't proved yet, builds the program and runs it; with `try` nothing is proved)
+usage: embed.py FOLDER [rattle | try | c]     (rattle, if it isn't said)
 
-The gate wants every .rt of the repository in a crate of its own, so the program's name, rattle/main.rt.txt, ends in .txt here. FOLDER becomes the workspace:
+    rattle   `rt run` proves what isn't proved yet, builds rattle/main.rt.txt and runs it
+    try      `rt try` runs it without proof
+    c        `rt lib` proves what isn't proved yet and makes the static library of c/lib.rt.txt; gcc links c/program.c with it
+
+The gate wants every .rt of the repository in a crate of its own, so their names end in .txt here. FOLDER becomes the workspace:
 the libraries of this clone, what is built of them, the crate, and a crates.txt. It stays. What the program prints is compared
 with `printed` beside it, and the lines of docs/EMBEDDING.md with the program.
 """
+import glob
 import os
 import re
 import shutil
@@ -15,8 +20,9 @@ import sys
 
 HERE = os.path.dirname(os.path.realpath(__file__))
 ROOT = os.path.dirname(os.path.dirname(HERE))
-NAME = "embedded"
-USES = "cse_value cse_image cse_dict cse_decks cse_verify cse_build cse_batch thiserror"
+KIT = os.path.dirname(os.path.dirname(os.path.realpath(shutil.which("rt") or "rt")))
+USES = "cse_value cse_image cse_dict cse_decks cse_verify cse_build cse_batch"
+CRATES = {"rattle": ("embedded", "", f"{USES} thiserror"), "c": ("csb", " staticlib", USES)}
 
 
 def read(path):
@@ -50,21 +56,32 @@ def place(name, to):
             shutil.copytree(source, f"{to}/{part}", copy_function=put if part == "out/rlib" else shutil.copy2)
 
 
-def workspace(to):
+def workspace(to, kind):
     """Makes the workspace; gives the folder of the crate."""
     lines = dict(re.findall(r"(?m)^(\w+):(.*)$", read(f"{ROOT}/crates.txt")))
+    crate, sort, uses = CRATES[kind]
     for name in used(lines):
         place(name, f"{to}/crates/{name}")
-    os.makedirs(f"{to}/crates/{NAME}/src", exist_ok=True)
-    shutil.copy2(f"{HERE}/rattle/main.rt.txt", f"{to}/crates/{NAME}/src/main.rt")
+    os.makedirs(f"{to}/crates/{crate}/src", exist_ok=True)
+    for file in glob.glob(f"{HERE}/{kind}/*.rt.txt"):
+        shutil.copy2(file, f"{to}/crates/{crate}/src/{os.path.basename(file).removesuffix('.txt')}")
     with open(f"{to}/crates.txt", "w", encoding="utf-8") as file:
         file.writelines(f"{name}:{lines[name]}\n" for name in used(lines))
-        file.write(f"{NAME}: {USES}\n")
-    return f"{to}/crates/{NAME}"
+        file.write(f"{crate}{sort}: {uses}\n")
+    return f"{to}/crates/{crate}"
 
 
-def differences(printed):
-    if printed != read(f"{HERE}/rattle/printed"):
+def linked(folder):
+    """Makes the static library, and links the program in C with it; gives its path."""
+    subprocess.run(["rt", "lib"], cwd=folder, check=True)
+    libraries = [f"{folder}/out/lib{CRATES['c'][0]}.a", f"{KIT}/c/liblibc_c.a"]
+    words = ["gcc", "-Wall", "-I", f"{HERE}/c", "-o", f"{folder}/out/program", f"{HERE}/c/program.c", *libraries]
+    subprocess.run(words, check=True)
+    return f"{folder}/out/program"
+
+
+def differences(printed, kind):
+    if printed != read(f"{HERE}/{kind}/printed"):
         yield f"it printed {printed!r}"
     page, program = read(f"{ROOT}/docs/EMBEDDING.md"), read(f"{HERE}/rattle/main.rt.txt")
     for block in re.findall(r"(?s)```rust\n(.*?)```", page):
@@ -72,14 +89,17 @@ def differences(printed):
             yield f"docs/EMBEDDING.md shows lines that the program hasn't: {block}"
 
 
-def main(to, word="run"):
-    ran = subprocess.run(["rt", word, "--"], cwd=workspace(to), stdout=subprocess.PIPE, text=True)
-    found = [*differences(ran.stdout)]
+def main(to, word="rattle"):
+    kind = "c" if word == "c" else "rattle"
+    folder = workspace(to, kind)
+    command = [linked(folder)] if kind == "c" else ["rt", "try" if word == "try" else "run", "--"]
+    ran = subprocess.run(command, cwd=folder, stdout=subprocess.PIPE, text=True)
+    found = [*differences(ran.stdout, kind)]
     print("\n".join(found) or "the program prints what it should")
     return 1 if found or ran.returncode else 0
 
 
 if __name__ == "__main__":
-    if len(sys.argv) not in (2, 3) or sys.argv[2:] not in ([], ["try"]):
+    if len(sys.argv) not in (2, 3) or sys.argv[2:] not in ([], ["rattle"], ["try"], ["c"]):
         sys.exit(__doc__)
     sys.exit(main(os.path.abspath(sys.argv[1]), *sys.argv[2:]))
