@@ -2,3 +2,4 @@ mod Promises
 mod Layers
 mod Given
 mod Whole
+pub mod Meant

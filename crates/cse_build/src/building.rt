@@ -19,12 +19,14 @@ ghost use Rattle.cse_law_sources_have_room.specs.Given.{AreTexts, AreUtf8};
 ghost use Rattle.cse_build.specs.Build.{AreSound, IsBuilt, IsFault};
 ghost use Rattle.cse_build.specs.Build.{AreNamed, IsFaultBehind, IsImage, IsLimitFault, IsLogic, IsLogicFault, IsSourceFault};
 ghost use Rattle.cse_build.specs.Fault.{IsReason, out_of_memory};
+ghost use Rattle.cse_build.specs.Meant.{MeansLogic};
 
 use crate::compiling::compile;
 use crate::error::{BuildFault, NO_TEXT, WANT_OF_MEMORY};
 use crate::reading::read_tokens;
 use cse_dict::Dictionary;
-use cse_image::{Program, write_image};
+use cse_image::{Program, none_begins_another, write_image};
+use cse_law_programs_mean::programs_mean;
 use cse_syntax::{Source, parse};
 use cse_types::{Messages, Order, Typed, check};
 use std::alloc::Global;
@@ -135,7 +137,7 @@ fn with_messages(
 
 /// The image of logic for a dictionary, with its message file and its order file; a file that isn't there is an empty
 /// text. What is given is the spelling, in version 2, of a program of the logic, which may run with the dictionary
-/// (`image`).
+/// (`image`), and does what the logic means (`means`). So does each program that a reader makes of these bytes.
 ///
 /// The fault that is told is that of the message file, else of the order file, else of the logic as text, else of its
 /// names and kinds, else of its program (`fault`, see [`BuildFault`]). So, where the two files are sound and the logic is
@@ -148,9 +150,13 @@ pub fn build(
     order: &[u8],
 ) -> Result<Vec<u8>, BuildFault>
     ensures image { IfOk result (λ v. IsBuilt dictionary.now logic.now messages.now order.now v.items) }
+    ensures means { IfOk result (λ v. MeansLogic dictionary.now logic.now messages.now order.now v.items) }
     ensures fault { IfErr result (IsFault dictionary.now logic.now messages.now order.now) }
     ensures sound { AreSound dictionary.now logic.now messages.now order.now → IfErr result IsReason }
 {
+    dictionary.shape();
+    programs_mean();
+    none_begins_another();
     match Messages::read(alloc, messages) {
         Ok(messages) => with_messages(alloc, dictionary, logic, &messages, order),
         Err(error) => Err(BuildFault::from(error)),

@@ -2,6 +2,7 @@
 
 ghost use Rattle.std.specs.Prelude.{IfOk, IfErr};
 ghost use Rattle.cse_build.specs.Build.{IsBuilt};
+ghost use Rattle.cse_build.specs.Meant.{MeansLogic};
 ghost use Rattle.cse_commands.specs.Stops.{TellsBuildFault};
 
 use crate::fault::Fault;
@@ -54,6 +55,8 @@ pub fn image_of(
 ) -> Result<Vec<u8>, Stop>
     // The image is that of the logic, with these messages and this edit order.
     ensures built { IfOk result (λ image. IsBuilt dictionary.now logic.now messages.now order.now image.items) }
+    // Each program that the image stands for does what the logic means.
+    ensures means { IfOk result (λ image. MeansLogic dictionary.now logic.now messages.now order.now image.items) }
     // Why there is none.
     ensures refused { IfErr result (TellsBuildFault dictionary.now logic.now messages.now order.now) }
 {

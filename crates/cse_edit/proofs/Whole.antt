@@ -1,11 +1,9 @@
 -- A batch of a program that was built is what the logic means.
 use Rattle.std.proofs.Common.{◌≡◌, ℕ, ◌+◌, ◌<◌, Bool, true, false, cond, List, [], ◌∷◌, ◌++◌, length, map, replicate, Option, Some, None, Result, Ok, Err, refl, sym, ap, ◌∙◌, subst, arith}
 use Rattle.std.specs.Prelude.{is_some}
-use Rattle.std.proofs.lemmas.List.{append-nil}
 use Rattle.cse_value.specs.declared.number.Num.{Num}
 use Rattle.cse_value.specs.declared.shape.ItemShape.{ItemShape}
 use Rattle.cse_value.specs.Shape.{ShapeLists}
-use Rattle.cse_image_parts.specs.declared.version.Version.TheVariants as versions
 use Rattle.cse_image_parts.specs.declared.entries.EventCode.{EventCode}
 use Rattle.cse_image_parts.specs.declared.entries.EventCode.TheVariants as codes
 use Rattle.cse_image_parts.specs.Image.{Image, MessageLists, ArrayLists}
@@ -36,11 +34,10 @@ use Rattle.cse_compile_sections.specs.Order.{edit_order}
 use Rattle.cse_compile.specs.Program.{IsProgramOf}
 use Rattle.cse_meaning.specs.Meaning.{declarations, meaning}
 use Rattle.cse_meaning.specs.Means.{IsEventOf, Means, begins}
-use Rattle.cse_law_programs_mean.specs.Meant.{CompiledCodeMeans}
-use Rattle.cse_law_programs_mean.proofs.Built.{built_programs_mean}
-use Rattle.cse_image_parts.specs.declared.version.Version.{Version}
-use Rattle.cse_image.specs.Spelling.{SpellsIn, Spells, StandFor, program_in}
+use Rattle.cse_law_programs_mean.specs.Meant.{ProgramsMean}
+use Rattle.cse_image.specs.Spelling.{StandFor}
 use Rattle.cse_build.specs.Build.{IsBuilt}
+use Rattle.cse_build.proofs.Meant.{NoneBegins, built_means, one_program}
 use Rattle.cse_batch.specs.declared.totals.Totals.{Totals}
 use Rattle.cse_batch.specs.Totals.{totals_of}
 use Rattle.cse_batch.specs.Events.{after_moment, after_moments, edited, end_of, events_of, told_more, unedited}
@@ -52,10 +49,6 @@ use Rattle.cse_edit.specs.Laws.{BatchesMean, IsMeant}
 use Rattle.cse_edit.proofs.Events.{AllOf, of_case}
 use Rattle.cse_batch.proofs.BoundLaws.{AllSome, some_given, store_after_run, store_begun}
 use Rattle.cse_edit.proofs.Runs.{some_front}
-
--- no spelling begins another
-abbrev pub NoneBegins : Type 0
-NoneBegins = (v w : Version) (x y : Image) (a b rest : List ℕ) → SpellsIn v x a → SpellsIn w y b → a ++ rest ≡ b → (v ≡ w) × (x ≡ y) × (rest ≡ [])
 
 as_given : (x : Image) (r : Result (List (List Num)) DeckError) → with_arrays x r ≡ with_cells (first_kept x) r
 as_given x (Ok arrays) = refl
@@ -189,12 +182,10 @@ module _ (v : VerifiedProgram) (t : Tree) (named : List ℕ) (means : Means v t)
       ∙ (ap (λ first. loaded_by v.image.lists.arrays first text) first_is
       ∙ ap (λ arrays. loaded_by arrays (first_meant t) text) program.arrays)
 
-pub batches_mean : (v : VerifiedProgram) → CompiledCodeMeans v → EventsEnd v → NoneBegins → MayRun v → IsSound v.dictionary → BatchesMean v
-batches_mean v compiled law none may_run sound logic messages order image stands built =
-    let other = none versions.Two stands.version built.program stands.image image image [] built.image.spelled stands.spells (append-nil image) in
-    let same : built.program ≡ v.image = sym (stands.stands ∙ (ap (λ w. program_in w stands.image) (sym other.0) ∙ sym other.1)) in
-    let spelled = subst (λ x. Spells x image) same built.image.spelled in
-    let means = built_programs_mean v compiled none sound logic messages order image spelled built in
+pub batches_mean : (v : VerifiedProgram) → ProgramsMean → EventsEnd v → NoneBegins → MayRun v → IsSound v.dictionary → BatchesMean v
+batches_mean v mean law none may_run sound logic messages order image stands built =
+    let same : built.program ≡ v.image = one_program v.dictionary sound mean none logic messages order image built v.image stands in
+    let means : Means v built.texts.tree = built_means v.dictionary sound mean none logic messages order image built v.image stands in
     let program = subst (λ x. IsProgramOf v.dictionary built.texts.named built.texts.tree x) same built.image.compiled in
     record {
       batch_is = batch_is v built.texts.tree built.texts.named means law may_run program;

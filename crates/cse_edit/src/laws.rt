@@ -5,7 +5,7 @@ ghost use Rattle.cse_edit.specs.Laws.{BatchesMean};
 
 use cse_dict::Dictionary;
 use cse_image::{Code, none_begins_another};
-use cse_law_programs_mean::compiled_code_means;
+use cse_law_programs_mean::programs_mean;
 use cse_steps::event_ends;
 use cse_verify::Verified;
 
@@ -20,7 +20,7 @@ fn hand_on_sound(dictionary: &Dictionary)
 pub fn batches_mean<C: Code>(verified: &Verified<'_, C>)
     ensures { BatchesMean verified.now }
 {
-    compiled_code_means(verified);
+    programs_mean();
     event_ends(verified);
     none_begins_another();
     verified.program();

@@ -7,4 +7,4 @@ pub mod Sound
 pub mod Kept
 pub mod Loops
 pub mod Whole
-pub mod Built
+pub mod Alone

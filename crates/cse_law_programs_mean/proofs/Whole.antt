@@ -1,6 +1,6 @@
 -- A program that was compiled does what its source means.
 use Rattle.std.proofs.Common.{◌≡◌, ℕ, suc, ◌+◌, Bool, true, false, cond, List, [], ◌∷◌, length, map, Option, Some, None, refl, sym, ap, ◌∙◌, subst, arith, nat_eq}
-use Rattle.std.specs.Prelude.{slice_get, find}
+use Rattle.std.specs.Prelude.{slice_get, find, option_map}
 use Rattle.std.specs.List.{AllByRecursion}
 use Rattle.std.proofs.lemmas.Bool.{eq-eqb, eqb-true, and_parts, false≢true}
 use Rattle.std.proofs.lemmas.Option.{same_Some, none-some}
@@ -39,10 +39,12 @@ use Rattle.cse_steps.specs.Laws.{EventsEnd}
 use Rattle.cse_steps.specs.State.{World}
 use Rattle.cse_steps.specs.Run.{first, run}
 use Rattle.cse_steps.proofs.Runs.{composed}
-use Rattle.cse_meaning.specs.Meaning.{context, handler, is_same_event, done_by, meaning}
+use Rattle.cse_meaning.specs.Meaning.{context, done_by, meaning}
+use Rattle.cse_meaning.specs.Tables.{is_same_event, in_table}
 use Rattle.cse_meaning.specs.Means.{IsEventOf, RunsTo, Means, begins}
 use Rattle.cse_meaning.specs.Whole.{IsRoutineOf, IsHandled}
 use Rattle.cse_meaning.proofs.Events.{all_mean}
+use Rattle.cse_meaning.proofs.Tables.{tables_agree}
 use Rattle.cse_law_programs_mean.specs.Meant.{CompiledCodeMeans}
 use Rattle.cse_law_programs_mean.proofs.Sound.{named_by}
 use Rattle.cse_law_programs_mean.proofs.Distinct.{events_apart}
@@ -105,9 +107,9 @@ unfolding first run
 nothing_runs v m case store none = (0, record { state = first v m case store; runs = refl; ended = rw none refl; world = refl; within = omega arith })
 
 -- and it means nothing
-means_nothing : (d : DictionaryText) (t : Tree) (m : Moment) (w : World) → handler t m.event ≡ None → meaning d t m w ≡ w
+means_nothing : (d : DictionaryText) (t : Tree) (m : Moment) (w : World) → in_table t m.event ≡ None → meaning d t m w ≡ w
 unfolding meaning
-means_nothing d t m w none = ap (done_by d t m.occurrence w) none
+means_nothing d t m w none = ap (done_by d t m.occurrence w) (tables_agree t m.event ∙ ap (option_map (λ (x : Handler). x.outline.body)) none)
 
 module _ (v : VerifiedProgram) (messages : List MessageText) (named : List ℕ) (source : syntax.Tree) (words : List Word) (t : Tree) (typed : IsTyped (shape_of v.dictionary) v.image) (compiled : IsCompiled v.dictionary messages named source words t v.image) where
   abbrev d : DictionaryText
@@ -123,10 +125,10 @@ module _ (v : VerifiedProgram) (messages : List MessageText) (named : List ℕ) 
   routine_at_is e h = ap (λ es. routine_of es e) compiled.program.events ∙ routine_is_at table d e h
 
   -- an event without a handler has no routine
-  none_runs : (e : Event) → IsEventOf d e.code e.index → handler t e ≡ None → routine_of v.image.lists.events e ≡ None
+  none_runs : (e : Event) → IsEventOf d e.code e.index → in_table t e ≡ None → routine_of v.image.lists.events e ≡ None
   none_runs e h none = routine_at_is e h ∙ none_from (event_code e.code, e.index) many [] (handlers t) refl (no_handler e (handlers t) none)
 
-  module _ (e : Event) (there : IsEventOf d e.code e.index) (h : Handler) (is : handler t e ≡ Some h) where
+  module _ (e : Event) (there : IsEventOf d e.code e.index) (h : Handler) (is : in_table t e ≡ Some h) where
     abbrev found : Handles (handlers t) e h
     found = handles_it e (handlers t) h is
 
@@ -179,28 +181,28 @@ module _ (v : VerifiedProgram) (messages : List MessageText) (named : List ℕ) 
     is_handled : IsHandled v t e (many + found.at) its.owner its.after h.outline.body
     is_handled = record {
       event_is = sym same ∙ its.event;
-      handler_is = is ∙ (ap (λ (e : Event). Some (record { event = e; outline = h.outline })) same ∙ ap (λ (o : Outline). Some (record { event = e; outline = o })) same_outline);
+      statements_are = tables_agree t e ∙ ap (option_map (λ (x : Handler). x.outline.body)) is;
       routine_is = runs;
       is = is_its;
       item_is = item_is;
     }
 
   module _ (ends : EventsEnd v) where
-    event_means : (m : Moment) (case : Option CaseText) (store : Kept) → IsEventOf d m.event.code m.event.index → FitsFirst v m case store → (o : Option Handler) → handler t m.event ≡ o → RunsTo v m case store (meaning d t m (begins case store))
+    event_means : (m : Moment) (case : Option CaseText) (store : Kept) → IsEventOf d m.event.code m.event.index → FitsFirst v m case store → (o : Option Handler) → in_table t m.event ≡ o → RunsTo v m case store (meaning d t m (begins case store))
     event_means m case store there fit None none = subst (RunsTo v m case store) (sym (means_nothing d t m (begins case store) none)) (nothing_runs v m case store (none_runs m.event there none))
     event_means m case store there fit (Some h) is =
         let k = handles_it m.event (handlers t) h is in
         let p = (all_parts t.procedures).at k.at h k.there in
         all_mean composed v t m case store (many + k.at) p.owner p.after h.outline.body ends (has_functions v messages named source words t compiled) (is_handled m.event there h is) fit
 
-    idle : (m : Moment) (w : World) → IsEventOf d m.event.code m.event.index → routine_of v.image.lists.events m.event ≡ None → (o : Option Handler) → handler t m.event ≡ o → meaning d t m w ≡ w
+    idle : (m : Moment) (w : World) → IsEventOf d m.event.code m.event.index → routine_of v.image.lists.events m.event ≡ None → (o : Option Handler) → in_table t m.event ≡ o → meaning d t m w ≡ w
     idle m w there none None is = means_nothing d t m w is
     idle m w there none (Some h) is = absurd (none-some _ (sym none ∙ runs m.event there h is))
 
     it_means : Means v t
     it_means = record {
-      runs = λ m case store there fit. event_means m case store there fit (handler t m.event) refl;
-      idle = λ m w there none. idle m w there none (handler t m.event) refl;
+      runs = λ m case store there fit. event_means m case store there fit (in_table t m.event) refl;
+      idle = λ m w there none. idle m w there none (in_table t m.event) refl;
     }
 
 pub compiled_code_means : (v : VerifiedProgram) → MayRun v → EventsEnd v → CompiledCodeMeans v

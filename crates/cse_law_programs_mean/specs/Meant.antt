@@ -6,8 +6,8 @@ use Rattle.cse_verify.specs.Verified.{VerifiedProgram}
 use Rattle.cse_logic_tree.specs.Typed.{Tree}
 use Rattle.cse_types.specs.MessageFile.{MessageText}
 use Rattle.cse_law_sources_are_sound.specs.Checked.{IsCompiled}
-use Rattle.cse_image.specs.Spelling.{Spells}
-use Rattle.cse_build.specs.Build.{IsBuilt}
+use Rattle.cse_steps.specs.Fits.{IsVerified}
+use Rattle.cse_steps.specs.Laws.{EventsEnd}
 use Rattle.cse_meaning.specs.Means.{Means}
 
 -- Whatever sound source such a program is compiled from, it does what that means.
@@ -16,8 +16,16 @@ CompiledCodeMeans v =
     (messages : List MessageText) (named : List ℕ) (source : syntax.Tree) (words : List Word) (t : Tree)
     → IsCompiled v.dictionary messages named source words t v.image → Means v t
 
--- So does the program that three texts are built to: the logic, its message file and its order file.
-abbrev pub BuiltProgramsMean : VerifiedProgram → Type 0
-BuiltProgramsMean v =
-    (logic messages order bytes : List ℕ)
-    → Spells v.image bytes → (built : IsBuilt v.dictionary logic messages order bytes) → Means v built.texts.tree
+-- ---- of a dictionary and an image alone, without a value that `verify` gave
+
+-- Where the image has a spelling and is typed for the sound dictionary and bounded, each event runs to its end within its bound.
+abbrev pub ProgramsEnd : Type 0
+ProgramsEnd = (v : VerifiedProgram) → IsVerified v → EventsEnd v
+
+-- and does what the source means that it is compiled from.
+abbrev pub ProgramsMean : Type 0
+ProgramsMean = (v : VerifiedProgram) → IsVerified v → CompiledCodeMeans v
+
+-- Nothing is left open by a meaning: what merely is so is so.
+abbrev pub MeansAlone : Type 0
+MeansAlone = (v : VerifiedProgram) (t : Tree) → IsVerified v → ∥ Means v t ∥₁ → Means v t

@@ -189,7 +189,7 @@ module _ (compose : RunsCompose) (v : VerifiedProgram) (t : Tree) (m : Moment) (
       ap (first_calls v.image m.occurrence) handled.routine_is
       ∙ (ap (λ o. option_map_or (λ (y : RoutineLists). new_call r y (event_arguments y m.occurrence) ∷ []) o []) handled.is.there
       ∙ ap (λ (k : Call). k ∷ []) (calls_for owner handled.is.instructions r m.occurrence)) in
-      let left : meaning v.dictionary t m w0 ≡ world_of (all_do fn c body (begun []) w0) = ap (done_by v.dictionary t m.occurrence w0) handled.handler_is in
+      let left : meaning v.dictionary t m w0 ≡ world_of (all_do fn c body (begun []) w0) = ap (done_by v.dictionary t m.occurrence w0) handled.statements_are in
       subst (λ u. Goes v (first v m case store) (record { calls = []; world = u })) (sym left)
       (subst (λ calls. Goes v (record { calls = calls; world = w0 }) (record { calls = []; world = world_of (all_do fn c body (begun []) w0) })) (sym begun_at) g)
 

@@ -19,3 +19,4 @@ pub mod Statements
 pub mod Functions
 pub mod Events
 pub mod Once
+pub mod Tables

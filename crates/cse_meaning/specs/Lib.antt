@@ -4,6 +4,7 @@ pub mod Writing
 pub mod Expressions
 pub mod Statements
 pub mod Meaning
+pub mod Tables
 pub mod Means
 pub mod Runs
 pub mod Laid

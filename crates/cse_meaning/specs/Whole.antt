@@ -29,7 +29,7 @@ use Rattle.cse_meaning.specs.Setting.{Context}
 use Rattle.cse_meaning.specs.Runs.{StandAt}
 use Rattle.cse_meaning.specs.Follows.{Follows}
 use Rattle.cse_meaning.specs.Plain.{IsPlainBlock}
-use Rattle.cse_meaning.specs.Meaning.{functions_below, declarations, context, handler, meaning}
+use Rattle.cse_meaning.specs.Meaning.{functions_below, declarations, context, statements_of, meaning}
 use Rattle.cse_meaning.specs.Means.{begins, RunsTo}
 
 -- what the code of a routine depends on besides its tree
@@ -75,7 +75,7 @@ pub record HasFunctions (v : VerifiedProgram) (t : Tree) : Type 0 where
 -- The event runs the routine of its part of a procedure. An item's event is of an item of a record.
 pub record IsHandled (v : VerifiedProgram) (t : Tree) (event : Event) (r : ℕ) (owner : Owner) (is_after : Bool) (body : Statements) : Type 0 where
   pub event_is : event ≡ event_of owner is_after
-  pub handler_is : handler t event ≡ Some (record { event = event; outline = record { sort = sorts.Procedure owner; body = body } })
+  pub statements_are : statements_of t event ≡ Some body
   pub routine_is : routine_of v.image.lists.events event ≡ Some r
   pub is : IsRoutineOf v (context v.dictionary t 0).arrays r (record { sort = sorts.Procedure owner; body = body }) 0
   pub item_is : (f : Field) → owner ≡ owners.Item f → (x : ItemShape) × (slice_get v.image.lists.items f.item ≡ Some x) × (x.owner ≡ f.owner)

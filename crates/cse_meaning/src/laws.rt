@@ -4,12 +4,18 @@ ghost use Rattle.cse_meaning.specs.Acts.{AssignmentsGo, ConditionsGo};
 ghost use Rattle.cse_meaning.specs.Lands.{StatementsLand};
 ghost use Rattle.cse_meaning.specs.Means.{MeaningIsTheOutcome};
 ghost use Rattle.cse_meaning.specs.Runs.{RunsJoin};
+ghost use Rattle.cse_meaning.specs.Tables.{TablesAgree};
 ghost use Rattle.cse_meaning.specs.Values.{NumbersGo, WordsGo};
 ghost use Rattle.cse_meaning.specs.Whole.{EventsMean, FunctionsFollow};
 
 /// Law: an event of a program that does what its logic means leaves what the logic means, and nothing else.
 pub fn meaning_is_the_outcome()
     ensures { MeaningIsTheOutcome }
+{}
+
+/// Law: the compiler's table of events has of each event the statements that the meaning has.
+pub fn tables_agree()
+    ensures { TablesAgree }
 {}
 
 /// Law: a run to a state and a run from there are a run.

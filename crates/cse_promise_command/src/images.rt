@@ -3,6 +3,7 @@
 ghost use Rattle.std.specs.Prelude.{◌≡◌, false, IfErr, IfOk, OnOk};
 ghost use Rattle.std.specs.Io.KnownBytes.{Appends};
 ghost use Rattle.cse_build.specs.Build.{IsBuilt};
+ghost use Rattle.cse_build.specs.Meant.{MeansLogic};
 ghost use Rattle.cse_commands.specs.Stops.{TellsBuildFault};
 ghost use Rattle.cse_commands.specs.Tried.{FailsByWrite, IsRefused, PrintsBefore, Runs, is_write, text_of};
 ghost use Rattle.cse_commands.specs.Vetted.{FailsBy, FailsOnlyByWrite, Passes, TellsBefore, is_failed_write, told};
@@ -24,6 +25,7 @@ pub fn image_of(
     order: &[u8],
 ) -> Result<Vec<u8>, Stop>
     ensures built { IfOk result (λ image. IsBuilt dictionary.now logic.now messages.now order.now image.items) }
+    ensures means { IfOk result (λ image. MeansLogic dictionary.now logic.now messages.now order.now image.items) }
     ensures refused { IfErr result (TellsBuildFault dictionary.now logic.now messages.now order.now) }
 {
     compile_image::image_of(alloc, dictionary, logic, messages, order)

@@ -5,12 +5,18 @@ use Rattle.cse_build.specs.Fault.{IsReason}
 use Rattle.cse_build.specs.Build.{IsFault}
 use Rattle.cse_build.proofs.Given.{are_texts}
 use Rattle.cse_build.proofs.Layers.{fault_of_messages, image_of_messages, messages_told}
+use Rattle.cse_build.proofs.Meant.{all_mean_logic}
 use Rattle.cse_build.proofs.Whole.{by_fault, sound_reasons}
 use Rattle.cse_build.proofs.building.build.Goals as goal
 
 pub returns-in-Ok-clause-image : goal.returns-in-Ok-clause-image
 returns-in-Ok-clause-image c =
     image_of_messages c.args.dictionary.now c.in-Ok.messages c.args.logic.now c.args.messages.now c.args.order.now c.with_messages.result (λ v. v.items) c.in-Ok.ensures c.with_messages.ensures.image
+
+pub returns-in-Ok-clause-means : goal.returns-in-Ok-clause-means
+returns-in-Ok-clause-means c =
+    let built = image_of_messages c.args.dictionary.now c.in-Ok.messages c.args.logic.now c.args.messages.now c.args.order.now c.with_messages.result (λ v. v.items) c.in-Ok.ensures c.with_messages.ensures.image in
+    all_mean_logic c.args.dictionary.now c.args.logic.now c.args.messages.now c.args.order.now c.with_messages.result (λ v. v.items) c.shape.ensures.sound c.programs_mean.ensures c.none_begins_another.ensures built
 
 pub returns-in-Ok-clause-fault : goal.returns-in-Ok-clause-fault
 returns-in-Ok-clause-fault c =

@@ -6,5 +6,5 @@ use Rattle.cse_edit.proofs.laws.batches_mean.Goals as goal
 
 pub returns : goal.returns
 returns g c =
-    law c.args.verified.now c.compiled_code_means.ensures c.event_ends.ensures c.none_begins_another.ensures c.program.ensures.may_run
+    law c.args.verified.now c.programs_mean.ensures c.event_ends.ensures c.none_begins_another.ensures c.program.ensures.may_run
     (subst (λ (d : DictionaryText). IsSound d) c.dictionary.ensures c.hand_on_sound.ensures)

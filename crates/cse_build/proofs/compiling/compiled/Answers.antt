@@ -5,7 +5,7 @@ use Rattle.cse_logic_tree.specs.Typed.{tree}
 use Rattle.cse_types.specs.Answer.{checked}
 use Rattle.cse_law_sources_have_room.specs.Given.{ShapeFits}
 use Rattle.cse_build.proofs.Promises.{reasons_alone, no_room, within_limits, long_at_cost}
-use Rattle.cse_build.proofs.compiling.compile.Goals as goal
+use Rattle.cse_build.proofs.compiling.compiled.Goals as goal
 
 pub returns-clause-others : goal.returns-clause-others
 returns-clause-others c =
