@@ -1,15 +1,18 @@
-//! Worked rows of the lowest libraries: tests of public calls of cse_value, cse_sections and cse_image_parts, of what no clause
-//! says, and one row of each call whose answer is a definition, as it is built. The other rows of those are laws of
+//! Worked rows of the lowest libraries: tests of public calls of cse_value, cse_sections, cse_image_parts and cse_lines, of what
+//! no clause says, and one row of each call whose answer is a definition, as it is built. The other rows of those are laws of
 //! cse_test_laws. They stand apart so that each of these libraries is proved once, and not a second time with its tests.
 //!
 //! - `numbers`, `texts`: values, how they compare, and their columns.
 //! - `devices`: devices that fail, and what errors say.
 //! - `spelled`: whole numbers, as a value of a dictionary spells them.
+//! - `lines`: files as runs of lines.
 //! - `parts`: parts of images: placeholders, names, single fields and instructions.
 #![tactic(auto)]
 
 #[cfg(test)]
 mod devices;
+#[cfg(test)]
+mod lines;
 #[cfg(test)]
 mod numbers;
 #[cfg(test)]

@@ -1,0 +1,240 @@
+//! Files as runs of lines, as they are built: in pieces, cut off, and at their limits. What the runs of other files are is a law
+//! of cse_test_laws.
+
+ghost use Rattle.std.specs.Prelude.{None};
+
+use cse_dict::Dictionary;
+use cse_lines::RunReader;
+use cse_value::{Failed, Input};
+use std::alloc::{AllocError, Global};
+
+/// Gives bytes in small pieces, and fails before byte `breaks`.
+#[derive(Drop)]
+struct Pieces<'a> {
+    bytes: &'a [u8],
+    size: usize,
+    breaks: usize,
+    failed: bool,
+}
+
+impl Input for Pieces<'_> {
+    ghost remaining = { λ s. None };
+
+    ghost has_failed = { λ s. s.failed };
+
+    fn read(&mut self, buf: &mut [u8]) -> Result<usize, Failed> {
+        let n = self
+            .size
+            .min(buf.len())
+            .min(self.bytes.len())
+            .min(self.breaks);
+        if self.failed || self.breaks == 0 {
+            self.failed = true;
+            return Err(Failed);
+        }
+        buf[..n].copy_from_slice(&self.bytes[..n]);
+        self.bytes = &self.bytes[n..];
+        self.breaks -= n;
+        Ok(n)
+    }
+}
+
+const PERSONS: &str =
+    "[Dictionary]\nName=D\nRecordTypeStart=1\nRecordTypeLen=1\n[Level]\nName=L\n[IdItems]\n[Item]\nName=HH\nStart=2\nLen=3\n[Record]\nName=PERSON\nRecordTypeValue='P'\nRecordLen=6\nMaxRecords=2\n";
+
+/// A mark, lines with ends of each kind, and letters beyond ASCII. Its first run ends with byte 22, and the line behind it with
+/// byte 31.
+const FILE: &[u8] =
+    b"\xef\xbb\xbfP00111\r\nP0012\nX001\nP002  b \n\nP00\xc3\xa9\nP00\xc3\xa9z\nP003\rx";
+
+/// A piece of a file, so often; how many bytes a read gives at most, and how many runs are read at most. What comes of it: the
+/// number and the line of the fault at which the file ends, or 0 and how many runs were read; and how many reads gave bytes
+/// until then, where that is looked at.
+struct Row {
+    piece: &'static [u8],
+    times: usize,
+    size: usize,
+    most: u64,
+    told: (u8, u64),
+    reads: Option<u64>,
+}
+
+/// The first run alone. Its end is known with the whole of the next line.
+const FIRST: Row = Row {
+    piece: FILE,
+    times: 1,
+    size: 1,
+    most: 1,
+    told: (0, 1),
+    reads: Some(31),
+};
+
+/// Of a large file, all.
+const LARGE: Row = Row {
+    piece: b"P001\n",
+    times: 10_000,
+    size: 65_536,
+    most: 200_000,
+    told: (0, 1),
+    reads: None,
+};
+
+static ROWS: [Row; 14] = [
+    FIRST,
+    Row {
+        size: 2,
+        reads: Some(16),
+        ..FIRST
+    },
+    Row {
+        size: 3,
+        reads: Some(11),
+        ..FIRST
+    },
+    Row {
+        size: 7,
+        reads: Some(5),
+        ..FIRST
+    },
+    Row {
+        size: 65_536,
+        reads: Some(1),
+        ..FIRST
+    },
+    Row {
+        piece: b"P0011\nP001\n",
+        size: 4,
+        reads: Some(3),
+        ..FIRST
+    },
+    // A faulty line, and a run of as many lines as may be.
+    Row {
+        piece: b"P00111 35\n\xff\nP002\n",
+        times: 1,
+        told: (20, 2),
+        ..LARGE
+    },
+    LARGE,
+    Row {
+        times: 10_001,
+        told: (22, 10_001),
+        ..LARGE
+    },
+    Row {
+        piece: b"P00111\nP00211\r\n",
+        times: 50_000,
+        told: (0, 100_000),
+        ..LARGE
+    },
+    // A line of as many columns and bytes as may be.
+    Row {
+        piece: b"\xc3\xa9",
+        times: 65_536,
+        ..LARGE
+    },
+    Row {
+        piece: b"\xc3\xa9",
+        times: 65_537,
+        told: (21, 1),
+        ..LARGE
+    },
+    Row {
+        piece: b"\xff",
+        times: 262_144,
+        told: (20, 1),
+        ..LARGE
+    },
+    Row {
+        piece: b"\xff",
+        times: 262_145,
+        told: (21, 1),
+        ..LARGE
+    },
+];
+
+/// What comes of a file, by at most so many runs, and how many reads gave bytes. 99 tells that much is held after a run.
+fn outcome(
+    alloc: Global,
+    dictionary: &Dictionary,
+    mut input: Pieces<'_>,
+    most: u64,
+) -> ((u8, u64), u64) {
+    let mut reader = RunReader::new(alloc, dictionary);
+    for runs in 0..most {
+        match reader.next(&mut input) {
+            Ok(Some(_)) => {}
+            Ok(None) => return ((0, runs), reader.reads()),
+            Err(error) => return ((error.number, error.line), reader.reads()),
+        }
+        let kept = reader.kept();
+        if kept.lines > 1 || kept.bytes > 65_536 {
+            return ((99, runs), reader.reads());
+        }
+    }
+    ((0, most), reader.reads())
+}
+
+fn push_times(bytes: &mut Vec<u8>, piece: &[u8], times: usize) -> Result<(), AllocError> {
+    for _ in 0..times {
+        bytes.extend_from_slice(piece)?;
+    }
+    Ok(())
+}
+
+/// Whether a file of these bytes is read as the row tells.
+fn is_read(alloc: Global, dictionary: &Dictionary, bytes: &[u8], row: &Row) -> bool {
+    let input = Pieces {
+        bytes,
+        size: row.size,
+        breaks: usize::MAX,
+        failed: false,
+    };
+    let (told, reads) = outcome(alloc, dictionary, input, row.most);
+    told == row.told && reads == row.reads.unwrap_or(reads)
+}
+
+fn is_row(alloc: Global, dictionary: &Dictionary, row: &Row) -> bool {
+    let mut bytes = Vec::new(alloc);
+    match push_times(&mut bytes, row.piece, row.times) {
+        Ok(()) => is_read(alloc, dictionary, &bytes, row),
+        Err(_) => false,
+    }
+}
+
+/// The place of the first row that is read otherwise, or how many they are.
+fn first_wrong(alloc: Global, rows: &[Row]) -> Option<usize> {
+    let dictionary = Dictionary::read(alloc, PERSONS.as_bytes()).ok()?;
+    for (i, row) in rows.iter().enumerate() {
+        if !is_row(alloc, &dictionary, row) {
+            return Some(i);
+        }
+    }
+    Some(rows.len())
+}
+
+#[test]
+fn limits_of_runs_and_lines(rt: HostRuntime) {
+    assert!(rt; first_wrong(rt.alloc(), &ROWS) == Some(14));
+}
+
+/// The first byte before which a device may fail and nothing is told of it, or how many bytes the file has.
+fn first_unnoticed(alloc: Global, bytes: &[u8]) -> Option<usize> {
+    let dictionary = Dictionary::read(alloc, PERSONS.as_bytes()).ok()?;
+    for breaks in 0..bytes.len() {
+        let input = Pieces {
+            bytes,
+            size: 3,
+            breaks,
+            failed: false,
+        };
+        if outcome(alloc, &dictionary, input, 99).0 != (70, 0) {
+            return Some(breaks);
+        }
+    }
+    Some(bytes.len())
+}
+
+#[test]
+fn a_device_that_fails(rt: HostRuntime) {
+    assert!(rt; first_unnoticed(rt.alloc(), FILE) == Some(51));
+}
