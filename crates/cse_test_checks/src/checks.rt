@@ -1,106 +1,80 @@
 //! What `check` tells of worked rows of logic.
 
-use crate::answers::read;
-use crate::logic;
-use crate::told::assert_text;
+use crate::logic::{DICTIONARY, MESSAGES, PRELUDE, ROWS, Row};
+use crate::told::assert_count;
 use cse_dict::Dictionary;
 use cse_syntax::parse;
-use cse_types::{Messages, Order, TypeError, check};
-use std::alloc::Global;
-use std::test::Fail;
+use cse_types::{Messages, Order, check};
+use std::alloc::{AllocError, Global};
 
-fn fault_told(alloc: Global, fault: TypeError) -> Result<String, Fail> {
-    Ok(format!(in alloc; "{} {} {}", fault.number, fault.line, fault.column)?)
+/// What logic is checked against.
+#[derive(Clone, Copy)]
+struct Beside<'a> {
+    dictionary: &'a Dictionary,
+    messages: &'a Messages,
 }
 
-/// The logic of a row, behind the prelude where it has no declarations of its own.
-fn logic_of(alloc: Global, row: &str) -> Result<String, Fail> {
-    if row.starts_with("PROC GLOBAL") {
-        return Ok(String::from_str(alloc, row)?);
-    }
-    Ok(format!(in alloc; "{}\n{row}", logic::prelude())?)
-}
+/// What is told where no source or order can be read.
+const NONE_READ: (u8, u64, u64) = (90, 0, 0);
 
-fn told(
-    alloc: Global,
-    dictionary: &Dictionary,
-    messages: &Messages,
-    logic: &str,
-) -> Result<String, Fail> {
-    let Ok(order) = Order::read(alloc, dictionary, b"".as_slice()) else {
-        return Err("no order".into());
+/// The number, line and column of the fault of logic; zeros where it is sound.
+fn fault(alloc: Global, beside: &Beside<'_>, logic: &str) -> (u8, u64, u64) {
+    let Ok(order) = Order::read(alloc, beside.dictionary, b"") else {
+        return NONE_READ;
     };
-    let Ok(source) = parse(alloc, logic) else {
-        return Err("no source".into());
-    };
-    match check(alloc, dictionary, &source, messages, &order) {
-        Ok(_) => Ok(String::from_str(alloc, "ok")?),
-        Err(fault) => fault_told(alloc, fault),
+    match parse(alloc, logic) {
+        Ok(source) => match check(alloc, beside.dictionary, &source, beside.messages, &order) {
+            Ok(_) => (0, 0, 0),
+            Err(fault) => (fault.number, fault.line, fault.column),
+        },
+        Err(_) => NONE_READ,
     }
 }
 
-/// The first row that is told otherwise.
-fn first_wrong(alloc: Global, rows: &str) -> Result<String, Fail> {
-    let dictionary = read(alloc, logic::dictionary())?;
-    let Ok(messages) = Messages::read(alloc, logic::messages().as_bytes()) else {
-        return Err("no messages".into());
-    };
-    for row in rows.split('#') {
-        let Some((wanted, logic)) = row.split_once('|') else {
-            return Err("no row".into());
-        };
-        let logic = logic_of(alloc, logic)?;
-        let is = told(alloc, &dictionary, &messages, logic.as_str())?;
-        if is.as_str() != wanted {
-            return Ok(format!(in alloc; "{is} for {row}")?);
+/// Logic behind the prelude.
+fn behind_prelude(alloc: Global, logic: &str) -> Result<String, AllocError> {
+    let mut text = String::from_str(alloc, PRELUDE)?;
+    text.push_str(logic)?;
+    Ok(text)
+}
+
+/// The fault of the logic of a row, behind the prelude where it has no declarations of its own.
+fn fault_of(alloc: Global, beside: &Beside<'_>, logic: &str) -> (u8, u64, u64) {
+    if logic.starts_with("PROC GLOBAL") {
+        return fault(alloc, beside, logic);
+    }
+    match behind_prelude(alloc, logic) {
+        Ok(text) => fault(alloc, beside, text.as_str()),
+        Err(_) => NONE_READ,
+    }
+}
+
+/// The place of the first of the rows that is told otherwise, or how many they are.
+fn wrong_beside(alloc: Global, beside: &Beside<'_>, rows: &[Row]) -> usize {
+    for (i, (logic, wanted)) in rows.iter().enumerate() {
+        if fault_of(alloc, beside, logic) != *wanted {
+            return i;
         }
     }
-    Ok(String::new(alloc))
+    rows.len()
 }
 
-/// The first row of these tables that is told otherwise.
-fn first_of(alloc: Global, tables: &[&str]) -> Result<String, Fail> {
-    for rows in tables {
-        let wrong = first_wrong(alloc, rows)?;
-        if !wrong.is_empty() {
-            return Ok(wrong);
-        }
-    }
-    Ok(String::new(alloc))
+fn wrong_with(alloc: Global, dictionary: &Dictionary, rows: &[Row]) -> Option<usize> {
+    let messages = Messages::read(alloc, MESSAGES.as_bytes()).ok()?;
+    let beside = Beside {
+        dictionary,
+        messages: &messages,
+    };
+    Some(wrong_beside(alloc, &beside, rows))
 }
 
-#[test]
-fn sound_logic(rt: HostRuntime) -> Result<(), Fail> {
-    let wrong = first_of(rt.alloc(), &[logic::accepted(), logic::declared()])?;
-    assert_text(&rt, wrong.as_str(), "");
-    Ok(())
+/// The place of the first of the rows that is told otherwise; nothing where what stands beside them can't be read.
+fn first_wrong(alloc: Global, rows: &[Row]) -> Option<usize> {
+    let dictionary = Dictionary::read(alloc, DICTIONARY.as_bytes()).ok()?;
+    wrong_with(alloc, &dictionary, rows)
 }
 
 #[test]
-fn faults_of_names(rt: HostRuntime) -> Result<(), Fail> {
-    let tables = [
-        logic::names(),
-        logic::opaque(),
-        logic::partial(),
-        logic::ids(),
-        logic::early(),
-    ];
-    let wrong = first_of(rt.alloc(), &tables)?;
-    assert_text(&rt, wrong.as_str(), "");
-    Ok(())
-}
-
-#[test]
-fn faults_of_kinds(rt: HostRuntime) -> Result<(), Fail> {
-    let tables = [logic::kinds(), logic::divided(), logic::counted()];
-    let wrong = first_of(rt.alloc(), &tables)?;
-    assert_text(&rt, wrong.as_str(), "");
-    Ok(())
-}
-
-#[test]
-fn faults_of_places(rt: HostRuntime) -> Result<(), Fail> {
-    let wrong = first_of(rt.alloc(), &[logic::looped(), logic::places()])?;
-    assert_text(&rt, wrong.as_str(), "");
-    Ok(())
+fn names_and_kinds(rt: HostRuntime) {
+    assert_count(&rt, first_wrong(rt.alloc(), &ROWS), 161);
 }

@@ -1,9 +1,8 @@
-//! Worked rows of logic as text: the first fault of each, long texts, words that are left out, and the places of tokens.
+//! Worked rows of logic as text: the first fault of each, words that are left out among them, and long texts.
 
 use crate::told::assert_count;
-use cse_syntax::*;
-use std::alloc::Global;
-use std::test::*;
+use cse_syntax::parse;
+use std::alloc::{AllocError, Global};
 
 /// The number, line and column of the first fault; zeros of a source.
 fn fault(alloc: Global, text: &str) -> (u8, u32, u32) {
@@ -16,7 +15,7 @@ fn fault(alloc: Global, text: &str) -> (u8, u32, u32) {
 /// A text, and the number, line and column of its first fault; zeros of a source.
 type Row = (&'static str, (u8, u32, u32));
 
-static ROWS: [Row; 58] = [
+static ROWS: [Row; 79] = [
     // Characters that no token has, and places: a byte order mark is no column; a tab and a CR are one each; LF alone ends a line.
     ("PROC AGE AGE = #;", (30, 1, 16)),
     ("PROC AGE }", (30, 1, 10)),
@@ -52,6 +51,27 @@ static ROWS: [Row; 58] = [
     ("PROC AGE\nwhile AGE = 1 do enddo;", (33, 2, 1)),
     ("PROC Skip", (33, 1, 6)),
     ("PROC AGE A = 1 + STOP;", (33, 1, 18)),
+    ("PROC AGE while", (33, 1, 10)),
+    ("PROC AGE recode", (33, 1, 10)),
+    ("PROC AGE box", (33, 1, 10)),
+    ("PROC AGE endbox", (33, 1, 10)),
+    ("PROC AGE skip", (33, 1, 10)),
+    ("PROC AGE stop", (33, 1, 10)),
+    ("PROC AGE write", (33, 1, 10)),
+    ("PROC AGE noinput", (33, 1, 10)),
+    ("PROC AGE advance", (33, 1, 10)),
+    ("PROC AGE reenter", (33, 1, 10)),
+    ("PROC AGE denom", (33, 1, 10)),
+    ("PROC AGE stat", (33, 1, 10)),
+    ("PROC AGE insert", (33, 1, 10)),
+    ("PROC AGE delete", (33, 1, 10)),
+    ("PROC AGE sort", (33, 1, 10)),
+    ("PROC AGE file", (33, 1, 10)),
+    ("PROC AGE list", (33, 1, 10)),
+    ("PROC AGE onfocus", (33, 1, 10)),
+    ("PROC AGE killfocus", (33, 1, 10)),
+    ("PROC AGE onoccchange", (33, 1, 10)),
+    ("PROC AGE export", (33, 1, 10)),
     // Ranges of numbers.
     ("PROC GLOBAL alpha (256) X;", (35, 1, 20)),
     ("PROC GLOBAL alpha (0) X;", (35, 1, 20)),
@@ -132,19 +152,19 @@ static ROWS: [Row; 58] = [
     ),
 ];
 
-/// The index of the first of these rows that is told otherwise, or how many they are.
-fn first_wrong(alloc: Global, rows: &[Row]) -> usize {
+/// The place of the first of these rows that is told otherwise, or how many they are.
+fn first_wrong(alloc: Global, rows: &[Row]) -> Option<usize> {
     for (i, row) in rows.iter().enumerate() {
         if fault(alloc, row.0) != row.1 {
-            return i;
+            return Some(i);
         }
     }
-    rows.len()
+    Some(rows.len())
 }
 
 #[test]
 fn rows(rt: HostRuntime) {
-    assert_count(&rt, first_wrong(rt.alloc(), &ROWS), ROWS.len());
+    assert_count(&rt, first_wrong(rt.alloc(), &ROWS), 79);
 }
 
 /// A text that is repeated, between two others, and a second one that is repeated behind them.
@@ -306,96 +326,41 @@ static LONG: [Long; 16] = [
     },
 ];
 
-fn text_of_long(alloc: Global, long: &Long) -> Result<String, Fail> {
-    let mut text = String::from_str(alloc, long.front)?;
-    for _ in 0..long.times {
-        text.push_str(long.part)?;
+/// Adds a part so often.
+fn push_times(text: &mut String, part: &str, times: usize) -> Result<(), AllocError> {
+    for _ in 0..times {
+        text.push_str(part)?;
     }
+    Ok(())
+}
+
+fn push_long(text: &mut String, long: &Long) -> Result<(), AllocError> {
+    text.push_str(long.front)?;
+    push_times(text, long.part, long.times)?;
     text.push_str(long.middle)?;
-    for _ in 0..long.ends {
-        text.push_str(long.end)?;
+    push_times(text, long.end, long.ends)
+}
+
+/// The first fault of a long text.
+fn fault_of_long(alloc: Global, long: &Long) -> (u8, u32, u32) {
+    let mut text = String::new(alloc);
+    match push_long(&mut text, long) {
+        Ok(()) => fault(alloc, text.as_str()),
+        Err(_) => (90, 0, 0),
     }
-    Ok(text)
 }
 
-fn is_right(alloc: Global, long: &Long) -> Result<bool, Fail> {
-    let text = text_of_long(alloc, long)?;
-    Ok(fault(alloc, &text) == long.fault)
-}
-
-/// The index of the first of the long texts that is told otherwise, or how many they are.
-fn first_wrong_long(alloc: Global) -> Result<usize, Fail> {
-    for (i, long) in LONG.iter().enumerate() {
-        if !is_right(alloc, long)? {
-            return Ok(i);
+/// The place of the first of the long texts that is told otherwise, or how many they are.
+fn first_wrong_long(alloc: Global, rows: &[Long]) -> Option<usize> {
+    for (i, long) in rows.iter().enumerate() {
+        if fault_of_long(alloc, long) != long.fault {
+            return Some(i);
         }
     }
-    Ok(LONG.len())
+    Some(rows.len())
 }
 
 #[test]
-fn long_texts(rt: HostRuntime) -> Result<(), Fail> {
-    let n = first_wrong_long(rt.alloc())?;
-    assert_count(&rt, n, LONG.len());
-    Ok(())
-}
-
-/// The words that are left out.
-static LEFT_OUT: [&str; 21] = [
-    "while",
-    "recode",
-    "box",
-    "endbox",
-    "skip",
-    "stop",
-    "write",
-    "noinput",
-    "advance",
-    "reenter",
-    "denom",
-    "stat",
-    "insert",
-    "delete",
-    "sort",
-    "file",
-    "list",
-    "onfocus",
-    "killfocus",
-    "onoccchange",
-    "export",
-];
-
-fn is_left_out(alloc: Global, word: &str) -> Result<bool, Fail> {
-    let mut text = String::from_str(alloc, "PROC AGE ")?;
-    text.push_str(word)?;
-    Ok(fault(alloc, &text) == (33, 1, 10))
-}
-
-#[test]
-fn left_out_words(rt: HostRuntime) -> Result<(), Fail> {
-    for word in LEFT_OUT.iter() {
-        assert!(rt; is_left_out(rt.alloc(), word)?);
-    }
-    Ok(())
-}
-
-/// Where a token of a source is.
-fn position(alloc: Global, text: &str, token: usize) -> (u32, u32) {
-    match parse(alloc, text) {
-        Ok(source) => {
-            let found = source.position(token);
-            (found.line, found.column)
-        }
-        Err(_) => (0, 0),
-    }
-}
-
-#[test]
-fn positions(rt: HostRuntime) {
-    assert!(rt; position(rt.alloc(), "PROC AGE\n{\u{e4}}AGE = 1;", 2) == (2, 4));
-}
-
-#[test]
-fn numbers(rt: HostRuntime) {
-    assert!(rt; number_of("0042").unwrap_or(0) == 42);
+fn long_texts(rt: HostRuntime) {
+    assert_count(&rt, first_wrong_long(rt.alloc(), &LONG), 16);
 }

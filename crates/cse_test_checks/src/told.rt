@@ -4,22 +4,7 @@
 
 use std::process::Abort;
 
-/// The text is this one.
-pub fn assert_text(rt: &impl Abort, found: &str, wanted: &str) {
-    assert_eq!(rt; found, wanted);
-}
-
-/// The bytes are these.
-pub fn assert_bytes(rt: &impl Abort, found: &[u8], wanted: &[u8]) {
-    assert_eq!(rt; found, wanted);
-}
-
-/// The count, or the index of the first wrong row, is this one.
-pub fn assert_count(rt: &impl Abort, found: usize, wanted: usize) {
-    assert_eq!(rt; found, wanted);
-}
-
-/// A refusal is this one: its number, the routine or part, and the place.
-pub fn assert_told(rt: &impl Abort, found: (u8, u32, u32), wanted: (u8, u32, u32)) {
-    assert_eq!(rt; found, wanted);
+/// The place of the first wrong row is this one, so that so many rows are right. Nothing is found where none could be tried.
+pub fn assert_count(rt: &impl Abort, found: Option<usize>, wanted: usize) {
+    assert_eq!(rt; found.unwrap_or(usize::MAX), wanted);
 }
