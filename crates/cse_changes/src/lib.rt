@@ -7,7 +7,6 @@
 //! - `item`: an item in two runs, side by side.
 //! - `pair`: which lines pair up.
 //! - `sums`: the counts of all items.
-//! - `worked`: rows that were worked by hand.
 #![tactic(auto)]
 
 mod count;
@@ -17,8 +16,6 @@ mod item;
 mod lines;
 mod pair;
 mod sums;
-#[cfg(test)]
-mod worked;
 
 pub use count::Count;
 pub use fault::Fault;
