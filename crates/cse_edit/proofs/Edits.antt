@@ -1,5 +1,5 @@
 -- What a run of a program answers, as what is meant by the texts that it is built to.
-use Rattle.std.proofs.Common.{◌≡◌, ℕ, Bool, true, List, Option, None, Some, Result, Ok, Err, IfErr, sym, ap, ◌∙◌, subst}
+use Rattle.std.proofs.Common.{ℕ, Bool, true, List, Option, None, Some, Result, Ok, Err, IfErr, sym, ap, ◌∙◌, subst}
 use Rattle.cse_dict.specs.Dictionary.{DictionaryText}
 use Rattle.cse_image.specs.Spelling.{StandFor}
 use Rattle.cse_logic_tree.specs.Typed.{Tree}
@@ -8,13 +8,14 @@ use Rattle.cse_decks.specs.Store.{Kept, StoreFits}
 use Rattle.cse_verify.specs.Verified.{VerifiedProgram}
 use Rattle.cse_batch.specs.declared.totals.Totals.{Totals}
 use Rattle.cse_batch.specs.declared.totals.RunFault.{RunFault}
-use Rattle.cse_batch.specs.Batch.{Batch, Progress, batch}
+use Rattle.cse_batch.specs.Batch.{Batch, Progress}
 use Rattle.cse_batch.specs.RunClauses.{Failures, GivesFronts, GivesTexts, RunStops, RunsWhole, WritesRuns}
 use Rattle.std.specs.Io.KnownBytes.{Appends}
 use Rattle.cse_edit.specs.declared.fault.EditFault.{EditFault}
 use Rattle.cse_edit.specs.declared.fault.EditFault.TheVariants as faults
 use Rattle.cse_edit.specs.Logic.{batch_meant}
 use Rattle.cse_edit.specs.Laws.{BatchesMean, IsMeant}
+use Rattle.cse_edit.specs.Images.{BuiltImagesMean}
 use Rattle.cse_edit.specs.Edit.{AreUntouched, Begins, Devices, EditStops, Edits, IsNoStartOf, IsRead, IsStartOf, RunsBatch, Starts, Stops, StopsBatch, StopsEdit, WritesRunsBy, written_meant}
 
 -- ---- the store
@@ -67,6 +68,20 @@ stopped v t named m store fits on input_failed failed fault r =
       writing = r.writing;
       other = r.other;
       no_line = r.no_line;
+    }
+
+-- ---- of an image that was kept
+
+pub written_is_meant : (v : VerifiedProgram) → BatchesMean v → BuiltImagesMean v
+written_is_meant v law logic messages order image accepted built =
+    let t = built.texts.tree in
+    let named = built.texts.named in
+    let m : IsMeant v t named = law logic messages order image accepted.spells built in
+    record {
+      whole = λ store on totals fits ran. whole v t named m store fits on totals ran;
+      stops = λ store on input_failed failed fault fits ran. stopped v t named m store fits on input_failed failed fault ran;
+      first_is = m.first_is;
+      loaded_is = m.loaded_is;
     }
 
 -- ---- of the program that the texts are built to

@@ -1,3 +1,5 @@
 pub mod Logic
 pub mod Laws
 pub mod Edit
+pub mod Images
+pub mod Worked

@@ -23,8 +23,9 @@ use std::alloc::Global;
 /// The number of a want of memory.
 const MEMORY: u8 = 90;
 
-/// The store that a program starts with, by the text of the hot decks that is there.
-fn start<C: Code>(
+/// The store that a program starts with: a new one, or that which the text of the hot decks says, where there is one. The
+/// faults are that of its first faulty line (`Decks`) and want of memory.
+pub fn starting_store<C: Code>(
     alloc: Global,
     program: &Program<C>,
     decks: Option<&[u8]>,
@@ -75,7 +76,7 @@ fn edit_verified<C: Code, R: Input, O: Output, L: Output, F: Output, D: Output>(
         (failures (O.has_failed out.new) (L.has_failed listing.new) (F.has_failed frequencies.new) (D.has_failed decks.new)) fault) }
 {
     batches_mean(verified);
-    let store = match start(alloc, verified.program(), texts.decks) {
+    let store = match starting_store(alloc, verified.program(), texts.decks) {
         Ok(store) => store,
         Err(fault) => return Err(fault),
     };

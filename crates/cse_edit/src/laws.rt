@@ -1,6 +1,7 @@
 //! What is proved of whole runs of logic.
 
 ghost use Rattle.cse_dict.specs.Sound.{IsSound};
+ghost use Rattle.cse_edit.specs.Images.{BuiltImagesMean};
 ghost use Rattle.cse_edit.specs.Laws.{BatchesMean};
 
 use cse_dict::Dictionary;
@@ -25,4 +26,12 @@ pub fn batches_mean<C: Code>(verified: &Verified<'_, C>)
     none_begins_another();
     verified.program();
     hand_on_sound(verified.dictionary());
+}
+
+/// Law: bytes that `build` gave, which `check_image` accepts with the same dictionary, are run by `run` to the texts that
+/// the logic means, or to fronts of these, from whatever store that fits, as one that is new or that a deck text says.
+pub fn built_images_write_what_is_meant<C: Code>(verified: &Verified<'_, C>)
+    ensures { BuiltImagesMean verified.now }
+{
+    batches_mean(verified);
 }

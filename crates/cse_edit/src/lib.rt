@@ -11,8 +11,10 @@ mod editing;
 mod fault;
 mod laws;
 mod texts;
+mod worked;
 
-pub use editing::edit;
+pub use editing::{edit, starting_store};
 pub use fault::EditFault;
-pub use laws::batches_mean;
+pub use laws::{batches_mean, built_images_write_what_is_meant};
 pub use texts::Texts;
+pub use worked::worked_edits;
