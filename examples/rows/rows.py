@@ -51,22 +51,28 @@ def same(what, found, wanted):
         raise Wrong(f"{what}: {found!r} is not {wanted!r}")
 
 
+def beside(row):
+    """The options of the files beside the logic, in the order in which they are read."""
+    given = (("--messages", row.messages), ("--order", row.order))
+    return [word for option, data in given if data is not None for word in (option, option[2:].upper())]
+
+
 def compiled(program, row):
     """Compiles the row's logic. Tells whether there is an image, and how long it took."""
     program.write("DICT", row.dictionary)
     program.write("LOGIC", row.logic)
-    words = ["compile", "DICT", "LOGIC", "IMAGE"]
-    for option, data in (("--messages", row.messages), ("--order", row.order)):
+    for name, data in (("MESSAGES", row.messages), ("ORDER", row.order)):
         if data is not None:
-            program.write(option[2:].upper(), data)
-            words += [option, option[2:].upper()]
+            program.write(name, data)
     start = time.monotonic()
-    status, out, err = program.call(*words)
+    status, out, err = program.call("compile", "DICT", "LOGIC", "IMAGE", *beside(row))
     took = time.monotonic() - start
     image = program.read("IMAGE")
     if row.refused is not None:
         same("compile", (status, out, err), (1, b"", row.refused))
         same("the image", image, None)
+        same("edit", program.call("edit", "DICT", "LOGIC", "DATA", "OUT", "LIST", "FREQ", *beside(row)), (1, b"", row.refused))
+        same("OUT", program.read("OUT"), None)
         return False, took
     same("compile", (status, out, err), (0, b"compiled %d bytes\n" % len(image or b""), b""))
     same("the image's version", image[:8], b"CSEB\2\0\0\0")
@@ -79,15 +85,26 @@ def accepted(program):
     same("verify", (status, out.endswith(b"\naccepted\n"), err), (0, True, b""))
 
 
-def ran(program, run):
-    """Runs the image over the data of a run, and compares its files."""
+def edited(program, row, before, has_decks, told):
+    """Edits the same data by the logic itself, and compares all that this gives with what the run gave, byte for byte."""
+    words = ["edit", "DICT", "LOGIC", "DATA", *[f"{name}-EDITED" for name in ("OUT", "LIST", "FREQ")], *beside(row)]
+    if before is not None:
+        program.write("DECKS-EDITED", before)
+    same("edit", program.call(*words, *(["--decks", "DECKS-EDITED"] if has_decks else [])), told)
+    for name in ("OUT", "LIST", "FREQ", *(["DECKS"] if has_decks else [])):
+        same(f"{name} of edit", program.read(f"{name}-EDITED"), program.read(name))
+
+
+def ran(program, row, run):
+    """Runs the image over the data of a run, compares its files, and does the same by `edit`."""
     program.write("DATA", run.data)
     words = ["run", "DICT", "IMAGE", "DATA", "OUT", "LIST", "FREQ"]
     if run.decks is not None:
         program.write("DECKS", run.decks)
-    if run.decks is not None or "DECKS" in run.wanted:
-        words += ["--decks", "DECKS"]
-    status, out, err = program.call(*words)
+    has_decks = run.decks is not None or "DECKS" in run.wanted
+    before = program.read("DECKS") if has_decks else None
+    status, out, err = program.call(*words, *(["--decks", "DECKS"] if has_decks else []))
+    edited(program, row, before, has_decks, (status, out, err))
     if run.refused is not None:
         same("run", (status, out, err), (1, b"", run.refused))
         return
@@ -102,7 +119,7 @@ def look(program, row):
     if there:
         accepted(program)
         for run in row.runs:
-            ran(program, run)
+            ran(program, row, run)
     return took
 
 

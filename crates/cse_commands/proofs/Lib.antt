@@ -1,3 +1,4 @@
+pub mod EditedLaws
 pub mod FaultLaws
 pub mod OutcomeLaws
 pub mod PrintLaws

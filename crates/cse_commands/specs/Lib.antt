@@ -1,3 +1,4 @@
+pub mod Edited
 pub mod Ending
 pub mod FaultLine
 pub mod Printed

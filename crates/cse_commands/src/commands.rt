@@ -1,14 +1,16 @@
 //! From the words of the command line to what is done.
 
 use crate::compile_image::compile_files;
+use crate::edit_data::edit_files;
 use crate::fault::{Fault, NO_MEMORY, WRITE_FAILED};
 use crate::files::file_bytes;
 use crate::outcome::{Asked, Stop};
-use crate::plan::{Command, CompilePaths, PlanFault, RunPaths, plan};
+use crate::plan::{Command, CompilePaths, EditPaths, PlanFault, RunPaths, plan};
 use crate::printing::{write_compiled, write_totals};
 use crate::run_image::run_files;
 use crate::try_image::try_to;
 use crate::verify_image::verify_to;
+use cse_batch::Totals;
 use cse_value::Writes;
 use std::env;
 use std::io::{self, BufWriter, ErrorKind, Write};
@@ -41,6 +43,7 @@ fn do_planned<R: Files + Print + AllocGlobal>(
         Ok(Command::Verify { dict, image }) => verify_files(rt, dict, image),
         Ok(Command::Compile(paths)) => compile_and_tell(rt, &paths),
         Ok(Command::Run(paths)) => run_and_tell(rt, &paths),
+        Ok(Command::Edit(paths)) => edit_and_tell(rt, &paths),
         Err(PlanFault::Usage) => Err(Stop::Usage),
         Err(PlanFault::Memory) => Err(Stop::of_number(NO_MEMORY)),
     }
@@ -113,6 +116,20 @@ pub fn run_and_tell<R: Files + Print + AllocGlobal>(
     paths: &RunPaths<'_>,
 ) -> Result<(), Stop> {
     let totals = run_files(rt, paths)?;
+    tell_totals(rt, totals)
+}
+
+/// `edit`, and what it counted.
+pub fn edit_and_tell<R: Files + Print + AllocGlobal>(
+    rt: &R,
+    paths: &EditPaths<'_>,
+) -> Result<(), Stop> {
+    let totals = edit_files(rt, paths)?;
+    tell_totals(rt, totals)
+}
+
+/// Prints what a run counted.
+fn tell_totals<R: Print>(rt: &R, totals: Totals) -> Result<(), Stop> {
     let mut out = Writes::new(io::writer(rt));
     match write_totals(totals, &mut out) {
         Ok(()) => Ok(()),

@@ -7,6 +7,7 @@
 //!   its lines.
 //! - `compile_image`: `compile`, logic to the bytes of an image.
 //! - `run_image`: `run`, an image over a data file. `gathered`: bytes in memory.
+//! - `edit_data`: `edit`, logic over a data file with no image between.
 //! - `files`: the files of the commands.
 //! - `printing`, `fault`: lines for a device. `outcome`: the exit status.
 //! - `start`: what the program is: a command, what is told of it, and its status.
@@ -14,6 +15,7 @@
 
 pub mod commands;
 pub mod compile_image;
+pub mod edit_data;
 pub mod fault;
 pub mod files;
 pub mod gathered;

@@ -15,6 +15,8 @@ pub enum Command<'a> {
     Compile(CompilePaths<'a>),
     /// `csbatch run DICT IMAGE DATA OUT LIST FREQ [--decks F]`: run an image over a data file.
     Run(RunPaths<'a>),
+    /// `csbatch edit DICT LOGIC DATA OUT LIST FREQ [--messages F] [--order F] [--decks F]`: run logic over a data file.
+    Edit(EditPaths<'a>),
 }
 
 /// The files of `compile`.
@@ -40,6 +42,18 @@ pub struct RunPaths<'a> {
     pub freq: &'a str,
     /// The hot decks that are kept between runs.
     pub decks: Option<&'a str>,
+}
+
+/// The files of `edit`: those of `compile` and of `run`, with no image between.
+#[derive(Clone, Copy, Debug, PartialEq, Eq)]
+pub struct EditPaths<'a> {
+    pub logic: &'a str,
+    /// The messages that logic names by number.
+    pub messages: Option<&'a str>,
+    /// The records that come first in edit order.
+    pub order: Option<&'a str>,
+    /// The files of `run`. Where that has the image, here the logic stands.
+    pub run: RunPaths<'a>,
 }
 
 /// Why there is no command.
@@ -80,6 +94,7 @@ fn command_of<'a>(matches: &ArgMatches<'a>) -> Result<Command<'a>, PlanFault> {
         Some(("verify", matches)) => verify_of(matches),
         Some(("compile", matches)) => compile_of(matches),
         Some(("run", matches)) => run_of(matches),
+        Some(("edit", matches)) => edit_of(matches),
         _ => Err(PlanFault::Usage),
     }
 }
@@ -98,7 +113,8 @@ fn program_words<'a>(alloc: Global) -> Result<Clap<'a>, AllocError> {
         .subcommand(words)?;
     let program = program.subcommand(verify_words(alloc)?)?;
     let program = program.subcommand(compile_words(alloc)?)?;
-    program.subcommand(run_words(alloc)?)
+    let program = program.subcommand(run_words(alloc)?)?;
+    program.subcommand(edit_words(alloc)?)
 }
 
 /// A path that has to be given.
@@ -147,6 +163,22 @@ fn run_words<'a>(alloc: Global) -> Result<Clap<'a>, AllocError> {
     written.arg(named_path(alloc, "decks"))
 }
 
+/// `edit DICT LOGIC DATA OUT LIST FREQ [--messages F] [--order F] [--decks F]`.
+fn edit_words<'a>(alloc: Global) -> Result<Clap<'a>, AllocError> {
+    let read = Clap::new(alloc, "edit")
+        .arg(path(alloc, "DICT"))?
+        .arg(path(alloc, "LOGIC"))?
+        .arg(path(alloc, "DATA"))?;
+    let written = read
+        .arg(path(alloc, "OUT"))?
+        .arg(path(alloc, "LIST"))?
+        .arg(path(alloc, "FREQ"))?;
+    written
+        .arg(named_path(alloc, "messages"))?
+        .arg(named_path(alloc, "order"))?
+        .arg(named_path(alloc, "decks"))
+}
+
 fn try_of<'a>(matches: &ArgMatches<'a>) -> Result<Command<'a>, PlanFault> {
     match matches.get_str("IMAGE") {
         Some(image) => Ok(Command::Try { image }),
@@ -182,5 +214,24 @@ fn run_of<'a>(matches: &ArgMatches<'a>) -> Result<Command<'a>, PlanFault> {
         list: given("LIST")?,
         freq: given("FREQ")?,
         decks: matches.get_str("decks"),
+    }))
+}
+
+fn edit_of<'a>(matches: &ArgMatches<'a>) -> Result<Command<'a>, PlanFault> {
+    let given = |name: &str| matches.get_str(name).ok_or(PlanFault::Usage);
+    let logic = given("LOGIC")?;
+    Ok(Command::Edit(EditPaths {
+        logic,
+        messages: matches.get_str("messages"),
+        order: matches.get_str("order"),
+        run: RunPaths {
+            dict: given("DICT")?,
+            image: logic,
+            data: given("DATA")?,
+            out: given("OUT")?,
+            list: given("LIST")?,
+            freq: given("FREQ")?,
+            decks: matches.get_str("decks"),
+        },
     }))
 }

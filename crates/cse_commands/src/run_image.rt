@@ -117,7 +117,7 @@ pub struct Ran<F> {
 
 impl<F: Drop> Ran<F> {
     /// What the run came to. The files are closed.
-    fn into_told(self) -> Result<(Totals, Gathered), Stop>
+    pub(crate) fn into_told(self) -> Result<(Totals, Gathered), Stop>
         ensures { result ≡ self.told }
     {
         self.told

@@ -7,7 +7,8 @@
 //! compiler gave, read field by field.
 //!
 //! - `samples`: the samples, from their logic to their outputs.
-//! - `texts`: faults of `compile`. `images`: of `verify` and `try`. `runs`: of `run`. `words`: words that are no command.
+//! - `texts`: faults of `compile`. `images`: of `verify` and `try`. `runs`: of `run`. `edits`: `edit` of the
+//!   samples, and its faults. `words`: words that are no command.
 //! - `row`: what a row is, and how it is shown. `desk`: the runtime that a row is carried out over.
 //!
 //! Behind the rows the program starts as csbatch does, with the words that it was given. These name an image that is
@@ -15,6 +16,7 @@
 #![tactic(auto)]
 
 mod desk;
+mod edits;
 mod images;
 mod row;
 mod runs;
@@ -41,7 +43,8 @@ fn show_all<R: Files + Print + AllocGlobal + Clone + Drop>(rt: &R) -> io::Result
     show_texts(rt)?;
     show_images(rt)?;
     show_words(rt)?;
-    show_runs(rt)
+    show_runs(rt)?;
+    show_edits(rt)
 }
 
 fn show_samples<R: Files + Print + AllocGlobal + Clone + Drop>(rt: &R) -> io::Result<()> {
@@ -62,6 +65,10 @@ fn show_words<R: Files + Print + AllocGlobal + Clone + Drop>(rt: &R) -> io::Resu
 
 fn show_runs<R: Files + Print + AllocGlobal + Clone + Drop>(rt: &R) -> io::Result<()> {
     show_rows(rt, &runs::ROWS)
+}
+
+fn show_edits<R: Files + Print + AllocGlobal + Clone + Drop>(rt: &R) -> io::Result<()> {
+    show_rows(rt, &edits::ROWS)
 }
 
 fn show_rows<R: Files + Print + AllocGlobal + Clone + Drop>(
