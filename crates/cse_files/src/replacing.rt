@@ -1,0 +1,168 @@
+//! A file that is written whole, or stays as it was.
+
+use crate::fault::WriteFault;
+use std::fs;
+use std::fs::{File, Metadata, OpenFile, OpenOptions};
+use std::io::{ErrorKind, Write};
+use std::os::unix::fs::{MetadataExt, chown};
+use std::rt::Files;
+
+/// How many names are tried for the file beside an old one.
+const NAMES: u8 = 9;
+
+/// Makes these the bytes of the file at a path. After a fault a file that was there is as it was.
+///
+/// The bytes go to a new file beside it (the path, `.csbatch-`, and a number from 1), which gets the owner and the
+/// rights of the old one, is synced, and takes its name. A link stays a link: the file that it leads to is replaced.
+/// What is no regular file, has several names, or lies where no such file can be made or can take its name, is
+/// written over as it stands; there a fault leaves a front of the bytes.
+pub fn replace<R: Files + AllocGlobal>(rt: &R, path: &str, bytes: &[u8]) -> Result<(), WriteFault> {
+    match fs::symlink_metadata(rt, path) {
+        Ok(found) if found.is_symlink() => replace_behind(rt, path, bytes),
+        Ok(found) => replace_file(rt, path, &found, bytes),
+        Err(error) if error.kind() == ErrorKind::NotFound => replace_by(rt, path, None, bytes),
+        Err(_) => write_over(rt, path, bytes),
+    }
+}
+
+/// The same for the file that a link leads to.
+fn replace_behind<R: Files + AllocGlobal>(
+    rt: &R,
+    link: &str,
+    bytes: &[u8],
+) -> Result<(), WriteFault> {
+    let Ok(path) = fs::canonicalize(rt, link) else {
+        return write_over(rt, link, bytes);
+    };
+    let path = path.as_path().as_str();
+    match fs::symlink_metadata(rt, path) {
+        Ok(found) => replace_file(rt, path, &found, bytes),
+        Err(_) => write_over(rt, link, bytes),
+    }
+}
+
+/// The same for what stands at a path. What may not be written is not replaced.
+fn replace_file<R: Files + AllocGlobal>(
+    rt: &R,
+    path: &str,
+    old: &Metadata,
+    bytes: &[u8],
+) -> Result<(), WriteFault> {
+    if !old.is_file() || old.nlink() > 1 {
+        return write_over(rt, path, bytes);
+    }
+    match OpenOptions::new().write(true).open(rt, path) {
+        Ok(_) => replace_by(rt, path, Some(old), bytes),
+        Err(error) => Err(WriteFault::of_open(error.kind())),
+    }
+}
+
+/// Writes a file beside the path that takes its name, or, where there can be none, writes over the path.
+fn replace_by<R: Files + AllocGlobal>(
+    rt: &R,
+    path: &str,
+    old: Option<&Metadata>,
+    bytes: &[u8],
+) -> Result<(), WriteFault> {
+    if put_beside(rt, path, old, bytes)? {
+        return Ok(());
+    }
+    write_over(rt, path, bytes)
+}
+
+/// Writes a new file beside the path, which takes its name. `false` where none can be made or can take the name; then
+/// nothing is left of it, as after a fault.
+fn put_beside<R: Files + AllocGlobal>(
+    rt: &R,
+    path: &str,
+    old: Option<&Metadata>,
+    bytes: &[u8],
+) -> Result<bool, WriteFault> {
+    for number in 1..=NAMES {
+        let name = format!(in rt.alloc(); "{path}.csbatch-{number}")?;
+        match File::create_new(rt, name.as_str()) {
+            Ok(file) => return put_new(rt, file, name.as_str(), path, old, bytes),
+            Err(error) if error.kind() == ErrorKind::AlreadyExists => {}
+            Err(_) => return Ok(false),
+        }
+    }
+    Ok(false)
+}
+
+/// Writes a new file, and gives it the path's name. It is removed where that fails.
+fn put_new<R: Files>(
+    rt: &R,
+    file: R::File,
+    name: &str,
+    path: &str,
+    old: Option<&Metadata>,
+    bytes: &[u8],
+) -> Result<bool, WriteFault> {
+    let filled = fill(rt, file, name, old, bytes);
+    if filled == Ok(true) && fs::rename(rt, name, path).is_ok() {
+        return Ok(true);
+    }
+    let _ = fs::remove_file(rt, name);
+    match filled {
+        Ok(_) => Ok(false),
+        Err(fault) => Err(fault),
+    }
+}
+
+/// Writes these bytes to a new file, and syncs and closes it. `false` where it can't be as an old one.
+fn fill<R: Files>(
+    rt: &R,
+    mut file: R::File,
+    name: &str,
+    old: Option<&Metadata>,
+    bytes: &[u8],
+) -> Result<bool, WriteFault> {
+    if let Some(old) = old
+        && !takes_after(rt, &file, name, old)
+    {
+        return Ok(false);
+    }
+    write_and_sync(&mut file, bytes)?;
+    Ok(true)
+}
+
+/// Whether a new file has the owner and the rights of an old one, or takes them.
+fn takes_after<R: Files>(rt: &R, file: &R::File, name: &str, old: &Metadata) -> bool {
+    let Ok(new) = file.metadata() else {
+        return false;
+    };
+    let is_owned = new.uid() == old.uid() && new.gid() == old.gid();
+    if !is_owned && chown(rt, name, Some(old.uid()), Some(old.gid())).is_err() {
+        return false;
+    }
+    (is_owned && new.mode() == old.mode()) || file.set_permissions(old.permissions()).is_ok()
+}
+
+/// Writes these bytes to the file at a path, from its beginning.
+fn write_over<R: Files>(rt: &R, path: &str, bytes: &[u8]) -> Result<(), WriteFault> {
+    match fs::create(rt, path) {
+        Ok(mut file) => write_and_sync(&mut file, bytes),
+        Err(error) => Err(WriteFault::of_open(error.kind())),
+    }
+}
+
+/// Writes bytes, and sees that the disk has them.
+fn write_and_sync<F: OpenFile + Write>(file: &mut F, bytes: &[u8]) -> Result<(), WriteFault> {
+    match file.write_all(bytes) {
+        Ok(()) => sync(file),
+        Err(error) => Err(WriteFault::of_write(error.kind())),
+    }
+}
+
+/// Sees that the disk has what a regular file took, so that what a disk or a quota refuses late is told. What is no
+/// regular file has no such answer.
+pub fn sync<F: OpenFile>(file: &F) -> Result<(), WriteFault> {
+    match file.metadata() {
+        Ok(found) if found.is_file() => {}
+        _ => return Ok(()),
+    }
+    match file.sync_all() {
+        Ok(()) => Ok(()),
+        Err(error) => Err(WriteFault::of_write(error.kind())),
+    }
+}
