@@ -131,14 +131,13 @@ def run(words):
 
 
 def with_kept(head, costs, path):
-    """The costs, with the rows of an earlier run on such a machine for crates of which nothing was checked."""
-    if not os.path.exists(path):
-        return costs
-    before, rows = read(path)
-    if before["machine"] != head["machine"] or before["kit"].split()[1:] != head["kit"].split()[1:]:
-        return costs
-    there = crates_with_theirs()
-    return {**{crate: cost for crate, cost in rows.items() if crate in there}, **costs}
+    """The costs of the crates, with the rows of an earlier run on such a machine for those of which nothing was checked."""
+    there, rows = crates_with_theirs(), {}
+    if os.path.exists(path):
+        before, rows = read(path)
+        if before["machine"] != head["machine"] or before["kit"].split()[1:] != head["kit"].split()[1:]:
+            rows = {}
+    return {crate: cost for crate, cost in {**rows, **costs}.items() if crate in there}
 
 
 def dearest_first(costs):
