@@ -1,4 +1,4 @@
-"""Carries the record over a renaming: a copy of the tree before gets the new words, and has to have the hashes of the tree now."""
+"""Carries the record over a renaming or a move: a copy of the tree before gets the new words and places, and has to have the hashes of the tree now."""
 import os
 import re
 import tempfile
@@ -8,6 +8,7 @@ import record
 import sources
 
 COUNTED = re.compile(r"crates\.txt|crates/\w+/(?:src|specs|proofs)/.*|more-edits/\w+/\w+\.edit")
+ROOTS = "src/lib.rt", "specs/Lib.antt", "proofs/Lib.antt"
 
 
 def files_of(root):
@@ -24,12 +25,16 @@ def plain(path, text):
     return sources.rust_text(text) if path.endswith(".rt") else sources.antt_text(text) if path.endswith(".antt") else text
 
 
+def crates_of(files):
+    return set(re.findall(r"(?m)^(\w+)(?: staticlib)?:", files["crates.txt"]))
+
+
 def unfit(names, before, now):
     """Why these words are no renaming of the one tree into the other: each has to be of the repository, and to stand in one tree alone."""
     for k, (files, others) in enumerate(((before, now), (now, before))):
         said = sources.words(" ".join([*others, *map(plain, others, others.values())]))
         own = {os.path.splitext(os.path.basename(it))[0] for it in files}
-        crates = set(re.findall(r"(?m)^(\w+)(?: staticlib)?:", files["crates.txt"]))
+        crates = crates_of(files)
         foreign = set()
         for path, text in files.items():
             is_rust = path.endswith(".rt")
@@ -42,27 +47,107 @@ def unfit(names, before, now):
                 yield f"{word} {'stands in both trees' if word in said else 'is not of the repository alone'}"
 
 
+class Moves:
+    """Modules that go from one crate to another, each as `crate::module`, `crate::specs::Module` or `crate::proofs::Module`."""
+
+    def __init__(self, pairs):
+        self.pairs, self.to = pairs, {}
+        for old, new in pairs.items():
+            crate, _, module = old.partition("::")
+            self.to[crate, module] = new.partition("::")[0]
+
+    @staticmethod
+    def file(module):
+        """The file of a module, as `crate::module` names it."""
+        crate, *rest = module.split("::")
+        return f"crates/{crate}/" + (f"src/{rest[0]}.rt" if len(rest) == 1 else f"{rest[0]}/{rest[1]}.antt")
+
+    def roots(self):
+        """The files that tie the modules of a crate together, of each crate that gives or takes one."""
+        crates = {crate for crate, _ in self.to} | set(self.to.values())
+        return {f"crates/{crate}/{part}" for crate in crates for part in ROOTS}
+
+    def unfit(self, before, now):
+        """Why these are no moves of the one tree into the other: each file stands in one tree alone, and roots have nothing but modules and imports."""
+        for old, new in self.pairs.items():
+            if old.partition("::")[2] != new.partition("::")[2] or not re.fullmatch(r"\w+::(?:(?:specs|proofs)::)?\w+", old):
+                yield f"{old} is not the module that {new} is"
+            elif self.file(old) not in before or self.file(old) in now or self.file(new) not in now or self.file(new) in before:
+                yield f"{old} did not become {new}"
+        fronts = {sources.inner_attributes(files[it]) for files in (before, now) for it in self.roots() if it in files and it.endswith(".rt")}
+        for path in sorted(self.roots()):
+            for text in (files[path] for files in (before, now) if path in files):
+                rest = list(sources.items_of(sources.rust_tokens(text))) if path.endswith(".rt") else re.sub(r"(?m)^(?:pub )?mod \w+$", "", sources.antt_text(text)).strip()
+                if rest:
+                    yield f"{path} has more than modules and imports"
+        if len(fronts) > 1:
+            yield "the roots have different attributes"
+
+    def place(self, path, text=""):
+        """Where a file goes; an edit goes with the files that it turns, if these stay together."""
+        top, _, rest = path.partition("/")
+        crate, _, rest = rest.partition("/")
+        if top == "more-edits":
+            homes = {self.place(f"crates/{crate}/{it}").split("/")[1] for it in re.findall(r"(?m)^file: (.*)$", text)}
+            return f"{top}/{homes.pop()}/{rest}" if len(homes) == 1 else path
+        part, _, name = rest.partition("/")
+        name = name.split("/")[0].split(".")[0]
+        module = name if part == "src" or part == "proofs" and (crate, name) in self.to else f"{part}::{name}"
+        return f"{top}/{self.to.get((crate, module), crate)}/{rest}"
+
+    def turn(self, text, crate, now):
+        """The text of a file that stood in a crate and stands in another now, with the modules' new paths."""
+        def antt(it):
+            part, declared, name = it[2], it[3] or "", it[4]
+            module = name if declared or part == "proofs" and (it[1], name) in self.to else f"{part}::{name}"
+            return f"Rattle.{self.to.get((it[1], module), it[1])}.{part}.{declared}{name}"
+
+        def rust(it):
+            whose, module = it[1] if it[1] != "crate" else crate, (it[2] or "") + it[3]
+            home = self.to.get((whose, module), whose)
+            return f"{'crate' if home == now else home}::{module}"
+        text = re.sub(r"\bRattle\.(\w+)\.(specs|proofs)\.(declared\.)?(\w+)", antt, text)
+        return re.sub(r"\b(crate|cse_\w+)::((?:specs|proofs)::)?(\w+)", rust, text)
+
+
+def moved(before, now, moves):
+    """The tree before with its files moved. What ties them together is that of the tree now: roots, and the lines of crates.txt."""
+    if not moves.to:
+        return before
+    found = {path: now[path] for path in ("crates.txt", *moves.roots()) if path in now}
+    for path, text in before.items():
+        place = moves.place(path, text)
+        if path not in found and path not in moves.roots():
+            found[place] = moves.turn(text, path.split("/")[1], place.split("/")[1]) if "/" in path else text
+    return found
+
+
 def carry(root, folder, names):
     """Takes over the lines that held in the folder and mean the same here, and says how many; or why none can be."""
     before, now = files_of(folder), files_of(root)
-    whys = list(unfit(names, before, now))
+    moves = Moves({old: new for old, new in names.items() if "::" in old})
+    names = {old: new for old, new in names.items() if "::" not in old}
+    between = moved(before, now, moves)
+    whys = [*moves.unfit(before, now), *unfit(names, between, now)]
     if whys:
         return "; ".join(whys)
-    pattern = re.compile(r"(?<![\w'])(?:" + "|".join(map(re.escape, names)) + r")(?![\w'])")
-    turn = lambda text: pattern.sub(lambda it: names[it[0]], text)
+    pattern = re.compile(r"(?<![\w'])(?:" + "|".join(map(re.escape, names)) + r")(?![\w'])") if names else None
+    turn = lambda text: pattern.sub(lambda it: names[it[0]], text) if pattern else text
     changes, gone, lines = {}, [], record.read(os.path.join(folder, "more-edits/record.txt"))
     with tempfile.TemporaryDirectory(prefix="more-edits-") as room:
-        for path, text in before.items():
+        for path, text in between.items():
             os.makedirs(os.path.dirname(os.path.join(room, turn(path))), exist_ok=True)
             with open(os.path.join(room, turn(path)), "w", encoding="utf-8") as it:
                 it.write(turn(text))
         old, copy, new = (closure.Closure(it) for it in (folder, room, root))
         for edit, (found, day, *how) in lines.items():
             path, crate, text = f"more-edits/{edit}.edit", edit.split("/")[0], before.get(f"more-edits/{edit}.edit")
-            held = text and turn(path) in now and old.hash(crate, text, how) == found
-            after = held and new.hash(turn(crate), now[turn(path)], list(map(turn, how)))
-            if held and after == copy.hash(turn(crate), turn(text), list(map(turn, how))):
-                changes[turn(edit)] = [after, day, *map(turn, how)]
+            place = turn(moves.place(path, text)) if text else path
+            home, how = place.split("/")[1], list(map(turn, how))
+            held = text and place in now and old.hash(crate, text, lines[edit][2:]) == found
+            after = held and new.hash(home, now[place], how)
+            if held and after == copy.hash(home, sources.read(os.path.join(room, place)), how):
+                changes[place[len("more-edits/"):-len(".edit")]] = [after, day, *how]
             gone += [edit] if path not in now else []
     record.write(changes, gone)
     return f"{len(changes)} of {len(lines)} lines carried over"

@@ -4,7 +4,9 @@
 usage: more-edits/test_closure.py
 
 Each row of CHANGES turns one text of one file. The hash of the edit of the body of `Row::put` has to change, or has to stay.
-Each row of RENAMINGS has words that `--carry` takes for a renaming, or refuses.
+Each row of RENAMINGS has words that `--carry` takes for a renaming, or refuses. Each row of MOVED turns one text of the tree in which
+modules have moved to a crate below: the hash has to be that of the tree before with its files moved, or another one. Each row of
+NO_MOVES turns that tree, or the moves, into what `--carry` refuses.
 Each line that is written is a row that fails, and then the status is 1.
 """
 import os
@@ -238,6 +240,42 @@ RENAMINGS = [
     ({"Prelude": "Prologue"}, {"Prelude": "Prologue"}, False),
 ]
 
+MOVES = {f"cse_high::{it}": f"cse_middle::{it}" for it in ("beside", "specs::Deep", "proofs::Laws")}
+# (the tree in which they have moved; that its crates would name one another is no matter of hashes)
+MIDDLE = "crates/cse_middle/"
+AFTER = {
+    **{path: text for path, text in FILES.items() if path not in (BESIDE, LAWS, "crates/cse_high/specs/Deep.antt")},
+    "crates.txt": "cse_low:\ncse_middle:\ncse_high: cse_low cse_middle arrayvec\n",
+    MIDDLE + "src/lib.rt": "//! The middle.\n#![tactic(auto)]\npub mod beside;\n",
+    MIDDLE + "src/beside.rt": FILES[BESIDE],
+    MIDDLE + "specs/Lib.antt": "pub mod Deep\n",
+    MIDDLE + "specs/Deep.antt": FILES["crates/cse_high/specs/Deep.antt"],
+    MIDDLE + "proofs/Laws.antt": FILES[LAWS],
+    "crates/cse_high/src/lib.rt": "#![tactic(auto)]\nmod rows;\n",
+    BODY: FILES[BODY].replace("use crate::beside", "use cse_middle::beside"),
+    "crates/cse_high/specs/Steps.antt": FILES["crates/cse_high/specs/Steps.antt"].replace("cse_high.specs.Deep", "cse_middle.specs.Deep"),
+    ANSWERS: FILES[ANSWERS].replace("cse_high.proofs.Laws", "cse_middle.proofs.Laws"),
+}
+MOVED = [
+    ("nothing", BODY, "//! Rows.", "//! Rows.", STAYS),
+    ("a comment of a file that moved", MIDDLE + "src/beside.rt", "/// The half.", "/// The other half.", STAYS),
+    ("the body of a called function that moved", MIDDLE + "src/beside.rt", "{\n    x / 2\n}\n\nfn un", "{\n    x >> 1\n}\n\nfn un", STAYS),
+    ("a clause of a function that moved", MIDDLE + "src/beside.rt", "pub fn half(x: u32) -> u32\n    ensures { result ≡ half_of x }", "pub fn half(x: u32) -> u32\n    ensures { result ≡ x }", CHANGES),
+    ("an invariant of a type that moved", MIDDLE + "src/beside.rt", "k.size ≤ 9", "k.size ≤ 8", CHANGES),
+    ("a definition that moved", MIDDLE + "specs/Deep.antt", "deeper x = 3", "deeper x = 4", CHANGES),
+    ("the statement of a lemma that moved", MIDDLE + "proofs/Laws.antt", "(x : ℕ) → half x", "(x : ℕ) → half 1", CHANGES),
+    ("a definition that stayed", "crates/cse_high/specs/Steps.antt", "step x = deep x", "step x = deep 1", CHANGES),
+    ("the body of the edited function", BODY, "return false;", "return true;", CHANGES),
+]
+NO_MOVES = [
+    ("a file that stayed", {BESIDE: FILES[BESIDE]}, {}),
+    ("a module that was not there", {}, {"cse_high::nowhere": "cse_middle::nowhere"}),
+    ("a module with another name", {}, {"cse_high::beside": "cse_middle::specs::Deep"}),
+    ("a root with an item", {MIDDLE + "src/lib.rt": "#![tactic(auto)]\npub mod beside;\npub const MOST: u32 = 1;\n"}, {}),
+    ("a root with another attribute", {MIDDLE + "src/lib.rt": "pub mod beside;\n"}, {}),
+    ("a root of definitions that has one", {MIDDLE + "specs/Lib.antt": "pub mod Deep\nabbrev pub one : ℕ\none = 1\n"}, {}),
+]
+
 
 def renamed(names):
     """The repository with other words."""
@@ -246,9 +284,9 @@ def renamed(names):
     return {turn(path): turn(text) for path, text in FILES.items()}
 
 
-def hash_of(changed, edit, how):
+def hash_of(changed, edit, how, files=None):
     with tempfile.TemporaryDirectory() as root:
-        for path, text in {**FILES, **changed}.items():
+        for path, text in {**(files or FILES), **changed}.items():
             os.makedirs(os.path.dirname(os.path.join(root, path)), exist_ok=True)
             with open(os.path.join(root, path), "w", encoding="utf-8") as it:
                 it.write(text)
@@ -284,7 +322,17 @@ def main():
         if (not list(carry.unfit(words, FILES, renamed(turned)))) != is_renaming:
             print(f"{words}: {'refused' if is_renaming else 'taken'} as a renaming")
             bad += 1
-    print(f"{len(ROWS) + len(WHOLE) + len(RENAMINGS) + 3} rows, {bad} fail")
+    moves = carry.Moves(MOVES)
+    for what, path, old, new, changes in MOVED:
+        now = {**AFTER, path: AFTER[path].replace(old, new)}
+        if (hash_of({}, EDIT, refused, carry.moved(FILES, now, moves)) != hash_of({}, EDIT, refused, now)) != changes:
+            print(f"{what}, after a move: the hash {'is that' if changes else 'is not that'} of the tree before with its files moved")
+            bad += 1
+    for what, changed, more in [("nothing", {}, {}), *NO_MOVES]:
+        if bool(list(carry.Moves({**MOVES, **more}).unfit(FILES, {**AFTER, **changed}))) != (what != "nothing"):
+            print(f"{what}: {'refused' if what == 'nothing' else 'taken'} as a move")
+            bad += 1
+    print(f"{len(ROWS) + len(WHOLE) + len(RENAMINGS) + len(MOVED) + len(NO_MOVES) + 4} rows, {bad} fail")
     return int(bad > 0)
 
 

@@ -12,7 +12,7 @@ use Rattle.cse_syntax.specs.declared.token.Token.{Token}
 use Rattle.cse_syntax.specs.Word.{Word, word, word_of, words}
 use Rattle.cse_syntax.specs.Tree as syntax
 use Rattle.cse_syntax.specs.Grammar.{IsSource, spell_tree}
-use Rattle.cse_types.specs.MessageFile.{MessageText, digit_count, begins_with_gap, text_in, has_form, is_skipped, numbered, line_of, with_message, with_line, messages_behind}
+use Rattle.cse_logic_names.specs.MessageFile.{MessageText, digit_count, begins_with_gap, text_in, has_form, is_skipped, numbered, line_of, with_message, with_line, messages_behind}
 use Rattle.cse_law_sources_have_room.specs.Given.{IsUtf8Word, AreUtf8, AreTexts}
 use Rattle.cse_law_sources_have_room.proofs.Lists.{both}
 

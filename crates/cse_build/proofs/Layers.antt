@@ -15,12 +15,12 @@ use Rattle.cse_syntax.specs.Grammar.{IsSource}
 use Rattle.cse_syntax.specs.Text.{pieces, pieces_of}
 use Rattle.cse_syntax.specs.Source.{IsSourceText, said_from}
 use Rattle.cse_logic_tree.specs.Typed.{Tree}
-use Rattle.cse_types.specs.declared.error.TypeError.{TypeError}
-use Rattle.cse_types.specs.Fault as types
-use Rattle.cse_types.specs.Fault.{at_line}
-use Rattle.cse_types.specs.MessageFile.{MessageText, ReadsMessages, file_lines}
-use Rattle.cse_types.specs.OrderFile.{ReadsOrder}
-use Rattle.cse_types.specs.WellTyped.{IsTypedAs}
+use Rattle.cse_logic_names.specs.declared.error.TypeError.{TypeError}
+use Rattle.cse_logic_names.specs.Fault as types
+use Rattle.cse_logic_names.specs.Fault.{at_line}
+use Rattle.cse_logic_names.specs.MessageFile.{MessageText, ReadsMessages, file_lines}
+use Rattle.cse_logic_names.specs.OrderFile.{ReadsOrder}
+use Rattle.cse_logic_names.specs.WellTyped.{IsTypedAs}
 use Rattle.cse_code_typing.specs.Typed.{IsTyped}
 use Rattle.cse_code_bounds.specs.Bounded.{IsBounded}
 use Rattle.cse_compile.specs.Program.{IsProgramOf}

@@ -9,9 +9,9 @@ use Rattle.cse_syntax.specs.Text.{Piece}
 use Rattle.cse_syntax.specs.Grammar.{IsSource}
 use Rattle.cse_syntax.proofs.Whole.{one_tree}
 use Rattle.cse_logic_tree.specs.Typed.{Tree}
-use Rattle.cse_types.specs.MessageFile.{MessageText, file_lines, messages_behind}
-use Rattle.cse_types.specs.OrderFile.{IsOrder}
-use Rattle.cse_types.specs.WellTyped.{IsTypedAs}
+use Rattle.cse_logic_names.specs.MessageFile.{MessageText, file_lines, messages_behind}
+use Rattle.cse_logic_names.specs.OrderFile.{IsOrder}
+use Rattle.cse_logic_names.specs.WellTyped.{IsTypedAs}
 use Rattle.cse_build.specs.declared.error.BuildFault.{BuildFault}
 use Rattle.cse_build.specs.Fault.{IsReason, at_no_place, out_of_memory}
 use Rattle.cse_build.specs.Build.{AreSound, AreEntries, AreNamed, IsFault, IsFaultBehind, IsLimitFault, IsLogic, IsLogicFault, IsMessageFault, IsOrderFault, IsSourceFault, IsTextFault}

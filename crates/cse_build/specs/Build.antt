@@ -7,11 +7,11 @@ use Rattle.cse_dict.specs.Dictionary.{DictionaryText, shape_of}
 use Rattle.cse_syntax.specs.Tree as syntax
 use Rattle.cse_syntax.specs.Source.{IsSourceText}
 use Rattle.cse_logic_tree.specs.Typed.{Tree}
-use Rattle.cse_types.specs.declared.error.TypeError.{TypeError}
-use Rattle.cse_types.specs.Fault.{at_line}
-use Rattle.cse_types.specs.MessageFile.{MessageText, ReadsMessages, file_lines, first_fault}
-use Rattle.cse_types.specs.OrderFile.{IsOrder, FirstFaulty}
-use Rattle.cse_types.specs.WellTyped.{IsTypedAs}
+use Rattle.cse_logic_names.specs.declared.error.TypeError.{TypeError}
+use Rattle.cse_logic_names.specs.Fault.{at_line}
+use Rattle.cse_logic_names.specs.MessageFile.{MessageText, ReadsMessages, file_lines, first_fault}
+use Rattle.cse_logic_names.specs.OrderFile.{IsOrder, FirstFaulty}
+use Rattle.cse_logic_names.specs.WellTyped.{IsTypedAs}
 use Rattle.cse_code_typing.specs.Typed.{IsTyped}
 use Rattle.cse_code_bounds.specs.Bounded.{IsBounded}
 use Rattle.cse_compile.specs.Program.{IsProgramOf}

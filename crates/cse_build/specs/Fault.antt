@@ -1,7 +1,7 @@
 -- Where a fault of a build is: that of a reader as it was told, or at no place.
 use Rattle.std.specs.Prelude.{◌≡◌, ℕ, ◌||◌, nat_eq, IsTrue}
 use Rattle.cse_syntax.specs.declared.error.SyntaxError.{SyntaxError}
-use Rattle.cse_types.specs.declared.error.TypeError.{TypeError}
+use Rattle.cse_logic_names.specs.declared.error.TypeError.{TypeError}
 use Rattle.cse_build.specs.declared.error.BuildFault.{BuildFault}
 
 abbrev pub of_type : TypeError → BuildFault

@@ -22,10 +22,10 @@ use Rattle.cse_logic_tree.specs.Typed.{Statements, Body, Plain, Preproc, Both, P
 use Rattle.cse_compile_sections.specs.declared.outlines.Sort.TheVariants as sorts
 use Rattle.cse_compile_sections.specs.Outline.{Handler, is_idle, event_of, handler_of, handlers_of_body, handlers_in}
 use Rattle.cse_compile_sections.specs.Events.{is_key}
-use Rattle.cse_types.specs.declared.meaning.Meaning.{Meaning}
-use Rattle.cse_types.specs.declared.meaning.Meaning.TheVariants as m
-use Rattle.cse_types.specs.Scope.{Scope, first_of, in_dictionary, kind_and_owner}
-use Rattle.cse_types.specs.WellTyped.{AreProcedures, body_messages, item_owner, owner_meant}
+use Rattle.cse_logic_names.specs.declared.meaning.Meaning.{Meaning}
+use Rattle.cse_logic_names.specs.declared.meaning.Meaning.TheVariants as m
+use Rattle.cse_logic_names.specs.Scope.{Scope, first_of, in_dictionary, kind_and_owner}
+use Rattle.cse_logic_names.specs.WellTyped.{AreProcedures, body_messages, item_owner, owner_meant}
 use Rattle.cse_compile.specs.Numbers.{key_of}
 use Rattle.cse_code_typing.proofs.HandlerLaws.{one_code}
 

@@ -18,8 +18,8 @@ use Rattle.cse_syntax.specs.Grammar.{Below, IsStmt, AreStmts, IsBy}
 use Rattle.cse_logic_tree.specs.Typed.{Limit, Fixed, Counted, Counting, Statement, Statements, Arms}
 use Rattle.cse_logic_tree.specs.Typed.{Empty, Set, SetText, SetItem, SetTextItem, SetCell, CallOf, If, For, Do, Jump', Impute, PutDeck, ErrMsg, no_statement, statement_and, no_arm, else_of, arm}
 use Rattle.cse_logic_tree.specs.Erase.{erase_limit, erase_counting, erase_statement, erase_block, erase_arms}
-use Rattle.cse_types.specs.Scope.{Scope, within}
-use Rattle.cse_types.specs.WellTyped.{value_of, signed_value, step_of, IsLimit, IsCounting, IsStatement, AreStatements, AreArms, messages_in, messages_of}
+use Rattle.cse_logic_names.specs.Scope.{Scope, within}
+use Rattle.cse_logic_names.specs.WellTyped.{value_of, signed_value, step_of, IsLimit, IsCounting, IsStatement, AreStatements, AreArms, messages_in, messages_of}
 use Rattle.cse_meaning.specs.Plain.{KeepsTurns}
 use Rattle.cse_law_programs_mean.proofs.Kept.{IsNear, IsNearLimit, keeps}
 use Rattle.cse_law_programs_mean.proofs.Turns.{HoldTurns, AllHoldTurns, ArmsHoldTurns}

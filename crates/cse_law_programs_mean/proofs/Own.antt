@@ -16,12 +16,12 @@ use Rattle.cse_logic_tree.specs.Typed.{Which, Here, At, Argument, OfNumber, OfWo
 use Rattle.cse_logic_tree.specs.Typed.{Empty, Set, SetText, SetItem, SetTextItem, SetCell, CallOf, If, For, Do, Jump', Impute, PutDeck, ErrMsg, no_statement, statement_and, no_arm, else_of, arm}
 use Rattle.cse_logic_tree.specs.Typed.{Numbers, Operations, no_number, number_and, no_operation, operation_and}
 use Rattle.cse_logic_tree.specs.Erase.{erase_statement, erase_block}
-use Rattle.cse_types.specs.declared.meaning.Meaning.{Meaning}
-use Rattle.cse_types.specs.declared.meaning.Meaning.TheVariants as m
-use Rattle.cse_types.specs.declared.meaning.Routine.{Routine}
-use Rattle.cse_types.specs.declared.meaning.Routine.TheVariants as r
-use Rattle.cse_types.specs.Scope.{Scope, first_of, in_dictionary, meant, meant_in, own_result, variable_meant, variable_named, loop_variable_meant, loop_variable, numbered_from, declared_from, within}
-use Rattle.cse_types.specs.WellTyped.{IsNumber, IsWords, AreNumbers, AreOperands, IsArgument, AreArguments, IsWhich, IsStatement, AreStatements, AreArms, messages_in, messages_of}
+use Rattle.cse_logic_names.specs.declared.meaning.Meaning.{Meaning}
+use Rattle.cse_logic_names.specs.declared.meaning.Meaning.TheVariants as m
+use Rattle.cse_logic_names.specs.declared.meaning.Routine.{Routine}
+use Rattle.cse_logic_names.specs.declared.meaning.Routine.TheVariants as r
+use Rattle.cse_logic_names.specs.Scope.{Scope, first_of, in_dictionary, meant, meant_in, own_result, variable_meant, variable_named, loop_variable_meant, loop_variable, numbered_from, declared_from, within}
+use Rattle.cse_logic_names.specs.WellTyped.{IsNumber, IsWords, AreNumbers, AreOperands, IsArgument, AreArguments, IsWhich, IsStatement, AreStatements, AreArms, messages_in, messages_of}
 use Rattle.cse_law_sources_are_sound.proofs.Names.{place_within}
 use Rattle.cse_meaning.specs.Plain.{IsOwn, IsPlain, ArePlain, EachPlain, AllPlain, IsPlainPlace, IsPlainArgument, ArePlainArguments, IsPlainStatement, IsPlainBlock, ArePlainArms}
 use Rattle.cse_law_programs_mean.proofs.Turns.{HoldTurns, AllHoldTurns, ArmsHoldTurns}

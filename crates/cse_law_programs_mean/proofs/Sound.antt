@@ -18,9 +18,9 @@ use Rattle.cse_logic_tree.specs.Erase.{erase_block, erase_body, erase_declaratio
 use Rattle.cse_compile_sections.specs.declared.outlines.Sort.{Sort}
 use Rattle.cse_compile_sections.specs.declared.outlines.Sort.TheVariants as sorts
 use Rattle.cse_compile_sections.specs.Outline.{Outline, Handler, outline_of, functions_in, is_idle, event_of, handler_of, handlers_of_body, handlers_in}
-use Rattle.cse_types.specs.MessageFile.{MessageText}
-use Rattle.cse_types.specs.Scope.{Scope}
-use Rattle.cse_types.specs.WellTyped.{IsFunction, AreDeclared, AreStatements, IsBody, AreProcedures, function_scope, procedure_scope, with_function, with_functions, first_scope, typed_declarations, all_declarations, parameter_names, messages_of, body_messages}
+use Rattle.cse_logic_names.specs.MessageFile.{MessageText}
+use Rattle.cse_logic_names.specs.Scope.{Scope}
+use Rattle.cse_logic_names.specs.WellTyped.{IsFunction, AreDeclared, AreStatements, IsBody, AreProcedures, function_scope, procedure_scope, with_function, with_functions, first_scope, typed_declarations, all_declarations, parameter_names, messages_of, body_messages}
 use Rattle.cse_compile.specs.Program.{declarations, handlers, outlines}
 use Rattle.cse_law_sources_are_sound.specs.Checked.{IsCompiled}
 use Rattle.cse_law_sources_are_sound.proofs.Routines.{same_declarations, each_declaration, OfGrammar}

@@ -23,8 +23,8 @@ use Rattle.cse_verify.specs.Verified.{VerifiedProgram, MayRun}
 use Rattle.cse_logic_tree.specs.declared.tree.Field.{Field}
 use Rattle.cse_logic_tree.specs.declared.tree.Owner.TheVariants as owners
 use Rattle.cse_logic_tree.specs.Typed.{Tree}
-use Rattle.cse_types.specs.MessageFile.{MessageText}
-use Rattle.cse_types.specs.WellTyped.{with_functions, first_scope, typed_declarations}
+use Rattle.cse_logic_names.specs.MessageFile.{MessageText}
+use Rattle.cse_logic_names.specs.WellTyped.{with_functions, first_scope, typed_declarations}
 use Rattle.cse_compile_sections.specs.declared.outlines.Sort.TheVariants as sorts
 use Rattle.cse_compile_sections.specs.Outline as outline
 use Rattle.cse_compile_sections.specs.Outline.{Outline, Handler, event_of}

@@ -4,7 +4,7 @@ use Rattle.cse_syntax.specs.Tree as syntax
 use Rattle.cse_syntax.specs.Word.{Word}
 use Rattle.cse_verify.specs.Verified.{VerifiedProgram}
 use Rattle.cse_logic_tree.specs.Typed.{Tree}
-use Rattle.cse_types.specs.MessageFile.{MessageText}
+use Rattle.cse_logic_names.specs.MessageFile.{MessageText}
 use Rattle.cse_law_sources_are_sound.specs.Checked.{IsCompiled}
 use Rattle.cse_steps.specs.Fits.{IsVerified}
 use Rattle.cse_steps.specs.Laws.{EventsEnd}

@@ -17,10 +17,10 @@ use Rattle.cse_code_typing.specs.Order.{is_run}
 use Rattle.cse_logic_tree.specs.declared.tree.Variable.{Variable}
 use Rattle.cse_logic_tree.specs.declared.tree.Variable.TheVariants as v
 use Rattle.cse_logic_tree.specs.Typed.{Dimension, Sized, Rows}
-use Rattle.cse_types.specs.declared.meaning.Meaning.{Meaning}
-use Rattle.cse_types.specs.declared.meaning.Meaning.TheVariants as m
-use Rattle.cse_types.specs.Scope.{Scope, Facts, Loops, meant, has_case, kind_and_owner, is_over, is_looped, is_event_of, own_result, within}
-use Rattle.cse_types.specs.Uses.{Use, TheCase, Calls, Assigns, needs_case, facts_need}
+use Rattle.cse_logic_names.specs.declared.meaning.Meaning.{Meaning}
+use Rattle.cse_logic_names.specs.declared.meaning.Meaning.TheVariants as m
+use Rattle.cse_logic_names.specs.Scope.{Scope, Facts, Loops, meant, has_case, kind_and_owner, is_over, is_looped, is_event_of, own_result, within}
+use Rattle.cse_logic_names.specs.Uses.{Use, TheCase, Calls, Assigns, needs_case, facts_need}
 use Rattle.cse_law_code_is_typed.specs.Fit.{Spot, HasCase, variable_kind, row_count, over}
 
 -- what a name means is in the tables

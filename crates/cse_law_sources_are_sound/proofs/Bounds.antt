@@ -15,7 +15,7 @@ use Rattle.cse_syntax.specs.Tree as syntax
 use Rattle.cse_syntax.specs.Word.{Word}
 use Rattle.cse_code_typing.specs.Signature.{is_record}
 use Rattle.cse_logic_tree.specs.Typed.{Tree}
-use Rattle.cse_types.specs.MessageFile.{MessageText}
+use Rattle.cse_logic_names.specs.MessageFile.{MessageText}
 use Rattle.cse_code_bounds.specs.Bound.{bound, bounds_below}
 use Rattle.cse_compile_sections.specs.Outline.{Outline}
 use Rattle.cse_compile.specs.Program.{outlines, sizes}

@@ -23,7 +23,7 @@ use Rattle.cse_logic_tree.specs.Typed.{Tree}
 use Rattle.cse_code_typing.specs.Code.{part, start_of, code_of}
 use Rattle.cse_code_typing.specs.Shapes as image
 use Rattle.cse_code_typing.specs.Skeleton.{skeleton}
-use Rattle.cse_types.specs.MessageFile.{MessageText}
+use Rattle.cse_logic_names.specs.MessageFile.{MessageText}
 use Rattle.cse_code_bounds.specs.Bound.{partial, bounds_below, bound}
 use Rattle.cse_code_bounds.specs.Bounded.{IsBounded}
 use Rattle.cse_code_bounds.specs.EventBound.{most_of_item as most_in, times_in_case, case_bound}

@@ -27,10 +27,10 @@ use Rattle.cse_logic_tree.specs.Typed.{Statements, Body, Plain, Preproc, Both, P
 use Rattle.cse_compile_sections.specs.declared.outlines.Sort.TheVariants as sorts
 use Rattle.cse_compile_sections.specs.Outline.{Outline, Handler, routine_of, is_idle, event_of, handler_of, handlers_of_body, handlers_in}
 use Rattle.cse_compile_sections.specs.Events.{Table, is_key, with_event, table_from, routine_at, entry_of, entry_at, entries_in}
-use Rattle.cse_types.specs.declared.meaning.Meaning.{Meaning}
-use Rattle.cse_types.specs.declared.meaning.Meaning.TheVariants as m
-use Rattle.cse_types.specs.Scope.{Scope, first_of, in_dictionary, kind_and_owner}
-use Rattle.cse_types.specs.WellTyped.{item_owner, owner_meant, body_messages, AreProcedures}
+use Rattle.cse_logic_names.specs.declared.meaning.Meaning.{Meaning}
+use Rattle.cse_logic_names.specs.declared.meaning.Meaning.TheVariants as m
+use Rattle.cse_logic_names.specs.Scope.{Scope, first_of, in_dictionary, kind_and_owner}
+use Rattle.cse_logic_names.specs.WellTyped.{item_owner, owner_meant, body_messages, AreProcedures}
 use Rattle.cse_code_typing.specs.Order.{handles_item, handles, is_handled_by, fits_event, all_events_fit}
 use Rattle.cse_law_sources_are_sound.proofs.Names.{named_within}
 use Rattle.cse_law_sources_are_sound.proofs.Tables.{behind}

@@ -19,9 +19,9 @@ use Rattle.cse_logic_tree.specs.declared.tree.Variable.TheVariants as v
 use Rattle.cse_logic_tree.specs.Typed.{Declaration, Numeric, Alpha, Array', Function'}
 use Rattle.cse_logic_tree.specs.Erase.{erase_declaration}
 use Rattle.cse_compile_sections.specs.Tables.{number_global, text_global, globals_in}
-use Rattle.cse_types.specs.declared.meaning.Meaning.{Meaning}
-use Rattle.cse_types.specs.declared.meaning.Meaning.TheVariants as m
-use Rattle.cse_types.specs.Scope.{Scope, first_of, numbered_from, declared_from, in_dictionary, meant_in, meant}
+use Rattle.cse_logic_names.specs.declared.meaning.Meaning.{Meaning}
+use Rattle.cse_logic_names.specs.declared.meaning.Meaning.TheVariants as m
+use Rattle.cse_logic_names.specs.Scope.{Scope, first_of, numbered_from, declared_from, in_dictionary, meant_in, meant}
 use Rattle.cse_law_code_is_typed.specs.Fit.{Spot}
 use Rattle.cse_law_code_is_typed.proofs.At.{HasAt, has_front, has_back}
 use Rattle.cse_law_sources_are_sound.proofs.Agrees.{MeaningFits}

@@ -25,12 +25,12 @@ use Rattle.cse_logic_tree.specs.declared.tree.Present.TheVariants as p
 use Rattle.cse_logic_tree.specs.declared.tree.Pick.{Pick}
 use Rattle.cse_logic_tree.specs.Typed.{Number, Words, Numbers, Operations, Constant, Special', Variable', Item, ItemAt, Cell, Call, Group, Int, IsSpecial, Deck, TotOcc, MaxOcc, CurOcc, InSet, Minus, Not, Compare, CompareTexts, Chain}
 use Rattle.cse_logic_tree.specs.Typed.{Quoted, TextGlobal, TextItem, TextItemAt, TextGroup, no_number, number_and, no_operation, operation_and, Dimension, Sized, Rows}
-use Rattle.cse_types.specs.declared.meaning.Meaning.{Meaning}
-use Rattle.cse_types.specs.declared.meaning.Meaning.TheVariants as m
-use Rattle.cse_types.specs.Scope.{Scope, Facts, meant, variable_named, variable_meant, loop_variable, loop_variable_meant, has_case, kind_and_owner, found, is_looped, is_event_of, most_of}
-use Rattle.cse_types.specs.Uses.{Use, Calls, facts_need, needs_case, uses, uses_words, uses_all, uses_operations}
-use Rattle.cse_types.specs.WellTyped as t
-use Rattle.cse_types.specs.WellTyped.{IsField, IsPresent, IsNumberSet, set_kind, kind_of, whole_set, AreDeckPicks, dimensions_of, may_call, suits, IsNumber, IsWords, AreNumbers, AreOperands}
+use Rattle.cse_logic_names.specs.declared.meaning.Meaning.{Meaning}
+use Rattle.cse_logic_names.specs.declared.meaning.Meaning.TheVariants as m
+use Rattle.cse_logic_names.specs.Scope.{Scope, Facts, meant, variable_named, variable_meant, loop_variable, loop_variable_meant, has_case, kind_and_owner, found, is_looped, is_event_of, most_of}
+use Rattle.cse_logic_names.specs.Uses.{Use, Calls, facts_need, needs_case, uses, uses_words, uses_all, uses_operations}
+use Rattle.cse_logic_names.specs.WellTyped as t
+use Rattle.cse_logic_names.specs.WellTyped.{IsField, IsPresent, IsNumberSet, set_kind, kind_of, whole_set, AreDeckPicks, dimensions_of, may_call, suits, IsNumber, IsWords, AreNumbers, AreOperands}
 use Rattle.cse_compile_code.specs.Numbers.{count}
 use Rattle.cse_law_code_is_typed.specs.Fit.{Spot, HasCase, IsFound, IsEntry, IsNumberVariable, IsNumberField, IsTextField, IsNumberPresent, IsTextPresent, IsArray, ArePicks, row_count, IsDeck, numbers_kinds, IsFunction, NumberFits, WordsFit, NumbersFit, OperationsFit}
 use Rattle.cse_law_sources_are_sound.proofs.Agrees.{MeaningFits, SizesFit, FunctionFits, Agrees, Cased, cased_left, cased_right, cased_call, cased_tail, cased_here}

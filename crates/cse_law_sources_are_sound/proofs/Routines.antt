@@ -29,13 +29,13 @@ use Rattle.cse_compile_sections.specs.declared.outlines.Sort.TheVariants as sort
 use Rattle.cse_compile_sections.specs.Tables.{globals_in, arrays_in, message_of}
 use Rattle.cse_compile_sections.specs.Outline.{Outline, Handler, ambient_of, gives_of, parameters_of, locals_of, number_local, numbers, outline_of, functions_in, is_idle, event_of, handler_of, handlers_of_body, handlers_in}
 use Rattle.cse_compile.specs.Program.{declarations_in, declarations, handlers, outlines, sizes, entry_of}
-use Rattle.cse_types.specs.MessageFile.{MessageText}
-use Rattle.cse_types.specs.declared.meaning.Routine.{Routine}
-use Rattle.cse_types.specs.declared.meaning.Routine.TheVariants as r
-use Rattle.cse_types.specs.Scope.{Scope, Facts, declared_from, is_looped, kind_and_owner, own_result, is_event_of, has_case}
-use Rattle.cse_types.specs.Uses.{facts_of}
-use Rattle.cse_types.specs.WellTyped as w
-use Rattle.cse_types.specs.WellTyped.{AreStatements, AreDeclared, AreProcedures, IsBody, all_declarations, typed_declarations, parameter_names, first_scope, with_function, with_functions, messages_of, declared_messages, procedure_messages, body_messages, tree_messages}
+use Rattle.cse_logic_names.specs.MessageFile.{MessageText}
+use Rattle.cse_logic_names.specs.declared.meaning.Routine.{Routine}
+use Rattle.cse_logic_names.specs.declared.meaning.Routine.TheVariants as r
+use Rattle.cse_logic_names.specs.Scope.{Scope, Facts, declared_from, is_looped, kind_and_owner, own_result, is_event_of, has_case}
+use Rattle.cse_logic_names.specs.Uses.{facts_of}
+use Rattle.cse_logic_names.specs.WellTyped as w
+use Rattle.cse_logic_names.specs.WellTyped.{AreStatements, AreDeclared, AreProcedures, IsBody, all_declarations, typed_declarations, parameter_names, first_scope, with_function, with_functions, messages_of, declared_messages, procedure_messages, body_messages, tree_messages}
 use Rattle.cse_law_code_is_typed.specs.Fit.{Spot, variable_kind, BlockFits}
 use Rattle.cse_law_code_is_typed.proofs.At.{HasAt, has_self, has_front, has_back}
 use Rattle.cse_law_sources_are_sound.specs.Checked.{IsCompiled, spot_for}

@@ -19,8 +19,8 @@ use Rattle.cse_code_typing.specs.Order.{NamesEachOnce}
 use Rattle.cse_code_typing.specs.Typed.{IsTyped}
 use Rattle.cse_compile_sections.specs.Outline.{Outline, functions_in}
 use Rattle.cse_compile_code.specs.Routines.{routine_size}
-use Rattle.cse_types.specs.MessageFile.{MessageText}
-use Rattle.cse_types.specs.WellTyped.{IsTypedAs, all_declarations, declared_messages, typed_declarations, first_scope, with_functions}
+use Rattle.cse_logic_names.specs.MessageFile.{MessageText}
+use Rattle.cse_logic_names.specs.WellTyped.{IsTypedAs, all_declarations, declared_messages, typed_declarations, first_scope, with_functions}
 use Rattle.cse_compile.specs.Program.{IsProgramOf, declarations, setting_for, sizes}
 use Rattle.cse_compile.specs.Compiled.{IsSound}
 use Rattle.cse_law_sources_are_sound.specs.Checked.{IsCompiled}

@@ -16,11 +16,11 @@ use Rattle.cse_logic_tree.specs.Typed.{Which, Here, At, Argument, OfNumber, OfWo
 use Rattle.cse_logic_tree.specs.Typed.{Empty, Set, SetText, SetItem, SetTextItem, SetCell, CallOf, If, For, Do, Jump', Impute, PutDeck, ErrMsg, no_statement, statement_and, no_arm, else_of, arm}
 use Rattle.cse_logic_tree.specs.Erase.{erase_statement, erase_block, erase_arms}
 use Rattle.cse_compile_sections.specs.Tables.{message_of}
-use Rattle.cse_types.specs.declared.meaning.Meaning.TheVariants as meaning
-use Rattle.cse_types.specs.MessageFile.{MessageText}
-use Rattle.cse_types.specs.Scope.{Scope, Loops, within}
-use Rattle.cse_types.specs.Uses.{uses, uses_words, uses_all, uses_which, uses_argument, uses_arguments, uses_limit, assigns, uses_of, uses_block, uses_arms}
-use Rattle.cse_types.specs.WellTyped.{messages_in, messages_of, messages_behind, message_meant, kinds_of, no_message, entry_of, argument_kind, IsArgument, AreArguments, IsWhich, IsLimit, may_jump, IsStatement, AreStatements, AreArms}
+use Rattle.cse_logic_names.specs.declared.meaning.Meaning.TheVariants as meaning
+use Rattle.cse_logic_names.specs.MessageFile.{MessageText}
+use Rattle.cse_logic_names.specs.Scope.{Scope, Loops, within}
+use Rattle.cse_logic_names.specs.Uses.{uses, uses_words, uses_all, uses_which, uses_argument, uses_arguments, uses_limit, assigns, uses_of, uses_block, uses_arms}
+use Rattle.cse_logic_names.specs.WellTyped.{messages_in, messages_of, messages_behind, message_meant, kinds_of, no_message, entry_of, argument_kind, IsArgument, AreArguments, IsWhich, IsLimit, may_jump, IsStatement, AreStatements, AreArms}
 use Rattle.cse_law_code_is_typed.specs.Fit.{Spot, WhichFits, ArgumentFits, ArgumentsFit, kind_of, IsMessage, LimitFits, over, Within, JumpFits, StatementFits, BlockFits, ArmsFit}
 use Rattle.cse_law_code_is_typed.proofs.At.{HasAt, has_front, has_back}
 use Rattle.cse_law_sources_are_sound.proofs.Agrees.{is_open, Agrees, agrees_in_do, agrees_in_for, InLoops, loops_in_do, loops_in_for, Cased, cased_left, cased_right, cased_call, cased_tail, cased_here}

@@ -13,9 +13,9 @@ use Rattle.cse_logic_tree.specs.Erase.{erase_dimension, erase_declaration, erase
 use Rattle.cse_compile_sections.specs.declared.outlines.Sort.TheVariants as sorts
 use Rattle.cse_compile_sections.specs.Tables.{size_of, arrays_in}
 use Rattle.cse_compile_sections.specs.Outline.{Outline}
-use Rattle.cse_types.specs.Scope.{Scope, Facts}
-use Rattle.cse_types.specs.WellTyped as t
-use Rattle.cse_types.specs.WellTyped.{IsDimension, one_if, AreDeclared}
+use Rattle.cse_logic_names.specs.Scope.{Scope, Facts}
+use Rattle.cse_logic_names.specs.WellTyped as t
+use Rattle.cse_logic_names.specs.WellTyped.{IsDimension, one_if, AreDeclared}
 use Rattle.cse_law_code_is_typed.specs.Fit.{row_count}
 use Rattle.cse_law_sources_are_sound.proofs.Agrees.{SizesFit}
 use Rattle.cse_law_sources_are_sound.proofs.Numbers.{has_set}

@@ -12,7 +12,7 @@ use Rattle.cse_code_typing.specs.Kinds.{local_kind}
 use Rattle.cse_code_typing.specs.Typed.{IsTypedRoutine}
 use Rattle.cse_code_typing.specs.Code.{code_of}
 use Rattle.cse_logic_tree.specs.Typed.{Tree}
-use Rattle.cse_types.specs.MessageFile.{MessageText}
+use Rattle.cse_logic_names.specs.MessageFile.{MessageText}
 use Rattle.cse_compile_sections.specs.declared.outlines.Sort.{Sort}
 use Rattle.cse_compile_sections.specs.declared.outlines.Sort.TheVariants as sorts
 use Rattle.cse_compile_sections.specs.Outline.{Outline, gives_of, locals_of, result_at}

@@ -7,8 +7,8 @@ use Rattle.cse_syntax.specs.Tree as syntax
 use Rattle.cse_syntax.specs.Word.{Word}
 use Rattle.cse_syntax.specs.Grammar.{IsSource}
 use Rattle.cse_logic_tree.specs.Typed.{Tree}
-use Rattle.cse_types.specs.MessageFile.{MessageText}
-use Rattle.cse_types.specs.WellTyped.{IsTypedAs}
+use Rattle.cse_logic_names.specs.MessageFile.{MessageText}
+use Rattle.cse_logic_names.specs.WellTyped.{IsTypedAs}
 use Rattle.cse_code_typing.specs.Shapes as image
 use Rattle.cse_code_typing.specs.Typed.{IsTypedRoutine}
 use Rattle.cse_code_bounds.specs.Bound.{bound, bounds_below}

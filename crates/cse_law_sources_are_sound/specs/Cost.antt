@@ -10,7 +10,7 @@ use Rattle.cse_logic_tree.specs.Typed.{Statement, Statements, Arms, Tree}
 use Rattle.cse_logic_tree.specs.Typed.{Empty, Set, SetText, SetItem, SetTextItem, SetCell, CallOf, If, For, Do, Jump', Impute, PutDeck, ErrMsg, no_statement, statement_and, no_arm, else_of, arm}
 use Rattle.cse_logic_tree.specs.Erase.{erase, erase_counting, erase_statement}
 use Rattle.cse_logic_tree.specs.Tokens.{expr_tokens, counting_tokens, stmt_tokens}
-use Rattle.cse_types.specs.MessageFile.{MessageText}
+use Rattle.cse_logic_names.specs.MessageFile.{MessageText}
 use Rattle.cse_code_bounds.specs.Bound.{bound}
 use Rattle.cse_compile_sections.specs.Outline.{Outline}
 use Rattle.cse_compile.specs.Program.{outlines, setting_for, sizes}

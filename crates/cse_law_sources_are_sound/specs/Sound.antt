@@ -8,9 +8,9 @@ use Rattle.cse_syntax.specs.Tree as syntax
 use Rattle.cse_syntax.specs.Word.{Word}
 use Rattle.cse_syntax.specs.Grammar.{IsSource}
 use Rattle.cse_logic_tree.specs.Typed.{Tree}
-use Rattle.cse_types.specs.MessageFile.{MessageText}
-use Rattle.cse_types.specs.OrderFile.{IsOrder}
-use Rattle.cse_types.specs.WellTyped.{IsTypedAs}
+use Rattle.cse_logic_names.specs.MessageFile.{MessageText}
+use Rattle.cse_logic_names.specs.OrderFile.{IsOrder}
+use Rattle.cse_logic_names.specs.WellTyped.{IsTypedAs}
 use Rattle.cse_code_bounds.specs.Bound.{bound}
 use Rattle.cse_compile_sections.specs.Order.{edit_order}
 use Rattle.cse_compile_sections.specs.Outline.{Outline}

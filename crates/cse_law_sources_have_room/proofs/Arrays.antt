@@ -22,9 +22,9 @@ use Rattle.cse_syntax.specs.Tree.{Spelling}
 use Rattle.cse_logic_tree.specs.Typed.{Whole, Dimension, Sized, Rows, Declaration, Numeric, Alpha, Array', Function'}
 use Rattle.cse_logic_tree.specs.Erase.{erase_block, erase_dimension, erase_declaration}
 use Rattle.cse_compile_sections.specs.Tables.{size_of, cell_of, arrays_in}
-use Rattle.cse_types.specs.Scope.{Scope}
-use Rattle.cse_types.specs.WellTyped as t
-use Rattle.cse_types.specs.WellTyped.{IsWhole, IsDimension, AreDeclared, one_if, rows_of, size_in, with_function, messages_of}
+use Rattle.cse_logic_names.specs.Scope.{Scope}
+use Rattle.cse_logic_names.specs.WellTyped as t
+use Rattle.cse_logic_names.specs.WellTyped.{IsWhole, IsDimension, AreDeclared, one_if, rows_of, size_in, with_function, messages_of}
 use Rattle.cse_law_sources_have_room.specs.Within.{IsArrayWithin}
 use Rattle.cse_law_sources_have_room.proofs.Held.{within, signed_fits}
 use Rattle.cse_law_sources_have_room.proofs.Names.{name_fits, names_of}

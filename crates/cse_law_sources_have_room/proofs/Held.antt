@@ -15,8 +15,8 @@ use Rattle.cse_syntax.specs.Grammar.{Below, IsExpr, AreInner, AreOperations, spe
 use Rattle.cse_logic_tree.specs.Typed.{Number, Words, Numbers, Operations, Constant, Special', Variable', Item, ItemAt, Cell, Call, Group, Int, IsSpecial, Deck, TotOcc, MaxOcc, CurOcc, InSet, Minus, Not, Compare, CompareTexts, Chain}
 use Rattle.cse_logic_tree.specs.Typed.{Quoted as QuotedText, TextGlobal, TextItem, TextItemAt, TextGroup, no_number, number_and, no_operation, operation_and}
 use Rattle.cse_logic_tree.specs.Erase.{erase, erase_words, erase_all, erase_operations}
-use Rattle.cse_types.specs.Scope.{Scope}
-use Rattle.cse_types.specs.WellTyped.{value_of, signed_value, IsNumber, IsWords, AreNumbers, AreOperands}
+use Rattle.cse_logic_names.specs.Scope.{Scope}
+use Rattle.cse_logic_names.specs.WellTyped.{value_of, signed_value, IsNumber, IsWords, AreNumbers, AreOperands}
 use Rattle.cse_law_sources_have_room.specs.Given.{AreUtf8}
 use Rattle.cse_law_sources_have_room.proofs.Leaves.{NumberHolds, WordsHold, NumbersHold, OperationsHold}
 use Rattle.cse_law_sources_have_room.proofs.Texts.{text_fits}

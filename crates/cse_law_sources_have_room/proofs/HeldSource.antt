@@ -14,9 +14,9 @@ use Rattle.cse_logic_tree.specs.Typed.{Statements, Declaration, Numeric, Alpha, 
 use Rattle.cse_logic_tree.specs.Erase.{erase_block, erase_array, erase_declaration, erase_body, erase_procedure, erase_tree}
 use Rattle.cse_compile_sections.specs.declared.outlines.Sort.TheVariants as sorts
 use Rattle.cse_compile_sections.specs.Outline.{Outline, Handler, functions_in, is_idle, event_of, handler_of, handlers_of_body, handlers_in}
-use Rattle.cse_types.specs.MessageFile.{MessageText}
-use Rattle.cse_types.specs.Scope.{Scope}
-use Rattle.cse_types.specs.WellTyped.{AreStatements, AreDeclared, AreProcedures, IsBody, IsWell, all_declarations, typed_declarations, function_scope, with_function, procedure_scope, messages_of, declared_messages, procedure_messages, body_messages, tree_messages, first_scope, with_functions}
+use Rattle.cse_logic_names.specs.MessageFile.{MessageText}
+use Rattle.cse_logic_names.specs.Scope.{Scope}
+use Rattle.cse_logic_names.specs.WellTyped.{AreStatements, AreDeclared, AreProcedures, IsBody, IsWell, all_declarations, typed_declarations, function_scope, with_function, procedure_scope, messages_of, declared_messages, procedure_messages, body_messages, tree_messages, first_scope, with_functions}
 use Rattle.cse_compile.specs.Program.{declarations_in, declarations, handlers, outlines}
 use Rattle.cse_law_sources_have_room.specs.Given.{AreUtf8}
 use Rattle.cse_law_sources_have_room.proofs.Leaves.{BlockHolds}

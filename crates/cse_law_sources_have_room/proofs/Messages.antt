@@ -13,9 +13,9 @@ use Rattle.cse_logic_tree.specs.Typed.{Declaration, Numeric, Alpha, Array', Func
 use Rattle.cse_logic_tree.specs.Erase.{erase_block, erase_declaration}
 use Rattle.cse_logic_tree.specs.Tokens.{all_tokens, list_tokens, each_tokens, one_token, declaration_tokens}
 use Rattle.cse_compile_sections.specs.Tables.{number_global, text_global, globals_in, message_of}
-use Rattle.cse_types.specs.MessageFile.{MessageText}
-use Rattle.cse_types.specs.Scope.{Scope}
-use Rattle.cse_types.specs.WellTyped.{message_number, numbered, message_meant, no_message, entry_of, size_of, size_in, AreDeclared, with_function, messages_of}
+use Rattle.cse_logic_names.specs.MessageFile.{MessageText}
+use Rattle.cse_logic_names.specs.Scope.{Scope}
+use Rattle.cse_logic_names.specs.WellTyped.{message_number, numbered, message_meant, no_message, entry_of, size_of, size_in, AreDeclared, with_function, messages_of}
 use Rattle.cse_syntax.specs.Tree.{Spelling}
 use Rattle.cse_law_sources_have_room.specs.Given.{AreTexts}
 use Rattle.cse_law_sources_have_room.specs.Within.{IsMessageWithin}

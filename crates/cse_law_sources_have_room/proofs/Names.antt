@@ -16,10 +16,10 @@ use Rattle.cse_syntax.specs.Leaf.{starts_with_letter, is_word_byte, is_none, res
 use Rattle.cse_logic_tree.specs.Typed.{Declaration, Numeric, Alpha, Array', Function'}
 use Rattle.cse_logic_tree.specs.Erase.{erase_declaration}
 use Rattle.cse_compile_sections.specs.Tables.{arrays_in}
-use Rattle.cse_types.specs.declared.meaning.Meaning.{Meaning}
-use Rattle.cse_types.specs.declared.meaning.Meaning.TheVariants as m
+use Rattle.cse_logic_names.specs.declared.meaning.Meaning.{Meaning}
+use Rattle.cse_logic_names.specs.declared.meaning.Meaning.TheVariants as m
 use Rattle.cse_logic_tree.specs.declared.tree.Variable.TheVariants as v
-use Rattle.cse_types.specs.Scope.{numbered_from, declared_from}
+use Rattle.cse_logic_names.specs.Scope.{numbered_from, declared_from}
 use Rattle.cse_law_sources_have_room.proofs.Lists.{back}
 
 -- ---- their form

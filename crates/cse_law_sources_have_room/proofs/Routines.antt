@@ -26,10 +26,10 @@ use Rattle.cse_compile_sections.specs.declared.outlines.Sort.{Sort}
 use Rattle.cse_compile_sections.specs.declared.outlines.Sort.TheVariants as sorts
 use Rattle.cse_compile_sections.specs.Tables as tables
 use Rattle.cse_compile_sections.specs.Outline.{Outline, Handler, parameters_of, number_local, numbers, locals_of, functions_in, is_idle, event_of, handler_of, handlers_of_body, handlers_in}
-use Rattle.cse_types.specs.declared.meaning.Meaning.{Meaning}
-use Rattle.cse_types.specs.declared.meaning.Meaning.TheVariants as m
-use Rattle.cse_types.specs.Scope.{Scope, in_dictionary, kind_and_owner}
-use Rattle.cse_types.specs.WellTyped.{item_owner, owner_meant, body_messages, AreProcedures}
+use Rattle.cse_logic_names.specs.declared.meaning.Meaning.{Meaning}
+use Rattle.cse_logic_names.specs.declared.meaning.Meaning.TheVariants as m
+use Rattle.cse_logic_names.specs.Scope.{Scope, in_dictionary, kind_and_owner}
+use Rattle.cse_logic_names.specs.WellTyped.{item_owner, owner_meant, body_messages, AreProcedures}
 use Rattle.cse_compile_code.specs.Routines.{routine_size}
 use Rattle.cse_compile_code.specs.Statements.{exit_size_by}
 use Rattle.cse_law_code_is_typed.proofs.Blocks.{routine_length}

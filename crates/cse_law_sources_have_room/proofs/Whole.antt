@@ -33,10 +33,10 @@ use Rattle.cse_compile_sections.specs.Events.{table_from}
 use Rattle.cse_compile_sections.specs.Order.{edit_order}
 use Rattle.cse_compile_sections.specs.Outline.{Outline, Handler, functions_in, handlers_in, result_at}
 use Rattle.cse_compile_sections.specs.Tables.{globals_in, arrays_in, message_of}
-use Rattle.cse_types.specs.declared.meaning.Meaning.{Meaning}
-use Rattle.cse_types.specs.MessageFile.{MessageText}
-use Rattle.cse_types.specs.Scope.{Scope, declared_from}
-use Rattle.cse_types.specs.WellTyped.{IsTypedAs, AreDeclared, all_declarations, typed_declarations, declared_messages, tree_messages, entry_of as said, first_scope, with_functions}
+use Rattle.cse_logic_names.specs.declared.meaning.Meaning.{Meaning}
+use Rattle.cse_logic_names.specs.MessageFile.{MessageText}
+use Rattle.cse_logic_names.specs.Scope.{Scope, declared_from}
+use Rattle.cse_logic_names.specs.WellTyped.{IsTypedAs, AreDeclared, all_declarations, typed_declarations, declared_messages, tree_messages, entry_of as said, first_scope, with_functions}
 use Rattle.cse_compile_code.specs.Wide.{Wide}
 use Rattle.cse_compile_code.specs.Setting.{Setting}
 use Rattle.cse_law_code_is_typed.specs.Fit.{BlockFits}

@@ -6,8 +6,8 @@ use Rattle.cse_syntax.specs.Tree as syntax
 use Rattle.cse_syntax.specs.Word.{Word}
 use Rattle.cse_syntax.specs.Grammar.{IsSource}
 use Rattle.cse_logic_tree.specs.Typed.{Tree}
-use Rattle.cse_types.specs.MessageFile.{MessageText}
-use Rattle.cse_types.specs.WellTyped.{IsTypedAs}
+use Rattle.cse_logic_names.specs.MessageFile.{MessageText}
+use Rattle.cse_logic_names.specs.WellTyped.{IsTypedAs}
 use Rattle.cse_compile.specs.Compiled.{HasNoRoom}
 use Rattle.cse_law_sources_are_sound.specs.Sound.{IsOrdered}
 use Rattle.cse_law_sources_have_room.specs.Given.{ShapeFits, AreUtf8, AreTexts}

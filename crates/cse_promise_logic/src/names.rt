@@ -4,10 +4,10 @@ ghost use Rattle.std.specs.Prelude.{◌≡◌, ◌≤◌, ◌⊎◌, IfOk, IfErr
 ghost use Rattle.cse_syntax.specs.Tree as syntax;
 ghost use Rattle.cse_logic_tree.specs.Typed as typed;
 ghost use Rattle.cse_types.specs.Answer.{IsAnswer, checked};
-ghost use Rattle.cse_types.specs.Fault.{out_of_memory};
-ghost use Rattle.cse_types.specs.MessageFile.{ReadsMessages, file_lines};
-ghost use Rattle.cse_types.specs.OrderFile.{IsOrderOf, ReadsOrder};
-ghost use Rattle.cse_types.specs.WellTyped.{IsTypedAs};
+ghost use Rattle.cse_logic_names.specs.Fault.{out_of_memory};
+ghost use Rattle.cse_logic_names.specs.MessageFile.{ReadsMessages, file_lines};
+ghost use Rattle.cse_logic_names.specs.OrderFile.{IsOrderOf, ReadsOrder};
+ghost use Rattle.cse_logic_names.specs.WellTyped.{IsTypedAs};
 
 use cse_dict::Dictionary;
 use cse_syntax::Source;

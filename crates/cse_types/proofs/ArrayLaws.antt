@@ -3,9 +3,9 @@ use Rattle.std.proofs.Common.{◌≡◌, ℕ, ◌+◌, ◌<◌, ◌≤◌, List,
 use Rattle.cse_syntax.specs.Tree as syntax
 use Rattle.cse_syntax.specs.declared.tree.Declaration as rust
 use Rattle.cse_logic_tree.specs.Typed.{Dimension}
-use Rattle.cse_types.specs.Scope.{Scope}
+use Rattle.cse_logic_names.specs.Scope.{Scope}
 use Rattle.cse_types.specs.JudgeTree.{arrays_judged}
-use Rattle.cse_types.proofs.Walks.{drop_is, past, append_none}
+use Rattle.cse_logic_names.proofs.Walks.{drop_is, past, append_none}
 
 first_array : (s : Scope) (d : syntax.Declaration) (ds : List syntax.Declaration) → arrays_judged s (d ∷ []) ++ arrays_judged s ds ≡ arrays_judged s (d ∷ ds)
 first_array s (syntax.Numeric names) ds = refl

@@ -8,11 +8,11 @@ use Rattle.cse_syntax.specs.Tree.{Spelling, stmt, arm_tree}
 use Rattle.cse_logic_tree.specs.declared.tree.Variable.{Variable}
 use Rattle.cse_logic_tree.specs.Typed as typed
 use Rattle.cse_logic_tree.specs.Typed.{Number, Statement, Statements, Arms, Counting, If, Do, statement_and, statements, arms, arm, no_arm, else_of}
-use Rattle.cse_types.specs.Scope.{Scope}
-use Rattle.cse_types.specs.WellTyped.{messages_in, messages_of, messages_behind, kinds_of}
-use Rattle.cse_types.specs.Judge.{as_number, judge}
-use Rattle.cse_types.specs.JudgeStatement.{err_msg, if_of, arm_of, judge_statement, judge_block, judge_arms, guarded, judge_arm, judge_each, messages_each, chosen, opened, for_loop, do_loop, for_head, for_of, counting_judged}
-use Rattle.cse_types.specs.Walk.{joined, is_there}
+use Rattle.cse_logic_names.specs.Scope.{Scope}
+use Rattle.cse_logic_names.specs.WellTyped.{messages_in, messages_of, messages_behind, kinds_of}
+use Rattle.cse_logic_expressions.specs.Judge.{as_number, judge}
+use Rattle.cse_logic_expressions.specs.JudgeStatement.{err_msg, if_of, arm_of, judge_statement, judge_block, judge_arms, guarded, judge_arm, judge_each, messages_each, chosen, opened, for_loop, do_loop, for_head, for_of, counting_judged}
+use Rattle.cse_logic_names.specs.Walk.{joined, is_there}
 use Rattle.cse_types.proofs.Counted.{walk_from, gathered, both_noted}
 
 -- ---- blocks and arms as walks

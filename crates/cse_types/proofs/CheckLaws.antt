@@ -10,24 +10,24 @@ use Rattle.cse_syntax.specs.Grammar.{IsSource, spell_tree}
 use Rattle.cse_syntax.specs.Tree as syntax
 use Rattle.cse_logic_tree.specs.Typed.{Declaration, Procedure, Tree}
 use Rattle.cse_logic_tree.specs.Erase.{erase_tree}
-use Rattle.cse_types.specs.declared.error.TypeError.{TypeError}
-use Rattle.cse_types.specs.MessageFile.{MessageText}
-use Rattle.cse_types.specs.WellTyped.{all_declarations, declared_in, tree_messages, declared_messages, IsTypedAs}
+use Rattle.cse_logic_names.specs.declared.error.TypeError.{TypeError}
+use Rattle.cse_logic_names.specs.MessageFile.{MessageText}
+use Rattle.cse_logic_names.specs.WellTyped.{all_declarations, declared_in, tree_messages, declared_messages, IsTypedAs}
 use Rattle.cse_types.specs.JudgeTree.{typed_of, tree_of, are_new, is_free, names_of, owner_names, start_scope, globals_judged, procedures_judged, behind_all}
 use Rattle.cse_types.specs.Fresh.{fresh_names}
 use Rattle.cse_types.specs.declared.told.Told.{Told}
 use Rattle.cse_types.specs.Told.{told_of}
-use Rattle.cse_types.specs.Scope.{Scope}
+use Rattle.cse_logic_names.specs.Scope.{Scope}
 use Rattle.cse_types.specs.Table.{table_of}
-use Rattle.cse_types.specs.OrderFile.{IsOrderOf}
+use Rattle.cse_logic_names.specs.OrderFile.{IsOrderOf}
 use Rattle.cse_types.specs.Checked.{Checked, IsChecked, start_of, parts_of, parts_judged, with_entries}
-use Rattle.cse_types.specs.Walk.{is_there, joined, only_if}
-use Rattle.cse_types.proofs.Right.{For}
+use Rattle.cse_logic_names.specs.Walk.{is_there, joined, only_if}
+use Rattle.cse_logic_expressions.proofs.Right.{For}
 use Rattle.cse_types.proofs.FreshLaws.{fresh_sound}
 use Rattle.cse_types.proofs.TableLaws.{table_sound, table_names}
 use Rattle.cse_types.proofs.TreeRight.{tree_right}
 use Rattle.cse_types.proofs.TreeComplete.{tree_complete}
-use Rattle.cse_types.proofs.Walks.{there_map}
+use Rattle.cse_logic_names.proofs.Walks.{there_map}
 use Rattle.cse_types.proofs.ProcedureLaws.{noted_joined}
 
 module _ {A B : Type 0} (g : A → B) (a b : Bool) (p q : Option A) (same : a ≡ true → p ≡ q) where

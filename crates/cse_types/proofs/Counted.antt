@@ -4,8 +4,8 @@ use Rattle.std.proofs.Common.{◌≡◌, ℕ, ◌+◌, ◌<◌, ◌≤◌, get_o
 use Rattle.std.proofs.lemmas.List.{length-map}
 use Rattle.cse_types.specs.declared.told.Told.{Told}
 use Rattle.cse_types.specs.Told.{told_of}
-use Rattle.cse_types.specs.Walk.{so_far, found_more, joined, is_there}
-use Rattle.cse_types.proofs.Walks.{drop_is, past, append_none, map_found, there_map, turn_is, end_is}
+use Rattle.cse_logic_names.specs.Walk.{so_far, found_more, joined, is_there}
+use Rattle.cse_logic_names.proofs.Walks.{drop_is, past, append_none, map_found, there_map, turn_is, end_is}
 
 -- each member, where so many messages stand before it
 abbrev pub walk_from : {A B : Type 0} → (ℕ → A → Option B) → (A → ℕ) → ℕ → List A → Option (List B)

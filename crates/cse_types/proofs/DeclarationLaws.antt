@@ -6,11 +6,11 @@ use Rattle.cse_syntax.specs.Tree as syntax
 use Rattle.cse_syntax.specs.declared.tree.Declaration as rust
 use Rattle.cse_types.specs.declared.told.Told.{Told}
 use Rattle.cse_types.specs.Told.{told_of}
-use Rattle.cse_types.specs.Scope.{Scope}
-use Rattle.cse_types.specs.WellTyped.{declared_messages, messages_of}
+use Rattle.cse_logic_names.specs.Scope.{Scope}
+use Rattle.cse_logic_names.specs.WellTyped.{declared_messages, messages_of}
 use Rattle.cse_types.specs.JudgeTree.{declaration_judged, behind, messages_with, messages_past, declarations_judged, behind_all}
-use Rattle.cse_types.specs.Walk.{is_there, joined, so_far, found_more, only_if}
-use Rattle.cse_types.proofs.Walks.{turn_is, there_map, map_found, drop_is, past, append_none}
+use Rattle.cse_logic_names.specs.Walk.{is_there, joined, so_far, found_more, only_if}
+use Rattle.cse_logic_names.proofs.Walks.{turn_is, there_map, map_found, drop_is, past, append_none}
 
 pub no_more : {A : Type 0} (xs : List A) → xs ++ [] ≡ xs
 no_more xs = append_none xs

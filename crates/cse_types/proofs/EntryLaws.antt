@@ -6,10 +6,10 @@ use Rattle.cse_logic_tree.specs.Typed.{Entry}
 use Rattle.cse_types.specs.declared.told.Told.{Told}
 use Rattle.cse_types.specs.Told.{told_of}
 use Rattle.cse_types.specs.Entries.{is_said, are_said}
-use Rattle.cse_types.specs.MessageFile.{MessageText}
-use Rattle.cse_types.specs.WellTyped.{entry_of}
-use Rattle.cse_types.proofs.Walks.{past, append_none}
-use Rattle.cse_types.proofs.Right.{and_holds}
+use Rattle.cse_logic_names.specs.MessageFile.{MessageText}
+use Rattle.cse_logic_names.specs.WellTyped.{entry_of}
+use Rattle.cse_logic_names.proofs.Walks.{past, append_none}
+use Rattle.cse_logic_expressions.proofs.Right.{and_holds}
 
 -- the member at a place is said
 pub said_at : (items : List Told) (i : ℕ) (d : Told) → i < length items → are_said (map told_of items) ≡ true → is_said (told_of (get_or items i d)).0 ≡ true

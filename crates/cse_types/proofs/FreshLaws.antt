@@ -12,13 +12,13 @@ use Rattle.cse_dict.specs.Keys.{kept_name}
 use Rattle.cse_syntax.specs.Tree as syntax
 use Rattle.cse_syntax.specs.Tree.{Spelling}
 use Rattle.cse_syntax.specs.declared.tree.Parameter.{Parameter}
-use Rattle.cse_types.specs.WellTyped.{parameter_names}
+use Rattle.cse_logic_names.specs.WellTyped.{parameter_names}
 use Rattle.cse_types.specs.declared.fresh.Fresh.{Fresh}
-use Rattle.cse_types.specs.Scope.{Scope, in_dictionary}
+use Rattle.cse_logic_names.specs.Scope.{Scope, in_dictionary}
 use Rattle.cse_types.specs.Fresh.{all_after, is_fresh, with_fresh, fresh_names}
 use Rattle.cse_types.specs.JudgeTree.{are_new}
-use Rattle.cse_types.specs.Walk.{is_there}
-use Rattle.cse_types.proofs.Walks.{drop_is, past, append_none}
+use Rattle.cse_logic_names.specs.Walk.{is_there}
+use Rattle.cse_logic_names.proofs.Walks.{drop_is, past, append_none}
 
 kept_twice : (xs : List ℕ) → kept_name (kept_name xs) ≡ kept_name xs
 kept_twice [] = refl

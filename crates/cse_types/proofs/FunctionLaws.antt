@@ -5,12 +5,12 @@ use Rattle.cse_syntax.specs.Tree as syntax
 use Rattle.cse_syntax.specs.Tree.{Spelling}
 use Rattle.cse_logic_tree.specs.Typed.{Statements, Function}
 use Rattle.cse_types.specs.declared.fresh.Fresh.{Fresh}
-use Rattle.cse_types.specs.Scope.{Scope, Facts}
-use Rattle.cse_types.specs.WellTyped.{parameter_names}
-use Rattle.cse_types.specs.JudgeStatement.{judge_block}
+use Rattle.cse_logic_names.specs.Scope.{Scope, Facts}
+use Rattle.cse_logic_names.specs.WellTyped.{parameter_names}
+use Rattle.cse_logic_expressions.specs.JudgeStatement.{judge_block}
 use Rattle.cse_types.specs.JudgeTree.{are_new, is_new, function_of, function_judged}
 use Rattle.cse_types.specs.Fresh.{body_scope, fresh_names}
-use Rattle.cse_types.specs.Walk.{is_there, only_if}
+use Rattle.cse_logic_names.specs.Walk.{is_there, only_if}
 use Rattle.cse_types.proofs.FreshLaws.{fresh_sound, fresh_are}
 
 module _ (s : Scope) (n : ℕ) (name : Spelling) (ps : List syntax.Parameter) (body : syntax.Stmts) where

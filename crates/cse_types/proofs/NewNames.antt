@@ -10,8 +10,8 @@ use Rattle.std.proofs.lemmas.List.Folds.{list_any-append}
 use Rattle.std.proofs.lemmas.Map.Keys.{IsDistinct-cons, IsDistinct-head, IsDistinct-tail}
 use Rattle.std.proofs.lemmas.Map.Made.{IsDistinct-from_count}
 use Rattle.cse_types.specs.JudgeTree.{are_new}
-use Rattle.cse_types.specs.Walk.{is_there}
-use Rattle.cse_types.proofs.Right.{and_holds, not_holds}
+use Rattle.cse_logic_names.specs.Walk.{is_there}
+use Rattle.cse_logic_expressions.proofs.Right.{and_holds, not_holds}
 
 -- no name is one of those found
 abbrev pub AreApart : List (List ℕ) → List (List ℕ) → Type 0
@@ -73,7 +73,3 @@ none_there (Some x) h = absurd (false≢true h)
 
 pub not_there : {A : Type 0} (o : Option A) → o ≡ None → not (is_there o) ≡ true
 not_there o h = rw h refl
-
-pub gone : {A : Type 0} (o : Option A) → is_there o ≡ false → o ≡ None
-gone None h = refl
-gone (Some x) h = absurd (false≢true (sym h))

@@ -6,13 +6,13 @@ use Rattle.cse_syntax.specs.Tree as syntax
 use Rattle.cse_syntax.specs.declared.tree.Procedure as rust
 use Rattle.cse_types.specs.declared.told.Told.{Told}
 use Rattle.cse_types.specs.Told.{told_of}
-use Rattle.cse_types.specs.Scope.{Scope}
+use Rattle.cse_logic_names.specs.Scope.{Scope}
 use Rattle.cse_logic_tree.specs.Typed.{Statements, Both}
-use Rattle.cse_types.specs.WellTyped.{body_messages, procedure_messages, messages_of}
-use Rattle.cse_types.specs.JudgeStatement.{judge_block}
+use Rattle.cse_logic_names.specs.WellTyped.{body_messages, procedure_messages, messages_of}
+use Rattle.cse_logic_expressions.specs.JudgeStatement.{judge_block}
 use Rattle.cse_types.specs.JudgeTree.{owned, procedure_judged, procedures_judged, body_judged}
-use Rattle.cse_types.specs.Walk.{is_there, joined, so_far, found_more}
-use Rattle.cse_types.proofs.Walks.{drop_is, turn_is, step_noted, map_found, there_map}
+use Rattle.cse_logic_names.specs.Walk.{is_there, joined, so_far, found_more}
+use Rattle.cse_logic_names.proofs.Walks.{drop_is, turn_is, step_noted, map_found, there_map}
 use Rattle.cse_types.proofs.DeclarationLaws.{told_count}
 
 module _ (items : List rust.Procedure) (i : ℕ) (x : rust.Procedure) (lt : i < length items) (is : x ≡ get_or items i x) where

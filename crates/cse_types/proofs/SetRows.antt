@@ -4,7 +4,7 @@ use Rattle.std.specs.Prelude.{All, slice_get, if◌then◌else◌, ◌==◌}
 use Rattle.std.proofs.lemmas.Option.{slice_get_within, get_or_from_slice_get}
 use Rattle.cse_dict.specs.Dictionary.{DictionaryText, SetText}
 use Rattle.cse_dict.specs.Rows.{HasFewRows}
-use Rattle.cse_types.specs.WellTyped.{rows_of}
+use Rattle.cse_logic_names.specs.WellTyped.{rows_of}
 
 the_rows : (r n : ℕ) (b : Bool) → Some n ≡ (if b then None else Some r) → n ≡ r
 the_rows r n true e = cc

@@ -4,8 +4,8 @@ use Rattle.std.specs.Prelude.{◌&&◌, nat_le, if◌then◌else◌}
 use Rattle.std.proofs.lemmas.Bool.{leb-true, leb-false, le-leb, false≢true}
 use Rattle.std.proofs.Common.{◌⊎◌, inl, inr, ⊎_elim}
 use Rattle.cse_syntax.specs.Leaf.{is_within, is_digits, number_of, MOST}
-use Rattle.cse_types.specs.WellTyped.{size_in, size_fit}
-use Rattle.cse_types.proofs.Right.{and_holds}
+use Rattle.cse_logic_names.specs.WellTyped.{size_in, size_fit}
+use Rattle.cse_logic_expressions.proofs.Right.{and_holds}
 
 size_is : (most : ℕ) (digits : List ℕ) → size_in most digits ≡ (if is_digits digits && (nat_le 1 (number_of digits) && nat_le (number_of digits) most) then Some (number_of digits) else None)
 unfolding size_in is_within

@@ -12,14 +12,14 @@ use Rattle.cse_logic_tree.specs.declared.tree.Field.{Field}
 use Rattle.cse_logic_tree.specs.Typed.{Number, Numbers, no_number, Which, Here, At, Argument, OfNumber, OfWords, Whole, Limit, Fixed, Counted, Counting, Statement, Statements, Arms}
 use Rattle.cse_logic_tree.specs.Typed.{Empty, Set, SetText, SetItem, SetTextItem, SetCell, CallOf, If, For, Do, Jump', Impute, PutDeck, ErrMsg, no_statement, statement_and, no_arm, else_of, arm}
 use Rattle.cse_logic_tree.specs.Erase.{erase, erase_words, erase_all, erase_which, erase_arguments, erase_limit, erase_counting, erase_statement, erase_block, erase_arms}
-use Rattle.cse_types.specs.declared.meaning.Meaning.{Meaning}
-use Rattle.cse_types.specs.declared.meaning.Meaning.TheVariants as m
-use Rattle.cse_types.specs.Scope.{Scope, meant, variable_meant, found, is_free}
-use Rattle.cse_types.specs.WellTyped.{IsField, IsWhich, count, IsLimit, IsCounting, IsWhole, IsArgument, AreArguments, argument_kind, IsStatement, AreStatements, AreArms}
-use Rattle.cse_types.specs.Judge.{Judged, AsNumber, AsWords, Unknown, as_number, expr_count, judge, judge_all}
-use Rattle.cse_types.specs.JudgeStatement.{which_at, place_at, assign_variable, assign, free_variable, whole_judged, limit_judged, counting_judged, judge_arguments, judge_statement, judge_block, judge_arms}
-use Rattle.cse_types.specs.Walk.{joined, only_if}
-use Rattle.cse_types.proofs.Complete.{field_complete, deck_complete, complete, complete_words, complete_all}
+use Rattle.cse_logic_names.specs.declared.meaning.Meaning.{Meaning}
+use Rattle.cse_logic_names.specs.declared.meaning.Meaning.TheVariants as m
+use Rattle.cse_logic_names.specs.Scope.{Scope, meant, variable_meant, found, is_free}
+use Rattle.cse_logic_names.specs.WellTyped.{IsField, IsWhich, count, IsLimit, IsCounting, IsWhole, IsArgument, AreArguments, argument_kind, IsStatement, AreStatements, AreArms}
+use Rattle.cse_logic_expressions.specs.Judge.{Judged, AsNumber, AsWords, Unknown, as_number, expr_count, judge, judge_all}
+use Rattle.cse_logic_expressions.specs.JudgeStatement.{which_at, place_at, assign_variable, assign, free_variable, whole_judged, limit_judged, counting_judged, judge_arguments, judge_statement, judge_block, judge_arms}
+use Rattle.cse_logic_names.specs.Walk.{joined, only_if}
+use Rattle.cse_logic_expressions.proofs.Complete.{field_complete, deck_complete, complete, complete_words, complete_all}
 
 which_complete : (s : Scope) (owner : ℕ) (w : Which) → IsWhich s owner w → which_at (expr_count (erase_which w)) (found s owner) (judge_all s (erase_which w)) ≡ Some w
 unfolding judge_all

@@ -15,14 +15,14 @@ use Rattle.cse_logic_tree.specs.declared.tree.Pick.{Pick}
 use Rattle.cse_logic_tree.specs.Typed.{Number, Words, Numbers, no_number, number_and, Which, Here, At, Argument, OfNumber, OfWords, Whole, Limit, Fixed, Counted, Counting, Statement, Statements, Arms}
 use Rattle.cse_logic_tree.specs.Typed.{Empty, Set, SetText, SetItem, SetTextItem, SetCell, CallOf, If, Do, Jump', Impute, PutDeck, ErrMsg, no_statement, statement_and, no_arm, else_of, arm}
 use Rattle.cse_logic_tree.specs.Erase.{erase, erase_words, erase_all, erase_which, erase_arguments, erase_limit, erase_counting, erase_statement, erase_block, erase_arms}
-use Rattle.cse_types.specs.declared.meaning.Meaning.{Meaning}
-use Rattle.cse_types.specs.declared.meaning.Meaning.TheVariants as m
-use Rattle.cse_types.specs.Scope.{Scope, Loops, meant, variable_named, variable_meant, own_result, loop_variable, has_case, kind_and_owner, found, is_free, within}
-use Rattle.cse_types.specs.WellTyped.{Holds, IsField, IsWhich, AreDeckPicks, dimensions_of, may_call, count, IsNumber, IsWords, AreNumbers, IsArgument, AreArguments, argument_kind, messages_in, messages_of, kinds_of, IsWhole, signed_value, IsLimit, step_of, IsCounting, may_jump, IsStatement, AreStatements, AreArms}
-use Rattle.cse_types.specs.Judge.{Judged, AsNumber, AsWords, Unknown, as_number, field_at, sole, is_count, picks_of, record_of, expr_count, judge, judge_all}
-use Rattle.cse_types.specs.JudgeStatement.{as_words, free_variable, which_at, place_at, set_item, set_text_item, impute_item, assign_variable, assign_item, assign, impute_number, impute, put_deck, call_of, for_head, in_for, for_of, whole_judged, limit_judged, counting_of, counting_judged, in_do, as_argument, judge_arguments, message_of, err_msg, if_of, arm_of, judge_statement, judge_block, judge_arms}
-use Rattle.cse_types.specs.Walk.{joined, only_if}
-use Rattle.cse_types.proofs.Right.{For, for_map, for_joined, for_only, IsTyped, IsTypedWords, Right, AreTyped, IsSole, sole_right, number_right, and_holds, not_holds, is_count_holds, deck_picks_right, IsRecord, record_right, judge_right, all_right}
+use Rattle.cse_logic_names.specs.declared.meaning.Meaning.{Meaning}
+use Rattle.cse_logic_names.specs.declared.meaning.Meaning.TheVariants as m
+use Rattle.cse_logic_names.specs.Scope.{Scope, Loops, meant, variable_named, variable_meant, own_result, loop_variable, has_case, kind_and_owner, found, is_free, within}
+use Rattle.cse_logic_names.specs.WellTyped.{Holds, IsField, IsWhich, AreDeckPicks, dimensions_of, may_call, count, IsNumber, IsWords, AreNumbers, IsArgument, AreArguments, argument_kind, messages_in, messages_of, kinds_of, IsWhole, signed_value, IsLimit, step_of, IsCounting, may_jump, IsStatement, AreStatements, AreArms}
+use Rattle.cse_logic_expressions.specs.Judge.{Judged, AsNumber, AsWords, Unknown, as_number, field_at, sole, is_count, picks_of, record_of, expr_count, judge, judge_all}
+use Rattle.cse_logic_expressions.specs.JudgeStatement.{as_words, free_variable, which_at, place_at, set_item, set_text_item, impute_item, assign_variable, assign_item, assign, impute_number, impute, put_deck, call_of, for_head, in_for, for_of, whole_judged, limit_judged, counting_of, counting_judged, in_do, as_argument, judge_arguments, message_of, err_msg, if_of, arm_of, judge_statement, judge_block, judge_arms}
+use Rattle.cse_logic_names.specs.Walk.{joined, only_if}
+use Rattle.cse_logic_expressions.proofs.Right.{For, for_map, for_joined, for_only, IsTyped, IsTypedWords, Right, AreTyped, IsSole, sole_right, number_right, and_holds, not_holds, is_count_holds, deck_picks_right, IsRecord, record_right, judge_right, all_right}
 
 -- ---- what is said of an answer
 

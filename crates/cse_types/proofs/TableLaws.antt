@@ -11,17 +11,17 @@ use Rattle.cse_syntax.specs.Tree as syntax
 use Rattle.cse_syntax.specs.Tree.{Spelling, written}
 use Rattle.cse_syntax.specs.declared.tree.Lexeme.{Lexeme}
 use Rattle.cse_syntax.specs.declared.tree.Declaration as rust
-use Rattle.cse_types.specs.declared.meaning.Meaning.{Meaning}
-use Rattle.cse_types.specs.declared.meaning.Meaning.TheVariants as m
+use Rattle.cse_logic_names.specs.declared.meaning.Meaning.{Meaning}
+use Rattle.cse_logic_names.specs.declared.meaning.Meaning.TheVariants as m
 use Rattle.cse_types.specs.declared.table.Table.{Table}
-use Rattle.cse_types.specs.Scope.{declared_from, numbered_from}
+use Rattle.cse_logic_names.specs.Scope.{declared_from, numbered_from}
 use Rattle.cse_types.specs.JudgeTree.{are_new, is_free, is_new, names_of}
 use Rattle.cse_types.specs.Fresh.{all_after}
 use Rattle.cse_types.specs.Table.{with_name, with_global, with_declaration, global_meaning, no_table, table_of}
-use Rattle.cse_types.specs.Walk.{is_there}
-use Rattle.cse_types.proofs.NameLaws.{has_named}
-use Rattle.cse_types.proofs.Right.{and_holds, not_holds}
-use Rattle.cse_types.proofs.Walks.{map_more, append_none}
+use Rattle.cse_logic_names.specs.Walk.{is_there}
+use Rattle.cse_logic_names.proofs.NameLaws.{has_named}
+use Rattle.cse_logic_expressions.proofs.Right.{and_holds, not_holds}
+use Rattle.cse_logic_names.proofs.Walks.{map_more, append_none}
 
 abbrev Pair : Type 0
 Pair = List ℕ × Meaning

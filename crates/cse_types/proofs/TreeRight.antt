@@ -11,19 +11,19 @@ use Rattle.cse_syntax.specs.Tree.{Spelling}
 use Rattle.cse_logic_tree.specs.declared.tree.Owner.{Owner}
 use Rattle.cse_logic_tree.specs.Typed.{Whole, Statements, Dimension, Sized, Rows, Array, Function, Declaration, Numeric, Alpha, Array', Function', Body, Plain, Preproc, Both, Postproc, Procedure, Tree}
 use Rattle.cse_logic_tree.specs.Erase.{erase_block, erase_dimension, erase_array, erase_declaration, erase_body, erase_procedure, erase_tree}
-use Rattle.cse_types.specs.declared.meaning.Meaning.{Meaning}
-use Rattle.cse_types.specs.declared.meaning.Meaning.TheVariants as m
-use Rattle.cse_types.specs.declared.meaning.Routine.TheVariants as r
+use Rattle.cse_logic_names.specs.declared.meaning.Meaning.{Meaning}
+use Rattle.cse_logic_names.specs.declared.meaning.Meaning.TheVariants as m
+use Rattle.cse_logic_names.specs.declared.meaning.Routine.TheVariants as r
 use Rattle.cse_logic_tree.specs.declared.tree.Owner.TheVariants as o
-use Rattle.cse_types.specs.MessageFile.{MessageText}
-use Rattle.cse_types.specs.Scope.{Scope, Facts, meant, in_dictionary}
-use Rattle.cse_types.specs.Uses.{facts_of}
-use Rattle.cse_types.specs.WellTyped.{IsWhole, signed_value, size_of, IsDimension, IsNumberSet, IsNew, parameter_names, function_scope, with_function, IsFunction, AreDeclared, owner_meant, body_messages, IsBody, procedure_scope, AreProcedures, AreStatements, all_declarations, typed_declarations, declared_in, declared_messages, tree_messages, arrays_in, with_functions, first_scope, IsWell, IsTypedAs, entry_of, messages_of}
-use Rattle.cse_types.specs.Judge.{number_set}
-use Rattle.cse_types.specs.JudgeStatement.{whole_judged, judge_block}
+use Rattle.cse_logic_names.specs.MessageFile.{MessageText}
+use Rattle.cse_logic_names.specs.Scope.{Scope, Facts, meant, in_dictionary}
+use Rattle.cse_logic_names.specs.Uses.{facts_of}
+use Rattle.cse_logic_names.specs.WellTyped.{IsWhole, signed_value, size_of, IsDimension, IsNumberSet, IsNew, parameter_names, function_scope, with_function, IsFunction, AreDeclared, owner_meant, body_messages, IsBody, procedure_scope, AreProcedures, AreStatements, all_declarations, typed_declarations, declared_in, declared_messages, tree_messages, arrays_in, with_functions, first_scope, IsWell, IsTypedAs, entry_of, messages_of}
+use Rattle.cse_logic_expressions.specs.Judge.{number_set}
+use Rattle.cse_logic_expressions.specs.JudgeStatement.{whole_judged, judge_block}
 use Rattle.cse_types.specs.JudgeTree.{are_new, is_free, is_new, names_of, owner_names, set_rows, set_dimension, dimension_judged, dimensions_judged, cells_judged, array_of, array_judged, arrays_judged, function_of, function_judged, behind_function, alpha_of, declaration_judged, behind, messages_past, declarations_judged, behind_all, body_judged, procedure_of, owned, procedure_judged, procedures_judged, names_scope, start_scope, globals_judged, tree_of, typed_of}
-use Rattle.cse_types.specs.Walk.{is_there, joined, only_if, walk}
-use Rattle.cse_types.proofs.Right.{For, for_map, for_joined, for_only, set_right, and_holds}
+use Rattle.cse_logic_names.specs.Walk.{is_there, joined, only_if, walk}
+use Rattle.cse_logic_expressions.proofs.Right.{For, for_map, for_joined, for_only, set_right, and_holds}
 use Rattle.cse_types.proofs.StatementsRight.{AreTypedStatements, whole_right, some_right, block_right}
 use Rattle.cse_types.proofs.NewNames.{all_so, all_of_map, new_right, none_there}
 

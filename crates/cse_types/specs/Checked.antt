@@ -7,14 +7,14 @@ use Rattle.cse_syntax.specs.Grammar.{IsSource, spell_tree}
 use Rattle.cse_logic_tree.specs.declared.tree.Owner.TheVariants as o
 use Rattle.cse_logic_tree.specs.Typed.{Declaration, Procedure, Tree}
 use Rattle.cse_logic_tree.specs.Erase.{erase_tree}
-use Rattle.cse_types.specs.declared.meaning.Meaning.{Meaning}
-use Rattle.cse_types.specs.declared.meaning.Routine.TheVariants as r
-use Rattle.cse_types.specs.MessageFile.{MessageText}
-use Rattle.cse_types.specs.OrderFile.{IsOrderOf}
-use Rattle.cse_types.specs.Scope.{Scope}
-use Rattle.cse_types.specs.WellTyped.{IsWell, all_declarations, declared_messages, entry_of, tree_messages}
+use Rattle.cse_logic_names.specs.declared.meaning.Meaning.{Meaning}
+use Rattle.cse_logic_names.specs.declared.meaning.Routine.TheVariants as r
+use Rattle.cse_logic_names.specs.MessageFile.{MessageText}
+use Rattle.cse_logic_names.specs.OrderFile.{IsOrderOf}
+use Rattle.cse_logic_names.specs.Scope.{Scope}
+use Rattle.cse_logic_names.specs.WellTyped.{IsWell, all_declarations, declared_messages, entry_of, tree_messages}
 use Rattle.cse_types.specs.JudgeTree.{arrays_judged, behind_all, globals_judged, procedures_judged, tree_of}
-use Rattle.cse_types.specs.Walk.{joined}
+use Rattle.cse_logic_names.specs.Walk.{joined}
 
 -- a typed tree, and the dictionary, the messages of a message file and the records of an order file that it was made for
 pub record Checked : Type 0 where

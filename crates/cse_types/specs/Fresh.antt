@@ -3,8 +3,8 @@ use Rattle.std.specs.Prelude.{ℕ, Bool, true, false, ◌&&◌, not, if◌then�
 use Rattle.std.specs.List.{list_any}
 use Rattle.std.specs.Str.{bytes_eq}
 use Rattle.cse_types.specs.declared.fresh.Fresh.{Fresh}
-use Rattle.cse_types.specs.declared.meaning.Routine.TheVariants as r
-use Rattle.cse_types.specs.Scope.{Scope}
+use Rattle.cse_logic_names.specs.declared.meaning.Routine.TheVariants as r
+use Rattle.cse_logic_names.specs.Scope.{Scope}
 
 -- what is known behind the members of a list, each of which makes a step
 abbrev pub all_after : {S A : Type 0} → (S → A → S) → S → List A → S

@@ -11,15 +11,15 @@ use Rattle.cse_syntax.specs.Tree.{Spelling}
 use Rattle.cse_logic_tree.specs.declared.tree.Owner.{Owner}
 use Rattle.cse_logic_tree.specs.declared.tree.Owner.TheVariants as o
 use Rattle.cse_logic_tree.specs.Typed.{Whole, Statements, Dimension, Sized, Rows, Array, Function, Declaration, Numeric, Alpha, Array', Function', Body, Plain, Preproc, Both, Postproc, Procedure, Tree}
-use Rattle.cse_types.specs.declared.meaning.Meaning.{Meaning}
-use Rattle.cse_types.specs.declared.meaning.Routine.TheVariants as r
-use Rattle.cse_types.specs.MessageFile.{MessageText}
-use Rattle.cse_types.specs.Scope.{Scope, Facts, meant, in_dictionary}
-use Rattle.cse_types.specs.Uses.{facts_of, needs_case, uses_block}
-use Rattle.cse_types.specs.WellTyped.{size_of, one_if, rows_of, parameter_names, function_scope, owner_meant, body_messages, procedure_scope, all_declarations, declared_in, declared_messages, tree_messages, entry_of, messages_of}
-use Rattle.cse_types.specs.Judge.{number_set}
-use Rattle.cse_types.specs.JudgeStatement.{whole_judged, judge_block}
-use Rattle.cse_types.specs.Walk.{is_there, joined, only_if, walk}
+use Rattle.cse_logic_names.specs.declared.meaning.Meaning.{Meaning}
+use Rattle.cse_logic_names.specs.declared.meaning.Routine.TheVariants as r
+use Rattle.cse_logic_names.specs.MessageFile.{MessageText}
+use Rattle.cse_logic_names.specs.Scope.{Scope, Facts, meant, in_dictionary}
+use Rattle.cse_logic_names.specs.Uses.{facts_of, needs_case, uses_block}
+use Rattle.cse_logic_names.specs.WellTyped.{size_of, one_if, rows_of, parameter_names, function_scope, owner_meant, body_messages, procedure_scope, all_declarations, declared_in, declared_messages, tree_messages, entry_of, messages_of}
+use Rattle.cse_logic_expressions.specs.Judge.{number_set}
+use Rattle.cse_logic_expressions.specs.JudgeStatement.{whole_judged, judge_block}
+use Rattle.cse_logic_names.specs.Walk.{is_there, joined, only_if, walk}
 
 -- ---- names
 

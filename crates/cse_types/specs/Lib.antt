@@ -1,14 +1,4 @@
-pub mod Fault
-pub mod MessageFile
-pub mod OrderFile
-pub mod Scope
-pub mod Uses
-pub mod WellTyped
-pub mod Walk
-pub mod Judge
-pub mod JudgeStatement
 pub mod JudgeTree
-pub mod Gather
 pub mod Fresh
 pub mod Told
 pub mod Table

@@ -5,8 +5,8 @@ use Rattle.cse_dict.specs.Keys.{kept_name}
 use Rattle.cse_syntax.specs.Tree as syntax
 use Rattle.cse_syntax.specs.Tree.{Spelling}
 use Rattle.cse_logic_tree.specs.declared.tree.Variable.TheVariants as v
-use Rattle.cse_types.specs.declared.meaning.Meaning.{Meaning}
-use Rattle.cse_types.specs.declared.meaning.Meaning.TheVariants as m
+use Rattle.cse_logic_names.specs.declared.meaning.Meaning.{Meaning}
+use Rattle.cse_logic_names.specs.declared.meaning.Meaning.TheVariants as m
 use Rattle.cse_types.specs.declared.table.Table.{Table}
 use Rattle.cse_types.specs.JudgeTree.{is_new}
 use Rattle.cse_types.specs.Fresh.{all_after}

@@ -7,8 +7,8 @@ ghost use Rattle.cse_logic_tree.specs.Typed as typed;
 ghost use Rattle.cse_types.specs.JudgeTree as spec;
 
 use crate::array::dimensions;
-use crate::faults::Faults;
-use crate::scope::Scope;
+use cse_logic_names::faults::Faults;
+use cse_logic_names::scope::Scope;
 use cse_logic_tree::Dimension;
 use cse_syntax::{Array, Declaration};
 use std::alloc::{AllocError, Global};
@@ -26,7 +26,7 @@ fn dimensions_alone<'a>(
 }
 
 /// Those of a declaration, if it is an array.
-#[tactic(auto, using(crate::proofs::DeclarationLaws::no_more, crate::proofs::Walks::map_more))]
+#[tactic(auto, using(crate::proofs::DeclarationLaws::no_more, cse_logic_names::proofs::Walks::map_more))]
 fn add<'a>(
     alloc: Global,
     scope: &Scope<'_>,

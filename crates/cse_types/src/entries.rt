@@ -5,13 +5,13 @@ ghost use Rattle.cse_syntax.specs.Tree.{message};
 ghost use Rattle.cse_logic_tree.specs.Typed as typed;
 ghost use Rattle.cse_types.specs.Entries.{is_said, are_said};
 ghost use Rattle.cse_types.specs.Told.{told_of};
-ghost use Rattle.cse_types.specs.MessageFile.{MessageText};
-ghost use Rattle.cse_types.specs.WellTyped as well;
-ghost use Rattle.cse_types.specs.WellTyped.{entry_of, message_meant, no_message};
+ghost use Rattle.cse_logic_names.specs.MessageFile.{MessageText};
+ghost use Rattle.cse_logic_names.specs.WellTyped as well;
+ghost use Rattle.cse_logic_names.specs.WellTyped.{entry_of, message_meant, no_message};
 
-use crate::errmsg::message_number;
-use crate::messages::Messages;
 use crate::told::Told;
+use cse_logic_expressions::errmsg::message_number;
+use cse_logic_names::messages::Messages;
 use cse_logic_tree::Entry;
 use cse_syntax::{Message, text_of};
 use std::alloc::{AllocError, Global};

@@ -4,17 +4,17 @@ ghost use Rattle.std.specs.Prelude.{◌≡◌, ◌++◌, ◌&&◌, ◌||◌, not
 ghost use Rattle.std.specs.List.{list_any};
 ghost use Rattle.std.specs.Map.{lookup};
 ghost use Rattle.std.specs.Str.{bytes_eq};
-ghost use Rattle.cse_types.specs.Scope as scopes;
+ghost use Rattle.cse_logic_names.specs.Scope as scopes;
 ghost use Rattle.cse_dict.specs.Keys.{kept_name};
 ghost use Rattle.cse_types.specs.JudgeTree as spec;
 ghost use Rattle.cse_types.specs.Fresh.{is_fresh, no_names, with_fresh};
-ghost use Rattle.cse_types.specs.Walk.{is_there, IsNoted};
+ghost use Rattle.cse_logic_names.specs.Walk.{is_there, IsNoted};
 
-use crate::faults::Faults;
-use crate::meaning::Meaning;
-use crate::names::{Names, Parameters};
-use crate::scope::in_dictionary;
 use cse_dict::Dictionary;
+use cse_logic_names::faults::Faults;
+use cse_logic_names::meaning::Meaning;
+use cse_logic_names::names::{Names, Parameters};
+use cse_logic_names::scope::in_dictionary;
 use std::alloc::{AllocError, Global};
 
 /// Names that are new, each once, in upper case, and whether all were so.

@@ -5,11 +5,11 @@ ghost use Rattle.cse_dict.specs.Keys.{kept_name};
 ghost use Rattle.cse_syntax.specs.Tree as syntax;
 ghost use Rattle.cse_types.specs.JudgeTree as spec;
 ghost use Rattle.cse_types.specs.Fresh.{fresh_names, is_fresh, with_fresh};
-ghost use Rattle.cse_types.specs.Walk.{is_there, IsNoted};
+ghost use Rattle.cse_logic_names.specs.Walk.{is_there, IsNoted};
 
-use crate::faults::Faults;
 use crate::fresh::Fresh;
-use crate::names::kept;
+use cse_logic_names::faults::Faults;
+use cse_logic_names::names::kept;
 use cse_syntax::Procedure;
 use std::alloc::{AllocError, Global};
 

@@ -6,20 +6,20 @@ ghost use Rattle.cse_syntax.specs.Tree as syntax;
 ghost use Rattle.cse_syntax.specs.Tree.{written, stmt, arm_tree as parsed_arm, arms as parsed_arms, otherwise_tree as parsed_otherwise};
 ghost use Rattle.cse_logic_tree.specs.Typed as typed;
 ghost use Rattle.cse_logic_tree.specs.Typed.{number, statement, arm_tree, otherwise_tree, counting};
-ghost use Rattle.cse_types.specs.WellTyped.{messages_in, messages_of};
-ghost use Rattle.cse_types.specs.JudgeStatement as spec;
-ghost use Rattle.cse_types.specs.JudgeStatement.{judge_statement, judge_block, judge_arm, judge_each, messages_each, for_head, counting_judged, opened};
+ghost use Rattle.cse_logic_names.specs.WellTyped.{messages_in, messages_of};
+ghost use Rattle.cse_logic_expressions.specs.JudgeStatement as spec;
+ghost use Rattle.cse_logic_expressions.specs.JudgeStatement.{judge_statement, judge_block, judge_arm, judge_each, messages_each, for_head, counting_judged, opened};
 ghost use Rattle.cse_types.specs.Told.{told_of};
-ghost use Rattle.cse_types.specs.Walk.{is_there, joined, IsNoted};
+ghost use Rattle.cse_logic_names.specs.Walk.{is_there, joined, IsNoted};
 
-use crate::action::{alone, assignment, deck_value, imputation, jump};
-use crate::errmsg::err_msg;
-use crate::expression::value;
-use crate::faults::Faults;
-use crate::head::{counting, for_head};
-use crate::list::{both, keep};
-use crate::scope::Scope;
 use crate::told::Told;
+use cse_logic_expressions::action::{alone, assignment, deck_value, imputation, jump};
+use cse_logic_expressions::errmsg::err_msg;
+use cse_logic_expressions::expression::value;
+use cse_logic_expressions::head::{counting, for_head};
+use cse_logic_expressions::list::{both, keep};
+use cse_logic_names::faults::Faults;
+use cse_logic_names::scope::Scope;
 use cse_logic_tree::{Arm, Counting, Number, Statement, Variable};
 use cse_syntax::{
     Arm as ParsedArm, Counting as ParsedCounting, Expression, Lexeme, Message, Statement as Parsed,
@@ -121,7 +121,7 @@ fn do_of<'a>(head: Option<Counting<'a>>, body: Option<Vec<Statement<'a>>>) -> Op
 }
 
 /// A message, which is one more of the source, sound or not.
-#[tactic(auto, unfolding(crate::specs::JudgeStatement::judge_statement))]
+#[tactic(auto, unfolding(cse_logic_expressions::specs::JudgeStatement::judge_statement))]
 fn one_message<'a>(
     alloc: Global,
     scope: &Scope<'_>,
@@ -145,7 +145,7 @@ fn one_message<'a>(
 
 /// A statement, or none where it isn't sound.
 #[cycle(act)]
-#[tactic(auto, unfolding(crate::specs::JudgeStatement::judge_statement))]
+#[tactic(auto, unfolding(cse_logic_expressions::specs::JudgeStatement::judge_statement))]
 fn statement<'a>(
     alloc: Global,
     scope: &mut Scope<'_>,
@@ -195,7 +195,7 @@ fn statement<'a>(
 /// Statements, or none where one isn't sound. All are judged, so that the least fault is told, and each message of
 /// theirs is one more of the source.
 #[cycle(act)]
-#[tactic(auto, unfolding(crate::specs::JudgeStatement::judge_block))]
+#[tactic(auto, unfolding(cse_logic_expressions::specs::JudgeStatement::judge_block))]
 pub fn block<'a>(
     alloc: Global,
     scope: &mut Scope<'_>,

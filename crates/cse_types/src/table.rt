@@ -6,13 +6,13 @@ ghost use Rattle.cse_syntax.specs.Tree as syntax;
 ghost use Rattle.cse_syntax.specs.Tree.{written};
 ghost use Rattle.cse_types.specs.Fresh.{all_after};
 ghost use Rattle.cse_types.specs.Table as spec;
-ghost use Rattle.cse_types.specs.Walk.{is_there};
+ghost use Rattle.cse_logic_names.specs.Walk.{is_there};
 
-use crate::faults::Faults;
 use crate::fresh::is_new;
-use crate::meaning::Meaning;
-use crate::names::{Names, kept};
 use cse_dict::Dictionary;
+use cse_logic_names::faults::Faults;
+use cse_logic_names::meaning::Meaning;
+use cse_logic_names::names::{Names, kept};
 use cse_logic_tree::Variable;
 use cse_syntax::{Declaration, Lexeme};
 use std::alloc::{AllocError, Global};

@@ -3,9 +3,9 @@
 ghost use Rattle.cse_logic_tree.specs.Typed as typed;
 ghost use Rattle.cse_types.specs.Checked.{IsChecked};
 
-use crate::messages::Messages;
-use crate::order::Order;
 use cse_dict::Dictionary;
+use cse_logic_names::messages::Messages;
+use cse_logic_names::order::Order;
 use cse_logic_tree::Tree;
 
 /// A typed tree, and the dictionary, the messages and the order that it was made for. `check` alone makes one.

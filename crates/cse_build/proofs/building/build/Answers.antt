@@ -1,5 +1,5 @@
 use Rattle.std.proofs.Common.{sym, subst}
-use Rattle.cse_types.specs.MessageFile.{file_lines}
+use Rattle.cse_logic_names.specs.MessageFile.{file_lines}
 use Rattle.cse_build.specs.declared.error.BuildFault.{BuildFault}
 use Rattle.cse_build.specs.Fault.{IsReason}
 use Rattle.cse_build.specs.Build.{IsFault}

@@ -1,12 +1,12 @@
 use Rattle.std.proofs.Common.{◌≡◌, ap, ◌∙◌, sym, subst, ◌<◌, ◌≤◌, ◌+◌, length, get_or, map, List}
 use Rattle.std.specs.Prelude.{◌||◌, not}
 use Rattle.cse_syntax.specs.declared.tree.Literal.{Literal}
-use Rattle.cse_types.specs.JudgeStatement.{whole_judged}
+use Rattle.cse_logic_expressions.specs.JudgeStatement.{whole_judged}
 use Rattle.cse_syntax.specs.Tree as syntax
 use Rattle.cse_logic_tree.specs.Typed as typed
 use Rattle.cse_types.specs.JudgeTree as spec
-use Rattle.cse_types.specs.Walk.{is_there}
-use Rattle.cse_types.proofs.Walks.{at_end, walk_made, step_made, step_noted_made}
+use Rattle.cse_logic_names.specs.Walk.{is_there}
+use Rattle.cse_logic_names.proofs.Walks.{at_end, walk_made, step_made, step_noted_made}
 use Rattle.cse_types.proofs.array.cells.Goals as goal
 
 pub returns-then-is_sound-clause-value : goal.returns-then-is_sound-clause-value

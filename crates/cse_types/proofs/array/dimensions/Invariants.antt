@@ -4,7 +4,7 @@ use Rattle.cse_syntax.specs.declared.tree.Dimension.{Dimension}
 use Rattle.cse_syntax.specs.Tree as syntax
 use Rattle.cse_logic_tree.specs.Typed as typed
 use Rattle.cse_types.specs.JudgeTree as spec
-use Rattle.cse_types.specs.Walk.{is_there, walk, so_far}
+use Rattle.cse_logic_names.specs.Walk.{is_there, walk, so_far}
 use Rattle.cse_types.proofs.array.dimensions.Given as goal
 
 abbrev pub invariant-all : goal.invariant-all

@@ -4,8 +4,8 @@ use Rattle.cse_syntax.specs.Tree as syntax
 use Rattle.cse_logic_tree.specs.Typed as typed
 use Rattle.cse_types.specs.Checked.{Checked}
 use Rattle.cse_types.specs.JudgeTree.{typed_of}
-use Rattle.cse_types.specs.WellTyped.{IsTypedAs}
-use Rattle.cse_types.specs.Walk.{is_there}
+use Rattle.cse_logic_names.specs.WellTyped.{IsTypedAs}
+use Rattle.cse_logic_names.specs.Walk.{is_there}
 use Rattle.cse_types.proofs.CheckLaws.{typed_right, typed_only, same_tree, no_tree, no_fault, checked_so}
 use Rattle.cse_types.proofs.checked.answer.Goals as goal
 

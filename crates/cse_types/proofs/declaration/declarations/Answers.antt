@@ -3,11 +3,11 @@ use Rattle.std.specs.Prelude.{◌||◌, not}
 use Rattle.cse_syntax.specs.declared.tree.Declaration.{Declaration}
 use Rattle.cse_syntax.specs.Tree as syntax
 use Rattle.cse_logic_tree.specs.Typed as typed
-use Rattle.cse_types.specs.WellTyped.{declared_messages}
+use Rattle.cse_logic_names.specs.WellTyped.{declared_messages}
 use Rattle.cse_types.specs.JudgeTree as spec
 use Rattle.cse_types.specs.Told.{told_of}
-use Rattle.cse_types.specs.Walk.{is_there}
-use Rattle.cse_types.proofs.Walks.{past, step_noted_made}
+use Rattle.cse_logic_names.specs.Walk.{is_there}
+use Rattle.cse_logic_names.proofs.Walks.{past, step_noted_made}
 use Rattle.cse_types.proofs.DeclarationLaws.{no_more, made_turn, made_end, declarations_head, behind_turn, told_turn}
 use Rattle.cse_types.proofs.declaration.declarations.Goals as goal
 

@@ -2,10 +2,10 @@ use Rattle.std.proofs.Common.{◌≡◌, ◌++◌, map, drop, length}
 use Rattle.std.specs.Prelude.{◌||◌, not}
 use Rattle.cse_syntax.specs.Tree as syntax
 use Rattle.cse_logic_tree.specs.Typed as typed
-use Rattle.cse_types.specs.WellTyped.{declared_messages}
+use Rattle.cse_logic_names.specs.WellTyped.{declared_messages}
 use Rattle.cse_types.specs.JudgeTree as spec
 use Rattle.cse_types.specs.Told.{told_of}
-use Rattle.cse_types.specs.Walk.{is_there, so_far}
+use Rattle.cse_logic_names.specs.Walk.{is_there, so_far}
 use Rattle.cse_types.proofs.declaration.declarations.Given as goal
 
 abbrev pub invariant-all : goal.invariant-all

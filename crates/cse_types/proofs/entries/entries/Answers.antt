@@ -3,9 +3,9 @@ use Rattle.cse_logic_tree.specs.Typed as typed
 use Rattle.cse_types.specs.declared.told.Told.{Told}
 use Rattle.cse_types.specs.Entries.{are_said}
 use Rattle.cse_types.specs.Told.{told_of}
-use Rattle.cse_types.specs.WellTyped.{entry_of}
+use Rattle.cse_logic_names.specs.WellTyped.{entry_of}
 use Rattle.cse_types.proofs.EntryLaws.{said_at, entries_turn, entries_end}
-use Rattle.cse_types.proofs.Walks.{map_more}
+use Rattle.cse_logic_names.proofs.Walks.{map_more}
 use Rattle.cse_types.proofs.entries.entries.Goals as goal
 
 pub entry-requires : goal.entry-requires

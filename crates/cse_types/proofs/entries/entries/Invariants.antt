@@ -1,7 +1,7 @@
 use Rattle.std.proofs.Common.{◌≡◌, ◌++◌, map, drop}
 use Rattle.cse_logic_tree.specs.Typed as typed
 use Rattle.cse_types.specs.Told.{told_of}
-use Rattle.cse_types.specs.WellTyped.{entry_of}
+use Rattle.cse_logic_names.specs.WellTyped.{entry_of}
 use Rattle.cse_types.proofs.entries.entries.Given as goal
 
 abbrev pub invariant-all : goal.invariant-all

@@ -5,12 +5,12 @@ use Rattle.cse_syntax.specs.Tree.{written}
 use Rattle.cse_logic_tree.specs.Typed as typed
 use Rattle.cse_logic_tree.specs.Typed.{Statements}
 use Rattle.cse_types.specs.declared.fresh.Fresh.{Fresh}
-use Rattle.cse_types.specs.Scope.{Scope, Facts}
-use Rattle.cse_types.specs.Uses.{facts_of}
-use Rattle.cse_types.specs.JudgeStatement.{judge_block}
+use Rattle.cse_logic_names.specs.Scope.{Scope, Facts}
+use Rattle.cse_logic_names.specs.Uses.{facts_of}
+use Rattle.cse_logic_expressions.specs.JudgeStatement.{judge_block}
 use Rattle.cse_types.specs.JudgeTree as spec
 use Rattle.cse_types.specs.Fresh.{body_scope}
-use Rattle.cse_types.specs.Walk.{is_there, only_if, IsNoted}
+use Rattle.cse_logic_names.specs.Walk.{is_there, only_if, IsNoted}
 use Rattle.cse_types.proofs.FunctionLaws.{function_is, function_noted, with_facts, where_ok}
 use Rattle.cse_types.proofs.function.function.Goals as goal
 use Rattle.cse_types.proofs.function.function.Goals.{After-ended}

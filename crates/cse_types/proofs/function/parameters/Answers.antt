@@ -5,7 +5,7 @@ use Rattle.cse_syntax.specs.declared.tree.Parameter.{Parameter}
 use Rattle.cse_types.specs.declared.fresh.Fresh.{Fresh}
 use Rattle.cse_types.specs.Fresh.{all_after, no_names}
 use Rattle.cse_types.specs.JudgeTree.{is_new}
-use Rattle.cse_types.specs.Walk.{is_there}
+use Rattle.cse_logic_names.specs.Walk.{is_there}
 use Rattle.cse_types.proofs.FreshLaws.{with_parameter, parameters_after, fresh_noted, parameter_at, after_end}
 use Rattle.cse_types.proofs.function.parameters.Goals as goal
 

@@ -4,7 +4,7 @@ use Rattle.cse_dict.specs.Keys.{kept_name}
 use Rattle.cse_syntax.specs.declared.tree.Parameter.{Parameter}
 use Rattle.cse_types.specs.Fresh.{all_after, no_names, with_fresh}
 use Rattle.cse_types.specs.JudgeTree.{is_new}
-use Rattle.cse_types.specs.Walk.{is_there}
+use Rattle.cse_logic_names.specs.Walk.{is_there}
 use Rattle.cse_types.proofs.FreshLaws.{with_parameter}
 use Rattle.cse_types.proofs.function.parameters.Given as goal
 

@@ -1,8 +1,8 @@
 use Rattle.std.specs.Prelude.{Some}
 use Rattle.std.proofs.Common.{◌≡◌, ap, ◌∙◌, sym, subst}
-use Rattle.cse_types.specs.WellTyped.{IsTypedAs}
+use Rattle.cse_logic_names.specs.WellTyped.{IsTypedAs}
 use Rattle.cse_types.specs.JudgeTree.{typed_of}
-use Rattle.cse_types.proofs.Right.{For}
+use Rattle.cse_logic_expressions.proofs.Right.{For}
 use Rattle.cse_types.proofs.TreeRight.{tree_right}
 use Rattle.cse_types.proofs.TreeComplete.{tree_complete}
 use Rattle.cse_types.proofs.laws.sources_are_judged.Goals as goal

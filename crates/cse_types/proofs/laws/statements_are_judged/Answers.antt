@@ -1,5 +1,5 @@
 use Rattle.std.proofs.Common.{subst}
-use Rattle.cse_types.proofs.Right.{For}
+use Rattle.cse_logic_expressions.proofs.Right.{For}
 use Rattle.cse_types.proofs.StatementsRight.{AreTypedStatements, block_right}
 use Rattle.cse_types.proofs.StatementsComplete.{block_complete}
 use Rattle.cse_types.proofs.laws.statements_are_judged.Goals as goal

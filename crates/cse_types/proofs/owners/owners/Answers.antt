@@ -4,7 +4,7 @@ use Rattle.cse_dict.specs.Keys.{kept_name}
 use Rattle.cse_syntax.specs.declared.tree.Procedure.{Procedure}
 use Rattle.cse_types.specs.declared.fresh.Fresh.{Fresh}
 use Rattle.cse_types.specs.Fresh.{all_after, no_names}
-use Rattle.cse_types.specs.Walk.{is_there}
+use Rattle.cse_logic_names.specs.Walk.{is_there}
 use Rattle.cse_types.proofs.FreshLaws.{fresh_noted, after_turn, after_end}
 use Rattle.cse_types.proofs.OwnerLaws.{with_owner, owners_after}
 use Rattle.cse_types.proofs.owners.owners.Goals as goal

@@ -1,7 +1,7 @@
 use Rattle.std.proofs.Common.{◌≡◌, drop}
 use Rattle.std.specs.Prelude.{◌||◌, not}
 use Rattle.cse_types.specs.Fresh.{all_after, no_names}
-use Rattle.cse_types.specs.Walk.{is_there}
+use Rattle.cse_logic_names.specs.Walk.{is_there}
 use Rattle.cse_types.proofs.OwnerLaws.{with_owner}
 use Rattle.cse_types.proofs.owners.owners.Given as goal
 

@@ -4,8 +4,8 @@ use Rattle.cse_syntax.specs.Tree as syntax
 use Rattle.cse_syntax.specs.declared.tree.Procedure.{Procedure}
 use Rattle.cse_types.specs.JudgeTree.{procedures_judged}
 use Rattle.cse_types.specs.Told.{told_of}
-use Rattle.cse_types.specs.WellTyped.{procedure_messages}
-use Rattle.cse_types.specs.Walk.{is_there}
+use Rattle.cse_logic_names.specs.WellTyped.{procedure_messages}
+use Rattle.cse_logic_names.specs.Walk.{is_there}
 use Rattle.cse_types.proofs.CheckLaws.{parts_value, parts_noted}
 use Rattle.cse_types.proofs.parts.all_parts.Goals as goal
 

@@ -9,10 +9,10 @@ use Rattle.cse_types.specs.Entries.{are_said}
 use Rattle.cse_types.specs.Fresh.{fresh_names}
 use Rattle.cse_types.specs.JudgeTree.{typed_of, owner_names}
 use Rattle.cse_types.specs.Parts.{parts_tree}
-use Rattle.cse_types.specs.Scope.{Scope}
+use Rattle.cse_logic_names.specs.Scope.{Scope}
 use Rattle.cse_types.specs.Told.{told_of}
-use Rattle.cse_types.specs.WellTyped.{all_declarations, tree_messages}
-use Rattle.cse_types.specs.Walk.{is_there}
+use Rattle.cse_logic_names.specs.WellTyped.{all_declarations, tree_messages}
+use Rattle.cse_logic_names.specs.Walk.{is_there}
 use Rattle.cse_types.proofs.CheckLaws.{judged_noted, judged_value, where_so}
 use Rattle.cse_types.proofs.FunctionLaws.{where_ok}
 use Rattle.cse_types.proofs.parts.judged.Goals as goal

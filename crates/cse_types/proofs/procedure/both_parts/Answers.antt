@@ -2,10 +2,10 @@ use Rattle.std.proofs.Common.{◌≡◌, ◌∙◌, ap, sym, map, length, Option
 use Rattle.std.specs.Prelude.{◌||◌, not, option_map}
 use Rattle.cse_syntax.specs.Tree as syntax
 use Rattle.cse_logic_tree.specs.Typed as typed
-use Rattle.cse_types.specs.Scope.{Scope}
-use Rattle.cse_types.specs.WellTyped.{messages_of}
-use Rattle.cse_types.specs.JudgeStatement.{judge_block}
-use Rattle.cse_types.specs.Walk.{is_there, joined}
+use Rattle.cse_logic_names.specs.Scope.{Scope}
+use Rattle.cse_logic_names.specs.WellTyped.{messages_of}
+use Rattle.cse_logic_expressions.specs.JudgeStatement.{judge_block}
+use Rattle.cse_logic_names.specs.Walk.{is_there, joined}
 use Rattle.cse_types.proofs.DeclarationLaws.{told_count}
 use Rattle.cse_types.proofs.ProcedureLaws.{noted_joined}
 use Rattle.cse_types.proofs.procedure.both_parts.Goals as goal

@@ -3,11 +3,11 @@ use Rattle.std.specs.Prelude.{◌||◌, not}
 use Rattle.cse_syntax.specs.declared.tree.Procedure.{Procedure}
 use Rattle.cse_syntax.specs.Tree as syntax
 use Rattle.cse_logic_tree.specs.Typed as typed
-use Rattle.cse_types.specs.WellTyped.{procedure_messages}
+use Rattle.cse_logic_names.specs.WellTyped.{procedure_messages}
 use Rattle.cse_types.specs.JudgeTree as spec
 use Rattle.cse_types.specs.Told.{told_of}
-use Rattle.cse_types.specs.Walk.{is_there}
-use Rattle.cse_types.proofs.Walks.{past}
+use Rattle.cse_logic_names.specs.Walk.{is_there}
+use Rattle.cse_logic_names.proofs.Walks.{past}
 use Rattle.cse_types.proofs.DeclarationLaws.{no_more, made_end}
 use Rattle.cse_types.proofs.ProcedureLaws.{procedures_head, procedures_told, judged_turn, judged_noted}
 use Rattle.cse_types.proofs.procedure.procedures.Goals as goal

@@ -6,12 +6,12 @@ use Rattle.cse_syntax.specs.Tree as syntax
 use Rattle.cse_syntax.specs.Tree.{written, stmt, arm_tree as parsed_arm}
 use Rattle.cse_syntax.proofs.Rows.{if_is, for_is, do_is}
 use Rattle.cse_logic_tree.specs.Typed.{statement, statements, arm_tree, counting, Do, else_of}
-use Rattle.cse_types.specs.WellTyped.{messages_in, messages_of}
-use Rattle.cse_types.specs.Judge.{as_number, judge}
-use Rattle.cse_types.specs.JudgeStatement.{judge_statement, judge_block, messages_each, for_of, guarded, opened}
+use Rattle.cse_logic_names.specs.WellTyped.{messages_in, messages_of}
+use Rattle.cse_logic_expressions.specs.Judge.{as_number, judge}
+use Rattle.cse_logic_expressions.specs.JudgeStatement.{judge_statement, judge_block, messages_each, for_of, guarded, opened}
 use Rattle.cse_types.specs.Told.{told_of}
-use Rattle.cse_types.specs.Walk.{is_there, joined}
-use Rattle.cse_types.proofs.Walks.{step_noted_made, there_map, append_none}
+use Rattle.cse_logic_names.specs.Walk.{is_there, joined}
+use Rattle.cse_logic_names.proofs.Walks.{step_noted_made, there_map, append_none}
 use Rattle.cse_types.proofs.Counted.{walk_from, from_step, from_end, told_step, told_end, told_count, or_false, both_noted, on_ok}
 use Rattle.cse_types.proofs.Blocks.{statement_at, messages_at, count_at, block_walked, block_gathered, arm_at, arm_messages, arm_count, arms_walked, arms_gathered, choice_value, choice_noted, choice_told, none_judged, else_judged, for_judged, for_noted, do_judged, do_noted}
 use Rattle.cse_types.proofs.statement.+act.Goals as goal

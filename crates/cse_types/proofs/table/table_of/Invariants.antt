@@ -2,7 +2,7 @@ use Rattle.std.proofs.Common.{◌≡◌, drop}
 use Rattle.std.specs.Prelude.{not, true}
 use Rattle.cse_types.specs.Fresh.{all_after}
 use Rattle.cse_types.specs.Table.{no_table}
-use Rattle.cse_types.specs.Walk.{is_there}
+use Rattle.cse_logic_names.specs.Walk.{is_there}
 use Rattle.cse_types.proofs.TableLaws.{with_parsed}
 use Rattle.cse_types.proofs.table.table_of.Given as goal
 

@@ -1,0 +1,8 @@
+pub mod Right
+pub mod Complete
+pub mod Sets
+pub mod Subscripts
+pub mod Expressions
+pub mod Numbers
+pub mod Actions
+pub mod Arguments

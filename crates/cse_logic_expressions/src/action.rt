@@ -1,0 +1,123 @@
+//! Statements that hold no others.
+
+ghost use Rattle.std.specs.Prelude.{◌≡◌, ◌||◌, not, false, map, Some, IfOk, OnOk};
+ghost use Rattle.std.specs.Option.{option_map};
+ghost use Rattle.cse_syntax.specs.Tree.{written, expr, exprs};
+ghost use Rattle.cse_logic_tree.specs.Typed as typed;
+ghost use Rattle.cse_logic_tree.specs.Typed.{statement};
+ghost use Rattle.cse_logic_names.specs.Scope.{meant};
+ghost use Rattle.cse_logic_names.specs.WellTyped as well;
+ghost use Rattle.cse_logic_expressions.specs.Judge.{as_number, expr_count, judge, judge_all};
+ghost use Rattle.cse_logic_expressions.specs.JudgeStatement as spec;
+ghost use Rattle.cse_logic_names.specs.Walk.{is_there, only_if, IsNoted};
+
+use crate::assign::{assign, call_of, impute, put_deck};
+use crate::expression::{all_values, expression, value};
+use cse_logic_names::faults::Faults;
+use cse_logic_names::scope::Scope;
+use cse_logic_tree::{Statement, Variable};
+use cse_syntax::{Expression, Jump, Lexeme, Place};
+use std::alloc::{AllocError, Global};
+
+/// An assignment.
+pub fn assignment<'a>(
+    alloc: Global,
+    scope: &Scope<'_>,
+    faults: &mut Faults,
+    place: &Place<'a>,
+    x: &Expression<'a>,
+) -> Result<Option<Statement<'a>>, AllocError>
+    ensures value { IfOk result (λ r. option_map statement r ≡ spec.assign scope.now (written place.now.name) (meant scope.now (written place.now.name)) (expr_count (exprs (map expr place.now.subscripts.items))) (judge_all scope.now (exprs (map expr place.now.subscripts.items))) (judge scope.now false (expr x.now))) }
+    ensures noted { OnOk result (IsNoted faults.old faults.new (is_there (spec.assign scope.now (written place.now.name) (meant scope.now (written place.now.name)) (expr_count (exprs (map expr place.now.subscripts.items))) (judge_all scope.now (exprs (map expr place.now.subscripts.items))) (judge scope.now false (expr x.now))))) }
+{
+    let count = place.subscripts.len();
+    let subscripts = all_values(alloc, scope, faults, &place.subscripts)?;
+    let found = expression(alloc, scope, faults, false, x)?;
+    Ok(assign(
+        scope,
+        faults,
+        place.name,
+        count,
+        subscripts,
+        found,
+        x.token(),
+    ))
+}
+
+/// An imputation.
+pub fn imputation<'a>(
+    alloc: Global,
+    scope: &Scope<'_>,
+    faults: &mut Faults,
+    place: &Place<'a>,
+    x: &Expression<'a>,
+) -> Result<Option<Statement<'a>>, AllocError>
+    ensures value { IfOk result (λ r. option_map statement r ≡ spec.impute scope.now (written place.now.name) (meant scope.now (written place.now.name)) (expr_count (exprs (map expr place.now.subscripts.items))) (judge_all scope.now (exprs (map expr place.now.subscripts.items))) (as_number (judge scope.now false (expr x.now)))) }
+    ensures noted { OnOk result (IsNoted faults.old faults.new (is_there (spec.impute scope.now (written place.now.name) (meant scope.now (written place.now.name)) (expr_count (exprs (map expr place.now.subscripts.items))) (judge_all scope.now (exprs (map expr place.now.subscripts.items))) (as_number (judge scope.now false (expr x.now)))))) }
+{
+    let count = place.subscripts.len();
+    let subscripts = all_values(alloc, scope, faults, &place.subscripts)?;
+    let found = value(alloc, scope, faults, false, x)?;
+    Ok(impute(scope, faults, place.name, count, subscripts, found))
+}
+
+/// A call that stands alone.
+pub fn alone<'a>(
+    alloc: Global,
+    scope: &Scope<'_>,
+    faults: &mut Faults,
+    name: Lexeme<'a>,
+    arguments: &Vec<Expression<'a>>,
+) -> Result<Option<Statement<'a>>, AllocError>
+    ensures value { IfOk result (λ r. option_map statement r ≡ spec.call_of scope.now (written name.entry) (meant scope.now (written name.entry)) (expr_count (exprs (map expr arguments.now.items))) (judge_all scope.now (exprs (map expr arguments.now.items)))) }
+    ensures noted { OnOk result (IsNoted faults.old faults.new (is_there (spec.call_of scope.now (written name.entry) (meant scope.now (written name.entry)) (expr_count (exprs (map expr arguments.now.items))) (judge_all scope.now (exprs (map expr arguments.now.items)))))) }
+{
+    let found = all_values(alloc, scope, faults, arguments)?;
+    Ok(call_of(scope, faults, name, arguments.len(), found))
+}
+
+/// A value that is put into a hot deck.
+pub fn deck_value<'a>(
+    alloc: Global,
+    scope: &Scope<'_>,
+    faults: &mut Faults,
+    deck: Lexeme<'a>,
+    x: &Expression<'a>,
+) -> Result<Option<Statement<'a>>, AllocError>
+    ensures value { IfOk result (λ r. option_map statement r ≡ spec.put_deck scope.now (written deck.entry) (meant scope.now (written deck.entry)) (as_number (judge scope.now false (expr x.now)))) }
+    ensures noted { OnOk result (IsNoted faults.old faults.new (is_there (spec.put_deck scope.now (written deck.entry) (meant scope.now (written deck.entry)) (as_number (judge scope.now false (expr x.now)))))) }
+{
+    let found = value(alloc, scope, faults, false, x)?;
+    put_deck(alloc, scope, faults, deck, found)
+}
+
+/// Whether a jump may stand in these loops.
+fn may_jump(loops: &[(Option<u16>, Variable)], jump: Jump) -> bool
+    ensures { result ≡ well.may_jump loops.now jump }
+{
+    match jump {
+        Jump::Exit => true,
+        Jump::Break | Jump::Next => match loops {
+            [] => false,
+            _ => true,
+        },
+    }
+}
+
+/// A jump; one out of a loop or a turn stands in a loop (49).
+pub fn jump<'a>(
+    scope: &Scope<'_>,
+    faults: &mut Faults,
+    token: usize,
+    jump: Jump,
+) -> Option<Statement<'a>>
+    ensures value { option_map statement result ≡ only_if (well.may_jump scope.now.loops jump) (Some (typed.Jump' token jump)) }
+    ensures noted { IsNoted faults.old faults.new (is_there (only_if (well.may_jump scope.now.loops jump) (Some (typed.Jump' token jump)))) }
+{
+    if may_jump(&scope.loops, jump) {
+        Some(Statement::Jump(token, jump))
+    } else {
+        faults.note(49, token);
+        None
+    }
+}

@@ -1,0 +1,447 @@
+//! Assignments, imputations, values put into hot decks, and calls that stand alone.
+
+ghost use Rattle.std.specs.Prelude.{◌≡◌, ◌==◌, ◌||◌, not, true, false, map, slice_get, Some, None, IfOk, OnOk};
+ghost use Rattle.std.specs.Option.{option_map};
+ghost use Rattle.cse_syntax.specs.Tree.{written};
+ghost use Rattle.cse_logic_tree.specs.Typed as typed;
+ghost use Rattle.cse_logic_tree.specs.Typed.{number, numbers, words, statement};
+ghost use Rattle.cse_logic_names.specs.Scope.{meant, kind_and_owner, found};
+ghost use Rattle.cse_logic_names.specs.WellTyped.{dimensions_of, may_call};
+ghost use Rattle.cse_logic_expressions.specs.Judge as judge;
+ghost use Rattle.cse_logic_expressions.specs.Judge.{judged, as_number, is_sound};
+ghost use Rattle.cse_logic_expressions.specs.JudgeStatement as spec;
+ghost use Rattle.cse_logic_expressions.specs.JudgeStatement.{as_words, placed};
+ghost use Rattle.cse_logic_names.specs.Walk.{is_there, joined, only_if, IsNoted, IsNotedAfter};
+
+use crate::call::{has_dimensions, is_free, may_call};
+use crate::deck::picks;
+use crate::judged::Judged;
+use crate::place::place_at;
+use cse_logic_names::faults::Faults;
+use cse_logic_names::meaning::Meaning;
+use cse_logic_names::scope::{Scope, kind_and_owner, own_result};
+use cse_logic_tree::{Field, Number, Pick, Statement, Variable, Which, Words};
+use cse_syntax::Lexeme;
+use cse_value::shape::ItemKind;
+use std::alloc::{AllocError, Global};
+
+/// A number, or the fault 44 at this token.
+pub fn number_in<'a>(faults: &mut Faults, token: usize, x: Judged<'a>) -> Option<Number<'a>>
+    ensures value { option_map number result ≡ as_number (judged x.entry) }
+    ensures noted { IsNotedAfter (is_sound (judged x.entry)) faults.old faults.new (is_there (as_number (judged x.entry))) }
+{
+    match x {
+        Judged::Number(x) => x,
+        Judged::Words(_) => {
+            faults.note(44, token);
+            None
+        }
+        Judged::Unknown => None,
+    }
+}
+
+/// A text, or the fault 44 at this token.
+pub fn words_in<'a>(faults: &mut Faults, token: usize, x: Judged<'a>) -> Option<Words<'a>>
+    ensures value { option_map words result ≡ as_words (judged x.entry) }
+    ensures noted { IsNotedAfter (is_sound (judged x.entry)) faults.old faults.new (is_there (as_words (judged x.entry))) }
+{
+    match x {
+        Judged::Number(_) => {
+            faults.note(44, token);
+            None
+        }
+        Judged::Words(x) => x,
+        Judged::Unknown => None,
+    }
+}
+
+/// A variable that no open loop is over; else the fault 47, or 40 where there is none.
+pub fn free_variable(
+    scope: &Scope<'_>,
+    faults: &mut Faults,
+    token: usize,
+    variable: Option<Variable>,
+) -> Option<Variable>
+    ensures value { result ≡ spec.free_variable scope.now.loops variable }
+    ensures noted { IsNoted faults.old faults.new (is_there (spec.free_variable scope.now.loops variable)) }
+{
+    match variable {
+        None => {
+            faults.note(40, token);
+            None
+        }
+        Some(variable) => {
+            if is_free(&scope.loops, variable) {
+                Some(variable)
+            } else {
+                faults.note(47, token);
+                None
+            }
+        }
+    }
+}
+
+fn set<'a>(
+    name: Lexeme<'a>,
+    variable: Option<Variable>,
+    value: Option<Number<'a>>,
+) -> Option<Statement<'a>>
+    ensures { option_map statement result ≡ joined (typed.Set (written name.entry)) variable (option_map number value.entry) }
+{
+    match variable.zip(value) {
+        None => None,
+        Some((variable, value)) => Some(Statement::Set(name, variable, value)),
+    }
+}
+
+/// An assignment of a variable, behind which so many subscripts stand. The value begins at this token.
+fn assign_variable<'a>(
+    scope: &Scope<'_>,
+    faults: &mut Faults,
+    name: Lexeme<'a>,
+    variable: Option<Variable>,
+    count: usize,
+    value: Judged<'a>,
+    token: usize,
+) -> Option<Statement<'a>>
+    ensures value { option_map statement result ≡ spec.assign_variable scope.now (written name.entry) variable count (judged value.entry) }
+    ensures noted { IsNotedAfter (is_sound (judged value.entry)) faults.old faults.new (is_there (spec.assign_variable scope.now (written name.entry) variable count (judged value.entry))) }
+{
+    if count != 0 {
+        faults.note(44, name.token);
+        return None;
+    }
+    let variable = free_variable(scope, faults, name.token, variable);
+    let value = number_in(faults, token, value);
+    set(name, variable, value)
+}
+
+/// An assignment of the result of a function in its own body: by its name alone, since a call is no place (40).
+fn assign_result<'a>(
+    scope: &Scope<'_>,
+    faults: &mut Faults,
+    name: Lexeme<'a>,
+    own: Option<Variable>,
+    count: usize,
+    value: Judged<'a>,
+    token: usize,
+) -> Option<Statement<'a>>
+    ensures value { option_map statement result ≡ spec.assign_variable scope.now (written name.entry) own count (judged value.entry) }
+    ensures noted { IsNotedAfter (is_sound (judged value.entry)) faults.old faults.new (is_there (spec.assign_variable scope.now (written name.entry) own count (judged value.entry))) }
+{
+    if count != 0 {
+        faults.note(40, name.token);
+        return None;
+    }
+    assign_variable(scope, faults, name, own, count, value, token)
+}
+
+fn set_text<'a>(name: Lexeme<'a>, global: usize, value: Option<Words<'a>>) -> Option<Statement<'a>>
+    ensures { option_map statement result ≡ option_map (typed.SetText (written name.entry) global) (option_map words value.entry) }
+{
+    match value {
+        None => None,
+        Some(value) => Some(Statement::SetText(name, global, value)),
+    }
+}
+
+fn assign_text<'a>(
+    faults: &mut Faults,
+    name: Lexeme<'a>,
+    global: usize,
+    count: usize,
+    value: Judged<'a>,
+    token: usize,
+) -> Option<Statement<'a>>
+    ensures value { option_map statement result ≡ only_if (count == 0) (option_map (typed.SetText (written name.entry) global) (as_words (judged value.entry))) }
+    ensures noted { IsNotedAfter (is_sound (judged value.entry)) faults.old faults.new (is_there (only_if (count == 0) (option_map (typed.SetText (written name.entry) global) (as_words (judged value.entry))))) }
+{
+    if count != 0 {
+        faults.note(44, name.token);
+        return None;
+    }
+    let value = words_in(faults, token, value);
+    set_text(name, global, value)
+}
+
+fn set_cell<'a>(
+    name: Lexeme<'a>,
+    array: usize,
+    subscripts: Option<Vec<Number<'a>>>,
+    value: Option<Number<'a>>,
+) -> Option<Statement<'a>>
+    ensures { option_map statement result ≡ joined (typed.SetCell (written name.entry) array) (option_map (λ v. numbers (map number v.items)) subscripts.entry) (option_map number value.entry) }
+{
+    match subscripts.zip(value) {
+        None => None,
+        Some((subscripts, value)) => Some(Statement::SetCell(name, array, subscripts, value)),
+    }
+}
+
+fn set_item<'a>(
+    name: Lexeme<'a>,
+    place: Option<(Field, Which<'a>)>,
+    value: Option<Number<'a>>,
+) -> Option<Statement<'a>>
+    ensures { option_map statement result ≡ joined (spec.set_item (written name.entry)) (option_map placed place.entry) (option_map number value.entry) }
+{
+    match place.zip(value) {
+        None => None,
+        Some(((field, which), value)) => Some(Statement::SetItem(name, field, which, value)),
+    }
+}
+
+fn set_text_item<'a>(
+    name: Lexeme<'a>,
+    place: Option<(Field, Which<'a>)>,
+    value: Option<Words<'a>>,
+) -> Option<Statement<'a>>
+    ensures { option_map statement result ≡ joined (spec.set_text_item (written name.entry)) (option_map placed place.entry) (option_map words value.entry) }
+{
+    match place.zip(value) {
+        None => None,
+        Some(((field, which), value)) => Some(Statement::SetTextItem(name, field, which, value)),
+    }
+}
+
+fn imputed<'a>(
+    name: Lexeme<'a>,
+    place: Option<(Field, Which<'a>)>,
+    value: Option<Number<'a>>,
+) -> Option<Statement<'a>>
+    ensures { option_map statement result ≡ joined (spec.impute_item (written name.entry)) (option_map placed place.entry) (option_map number value.entry) }
+{
+    match place.zip(value) {
+        None => None,
+        Some(((field, which), value)) => Some(Statement::Impute(name, field, which, value)),
+    }
+}
+
+fn put<'a>(
+    name: Lexeme<'a>,
+    array: usize,
+    picks: Option<Vec<Pick>>,
+    value: Option<Number<'a>>,
+) -> Option<Statement<'a>>
+    ensures { option_map statement result ≡ joined (typed.PutDeck (written name.entry) array) (option_map (λ v. v.items) picks) (option_map number value.entry) }
+{
+    match picks.zip(value) {
+        None => None,
+        Some((picks, value)) => Some(Statement::PutDeck(name, array, picks, value)),
+    }
+}
+
+fn call<'a>(
+    name: Lexeme<'a>,
+    function: usize,
+    arguments: Option<Vec<Number<'a>>>,
+) -> Option<Statement<'a>>
+    ensures { option_map statement result ≡ option_map (typed.CallOf (written name.entry) function) (option_map (λ v. numbers (map number v.items)) arguments.entry) }
+{
+    match arguments {
+        None => None,
+        Some(arguments) => Some(Statement::Call(name, function, arguments)),
+    }
+}
+
+/// A call that stands alone, with so many arguments.
+pub fn call_of<'a>(
+    scope: &Scope<'_>,
+    faults: &mut Faults,
+    name: Lexeme<'a>,
+    count: usize,
+    arguments: Option<Vec<Number<'a>>>,
+) -> Option<Statement<'a>>
+    ensures value { option_map statement result ≡ spec.call_of scope.now (written name.entry) (meant scope.now (written name.entry)) count (option_map (λ v. numbers (map number v.items)) arguments.entry) }
+    ensures noted { IsNotedAfter (is_there arguments.entry) faults.old faults.new (is_there (spec.call_of scope.now (written name.entry) (meant scope.now (written name.entry)) count (option_map (λ v. numbers (map number v.items)) arguments.entry))) }
+{
+    match scope.meant(name) {
+        Some(Meaning::Function(function)) => {
+            if may_call(scope, faults, name.token, count, function) {
+                call(name, function, arguments)
+            } else {
+                None
+            }
+        }
+        _ => {
+            faults.note(40, name.token);
+            None
+        }
+    }
+}
+
+/// An assignment of an item.
+fn assign_item<'a>(
+    scope: &Scope<'_>,
+    faults: &mut Faults,
+    name: Lexeme<'a>,
+    count: usize,
+    number: u16,
+    subscripts: Option<Vec<Number<'a>>>,
+    value: Judged<'a>,
+    token: usize,
+) -> Option<Statement<'a>>
+    ensures value { option_map statement result ≡ spec.assign_item scope.now (written name.entry) count number (kind_and_owner scope.now.dictionary number) (option_map (λ v. numbers (map typed.number v.items)) subscripts.entry) (judged value.entry) }
+    ensures noted { (is_there faults.old.worst || (not (is_there subscripts.entry) || not (is_sound (judged value.entry)))) ≡ is_there faults.old.worst → IsNoted faults.old faults.new (is_there (spec.assign_item scope.now (written name.entry) count number (kind_and_owner scope.now.dictionary number) (option_map (λ v. numbers (map typed.number v.items)) subscripts.entry) (judged value.entry))) }
+{
+    match kind_and_owner(scope.dictionary, number) {
+        None => {
+            faults.note(40, name.token);
+            None
+        }
+        Some((kind, owner)) => match kind {
+            ItemKind::Opaque => {
+                faults.note(41, name.token);
+                None
+            }
+            ItemKind::Number => {
+                let place = place_at(scope, faults, name.token, count, number, owner, subscripts);
+                let value = number_in(faults, token, value);
+                set_item(name, place, value)
+            }
+            ItemKind::Text => {
+                let place = place_at(scope, faults, name.token, count, number, owner, subscripts);
+                let value = words_in(faults, token, value);
+                set_text_item(name, place, value)
+            }
+        },
+    }
+}
+
+/// An assignment of a cell.
+fn assign_cell<'a>(
+    scope: &Scope<'_>,
+    faults: &mut Faults,
+    name: Lexeme<'a>,
+    count: usize,
+    array: usize,
+    subscripts: Option<Vec<Number<'a>>>,
+    value: Judged<'a>,
+    token: usize,
+) -> Option<Statement<'a>>
+    ensures value { option_map statement result ≡ only_if (judge.is_count count (dimensions_of scope.now array)) (joined (typed.SetCell (written name.entry) array) (option_map (λ v. numbers (map number v.items)) subscripts.entry) (as_number (judged value.entry))) }
+    ensures noted { (is_there faults.old.worst || (not (is_there subscripts.entry) || not (is_sound (judged value.entry)))) ≡ is_there faults.old.worst → IsNoted faults.old faults.new (is_there (only_if (judge.is_count count (dimensions_of scope.now array)) (joined (typed.SetCell (written name.entry) array) (option_map (λ v. numbers (map number v.items)) subscripts.entry) (as_number (judged value.entry))))) }
+{
+    if !has_dimensions(scope, faults, name.token, count, array) {
+        return None;
+    }
+    let value = number_in(faults, token, value);
+    set_cell(name, array, subscripts, value)
+}
+
+/// A value, assigned to what a name means; so many subscripts stand behind it, and the value begins at this token.
+pub fn assign<'a>(
+    scope: &Scope<'_>,
+    faults: &mut Faults,
+    name: Lexeme<'a>,
+    count: usize,
+    subscripts: Option<Vec<Number<'a>>>,
+    value: Judged<'a>,
+    token: usize,
+) -> Option<Statement<'a>>
+    ensures value { option_map statement result ≡ spec.assign scope.now (written name.entry) (meant scope.now (written name.entry)) count (option_map (λ v. numbers (map number v.items)) subscripts.entry) (judged value.entry) }
+    ensures noted { (is_there faults.old.worst || (not (is_there subscripts.entry) || not (is_sound (judged value.entry)))) ≡ is_there faults.old.worst → IsNoted faults.old faults.new (is_there (spec.assign scope.now (written name.entry) (meant scope.now (written name.entry)) count (option_map (λ v. numbers (map number v.items)) subscripts.entry) (judged value.entry))) }
+{
+    match scope.meant(name) {
+        Some(Meaning::Variable(variable)) => {
+            assign_variable(scope, faults, name, Some(variable), count, value, token)
+        }
+        Some(Meaning::Text(global)) => assign_text(faults, name, global, count, value, token),
+        Some(Meaning::Array(array)) => {
+            assign_cell(scope, faults, name, count, array, subscripts, value, token)
+        }
+        Some(Meaning::Function(function)) => {
+            let own = own_result(scope.routine, function);
+            assign_result(scope, faults, name, own, count, value, token)
+        }
+        Some(Meaning::Item(item)) => {
+            assign_item(scope, faults, name, count, item, subscripts, value, token)
+        }
+        _ => {
+            faults.note(40, name.token);
+            None
+        }
+    }
+}
+
+/// An imputation of a numeric item.
+fn impute_number<'a>(
+    scope: &Scope<'_>,
+    faults: &mut Faults,
+    name: Lexeme<'a>,
+    count: usize,
+    item: u16,
+    subscripts: Option<Vec<Number<'a>>>,
+    value: Option<Number<'a>>,
+) -> Option<Statement<'a>>
+    ensures value { option_map statement result ≡ spec.impute_number scope.now (written name.entry) count item (kind_and_owner scope.now.dictionary item) (option_map (λ v. numbers (map number v.items)) subscripts.entry) (option_map number value.entry) }
+    ensures noted { (is_there faults.old.worst || (not (is_there subscripts.entry) || not (is_there value.entry))) ≡ is_there faults.old.worst → IsNoted faults.old faults.new (is_there (spec.impute_number scope.now (written name.entry) count item (kind_and_owner scope.now.dictionary item) (option_map (λ v. numbers (map number v.items)) subscripts.entry) (option_map number value.entry))) }
+{
+    match kind_and_owner(scope.dictionary, item) {
+        None => {
+            faults.note(40, name.token);
+            None
+        }
+        Some((kind, owner)) => match kind {
+            ItemKind::Opaque => {
+                faults.note(41, name.token);
+                None
+            }
+            ItemKind::Number => {
+                let place = place_at(scope, faults, name.token, count, item, owner, subscripts);
+                imputed(name, place, value)
+            }
+            ItemKind::Text => {
+                faults.note(44, name.token);
+                None
+            }
+        },
+    }
+}
+
+/// An imputation.
+pub fn impute<'a>(
+    scope: &Scope<'_>,
+    faults: &mut Faults,
+    name: Lexeme<'a>,
+    count: usize,
+    subscripts: Option<Vec<Number<'a>>>,
+    value: Option<Number<'a>>,
+) -> Option<Statement<'a>>
+    ensures value { option_map statement result ≡ spec.impute scope.now (written name.entry) (meant scope.now (written name.entry)) count (option_map (λ v. numbers (map number v.items)) subscripts.entry) (option_map number value.entry) }
+    ensures noted { (is_there faults.old.worst || (not (is_there subscripts.entry) || not (is_there value.entry))) ≡ is_there faults.old.worst → IsNoted faults.old faults.new (is_there (spec.impute scope.now (written name.entry) (meant scope.now (written name.entry)) count (option_map (λ v. numbers (map number v.items)) subscripts.entry) (option_map number value.entry))) }
+{
+    match scope.meant(name) {
+        Some(Meaning::Item(item)) => {
+            impute_number(scope, faults, name, count, item, subscripts, value)
+        }
+        _ => {
+            faults.note(40, name.token);
+            None
+        }
+    }
+}
+
+/// A value that is put into a hot deck. The word stands two tokens before the name.
+pub fn put_deck<'a>(
+    alloc: Global,
+    scope: &Scope<'_>,
+    faults: &mut Faults,
+    name: Lexeme<'a>,
+    value: Option<Number<'a>>,
+) -> Result<Option<Statement<'a>>, AllocError>
+    ensures value { IfOk result (λ r. option_map statement r ≡ spec.put_deck scope.now (written name.entry) (meant scope.now (written name.entry)) (option_map number value.entry)) }
+    ensures noted { OnOk result (IsNotedAfter (is_there value.entry) faults.old faults.new (is_there (spec.put_deck scope.now (written name.entry) (meant scope.now (written name.entry)) (option_map number value.entry)))) }
+{
+    match scope.meant(name) {
+        Some(Meaning::Array(array)) => {
+            let tokens = (name.token, name.token.saturating_sub(2));
+            let picks = picks(alloc, scope, faults, tokens, array)?;
+            Ok(put(name, array, picks, value))
+        }
+        _ => {
+            faults.note(40, name.token);
+            Ok(None)
+        }
+    }
+}

@@ -1,0 +1,191 @@
+//! Hot decks, and the functions of one name.
+
+ghost use Rattle.std.specs.Prelude.{◌≡◌, ◌&&◌, true, false, map, length, drop, slice_get, Some, None, IfOk, OnOk};
+ghost use Rattle.std.specs.Option.{option_map};
+ghost use Rattle.cse_syntax.specs.Tree.{written};
+ghost use Rattle.cse_logic_tree.specs.Typed as typed;
+ghost use Rattle.cse_logic_tree.specs.Typed.{number, dimension};
+ghost use Rattle.cse_logic_names.specs.Scope.{meant};
+ghost use Rattle.cse_logic_expressions.specs.Judge as spec;
+ghost use Rattle.cse_logic_names.specs.Walk.{is_there, IsNoted, IsNotedAfter};
+
+use crate::item::number_present;
+use crate::list::{both, keep};
+use crate::set::{current, max_occ, record_of, tot_occ, whole_set};
+use cse_logic_names::faults::Faults;
+use cse_logic_names::meaning::Meaning;
+use cse_logic_names::scope::{Scope, has_case};
+use cse_logic_tree::{Dimension, Number, Pick, Present};
+use cse_syntax::{Lexeme, Query};
+use std::alloc::{AllocError, Global};
+
+/// The present value's place of a set's item, or the fault at this token.
+fn set_present(
+    scope: &Scope<'_>,
+    faults: &mut Faults,
+    token: usize,
+    item: Option<u16>,
+) -> Option<Present>
+    ensures value { result ≡ spec.set_present scope.now item }
+    ensures noted { IsNoted faults.old faults.new (is_there (spec.set_present scope.now item)) }
+{
+    match item {
+        None => {
+            // The fault of its declaration counts.
+            faults.note(42, usize::MAX);
+            None
+        }
+        Some(item) => number_present(scope, faults, token, item),
+    }
+}
+
+fn picked(set: u16, has_leftover: bool, item: Option<Present>) -> Option<Pick>
+    ensures { result ≡ option_map (spec.pick set has_leftover) item }
+{
+    match item {
+        None => None,
+        Some(item) => Some(Pick {
+            item,
+            set,
+            has_leftover,
+        }),
+    }
+}
+
+/// What picks an index of a hot deck in one direction. The tokens are those of its name and of the word before it.
+fn pick(
+    scope: &Scope<'_>,
+    faults: &mut Faults,
+    tokens: (usize, usize),
+    direction: &Dimension<'_>,
+) -> Option<Pick>
+    ensures value { result ≡ spec.dimension_pick scope.now (dimension direction.now) }
+    ensures noted { IsNoted faults.old faults.new (is_there (spec.dimension_pick scope.now (dimension direction.now))) }
+{
+    match direction {
+        Dimension::Number(_, _) => {
+            faults.note(40, tokens.0);
+            None
+        }
+        Dimension::Set(_, set, has_leftover, _) => {
+            let present = set_present(scope, faults, tokens.1, whole_set(scope.dictionary, *set));
+            picked(*set, *has_leftover, present)
+        }
+    }
+}
+
+/// What picks the indexes of a hot deck.
+fn all_picks(
+    alloc: Global,
+    scope: &Scope<'_>,
+    faults: &mut Faults,
+    tokens: (usize, usize),
+    directions: &Vec<Dimension<'_>>,
+) -> Result<Option<Vec<Pick>>, AllocError>
+    ensures value { IfOk result (λ r. option_map (λ v. v.items) r ≡ spec.picks_for scope.now (map dimension directions.now.items)) }
+    ensures noted { OnOk result (IsNoted faults.old faults.new (is_there (spec.picks_for scope.now (map dimension directions.now.items)))) }
+{
+    let mut found = Vec::new(alloc);
+    let mut is_sound = true;
+    'all: for x in directions {
+        let next = pick(scope, faults, tokens, x);
+        let is_there = keep(&mut found, next)?;
+        is_sound = both(is_sound, is_there);
+    }
+    if is_sound { Ok(Some(found)) } else { Ok(None) }
+}
+
+/// What picks a cell of this array, if it is a hot deck: else 40 at its name, and 49 at the word before it. These are
+/// the tokens.
+pub fn picks(
+    alloc: Global,
+    scope: &Scope<'_>,
+    faults: &mut Faults,
+    tokens: (usize, usize),
+    array: usize,
+) -> Result<Option<Vec<Pick>>, AllocError>
+    ensures value { IfOk result (λ r. option_map (λ v. v.items) r ≡ spec.picks_of scope.now (slice_get scope.now.arrays array)) }
+    ensures noted { OnOk result (IsNoted faults.old faults.new (is_there (spec.picks_of scope.now (slice_get scope.now.arrays array)))) }
+{
+    match scope.arrays.get(array) {
+        None => {
+            faults.note(40, tokens.0);
+            Ok(None)
+        }
+        Some(directions) => match directions {
+            None => {
+                // The fault of its declaration counts.
+                faults.note(40, usize::MAX);
+                Ok(None)
+            }
+            Some(directions) => {
+                if has_case(scope.routine) {
+                    all_picks(alloc, scope, faults, tokens, directions)
+                } else {
+                    faults.note(49, tokens.1);
+                    Ok(None)
+                }
+            }
+        },
+    }
+}
+
+fn deck<'a>(name: Lexeme<'a>, array: usize, picks: Option<Vec<Pick>>) -> Option<Number<'a>>
+    ensures { option_map number result ≡ option_map (typed.Deck (written name.entry) array) (option_map (λ v. v.items) picks) }
+{
+    match picks {
+        None => None,
+        Some(picks) => Some(Number::Deck(name, array, picks)),
+    }
+}
+
+fn deck_of<'a>(
+    alloc: Global,
+    scope: &Scope<'_>,
+    faults: &mut Faults,
+    name: Lexeme<'a>,
+    token: usize,
+) -> Result<Option<Number<'a>>, AllocError>
+    ensures value { IfOk result (λ r. option_map number r ≡ spec.deck_of scope.now (written name.entry) (meant scope.now (written name.entry))) }
+    ensures noted { OnOk result (IsNoted faults.old faults.new (is_there (spec.deck_of scope.now (written name.entry) (meant scope.now (written name.entry))))) }
+{
+    match scope.meant(name) {
+        Some(Meaning::Array(array)) => {
+            let picks = picks(alloc, scope, faults, (name.token, token), array)?;
+            Ok(deck(name, array, picks))
+        }
+        _ => {
+            faults.note(40, name.token);
+            Ok(None)
+        }
+    }
+}
+
+/// A function of one name. Its word stands two tokens before the name.
+pub fn queried<'a>(
+    alloc: Global,
+    scope: &Scope<'_>,
+    faults: &mut Faults,
+    query: Query,
+    name: Lexeme<'a>,
+) -> Result<Option<Number<'a>>, AllocError>
+    ensures value { IfOk result (λ r. option_map number r ≡ spec.queried scope.now query (written name.entry) (meant scope.now (written name.entry))) }
+    ensures noted { OnOk result (IsNoted faults.old faults.new (is_there (spec.queried scope.now query (written name.entry) (meant scope.now (written name.entry))))) }
+{
+    let word = name.token.saturating_sub(2);
+    match query {
+        Query::GetDeck => deck_of(alloc, scope, faults, name, word),
+        Query::TotOcc => {
+            let over = record_of(scope, faults, name, name.token);
+            Ok(tot_occ(name, over))
+        }
+        Query::MaxOcc => {
+            let over = record_of(scope, faults, name, name.token);
+            Ok(max_occ(name, over))
+        }
+        Query::CurOcc => {
+            let over = record_of(scope, faults, name, name.token);
+            Ok(current(scope, faults, name, word, over))
+        }
+    }
+}

@@ -1,0 +1,237 @@
+//! What `errmsg` says: its message, and a value for each placeholder.
+
+ghost use Rattle.std.specs.Prelude.{◌≡◌, ◌==◌, false, map, length, drop, nat_eq, find, Some, None, IfOk, OnOk};
+ghost use Rattle.std.specs.Option.{option_map};
+ghost use Rattle.cse_image_parts.specs.Placeholders.{message_kinds};
+ghost use Rattle.cse_syntax.specs.Leaf as leaf;
+ghost use Rattle.cse_syntax.specs.Tree.{expr, exprs, message};
+ghost use Rattle.cse_logic_tree.specs.Typed as typed;
+ghost use Rattle.cse_logic_tree.specs.Typed.{argument, number, statement, words};
+ghost use Rattle.cse_logic_names.specs.MessageFile.{MessageText};
+ghost use Rattle.cse_logic_names.specs.WellTyped.{kinds_of, message_meant, message_number, numbered};
+ghost use Rattle.cse_logic_expressions.specs.Judge.{expr_count, judge};
+ghost use Rattle.cse_logic_expressions.specs.JudgeStatement as spec;
+ghost use Rattle.cse_logic_expressions.specs.JudgeStatement.{as_argument, as_words, judge_arguments, ranged};
+ghost use Rattle.cse_logic_names.specs.Walk.{is_there, IsNoted};
+
+use crate::expression::{expression, value, written_number};
+use crate::judged::Judged;
+use crate::list::{both, keep};
+use cse_image_parts::placeholders::{ArgumentKind, Kinds, count_placeholders};
+use cse_logic_names::faults::Faults;
+use cse_logic_names::messages::Messages;
+use cse_logic_names::scope::Scope;
+use cse_logic_tree::{Argument, Number, Statement, Words};
+use cse_syntax::{Expression, Message};
+use std::alloc::{AllocError, Global};
+
+/// What stands between the quotes of a text.
+fn inside(text: &[u8]) -> &[u8]
+    ensures { result.now ≡ leaf.text_of text.now }
+{
+    match text.split_first() {
+        None => text,
+        Some((_, rest)) => &rest[..rest.len().saturating_sub(1)],
+    }
+}
+
+/// A number that a message may have.
+fn in_range(number: u64) -> Option<u32>
+    ensures { result ≡ ranged number }
+{
+    if number == 0 {
+        return None;
+    }
+    if number > 999_999_999 {
+        return None;
+    }
+    Some(number as u32)
+}
+
+/// The number of a message that digits write.
+pub fn message_number(digits: &str) -> Option<u32>
+    ensures { result ≡ message_number digits.now }
+{
+    match written_number(digits) {
+        None => None,
+        Some(number) => in_range(number),
+    }
+}
+
+/// The text of the message of a number.
+fn numbered(messages: &Messages, number: Option<u32>) -> Option<&[u8]>
+    ensures { option_map (λ t. t.now) result ≡ option_map (λ (x : MessageText). x.text) (numbered messages.now number) }
+{
+    match number {
+        None => None,
+        Some(number) => match messages.get(number) {
+            None => None,
+            Some(text) => Some(text.as_bytes()),
+        },
+    }
+}
+
+/// The text of a message.
+fn text_meant<'m>(messages: &'m Messages, said: Message<'m>) -> Option<&'m [u8]>
+    ensures { option_map (λ t. t.now) result ≡ option_map (λ (x : MessageText). x.text) (message_meant messages.now (message said.entry)) }
+{
+    match said {
+        Message::Text(text) => Some(inside(text.text.as_bytes())),
+        Message::Number(digits) => numbered(messages, message_number(digits.text)),
+    }
+}
+
+/// A text, or the fault 44.
+fn text<'a>(
+    alloc: Global,
+    scope: &Scope<'_>,
+    faults: &mut Faults,
+    x: &Expression<'a>,
+) -> Result<Option<Words<'a>>, AllocError>
+    ensures value { IfOk result (λ r. option_map words r ≡ as_words (judge scope.now false (expr x.now))) }
+    ensures noted { OnOk result (IsNoted faults.old faults.new (is_there (as_words (judge scope.now false (expr x.now))))) }
+{
+    match expression(alloc, scope, faults, false, x)? {
+        Judged::Number(_) => {
+            faults.note(44, x.token());
+            Ok(None)
+        }
+        Judged::Words(text) => Ok(text),
+        Judged::Unknown => Ok(None),
+    }
+}
+
+fn of_number<'a>(x: Option<Number<'a>>) -> Option<Argument<'a>>
+    ensures { option_map argument result ≡ option_map typed.OfNumber (option_map number x.entry) }
+{
+    match x {
+        None => None,
+        Some(x) => Some(Argument::Number(x)),
+    }
+}
+
+fn of_words<'a>(x: Option<Words<'a>>) -> Option<Argument<'a>>
+    ensures { option_map argument result ≡ option_map typed.OfWords (option_map words x.entry) }
+{
+    match x {
+        None => None,
+        Some(x) => Some(Argument::Words(x)),
+    }
+}
+
+/// A value for a placeholder of this kind.
+fn one_argument<'a>(
+    alloc: Global,
+    scope: &Scope<'_>,
+    faults: &mut Faults,
+    kind: Option<ArgumentKind>,
+    x: &Expression<'a>,
+) -> Result<Option<Argument<'a>>, AllocError>
+    ensures value { IfOk result (λ r. option_map argument r ≡ as_argument kind (judge scope.now false (expr x.now))) }
+    ensures noted { OnOk result (IsNoted faults.old faults.new (is_there (as_argument kind (judge scope.now false (expr x.now))))) }
+{
+    match kind {
+        None => {
+            faults.note(48, x.token());
+            Ok(None)
+        }
+        Some(ArgumentKind::Number) => {
+            let found = value(alloc, scope, faults, false, x)?;
+            Ok(of_number(found))
+        }
+        Some(ArgumentKind::Text) => {
+            let found = text(alloc, scope, faults, x)?;
+            Ok(of_words(found))
+        }
+    }
+}
+
+/// A value for each placeholder of a text, of its kind.
+fn arguments<'a>(
+    alloc: Global,
+    scope: &Scope<'_>,
+    faults: &mut Faults,
+    text: &[u8],
+    values: &Vec<Expression<'a>>,
+) -> Result<Option<Vec<Argument<'a>>>, AllocError>
+    ensures value { IfOk result (λ r. option_map (λ v. map argument v.items) r ≡ judge_arguments scope.now (message_kinds text.now) (exprs (map expr values.now.items))) }
+    ensures noted { OnOk result (IsNoted faults.old faults.new (is_there (judge_arguments scope.now (message_kinds text.now) (exprs (map expr values.now.items))))) }
+{
+    let mut kinds = Kinds::new(text);
+    let mut found = Vec::new(alloc);
+    let mut is_sound = true;
+    'all: for x in values {
+        let kind = kinds.next();
+        let next = one_argument(alloc, scope, faults, kind, x)?;
+        let is_there = keep(&mut found, next)?;
+        is_sound = both(is_sound, is_there);
+    }
+    if is_sound { Ok(Some(found)) } else { Ok(None) }
+}
+
+fn message_of<'a>(
+    said: Message<'a>,
+    index: usize,
+    is_summary: bool,
+    values: Option<Vec<Argument<'a>>>,
+) -> Option<Statement<'a>>
+    ensures { option_map statement result ≡ option_map (spec.message_of (message said.entry) index is_summary) (option_map (λ v. map argument v.items) values.entry) }
+{
+    match values {
+        None => None,
+        Some(values) => Some(Statement::ErrMsg(said, index, values, is_summary)),
+    }
+}
+
+/// Whether as many values stand there as the text has placeholders.
+fn has_values(text: &[u8], values: &Vec<Expression<'_>>) -> bool
+    ensures { result ≡ (length (message_kinds text.now) == expr_count (exprs (map expr values.now.items))) }
+{
+    count_placeholders(text) == values.len()
+}
+
+/// A message of this text, with its values.
+#[tactic(auto, using(cse_logic_names::proofs::Walks::there_map))]
+fn filled<'a>(
+    alloc: Global,
+    scope: &Scope<'_>,
+    faults: &mut Faults,
+    text: &[u8],
+    said: Message<'a>,
+    index: usize,
+    is_summary: bool,
+    values: &Vec<Expression<'a>>,
+) -> Result<Option<Statement<'a>>, AllocError>
+    ensures value { IfOk result (λ r. option_map statement r ≡ spec.err_msg scope.now (Some (message_kinds text.now)) (message said.entry) index is_summary (exprs (map expr values.now.items))) }
+    ensures noted { OnOk result (IsNoted faults.old faults.new (is_there (spec.err_msg scope.now (Some (message_kinds text.now)) (message said.entry) index is_summary (exprs (map expr values.now.items))))) }
+{
+    if !has_values(text, values) {
+        faults.note(48, said.token());
+        return Ok(None);
+    }
+    let found = arguments(alloc, scope, faults, text, values)?;
+    Ok(message_of(said, index, is_summary, found))
+}
+
+/// The message of this index among those of the source: an unknown number (40), a count of values that isn't that of
+/// its placeholders (48), or a value of another kind (44).
+pub fn err_msg<'a>(
+    alloc: Global,
+    scope: &Scope<'_>,
+    faults: &mut Faults,
+    said: Message<'a>,
+    index: usize,
+    is_summary: bool,
+    values: &Vec<Expression<'a>>,
+) -> Result<Option<Statement<'a>>, AllocError>
+    ensures value { IfOk result (λ r. option_map statement r ≡ spec.err_msg scope.now (kinds_of scope.now.messages (message said.entry)) (message said.entry) index is_summary (exprs (map expr values.now.items))) }
+    ensures noted { OnOk result (IsNoted faults.old faults.new (is_there (spec.err_msg scope.now (kinds_of scope.now.messages (message said.entry)) (message said.entry) index is_summary (exprs (map expr values.now.items))))) }
+{
+    match text_meant(scope.messages, said) {
+        None => {
+            faults.note(40, said.token());
+            Ok(None)
+        }
+        Some(text) => filled(alloc, scope, faults, text, said, index, is_summary, values),
+    }
+}

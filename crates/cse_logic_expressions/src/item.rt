@@ -1,0 +1,255 @@
+//! Items, value sets, hot decks and records in expressions.
+
+ghost use Rattle.std.specs.Prelude.{◌≡◌, ◌≤◌, map, slice_get, Some, None, IfOk, OnOk};
+ghost use Rattle.std.specs.Option.{option_map};
+ghost use Rattle.cse_syntax.specs.Tree.{written};
+ghost use Rattle.cse_logic_tree.specs.Typed as typed;
+ghost use Rattle.cse_logic_tree.specs.Typed.{number, numbers, words, dimension};
+ghost use Rattle.cse_logic_names.specs.Scope.{kind_and_owner, meant};
+ghost use Rattle.cse_logic_names.specs.WellTyped.{set_kind, set_meant};
+ghost use Rattle.cse_logic_expressions.specs.Judge as spec;
+ghost use Rattle.cse_logic_expressions.specs.Judge.{judged, is_sound, number_present};
+ghost use Rattle.cse_logic_names.specs.Walk.{is_there, joined, IsNoted, IsNotedAfter};
+
+use crate::judged::Judged;
+use cse_logic_names::faults::Faults;
+use cse_logic_names::meaning::Meaning;
+use cse_logic_names::scope::{Scope, has_case, kind_and_owner};
+use cse_logic_tree::{Field, Number, Present, Words};
+use cse_syntax::Lexeme;
+use cse_value::shape::ItemKind;
+use std::alloc::{AllocError, Global};
+
+/// The number of an id item's record.
+const IDS: u8 = 255;
+
+/// An item without a subscript, by its record's number. The fault is at this token.
+#[tactic(auto, unfolding(crate::specs::Judge::present_at))]
+pub fn present_at(
+    scope: &Scope<'_>,
+    faults: &mut Faults,
+    token: usize,
+    item: u16,
+    owner: u8,
+) -> Option<Present>
+    ensures value { result ≡ spec.present_at scope.now item owner }
+    ensures noted { IsNoted faults.old faults.new (is_there (spec.present_at scope.now item owner)) }
+{
+    if !has_case(scope.routine) {
+        faults.note(49, token);
+        return None;
+    }
+    if owner == IDS {
+        return Some(Present::Id(item));
+    }
+    match scope.found(u16::from(owner)) {
+        None => {
+            faults.note(49, token);
+            None
+        }
+        Some(found) => Some(Present::Here(Field { owner, item }, found)),
+    }
+}
+
+/// An item of a record, by its record's number. An id item has no subscript (`number` 44) and is not assigned (43).
+#[tactic(auto, unfolding(crate::specs::Judge::field_at))]
+pub fn field_at(
+    scope: &Scope<'_>,
+    faults: &mut Faults,
+    number: u8,
+    token: usize,
+    item: u16,
+    owner: u8,
+) -> Option<Field>
+    requires least { 40 ≤ number }
+    requires most { number ≤ 49 }
+    ensures value { result ≡ spec.field_at scope.now item owner }
+    ensures noted { IsNoted faults.old faults.new (is_there (spec.field_at scope.now item owner)) }
+{
+    if owner == IDS {
+        faults.note(number, token);
+        return None;
+    }
+    if !has_case(scope.routine) {
+        faults.note(49, token);
+        return None;
+    }
+    Some(Field { owner, item })
+}
+
+fn number_item<'a>(name: Lexeme<'a>, item: Option<Present>) -> Option<Number<'a>>
+    ensures { option_map number result ≡ option_map (typed.Item (written name.entry)) item }
+{
+    match item {
+        None => None,
+        Some(item) => Some(Number::Item(name, item)),
+    }
+}
+
+fn text_item<'a>(name: Lexeme<'a>, item: Option<Present>) -> Option<Words<'a>>
+    ensures { option_map words result ≡ option_map (typed.TextItem (written name.entry)) item }
+{
+    match item {
+        None => None,
+        Some(item) => Some(Words::Item(name, item)),
+    }
+}
+
+/// An item that is named without a subscript.
+pub fn item<'a>(scope: &Scope<'_>, faults: &mut Faults, name: Lexeme<'a>, item: u16) -> Judged<'a>
+    ensures value { judged result ≡ spec.item_judged scope.now (written name.entry) item (kind_and_owner scope.now.dictionary item) }
+    ensures noted { IsNoted faults.old faults.new (is_sound (spec.item_judged scope.now (written name.entry) item (kind_and_owner scope.now.dictionary item))) }
+{
+    match kind_and_owner(scope.dictionary, item) {
+        None => {
+            faults.note(40, name.token);
+            Judged::Unknown
+        }
+        Some((kind, owner)) => match kind {
+            ItemKind::Opaque => {
+                faults.note(41, name.token);
+                Judged::Unknown
+            }
+            ItemKind::Number => {
+                let present = present_at(scope, faults, name.token, item, owner);
+                Judged::Number(number_item(name, present))
+            }
+            ItemKind::Text => {
+                let present = present_at(scope, faults, name.token, item, owner);
+                Judged::Words(text_item(name, present))
+            }
+        },
+    }
+}
+
+fn number_item_at<'a>(
+    alloc: Global,
+    name: Lexeme<'a>,
+    field: Option<Field>,
+    place: Option<Number<'a>>,
+) -> Result<Option<Number<'a>>, AllocError>
+    ensures { IfOk result (λ r. option_map number r ≡ joined (typed.ItemAt (written name.entry)) field (option_map number place.entry)) }
+{
+    match field {
+        None => Ok(None),
+        Some(field) => match place {
+            None => Ok(None),
+            Some(place) => Ok(Some(Number::ItemAt(name, field, Box::new(alloc, place)?))),
+        },
+    }
+}
+
+fn text_item_at<'a>(
+    alloc: Global,
+    name: Lexeme<'a>,
+    field: Option<Field>,
+    place: Option<Number<'a>>,
+) -> Result<Option<Words<'a>>, AllocError>
+    ensures { IfOk result (λ r. option_map words r ≡ joined (typed.TextItemAt (written name.entry)) field (option_map number place.entry)) }
+{
+    match field {
+        None => Ok(None),
+        Some(field) => match place {
+            None => Ok(None),
+            Some(place) => Ok(Some(Words::ItemAt(name, field, Box::new(alloc, place)?))),
+        },
+    }
+}
+
+/// The only subscript, or the fault 44.
+pub fn sole<'a>(
+    faults: &mut Faults,
+    token: usize,
+    subscripts: Option<Vec<Number<'a>>>,
+) -> Option<Number<'a>>
+    ensures value { option_map number result ≡ spec.sole (option_map (λ v. numbers (map number v.items)) subscripts.entry) }
+    ensures noted { IsNotedAfter (is_there subscripts.entry) faults.old faults.new (is_there (spec.sole (option_map (λ v. numbers (map number v.items)) subscripts.entry))) }
+{
+    match subscripts {
+        None => None,
+        Some(subscripts) => only_one(faults, token, subscripts),
+    }
+}
+
+fn only_one<'a>(
+    faults: &mut Faults,
+    token: usize,
+    subscripts: Vec<Number<'a>>,
+) -> Option<Number<'a>>
+    ensures value { option_map number result ≡ spec.sole (Some (numbers (map number subscripts.entry.items))) }
+    ensures noted { IsNoted faults.old faults.new (is_there (spec.sole (Some (numbers (map number subscripts.entry.items))))) }
+{
+    let mut subscripts = subscripts;
+    if subscripts.len() != 1 {
+        faults.note(44, token);
+        return None;
+    }
+    subscripts.pop()
+}
+
+/// An item with a subscript.
+pub fn item_at<'a>(
+    alloc: Global,
+    scope: &Scope<'_>,
+    faults: &mut Faults,
+    name: Lexeme<'a>,
+    item: u16,
+    subscripts: Option<Vec<Number<'a>>>,
+) -> Result<Judged<'a>, AllocError>
+    ensures value { IfOk result (λ r. judged r ≡ spec.item_at_judged scope.now (written name.entry) item (kind_and_owner scope.now.dictionary item) (option_map (λ v. numbers (map number v.items)) subscripts.entry)) }
+    ensures noted { OnOk result (IsNotedAfter (is_there subscripts.entry) faults.old faults.new (is_sound (spec.item_at_judged scope.now (written name.entry) item (kind_and_owner scope.now.dictionary item) (option_map (λ v. numbers (map number v.items)) subscripts.entry)))) }
+{
+    match kind_and_owner(scope.dictionary, item) {
+        None => {
+            faults.note(40, name.token);
+            Ok(Judged::Unknown)
+        }
+        Some((kind, owner)) => match kind {
+            ItemKind::Opaque => {
+                faults.note(41, name.token);
+                Ok(Judged::Unknown)
+            }
+            ItemKind::Number => {
+                let place = sole(faults, name.token, subscripts);
+                let field = field_at(scope, faults, 44, name.token, item, owner);
+                let found = number_item_at(alloc, name, field, place)?;
+                Ok(Judged::Number(found))
+            }
+            ItemKind::Text => {
+                let place = sole(faults, name.token, subscripts);
+                let field = field_at(scope, faults, 44, name.token, item, owner);
+                let found = text_item_at(alloc, name, field, place)?;
+                Ok(Judged::Words(found))
+            }
+        },
+    }
+}
+
+/// A numeric item without a subscript, or the fault at this token.
+pub fn number_present(
+    scope: &Scope<'_>,
+    faults: &mut Faults,
+    token: usize,
+    item: u16,
+) -> Option<Present>
+    ensures value { result ≡ number_present scope.now item }
+    ensures noted { IsNoted faults.old faults.new (is_there (number_present scope.now item)) }
+{
+    match kind_and_owner(scope.dictionary, item) {
+        None => {
+            faults.note(40, token);
+            None
+        }
+        Some((kind, owner)) => match kind {
+            ItemKind::Opaque => {
+                faults.note(41, token);
+                None
+            }
+            ItemKind::Number => present_at(scope, faults, token, item, owner),
+            ItemKind::Text => {
+                faults.note(44, token);
+                None
+            }
+        },
+    }
+}

@@ -1,0 +1,170 @@
+//! What operators make of their operands.
+
+ghost use Rattle.std.specs.Prelude.{◌≡◌, ◌||◌, not, map, IfOk, OnOk};
+ghost use Rattle.std.specs.Option.{option_map};
+ghost use Rattle.cse_logic_tree.specs.Typed as typed;
+ghost use Rattle.cse_logic_tree.specs.Typed.{number, words, operations, operation_tree};
+ghost use Rattle.cse_logic_expressions.specs.Judge as spec;
+ghost use Rattle.cse_logic_expressions.specs.Judge.{judged, is_sound, compared};
+ghost use Rattle.cse_logic_names.specs.Walk.{is_there, joined, IsNoted};
+
+use crate::judged::Judged;
+use cse_logic_names::faults::Faults;
+use cse_logic_tree::{Number, Operation, Words};
+use cse_syntax::Relation;
+use std::alloc::{AllocError, Global};
+
+/// The negative of a number, where it is sound.
+pub fn minus<'a>(alloc: Global, x: Option<Number<'a>>) -> Result<Judged<'a>, AllocError>
+    ensures { IfOk result (λ r. judged r ≡ spec.AsNumber (option_map typed.Minus (option_map number x.entry))) }
+{
+    match x {
+        None => Ok(Judged::Number(None)),
+        Some(x) => Ok(Judged::Number(Some(Number::Minus(Box::new(alloc, x)?)))),
+    }
+}
+
+/// What `not` makes of a number.
+pub fn negated<'a>(alloc: Global, x: Option<Number<'a>>) -> Result<Judged<'a>, AllocError>
+    ensures { IfOk result (λ r. judged r ≡ spec.AsNumber (option_map typed.Not (option_map number x.entry))) }
+{
+    match x {
+        None => Ok(Judged::Number(None)),
+        Some(x) => Ok(Judged::Number(Some(Number::Not(Box::new(alloc, x)?)))),
+    }
+}
+
+/// What `int` makes of a number.
+pub fn int<'a>(alloc: Global, x: Option<Number<'a>>) -> Result<Judged<'a>, AllocError>
+    ensures { IfOk result (λ r. judged r ≡ spec.AsNumber (option_map typed.Int (option_map number x.entry))) }
+{
+    match x {
+        None => Ok(Judged::Number(None)),
+        Some(x) => Ok(Judged::Number(Some(Number::Int(Box::new(alloc, x)?)))),
+    }
+}
+
+/// What `special` makes of a number.
+pub fn is_special<'a>(alloc: Global, x: Option<Number<'a>>) -> Result<Judged<'a>, AllocError>
+    ensures { IfOk result (λ r. judged r ≡ spec.AsNumber (option_map typed.IsSpecial (option_map number x.entry))) }
+{
+    match x {
+        None => Ok(Judged::Number(None)),
+        Some(x) => Ok(Judged::Number(Some(Number::IsSpecial(Box::new(alloc, x)?)))),
+    }
+}
+
+fn number_group<'a>(alloc: Global, x: Option<Number<'a>>) -> Result<Option<Number<'a>>, AllocError>
+    ensures { IfOk result (λ r. option_map number r ≡ option_map typed.Group (option_map number x.entry)) }
+{
+    match x {
+        None => Ok(None),
+        Some(x) => Ok(Some(Number::Group(Box::new(alloc, x)?))),
+    }
+}
+
+fn text_group<'a>(alloc: Global, x: Option<Words<'a>>) -> Result<Option<Words<'a>>, AllocError>
+    ensures { IfOk result (λ r. option_map words r ≡ option_map typed.TextGroup (option_map words x.entry)) }
+{
+    match x {
+        None => Ok(None),
+        Some(x) => Ok(Some(Words::Group(Box::new(alloc, x)?))),
+    }
+}
+
+/// A number or a text in parentheses.
+pub fn grouped<'a>(alloc: Global, x: Judged<'a>) -> Result<Judged<'a>, AllocError>
+    ensures { IfOk result (λ r. judged r ≡ spec.grouped (judged x.entry)) }
+{
+    match x {
+        Judged::Number(x) => Ok(Judged::Number(number_group(alloc, x)?)),
+        Judged::Words(x) => Ok(Judged::Words(text_group(alloc, x)?)),
+        Judged::Unknown => Ok(Judged::Unknown),
+    }
+}
+
+fn compared_numbers<'a>(
+    alloc: Global,
+    relation: Relation,
+    x: Option<Number<'a>>,
+    y: Option<Number<'a>>,
+) -> Result<Option<Number<'a>>, AllocError>
+    ensures { IfOk result (λ r. option_map number r ≡ joined (typed.Compare relation) (option_map number x.entry) (option_map number y.entry)) }
+{
+    match x.zip(y) {
+        None => Ok(None),
+        Some((x, y)) => Ok(Some(Number::Compare(
+            Box::new(alloc, x)?,
+            relation,
+            Box::new(alloc, y)?,
+        ))),
+    }
+}
+
+fn compared_texts<'a>(
+    alloc: Global,
+    relation: Relation,
+    x: Option<Words<'a>>,
+    y: Option<Words<'a>>,
+) -> Result<Option<Number<'a>>, AllocError>
+    ensures { IfOk result (λ r. option_map number r ≡ joined (typed.CompareTexts relation) (option_map words x.entry) (option_map words y.entry)) }
+{
+    match x.zip(y) {
+        None => Ok(None),
+        Some((x, y)) => Ok(Some(Number::CompareTexts(
+            Box::new(alloc, x)?,
+            relation,
+            Box::new(alloc, y)?,
+        ))),
+    }
+}
+
+/// Two values of one kind; else the fault 44 at the text, which begins at one of these tokens.
+pub fn compared<'a>(
+    alloc: Global,
+    faults: &mut Faults,
+    relation: Relation,
+    x: Judged<'a>,
+    y: Judged<'a>,
+    tokens: (usize, usize),
+) -> Result<Option<Number<'a>>, AllocError>
+    ensures value { IfOk result (λ r. option_map number r ≡ compared relation (judged x.entry) (judged y.entry)) }
+    ensures noted { OnOk result ((is_there faults.old.worst || (not (is_sound (judged x.entry)) || not (is_sound (judged y.entry)))) ≡ is_there faults.old.worst → IsNoted faults.old faults.new (is_there (compared relation (judged x.entry) (judged y.entry)))) }
+{
+    match x {
+        Judged::Unknown => Ok(None),
+        Judged::Number(x) => match y {
+            Judged::Unknown => Ok(None),
+            Judged::Number(y) => compared_numbers(alloc, relation, x, y),
+            Judged::Words(_) => {
+                faults.note(44, tokens.1);
+                Ok(None)
+            }
+        },
+        Judged::Words(x) => match y {
+            Judged::Unknown => Ok(None),
+            Judged::Number(_) => {
+                faults.note(44, tokens.0);
+                Ok(None)
+            }
+            Judged::Words(y) => compared_texts(alloc, relation, x, y),
+        },
+    }
+}
+
+/// A first operand, and operators with theirs.
+pub fn chained<'a>(
+    alloc: Global,
+    first: Option<Number<'a>>,
+    others: Option<Vec<Operation<'a>>>,
+) -> Result<Judged<'a>, AllocError>
+    ensures { IfOk result (λ r. judged r ≡ spec.AsNumber (joined typed.Chain (option_map number first.entry) (option_map (λ v. operations (map operation_tree v.items)) others.entry))) }
+{
+    match first.zip(others) {
+        None => Ok(Judged::Number(None)),
+        Some((first, others)) => {
+            let first = Box::new(alloc, first)?;
+            Ok(Judged::Number(Some(Number::chain(first, others))))
+        }
+    }
+}

@@ -1,0 +1,86 @@
+//! The places of items that values are put into.
+
+ghost use Rattle.std.specs.Prelude.{◌≡◌, map};
+ghost use Rattle.std.specs.Option.{option_map};
+ghost use Rattle.cse_logic_tree.specs.Typed as typed;
+ghost use Rattle.cse_logic_tree.specs.Typed.{number, numbers};
+ghost use Rattle.cse_logic_expressions.specs.JudgeStatement as spec;
+ghost use Rattle.cse_logic_expressions.specs.JudgeStatement.{placed};
+ghost use Rattle.cse_logic_names.specs.Walk.{is_there, joined, IsNoted, IsNotedAfter};
+
+use crate::item::{field_at, sole};
+use cse_logic_names::faults::Faults;
+use cse_logic_names::scope::Scope;
+use cse_logic_tree::{Field, Found, Number, Which};
+
+/// The occurrence that is found, or the fault 49.
+fn here<'a>(faults: &mut Faults, token: usize, found: Option<Found>) -> Option<Which<'a>>
+    ensures value { option_map typed.which result ≡ option_map typed.Here found }
+    ensures noted { IsNoted faults.old faults.new (is_there (option_map typed.Here found)) }
+{
+    match found {
+        None => {
+            faults.note(49, token);
+            None
+        }
+        Some(found) => Some(Which::Here(found)),
+    }
+}
+
+fn at<'a>(place: Option<Number<'a>>) -> Option<Which<'a>>
+    ensures { option_map typed.which result ≡ option_map typed.At (option_map number place.entry) }
+{
+    match place {
+        None => None,
+        Some(place) => Some(Which::At(place)),
+    }
+}
+
+/// Which occurrence is meant.
+fn which_at<'a>(
+    faults: &mut Faults,
+    token: usize,
+    count: usize,
+    found: Option<Found>,
+    subscripts: Option<Vec<Number<'a>>>,
+) -> Option<Which<'a>>
+    ensures value { option_map typed.which result ≡ spec.which_at count found (option_map (λ v. numbers (map number v.items)) subscripts.entry) }
+    ensures noted { IsNotedAfter (is_there subscripts.entry) faults.old faults.new (is_there (spec.which_at count found (option_map (λ v. numbers (map number v.items)) subscripts.entry))) }
+{
+    if count == 0 {
+        here(faults, token, found)
+    } else {
+        at(sole(faults, token, subscripts))
+    }
+}
+
+fn place_of<'a>(field: Option<Field>, which: Option<Which<'a>>) -> Option<(Field, Which<'a>)>
+    ensures { option_map placed result ≡ joined (λ f w. (f, w)) field (option_map typed.which which.entry) }
+{
+    match field {
+        None => None,
+        Some(field) => match which {
+            None => None,
+            Some(which) => Some((field, which)),
+        },
+    }
+}
+
+/// A place of an item of this record.
+pub fn place_at<'a>(
+    scope: &Scope<'_>,
+    faults: &mut Faults,
+    token: usize,
+    count: usize,
+    item: u16,
+    owner: u8,
+    subscripts: Option<Vec<Number<'a>>>,
+) -> Option<(Field, Which<'a>)>
+    ensures value { option_map placed result ≡ spec.place_at scope.now count item owner (option_map (λ v. numbers (map number v.items)) subscripts.entry) }
+    ensures noted { IsNotedAfter (is_there subscripts.entry) faults.old faults.new (is_there (spec.place_at scope.now count item owner (option_map (λ v. numbers (map number v.items)) subscripts.entry))) }
+{
+    let field = field_at(scope, faults, 43, token, item, owner);
+    let found = scope.found(owner as u16);
+    let which = which_at(faults, token, count, found, subscripts);
+    place_of(field, which)
+}

@@ -1,0 +1,265 @@
+//! Value sets, records and hot decks in expressions.
+
+ghost use Rattle.std.specs.Prelude.{◌≡◌, ◌<◌, ◌≤◌, length, IfSome, map, nat_eq, position, slice_get, Some, None, IfOk, OnOk};
+ghost use Rattle.std.specs.Option.{option_map};
+ghost use Rattle.cse_syntax.specs.Tree.{written};
+ghost use Rattle.cse_logic_tree.specs.Typed as typed;
+ghost use Rattle.cse_logic_tree.specs.Typed.{number, dimension};
+ghost use Rattle.cse_logic_names.specs.Scope.{meant};
+ghost use Rattle.cse_logic_names.specs.WellTyped as well;
+ghost use Rattle.cse_logic_expressions.specs.Judge as spec;
+ghost use Rattle.cse_logic_names.specs.Walk.{is_there, joined, IsNoted, IsNotedAfter};
+
+use crate::item::number_present;
+use cse_dict::Dictionary;
+use cse_logic_names::faults::Faults;
+use cse_logic_names::meaning::Meaning;
+use cse_logic_names::scope::{Scope, has_case, kind_and_owner};
+use cse_logic_tree::{Dimension, Number, Pick, Present};
+use cse_syntax::{Lexeme, Query};
+use cse_value::shape::{ItemKind, SetShape};
+use std::alloc::{AllocError, Global};
+
+/// The item of a whole set.
+pub fn whole_set(dictionary: &Dictionary, set: u16) -> Option<u16>
+    ensures { result ≡ well.whole_set (slice_get dictionary.now.sets set) }
+{
+    match dictionary.shape().sets.get(set as usize) {
+        None => None,
+        Some(set) => { if set.partial { None } else { Some(set.item) } }
+    }
+}
+
+fn kind_of(dictionary: &Dictionary, item: Option<u16>) -> Option<ItemKind>
+    ensures { result ≡ well.kind_of dictionary.now item }
+{
+    match item {
+        None => None,
+        Some(item) => match kind_and_owner(dictionary, item) {
+            None => None,
+            Some((kind, _)) => Some(kind),
+        },
+    }
+}
+
+/// The kind of the item of a whole set.
+#[tactic(auto, unfolding(cse_logic_names::specs::WellTyped::set_kind))]
+fn set_kind(dictionary: &Dictionary, set: u16) -> Option<ItemKind>
+    ensures { result ≡ well.set_kind dictionary.now set }
+{
+    kind_of(dictionary, whole_set(dictionary, set))
+}
+
+/// The number of the fault of a set that isn't whole: 41 where it is an opaque item's.
+fn partial_fault(dictionary: &Dictionary, set: u16) -> u8
+    ensures least { 40 ≤ result }
+    ensures most { result ≤ 49 }
+{
+    let Some(set) = dictionary.shape().sets.get(set as usize) else {
+        return 42;
+    };
+    match kind_and_owner(dictionary, set.item) {
+        Some((ItemKind::Opaque, _)) => 41,
+        _ => 42,
+    }
+}
+
+/// Whether this is a whole set of a numeric item, or the fault at this token.
+pub fn is_number_set(scope: &Scope<'_>, faults: &mut Faults, token: usize, set: u16) -> bool
+    ensures value { result ≡ spec.is_number_kind (well.set_kind scope.now.dictionary set) }
+    ensures noted { IsNoted faults.old faults.new (spec.is_number_kind (well.set_kind scope.now.dictionary set)) }
+{
+    match set_kind(scope.dictionary, set) {
+        None => {
+            faults.note(partial_fault(scope.dictionary, set), token);
+            false
+        }
+        Some(kind) => match kind {
+            ItemKind::Opaque => {
+                faults.note(41, token);
+                false
+            }
+            ItemKind::Number => true,
+            ItemKind::Text => {
+                faults.note(44, token);
+                false
+            }
+        },
+    }
+}
+
+fn place_among(sets: &[SetShape], item: u16) -> Option<usize>
+    ensures place { result ≡ position (λ x. nat_eq x.item item) sets.now }
+    ensures there { IfSome result (λ n. n < length sets.now) }
+{
+    sets.iter().position(|set| set.item == item)
+}
+
+/// Where the first set of an item stands.
+fn place_of_set(dictionary: &Dictionary, item: u16) -> Option<usize>
+    ensures place { result ≡ well.first_set dictionary.now item }
+    ensures there { IfSome result (λ n. n ≤ 10000) }
+{
+    place_among(&dictionary.shape().sets, item)
+}
+
+/// The first set of an item.
+fn first_set(dictionary: &Dictionary, item: u16) -> Option<u16>
+    ensures { result ≡ well.first_set dictionary.now item }
+{
+    match place_of_set(dictionary, item) {
+        None => None,
+        Some(place) => Some(place as u16),
+    }
+}
+
+/// What the set that an item is looked for in means: the one that is named, or the item's first.
+fn set_meant(scope: &Scope<'_>, item: u16, set_name: Option<Lexeme<'_>>) -> Option<Meaning>
+    ensures { result ≡ well.set_meant scope.now item (option_map written set_name.entry) }
+{
+    match set_name {
+        None => match first_set(scope.dictionary, item) {
+            None => None,
+            Some(set) => Some(Meaning::Set(set)),
+        },
+        Some(name) => scope.meant(name),
+    }
+}
+
+/// The number of the whole set of a numeric item that is meant; else the fault at this token: 40 where no set is meant, 41, 42 or 44 by its item.
+pub fn number_set(
+    scope: &Scope<'_>,
+    faults: &mut Faults,
+    token: usize,
+    meaning: Option<Meaning>,
+) -> Option<u16>
+    ensures value { result ≡ spec.number_set scope.now meaning }
+    ensures noted { IsNoted faults.old faults.new (is_there (spec.number_set scope.now meaning)) }
+{
+    match meaning {
+        Some(Meaning::Set(set)) => {
+            if is_number_set(scope, faults, token, set) {
+                Some(set)
+            } else {
+                None
+            }
+        }
+        _ => {
+            faults.note(40, token);
+            None
+        }
+    }
+}
+
+fn in_set<'a>(
+    name: Lexeme<'a>,
+    set_name: Option<Lexeme<'a>>,
+    item: Option<Present>,
+    set: Option<u16>,
+) -> Option<Number<'a>>
+    ensures { option_map number result ≡ joined (spec.in_set (written name.entry) (option_map written set_name.entry)) item set }
+{
+    match item {
+        None => None,
+        Some(item) => match set {
+            None => None,
+            Some(set) => Some(Number::InSet(name, item, set_name, set)),
+        },
+    }
+}
+
+/// Whether an item's value is in a set.
+pub fn member<'a>(
+    scope: &Scope<'_>,
+    faults: &mut Faults,
+    name: Lexeme<'a>,
+    set_name: Option<Lexeme<'a>>,
+) -> Option<Number<'a>>
+    ensures value { option_map number result ≡ spec.member scope.now (written name.entry) (option_map written set_name.entry) (meant scope.now (written name.entry)) }
+    ensures noted { IsNoted faults.old faults.new (is_there (spec.member scope.now (written name.entry) (option_map written set_name.entry) (meant scope.now (written name.entry)))) }
+{
+    match scope.meant(name) {
+        Some(Meaning::Item(item)) => {
+            let token = match set_name {
+                None => name.token,
+                Some(set_name) => set_name.token,
+            };
+            let present = number_present(scope, faults, name.token, item);
+            let set = number_set(scope, faults, token, set_meant(scope, item, set_name));
+            in_set(name, set_name, present, set)
+        }
+        _ => {
+            faults.note(40, name.token);
+            None
+        }
+    }
+}
+
+/// The record that a name means, where there is a case; else the fault: 40 at the name, or 49 at this token.
+pub fn record_of(
+    scope: &Scope<'_>,
+    faults: &mut Faults,
+    name: Lexeme<'_>,
+    token: usize,
+) -> Option<u8>
+    ensures value { result ≡ spec.record_of scope.now (meant scope.now (written name.entry)) }
+    ensures noted { IsNoted faults.old faults.new (is_there (spec.record_of scope.now (meant scope.now (written name.entry)))) }
+{
+    match scope.meant(name) {
+        Some(Meaning::Record(found)) => {
+            if has_case(scope.routine) {
+                Some(found)
+            } else {
+                faults.note(49, token);
+                None
+            }
+        }
+        _ => {
+            faults.note(40, name.token);
+            None
+        }
+    }
+}
+
+/// `curocc` of a record; 49 at this token where no occurrence is meant.
+pub fn current<'a>(
+    scope: &Scope<'_>,
+    faults: &mut Faults,
+    name: Lexeme<'a>,
+    token: usize,
+    over: Option<u8>,
+) -> Option<Number<'a>>
+    ensures value { option_map number result ≡ spec.current scope.now (written name.entry) over }
+    ensures noted { IsNotedAfter (is_there over) faults.old faults.new (is_there (spec.current scope.now (written name.entry) over)) }
+{
+    match over {
+        None => None,
+        Some(over) => match scope.found(u16::from(over)) {
+            None => {
+                faults.note(49, token);
+                None
+            }
+            Some(found) => Some(Number::CurOcc(name, over, found)),
+        },
+    }
+}
+
+/// `totocc` of a record.
+pub fn tot_occ<'a>(name: Lexeme<'a>, over: Option<u8>) -> Option<Number<'a>>
+    ensures { option_map number result ≡ option_map (typed.TotOcc (written name.entry)) over }
+{
+    match over {
+        None => None,
+        Some(over) => Some(Number::TotOcc(name, over)),
+    }
+}
+
+/// `maxocc` of a record.
+pub fn max_occ<'a>(name: Lexeme<'a>, over: Option<u8>) -> Option<Number<'a>>
+    ensures { option_map number result ≡ option_map (typed.MaxOcc (written name.entry)) over }
+{
+    match over {
+        None => None,
+        Some(over) => Some(Number::MaxOcc(name, over)),
+    }
+}

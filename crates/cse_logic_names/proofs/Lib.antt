@@ -1,0 +1,5 @@
+mod MessageLaws
+mod OrderLaws
+pub mod NameLaws
+pub mod Walks
+pub mod Gathering

@@ -1,0 +1,100 @@
+use Rattle.std.proofs.Common.{◌≡◌, ◌∙◌, ap, sym, ◌<◌, ◌≤◌, length, get_or, map, refl, subst, List, ◌++◌, append_assoc, Option}
+use Rattle.std.specs.Global.{Vec}
+use Rattle.cse_logic_tree.specs.declared.tree.Statement.{Statement}
+use Rattle.cse_logic_tree.specs.declared.tree.Arm.{Arm}
+use Rattle.cse_logic_tree.specs.Typed as typed
+use Rattle.cse_logic_tree.proofs.Rows.{if_is, for_is, do_is}
+use Rattle.cse_logic_names.specs.Uses as spec
+use Rattle.cse_logic_names.specs.Gather.{gather}
+use Rattle.cse_logic_names.proofs.Gathering.{gather_both, gather_turn, gather_end, gather_last, gather_if, gather_for, gather_do}
+use Rattle.cse_logic_names.proofs.facts.+statements.Goals as goal
+
+pub block-all-preserved : goal.block-all-preserved
+block-all-preserved t c =
+    let items = c.args.all.now.items in
+    let x = c.x-item.result in
+    let whole = c.deref-x-items.ensures.value in
+    let lt : c.all.x-index < length items = subst (λ (xs : List Statement). c.all.x-index < length xs) whole c.all-test.true in
+    let is : x ≡ get_or items c.all.x-index x = subst (λ (xs : List Statement). x ≡ get_or xs c.all.x-index x) whole c.x-item.is in
+    gather_turn c.args.functions.now (λ (y : Statement). spec.uses_of (typed.statement y)) (λ (ys : List Statement). spec.uses_block (typed.block ys)) (λ y ys. refl) items c.all.x-index x lt is _ _ _ c.all.invariant c.in_ok-statement.ensures
+
+pub block-returns : goal.block-returns
+block-returns t c =
+    let items = c.args.all.now.items in
+    let le : length items ≤ c.all.x-index = subst (λ (xs : List Statement). length xs ≤ c.all.x-index) c.deref-x-items.ensures.value c.all-test.false in
+    gather_end c.args.functions.now (λ (ys : List Statement). spec.uses_block (typed.block ys)) refl items c.all.x-index le _ _ c.all.invariant
+
+pub arms-all-preserved : goal.arms-all-preserved
+arms-all-preserved t c =
+    let items = c.args.all.now.items in
+    let x = c.x-item.result in
+    let whole = c.deref-x-items.ensures.value in
+    let lt : c.all.x-index < length items = subst (λ (xs : List Arm). c.all.x-index < length xs) whole c.all-test.true in
+    let is : x ≡ get_or items c.all.x-index x = subst (λ (xs : List Arm). x ≡ get_or xs c.all.x-index x) whole c.x-item.is in
+    let uses_arm : Arm → List spec.Use = λ (y : Arm). spec.uses (typed.number y.condition) ++ spec.uses_block (typed.block y.body.items) in
+    gather_turn c.args.functions.now uses_arm (λ (ys : List Arm). spec.uses_arms (typed.arms (map typed.arm_tree ys) typed.no_arm))
+    (λ y ys. sym (append_assoc (spec.uses (typed.number y.condition)) (spec.uses_block (typed.block y.body.items)) (spec.uses_arms (typed.arms (map typed.arm_tree ys) typed.no_arm))))
+    items c.all.x-index x lt is _ _ _ c.all.invariant
+    (c.in_ok-arm.ensures ∙ sym (gather_both c.args.functions.now c.all.gathered (spec.uses (typed.number x.condition)) (spec.uses_block (typed.block x.body.items))))
+
+pub arms-returns : goal.arms-returns
+arms-returns t c =
+    let items = c.args.all.now.items in
+    let le : length items ≤ c.all.x-index = subst (λ (xs : List Arm). length xs ≤ c.all.x-index) c.deref-x-items.ensures.value c.all-test.false in
+    gather_end c.args.functions.now (λ (ys : List Arm). spec.uses_arms (typed.arms (map typed.arm_tree ys) typed.no_arm)) refl items c.all.x-index le _ _ c.all.invariant
+
+pub statement-returns-in-None : goal.statement-returns-in-None
+statement-returns-in-None t c =
+    let fs = c.args.functions.now in
+    let g = c.args.gathered.now in
+    let others = map typed.arm_tree c.in-If.others.items in
+    let last = typed.otherwise_tree c.in-If.otherwise in
+    let same = ap (λ (x : Statement). gather fs g (spec.uses_of (typed.statement x))) c.in-If.is
+    ∙ ap (λ (x : typed.Statement). gather fs g (spec.uses_of x)) (if_is c.in-If.first c.in-If.others c.in-If.otherwise)
+    ∙ gather_if fs g (typed.number c.in-If.first.condition) (typed.block c.in-If.first.body.items) others last in
+    let none : last ≡ typed.no_arm = ap typed.otherwise_tree c.in-None.is in
+    c.in_ok-arms-in-If.ensures
+    ∙ ap (λ z. gather fs z (spec.uses_arms (typed.arms others typed.no_arm))) (c.in_ok-block-in-If.ensures ∙ ap (λ z. gather fs z (spec.uses_block (typed.block c.in-If.first.body.items))) c.in_ok-number-in-If.ensures)
+    ∙ sym (gather_last fs _ last none)
+    ∙ sym same
+
+pub statement-returns-in-Some : goal.statement-returns-in-Some
+statement-returns-in-Some t c =
+    let fs = c.args.functions.now in
+    let g = c.args.gathered.now in
+    let others = map typed.arm_tree c.in-If.others.items in
+    let last = typed.otherwise_tree c.in-If.otherwise in
+    let body = typed.block c.in-Some.body.items in
+    let is : last ≡ typed.else_of body = ap typed.otherwise_tree c.in-Some.is in
+    let same = ap (λ (x : Statement). gather fs g (spec.uses_of (typed.statement x))) c.in-If.is
+    ∙ ap (λ (x : typed.Statement). gather fs g (spec.uses_of x)) (if_is c.in-If.first c.in-If.others c.in-If.otherwise)
+    ∙ gather_if fs g (typed.number c.in-If.first.condition) (typed.block c.in-If.first.body.items) others last
+    ∙ ap (λ z. gather fs (gather fs z (spec.uses_arms (typed.arms others typed.no_arm))) (spec.uses_arms last)) (ap (λ z. gather fs z (spec.uses_block (typed.block c.in-If.first.body.items))) (sym c.in_ok-number-in-If.ensures) ∙ sym c.in_ok-block-in-If.ensures)
+    ∙ ap (λ z. gather fs z (spec.uses_arms last)) (sym c.in_ok-arms-in-If.ensures)
+    ∙ ap (λ z. gather fs c.arms.new.gathered (spec.uses_arms z)) is in
+    rw same c.block-in-Some.ensures
+
+pub statement-returns-in_ok-assigned-in-For : goal.statement-returns-in_ok-assigned-in-For
+statement-returns-in_ok-assigned-in-For t c =
+    let fs = c.args.functions.now in
+    let g = c.args.gathered.now in
+    let us = spec.assigns c.in-For.variable in
+    let vs = spec.uses_block (typed.block c.in-For.body.items) in
+    let same = ap (λ (x : Statement). gather fs g (spec.uses_of (typed.statement x))) c.in-For.is
+    ∙ ap (λ (x : typed.Statement). gather fs g (spec.uses_of x)) (for_is c.in-For.field-0 c.in-For.variable c.in-For.field-2 c.in-For.field-3 c.in-For.body)
+    ∙ gather_for fs g us vs
+    ∙ ap (λ z. gather fs (gather fs z us) vs) (sym c.case.ensures)
+    ∙ ap (λ z. gather fs z vs) (sym c.in_ok-assigned-in-For.ensures) in
+    rw same c.block-in-For.ensures
+
+pub statement-returns-in_ok-head-in-Do : goal.statement-returns-in_ok-head-in-Do
+statement-returns-in_ok-head-in-Do t c =
+    let fs = c.args.functions.now in
+    let g = c.args.gathered.now in
+    let x = typed.counting c.in-Do.counting in
+    let vs = spec.uses_block (typed.block c.in-Do.body.items) in
+    let same = ap (λ (x : Statement). gather fs g (spec.uses_of (typed.statement x))) c.in-Do.is
+    ∙ ap (λ (x : typed.Statement). gather fs g (spec.uses_of x)) (do_is c.in-Do.counting c.in-Do.body)
+    ∙ gather_do fs g (spec.assigns x.variable) (spec.uses_limit x.start) (spec.uses_limit x.stop) vs
+    ∙ ap (λ z. gather fs z vs) (sym c.in_ok-head-in-Do.ensures) in
+    rw same c.block-in-Do.ensures
