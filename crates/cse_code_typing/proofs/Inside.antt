@@ -1,10 +1,10 @@
 -- The innermost bracket around a place, from that around the place before it.
-use Rattle.std.proofs.Common.{◌≡◌, ℕ, zero, suc, ◌+◌, ◌<◌, ◌≤◌, List, [], ◌∷◌, ◌++◌, length, Option, Some, None, refl, sym, ap, ◌∙◌, subst, ⊎_elim, arith}
+use Rattle.std.proofs.Common.{◌≡◌, ℕ, zero, suc, ◌+◌, ◌-◌, ◌<◌, ◌≤◌, List, [], ◌∷◌, ◌++◌, length, Option, Some, None, refl, sym, ap, ◌∙◌, subst, ⊎_elim, arith}
 use Rattle.std.specs.Prelude.{slice_get}
 use Rattle.std.proofs.lemmas.Bool.{cases_lt, cases_eq}
 use Rattle.std.proofs.lemmas.List.{length-append}
 use Rattle.cse_code_typing.specs.declared.control.Control.{Control}
-use Rattle.cse_code_typing.specs.Bracket.{IsBracket, IsAround, around, innermost}
+use Rattle.cse_code_typing.specs.Bracket.{IsBracket, IsAround, IsJump, around, innermost}
 use Rattle.cse_code_typing.specs.Innermost.{innermost_below, Reaches, reach}
 use Rattle.cse_code_typing.proofs.Around.{first_least, innermost_around, is_around_from}
 
@@ -106,6 +106,50 @@ module _ (code : List Control) where
 
   pub shorter : (t : ℕ) (opener next : Option ℕ) → opener ≡ Some t → next ≡ innermost code t → reach next < reach opener
   shorter t opener next is told = subst (λ o. reach next < reach o) (sym is) (shorter_by t next (sym told))
+
+-- ---- without a table: a walk outward from where a jump leads
+
+module _ (code : List Control) where
+  pub none_from_end : (to s : ℕ) → to ≤ s → IsAround code s to → ⊥
+  none_from_end to s le a = let lt = a.2 in omega arith
+
+  pub one_place_more : (to opener : ℕ) → 0 < opener → ((s : ℕ) → opener ≤ s → IsAround code s to → ⊥) → (IsAround code (opener - 1) to → ⊥) → (s : ℕ) → opener - 1 ≤ s → IsAround code s to → ⊥
+  one_place_more to opener some never here s le a =
+      ⊎_elim
+      (λ (same : s ≡ opener - 1). here (subst (λ n. IsAround code n to) same a))
+      (λ (ne : s ≡ opener - 1 → ⊥). never s (omega arith) a)
+      (cases_eq s (opener - 1))
+
+  -- the innermost bracket around a jump that keeps it is around where the jump leads
+  pub still_there : (from to : ℕ) (top : Option ℕ) → top ≡ innermost code from → IsJump code from to → (t : ℕ) → top ≡ Some t → IsAround code t to
+  still_there from to top is jump t there = innermost_around code to t (jump.2 ∙ sym is ∙ there)
+
+  begins_before : (from s : ℕ) (o : Option ℕ) → innermost code from ≡ o → Reaches o s → s < from
+  begins_before from s None is reaches = absurd reaches
+  begins_before from s (Some t) is reaches =
+      let lt = innermost_before code from t is in
+      let le : s ≤ t = reaches in
+      omega arith
+
+  -- and none that begins at the jump or behind it is
+  pub none_begins : (from to : ℕ) → IsJump code from to → (s : ℕ) → from ≤ s → IsAround code s to → ⊥
+  none_begins from to jump s le a =
+      let lt = begins_before from s (innermost code to) (sym jump.2) (reached code to s a) in omega arith
+
+  -- a bracket around where a jump leads that begins before the jump is around the jump
+  around_jump : (from to s : ℕ) → from < to → ((q : ℕ) → from ≤ q → IsAround code q to → ⊥) → IsAround code s to → IsAround code s from
+  around_jump from to s lt never a =
+      ⊎_elim (λ (before : s < from). let le = a.3 in (a.0, a.1, before, omega arith)) (λ (le : from ≤ s). absurd (never s le a)) (cases_lt s from)
+
+  kept_by : (from to : ℕ) (top : Option ℕ) → innermost code from ≡ top → from < to → ((t : ℕ) → top ≡ Some t → IsAround code t to) → ((s : ℕ) → from ≤ s → IsAround code s to → ⊥) → innermost code to ≡ top
+  kept_by from to None is lt stays never =
+      innermost_none code to (λ s a. subst (λ o. Reaches o s) is (reached code from s (around_jump from to s lt never a)))
+  kept_by from to (Some t) is lt stays never =
+      innermost_is code to t (stays t refl) (λ s a. subst (λ o. Reaches o s) is (reached code from s (around_jump from to s lt never a)))
+
+  -- a jump keeps its innermost bracket where that is around its target, and no other begins in between
+  pub keeps_innermost : (from to : ℕ) (top : Option ℕ) → top ≡ innermost code from → from < to → to < length code → ((t : ℕ) → top ≡ Some t → IsAround code t to) → ((s : ℕ) → from ≤ s → IsAround code s to → ⊥) → IsJump code from to
+  keeps_innermost from to top is lt within stays never = (lt, within, kept_by from to top (sym is) lt stays never ∙ is)
 
 pub none_left : (opener : Option ℕ) (s : ℕ) → ((t : ℕ) → opener ≡ Some t → ⊥) → Reaches opener s → ⊥
 none_left None s never r = r

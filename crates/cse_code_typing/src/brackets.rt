@@ -2,10 +2,10 @@
 
 ghost use Rattle.std.specs.Prelude.{◌≡◌, ℕ, suc, ◌+◌, ◌<◌, ◌≤◌, ◌↔◌, length, Some, slice_get, IsTrue, IfSome, IfNone, IfOk};
 ghost use Rattle.cse_code_typing.specs.Innermost.{innermost_below};
-ghost use Rattle.cse_code_typing.specs.Bracket.{IsBracket, IsAround, IsNestedBelow, first, around, innermost, IsOpener, IsFine, IsFineAt, KeepsRulesAt, KeepsRules, BreaksFirst, named_end, named_opener};
+ghost use Rattle.cse_code_typing.specs.Bracket.{IsBracket, IsAround, IsNestedBelow, first, around, innermost, IsJump, IsOpener, IsFine, IsFineAt, KeepsRulesAt, KeepsRules, BreaksFirst, named_end, named_opener};
 
 use crate::control::Control;
-use crate::innermost::{innermost_table, is_told_jump};
+use crate::innermost::{innermost_table, is_told_jump, is_walked_jump};
 use crate::nest::Nest;
 use crate::routine_code::RoutineCode;
 use cse_image::Code;
@@ -86,23 +86,41 @@ fn is_break<C: Code>(code: &RoutineCode<'_, C>, end: u32, place: u32, openers: &
     }
 }
 
+/// Whether a jump keeps its innermost bracket: by the table, or without one.
+fn is_jump<C: Code>(
+    code: &RoutineCode<'_, C>,
+    from: u32,
+    to: u32,
+    openers: &Nest<u32>,
+    table: Option<&[Option<u32>]>,
+) -> bool
+    requires openers { openers.now ≡ around code.now from }
+    requires table { IfSome table (λ t. t.now ≡ innermost_below code.now (length code.now)) }
+    ensures { IsTrue result ↔ IsJump code.now from to }
+{
+    match table {
+        Some(table) => is_told_jump(code, table, from, to),
+        None => is_walked_jump(code, openers, from, to),
+    }
+}
+
 /// Whether an instruction keeps the rules, but for the last one's.
 fn is_fine<C: Code>(
     code: &RoutineCode<'_, C>,
     place: u32,
     control: Control,
     openers: &Nest<u32>,
-    table: &[Option<u32>],
+    table: Option<&[Option<u32>]>,
 ) -> bool
     requires nested { IsNestedBelow code.now place }
     requires openers { openers.now ≡ around code.now place }
-    requires table { table.now ≡ innermost_below code.now (length code.now) }
+    requires table { IfSome table (λ t. t.now ≡ innermost_below code.now (length code.now)) }
     ensures { IsTrue result ↔ IsFine code.now place control }
 {
     match control {
         Control::Step => true,
-        Control::Jump(to) => is_told_jump(code, table, place, to),
-        Control::Branch(to) => is_told_jump(code, table, place, to),
+        Control::Jump(to) => is_jump(code, place, to, openers, table),
+        Control::Branch(to) => is_jump(code, place, to, openers, table),
         Control::Open(_, end) => is_opener(code, place, end, openers),
         Control::End(opener) => is_bracket(code, opener, place),
         Control::Break(end) => is_break(code, end, place, openers),
@@ -142,9 +160,10 @@ pub fn pass<C: Code>(
     }
 }
 
-/// The least place of a routine's code that breaks a rule, by the innermost bracket around each place.
-fn check_code<C: Code>(code: &RoutineCode<'_, C>, table: &[Option<u32>]) -> Option<u32>
-    requires { table.now ≡ innermost_below code.now (length code.now) }
+/// The least place of a routine's code that breaks a rule. A table of the innermost bracket around each place may
+/// be lent; without one each jump costs time that grows with how far it leads.
+pub fn check_code<C: Code>(code: &RoutineCode<'_, C>, table: Option<&[Option<u32>]>) -> Option<u32>
+    requires { IfSome table (λ t. t.now ≡ innermost_below code.now (length code.now)) }
     ensures all { IfNone result (KeepsRules code.now) }
     ensures first { IfSome result (λ p. BreaksFirst code.now p) }
 {
@@ -174,5 +193,5 @@ pub fn first_break<C: Code>(
     ensures first { IfOk result (λ o. IfSome o (λ p. BreaksFirst code.now p)) }
 {
     let table = innermost_table(alloc, code)?;
-    Ok(check_code(code, &table))
+    Ok(check_code(code, Some(&table)))
 }

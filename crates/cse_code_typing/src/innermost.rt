@@ -1,10 +1,12 @@
-//! The innermost bracket around each place of a routine's code, found in one pass.
+//! Whether a jump keeps its innermost bracket: by a table of these, made in one pass, or by a walk outward from
+//! where it leads, which takes no memory.
 
 ghost use Rattle.std.specs.Prelude.{◌≡◌, ℕ, suc, ◌<◌, ◌≤◌, ◌↔◌, length, Some, None, Option, slice_get, IsTrue, IfOk};
-ghost use Rattle.cse_code_typing.specs.Bracket.{IsBracket, IsAround, innermost, IsJump};
+ghost use Rattle.cse_code_typing.specs.Bracket.{IsBracket, IsAround, first, around, innermost, IsJump};
 ghost use Rattle.cse_code_typing.specs.Innermost.{innermost_below, Reaches};
 
 use crate::brackets::{is_around, is_bracket, named_end_at};
+use crate::nest::Nest;
 use crate::routine_code::RoutineCode;
 use cse_image::Code;
 use std::alloc::{AllocError, Global};
@@ -112,4 +114,49 @@ pub fn is_told_jump<C: Code>(
         return false;
     }
     is_same(told(table, to), told(table, from))
+}
+
+/// Whether the innermost bracket, if there is one, is around a later place too.
+fn is_still_inside<C: Code>(code: &RoutineCode<'_, C>, openers: &Nest<u32>, place: u32) -> bool
+    ensures { IsTrue result ↔ ((s : ℕ) → first openers.now ≡ Some s → IsAround code.now s place) }
+{
+    match openers.top() {
+        Some(opener) => is_around(code, opener, place),
+        None => true,
+    }
+}
+
+/// Whether no bracket that begins from one place on is around another: a walk outward from that one.
+fn begins_none_between<C: Code>(code: &RoutineCode<'_, C>, from: u32, to: u32) -> bool
+    ensures none { IsTrue result → (s : ℕ) → from ≤ s → IsAround code.now s to → ⊥ }
+    ensures one { ((s : ℕ) → from ≤ s → IsAround code.now s to → ⊥) → IsTrue result }
+{
+    let mut opener = to;
+    'outward: while opener > from {
+        opener -= 1;
+        if is_around(code, opener, to) {
+            return false;
+        }
+    }
+    true
+}
+
+/// The same as `is_told_jump`, without a table: the innermost bracket around the jump is still around where it
+/// leads, and no other one begins in between. It takes no memory, and time that grows with how far it leads.
+pub fn is_walked_jump<C: Code>(
+    code: &RoutineCode<'_, C>,
+    openers: &Nest<u32>,
+    from: u32,
+    to: u32,
+) -> bool
+    requires { openers.now ≡ around code.now from }
+    ensures { IsTrue result ↔ IsJump code.now from to }
+{
+    if to <= from || to >= code.len() {
+        return false;
+    }
+    if !is_still_inside(code, openers, to) {
+        return false;
+    }
+    begins_none_between(code, from, to)
 }

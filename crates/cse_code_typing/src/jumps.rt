@@ -1,25 +1,23 @@
 //! Whether the jumps and brackets of each routine keep their rules.
 
-ghost use Rattle.std.specs.Prelude.{OnOk, IfErr, ◌⊎◌};
+ghost use Rattle.std.specs.Prelude.{OnOk, IfErr};
 ghost use Rattle.cse_code_typing.specs.Rules.{AllKeepRules, FailsJumps};
-ghost use Rattle.cse_code_typing.specs.Typed.{IsOutOfMemory};
 
-use crate::brackets::first_break;
+use crate::brackets::check_code;
 use crate::refusal::Refusal;
 use crate::routine_code::RoutineCode;
 use cse_image::{Code, Program};
-use std::alloc::Global;
 
 /// Whether each routine keeps the rules of jumps and brackets (own). An opener and a later END that
 /// name each other are a bracket, and the places after the opener up to the END are inside it. Each
 /// opener and each END is part of one; an opener's END is inside every bracket around the opener, of
 /// which there are at most 63. A jump leads to a greater place with the same innermost bracket, a
 /// break names the END of its own innermost bracket, and the last instruction is RET. Else 65, at the
-/// least place of the least routine that breaks a rule; 90 where memory runs out. The time grows with
-/// the number of instructions, whatever the code is; 8 bytes are taken for each place of a routine.
-pub fn check_jumps_and_brackets<C: Code>(alloc: Global, program: &Program<C>) -> Result<(), Refusal>
+/// least place of the least routine that breaks a rule. It takes no memory. The time grows with the number
+/// of instructions, and with how far each jump leads.
+pub fn check_jumps_and_brackets<C: Code>(program: &Program<C>) -> Result<(), Refusal>
     ensures keeps { OnOk result (AllKeepRules program.now) }
-    ensures fails { IfErr result (λ e. IsOutOfMemory e ⊎ FailsJumps program.now e) }
+    ensures fails { IfErr result (FailsJumps program.now) }
 {
     let code = program.code();
     let _fits = code.len();
@@ -28,7 +26,7 @@ pub fn check_jumps_and_brackets<C: Code>(alloc: Global, program: &Program<C>) ->
     let mut routine = 0;
     for head in &tables.routines {
         let skeleton = RoutineCode::new(code, tables, start, head.instructions);
-        if let Some(at) = first_break(alloc, &skeleton)? {
+        if let Some(at) = check_code(&skeleton, None) {
             return Err(Refusal {
                 number: 65,
                 routine,

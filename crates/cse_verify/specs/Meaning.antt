@@ -1,8 +1,9 @@
 -- When two programs are one for the verifier, whatever the dictionary.
-use Rattle.std.specs.Prelude.{◌≡◌, ◌≤◌, ℕ, ◌↔◌}
+use Rattle.std.specs.Prelude.{◌≡◌, ◌≤◌, ◌<◌, ℕ, Some, ◌↔◌}
 use Rattle.cse_value.specs.Shape.{ShapeLists}
 use Rattle.cse_image_parts.specs.declared.version.Version.TheVariants as versions
 use Rattle.cse_image_parts.specs.Image.{Image, RoutineLists}
+use Rattle.cse_image_parts.specs.Turns.{limit_of}
 use Rattle.cse_image_parts.specs.Upgrade.{upgrade, as_it_stands}
 use Rattle.cse_image.specs.Spelling.{FitsIn}
 use Rattle.cse_code_typing.specs.Code.{code_of}
@@ -27,3 +28,7 @@ pub record MeansSame (x y : Image) : Type 0 where
 -- the upgrade of a program that fits version 1 is, for the verifier, the program whose code stands as it is
 abbrev pub UpgradeMeansSame : Type 0
 UpgradeMeansSame = (x : Image) → FitsIn versions.One x → MeansSame (upgrade x) (as_it_stands x)
+
+-- each b that version 1 allows, from 1 to 65,535, names the limit b there: the loop may take b turns, as version 1 says
+abbrev pub LimitsAreTheirOwn : Type 0
+LimitsAreTheirOwn = (x : Image) (b : ℕ) → 1 ≤ b → b < 65536 → limit_of (as_it_stands x).lists.limits b ≡ Some b

@@ -26,7 +26,7 @@ pub use cse_code_bounds::STEP_LIMIT;
 pub use cse_code_typing::{NONE, Refusal, routine_of};
 pub use depth::Depth;
 pub use jumps::check_jumps;
-pub use laws::{first_reason_is_one, upgrade_means_the_same};
+pub use laws::{first_reason_is_one, limits_are_their_own, upgrade_means_the_same};
 pub use shape::same_shape;
 pub use verified::Verified;
 pub use verifying::verify;

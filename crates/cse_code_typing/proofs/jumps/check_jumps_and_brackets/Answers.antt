@@ -1,4 +1,4 @@
-use Rattle.std.proofs.Common.{ℕ, Option, IfSome, ◌+◌, ◌<◌, ◌^◌, ap, arith, rules, length, below_more, List, inr, refl, subst}
+use Rattle.std.proofs.Common.{ℕ, Option, IfSome, ◌+◌, ◌<◌, ◌^◌, ap, arith, rules, length, below_more, List, refl, subst}
 use Rattle.cse_image_parts.specs.declared.instruction.Instr.{Instr}
 use Rattle.cse_image_parts.specs.Image.{routine_lists}
 use Rattle.cse_code_typing.specs.Bracket.{BreaksFirst, KeepsRules}
@@ -17,12 +17,12 @@ pub returns-in-Some-clause-fails : goal.returns-in-Some-clause-fails
 returns-in-Some-clause-fails g c =
     let there = routine_at c.args.program.now c.tables-tables.result.now c.deref-head-items.result.now c.loop-head.head-index c.head-item.result
     c.deref-head-items.ensures.value c.tables-tables.ensures.lists c.loop-head-test.true c.head-item.is in
-    inr (record {
+    record {
       number = refl;
       breaks = routine_breaks c.args.program.now c.loop-head.routine c.loop-head.head-index c.loop-head.start c.in-Some.at (routine_lists c.head-item.result) _ _ _ there
           c.loop-head.invariant.start_is c.loop-head.invariant.routine_is c.code-code.ensures c.tables-tables.ensures.lists c.new-skeleton.ensures c.loop-head.invariant.before
-          (subst (λ (o : Option ℕ). IfSome o (BreaksFirst c.new-skeleton.result)) c.in-Some.is c.in_ok-at.ensures.first);
-    })
+          (subst (λ (o : Option ℕ). IfSome o (BreaksFirst c.new-skeleton.result)) c.in-Some.is c.check_code.ensures.first);
+    }
 
 pub overflow_add-start : goal.overflow_add-start
 overflow_add-start g c =
@@ -41,7 +41,7 @@ loop-head-preserved g c =
       routine_is = omega arith;
       before = below_more _ _ c.loop-head.invariant.before
           (routine_keeps c.args.program.now c.loop-head.head-index c.loop-head.start (routine_lists c.head-item.result) _ _ _ there c.loop-head.invariant.start_is c.code-code.ensures c.tables-tables.ensures.lists c.new-skeleton.ensures
-          (told_none c.in_ok-at.field-0 (KeepsRules c.new-skeleton.result) c.in_ok-at.ensures.all c.in_default.not-Some));
+          (told_none c.check_code.result (KeepsRules c.new-skeleton.result) c.check_code.ensures.all c.in_default.not-Some));
     }
 
 pub returns-clause-keeps : goal.returns-clause-keeps
