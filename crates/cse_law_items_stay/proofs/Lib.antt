@@ -1,0 +1,7 @@
+pub mod Given
+pub mod Lines
+pub mod Puts
+pub mod Keeps
+pub mod Names
+pub mod Left
+pub mod Runs

@@ -1,0 +1,69 @@
+//! Which items statements write.
+
+ghost use Rattle.std.specs.Prelude.{◌≡◌, map, slice_set, true};
+ghost use Rattle.cse_logic_tree.specs.Typed.{arm_tree, arms, block, no_arm, number, statement};
+ghost use Rattle.cse_written_items.specs.Items as spec;
+ghost use Rattle.cse_written_items.specs.Marks.{marked};
+
+use cse_logic_tree::{Arm, Statement};
+
+/// One item is written; one that isn't in the dictionary has no mark.
+fn mark(marks: &mut [bool], item: u16)
+    ensures { marks.new ≡ slice_set marks.old item true }
+{
+    let place = item as usize;
+    if place < marks.len() {
+        marks[place] = true;
+    }
+}
+
+#[cycle(statements)]
+#[tactic(auto, unfolding(crate::specs::Marks::marked))]
+fn statement(marks: &mut [bool], x: &Statement<'_>)
+    ensures { marks.new ≡ marked marks.old (spec.written_by (statement x.now)) }
+{
+    match x {
+        Statement::Empty
+        | Statement::Set(_, _, _)
+        | Statement::SetText(_, _, _)
+        | Statement::SetCell(_, _, _, _)
+        | Statement::Call(_, _, _)
+        | Statement::Jump(_, _)
+        | Statement::PutDeck(_, _, _, _)
+        | Statement::ErrMsg(_, _, _, _) => {}
+        Statement::SetItem(_, field, _, _) | Statement::Impute(_, field, _, _) => {
+            mark(marks, field.item)
+        }
+        Statement::SetTextItem(_, field, _, _) => mark(marks, field.item),
+        Statement::If(first, others, otherwise) => {
+            block(marks, &first.body);
+            arms(marks, others);
+            match otherwise {
+                None => {}
+                Some(body) => block(marks, body),
+            }
+        }
+        Statement::For(_, _, _, _, body) => block(marks, body),
+        Statement::Do(_, body) => block(marks, body),
+    }
+}
+
+/// The items that statements write, beside those that are marked.
+#[cycle(statements)]
+pub fn block(marks: &mut [bool], all: &Vec<Statement<'_>>)
+    ensures { marks.new ≡ marked marks.old (spec.written_by_all (block all.now.items)) }
+{
+    'all: for x in all {
+        statement(marks, x);
+    }
+}
+
+/// Each `elseif`, without the `else`.
+#[cycle(statements)]
+fn arms(marks: &mut [bool], all: &Vec<Arm<'_>>)
+    ensures { marks.new ≡ marked marks.old (spec.written_by_arms (arms (map arm_tree all.now.items) no_arm)) }
+{
+    'all: for x in all {
+        block(marks, &x.body);
+    }
+}
