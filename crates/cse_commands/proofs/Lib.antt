@@ -1,8 +1,11 @@
+pub mod ApartLaws
 pub mod EditedLaws
 pub mod FaultLaws
+pub mod FaultyLaws
 pub mod OutcomeLaws
 pub mod PrintLaws
 pub mod RanLaws
 pub mod TriedLaws
 pub mod VerdictLaws
 pub mod VettedLaws
+pub mod WordLaws

@@ -2,13 +2,15 @@
 use Rattle.std.specs.Prelude.{ℕ, ◌==◌, ◌||◌, if◌then◌else◌, Option, None, Some, Result, Ok, Err}
 use Rattle.cse_image.specs.declared.error.ImageError.{ImageError}
 use Rattle.cse_code_typing.specs.declared.refusal.Refusal.{Refusal}
+use Rattle.cse_files.specs.declared.fault.WriteFault.{WriteFault}
+use Rattle.cse_files.specs.declared.fault.WriteFault.TheVariants.{NotOpened, NotWritten, Memory}
 use Rattle.cse_batch.specs.declared.image.CheckFault.{CheckFault}
 use Rattle.cse_batch.specs.declared.image.CheckFault.TheVariants as checks
 use Rattle.cse_commands.specs.declared.fault.Fault.{Fault}
 use Rattle.cse_commands.specs.declared.outcome.Asked.{Asked}
 use Rattle.cse_commands.specs.declared.outcome.Asked.TheVariants.{Open, Read, Write}
 use Rattle.cse_commands.specs.declared.outcome.Stop.{Stop}
-use Rattle.cse_commands.specs.declared.outcome.Stop.TheVariants.{Usage, Refused}
+use Rattle.cse_commands.specs.declared.outcome.Stop.TheVariants.{Usage, OneFile, TooManySteps, Refused}
 use Rattle.cse_commands.specs.declared.try_image.TryFault.{TryFault}
 use Rattle.cse_commands.specs.declared.try_image.TryFault.TheVariants as tries
 use Rattle.cse_commands.specs.declared.verify_image.VerifyFault.{VerifyFault}
@@ -24,6 +26,8 @@ status_of number = if ((number == 70) || (number == 71)) || ((number == 72) || (
 abbrev pub exit_status : {T : Type 0} → Result T Stop → ℕ
 exit_status (Ok done) = 0
 exit_status (Err Usage) = 2
+exit_status (Err (OneFile first second)) = 2
+exit_status (Err (TooManySteps steps allowed)) = 1
 exit_status (Err (Refused fault)) = status_of fault.number
 
 -- ---- faults, and what they tell of their place
@@ -61,6 +65,12 @@ abbrev pub number_asked : Asked → ℕ
 number_asked Open = 72
 number_asked Read = 70
 number_asked Write = 71
+
+-- the number of a file that was not written
+abbrev pub number_of_write : WriteFault → ℕ
+number_of_write NotOpened = 72
+number_of_write NotWritten = 71
+number_of_write Memory = 90
 
 -- the fault that `try` tells
 abbrev pub fault_of_try : TryFault → Fault

@@ -1,9 +1,13 @@
+pub mod Allowed
+pub mod Apart
 pub mod Edited
 pub mod Ending
 pub mod FaultLine
 pub mod Printed
 pub mod Ran
+pub mod Roles
 pub mod Stops
 pub mod Tried
 pub mod Verdict
 pub mod Vetted
+pub mod Words

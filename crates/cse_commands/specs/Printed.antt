@@ -1,4 +1,4 @@
--- What `try`, `compile` and `run` print.
+-- What `try`, `compile`, `run` and `--version` print.
 use Rattle.std.specs.Prelude.{ℕ, List, [], ◌∷◌, ◌++◌, codes, decimal}
 use Rattle.std.specs.List.{flat_map}
 use Rattle.cse_image_parts.specs.Image.{MessageLists}
@@ -34,3 +34,8 @@ compiled_line n = codes "compiled " ++ decimal n ++ codes " bytes\n"
 
 abbrev pub totals_line : Totals → List ℕ
 totals_line t = codes "cases " ++ decimal t.cases ++ codes " lines " ++ decimal t.lines ++ codes " unseen " ++ decimal t.unseen ++ codes "\n"
+
+-- ---- `--version`
+
+abbrev pub version_line : List ℕ → List ℕ
+version_line version = codes "csbatch " ++ version ++ codes "\n"

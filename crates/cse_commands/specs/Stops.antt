@@ -12,8 +12,15 @@ use Rattle.cse_decks.specs.FirstFault.{TellsFirstFault}
 use Rattle.cse_batch.specs.declared.totals.RunFault.{RunFault}
 use Rattle.cse_batch.specs.RunClauses.{Contents, Failures, RunStops}
 use Rattle.cse_commands.specs.declared.outcome.Stop.{Stop}
-use Rattle.cse_commands.specs.declared.outcome.Stop.TheVariants.{Refused}
+use Rattle.cse_commands.specs.declared.outcome.Stop.TheVariants.{Usage, OneFile, TooManySteps, Refused}
 use Rattle.cse_commands.specs.Ending.{fault_at, fault_in_text, plain_fault}
+
+-- a fault, by its number: neither words that are no command nor an image whose cases may take too many steps
+abbrev pub HasNumber : Stop → Type 0
+HasNumber Usage = ⊥
+HasNumber (OneFile first second) = ⊥
+HasNumber (TooManySteps steps allowed) = ⊥
+HasNumber (Refused fault) = Unit {0}
 
 -- want of memory, which tells nothing else
 abbrev pub IsMemory : Stop → Type 0

@@ -2,11 +2,11 @@
 
 use crate::compile_image::compile_files;
 use crate::edit_data::edit_files;
-use crate::fault::{Fault, NO_MEMORY, WRITE_FAILED};
-use crate::files::file_bytes;
+use crate::fault::{Fault, NO_MEMORY, TOO_MANY, WRITE_FAILED};
+use crate::files::{MOST_IMAGE, file_bytes, file_text};
 use crate::outcome::{Asked, Stop};
 use crate::plan::{Command, CompilePaths, EditPaths, PlanFault, RunPaths, plan};
-use crate::printing::{write_compiled, write_totals};
+use crate::printing::{write_compiled, write_totals, write_version};
 use crate::run_image::run_files;
 use crate::try_image::try_to;
 use crate::verify_image::verify_to;
@@ -44,6 +44,7 @@ fn do_planned<R: Files + Print + AllocGlobal>(
         Ok(Command::Compile(paths)) => compile_and_tell(rt, &paths),
         Ok(Command::Run(paths)) => run_and_tell(rt, &paths),
         Ok(Command::Edit(paths)) => edit_and_tell(rt, &paths),
+        Ok(Command::Version) => tell_version(rt),
         Err(PlanFault::Usage) => Err(Stop::Usage),
         Err(PlanFault::Memory) => Err(Stop::of_number(NO_MEMORY)),
     }
@@ -60,7 +61,7 @@ fn words_given<R: Env + AllocGlobal>(rt: &R) -> io::Result<Vec<String>> {
 
 /// `try`.
 pub fn try_file<R: Files + Print + AllocGlobal>(rt: &R, path: &str) -> Result<(), Stop> {
-    let image = file_bytes(rt, path)?;
+    let image = file_bytes(rt, path, MOST_IMAGE)?;
     let buffer = match BufWriter::new(rt.alloc(), io::writer(rt)) {
         Ok(buffer) => buffer,
         Err(error) => return Err(Stop::of_failure(Asked::Write, error.kind())),
@@ -81,8 +82,8 @@ pub fn verify_files<R: Files + Print + AllocGlobal>(
     dict: &str,
     image: &str,
 ) -> Result<(), Stop> {
-    let dict = file_bytes(rt, dict)?;
-    let image = file_bytes(rt, image)?;
+    let dict = file_text(rt, dict, TOO_MANY)?;
+    let image = file_bytes(rt, image, MOST_IMAGE)?;
     let buffer = match BufWriter::new(rt.alloc(), io::writer(rt)) {
         Ok(buffer) => buffer,
         Err(error) => return Err(Stop::of_failure(Asked::Write, error.kind())),
@@ -132,6 +133,15 @@ pub fn edit_and_tell<R: Files + Print + AllocGlobal>(
 fn tell_totals<R: Print>(rt: &R, totals: Totals) -> Result<(), Stop> {
     let mut out = Writes::new(io::writer(rt));
     match write_totals(totals, &mut out) {
+        Ok(()) => Ok(()),
+        Err(_) => Err(Stop::of_number(WRITE_FAILED)),
+    }
+}
+
+/// `--version`.
+fn tell_version<R: Print>(rt: &R) -> Result<(), Stop> {
+    let mut out = Writes::new(io::writer(rt));
+    match write_version(&mut out) {
         Ok(()) => Ok(()),
         Err(_) => Err(Stop::of_number(WRITE_FAILED)),
     }

@@ -5,8 +5,9 @@ ghost use Rattle.cse_build.specs.Build.{IsBuilt};
 ghost use Rattle.cse_build.specs.Meant.{MeansLogic};
 ghost use Rattle.cse_commands.specs.Stops.{TellsBuildFault};
 
-use crate::fault::Fault;
-use crate::files::{bytes_where_named, file_bytes, write_file};
+use crate::apart::{see_apart, uses_of_compile};
+use crate::fault::{Fault, TOO_LARGE, TOO_MANY};
+use crate::files::{file_text, text_where_named, write_file};
 use crate::outcome::Stop;
 use crate::plan::CompilePaths;
 use cse_build::build;
@@ -16,15 +17,16 @@ use std::rt::Files;
 
 /// Makes an image of logic for a dictionary, and tells how many bytes it has.
 ///
-/// The dictionary is read and checked; then logic, the messages and the edit order are read, one after the other, and
-/// checked. The image is opened where there is one to write. Faults are those of the dictionary (10 to 18); of the
-/// messages (30, 35), the order (40) and the logic (30 to 35, 40 to 49, 64, 67); 70 to 72 of files and devices; and
-/// want of memory (90).
+/// No file is opened unless the image is apart from the others. The dictionary is read and checked; then logic, the
+/// messages and the edit order are read, one after the other, and checked. The image is written where there is one, whole
+/// or not at all. Faults are those of the dictionary (10 to 18); of the messages (30, 35), the order (40) and the logic
+/// (30 to 35, 40 to 49, 64, 67); 70 to 72 of files and devices; and want of memory (90).
 pub fn compile_files<R: Files + AllocGlobal>(
     rt: &R,
     paths: &CompilePaths<'_>,
 ) -> Result<usize, Stop> {
-    let text = file_bytes(rt, paths.dict)?;
+    see_apart(rt, &uses_of_compile(rt.alloc(), paths)?)?;
+    let text = file_text(rt, paths.dict, TOO_MANY)?;
     match Dictionary::read(rt.alloc(), &text) {
         Ok(dictionary) => compile_with(rt, &dictionary, paths),
         Err(error) => Err(Stop::Refused(Fault::of_dictionary(error))),
@@ -37,9 +39,9 @@ fn compile_with<R: Files + AllocGlobal>(
     dictionary: &Dictionary,
     paths: &CompilePaths<'_>,
 ) -> Result<usize, Stop> {
-    let logic = file_bytes(rt, paths.logic)?;
-    let messages = bytes_where_named(rt, paths.messages)?;
-    let order = bytes_where_named(rt, paths.order)?;
+    let logic = file_text(rt, paths.logic, TOO_LARGE)?;
+    let messages = text_where_named(rt, paths.messages, TOO_LARGE)?;
+    let order = text_where_named(rt, paths.order, TOO_LARGE)?;
     let image = image_of(rt.alloc(), dictionary, &logic, &messages, &order)?;
     write_file(rt, paths.image, &image)?;
     Ok(image.len())

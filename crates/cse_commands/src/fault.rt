@@ -4,9 +4,10 @@ ghost use Rattle.std.specs.Prelude.{◌≡◌};
 ghost use Rattle.std.specs.List.{flat_map};
 ghost use Rattle.cse_value.specs.Writing.{WritesAll, FailsAtErr};
 ghost use Rattle.cse_commands.specs.Ending.{code_told, fault_at, fault_in_bytes, fault_in_code, fault_in_text, fault_of_check, fault_of_try, fault_of_verify, plain_fault, position_told, status_of};
-ghost use Rattle.cse_commands.specs.FaultLine.{fault_text, told};
+ghost use Rattle.cse_commands.specs.FaultLine.{fault_text, one_file_text, steps_text, told};
 
 use crate::printing::write_parts;
+use crate::role::Role;
 use crate::try_image::TryFault;
 use crate::verify_image::VerifyFault;
 use cse_batch::{CheckFault, RunFault};
@@ -18,6 +19,10 @@ use cse_value::{Failed, Output, write_all};
 use cse_verify::{NONE, Refusal};
 use itoa::Buffer;
 
+/// The number of a dictionary that has too much of something.
+pub const TOO_MANY: u8 = 17;
+/// The number of logic, or of messages or an edit order beside it, that is too large.
+pub const TOO_LARGE: u8 = 64;
 /// The number of a failed read.
 pub const READ_FAILED: u8 = 70;
 /// The number of a failed write.
@@ -225,4 +230,43 @@ fn write_told<W: Output>(word: &[u8], number: Option<u64>, out: &mut W) -> Resul
         }
         None => Ok(()),
     }
+}
+
+/// Writes which two words lead to one file.
+pub fn write_one_file<W: Output>(first: Role, second: Role, out: &mut W) -> Result<(), Failed>
+    ensures bytes { WritesAll result (W.contents out.old) (W.contents out.new) (one_file_text first second) }
+    ensures failed { FailsAtErr result (W.has_failed out.old) (W.has_failed out.new) }
+{
+    let (first, second) = (first.word().as_bytes(), second.word().as_bytes());
+    write_parts(
+        &[
+            b"usage: ",
+            first,
+            b" and ",
+            second,
+            b" are one file, which would be overwritten\n",
+        ],
+        out,
+    )
+}
+
+/// Writes how many steps a case may take, and how many are allowed.
+pub fn write_steps_above<W: Output>(steps: u64, allowed: u64, out: &mut W) -> Result<(), Failed>
+    ensures bytes { WritesAll result (W.contents out.old) (W.contents out.new) (steps_text steps allowed) }
+    ensures failed { FailsAtErr result (W.has_failed out.old) (W.has_failed out.new) }
+{
+    let mut first = Buffer::new();
+    let mut second = Buffer::new();
+    let steps = first.format(steps).as_bytes();
+    let allowed = second.format(allowed).as_bytes();
+    write_parts(
+        &[
+            b"a case may take ",
+            steps,
+            b" steps, above the ",
+            allowed,
+            b" of --case-steps\n",
+        ],
+        out,
+    )
 }

@@ -2,9 +2,13 @@
 
 ghost use Rattle.std.specs.Prelude.{◌≡◌, ◌≢◌};
 ghost use Rattle.std.specs.declared.io.ErrorKind.TheVariants.{OutOfMemory};
-ghost use Rattle.cse_commands.specs.Ending.{exit_status, number_asked, plain_fault};
+ghost use Rattle.cse_commands.specs.Stops.{HasNumber};
+ghost use Rattle.cse_commands.specs.Ending.{exit_status, number_asked, number_of_write, plain_fault};
 
 use crate::fault::{Fault, NO_MEMORY, NOT_OPENED, READ_FAILED, WRITE_FAILED, ending};
+use crate::role::Role;
+use cse_files::WriteFault;
+use std::alloc::AllocError;
 use std::io::ErrorKind;
 
 /// Why a command has not done its work.
@@ -12,6 +16,10 @@ use std::io::ErrorKind;
 pub enum Stop {
     /// The words are no command.
     Usage,
+    /// Two words lead to one file, which would be overwritten; the earlier one first.
+    OneFile(Role, Role),
+    /// A case may take so many steps, more than the second number, which is allowed.
+    TooManySteps(u64, u64),
     /// A fault.
     Refused(Fault),
 }
@@ -37,11 +45,31 @@ impl Stop {
     pub fn of_failure(asked: Asked, kind: ErrorKind) -> Stop
         ensures memory { kind ≡ OutOfMemory → result ≡ Stop.Refused (plain_fault 90) }
         ensures other { kind ≢ OutOfMemory → result ≡ Stop.Refused (plain_fault (number_asked asked)) }
+        ensures fault { HasNumber result }
     {
         match kind {
             ErrorKind::OutOfMemory => Stop::of_number(NO_MEMORY),
             _ => Stop::of_number(number_asked(asked)),
         }
+    }
+
+    /// The fault of a file that was not written.
+    pub fn of_write(fault: WriteFault) -> Stop
+        ensures { result ≡ Stop.Refused (plain_fault (number_of_write fault)) }
+    {
+        match fault {
+            WriteFault::NotOpened => Stop::of_number(NOT_OPENED),
+            WriteFault::NotWritten => Stop::of_number(WRITE_FAILED),
+            WriteFault::Memory => Stop::of_number(NO_MEMORY),
+        }
+    }
+}
+
+impl From<AllocError> for Stop {
+    fn from(_refused: AllocError) -> Stop
+        ensures { result ≡ Stop.Refused (plain_fault 90) }
+    {
+        Stop::of_number(NO_MEMORY)
     }
 }
 
@@ -56,14 +84,15 @@ fn number_asked(asked: Asked) -> u8
     }
 }
 
-/// The exit status of a command: 0 where its work is done; 2 for words that are no command; and else that of
-/// the fault's number.
+/// The exit status of a command: 0 where its work is done; 1 for an image whose cases may take too many steps; 2 for
+/// words that are no command, or of which two lead to one file that is written; and else that of the fault's number.
 pub fn exit_status(outcome: &Result<(), Stop>) -> u8
     ensures { result ≡ exit_status outcome.now }
 {
     match outcome {
         Ok(()) => 0,
-        Err(Stop::Usage) => 2,
+        Err(Stop::TooManySteps(..)) => 1,
+        Err(Stop::Usage | Stop::OneFile(..)) => 2,
         Err(Stop::Refused(fault)) => ending(fault.number),
     }
 }

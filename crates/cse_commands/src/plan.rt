@@ -1,7 +1,12 @@
 //! What the words of a command line ask for.
 
+ghost use Rattle.std.specs.Prelude.{◌≡◌, IfOk, codes, map, option_map};
+ghost use Rattle.clap.specs.Words.{HasMatchesOf, found_of, rows_of, subcommand_rows_of};
+ghost use Rattle.cse_commands.specs.Words.{AreRunPaths, IsAsked, IsCommandOf, IsEntered, IsFlag, IsGiven, MayBeGiven, MayBeNumber, program};
+
+use crate::words::program_words;
 use clap::error::ErrorKind;
-use clap::{Arg, ArgAction, ArgMatches, Command as Clap, Error};
+use clap::{ArgMatches, Error};
 use std::alloc::{AllocError, Global};
 
 /// What the program is asked to do, with the paths that it is given.
@@ -13,10 +18,13 @@ pub enum Command<'a> {
     Verify { dict: &'a str, image: &'a str },
     /// `csbatch compile DICT LOGIC IMAGE [--messages F] [--order F]`: make an image of logic.
     Compile(CompilePaths<'a>),
-    /// `csbatch run DICT IMAGE DATA OUT LIST FREQ [--decks F]`: run an image over a data file.
+    /// `csbatch run DICT IMAGE DATA OUT LIST FREQ [--decks F] [--case-steps N] [--sync]`: run an image over a data file.
     Run(RunPaths<'a>),
-    /// `csbatch edit DICT LOGIC DATA OUT LIST FREQ [--messages F] [--order F] [--decks F]`: run logic over a data file.
+    /// `csbatch edit DICT LOGIC DATA OUT LIST FREQ [--messages F] [--order F]`, and the options of `run`: run logic over a
+    /// data file.
     Edit(EditPaths<'a>),
+    /// `csbatch --version`: tell the version.
+    Version,
 }
 
 /// The files of `compile`.
@@ -31,7 +39,7 @@ pub struct CompilePaths<'a> {
     pub order: Option<&'a str>,
 }
 
-/// The files of `run`.
+/// The files of `run`, and what is asked beside them.
 #[derive(Clone, Copy, Debug, PartialEq, Eq)]
 pub struct RunPaths<'a> {
     pub dict: &'a str,
@@ -42,6 +50,10 @@ pub struct RunPaths<'a> {
     pub freq: &'a str,
     /// The hot decks that are kept between runs.
     pub decks: Option<&'a str>,
+    /// How many steps a case may take, by the bound of the image.
+    pub case_steps: Option<u64>,
+    /// Whether the disk is to have the outputs before what was counted is told.
+    pub sync: bool,
 }
 
 /// The files of `edit`: those of `compile` and of `run`, with no image between.
@@ -82,13 +94,29 @@ impl From<Error> for PlanFault {
 
 /// The command that the words after the program's name ask for. Every other answer of the library,
 /// help too, is usage.
-pub fn plan<'a>(alloc: Global, words: &'a [&'a str]) -> Result<Command<'a>, PlanFault> {
+pub fn plan<'a>(alloc: Global, words: &'a [&'a str]) -> Result<Command<'a>, PlanFault>
+    // Each path and option is the word that stands for it.
+    ensures { IfOk result (IsAsked (map (λ word. word.now) words.entry.now)) }
+{
+    if let ["--version"] = words {
+        return Ok(Command::Version);
+    }
     let matches = matches_of(alloc, words)?;
     command_of(&matches)
 }
 
+/// What the library finds in the words.
+fn matches_of<'a>(alloc: Global, words: &'a [&'a str]) -> Result<ArgMatches<'a>, PlanFault>
+    ensures { IfOk result (HasMatchesOf program (map (λ word. word.now) words.entry.now)) }
+{
+    let program = program_words(alloc)?;
+    Ok(program.try_get_matches_from(words)?)
+}
+
 /// The command that was found.
-fn command_of<'a>(matches: &ArgMatches<'a>) -> Result<Command<'a>, PlanFault> {
+fn command_of<'a>(matches: &ArgMatches<'a>) -> Result<Command<'a>, PlanFault>
+    ensures { IfOk result (IsEntered (subcommand_rows_of matches.now)) }
+{
     match matches.subcommand() {
         Some(("try", matches)) => try_of(matches),
         Some(("verify", matches)) => verify_of(matches),
@@ -99,139 +127,110 @@ fn command_of<'a>(matches: &ArgMatches<'a>) -> Result<Command<'a>, PlanFault> {
     }
 }
 
-/// What the library finds in the words.
-fn matches_of<'a>(alloc: Global, words: &'a [&'a str]) -> Result<ArgMatches<'a>, PlanFault> {
-    let program = program_words(alloc)?;
-    Ok(program.try_get_matches_from(words)?)
-}
-
-/// The words of all commands.
-fn program_words<'a>(alloc: Global) -> Result<Clap<'a>, AllocError> {
-    let words = try_words(alloc)?;
-    let program = Clap::new(alloc, "csbatch")
-        .no_binary_name(true)
-        .subcommand(words)?;
-    let program = program.subcommand(verify_words(alloc)?)?;
-    let program = program.subcommand(compile_words(alloc)?)?;
-    let program = program.subcommand(run_words(alloc)?)?;
-    program.subcommand(edit_words(alloc)?)
-}
-
-/// A path that has to be given.
-fn path<'a>(alloc: Global, name: &'a str) -> Arg<'a> {
-    Arg::new(alloc, name).required(true).action(ArgAction::Set)
-}
-
-/// A path that may be given after its name.
-fn named_path<'a>(alloc: Global, name: &'a str) -> Arg<'a> {
-    Arg::new(alloc, name).long(name).action(ArgAction::Set)
-}
-
-/// `try IMAGE`.
-fn try_words<'a>(alloc: Global) -> Result<Clap<'a>, AllocError> {
-    Clap::new(alloc, "try").arg(path(alloc, "IMAGE"))
-}
-
-/// `verify DICT IMAGE`.
-fn verify_words<'a>(alloc: Global) -> Result<Clap<'a>, AllocError> {
-    Clap::new(alloc, "verify")
-        .arg(path(alloc, "DICT"))?
-        .arg(path(alloc, "IMAGE"))
-}
-
-/// `compile DICT LOGIC IMAGE [--messages F] [--order F]`.
-fn compile_words<'a>(alloc: Global) -> Result<Clap<'a>, AllocError> {
-    let paths = Clap::new(alloc, "compile")
-        .arg(path(alloc, "DICT"))?
-        .arg(path(alloc, "LOGIC"))?
-        .arg(path(alloc, "IMAGE"))?;
-    paths
-        .arg(named_path(alloc, "messages"))?
-        .arg(named_path(alloc, "order"))
-}
-
-/// `run DICT IMAGE DATA OUT LIST FREQ [--decks F]`.
-fn run_words<'a>(alloc: Global) -> Result<Clap<'a>, AllocError> {
-    let read = Clap::new(alloc, "run")
-        .arg(path(alloc, "DICT"))?
-        .arg(path(alloc, "IMAGE"))?
-        .arg(path(alloc, "DATA"))?;
-    let written = read
-        .arg(path(alloc, "OUT"))?
-        .arg(path(alloc, "LIST"))?
-        .arg(path(alloc, "FREQ"))?;
-    written.arg(named_path(alloc, "decks"))
-}
-
-/// `edit DICT LOGIC DATA OUT LIST FREQ [--messages F] [--order F] [--decks F]`.
-fn edit_words<'a>(alloc: Global) -> Result<Clap<'a>, AllocError> {
-    let read = Clap::new(alloc, "edit")
-        .arg(path(alloc, "DICT"))?
-        .arg(path(alloc, "LOGIC"))?
-        .arg(path(alloc, "DATA"))?;
-    let written = read
-        .arg(path(alloc, "OUT"))?
-        .arg(path(alloc, "LIST"))?
-        .arg(path(alloc, "FREQ"))?;
-    written
-        .arg(named_path(alloc, "messages"))?
-        .arg(named_path(alloc, "order"))?
-        .arg(named_path(alloc, "decks"))
-}
-
-fn try_of<'a>(matches: &ArgMatches<'a>) -> Result<Command<'a>, PlanFault> {
-    match matches.get_str("IMAGE") {
-        Some(image) => Ok(Command::Try { image }),
+/// A word that has to be given.
+fn given<'a>(matches: &ArgMatches<'a>, name: &str) -> Result<&'a str, PlanFault>
+    ensures { IfOk result (IsGiven (rows_of (found_of matches.now)) name.now) }
+{
+    match matches.get_str(name) {
+        Some(word) => Ok(word),
         None => Err(PlanFault::Usage),
     }
 }
 
-fn verify_of<'a>(matches: &ArgMatches<'a>) -> Result<Command<'a>, PlanFault> {
-    match (matches.get_str("DICT"), matches.get_str("IMAGE")) {
-        (Some(dict), Some(image)) => Ok(Command::Verify { dict, image }),
-        _ => Err(PlanFault::Usage),
+/// A word that may be given.
+fn may<'a>(matches: &ArgMatches<'a>, name: &str) -> Option<&'a str>
+    ensures { MayBeGiven (rows_of (found_of matches.now)) name.now result }
+{
+    matches.get_str(name)
+}
+
+/// Whether a name is given.
+fn is_given(matches: &ArgMatches<'_>, name: &str) -> bool
+    ensures { IsFlag (rows_of (found_of matches.now)) name.now result }
+{
+    matches.get_flag(name)
+}
+
+/// The number that a word is, if there is one.
+fn number_of(word: Option<&str>) -> Result<Option<u64>, PlanFault>
+    ensures { IfOk result (MayBeNumber (option_map (λ w. w.now) word.entry)) }
+{
+    match word {
+        Some(word) => match word.parse() {
+            Ok(number) => Ok(Some(number)),
+            Err(_) => Err(PlanFault::Usage),
+        },
+        None => Ok(None),
     }
 }
 
-fn compile_of<'a>(matches: &ArgMatches<'a>) -> Result<Command<'a>, PlanFault> {
-    let given = |name: &str| matches.get_str(name).ok_or(PlanFault::Usage);
+/// `try`.
+fn try_of<'a>(matches: &ArgMatches<'a>) -> Result<Command<'a>, PlanFault>
+    ensures { IfOk result (IsCommandOf (rows_of (found_of matches.now)) (codes "try")) }
+{
+    let image = given(matches, "IMAGE")?;
+    Ok(Command::Try { image })
+}
+
+/// `verify`.
+fn verify_of<'a>(matches: &ArgMatches<'a>) -> Result<Command<'a>, PlanFault>
+    ensures { IfOk result (IsCommandOf (rows_of (found_of matches.now)) (codes "verify")) }
+{
+    Ok(Command::Verify {
+        dict: given(matches, "DICT")?,
+        image: given(matches, "IMAGE")?,
+    })
+}
+
+/// `compile`.
+fn compile_of<'a>(matches: &ArgMatches<'a>) -> Result<Command<'a>, PlanFault>
+    ensures { IfOk result (IsCommandOf (rows_of (found_of matches.now)) (codes "compile")) }
+{
     Ok(Command::Compile(CompilePaths {
-        dict: given("DICT")?,
-        logic: given("LOGIC")?,
-        image: given("IMAGE")?,
-        messages: matches.get_str("messages"),
-        order: matches.get_str("order"),
+        dict: given(matches, "DICT")?,
+        logic: given(matches, "LOGIC")?,
+        image: given(matches, "IMAGE")?,
+        messages: may(matches, "messages"),
+        order: may(matches, "order"),
     }))
 }
 
-fn run_of<'a>(matches: &ArgMatches<'a>) -> Result<Command<'a>, PlanFault> {
-    let given = |name: &str| matches.get_str(name).ok_or(PlanFault::Usage);
-    Ok(Command::Run(RunPaths {
-        dict: given("DICT")?,
-        image: given("IMAGE")?,
-        data: given("DATA")?,
-        out: given("OUT")?,
-        list: given("LIST")?,
-        freq: given("FREQ")?,
-        decks: matches.get_str("decks"),
-    }))
+/// The files of `run` with this image, and what is asked beside them.
+fn run_paths<'a>(matches: &ArgMatches<'a>, image: &'a str) -> Result<RunPaths<'a>, PlanFault>
+    ensures image { IfOk result (λ paths. paths.image ≡ image.entry) }
+    ensures rest { IfOk result (AreRunPaths (rows_of (found_of matches.now))) }
+{
+    let case_steps = may(matches, "case-steps");
+    Ok(RunPaths {
+        dict: given(matches, "DICT")?,
+        image,
+        data: given(matches, "DATA")?,
+        out: given(matches, "OUT")?,
+        list: given(matches, "LIST")?,
+        freq: given(matches, "FREQ")?,
+        decks: may(matches, "decks"),
+        case_steps: number_of(case_steps)?,
+        sync: is_given(matches, "sync"),
+    })
 }
 
-fn edit_of<'a>(matches: &ArgMatches<'a>) -> Result<Command<'a>, PlanFault> {
-    let given = |name: &str| matches.get_str(name).ok_or(PlanFault::Usage);
-    let logic = given("LOGIC")?;
+/// `run`.
+fn run_of<'a>(matches: &ArgMatches<'a>) -> Result<Command<'a>, PlanFault>
+    ensures { IfOk result (IsCommandOf (rows_of (found_of matches.now)) (codes "run")) }
+{
+    let image = given(matches, "IMAGE")?;
+    Ok(Command::Run(run_paths(matches, image)?))
+}
+
+/// `edit`.
+fn edit_of<'a>(matches: &ArgMatches<'a>) -> Result<Command<'a>, PlanFault>
+    ensures { IfOk result (IsCommandOf (rows_of (found_of matches.now)) (codes "edit")) }
+{
+    let logic = given(matches, "LOGIC")?;
     Ok(Command::Edit(EditPaths {
         logic,
-        messages: matches.get_str("messages"),
-        order: matches.get_str("order"),
-        run: RunPaths {
-            dict: given("DICT")?,
-            image: logic,
-            data: given("DATA")?,
-            out: given("OUT")?,
-            list: given("LIST")?,
-            freq: given("FREQ")?,
-            decks: matches.get_str("decks"),
-        },
+        messages: may(matches, "messages"),
+        order: may(matches, "order"),
+        run: run_paths(matches, logic)?,
     }))
 }

@@ -4,7 +4,8 @@
 ghost use Rattle.std.specs.Prelude.{◌≡◌, [], ◌∷◌};
 ghost use Rattle.std.specs.List.{flat_map};
 ghost use Rattle.cse_value.specs.Writing.{WritesAll, FailsAtErr};
-ghost use Rattle.cse_commands.specs.Printed.{text_line, text_lines, compiled_line, totals_line, steps_line, printed};
+ghost use Rattle.cse_commands.specs.declared.printing.TheConstants.{VERSION};
+ghost use Rattle.cse_commands.specs.Printed.{text_line, text_lines, compiled_line, totals_line, steps_line, printed, version_line};
 
 use cse_batch::Totals;
 use cse_report::Listing;
@@ -61,6 +62,17 @@ pub fn print<W: Output>(listing: &Listing, steps: u64, out: &mut W) -> Result<()
 {
     write_texts(listing, out)?;
     write_steps(steps, out)
+}
+
+/// The version of the program, as CHANGELOG.md has it.
+pub const VERSION: &str = "0.1.0";
+
+/// Writes the version.
+pub fn write_version<W: Output>(out: &mut W) -> Result<(), Failed>
+    ensures bytes { WritesAll result (W.contents out.old) (W.contents out.new) (version_line VERSION.now) }
+    ensures failed { FailsAtErr result (W.has_failed out.old) (W.has_failed out.new) }
+{
+    write_parts(&[b"csbatch ", VERSION.as_bytes(), b"\n"], out)
 }
 
 /// Writes how many bytes an image has that was made.

@@ -1,14 +1,19 @@
 //! `run`: an image over a data file, from the files of its words to those of its outputs.
 
-ghost use Rattle.std.specs.Prelude.{◌≡◌, ℕ, List, [], Option, Some, IfOk, IfErr, IfSome, IfNone};
+ghost use Rattle.std.specs.Prelude.{◌≡◌, ℕ, false, List, [], Option, Some, Ok, Err, IfOk, IfErr, IfSome, IfNone};
+ghost use Rattle.cse_code_bounds.specs.EventBound.{case_bound};
 ghost use Rattle.cse_decks.specs.Store.{Kept, StoreFits, first_kept};
 ghost use Rattle.cse_decks.specs.DeckText.{IsDeckText};
 ghost use Rattle.cse_batch.specs.RunClauses.{RunsWhole, contents, failures};
-ghost use Rattle.cse_commands.specs.Stops.{IsMemory, IsNotOpened, IsStoreOf, TellsDeckFault, TellsRunFault};
+ghost use Rattle.cse_commands.specs.Stops.{HasNumber, IsMemory, IsNotOpened, IsStoreOf, TellsDeckFault, TellsRunFault};
 ghost use Rattle.cse_commands.specs.Ran.{Tells};
+ghost use Rattle.cse_commands.specs.Allowed.{KeepsToSteps, steps_allowed};
 
-use crate::fault::{Fault, NO_MEMORY};
-use crate::files::{bytes_where_there, created, file_bytes, opened, write_file};
+use crate::apart::{see_apart, uses_of_run};
+use crate::fault::{Fault, NO_MEMORY, TOO_MANY};
+use crate::files::{
+    MOST_DECKS, MOST_IMAGE, bytes_where_there, created, file_bytes, file_text, opened, write_file,
+};
 use crate::gathered::Gathered;
 use crate::outcome::Stop;
 use crate::plan::RunPaths;
@@ -16,20 +21,26 @@ use cse_batch::{Totals, check_image, run};
 use cse_decks::{Store, load};
 use cse_devices::Noted;
 use cse_dict::Dictionary;
+use cse_files::sync;
 use cse_image::{Code, Program};
 use cse_value::{Input, Output, Reads, Writes};
 use cse_verify::Verified;
 use std::alloc::Global;
+use std::fs::OpenFile;
+use std::io::Write;
 use std::rt::Files;
 
 /// Runs an image over a data file, and tells what it counted.
 ///
-/// The dictionary, the image and the deck file, if it is named and there, are read and checked one after the
-/// other; then the data file and the outputs are opened, in the order of the words. The deck file is written after
-/// a run without fault. Faults are those of the dictionary (10 to 18), the image (60 to 69), the deck file (50 to
-/// 53) and the data (20 to 22); 70 to 72 of files and devices; and want of memory (90).
+/// No file is opened unless those that are written are apart from the others. The dictionary, the image and the deck
+/// file, if it is named and there, are read and checked one after the other; then the data file and the outputs are
+/// opened, in the order of the words. An image whose cases may take too many steps is refused before the deck file is
+/// read. After a run without fault the outputs are synced, if that is asked, and the deck file is written, whole or not at
+/// all. Faults are those of the dictionary (10 to 18), the image (60 to 69), the deck file (50 to 53) and the data (20 to
+/// 22); 70 to 72 of files and devices; and want of memory (90).
 pub fn run_files<R: Files + AllocGlobal>(rt: &R, paths: &RunPaths<'_>) -> Result<Totals, Stop> {
-    let text = file_bytes(rt, paths.dict)?;
+    see_apart(rt, &uses_of_run(rt.alloc(), paths)?)?;
+    let text = file_text(rt, paths.dict, TOO_MANY)?;
     match Dictionary::read(rt.alloc(), &text) {
         Ok(dictionary) => run_with(rt, &dictionary, paths),
         Err(error) => Err(Stop::Refused(Fault::of_dictionary(error))),
@@ -42,28 +53,63 @@ fn run_with<R: Files + AllocGlobal>(
     dictionary: &Dictionary,
     paths: &RunPaths<'_>,
 ) -> Result<Totals, Stop> {
-    let image = file_bytes(rt, paths.image)?;
+    let image = file_bytes(rt, paths.image, MOST_IMAGE)?;
     match check_image(rt.alloc(), dictionary, &image) {
-        Ok(verified) => run_verified(rt, &verified, paths),
+        Ok(verified) => run_within(rt, &verified, paths),
         Err(fault) => Err(Stop::Refused(Fault::of_check(fault))),
     }
 }
 
-/// The same with the program.
+/// The same with the program, unless a case of it may take more steps than are allowed.
+pub fn run_within<R: Files + AllocGlobal, C: Code>(
+    rt: &R,
+    verified: &Verified<'_, C>,
+    paths: &RunPaths<'_>,
+) -> Result<Totals, Stop>
+    // It is refused exactly where the bound of a case is above what is allowed.
+    ensures bounded { KeepsToSteps paths.now.case_steps (case_bound verified.now.image) result }
+{
+    allow_steps(paths.case_steps, verified.case_steps())?;
+    run_verified(rt, verified, paths)
+}
+
+/// Refuses a bound of a case that is above what is allowed.
+pub fn allow_steps(allowed: Option<u64>, steps: u64) -> Result<(), Stop>
+    ensures { result ≡ steps_allowed allowed steps }
+{
+    match allowed {
+        Some(allowed) if steps > allowed => Err(Stop::TooManySteps(steps, allowed)),
+        _ => Ok(()),
+    }
+}
+
+/// The run of a program.
 fn run_verified<R: Files + AllocGlobal, C: Code>(
     rt: &R,
     verified: &Verified<'_, C>,
     paths: &RunPaths<'_>,
-) -> Result<Totals, Stop> {
-    let Some(path) = paths.decks else {
-        let store = store_of(rt.alloc(), verified.program(), None)?;
-        let (totals, _) = run_over(rt, verified, store, paths)?.into_told()?;
-        return Ok(totals);
-    };
-    let text = bytes_where_there(rt, path)?;
+) -> Result<Totals, Stop>
+    ensures fault { IfErr result HasNumber }
+{
+    let text = bytes_where_there(rt, paths.decks, MOST_DECKS)?;
     let store = store_of(rt.alloc(), verified.program(), text.as_deref())?;
-    let (totals, decks) = run_over(rt, verified, store, paths)?.into_told()?;
-    write_file(rt, path, decks.bytes())?;
+    let ran = run_over(rt, verified, store, paths)?;
+    keep_decks(rt, paths.decks, ran.into_synced(paths.sync)?)
+}
+
+/// Writes the deck text to the deck file, if one is named.
+pub(crate) fn keep_decks<R: Files + AllocGlobal>(
+    rt: &R,
+    path: Option<&str>,
+    ran: (Totals, Gathered),
+) -> Result<Totals, Stop>
+    ensures totals { IfOk result (λ totals. totals ≡ ran.0) }
+    ensures fault { IfErr result HasNumber }
+{
+    let (totals, decks) = ran;
+    if let Some(path) = path {
+        write_file(rt, path, decks.bytes())?;
+    }
     Ok(totals)
 }
 
@@ -124,6 +170,41 @@ impl<F: Drop> Ran<F> {
     }
 }
 
+impl<F: Write + OpenFile + Drop> Ran<F> {
+    /// What the run came to. Of a whole run the disk has, if that is asked, what each output took. The files are closed.
+    pub(crate) fn into_synced(self, sync: bool) -> Result<(Totals, Gathered), Stop>
+        ensures whole { IfOk result (λ told. self.told ≡ Ok told) }
+        ensures as_told { sync ≡ false → result ≡ self.told }
+        ensures stopped { IfErr self.told (λ stop. result ≡ Err stop) }
+        ensures fault { IfErr self.told HasNumber → IfErr result HasNumber }
+    {
+        let Ran {
+            told,
+            out,
+            listing,
+            frequencies,
+            ..
+        } = self;
+        let told = told?;
+        if sync {
+            sync_output(out)?;
+            sync_output(listing)?;
+            sync_output(frequencies)?;
+        }
+        Ok(told)
+    }
+}
+
+/// Sees that the disk has what an output took: 71 where it has not.
+fn sync_output<F: Write + OpenFile + Drop>(output: Writes<Noted<F>>) -> Result<(), Stop>
+    ensures fault { IfErr result HasNumber }
+{
+    match sync(&output.into_inner()) {
+        Ok(()) => Ok(()),
+        Err(fault) => Err(Stop::of_write(fault)),
+    }
+}
+
 /// Runs the program over the data file to the files of the outputs, and gathers the deck text. The files are
 /// opened in the order of the words; `Err` tells that one can't be opened.
 pub fn run_over<R: Files + AllocGlobal, C: Code>(
@@ -141,6 +222,8 @@ pub fn run_over<R: Files + AllocGlobal, C: Code>(
         (failures (⟦<Writes<Noted<R::File>> as Output>⟧.has_failed ran.out) (⟦<Writes<Noted<R::File>> as Output>⟧.has_failed ran.listing)
         (⟦<Writes<Noted<R::File>> as Output>⟧.has_failed ran.frequencies)) ran.told) }
     ensures not_opened { IfErr result IsNotOpened }
+    ensures fault { IfErr result HasNumber }
+    ensures told { IfOk result (λ ran. IfErr ran.told HasNumber) }
 {
     let mut input = Reads::new(opened(rt, paths.data)?);
     let mut out = Writes::new(Noted::new(created(rt, paths.out)?));

@@ -8,7 +8,7 @@ ghost use Rattle.cse_commands.specs.FaultLine.{outcome_text};
 ghost use Rattle.cse_commands.specs.declared.start.TheConstants.{USAGE};
 
 use crate::commands::carry_out;
-use crate::fault::fault_line;
+use crate::fault::{fault_line, write_one_file, write_steps_above};
 use crate::outcome::{Stop, exit_status};
 use cse_value::{Failed, Output, Writes, write_all};
 use std::process::ExitCode;
@@ -19,17 +19,23 @@ pub const USAGE: &str = "usage: one of
 
   csbatch compile DICT LOGIC IMAGE [--messages F] [--order F]  reads DICT, LOGIC and each F; writes IMAGE; ends with 0, 1 or 3
   csbatch verify DICT IMAGE                                    reads DICT and IMAGE; writes no file; ends with 0, 1 or 3
-  csbatch run DICT IMAGE DATA OUT LIST FREQ [--decks F]        reads DICT, IMAGE, F where it is there, and DATA; writes OUT, LIST, FREQ and F; ends with 0, 1 or 3
-  csbatch edit DICT LOGIC DATA OUT LIST FREQ [--messages F] [--order F] [--decks F]
+  csbatch run DICT IMAGE DATA OUT LIST FREQ [--decks F] [--case-steps N] [--sync]
+                                                               reads DICT, IMAGE, F where it is there, and DATA; writes OUT, LIST, FREQ and F; ends with 0, 1 or 3
+  csbatch edit DICT LOGIC DATA OUT LIST FREQ [--messages F] [--order F] [--decks F] [--case-steps N] [--sync]
                                                                reads DICT, LOGIC, each F (that of --decks where it is there) and DATA; writes OUT, LIST, FREQ and the F of --decks; ends with 0, 1 or 3
   csbatch try IMAGE                                            reads IMAGE; writes no file; ends with 0, 1 or 3
+  csbatch --version                                            prints the version; ends with 0 or 3
 
 compile makes an image of logic, with its messages and its edit order. verify tells whether an image may run with a
 dictionary, and how many steps it may take. run edits a data file, and begins with the hot decks of a file. edit does
 what compile and then run do, with no image between. try runs what an image does before the first case, and prints its
 messages.
-The status is 0 where it is done, 1 where something was refused, 2 for words that are no command, and 3 where a file, a
-device or memory failed. At 1 and 3 a line on standard error tells the fault.
+--case-steps refuses an image of which a case may take more than N steps, by the bound that verify prints. --sync waits
+until the disk has OUT, LIST and FREQ. IMAGE and the F of --decks are written whole or not at all.
+No file that is written may be one of the others, but a device as /dev/null.
+The status is 0 where it is done, 1 where something was refused, 2 for words that are no command or of which two lead to
+one file, and 3 where a file, a device or memory failed. At 1, 2 and 3 standard error tells why, in a line where the
+words are a command.
 ";
 
 /// The program: it does what its words ask for, and tells on standard error what it has not done.
@@ -47,8 +53,8 @@ pub fn carry_out_and_tell<R: Env + Files + Print + AllocGlobal, W: Output>(
     tell(&outcome, errors)
 }
 
-/// Tells what a command came to, all of it or a front where the device fails: the fault as a line, the usage where its
-/// words are none, and of work that is done nothing.
+/// Tells what a command came to, all of it or a front where the device fails: the fault as a line, two files that are one
+/// or steps that are too many as a sentence, the usage where its words are none, and of work that is done nothing.
 fn write_outcome<W: Output>(outcome: &Result<(), Stop>, errors: &mut W) -> Result<(), Failed>
     ensures bytes { WritesAll result (W.contents errors.old) (W.contents errors.new) (outcome_text USAGE.now outcome.now) }
     ensures failed { FailsAtErr result (W.has_failed errors.old) (W.has_failed errors.new) }
@@ -56,11 +62,13 @@ fn write_outcome<W: Output>(outcome: &Result<(), Stop>, errors: &mut W) -> Resul
     match outcome {
         Ok(()) => Ok(()),
         Err(Stop::Usage) => write_all(errors, USAGE.as_bytes()),
+        Err(Stop::OneFile(first, second)) => write_one_file(*first, *second, errors),
+        Err(Stop::TooManySteps(steps, allowed)) => write_steps_above(*steps, *allowed, errors),
         Err(Stop::Refused(fault)) => fault_line(fault, errors),
     }
 }
 
-/// Tells the fault of a command as a line, and the usage where its words are none; of work that is done nothing. What the
+/// Tells what a command came to as a line, and the usage where its words are none; of work that is done nothing. What the
 /// device doesn't take is not told. Answers the exit status.
 pub fn tell<W: Output>(outcome: &Result<(), Stop>, errors: &mut W) -> u8
     ensures status { result ≡ exit_status outcome.now }

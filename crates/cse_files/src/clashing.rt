@@ -23,6 +23,7 @@ pub struct Named<'a> {
 /// read and written.
 pub fn first_clash(files: &[Named<'_>]) -> Option<(usize, usize)>
     ensures none { IfNone result ((d : Named) (n : ℕ) → n < length files.now → clash_before (take n files.now) (slice_index_or files.now n d) ≡ None) }
+    ensures within { IfSome result (λ found. (found.0 < found.1) × (found.1 < length files.now)) }
     ensures clash { IfSome result (λ found. (d : Named) → clash_before (take found.1 files.now) (slice_index_or files.now found.1 d) ≡ Some found.0) }
 {
     for (later, file) in files.iter().enumerate() {
