@@ -1,15 +1,15 @@
 #!/usr/bin/env python3
-"""Tries a program in Rattle, and one in C, which build, verify and run an edit in memory: in a workspace of their own.
+"""Tries a program in Rattle, and one in C, which build, verify and run an edit.
 
 usage: embed.py FOLDER [rattle | try | c]     (rattle, if it isn't said)
 
     rattle   `rt run` proves what isn't proved yet, builds rattle/main.rt.txt and runs it
     try      `rt try` runs it without proof
-    c        `rt lib` proves what isn't proved yet and makes the static library of c/lib.rt.txt; gcc links c/program.c with it
+    c        `rt lib` proves what isn't proved yet and makes the static library of crates/cse_ffi; gcc links c/program.c with it
 
-The gate wants every .rt of the repository in a crate of its own, so their names end in .txt here. FOLDER becomes the workspace:
-the libraries of this clone, what is built of them, the crate, and a crates.txt. It stays. What the program prints is compared
-with `printed` beside it, and the lines of docs/EMBEDDING.md with the program.
+The gate wants every .rt of the repository in a crate, so that of rattle ends in .txt here. FOLDER becomes its workspace: the
+libraries of this clone, what is built of them, the crate, and a crates.txt. For c it gets the program alone. It stays. What the
+program prints is compared with `printed` beside it, and the lines of docs/EMBEDDING.md with the program.
 """
 import glob
 import os
@@ -22,7 +22,7 @@ HERE = os.path.dirname(os.path.realpath(__file__))
 ROOT = os.path.dirname(os.path.dirname(HERE))
 KIT = os.path.dirname(os.path.dirname(os.path.realpath(shutil.which("rt") or "rt")))
 USES = "cse_value cse_image cse_dict cse_decks cse_verify cse_build cse_batch"
-CRATES = {"rattle": ("embedded", "", f"{USES} thiserror"), "c": ("csb", " staticlib", USES)}
+CRATE = "embedded"
 
 
 def read(path):
@@ -56,28 +56,28 @@ def place(name, to):
             shutil.copytree(source, f"{to}/{part}", copy_function=put if part == "out/rlib" else shutil.copy2)
 
 
-def workspace(to, kind):
+def workspace(to):
     """Makes the workspace; gives the folder of the crate."""
     lines = dict(re.findall(r"(?m)^(\w+):(.*)$", read(f"{ROOT}/crates.txt")))
-    crate, sort, uses = CRATES[kind]
     for name in used(lines):
         place(name, f"{to}/crates/{name}")
-    os.makedirs(f"{to}/crates/{crate}/src", exist_ok=True)
-    for file in glob.glob(f"{HERE}/{kind}/*.rt.txt"):
-        shutil.copy2(file, f"{to}/crates/{crate}/src/{os.path.basename(file).removesuffix('.txt')}")
+    os.makedirs(f"{to}/crates/{CRATE}/src", exist_ok=True)
+    for file in glob.glob(f"{HERE}/rattle/*.rt.txt"):
+        shutil.copy2(file, f"{to}/crates/{CRATE}/src/{os.path.basename(file).removesuffix('.txt')}")
     with open(f"{to}/crates.txt", "w", encoding="utf-8") as file:
         file.writelines(f"{name}:{lines[name]}\n" for name in used(lines))
-        file.write(f"{crate}{sort}: {uses}\n")
-    return f"{to}/crates/{crate}"
+        file.write(f"{CRATE}: {USES} thiserror\n")
+    return f"{to}/crates/{CRATE}"
 
 
-def linked(folder):
+def linked(to):
     """Makes the static library, and links the program in C with it; gives its path."""
-    subprocess.run(["rt", "lib"], cwd=folder, check=True)
-    libraries = [f"{folder}/out/lib{CRATES['c'][0]}.a", f"{KIT}/c/liblibc_c.a"]
-    words = ["gcc", "-Wall", "-I", f"{HERE}/c", "-o", f"{folder}/out/program", f"{HERE}/c/program.c", *libraries]
-    subprocess.run(words, check=True)
-    return f"{folder}/out/program"
+    crate = f"{ROOT}/crates/cse_ffi"
+    subprocess.run(["rt", "lib"], cwd=crate, check=True)
+    os.makedirs(to, exist_ok=True)
+    libraries = [f"{crate}/out/libcse_ffi.a", f"{KIT}/c/liblibc_c.a"]
+    subprocess.run(["gcc", "-Wall", "-I", f"{HERE}/c", "-o", f"{to}/program", f"{HERE}/c/program.c", *libraries], check=True)
+    return f"{to}/program"
 
 
 def differences(printed, kind):
@@ -91,8 +91,8 @@ def differences(printed, kind):
 
 def main(to, word="rattle"):
     kind = "c" if word == "c" else "rattle"
-    folder = workspace(to, kind)
-    command = [linked(folder)] if kind == "c" else ["rt", "try" if word == "try" else "run", "--"]
+    folder = to if kind == "c" else workspace(to)
+    command = [linked(to)] if kind == "c" else ["rt", "try" if word == "try" else "run", "--"]
     ran = subprocess.run(command, cwd=folder, stdout=subprocess.PIPE, text=True)
     found = [*differences(ran.stdout, kind)]
     print("\n".join(found) or "the program prints what it should")
