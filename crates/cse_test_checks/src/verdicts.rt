@@ -204,8 +204,7 @@ fn nests_64_deep(rt: HostRuntime) {
 fn passes_jumps(alloc: Global, empty: &Dictionary) -> bool {
     match program_of(alloc, empty, &[(PLAIN, &[(Op::Return, 0, 0, 0)])], &[]) {
         Some(program) => {
-            check_jumps(alloc, &program).is_ok()
-                && check_jumps_and_brackets(alloc, &program).is_ok()
+            check_jumps(&program).is_ok() && check_jumps_and_brackets(&program).is_ok()
         }
         None => false,
     }

@@ -3,7 +3,7 @@
 use crate::told::assert_bytes;
 use cse_commands::fault::{Fault, NO_MEMORY, ending, fault_line};
 use cse_commands::outcome::{Stop, exit_status};
-use cse_commands::plan::{Command, CompilePaths, PlanFault, RunPaths, plan};
+use cse_commands::plan::{Command, CompilePaths, EditPaths, PlanFault, RunPaths, plan};
 use cse_value::Writes;
 use std::test::Fail;
 
@@ -85,13 +85,18 @@ const WRONG: &[&[&str]] = &[
     &["--help"],
     &["help"],
     &["try", "--help"],
-    &["--version"],
+    &["--version", "--version"],
+    &["try", "--version"],
     &["compile", "d", "l"],
     &["compile", "d", "l", "i", "--decks", "k"],
     &["run"],
     &["run", "d", "i", "a", "o", "l"],
     &["run", "d", "i", "a", "o", "l", "f", "g"],
     &["run", "d", "i", "a", "o", "l", "f", "--decks"],
+    &["run", "d", "i", "a", "o", "l", "f", "--case-steps"],
+    &["run", "d", "i", "a", "o", "l", "f", "--case-steps", "x"],
+    &["run", "d", "i", "a", "o", "l", "f", "--case-steps", "-1"],
+    &["run", "d", "i", "a", "o", "l", "f", "--sync=1"],
     &["verify"],
     &["verify", "a", "b", "c"],
     &["verify", "--decks", "d", "a", "b"],
@@ -107,6 +112,8 @@ const FILES: RunPaths<'static> = RunPaths {
     list: "l",
     freq: "f",
     decks: None,
+    case_steps: None,
+    sync: false,
 };
 
 /// Words and what they ask for.
@@ -147,6 +154,48 @@ const RIGHT: &[(&[&str], Command<'static>)] = &[
             ..FILES
         }),
     ),
+    (
+        &[
+            "run",
+            "--sync",
+            "--case-steps",
+            "930",
+            "d",
+            "i",
+            "a",
+            "o",
+            "l",
+            "f",
+        ],
+        Command::Run(RunPaths {
+            case_steps: Some(930),
+            sync: true,
+            ..FILES
+        }),
+    ),
+    (
+        &[
+            "edit",
+            "d",
+            "i",
+            "a",
+            "o",
+            "l",
+            "f",
+            "--case-steps=0",
+            "--messages=m",
+        ],
+        Command::Edit(EditPaths {
+            logic: "i",
+            messages: Some("m"),
+            order: None,
+            run: RunPaths {
+                case_steps: Some(0),
+                ..FILES
+            },
+        }),
+    ),
+    (&["--version"], Command::Version),
 ];
 
 #[test]

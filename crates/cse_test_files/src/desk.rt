@@ -1,12 +1,14 @@
 //! The desk of a command: its words, the files of one folder, and what it prints. Each file that it opens is noted, and
 //! one of them may be amiss.
 
-use std::alloc::Global;
+use crate::sheet::Sheet;
+use std::alloc::{AllocError, Global};
 use std::cell::RefCell;
 use std::env::FillError;
 use std::fmt::Display;
-use std::fs::{Metadata, OpenOptions};
+use std::fs::{Metadata, OpenOptions, Permissions};
 use std::io::{self, ErrorKind};
+use std::path::PathBuf;
 use std::rt::{Env, Files};
 
 /// What is amiss at a desk.
@@ -19,8 +21,16 @@ pub enum Amiss {
     Kept(&'static str),
     /// A folder stands where a file should.
     Folder(&'static str),
-    /// What is written to a file goes to a full device.
+    /// What is written to a file, or beside it, finds no room.
     Full(&'static str),
+    /// What is written to a file, or beside it, is taken, and the disk has no room for it.
+    Late(&'static str),
+    /// A file is a link to another one.
+    Link(&'static str, &'static str),
+    /// A file is another one by a second name.
+    Name(&'static str, &'static str),
+    /// Nothing can be made beside a file.
+    Alone(&'static str),
     /// Nothing can be printed.
     Mute,
 }
@@ -41,6 +51,14 @@ pub struct Desk<'a, R> {
 }
 
 impl<R> Desk<'_, R> {
+    /// Where a file lies: in the folder, or by a whole path.
+    fn place(&self, path: &str) -> Result<String, AllocError> {
+        if path.starts_with('/') {
+            return format!(in self.alloc; "{path}");
+        }
+        format!(in self.alloc; "{}/{path}", self.room)
+    }
+
     /// Notes that a file is opened.
     fn note(&self, writes: bool, path: &str) -> io::Result<()> {
         let Ok(mut opened) = self.opened.try_borrow_mut() else {
@@ -123,50 +141,79 @@ impl<R> Print for Desk<'_, R> {
     }
 }
 
-// The commands open files, and do nothing else with them.
+/// Whether a path is that of a file, or of a new one beside it.
+fn is_by(path: &str, file: &str) -> bool {
+    path == file || is_beside(path, file)
+}
+
+/// Whether a path is that of a new file beside another one.
+fn is_beside(path: &str, file: &str) -> bool {
+    match path.strip_prefix(file) {
+        Some(rest) => rest.starts_with(".csbatch-"),
+        None => false,
+    }
+}
+
 impl<R: Files> Files for Desk<'_, R> {
-    type File = R::File;
+    type File = Sheet<R::File>;
 
     type Dir = R::Dir;
 
-    fn open_file(&self, how: &OpenOptions, path: &str) -> io::Result<R::File> {
+    fn open_file(&self, how: &OpenOptions, path: &str) -> io::Result<Sheet<R::File>> {
         let writes = how.asks_write();
         self.note(writes, path)?;
+        let is_full = matches!(self.amiss, Amiss::Full(file) if writes && is_by(path, file));
+        let is_late = matches!(self.amiss, Amiss::Late(file) if writes && is_by(path, file));
         match self.amiss {
             Amiss::Closed(file) if file == path => return denied(),
             Amiss::Kept(file) if file == path && writes => return denied(),
-            Amiss::Folder(file) if file == path => return self.files.open_file(how, self.room),
-            Amiss::Full(file) if file == path && writes => {
-                return self.files.open_file(how, "/dev/full");
+            Amiss::Alone(file) if is_beside(path, file) => return denied(),
+            Amiss::Folder(file) if file == path => {
+                let file = self.files.open_file(how, self.room)?;
+                return Ok(Sheet {
+                    file,
+                    is_full,
+                    is_late,
+                });
             }
             _ => {}
         }
-        let place = format!(in self.alloc; "{}/{path}", self.room)?;
-        self.files.open_file(how, place.as_str())
+        let place = self.place(path)?;
+        let file = self.files.open_file(how, place.as_str())?;
+        Ok(Sheet {
+            file,
+            is_full,
+            is_late,
+        })
     }
 
     fn open_dir(&self, _path: &str) -> io::Result<R::Dir> {
         unsupported()
     }
 
-    fn metadata(&self, _path: &str) -> io::Result<Metadata> {
-        unsupported()
+    fn metadata(&self, path: &str) -> io::Result<Metadata> {
+        let place = self.place(path)?;
+        self.files.metadata(place.as_str())
     }
 
-    fn symlink_metadata(&self, _path: &str) -> io::Result<Metadata> {
-        unsupported()
+    fn symlink_metadata(&self, path: &str) -> io::Result<Metadata> {
+        let place = self.place(path)?;
+        self.files.symlink_metadata(place.as_str())
     }
 
     fn copy(&self, _from: &str, _to: &str) -> io::Result<u64> {
         unsupported()
     }
 
-    fn rename(&self, _from: &str, _to: &str) -> io::Result<()> {
-        unsupported()
+    fn rename(&self, from: &str, to: &str) -> io::Result<()> {
+        let from = self.place(from)?;
+        let to = self.place(to)?;
+        self.files.rename(from.as_str(), to.as_str())
     }
 
-    fn remove_file(&self, _path: &str) -> io::Result<()> {
-        unsupported()
+    fn remove_file(&self, path: &str) -> io::Result<()> {
+        let place = self.place(path)?;
+        self.files.remove_file(place.as_str())
     }
 
     fn create_dir(&self, _path: &str) -> io::Result<()> {
@@ -179,5 +226,25 @@ impl<R: Files> Files for Desk<'_, R> {
 
     fn remove_dir_all<B: std::alloc::Allocator>(&self, _alloc: B, _path: &str) -> io::Result<()> {
         unsupported()
+    }
+
+    // A link of the folder leads to another file there.
+    fn canonicalize<B: std::alloc::Allocator>(
+        &self,
+        alloc: B,
+        path: &str,
+    ) -> io::Result<PathBuf<B>> {
+        let place = self.place(path)?;
+        self.files.read_link(alloc, place.as_str())
+    }
+
+    fn set_permissions(&self, path: &str, perm: Permissions) -> io::Result<()> {
+        let place = self.place(path)?;
+        self.files.set_permissions(place.as_str(), perm)
+    }
+
+    fn chown(&self, path: &str, uid: Option<u32>, gid: Option<u32>) -> io::Result<()> {
+        let place = self.place(path)?;
+        self.files.chown(place.as_str(), uid, gid)
     }
 }

@@ -25,7 +25,7 @@ const EDITS: Row = Row {
     ],
     files: &[DICT, LOGIC, DECKS, DATA, OUT, LIST, FREQ],
     amiss: Amiss::Nothing,
-    opened: "DICT LOGIC DECKS DATA >OUT >LIST >FREQ >DECKS",
+    opened: "DICT LOGIC DECKS DATA >OUT >LIST >FREQ >DECKS >DECKS.csbatch-1",
     made: &[
         ("OUT", "wanted/NEXT.out"),
         ("LIST", "wanted/NEXT.lst"),
@@ -64,6 +64,7 @@ pub static ROWS: [Row; 14] = [
     Row {
         name: "the sample is edited, and keeps its decks",
         files: &[DICT, LOGIC, ("DATA", "sample/AGE.dat")],
+        opened: "DICT LOGIC DECKS DATA >OUT >LIST >FREQ >DECKS.csbatch-1",
         made: &[
             ("OUT", "wanted/AGE.out"),
             ("LIST", "wanted/AGE.lst"),
@@ -101,7 +102,7 @@ pub static ROWS: [Row; 14] = [
             ("DATA", "household/HOUSEHOLD.dat"),
             ("DECKS", "household/HOUSEHOLD.decks"),
         ],
-        opened: "DICT LOGIC MESSAGES ORDER DECKS DATA >OUT >LIST >FREQ >DECKS",
+        opened: "DICT LOGIC MESSAGES ORDER DECKS DATA >OUT >LIST >FREQ >DECKS >DECKS.csbatch-1",
         made: &[
             ("OUT", "household/expected/HOUSEHOLD.out"),
             ("LIST", "household/expected/HOUSEHOLD.listing"),
@@ -232,7 +233,11 @@ pub static ROWS: [Row; 14] = [
         name: "edit to a full LIST",
         amiss: Amiss::Full("LIST"),
         opened: "DICT LOGIC DECKS DATA >OUT >LIST >FREQ",
-        made: &[("OUT", "wanted/NEXT.out"), ("FREQ", "wanted/empty")],
+        made: &[
+            ("OUT", "wanted/NEXT.out"),
+            ("LIST", "wanted/empty"),
+            ("FREQ", "wanted/empty"),
+        ],
         told: "refused 71\n",
         ..STOPS
     },

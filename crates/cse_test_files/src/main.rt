@@ -8,19 +8,24 @@
 //!
 //! - `samples`: the samples, from their logic to their outputs.
 //! - `texts`: faults of `compile`. `images`: of `verify` and `try`. `runs`: of `run`. `edits`: `edit` of the
-//!   samples, and its faults. `words`: words that are no command.
-//! - `row`: what a row is, and how it is shown. `desk`: the runtime that a row is carried out over.
+//!   samples, and its faults. `words`: words that are no command. `apart`: words that lead to one file. `safe`: what stays
+//!   after a fault, what a disk refuses late, inputs that never end, steps of a case, and the version.
+//! - `row`: what a row is, and how it is shown. `desk`: the runtime that a row is carried out over. `sheet`: an open file
+//!   of it.
 //!
 //! Behind the rows the program starts as csbatch does, with the words that it was given. These name an image that is
 //! refused, so the status is 1, and nothing more is printed.
 #![tactic(auto)]
 
+mod apart;
 mod desk;
 mod edits;
 mod images;
 mod row;
 mod runs;
+mod safe;
 mod samples;
+mod sheet;
 mod texts;
 mod words;
 
@@ -39,12 +44,25 @@ fn main(rt: HostRuntime) -> ExitCode {
 
 /// Shows all rows.
 fn show_all<R: Files + Print + AllocGlobal + Clone + Drop>(rt: &R) -> io::Result<()> {
+    show_early(rt)?;
+    show_late(rt)
+}
+
+/// The samples, and rows of commands that run nothing.
+fn show_early<R: Files + Print + AllocGlobal + Clone + Drop>(rt: &R) -> io::Result<()> {
     show_samples(rt)?;
     show_texts(rt)?;
     show_images(rt)?;
-    show_words(rt)?;
+    show_words(rt)
+}
+
+/// Rows of runs and edits, and of what stays of files.
+fn show_late<R: Files + Print + AllocGlobal + Clone + Drop>(rt: &R) -> io::Result<()> {
     show_runs(rt)?;
-    show_edits(rt)
+    show_edits(rt)?;
+    show_apart(rt)?;
+    show_refused_late(rt)?;
+    show_safe(rt)
 }
 
 fn show_samples<R: Files + Print + AllocGlobal + Clone + Drop>(rt: &R) -> io::Result<()> {
@@ -69,6 +87,18 @@ fn show_runs<R: Files + Print + AllocGlobal + Clone + Drop>(rt: &R) -> io::Resul
 
 fn show_edits<R: Files + Print + AllocGlobal + Clone + Drop>(rt: &R) -> io::Result<()> {
     show_rows(rt, &edits::ROWS)
+}
+
+fn show_apart<R: Files + Print + AllocGlobal + Clone + Drop>(rt: &R) -> io::Result<()> {
+    show_rows(rt, &apart::ROWS)
+}
+
+fn show_refused_late<R: Files + Print + AllocGlobal + Clone + Drop>(rt: &R) -> io::Result<()> {
+    show_rows(rt, &safe::REFUSED)
+}
+
+fn show_safe<R: Files + Print + AllocGlobal + Clone + Drop>(rt: &R) -> io::Result<()> {
+    show_rows(rt, &safe::ROWS)
 }
 
 fn show_rows<R: Files + Print + AllocGlobal + Clone + Drop>(

@@ -5,6 +5,7 @@ use cse_commands::start::{USAGE, carry_out_and_tell};
 use cse_value::Writes;
 use std::alloc::AllocError;
 use std::cell::RefCell;
+use std::os::unix::fs::symlink;
 use std::rt::Files;
 use std::{fs, io};
 
@@ -24,7 +25,8 @@ pub struct Row {
     pub amiss: Amiss,
     /// The files that it opens, in this order, with `>` before each that is written, and blanks between them.
     pub opened: &'static str,
-    /// The files that it makes, or makes anew. All others stay, and no other is made.
+    /// The files that it makes, or makes anew, and those that are another one by a link or a second name. All others stay,
+    /// and no other is made.
     pub made: &'static [Kept],
     pub printed: &'static str,
     /// What stands on standard error; `usage` stands for the usage.
@@ -48,6 +50,7 @@ pub fn show<R: Files + Print + AllocGlobal + Clone + Drop>(rt: &R, row: &Row) ->
         let place = place(rt, path)?;
         fs::copy(rt, *stored, place.as_str())?;
     }
+    tie(rt, row.amiss)?;
     let found = carry_out(rt, row)?;
     let mut well = is_as_told(rt, row, &found)?;
     well &= has_its_files(rt, row)?;
@@ -55,6 +58,22 @@ pub fn show<R: Files + Print + AllocGlobal + Clone + Drop>(rt: &R, row: &Row) ->
         println!(rt; "{}: as it should be", row.name)?;
     }
     fs::remove_dir_all(rt, ROOM)
+}
+
+/// Makes the link, or the second name, that a row has.
+fn tie<R: Files + AllocGlobal>(rt: &R, amiss: Amiss) -> io::Result<()> {
+    match amiss {
+        Amiss::Link(file, other) => {
+            let place = place(rt, file)?;
+            symlink(rt, other, place.as_str())
+        }
+        Amiss::Name(file, other) => {
+            let place = place(rt, file)?;
+            let other = self::place(rt, other)?;
+            fs::hard_link(rt, other.as_str(), place.as_str())
+        }
+        _ => Ok(()),
+    }
 }
 
 /// Where a file of a row lies.

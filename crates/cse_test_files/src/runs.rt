@@ -235,21 +235,33 @@ pub static ROWS: [Row; 26] = [
     Row {
         name: "run to a full OUT",
         amiss: Amiss::Full("OUT"),
-        made: &[("LIST", "wanted/empty"), ("FREQ", "wanted/empty")],
+        made: &[
+            ("OUT", "wanted/empty"),
+            ("LIST", "wanted/empty"),
+            ("FREQ", "wanted/empty"),
+        ],
         told: "refused 71\n",
         ..RUNS
     },
     Row {
         name: "run to a full LIST",
         amiss: Amiss::Full("LIST"),
-        made: &[("OUT", "wanted/NEXT.out"), ("FREQ", "wanted/empty")],
+        made: &[
+            ("OUT", "wanted/NEXT.out"),
+            ("LIST", "wanted/empty"),
+            ("FREQ", "wanted/empty"),
+        ],
         told: "refused 71\n",
         ..RUNS
     },
     Row {
         name: "run to a full FREQ",
         amiss: Amiss::Full("FREQ"),
-        made: &[("OUT", "wanted/NEXT.out"), ("LIST", "wanted/NEXT.lst")],
+        made: &[
+            ("OUT", "wanted/NEXT.out"),
+            ("LIST", "wanted/NEXT.lst"),
+            ("FREQ", "wanted/empty"),
+        ],
         told: "refused 71\n",
         ..RUNS
     },
@@ -263,7 +275,7 @@ pub static ROWS: [Row; 26] = [
     Row {
         name: "run to full decks",
         amiss: Amiss::Full("DECKS"),
-        opened: "DICT IMAGE DECKS DATA >OUT >LIST >FREQ >DECKS",
+        opened: "DICT IMAGE DECKS DATA >OUT >LIST >FREQ >DECKS >DECKS.csbatch-1",
         made: WHOLE,
         told: "refused 71\n",
         ..RUNS
@@ -271,7 +283,7 @@ pub static ROWS: [Row; 26] = [
     Row {
         name: "run without a place to print",
         amiss: Amiss::Mute,
-        opened: "DICT IMAGE DECKS DATA >OUT >LIST >FREQ >DECKS",
+        opened: "DICT IMAGE DECKS DATA >OUT >LIST >FREQ >DECKS >DECKS.csbatch-1",
         made: &[
             ("OUT", "wanted/NEXT.out"),
             ("LIST", "wanted/NEXT.lst"),

@@ -28,7 +28,7 @@ pub static ROWS: [Row; 10] = [
         words: &["compile", "SAMPLE.dcf", "AGE.apc", "AGE.img"],
         files: &[DICT, LOGIC],
         amiss: Amiss::Nothing,
-        opened: "SAMPLE.dcf AGE.apc >AGE.img",
+        opened: "SAMPLE.dcf AGE.apc >AGE.img.csbatch-1",
         made: &[IMAGE],
         printed: "compiled 451 bytes\n",
         told: "",
@@ -83,7 +83,7 @@ pub static ROWS: [Row; 10] = [
         ],
         files: &[DICT, IMAGE, ("AGE.dat", "sample/AGE.dat")],
         amiss: Amiss::Nothing,
-        opened: "SAMPLE.dcf AGE.img AGE.decks AGE.dat >AGE.out >AGE.lst >AGE.frq >AGE.decks",
+        opened: "SAMPLE.dcf AGE.img AGE.decks AGE.dat >AGE.out >AGE.lst >AGE.frq >AGE.decks.csbatch-1",
         made: &[
             ("AGE.out", "wanted/AGE.out"),
             ("AGE.lst", "wanted/AGE.lst"),
@@ -116,7 +116,7 @@ pub static ROWS: [Row; 10] = [
             ("AGE.decks", "wanted/AGE.decks"),
         ],
         amiss: Amiss::Nothing,
-        opened: "SAMPLE.dcf AGE.img AGE.decks NEXT.dat >AGE.out >AGE.lst >AGE.frq >AGE.decks",
+        opened: "SAMPLE.dcf AGE.img AGE.decks NEXT.dat >AGE.out >AGE.lst >AGE.frq >AGE.decks >AGE.decks.csbatch-1",
         made: &[
             ("AGE.out", "wanted/NEXT.out"),
             ("AGE.lst", "wanted/NEXT.lst"),
@@ -147,7 +147,7 @@ pub static ROWS: [Row; 10] = [
             ("HOUSEHOLD.img", "household/HOUSEHOLD.dcf"),
         ],
         amiss: Amiss::Nothing,
-        opened: "HOUSEHOLD.dcf HOUSEHOLD.apc HOUSEHOLD.mgf HOUSEHOLD.order >HOUSEHOLD.img",
+        opened: "HOUSEHOLD.dcf HOUSEHOLD.apc HOUSEHOLD.mgf HOUSEHOLD.order >HOUSEHOLD.img >HOUSEHOLD.img.csbatch-1",
         made: &[PROGRAM],
         printed: "compiled 5156 bytes\n",
         told: "",
@@ -184,7 +184,7 @@ pub static ROWS: [Row; 10] = [
             ("decks", "household/HOUSEHOLD.decks"),
         ],
         amiss: Amiss::Nothing,
-        opened: "HOUSEHOLD.dcf HOUSEHOLD.img decks HOUSEHOLD.dat >out >listing >frequencies >decks",
+        opened: "HOUSEHOLD.dcf HOUSEHOLD.img decks HOUSEHOLD.dat >out >listing >frequencies >decks >decks.csbatch-1",
         made: &[
             ("out", "household/expected/HOUSEHOLD.out"),
             ("listing", "household/expected/HOUSEHOLD.listing"),
@@ -215,7 +215,7 @@ pub static ROWS: [Row; 10] = [
             ("decks", "household/expected/HOUSEHOLD.decks"),
         ],
         amiss: Amiss::Nothing,
-        opened: "HOUSEHOLD.dcf HOUSEHOLD.img decks LATER.dat >out >listing >frequencies >decks",
+        opened: "HOUSEHOLD.dcf HOUSEHOLD.img decks LATER.dat >out >listing >frequencies >decks >decks.csbatch-1",
         made: &[
             ("out", "wanted/LATER.out"),
             ("listing", "wanted/LATER.listing"),

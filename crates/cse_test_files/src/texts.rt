@@ -178,12 +178,14 @@ pub static ROWS: [Row; 20] = [
     Row {
         name: "compile to a full device",
         amiss: Amiss::Full("IMAGE"),
+        opened: "DICT LOGIC MESSAGES ORDER >IMAGE >IMAGE.csbatch-1",
         told: "refused 71\n",
         ..COMPILES
     },
     Row {
         name: "compile without a place to print",
         amiss: Amiss::Mute,
+        opened: "DICT LOGIC MESSAGES ORDER >IMAGE >IMAGE.csbatch-1",
         made: &[IMAGE],
         told: "refused 71\n",
         ..COMPILES

@@ -23,7 +23,7 @@ const LINES: &[u8] = b"H001NE 4TOWN\nP001NE11 35ANNA\nP001NE22 30BOB\nP001NE13  
 /// The listing of a run over it that lists nothing.
 const NOTHING: &[u8] = b"CSEB LISTING 1\nSUMMARY\ncases 1\nlines 4\nunseen 0\nEND\n";
 
-pub(crate) static ROWS: [Row; 24] = [
+pub(crate) static ROWS: [Row; 27] = [
     Row {
         name: "items of a case",
         logic: b"PROC QUEST errmsg('a %d %s %d %s', HH, AREA, ROOMS, TOWN); errmsg('b %d %s %d', AGE(2), FIRST(2), SEX(3));\n\
@@ -147,6 +147,34 @@ for i in PERSON do if FIRST < 'BZ' then FIRST = FIRST(1); endif; enddo; TOWN = (
         totals: (1, 4, 0),
         out: b"H001NE 4ANNA\nP001NE11 35ANNA\nP001NE22 30ANNA\nP001NE13  5EVE\n",
         listing: NOTHING,
+        ..EMPTY
+    },
+    Row {
+        name: "texts beyond ASCII, where all was ASCII, and behind the columns that a line has",
+        logic: b"PROC QUEST TOWN = 'Z\xc3\xbcrich'; FIRST(1) = '\xc3\x85sa'; FIRST(2) = '\xf0\x9f\x98\x80'; SEX(2) = 1;",
+        data: b"H001NE 4\nP001NE11 35ANNA\nP001NE22 30\nP001NE13  5EVE\n",
+        totals: (1, 4, 0),
+        out: b"H001NE 4Z\xc3\xbcri\nP001NE11 35\xc3\x85sa \nP001NE12 30\xf0\x9f\x98\x80\nP001NE13  5EVE\n",
+        listing: NOTHING,
+        ..EMPTY
+    },
+    Row {
+        name: "letters beyond ASCII late in a line, past its record, and a text put before them",
+        logic: b"PROC AGE AGE = AGE + 1; FIRST = 'J\xc3\xb6';",
+        data: b"P001NE11 35ANNA0123456789012345678901234567890123456789\xc3\xa9z\nP001NE22 30BOB\n",
+        totals: (1, 2, 0),
+        out: b"P001NE11 36J\xc3\xb6   123456789012345678901234567890123456789\xc3\xa9z\nP001NE22 31J\xc3\xb6 \n",
+        listing: b"CSEB LISTING 1\nSUMMARY\ncases 1\nlines 2\nunseen 0\nEND\n",
+        ..EMPTY
+    },
+    Row {
+        name: "a line of blanks alone, which is unseen, and items put behind the columns that lines have",
+        logic: b"PROC QUEST errmsg('%d %d', totocc(HOUSE), totocc(PERSON)); ROOMS = 5; FIRST(1) = 'AL';",
+        data: b"  \nH001\nP001\n",
+        totals: (1, 3, 1),
+        out: b"  \nH001   5\nP001       AL\n",
+        listing: b"CSEB LISTING 1\nCASE [     ]\nU 1 unknown\nCASE [001  ]\nM 0 1 1\n\
+SUMMARY\ncases 1\nlines 3\nunseen 1\nmessage 0 1 %d %d\nEND\n",
         ..EMPTY
     },
     Row {

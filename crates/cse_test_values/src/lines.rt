@@ -4,7 +4,7 @@
 ghost use Rattle.std.specs.Prelude.{None};
 
 use cse_dict::Dictionary;
-use cse_lines::RunReader;
+use cse_lines::{Columns, Run, RunReader};
 use cse_value::{Failed, Input};
 use std::alloc::{AllocError, Global};
 
@@ -172,6 +172,104 @@ fn outcome(
         }
     }
     ((0, most), reader.reads())
+}
+
+/// A file, and the columns of its lines: characters as they came, and blanks up to the width of the line.
+struct Laid {
+    file: &'static [u8],
+    columns: &'static [&'static str],
+}
+
+/// Letters beyond ASCII late in a line, behind lines of ASCII; lines of ASCII that are read over one beyond; a text that has
+/// more bytes than the line before has columns; lines of blanks alone, which are padded as far as ids reach.
+static LAID: [Laid; 4] = [
+    Laid {
+        file: b"P001234\nP001abcdefghijklmnopqrstuvwxyzabcdefghijklmn\xc3\xa9o\nP0015\nP001\xe2\x82\xac\n",
+        columns: &[
+            "P001234",
+            "P001abcdefghijklmnopqrstuvwxyzabcdefghijklmn\u{e9}o",
+            "P0015 ",
+            "P001\u{20ac} ",
+        ],
+    },
+    Laid {
+        file: b"P001\xc3\xa9\xc3\xa912\nP00134567\nP002abc\nP003\n",
+        columns: &["P001\u{e9}\u{e9}12", "P00134567", "P002abc", "P003  "],
+    },
+    Laid {
+        file: b"P001\nP001\xf0\x9f\x98\x80\xf0\x9f\x98\x80\xf0\x9f\x98\x80\nP001x",
+        columns: &["P001  ", "P001\u{1f600}\u{1f600}\u{1f600}", "P001x "],
+    },
+    Laid {
+        file: b"\n  \n      \nP00\xc3\xa9\n",
+        columns: &["    ", "    ", "      ", "P00\u{e9}  "],
+    },
+];
+
+/// Whether these are the columns.
+fn are_columns(columns: Columns<'_>, text: &str) -> bool {
+    let mut at = 0;
+    for character in text.chars() {
+        if at >= columns.len() || columns.at(at) != character {
+            return false;
+        }
+        at += 1;
+    }
+    at == columns.len()
+}
+
+/// Whether the lines of a run have these columns from a place on, and the place behind them.
+fn place_behind(run: &Run, columns: &[&str], first: usize) -> Option<usize> {
+    let mut at = first;
+    for i in 0..run.len() {
+        let text: &str = columns.get(at)?;
+        if !are_columns(run.columns(i), text) {
+            return None;
+        }
+        at += 1;
+    }
+    Some(at)
+}
+
+/// Whether the lines of a file have their columns.
+fn is_laid(alloc: Global, dictionary: &Dictionary, laid: &Laid) -> bool {
+    let mut input = Pieces {
+        bytes: laid.file,
+        size: 3,
+        breaks: usize::MAX,
+        failed: false,
+    };
+    let mut reader = RunReader::new(alloc, dictionary);
+    let mut at = 0;
+    for _ in 0..99 {
+        let Ok(given) = reader.next(&mut input) else {
+            return false;
+        };
+        let Some(run) = given else {
+            return at == laid.columns.len();
+        };
+        let Some(behind) = place_behind(&run, laid.columns, at) else {
+            return false;
+        };
+        at = behind;
+    }
+    false
+}
+
+/// The place of the first file whose lines have other columns, or how many files there are.
+fn first_laid_otherwise(alloc: Global, rows: &[Laid]) -> Option<usize> {
+    let dictionary = Dictionary::read(alloc, PERSONS.as_bytes()).ok()?;
+    for (i, laid) in rows.iter().enumerate() {
+        if !is_laid(alloc, &dictionary, laid) {
+            return Some(i);
+        }
+    }
+    Some(rows.len())
+}
+
+#[test]
+fn columns_of_lines(rt: HostRuntime) {
+    assert!(rt; first_laid_otherwise(rt.alloc(), &LAID) == Some(4));
 }
 
 fn push_times(bytes: &mut Vec<u8>, piece: &[u8], times: usize) -> Result<(), AllocError> {
