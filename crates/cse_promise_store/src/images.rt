@@ -1,12 +1,13 @@
-//! A program from its bytes, and its bytes.
+//! A program from its bytes or its parts, and its bytes.
 
-ghost use Rattle.std.specs.Prelude.{◌≡◌, IfOk, IfErr, Ok, length};
-ghost use Rattle.cse_image_parts.specs.Image.{Image};
-ghost use Rattle.cse_image.specs.Spelling.{StandFor, spelling};
+ghost use Rattle.std.specs.Prelude.{◌≡◌, ℕ, List, IfOk, IfErr, MatchOption, Ok, length};
+ghost use Rattle.cse_image_parts.specs.Image.{Image, image_of};
+ghost use Rattle.cse_image.specs.Spelling.{Spells, StandFor, spelling};
 ghost use Rattle.cse_image.specs.Reading.{reading};
 ghost use Rattle.cse_image.specs.Place.{Answers, placed, out_of_memory};
 
 use cse_image::{Code, CodeView, ImageError, Program};
+use cse_image_parts::entries::Parts;
 use std::alloc::Global;
 
 /// `read_image`.
@@ -33,4 +34,11 @@ pub fn view_image(alloc: Global, bytes: &[u8]) -> Result<Program<CodeView>, Imag
     ensures exact { Answers (λ p. p) result (placed (length bytes.now) (reading bytes.now)) }
 {
     cse_image::view_image(alloc, bytes)
+}
+
+/// `Program::from_parts`.
+pub fn from_parts(parts: Parts) -> Option<Program>
+    ensures { MatchOption result ((bytes : List ℕ) → Spells (image_of parts) bytes → ⊥) (λ p. (p ≡ image_of parts) × Spells p (spelling p)) }
+{
+    Program::from_parts(parts)
 }

@@ -16,11 +16,11 @@ use cse_value::shape::Shape;
 use std::alloc::Global;
 
 /// `check_jumps_and_brackets`.
-pub fn check_jumps_and_brackets<C: Code>(alloc: Global, program: &Program<C>) -> Result<(), Refusal>
+pub fn check_jumps_and_brackets<C: Code>(program: &Program<C>) -> Result<(), Refusal>
     ensures keeps { OnOk result (AllKeepRules program.now) }
-    ensures fails { IfErr result (λ e. IsOutOfMemory e ⊎ FailsJumps program.now e) }
+    ensures fails { IfErr result (FailsJumps program.now) }
 {
-    cse_code_typing::check_jumps_and_brackets(alloc, program)
+    cse_code_typing::check_jumps_and_brackets(program)
 }
 
 /// `check_routine`.
