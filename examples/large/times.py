@@ -5,7 +5,7 @@ usage: examples/large/times.py CSBATCH [HOUSEHOLDS [DRAWN]]     (1,000,000, of w
 
 The generator of examples/census draws so many households, a fourth of them for each of four provinces; each province is put
 down as often as it takes to have all. So equal households come again, in other places of the file. It works in a folder of
-its own, on one disk, and prints a row of docs/LARGE.md for each way: seconds of processor time, seconds of the clock, and
+its own, on one disk, and prints a row of docs/SPEED.md for each way: seconds of processor time, seconds of the clock, and
 the most memory that a process had. The four parts together have to be the sum of the parts.
 """
 import os

@@ -87,7 +87,7 @@ class Expressions:
         first = self.at
         word = self.take()
         if word.low == "!":
-            word.text = "not" if self.here().space else "not "
+            word.text = f"{'' if word.space else ' '}not{'' if self.here().space else ' '}"
         return first, self.negation()[1]
 
     def relation(self):
@@ -128,7 +128,8 @@ class Expressions:
                     self.sum()
             if not (self.sees(",") and self.is_listed()):
                 break
-            self.take().text = " or"
+            comma = self.take()
+            comma.text = " or" if self.here().space else " or "
         for at in range(first, last + 1):
             # (the left operand stands before each relation now)
             self.words[at].text, self.words[at].after = "", ""
