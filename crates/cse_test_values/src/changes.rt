@@ -6,7 +6,7 @@ use cse_value::Reads;
 use std::alloc::Global;
 
 /// Persons in households, two at most. DECADE lies over the first column of AGE.
-const PERSONS: &str =
+pub(crate) const PERSONS: &str =
     "[Dictionary]\nName=D\nRecordTypeStart=1\nRecordTypeLen=1\n[Level]\nName=L\n[IdItems]\n[Item]\nName=HH\nStart=2\nLen=3\n[Record]\nName=PERSON\nRecordTypeValue='P'\nRecordLen=9\nMaxRecords=2\n[Item]\nName=SEX\nStart=5\nLen=1\n[Item]\nName=AGE\nStart=7\nLen=3\n[Item]\nName=DECADE\nItemType=SubItem\nStart=7\nLen=1\n";
 
 /// Two persons, a line of no record, and a person too many.

@@ -8,6 +8,7 @@
 //! - `spelled`: whole numbers, as a value of a dictionary spells them.
 //! - `lines`: files as runs of lines.
 //! - `changes`: what a run changed, of two files side by side.
+//! - `written`: the items that logic may change.
 //! - `parts`: parts of images: placeholders, names, single fields and instructions.
 #![tactic(auto)]
 
@@ -25,3 +26,5 @@ mod parts;
 mod spelled;
 #[cfg(test)]
 mod texts;
+#[cfg(test)]
+mod written;
