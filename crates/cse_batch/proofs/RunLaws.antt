@@ -1,8 +1,8 @@
 -- What a run knows, run of lines by run of lines.
-use Rattle.std.proofs.Common.{◌≡◌, ℕ, ◌+◌, ◌*◌, ◌^◌, ◌<◌, ◌≤◌, ◌⊎◌, Bool, true, false, List, [], ◌∷◌, ◌++◌, length, Option, None, Some, Ok, Err, cond, refl, ap, sym, ◌∙◌, subst, arith, append_assoc, append-nil, inl, inr}
+use Rattle.std.proofs.Common.{◌≡◌, ℕ, ◌+◌, ◌*◌, ◌^◌, ◌<◌, ◌≤◌, ◌⊎◌, Bool, true, false, List, [], ◌∷◌, ◌++◌, length, None, Some, Ok, Err, cond, refl, ap, sym, ◌∙◌, subst, arith, append_assoc, append-nil, inl, inr}
 use Rattle.std.specs.Prelude.{replicate}
-use Rattle.std.specs.Io.KnownBytes.{IsAtEnd}
-use Rattle.std.proofs.KnownBytes.{Consumes-nil}
+use Rattle.cse_value.specs.Device.{IsAtEnd, Given}
+use Rattle.cse_value.proofs.ReadLaws.{Consumes-nil}
 use Rattle.std.proofs.lemmas.Bool.{cases_lt}
 use Rattle.cse_image_parts.specs.declared.entries.EventCode.TheVariants.{ApplicationPreproc}
 use Rattle.cse_lines.specs.declared.error.DataError.{DataError}
@@ -35,7 +35,7 @@ abbrev pub unbegun : Kept → Progress
 unbegun store = record { store = store; reports = []; imputed = []; out = []; lines = 0 }
 
 -- the listing's first line is put
-pub keeps_nothing : (v : VerifiedProgram) (store : Kept) (old new : Reports) (start : Option (List ℕ)) (sound : Bool) (g g' : Going) → old.listing ≡ no_reports v.image.lists.messages → old.frequencies ≡ replicate (length v.image.lists.items) []
+pub keeps_nothing : (v : VerifiedProgram) (store : Kept) (old new : Reports) (start : List ℕ) (sound : Bool) (g g' : Going) → old.listing ≡ no_reports v.image.lists.messages → old.frequencies ≡ replicate (length v.image.lists.items) []
     → Gathering start sound g [] → Puts g g' old.listing.lines → new.listing ≡ flushed old.listing → new.frequencies ≡ old.frequencies → Keeps v (unbegun store) store new start sound g'
 keeps_nothing v store old new start sound g g' none empty nothing puts flush same = record {
   store_is = refl;
@@ -45,7 +45,7 @@ keeps_nothing v store old new start sound g g' none empty nothing puts flush sam
 }
 
 -- and nothing else
-pub one_line : (v : VerifiedProgram) (old : Reports) (start : Option (List ℕ)) (sound : Bool) (g g' g'' : Going) → old.listing ≡ no_reports v.image.lists.messages → Gathering start sound g [] → Puts g g' old.listing.lines → Puts g' g'' []
+pub one_line : (v : VerifiedProgram) (old : Reports) (start : List ℕ) (sound : Bool) (g g' g'' : Going) → old.listing ≡ no_reports v.image.lists.messages → Gathering start sound g [] → Puts g g' old.listing.lines → Puts g' g'' []
     → Gathering start sound g'' first_line
 one_line v old start sound g g' g'' none nothing puts idle =
     let put = subst (λ (l : List ℕ). Gathering start sound g' l) (ap (λ (h : Held). h.lines) none) (puts start sound [] nothing) in
@@ -54,7 +54,7 @@ one_line v old start sound g g' g'' none nothing puts idle =
 -- ---- the runs so far
 
 -- the run is as far as the batch over the runs that were given
-pub record Running (v : VerifiedProgram) (first : Kept) (before now : Option (List ℕ)) (r : ReaderText) (store : Kept) (reports : Reports) (out listing : Device) (totals : Totals) : Type 0 where
+pub record Running (v : VerifiedProgram) (first : Kept) (before now : Given) (r : ReaderText) (store : Kept) (reports : Reports) (out listing : Device) (totals : Totals) : Type 0 where
   pub text : List ℕ
   pub so_far : SoFar before now v.dictionary r text totals
   pub keeps : Keeps v (after_runs v (begun v first) so_far.runs) store reports listing.start listing.sound listing.going
@@ -67,7 +67,7 @@ record IsAsFar (v : VerifiedProgram) (p : Progress) (r : ReaderText) (store : Ke
   written : Has out p.out
   lines : p.lines ≡ r.lines
 
-running : (v : VerifiedProgram) (first : Kept) (before now : Option (List ℕ)) (r : ReaderText) (store : Kept) (reports : Reports) (out listing : Device) (totals : Totals) (text : List ℕ) (s : SoFar before now v.dictionary r text totals)
+running : (v : VerifiedProgram) (first : Kept) (before now : Given) (r : ReaderText) (store : Kept) (reports : Reports) (out listing : Device) (totals : Totals) (text : List ℕ) (s : SoFar before now v.dictionary r text totals)
     (p : Progress) → p ≡ after_runs v (begun v first) s.runs → IsAsFar v p r store reports out listing → Running v first before now r store reports out listing totals
 running v first before now r store reports out listing totals text s p is far =
     let here = subst (λ (q : Progress). IsAsFar v q r store reports out listing) is far in
@@ -86,7 +86,7 @@ unfolding after_run
 run_lines v p run = refl
 
 -- after the application's preproc
-pub running_none : (v : VerifiedProgram) (first : Kept) (now : Option (List ℕ)) (r : ReaderText) (store : Kept) (reports : Reports) (out listing : Device) → IsUnread v r
+pub running_none : (v : VerifiedProgram) (first : Kept) (now : Given) (r : ReaderText) (store : Kept) (reports : Reports) (out listing : Device) → IsUnread v r
     → Keeps v (after_application v ApplicationPreproc (unbegun first)) store reports listing.start listing.sound listing.going → Has out []
     → Running v first now now r store reports out listing (record { cases = 0; lines = 0; unseen = 0 })
 unfolding begun
@@ -95,7 +95,7 @@ running_none v first now r store reports out listing u keeps nothing =
     running v first now now r store reports out listing (record { cases = 0; lines = 0; unseen = 0 }) [] s (begun v first) (ap (after_runs v (begun v first)) (sym (runs-none now v.dictionary r u.dictionary u.nothing_held u.unended u.unread u.front)))
     (record { keeps = keeps; written = subst (Has out) (sym (begun_out v first)) nothing; lines = begun_lines v first ∙ sym u.front })
 
-module _ (v : VerifiedProgram) (first : Kept) (before now after : Option (List ℕ)) (r r' : ReaderText) (store : Kept) (reports : Reports) (out listing : Device) (totals : Totals) (run : Running v first before now r store reports out listing totals) where
+module _ (v : VerifiedProgram) (first : Kept) (before now after : Given) (r r' : ReaderText) (store : Kept) (reports : Reports) (out listing : Device) (totals : Totals) (run : Running v first before now r store reports out listing totals) where
   abbrev at : Progress
   at = after_runs v (begun v first) run.so_far.runs
 
@@ -274,7 +274,7 @@ module _ (v : VerifiedProgram) (first : Kept) (before now after : Option (List �
       }
 
 -- memory lacked before the first line was read: only the listing's first line was put
-pub halts_at_once : (v : VerifiedProgram) (first : Kept) (now : Option (List ℕ)) (failed : Bool) (out listing : Device) → Has out [] → Has listing first_line
+pub halts_at_once : (v : VerifiedProgram) (first : Kept) (now : Given) (failed : Bool) (out listing : Device) → Has out [] → Has listing first_line
     → Halts v first now now failed out listing (record { number = 90; line = 0 })
 halts_at_once v first now failed out listing nothing one =
     let front = fronts_stay v first [] false [] _ refl in

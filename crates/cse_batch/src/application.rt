@@ -55,9 +55,9 @@ pub(crate) fn apply<C: Code, M: Runs, L: Output>(
     requires store { StoreFits verified.now.image store.old }
     requires reports { ReportsFit verified.now.image reports.old }
     ensures same { M.program machine.new ≡ verified.now }
-    ensures keeps { OnOk result ((p : Progress) (start : Option (List ℕ)) (sound : Bool) → Keeps verified.now p store.old reports.old start sound (going (L.contents listing.old) (L.has_failed listing.old) gatherer.old.waiting.items gatherer.old.gave_up)
-        → Keeps verified.now (after_application verified.now code p) store.new reports.new start sound (going (L.contents listing.new) (L.has_failed listing.new) gatherer.new.waiting.items gatherer.new.gave_up)) }
-    ensures err { OnErr result (Puts (going (L.contents listing.old) (L.has_failed listing.old) gatherer.old.waiting.items gatherer.old.gave_up) (going (L.contents listing.new) (L.has_failed listing.new) gatherer.new.waiting.items gatherer.new.gave_up) []) }
+    ensures keeps { OnOk result ((p : Progress) (start : Option (List ℕ)) (sound : Bool) → Keeps verified.now p store.old reports.old start sound (going (L.taken listing.old) (L.has_failed listing.old) gatherer.old.waiting.items gatherer.old.gave_up)
+        → Keeps verified.now (after_application verified.now code p) store.new reports.new start sound (going (L.taken listing.new) (L.has_failed listing.new) gatherer.new.waiting.items gatherer.new.gave_up)) }
+    ensures err { OnErr result (Puts (going (L.taken listing.old) (L.has_failed listing.old) gatherer.old.waiting.items gatherer.old.gave_up) (going (L.taken listing.new) (L.has_failed listing.new) gatherer.new.waiting.items gatherer.new.gave_up) []) }
     ensures store_fits { OnOk result (StoreFits verified.now.image store.new) }
     ensures reports_fit { ReportsFit verified.now.image reports.new }
 {

@@ -1,6 +1,6 @@
 -- Laws of a comparison of two files.
-use Rattle.std.proofs.Common.{◌≡◌, ℕ, zero, suc, ◌+◌, ◌^◌, ◌<◌, Bool, true, List, [], ◌∷◌, ◌++◌, length, get_or, Option, None, Some, Ok, Err, refl, ap, sym, ◌∙◌, subst, arith, append_assoc, append-nil, add_assoc, ◌⊎◌, zero-add, replicate}
-use Rattle.std.specs.Io.KnownBytes.{IsAtEnd}
+use Rattle.std.proofs.Common.{◌≡◌, ℕ, zero, suc, ◌+◌, ◌^◌, ◌<◌, Bool, true, List, [], ◌∷◌, ◌++◌, length, get_or, None, Some, Ok, Err, refl, ap, sym, ◌∙◌, subst, arith, append_assoc, append-nil, add_assoc, ◌⊎◌, zero-add, replicate}
+use Rattle.cse_value.specs.Device.{IsAtEnd, Given}
 use Rattle.std.proofs.lemmas.List.Sums.{sum_by-append}
 use Rattle.cse_value.specs.declared.shape.ItemShape.{ItemShape}
 use Rattle.cse_value.specs.declared.shape.RecordShape.{RecordShape}
@@ -52,10 +52,10 @@ lines_more : (pairs : List RunPair) (p : RunPair) → lines_in (pairs ++ p ∷ [
 lines_more pairs p = sum_by-append (λ q. length (q.0)) pairs (p ∷ []) ∙ ap (λ n. lines_in pairs + n) (zero-add (length (p.0)))
 
 -- a file that was read to its end
-pub whole : (d : DictionaryText) (before after : Option (List ℕ)) (runs : List (List FileLine)) → IsRead d before after runs → IsReadSoFar d before after (runs ++ [])
+pub whole : (d : DictionaryText) (before after : Given) (runs : List (List FileLine)) → IsRead d before after runs → IsReadSoFar d before after (runs ++ [])
 whole d before after runs all = record { bytes = all.bytes; ended = true; reads = all.reads; end = λ e. all.end; runs_are = all.runs_are ∙ sym (append-nil runs) }
 
-whole_ended : (d : DictionaryText) (before after : Option (List ℕ)) (runs : List (List FileLine)) (all : IsRead d before after runs) → (whole d before after runs all).ended ≡ true
+whole_ended : (d : DictionaryText) (before after : Given) (runs : List (List FileLine)) (all : IsRead d before after runs) → (whole d before after runs all).ended ≡ true
 unfolding whole
 whole_ended d before after runs all = refl
 
@@ -67,7 +67,7 @@ pub record IsAdded (records : List RecordShape) (items : List ItemShape) (before
   pub few : AreFew items new (lines + length before)
 
 -- what a fault says follows
-pub if_apart : (d : DictionaryText) (before after before' after' : Option (List ℕ)) (failed failed' : Bool) (P : ℕ → Type 0) (fault : Fault) → ((line : ℕ) → P line → IsApart d before after before' after' line) → IfApart P fault
+pub if_apart : (d : DictionaryText) (before after before' after' : Given) (failed failed' : Bool) (P : ℕ → Type 0) (fault : Fault) → ((line : ℕ) → P line → IsApart d before after before' after' line) → IfApart P fault
     → Stops d before after before' after' failed failed' fault
 if_apart d before after before' after' failed failed' P (Data e) h p = absurd p
 if_apart d before after before' after' failed failed' P (Out e) h p = absurd p
@@ -75,7 +75,7 @@ if_apart d before after before' after' failed failed' P (Apart line) h p = h lin
 if_apart d before after before' after' failed failed' P Memory h p = absurd p
 
 -- what a comparison knows between runs
-pub record Comparing (d : DictionaryText) (before now : Option (List ℕ)) (r : ReaderText) (before' now' : Option (List ℕ)) (r' : ReaderText) (counts : List Count) (lines : ℕ) : Type 0 where
+pub record Comparing (d : DictionaryText) (before now : Given) (r : ReaderText) (before' now' : Given) (r' : ReaderText) (counts : List Count) (lines : ℕ) : Type 0 where
   pub pairs : List RunPair
   pub text : List ℕ
   pub text' : List ℕ
@@ -93,7 +93,7 @@ none_of (suc n) zero = refl
 none_of (suc n) (suc k) = none_of n k
 
 -- nothing was read
-pub Comparing-none : (d : DictionaryText) (now now' : Option (List ℕ)) (r r' : ReaderText) (counts : List Count) → r.dictionary ≡ d → held_of r ≡ [] → r.reads ≡ 0 → r.lines ≡ 0 → r'.dictionary ≡ d → held_of r' ≡ [] → r'.reads ≡ 0 → r'.lines ≡ 0
+pub Comparing-none : (d : DictionaryText) (now now' : Given) (r r' : ReaderText) (counts : List Count) → r.dictionary ≡ d → held_of r ≡ [] → r.reads ≡ 0 → r.lines ≡ 0 → r'.dictionary ≡ d → held_of r' ≡ [] → r'.reads ≡ 0 → r'.lines ≡ 0
     → counts ≡ replicate (length (shape_of d).items) no_count → length counts ≡ length (shape_of d).items → Comparing d now now r now' now' r' counts 0
 Comparing-none d now now' r r' counts same none unread front same' none' unread' front' are len =
     let each : (n : ℕ) → get_or counts n no_count ≡ no_count = λ n. ap (λ l. get_or l n no_count) are ∙ none_of (length (shape_of d).items) n in
@@ -110,7 +110,7 @@ Comparing-none d now now' r r' counts same none unread front same' none' unread'
       lines_in_are = refl;
     }
 
-module _ (d : DictionaryText) (before now after before' now' after' : Option (List ℕ)) (r s r' s' : ReaderText) (counts : List Count) (lines : ℕ) (c : Comparing d before now r before' now' r' counts lines) where
+module _ (d : DictionaryText) (before now after before' now' after' : Given) (r s r' s' : ReaderText) (counts : List Count) (lines : ℕ) (c : Comparing d before now r before' now' r' counts lines) where
   -- both were read to their ends
   pub compared : Next now after r s (Ok None) → Next now' after' r' s' (Ok None) → IsCompared d before after before' after' counts
   compared n n' = record {

@@ -1,7 +1,7 @@
 -- Laws of a file that is read, run of lines by run of lines.
 use Rattle.std.proofs.Common.{◌≡◌, ℕ, ◌+◌, ◌^◌, ◌<◌, ◌≤◌, Bool, true, false, List, [], ◌∷◌, ◌++◌, length, Option, None, Some, Ok, Err, refl, ap, sym, ◌∙◌, subst, arith, append_assoc, append-nil, length-append, ◌⊎◌, inl, inr, add_assoc, zero-add, eq-eqb, ne_eqb}
-use Rattle.std.specs.Io.KnownBytes.{Consumes, IsAtEnd}
-use Rattle.std.proofs.KnownBytes.{Consumes-trans, Consumes-nil}
+use Rattle.cse_value.specs.Device.{Consumes, IsAtEnd, Given}
+use Rattle.cse_value.proofs.ReadLaws.{Consumes-trans, Consumes-nil}
 use Rattle.std.proofs.lemmas.List.{length-map}
 use Rattle.cse_dict.specs.Dictionary.{DictionaryText}
 use Rattle.cse_lines.specs.declared.error.DataError.{DataError}
@@ -13,7 +13,7 @@ use Rattle.cse_lines.specs.Reader.{GivesRun, IsError, Next, ReaderText, held_of,
 use Rattle.cse_changes.specs.Files.{HasFault, IsRead, IsReadSoFar, lines_of}
 
 -- the runs so far: their bytes, and that the rest is given of what is held and may follow
-pub record SoFar (before now : Option (List ℕ)) (d : DictionaryText) (r : ReaderText) (text : List ℕ) (runs : List (List FileLine)) : Type 0 where
+pub record SoFar (before now : Given) (d : DictionaryText) (r : ReaderText) (text : List ℕ) (runs : List (List FileLine)) : Type 0 where
   pub dictionary : r.dictionary ≡ d
   pub reads : Consumes before now (text ++ held_of r)
   pub counted : r.reads ≤ length (text ++ held_of r)
@@ -37,7 +37,7 @@ unfolding fault_in lines_in
 nothing_faulty d front = refl
 
 -- nothing was read
-pub SoFar-none : (now : Option (List ℕ)) (d : DictionaryText) (r : ReaderText) → r.dictionary ≡ d → held_of r ≡ [] → r.reads ≡ 0 → r.lines ≡ 0 → SoFar now now d r [] []
+pub SoFar-none : (now : Given) (d : DictionaryText) (r : ReaderText) → r.dictionary ≡ d → held_of r ≡ [] → r.reads ≡ 0 → r.lines ≡ 0 → SoFar now now d r [] []
 SoFar-none now d r same none unread front =
     let first : is_front r ≡ true = eq-eqb r.lines 0 front in
     record {
@@ -56,7 +56,7 @@ may_follow ended ended' later taken more stays h = λ e.
     (f.0, ap (λ l. l ++ more) (s.0) ∙ f.1)
 
 -- what was read so far, and the runs that are given of it
-pub so_far : (before now : Option (List ℕ)) (d : DictionaryText) (r : ReaderText) (text : List ℕ) (runs : List (List FileLine)) → SoFar before now d r text runs → (r.ended ≡ true → IsAtEnd now)
+pub so_far : (before now : Given) (d : DictionaryText) (r : ReaderText) (text : List ℕ) (runs : List (List FileLine)) → SoFar before now d r text runs → (r.ended ≡ true → IsAtEnd now)
     → IsReadSoFar d before now (runs ++ given d (is_front r) r.ended (held_of r))
 so_far before now d r text runs s end = record {
   bytes = text ++ held_of r;
@@ -66,7 +66,7 @@ so_far before now d r text runs s end = record {
   runs_are = ap (given d true r.ended) (sym (append-nil (text ++ held_of r))) ∙ (s.goes_on r.ended [] (λ e. (e, refl)) ∙ ap (λ l. runs ++ given d (is_front r) r.ended l) (append-nil (held_of r)));
 }
 
-module _ (before now after : Option (List ℕ)) (d : DictionaryText) (r r' : ReaderText) (text : List ℕ) (runs : List (List FileLine)) (s : SoFar before now d r text runs) where
+module _ (before now after : Given) (d : DictionaryText) (r r' : ReaderText) (text : List ℕ) (runs : List (List FileLine)) (s : SoFar before now d r text runs) where
   module _ (run : RunText) (n : Next now after r r' (Ok (Some run))) where
     pub gives : GivesRun d (held_of r ++ n.taken) (held_of r') (is_front r) r'.ended (r.lines + 1) run
     gives = subst (λ (x : DictionaryText). GivesRun x (held_of r ++ n.taken) (held_of r') (is_front r) r'.ended (r.lines + 1) run) s.dictionary n.answers

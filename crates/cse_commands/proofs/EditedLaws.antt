@@ -1,5 +1,6 @@
 -- What the files of a run took, by what the texts mean that its program was built to.
 use Rattle.std.proofs.Common.{ℕ, Bool, List, [], Option, Some, Result, Ok, Err}
+use Rattle.cse_value.specs.Device.{Given}
 use Rattle.cse_image.specs.Spelling.{StandFor}
 use Rattle.cse_build.specs.Build.{IsBuilt}
 use Rattle.cse_verify.specs.Verified.{VerifiedProgram}
@@ -16,14 +17,14 @@ use Rattle.cse_commands.specs.Edited.{TellsEdit}
 
 pub tells_edit : (v : VerifiedProgram) → BatchesMean v → (text logic messages order image : List ℕ) (decks : Option (List ℕ)) → IsRead text v.dictionary → StandFor v.image image
     → IsBuilt v.dictionary logic messages order image → (store : Kept) → IsStartOf v.image decks store → StoreFits v.image store
-    → (before after : Option (List ℕ)) (took : Option (List ℕ) → Contents) (input_failed : Bool) (failed : Bool → Failures) (told : Result (Totals × Gathered) Stop)
-    → Tells v store before after took input_failed failed told → TellsEdit text logic messages order decks before after took input_failed failed told
-tells_edit v law text logic messages order image decks read stands built store is fits before after took input_failed failed (Ok ran) tells = record {
+    → (before after : Given) (took : List ℕ → Contents) (failed : Bool → Failures) (told : Result (Totals × Gathered) Stop)
+    → Tells v store before after took failed told → TellsEdit text logic messages order decks before after took failed told
+tells_edit v law text logic messages order image decks read stands built store is fits before after took failed (Ok ran) tells = record {
   dictionary = v.dictionary;
   read = read;
-  edits = edits v law logic messages order image stands built decks store is fits (devices before after (none_taken (Some [])) (took (Some ran.1.bytes.items))) ran.0 tells;
+  edits = edits v law logic messages order image stands built decks store is fits (devices before after (none_taken []) (took ran.1.bytes.items)) ran.0 tells;
 }
-tells_edit v law text logic messages order image decks read stands built store is fits before after took input_failed failed (Err stop) tells = record {
+tells_edit v law text logic messages order image decks read stands built store is fits before after took failed (Err stop) tells = record {
   fault = tells.fault;
   gathered = tells.gathered;
   lacked = tells.lacked;
@@ -31,7 +32,7 @@ tells_edit v law text logic messages order image decks read stands built store i
     dictionary = v.dictionary;
     read = read;
     stops =
-        stops v law logic messages order image stands built decks store is fits (devices before after (none_taken (Some [])) (took (Some tells.gathered))) input_failed (failed tells.lacked) tells.fault tells.stops;
+        stops v law logic messages order image stands built decks store is fits (devices before after (none_taken []) (took tells.gathered)) (failed tells.lacked) tells.fault tells.stops;
   };
   tells = tells.tells;
 }

@@ -1,6 +1,7 @@
 //! `edit`: logic over a data file, from the files of its words to those of its outputs.
 
 ghost use Rattle.std.specs.Prelude.{ℕ, List, Option, IfOk, IfErr};
+ghost use Rattle.cse_value.specs.Device.{Given};
 ghost use Rattle.std.specs.Option.{option_copied};
 ghost use Rattle.cse_image.specs.Spelling.{StandFor};
 ghost use Rattle.cse_build.specs.Build.{IsBuilt};
@@ -21,7 +22,6 @@ use crate::plan::{EditPaths, RunPaths};
 use crate::run_image::{Ran, allow_steps, keep_decks, run_over};
 use cse_batch::{Totals, check_image};
 use cse_decks::Store;
-use cse_devices::Noted;
 use cse_dict::Dictionary;
 use cse_edit::{EditFault, batches_mean, starting_store};
 use cse_image::Code;
@@ -137,13 +137,12 @@ pub fn edit_texts<R: Files + AllocGlobal, C: Code>(
     requires built { IsBuilt verified.now.dictionary logic.now messages.now order.now image.now }
     requires stands { StandFor verified.now.image image.now }
     // Of a whole edit each file took its text of the batch that the logic means, and of any other a front of it.
-    ensures took { IfOk result (λ ran. (before : Option (List ℕ)) × TellsEdit text.now logic.now messages.now order.now
-        (option_copied decks.entry) before (⟦<Reads<R::File> as Input>⟧.remaining ran.input)
-        (contents (⟦<Writes<Noted<R::File>> as Output>⟧.contents ran.out) (⟦<Writes<Noted<R::File>> as Output>⟧.contents ran.listing)
-        (⟦<Writes<Noted<R::File>> as Output>⟧.contents ran.frequencies))
-        (⟦<Reads<R::File> as Input>⟧.has_failed ran.input)
-        (failures (⟦<Writes<Noted<R::File>> as Output>⟧.has_failed ran.out) (⟦<Writes<Noted<R::File>> as Output>⟧.has_failed ran.listing)
-        (⟦<Writes<Noted<R::File>> as Output>⟧.has_failed ran.frequencies)) ran.told) }
+    ensures took { IfOk result (λ ran. (before : Given) × TellsEdit text.now logic.now messages.now order.now
+        (option_copied decks.entry) before (⟦<Reads<R::File> as Input>⟧.given ran.input)
+        (contents (⟦<Writes<R::File> as Output>⟧.taken ran.out) (⟦<Writes<R::File> as Output>⟧.taken ran.listing)
+        (⟦<Writes<R::File> as Output>⟧.taken ran.frequencies))
+        (failures (⟦<Writes<R::File> as Output>⟧.has_failed ran.out) (⟦<Writes<R::File> as Output>⟧.has_failed ran.listing)
+        (⟦<Writes<R::File> as Output>⟧.has_failed ran.frequencies)) ran.told) }
     ensures fault { IfErr result HasNumber }
     ensures told { IfOk result (λ ran. IfErr ran.told HasNumber) }
 {
@@ -174,13 +173,12 @@ fn edit_over<R: Files + AllocGlobal, C: Code>(
     requires stands { StandFor verified.now.image image.now }
     requires starts { IsStartOf verified.now.image (option_copied decks) store }
     requires fits { StoreFits verified.now.image store }
-    ensures took { IfOk result (λ ran. (before : Option (List ℕ)) × TellsEdit text.now logic.now messages.now order.now
-        (option_copied decks.entry) before (⟦<Reads<R::File> as Input>⟧.remaining ran.input)
-        (contents (⟦<Writes<Noted<R::File>> as Output>⟧.contents ran.out) (⟦<Writes<Noted<R::File>> as Output>⟧.contents ran.listing)
-        (⟦<Writes<Noted<R::File>> as Output>⟧.contents ran.frequencies))
-        (⟦<Reads<R::File> as Input>⟧.has_failed ran.input)
-        (failures (⟦<Writes<Noted<R::File>> as Output>⟧.has_failed ran.out) (⟦<Writes<Noted<R::File>> as Output>⟧.has_failed ran.listing)
-        (⟦<Writes<Noted<R::File>> as Output>⟧.has_failed ran.frequencies)) ran.told) }
+    ensures took { IfOk result (λ ran. (before : Given) × TellsEdit text.now logic.now messages.now order.now
+        (option_copied decks.entry) before (⟦<Reads<R::File> as Input>⟧.given ran.input)
+        (contents (⟦<Writes<R::File> as Output>⟧.taken ran.out) (⟦<Writes<R::File> as Output>⟧.taken ran.listing)
+        (⟦<Writes<R::File> as Output>⟧.taken ran.frequencies))
+        (failures (⟦<Writes<R::File> as Output>⟧.has_failed ran.out) (⟦<Writes<R::File> as Output>⟧.has_failed ran.listing)
+        (⟦<Writes<R::File> as Output>⟧.has_failed ran.frequencies)) ran.told) }
     ensures fault { IfErr result HasNumber }
     ensures told { IfOk result (λ ran. IfErr ran.told HasNumber) }
     ensures not_opened { IfErr result IsNotOpened }

@@ -1,6 +1,7 @@
 //! `run`: an image over a data file, from the files of its words to those of its outputs.
 
 ghost use Rattle.std.specs.Prelude.{◌≡◌, ℕ, false, List, [], Option, Some, Ok, Err, IfOk, IfErr, IfSome, IfNone};
+ghost use Rattle.cse_value.specs.Device.{Given};
 ghost use Rattle.cse_code_bounds.specs.EventBound.{case_bound};
 ghost use Rattle.cse_decks.specs.Store.{Kept, StoreFits, first_kept};
 ghost use Rattle.cse_decks.specs.DeckText.{IsDeckText};
@@ -19,7 +20,6 @@ use crate::outcome::Stop;
 use crate::plan::RunPaths;
 use cse_batch::{Totals, check_image, run};
 use cse_decks::{Store, load};
-use cse_devices::Noted;
 use cse_dict::Dictionary;
 use cse_files::sync;
 use cse_image::{Code, Program};
@@ -156,9 +156,9 @@ pub struct Ran<F> {
     /// The totals and the gathered deck text, or why the run stopped.
     pub told: Result<(Totals, Gathered), Stop>,
     pub input: Reads<F>,
-    pub out: Writes<Noted<F>>,
-    pub listing: Writes<Noted<F>>,
-    pub frequencies: Writes<Noted<F>>,
+    pub out: Writes<F>,
+    pub listing: Writes<F>,
+    pub frequencies: Writes<F>,
 }
 
 impl<F: Drop> Ran<F> {
@@ -196,7 +196,7 @@ impl<F: Write + OpenFile + Drop> Ran<F> {
 }
 
 /// Sees that the disk has what an output took: 71 where it has not.
-fn sync_output<F: Write + OpenFile + Drop>(output: Writes<Noted<F>>) -> Result<(), Stop>
+fn sync_output<F: Write + OpenFile + Drop>(output: Writes<F>) -> Result<(), Stop>
     ensures fault { IfErr result HasNumber }
 {
     match sync(&output.into_inner()) {
@@ -215,20 +215,19 @@ pub fn run_over<R: Files + AllocGlobal, C: Code>(
 ) -> Result<Ran<R::File>, Stop>
     requires { StoreFits verified.now.image store }
     // Of a whole run each file took its text of the batch, and of any other a front of it.
-    ensures took { IfOk result (λ ran. (before : Option (List ℕ)) × Tells verified.now store before (⟦<Reads<R::File> as Input>⟧.remaining ran.input)
-        (contents (⟦<Writes<Noted<R::File>> as Output>⟧.contents ran.out) (⟦<Writes<Noted<R::File>> as Output>⟧.contents ran.listing)
-        (⟦<Writes<Noted<R::File>> as Output>⟧.contents ran.frequencies))
-        (⟦<Reads<R::File> as Input>⟧.has_failed ran.input)
-        (failures (⟦<Writes<Noted<R::File>> as Output>⟧.has_failed ran.out) (⟦<Writes<Noted<R::File>> as Output>⟧.has_failed ran.listing)
-        (⟦<Writes<Noted<R::File>> as Output>⟧.has_failed ran.frequencies)) ran.told) }
+    ensures took { IfOk result (λ ran. (before : Given) × Tells verified.now store before (⟦<Reads<R::File> as Input>⟧.given ran.input)
+        (contents (⟦<Writes<R::File> as Output>⟧.taken ran.out) (⟦<Writes<R::File> as Output>⟧.taken ran.listing)
+        (⟦<Writes<R::File> as Output>⟧.taken ran.frequencies))
+        (failures (⟦<Writes<R::File> as Output>⟧.has_failed ran.out) (⟦<Writes<R::File> as Output>⟧.has_failed ran.listing)
+        (⟦<Writes<R::File> as Output>⟧.has_failed ran.frequencies)) ran.told) }
     ensures not_opened { IfErr result IsNotOpened }
     ensures fault { IfErr result HasNumber }
     ensures told { IfOk result (λ ran. IfErr ran.told HasNumber) }
 {
     let mut input = Reads::new(opened(rt, paths.data)?);
-    let mut out = Writes::new(Noted::new(created(rt, paths.out)?));
-    let mut listing = Writes::new(Noted::new(created(rt, paths.list)?));
-    let mut frequencies = Writes::new(Noted::new(created(rt, paths.freq)?));
+    let mut out = Writes::new(created(rt, paths.out)?);
+    let mut listing = Writes::new(created(rt, paths.list)?);
+    let mut frequencies = Writes::new(created(rt, paths.freq)?);
     let told = run_on(
         rt.alloc(),
         verified,
@@ -260,12 +259,12 @@ pub fn run_on<C: Code, R: Input, O: Output, L: Output, F: Output>(
 ) -> Result<(Totals, Gathered), Stop>
     requires { StoreFits verified.now.image store }
     // The texts, the gathered one too, are those of the batch over all bytes of the input.
-    ensures whole { IfOk result (λ ran. RunsWhole verified.now store (R.remaining input.old) (R.remaining input.new)
-        (contents (O.contents out.old) (L.contents listing.old) (F.contents frequencies.old) (Some [])) (contents (O.contents out.new) (L.contents listing.new) (F.contents frequencies.new) (Some ran.1.bytes.items)) ran.0) }
+    ensures whole { IfOk result (λ ran. RunsWhole verified.now store (R.given input.old) (R.given input.new)
+        (contents (O.taken out.old) (L.taken listing.old) (F.taken frequencies.old) []) (contents (O.taken out.new) (L.taken listing.new) (F.taken frequencies.new) ran.1.bytes.items) ran.0) }
     // A stop tells the fault of such a run, but where memory had no place for the deck text.
-    ensures stopped { IfErr result (TellsRunFault verified.now store (R.remaining input.old) (R.remaining input.new)
-        (contents (O.contents out.old) (L.contents listing.old) (F.contents frequencies.old)) (contents (O.contents out.new) (L.contents listing.new) (F.contents frequencies.new))
-        (R.has_failed input.new) (failures (O.has_failed out.new) (L.has_failed listing.new) (F.has_failed frequencies.new))) }
+    ensures stopped { IfErr result (TellsRunFault verified.now store (R.given input.old) (R.given input.new)
+        (contents (O.taken out.old) (L.taken listing.old) (F.taken frequencies.old)) (contents (O.taken out.new) (L.taken listing.new) (F.taken frequencies.new))
+        (failures (O.has_failed out.new) (L.has_failed listing.new) (F.has_failed frequencies.new))) }
 {
     let mut decks = Gathered::new(alloc);
     let ran = run(

@@ -1,5 +1,6 @@
 -- What is told of a run, from what the calls beneath say.
-use Rattle.std.proofs.Common.{◌≡◌, ◌∙◌, ap, inr, sym, subst, ℕ, Bool, ◌&&◌, List, [], Option, Some, Result, Ok, Err, IfErr}
+use Rattle.std.proofs.Common.{◌≡◌, ◌∙◌, ap, inr, sym, subst, ℕ, Bool, ◌&&◌, List, [], Some, Result, Ok, Err, IfErr}
+use Rattle.cse_value.specs.Device.{Given}
 use Rattle.cse_dict.specs.Dictionary.{DictionaryText, shape_of}
 use Rattle.cse_verify.specs.Verified.{VerifiedProgram}
 use Rattle.cse_batch.specs.declared.totals.Totals.{Totals}
@@ -16,30 +17,29 @@ is_of text image v d same read accepted = record {
   accepted = subst (λ (x : DictionaryText). IsAccepted (shape_of x) image v.image) (sym same) accepted;
 }
 
-pub stops_of : (text image decks : List ℕ) (v : VerifiedProgram) (before after : Option (List ℕ)) (old new : Contents) (input_failed : Bool) (failed : Failures) (r : Result Totals CsbFault)
-    → IsOf text image v → IfErr r (StopsFrom v decks before after old new input_failed failed) → IfErr r (StopsImage text image decks before after old new input_failed failed)
-stops_of text image decks v before after old new input_failed failed (Ok totals) is stops = stops
-stops_of text image decks v before after old new input_failed failed (Err f) is stops = inr (record { program = v; is = is; stops = stops })
+pub stops_of : (text image decks : List ℕ) (v : VerifiedProgram) (before after : Given) (old new : Contents) (failed : Failures) (r : Result Totals CsbFault)
+    → IsOf text image v → IfErr r (StopsFrom v decks before after old new failed) → IfErr r (StopsImage text image decks before after old new failed)
+stops_of text image decks v before after old new failed (Ok totals) is stops = stops
+stops_of text image decks v before after old new failed (Err f) is stops = inr (record { program = v; is = is; stops = stops })
 
 -- ---- over memory
 
-pub empty_of : (out listing frequencies saved : Option (List ℕ)) → out ≡ Some [] → listing ≡ Some [] → frequencies ≡ Some [] → saved ≡ Some []
+pub empty_of : (out listing frequencies saved : List ℕ) → out ≡ Some [] → listing ≡ Some [] → frequencies ≡ Some [] → saved ≡ Some []
     → contents out listing frequencies saved ≡ empty
 empty_of out listing frequencies saved o l f s = rw o (rw l (rw f (rw s)))
 
 -- a run over data in memory, to outputs that have nothing yet
-pub stops_data : (text image decks data_ : List ℕ) (before after out listing frequencies saved : Option (List ℕ)) (new : Contents) (input_failed : Bool) (failed : Failures) (why told : CsbFault)
+pub stops_data : (text image decks data_ : List ℕ) (before after out listing frequencies saved : List ℕ) (new : Contents) (failed : Failures) (why told : CsbFault)
     → before ≡ Some data_ → out ≡ Some [] → listing ≡ Some [] → frequencies ≡ Some [] → saved ≡ Some []
-    → StopsImage text image decks before after (contents out listing frequencies saved) new input_failed failed why → told ≡ in_memory why
+    → StopsImage text image decks before after (contents out listing frequencies saved) new failed why → told ≡ in_memory why
     → StopsData text image decks data_ told
-stops_data text image decks data_ before after out listing frequencies saved new input_failed failed why told b o l f s stops tells = record {
+stops_data text image decks data_ before after out listing frequencies saved new failed why told b o l f s stops tells = record {
   after = after;
   new = new;
-  input_failed = input_failed;
   failed = failed;
   fault = why;
-  stops = subst (λ (x : Option (List ℕ)). StopsImage text image decks x after empty new input_failed failed why) b
-      (subst (λ (x : Contents). StopsImage text image decks before after x new input_failed failed why) (empty_of out listing frequencies saved o l f s) stops);
+  stops = subst (λ (x : List ℕ). StopsImage text image decks x after empty new failed why) b
+      (subst (λ (x : Contents). StopsImage text image decks before after x new failed why) (empty_of out listing frequencies saved o l f s) stops);
   tells = tells;
 }
 

@@ -82,9 +82,8 @@ pub record RanOver (text image decks : List ℕ) (told : CsbCounts) : Type 0 whe
 
 pub record StoppedOver (text image decks : List ℕ) (f : CsbFault) : Type 0 where
   pub took : Contents
-  pub input_failed : Bool
   pub failed : Failures
-  pub stops : StopsImage text image decks None None empty took input_failed failed f
+  pub stops : StopsImage text image decks None None empty took failed f
 
 abbrev pub FindsCounts : List ℕ → List ℕ → List ℕ → CsbCounts → CsbCounts → CsbFault → CsbFault → ℕ → Type 0
 FindsCounts text image decks counts_old counts_new fault_old fault_new number =

@@ -78,14 +78,13 @@ pub(crate) fn run_image<R: Input, O: Output, L: Output, F: Output, D: Output>(
     saved: &mut D,
 ) -> Result<Totals, CsbFault>
     ensures whole { IfOk result (RunsImage dictionary.now image.now decks.now
-        (R.remaining input.old) (R.remaining input.new)
-        (contents (O.contents out.old) (L.contents listing.old) (F.contents frequencies.old) (D.contents saved.old))
-        (contents (O.contents out.new) (L.contents listing.new) (F.contents frequencies.new) (D.contents saved.new))) }
+        (R.given input.old) (R.given input.new)
+        (contents (O.taken out.old) (L.taken listing.old) (F.taken frequencies.old) (D.taken saved.old))
+        (contents (O.taken out.new) (L.taken listing.new) (F.taken frequencies.new) (D.taken saved.new))) }
     ensures stops { IfErr result (StopsImage dictionary.now image.now decks.now
-        (R.remaining input.old) (R.remaining input.new)
-        (contents (O.contents out.old) (L.contents listing.old) (F.contents frequencies.old) (D.contents saved.old))
-        (contents (O.contents out.new) (L.contents listing.new) (F.contents frequencies.new) (D.contents saved.new))
-        (R.has_failed input.new)
+        (R.given input.old) (R.given input.new)
+        (contents (O.taken out.old) (L.taken listing.old) (F.taken frequencies.old) (D.taken saved.old))
+        (contents (O.taken out.new) (L.taken listing.new) (F.taken frequencies.new) (D.taken saved.new))
         (failures (O.has_failed out.new) (L.has_failed listing.new) (F.has_failed frequencies.new) (D.has_failed saved.new))) }
 {
     let dictionary = dictionary_of(alloc, dictionary)?;
@@ -135,14 +134,13 @@ fn run_verified<C: Code, R: Input, O: Output, L: Output, F: Output, D: Output>(
     saved: &mut D,
 ) -> Result<Totals, CsbFault>
     ensures whole { IfOk result (RunsFrom verified.now decks.now
-        (R.remaining input.old) (R.remaining input.new)
-        (contents (O.contents out.old) (L.contents listing.old) (F.contents frequencies.old) (D.contents saved.old))
-        (contents (O.contents out.new) (L.contents listing.new) (F.contents frequencies.new) (D.contents saved.new))) }
+        (R.given input.old) (R.given input.new)
+        (contents (O.taken out.old) (L.taken listing.old) (F.taken frequencies.old) (D.taken saved.old))
+        (contents (O.taken out.new) (L.taken listing.new) (F.taken frequencies.new) (D.taken saved.new))) }
     ensures stops { IfErr result (StopsFrom verified.now decks.now
-        (R.remaining input.old) (R.remaining input.new)
-        (contents (O.contents out.old) (L.contents listing.old) (F.contents frequencies.old) (D.contents saved.old))
-        (contents (O.contents out.new) (L.contents listing.new) (F.contents frequencies.new) (D.contents saved.new))
-        (R.has_failed input.new)
+        (R.given input.old) (R.given input.new)
+        (contents (O.taken out.old) (L.taken listing.old) (F.taken frequencies.old) (D.taken saved.old))
+        (contents (O.taken out.new) (L.taken listing.new) (F.taken frequencies.new) (D.taken saved.new))
         (failures (O.has_failed out.new) (L.has_failed listing.new) (F.has_failed frequencies.new) (D.has_failed saved.new))) }
 {
     let store = match begun(alloc, verified.program(), decks) {

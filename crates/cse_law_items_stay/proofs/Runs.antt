@@ -218,5 +218,5 @@ edits_keep_others law sound text logic messages order decks on d read =
     let is_sound : IsSound d = subst (λ (d : DictionaryText). IsSound d) (sym read.is) (sound text read.sound) in
     record {
       whole = λ totals e. law d logic messages order e.begins.texts e.begins.store e.runs.bytes true is_sound;
-      stopped = λ input_failed failed fault e. law d logic messages order e.begins.texts e.begins.store e.stops.bytes e.stops.ended is_sound;
+      stopped = λ failed fault e. law d logic messages order e.begins.texts e.begins.store e.stops.bytes e.stops.ended is_sound;
     }

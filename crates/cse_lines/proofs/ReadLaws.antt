@@ -1,9 +1,9 @@
 -- What a call of the reader knows while it reads.
 use Rattle.std.proofs.Common.{◌≡◌, ℕ, ◌+◌, ◌*◌, ◌^◌, ◌<◌, ◌≤◌, Bool, true, false, eqb, List, [], ◌∷◌, ◌++◌, length, take, refl, ap, sym, ◌∙◌, subst, arith, Some, None, Ok, Err, Option, Result, add-zero, append_assoc, append-nil, length-append, inl, inr}
-use Rattle.std.proofs.KnownBytes.{Consumes-kept, Consumes-nil, Consumes-trans, Keeps-refl}
+use Rattle.cse_value.proofs.ReadLaws.{Consumes-kept, Consumes-nil, Consumes-trans, Keeps-refl}
 use Rattle.std.proofs.lemmas.Bool.{eqb-true, false≢true}
 use Rattle.std.proofs.lemmas.List.{length-map, nil_from_length, take_at}
-use Rattle.std.specs.Io.KnownBytes.{Consumes, IsAtEnd, Keeps}
+use Rattle.cse_value.specs.Device.{Consumes, IsAtEnd, Keeps, Given}
 use Rattle.cse_dict.specs.Dictionary.{DictionaryText}
 use Rattle.cse_lines.specs.declared.error.DataError.{DataError}
 use Rattle.cse_lines.specs.Line.{FileLine, lines_in}
@@ -20,7 +20,7 @@ use Rattle.cse_lines.proofs.GatherLaws.{are_sound, held_bytes, length-done}
 use Rattle.cse_lines.proofs.RunLaws.{first_fault-none, first_fault-run, given_of-last, given_of-nil, given_of-open}
 use Rattle.cse_lines.proofs.LineLaws.{lines_in-nil}
 
-pub record HasRead (before now : Option (List ℕ)) (old : ReaderText) (run : RunText) (uncut : List ℕ) (ended : Bool) (reads : ℕ) (had has : Bool) : Type 0 where
+pub record HasRead (before now : Given) (old : ReaderText) (run : RunText) (uncut : List ℕ) (ended : Bool) (reads : ℕ) (had has : Bool) : Type 0 where
   pub taken : List ℕ
   pub consumes : Consumes before now taken
   pub held : written_run run ++ uncut ≡ held_of old ++ taken
@@ -41,7 +41,7 @@ pub record HasRead (before now : Option (List ℕ)) (old : ReaderText) (run : Ru
 no_bytes : HasNoFeed []
 no_bytes k l = absurd (omega arith)
 
-pub HasRead-none : (before : Option (List ℕ)) (old : ReaderText) (had : Bool) → IsResting old → (old.ended ≡ true → IsAtEnd before)
+pub HasRead-none : (before : Given) (old : ReaderText) (had : Bool) → IsResting old → (old.ended ≡ true → IsAtEnd before)
     → HasRead before before old old.run old.uncut old.ended old.reads had had
 HasRead-none before old had r end = record {
   taken = [];
@@ -78,7 +78,7 @@ Gathered-more d front ended number run uncut taken uncut' g e = record {
 }
 
 -- all lines were cut, and one read more was made
-pub HasRead-more : (before now after : Option (List ℕ)) (old : ReaderText) (run new : RunText) (uncut rest rest' : List ℕ) (ended ended' : Bool) (reads reads' n : ℕ) (had has has' : Bool)
+pub HasRead-more : (before now after : Given) (old : ReaderText) (run new : RunText) (uncut rest rest' : List ℕ) (ended ended' : Bool) (reads reads' n : ℕ) (had has has' : Bool)
     → HasRead before now old run uncut ended reads had has → ended ≡ false → GathersAll old.dictionary (is_front old) ended run uncut new rest
     → ReadsMore now after rest rest' n → has' ≡ has → (ended' ≡ true → IsAtEnd after)
     → reads ≤ reads' → reads' ≤ 2 ^ 40 → reads' ≤ reads + n → (old.lines + (length run.lines + length uncut) ≤ reads * 65536 → old.lines + (length run.lines + length uncut) + n ≤ reads' * 65536)
@@ -113,7 +113,7 @@ not_zero n h = by_cases (eqb n 0) (λ e. let z : n ≡ 0 = eqb-true n 0 e in abs
     by_cases true never = absurd (never refl)
     by_cases false never = refl
 
-module _ (before now : Option (List ℕ)) (old : ReaderText) (run : RunText) (uncut : List ℕ) (ended : Bool) (reads : ℕ) (had has : Bool)
+module _ (before now : Given) (old : ReaderText) (run : RunText) (uncut : List ℕ) (ended : Bool) (reads : ℕ) (had has : Bool)
     (h : HasRead before now old run uncut ended reads had has) where
   -- the run is given before a line of another id
   pub Next-given : (new given' : RunText) (rest : List ℕ) → GivesFirst old.dictionary (is_front old) ended run uncut new rest given'
@@ -226,7 +226,7 @@ no_lines d front ended number run uncut g l =
 written_empty : (d : DictionaryText) (run : RunText) → run.lines ≡ [] → run.marked ≡ false → written_run run ≡ []
 written_empty d run l m = ap written_run (empty_run d run l m)
 
-module _ (before now : Option (List ℕ)) (old : ReaderText) (run : RunText) (uncut : List ℕ) (ended : Bool) (reads : ℕ) (had has : Bool)
+module _ (before now : Given) (old : ReaderText) (run : RunText) (uncut : List ℕ) (ended : Bool) (reads : ℕ) (had has : Bool)
     (h : HasRead before now old run uncut ended reads had has) (end : ended ≡ true) (new : RunText) (rest : List ℕ)
     (a : GathersAll old.dictionary (is_front old) ended run uncut new rest) where
   -- the last run
@@ -310,7 +310,7 @@ IsError-needed d bytes front ended before error needs n l =
     record { faulty = λ low. absurd (omega arith); needed = λ e. needs; number = λ high. inl n; line = λ high. l }
 
 -- the device gave nothing more
-HasRead-kept : (before now after : Option (List ℕ)) (old : ReaderText) (run : RunText) (uncut : List ℕ) (ended : Bool) (reads : ℕ) (had has : Bool)
+HasRead-kept : (before now after : Given) (old : ReaderText) (run : RunText) (uncut : List ℕ) (ended : Bool) (reads : ℕ) (had has : Bool)
     → (h : HasRead before now old run uncut ended reads had has) → Keeps now after → (new : RunText) (rest : List ℕ) (error : DataError)
     → IsError old.dictionary (held_of old ++ h.taken) (is_front old) ended old.lines error
     → Next before after old (reader_of old.dictionary new rest ended reads (old.lines + 0)) (Err error)
@@ -326,13 +326,13 @@ HasRead-kept before now after old run uncut ended reads had has h k new rest err
 }
 
 -- memory lacked
-pub HasRead-memory : (before now after : Option (List ℕ)) (old : ReaderText) (run : RunText) (uncut : List ℕ) (ended : Bool) (reads : ℕ) (had has : Bool)
+pub HasRead-memory : (before now after : Given) (old : ReaderText) (run : RunText) (uncut : List ℕ) (ended : Bool) (reads : ℕ) (had has : Bool)
     → HasRead before now old run uncut ended reads had has → Keeps now after → (new : RunText) (rest : List ℕ) (error : DataError) → error.number ≡ 90 → error.line ≡ 0
     → Next before after old (reader_of old.dictionary new rest ended reads (old.lines + 0)) (Err error)
 HasRead-memory before now after old run uncut ended reads had has h k new rest error n l =
     HasRead-kept before now after old run uncut ended reads had has h k new rest error (IsError-memory old.dictionary (held_of old ++ h.taken) (is_front old) ended old.lines error n l)
 
-module _ (before now : Option (List ℕ)) (old : ReaderText) (run : RunText) (uncut : List ℕ) (ended : Bool) (reads : ℕ) (had has : Bool)
+module _ (before now : Given) (old : ReaderText) (run : RunText) (uncut : List ℕ) (ended : Bool) (reads : ℕ) (had has : Bool)
     (h : HasRead before now old run uncut ended reads had has) (open' : ended ≡ false) (new : RunText) (rest : List ℕ)
     (a : GathersAll old.dictionary (is_front old) ended run uncut new rest) where
   -- all lines that are there go on one run, which may go on
@@ -354,14 +354,14 @@ module _ (before now : Option (List ℕ)) (old : ReaderText) (run : RunText) (un
       }
 
   -- no more could be read where a read was needed
-  pub HasRead-needed : (after : Option (List ℕ)) → Keeps now after → (new' : RunText) (rest' : List ℕ) (error : DataError) → error.number ≡ 70 → error.line ≡ 0
+  pub HasRead-needed : (after : Given) → Keeps now after → (new' : RunText) (rest' : List ℕ) (error : DataError) → error.number ≡ 70 → error.line ≡ 0
       → Next before after old (reader_of old.dictionary new' rest' ended reads (old.lines + 0)) (Err error)
   HasRead-needed after k new' rest' error n l =
       HasRead-kept before now after old run uncut ended reads had has h k new' rest' error
       (IsError-needed old.dictionary (held_of old ++ h.taken) (is_front old) ended old.lines error needs_more n l)
 
 -- what the end of the file gives
-module _ (before now : Option (List ℕ)) (old : ReaderText) (run : RunText) (uncut : List ℕ) (ended : Bool) (reads : ℕ) (had has : Bool)
+module _ (before now : Given) (old : ReaderText) (run : RunText) (uncut : List ℕ) (ended : Bool) (reads : ℕ) (had has : Bool)
     (h : HasRead before now old run uncut ended reads had has) (end : ended ≡ true) (new : RunText) (rest : List ℕ)
     (a : GathersAll old.dictionary (is_front old) ended run uncut new rest) where
   pub Next-end : (left : RunText) (result : Option RunText) → TakesRest new left result
@@ -375,13 +375,13 @@ module _ (before now : Option (List ℕ)) (old : ReaderText) (run : RunText) (un
   IsResting-end left (Some given') r = IsResting-rest before now old run uncut ended reads had has h end new rest a left given' r
 
 -- memory lacked before anything was read
-pub Next-memory : (before : Option (List ℕ)) (old : ReaderText) (error : DataError) → IsResting old → (old.ended ≡ true → IsAtEnd before) → error.number ≡ 90 → error.line ≡ 0
+pub Next-memory : (before : Given) (old : ReaderText) (error : DataError) → IsResting old → (old.ended ≡ true → IsAtEnd before) → error.number ≡ 90 → error.line ≡ 0
     → Next before before old (reader_of old.dictionary old.run old.uncut old.ended old.reads (old.lines + 0)) (Err error)
 Next-memory before old error r end n l =
     HasRead-memory before before before old old.run old.uncut old.ended old.reads false false (HasRead-none before old false r end) (Keeps-refl before) old.run old.uncut error n l
 
 -- the error that a reader keeps is no part of a call
-pub Next-errors : (before after : Option (List ℕ)) (old new : ReaderText) (e f : Option DataError) (result : Result (Option RunText) DataError)
+pub Next-errors : (before after : Given) (old new : ReaderText) (e f : Option DataError) (result : Result (Option RunText) DataError)
     → Next before after old new result → Next before after (record old { error = e }) (record new { error = f }) result
 Next-errors before after old new e f result h = record {
   taken = h.taken;
@@ -395,7 +395,7 @@ Next-errors before after old new e f result h = record {
 }
 
 -- after an error nothing is held
-pub Next-failed : (before after : Option (List ℕ)) (old new new' : ReaderText) (error : DataError) → Next before after old new (Err error)
+pub Next-failed : (before after : Given) (old new new' : ReaderText) (error : DataError) → Next before after old new (Err error)
     → new'.reads ≡ new.reads → new'.ended ≡ new.ended → new'.dictionary ≡ new.dictionary → new'.lines ≡ old.lines → Next before after old new' (Err error)
 Next-failed before after old new new' error h r e d l = record {
   taken = h.taken;

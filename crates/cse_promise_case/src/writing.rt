@@ -8,7 +8,7 @@ use cse_value::{Failed, Output};
 
 /// `Case::write_to`.
 pub fn write_to<W: Output>(case: &Case<'_>, out: &mut W) -> Result<(), Failed>
-    ensures bytes { WritesAll result (W.contents out.old) (W.contents out.new) (written_run case.now.run) }
+    ensures bytes { WritesAll result (W.taken out.old) (W.taken out.new) (written_run case.now.run) }
     ensures failed { FailsAtErr result (W.has_failed out.old) (W.has_failed out.new) }
 {
     case.write_to(out)

@@ -1,7 +1,7 @@
 //! What is told of images, and made.
 
 ghost use Rattle.std.specs.Prelude.{◌≡◌, false, IfErr, IfOk, OnOk};
-ghost use Rattle.std.specs.Io.KnownBytes.{Appends};
+ghost use Rattle.cse_value.specs.Device.{Appends};
 ghost use Rattle.cse_build.specs.Build.{IsBuilt};
 ghost use Rattle.cse_build.specs.Meant.{MeansLogic};
 ghost use Rattle.cse_commands.specs.Stops.{TellsBuildFault};
@@ -33,9 +33,9 @@ pub fn image_of(
 
 /// `try_to`.
 pub fn try_to<W: Output>(alloc: Global, image: &[u8], out: &mut W) -> Result<u64, TryFault>
-    ensures runs { IfOk result (λ n. (r : Runs image.now n) × Appends (W.contents out.old) (W.contents out.new) (text_of r)) }
+    ensures runs { IfOk result (λ n. (r : Runs image.now n) × Appends (W.taken out.old) (W.taken out.new) (text_of r)) }
     ensures refused { IfErr result (λ f. is_write f ≡ false → IsRefused image.now f) }
-    ensures printed { IfErr result (λ f. PrintsBefore image.now f (W.contents out.old) (W.contents out.new)) }
+    ensures printed { IfErr result (λ f. PrintsBefore image.now f (W.taken out.old) (W.taken out.new)) }
     ensures failed { FailsByWrite result (W.has_failed out.old) (W.has_failed out.new) }
 {
     try_image::try_to(alloc, image, out)
@@ -48,9 +48,9 @@ pub fn verify_to<W: Output>(
     image: &[u8],
     out: &mut W,
 ) -> Result<(), VerifyFault>
-    ensures passes { OnOk result ((p : Passes dict.now image.now) × Appends (W.contents out.old) (W.contents out.new) (told p)) }
+    ensures passes { OnOk result ((p : Passes dict.now image.now) × Appends (W.taken out.old) (W.taken out.new) (told p)) }
     ensures fails { IfErr result (λ f. is_failed_write f ≡ false → FailsBy dict.now image.now f) }
-    ensures before { IfErr result (λ f. TellsBefore dict.now image.now f (W.contents out.old) (W.contents out.new)) }
+    ensures before { IfErr result (λ f. TellsBefore dict.now image.now f (W.taken out.old) (W.taken out.new)) }
     ensures failed { FailsOnlyByWrite result (W.has_failed out.old) (W.has_failed out.new) }
 {
     verify_image::verify_to(alloc, dict, image, out)

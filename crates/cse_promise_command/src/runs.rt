@@ -44,11 +44,11 @@ pub fn run_on<C: Code, R: Input, O: Output, L: Output, F: Output>(
     frequencies: &mut F,
 ) -> Result<(Totals, Gathered), Stop>
     requires { StoreFits verified.now.image store }
-    ensures whole { IfOk result (λ ran. RunsWhole verified.now store (R.remaining input.old) (R.remaining input.new)
-        (contents (O.contents out.old) (L.contents listing.old) (F.contents frequencies.old) (Some [])) (contents (O.contents out.new) (L.contents listing.new) (F.contents frequencies.new) (Some ran.1.bytes.items)) ran.0) }
-    ensures stopped { IfErr result (TellsRunFault verified.now store (R.remaining input.old) (R.remaining input.new)
-        (contents (O.contents out.old) (L.contents listing.old) (F.contents frequencies.old)) (contents (O.contents out.new) (L.contents listing.new) (F.contents frequencies.new))
-        (R.has_failed input.new) (failures (O.has_failed out.new) (L.has_failed listing.new) (F.has_failed frequencies.new))) }
+    ensures whole { IfOk result (λ ran. RunsWhole verified.now store (R.given input.old) (R.given input.new)
+        (contents (O.taken out.old) (L.taken listing.old) (F.taken frequencies.old) []) (contents (O.taken out.new) (L.taken listing.new) (F.taken frequencies.new) ran.1.bytes.items) ran.0) }
+    ensures stopped { IfErr result (TellsRunFault verified.now store (R.given input.old) (R.given input.new)
+        (contents (O.taken out.old) (L.taken listing.old) (F.taken frequencies.old)) (contents (O.taken out.new) (L.taken listing.new) (F.taken frequencies.new))
+        (failures (O.has_failed out.new) (L.has_failed listing.new) (F.has_failed frequencies.new))) }
 {
     run_image::run_on(alloc, verified, store, input, out, listing, frequencies)
 }

@@ -21,7 +21,7 @@ pub fn text(listing: &Listing, i: usize) -> Option<&str>
 
 /// `Listing::flush_to`.
 pub fn flush_listing<W: Output>(listing: &mut Listing, out: &mut W) -> Result<(), Failed>
-    ensures bytes { WritesAll result (W.contents out.old) (W.contents out.new) listing.old.lines }
+    ensures bytes { WritesAll result (W.taken out.old) (W.taken out.new) listing.old.lines }
     ensures failed { FailsAtErr result (W.has_failed out.old) (W.has_failed out.new) }
     ensures ok { OnOk result (listing.new ≡ flushed listing.old) }
     ensures err { OnErr result (listing.new ≡ listing.old) }
@@ -37,7 +37,7 @@ pub fn write_listing<W: Output>(
     unseen: u64,
     out: &mut W,
 ) -> Result<(), Failed>
-    ensures bytes { WritesAll result (W.contents out.old) (W.contents out.new) (ending listing.now cases lines unseen) }
+    ensures bytes { WritesAll result (W.taken out.old) (W.taken out.new) (ending listing.now cases lines unseen) }
     ensures failed { FailsAtErr result (W.has_failed out.old) (W.has_failed out.new) }
 {
     listing.write_to(cases, lines, unseen, out)
@@ -49,7 +49,7 @@ pub fn write_frequencies<W: Output>(
     dictionary: &Dictionary,
     out: &mut W,
 ) -> Result<(), Failed>
-    ensures bytes { WritesAll result (W.contents out.old) (W.contents out.new) (frequencies_text (item_names dictionary.now) frequencies.now) }
+    ensures bytes { WritesAll result (W.taken out.old) (W.taken out.new) (frequencies_text (item_names dictionary.now) frequencies.now) }
     ensures failed { FailsAtErr result (W.has_failed out.old) (W.has_failed out.new) }
 {
     frequencies.write_to(dictionary, out)

@@ -40,11 +40,11 @@ pub fn run<C: Code, R: Input, O: Output, L: Output, F: Output, D: Output>(
     decks: &mut D,
 ) -> Result<Totals, RunFault>
     requires fits { StoreFits verified.now.image store }
-    ensures ok { IfOk result (λ totals. RunsWhole verified.now store (R.remaining input.old) (R.remaining input.new)
-        (contents (O.contents out.old) (L.contents listing.old) (F.contents frequencies.old) (D.contents decks.old)) (contents (O.contents out.new) (L.contents listing.new) (F.contents frequencies.new) (D.contents decks.new)) totals) }
-    ensures err { IfErr result (λ fault. RunStops verified.now store (R.remaining input.old) (R.remaining input.new)
-        (contents (O.contents out.old) (L.contents listing.old) (F.contents frequencies.old) (D.contents decks.old)) (contents (O.contents out.new) (L.contents listing.new) (F.contents frequencies.new) (D.contents decks.new))
-        (R.has_failed input.new) (failures (O.has_failed out.new) (L.has_failed listing.new) (F.has_failed frequencies.new) (D.has_failed decks.new)) fault) }
+    ensures ok { IfOk result (λ totals. RunsWhole verified.now store (R.given input.old) (R.given input.new)
+        (contents (O.taken out.old) (L.taken listing.old) (F.taken frequencies.old) (D.taken decks.old)) (contents (O.taken out.new) (L.taken listing.new) (F.taken frequencies.new) (D.taken decks.new)) totals) }
+    ensures err { IfErr result (λ fault. RunStops verified.now store (R.given input.old) (R.given input.new)
+        (contents (O.taken out.old) (L.taken listing.old) (F.taken frequencies.old) (D.taken decks.old)) (contents (O.taken out.new) (L.taken listing.new) (F.taken frequencies.new) (D.taken decks.new))
+        (failures (O.has_failed out.new) (L.has_failed listing.new) (F.has_failed frequencies.new) (D.has_failed decks.new)) fault) }
 {
     cse_batch::run(
         alloc,

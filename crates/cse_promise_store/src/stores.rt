@@ -42,7 +42,7 @@ pub fn save<C: Code, W: Output>(
 ) -> Result<(), Failed>
     requires { StoreFits program.now store.now }
     ensures loads { loaded program.now (deck_text program.now store.now) ≡ Ok (saved_kept program.now store.now) }
-    ensures bytes { WritesAll result (W.contents out.old) (W.contents out.new) (deck_text program.now store.now) }
+    ensures bytes { WritesAll result (W.taken out.old) (W.taken out.new) (deck_text program.now store.now) }
     ensures failed { FailsAtErr result (W.has_failed out.old) (W.has_failed out.new) }
 {
     cse_decks::save(program, store, out)

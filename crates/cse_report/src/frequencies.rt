@@ -59,7 +59,7 @@ impl Frequencies {
     /// Writes the frequencies (own): a heading, for each item of the dictionary to which a value was imputed
     /// a line with its name and total and a line for each value, and an end. Takes no memory.
     pub fn write_to<W: Output>(&self, dictionary: &Dictionary, out: &mut W) -> Result<(), Failed>
-        ensures bytes { WritesAll result (W.contents out.old) (W.contents out.new) (frequencies_text (item_names dictionary.now) self.now) }
+        ensures bytes { WritesAll result (W.taken out.old) (W.taken out.new) (frequencies_text (item_names dictionary.now) self.now) }
         ensures failed { FailsAtErr result (W.has_failed out.old) (W.has_failed out.new) }
     {
         let mut gatherer = Gatherer::new();
@@ -77,7 +77,7 @@ fn put_items<W: Output>(
     dictionary: &Dictionary,
     items: &[ValueCounts],
 )
-    ensures { Puts (going (W.contents out.old) (W.has_failed out.old) gatherer.old.waiting.items gatherer.old.gave_up) (going (W.contents out.new) (W.has_failed out.new) gatherer.new.waiting.items gatherer.new.gave_up) (items_lines (item_names dictionary.now) items.now) }
+    ensures { Puts (going (W.taken out.old) (W.has_failed out.old) gatherer.old.waiting.items gatherer.old.gave_up) (going (W.taken out.new) (W.has_failed out.new) gatherer.new.waiting.items gatherer.new.gave_up) (items_lines (item_names dictionary.now) items.now) }
 {
     let count = dictionary.shape().items.len().min(items.len());
     'items: for item in 0..count {

@@ -11,16 +11,16 @@ use Rattle.cse_batch.proofs.running.run_cases.Goals.{then-written-via-then-writt
 pub returns-in_default-clause-err : goal.returns-in_default-clause-err
 returns-in_default-clause-err g c =
     let v = c.args.verified.now in
-    let nothing = Gathering-none (g.O.Output.contents c.args.out.now) (g.O.Output.has_failed c.args.out.now) c.args.written.now.waiting.items c.args.written.now.gave_up c.requires.written.nothing_waits c.requires.written.going in
-    let none = Gathering-none (g.L.Output.contents c.args.listing.now) (g.L.Output.has_failed c.args.listing.now) c.args.listed.now.waiting.items c.args.listed.now.gave_up c.requires.listed.nothing_waits c.requires.listed.going in
+    let nothing = Gathering-none (g.O.Output.taken c.args.out.now) (g.O.Output.has_failed c.args.out.now) c.args.written.now.waiting.items c.args.written.now.gave_up c.requires.written.nothing_waits c.requires.written.going in
+    let none = Gathering-none (g.L.Output.taken c.args.listing.now) (g.L.Output.has_failed c.args.listing.now) c.args.listed.now.waiting.items c.args.listed.now.gave_up c.requires.listed.nothing_waits c.requires.listed.going in
     halts_at_once v c.args.store.now _ _ _ _ nothing (one_line v c.args.reports.now _ _ _ _ _ c.requires.unreported.listing none c.put_to.ensures.puts c.in_default.ensures.err)
 
 pub runs-init : goal.runs-init
 runs-init g c =
     let v = c.args.verified.now in
     let first = c.args.store.now in
-    let nothing = Gathering-none (g.O.Output.contents c.args.out.now) (g.O.Output.has_failed c.args.out.now) c.args.written.now.waiting.items c.args.written.now.gave_up c.requires.written.nothing_waits c.requires.written.going in
-    let none = Gathering-none (g.L.Output.contents c.args.listing.now) (g.L.Output.has_failed c.args.listing.now) c.args.listed.now.waiting.items c.args.listed.now.gave_up c.requires.listed.nothing_waits c.requires.listed.going in
+    let nothing = Gathering-none (g.O.Output.taken c.args.out.now) (g.O.Output.has_failed c.args.out.now) c.args.written.now.waiting.items c.args.written.now.gave_up c.requires.written.nothing_waits c.requires.written.going in
+    let none = Gathering-none (g.L.Output.taken c.args.listing.now) (g.L.Output.has_failed c.args.listing.now) c.args.listed.now.waiting.items c.args.listed.now.gave_up c.requires.listed.nothing_waits c.requires.listed.going in
     let reports : Reports = record { listing = c.put_to.new.self; frequencies = c.args.reports.now.frequencies } in
     let begins = keeps_nothing v first c.args.reports.now reports _ _ _ _ c.requires.unreported.listing c.requires.unreported.frequencies none c.put_to.ensures.puts c.put_to.ensures.held refl in
     record {
@@ -51,7 +51,7 @@ returns-then-written-clause-err g c =
     let new : Reports = record { listing = c.put_to-in-Ok-Some-2.new.self; frequencies = c.edit.new.reports.frequencies } in
     let more = running_case _ _ _ _ _ _ _ _ _ _ _ _ inv.running _ next c.edit.new.case c.edit.new.store c.edit.new.reports new _ _ c.is_case.result
     c.in-Ok-edit.ensures.edits c.put_to-in-Ok-Some.ensures c.put_to-in-Ok-Some-2.ensures.puts c.put_to-in-Ok-Some-2.ensures.held refl c.is_case.ensures c.in-Ok-Some.ensures.few in
-    halts_writing _ _ _ _ (g.R.Input.remaining c.next.new.self.input.now) _ c.next.new.self.stream _ _ _ _ _ more _ c.next.new.self.end
+    halts_writing _ _ _ _ (g.R.Input.given c.next.new.self.input.now) _ c.next.new.self.stream _ _ _ _ _ more _ c.next.new.self.end
     (elim c.then-written.branch [
       | then-written-via-then-written w ↦ inl w.if-written.true
       | then-written-via-else-written+then-listed w ↦ inr w.if-listed.true

@@ -8,6 +8,6 @@ use Rattle.cse_case.proofs.write.put_lines.Given as goal
 
 abbrev pub invariant-lines : goal.invariant-lines
 invariant-lines g l =
-    Puts (going (g.W.Output.contents l.fn.out) (g.W.Output.has_failed l.fn.out) l.fn.gatherer.waiting.items l.fn.gatherer.gave_up)
-    (going (g.W.Output.contents l.out) (g.W.Output.has_failed l.out) l.gatherer.waiting.items l.gatherer.gave_up)
+    Puts (going (g.W.Output.taken l.fn.out) (g.W.Output.has_failed l.fn.out) l.fn.gatherer.waiting.items l.fn.gatherer.gave_up)
+    (going (g.W.Output.taken l.out) (g.W.Output.has_failed l.out) l.gatherer.waiting.items l.gatherer.gave_up)
     (flat_map written_line (laid_lines (columns_lent l.columns) (take l.line-index l.lines)))

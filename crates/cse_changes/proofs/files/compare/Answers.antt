@@ -89,7 +89,7 @@ runs-preserved g c =
 pub returns-in-Err-clause-stops : goal.returns-in-Err-clause-stops
 returns-in-Err-clause-stops g c =
     let inv = c.runs.invariant in
-    stops_read _ _ _ _ _ _ (g.S.Input.remaining c.runs.written) _ _ _ c.runs.other _ _ inv.comparing c.in-Err.error _ (c.in-Err.ensures.next inv.sound) c.in-Err.ensures.end (c.in-Err.ensures.failed inv.sound) inv.end_other
+    stops_read _ _ _ _ _ _ (g.S.Input.given c.runs.written) _ _ _ c.runs.other _ _ inv.comparing c.in-Err.error _ (c.in-Err.ensures.next inv.sound) c.in-Err.ensures.end (c.in-Err.ensures.failed inv.sound) inv.end_other
 
 pub returns-in-Err-next-clause-stops : goal.returns-in-Err-next-clause-stops
 returns-in-Err-next-clause-stops g c =

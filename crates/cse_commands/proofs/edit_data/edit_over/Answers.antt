@@ -16,7 +16,7 @@ returns-clause-took g c =
     (λ ran took. (
       took.0,
       tells_edit c.args.verified.now c.batches_mean.ensures c.args.text.now c.args.logic.now c.args.messages.now c.args.order.now c.args.image.now (option_copied c.args.decks)
-          c.requires.read c.requires.stands c.requires.built c.args.store c.requires.starts c.requires.fits took.0 (input.remaining ran.input)
+          c.requires.read c.requires.stands c.requires.built c.args.store c.requires.starts c.requires.fits took.0 (input.given ran.input)
           (contents (output.contents ran.out) (output.contents ran.listing) (output.contents ran.frequencies)) (input.has_failed ran.input)
           (failures (output.has_failed ran.out) (output.has_failed ran.listing) (output.has_failed ran.frequencies)) ran.told took.1,
     ))

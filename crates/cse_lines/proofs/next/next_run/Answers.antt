@@ -1,7 +1,7 @@
 use Rattle.std.proofs.Common.{◌+◌, ◌∙◌, arith, sym, subst, true}
 use Rattle.std.specs.Prelude.{◌==◌}
 use Rattle.std.proofs.lemmas.Bool.{false≢true}
-use Rattle.std.proofs.KnownBytes.{Keeps-refl}
+use Rattle.cse_value.proofs.ReadLaws.{Keeps-refl}
 use Rattle.cse_lines.specs.Taking.{Cuts, GathersAll}
 use Rattle.cse_lines.proofs.ReadLaws.{HasRead-more, HasRead-needed, HasRead-none, IsResting-end, Next-end}
 use Rattle.cse_lines.proofs.next.next_run.Goals as goal

@@ -7,6 +7,6 @@ use Rattle.cse_report.proofs.counts.put_values.Given as goal
 -- the lines so far
 abbrev pub invariant-values : goal.invariant-values
 invariant-values g l =
-    Puts (going (g.W.Output.contents l.fn.out) (g.W.Output.has_failed l.fn.out) l.fn.gatherer.waiting.items l.fn.gatherer.gave_up)
-    (going (g.W.Output.contents l.out) (g.W.Output.has_failed l.out) l.gatherer.waiting.items l.gatherer.gave_up)
+    Puts (going (g.W.Output.taken l.fn.out) (g.W.Output.has_failed l.fn.out) l.fn.gatherer.waiting.items l.fn.gatherer.gave_up)
+    (going (g.W.Output.taken l.out) (g.W.Output.has_failed l.out) l.gatherer.waiting.items l.gatherer.gave_up)
     (flat_map value_line (take l.i l.counts))

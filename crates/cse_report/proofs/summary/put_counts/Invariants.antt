@@ -8,6 +8,6 @@ use Rattle.cse_report.proofs.summary.put_counts.Given as goal
 -- the messages so far
 abbrev pub invariant-messages : goal.invariant-messages
 invariant-messages g l =
-    Puts (going (g.W.Output.contents l.fn.out) (g.W.Output.has_failed l.fn.out) l.fn.gatherer.waiting.items l.fn.gatherer.gave_up)
-    (going (g.W.Output.contents l.out) (g.W.Output.has_failed l.out) l.gatherer.waiting.items l.gatherer.gave_up)
+    Puts (going (g.W.Output.taken l.fn.out) (g.W.Output.has_failed l.fn.out) l.fn.gatherer.waiting.items l.fn.gatherer.gave_up)
+    (going (g.W.Output.taken l.out) (g.W.Output.has_failed l.out) l.gatherer.waiting.items l.gatherer.gave_up)
     (count_lines (map message_lists (take l.i l.messages)) (take l.i l.counts))
