@@ -2,6 +2,7 @@
 use Rattle.std.specs.Prelude.{◌≡◌, ℕ, Bool, true, List, [], ◌∷◌, ◌++◌, Result, MatchBool}
 use Rattle.cse_value.specs.Device.{Appends}
 use Rattle.cse_value.specs.Writing.{AppendsFront, WritesAll, FailsAtErr}
+use Rattle.cse_output.specs.declared.gatherer.Gatherer.{Gatherer}
 
 -- a device's bytes and whether it has failed, the bytes that wait, and whether writing was given up
 pub record Going : Type 0 where
@@ -12,6 +13,10 @@ pub record Going : Type 0 where
 
 abbrev pub going : List ℕ → Bool → List ℕ → Bool → Going
 going contents has_failed waiting gave_up = record { contents = contents; has_failed = has_failed; waiting = waiting; gave_up = gave_up }
+
+-- a device, by what it tells of itself, and a buffer before it
+abbrev pub behind : {W : Type 0} → (W → List ℕ) → (W → Bool) → W → Gatherer → Going
+behind taken has_failed out gatherer = going (taken out) (has_failed out) gatherer.waiting.items gatherer.gave_up
 
 -- a front of the text was written, and the rest waits
 pub record Gathered (start : List ℕ) (sound : Bool) (g : Going) (text : List ℕ) : Type 0 where
