@@ -4,7 +4,7 @@ use Rattle.std.specs.Prelude.{IsTrue, ◌||◌, nat_eq, Result, Ok, Err, IfErr}
 use Rattle.std.proofs.Math.Logic.{∥∥₁_elim, ∥∥₁_prop}
 use Rattle.cse_dict.specs.Dictionary.{DictionaryText, shape_of}
 use Rattle.cse_dict.specs.Sound.{IsSound as IsSoundDictionary}
-use Rattle.cse_syntax.specs.Grammar.{spell_tree}
+use Rattle.cse_syntax_tree.specs.Grammar.{spell_tree}
 use Rattle.cse_logic_tree.specs.Typed.{Tree}
 use Rattle.cse_logic_tree.specs.Erase.{erase_tree}
 use Rattle.cse_types.specs.Checked.{Checked, IsChecked}

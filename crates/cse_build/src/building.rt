@@ -7,10 +7,10 @@ ghost use Rattle.std.specs.Prelude.{◌≡◌, ◌⊎◌, ℕ, List, true, IfOk,
 ghost use Rattle.std.specs.Str.{is_utf8};
 ghost use Rattle.cse_image_parts.specs.Image.{Image};
 ghost use Rattle.cse_image.specs.Spelling.{Spells};
-ghost use Rattle.cse_syntax.specs.Tree as syntax;
+ghost use Rattle.cse_syntax_tree.specs.Tree as syntax;
 ghost use Rattle.cse_syntax.specs.Source.{IsSourceText};
 ghost use Rattle.cse_logic_tree.specs.Typed as typed_spec;
-ghost use Rattle.cse_syntax.specs.Grammar.{spell_tree};
+ghost use Rattle.cse_syntax_tree.specs.Grammar.{spell_tree};
 ghost use Rattle.cse_logic_tree.specs.Erase.{erase_tree};
 ghost use Rattle.cse_types.specs.Answer.{checked};
 ghost use Rattle.cse_logic_names.specs.OrderFile.{IsOrderOf};

@@ -2,7 +2,7 @@
 
 ghost use Rattle.std.specs.Prelude.{◌≡◌, IfOk, IfErr};
 ghost use Rattle.cse_dict.specs.Dictionary.{shape_of};
-ghost use Rattle.cse_syntax.specs.Grammar.{spell_tree};
+ghost use Rattle.cse_syntax_tree.specs.Grammar.{spell_tree};
 ghost use Rattle.cse_logic_tree.specs.Erase.{erase_tree};
 ghost use Rattle.cse_code_typing.specs.Typed.{IsTyped};
 ghost use Rattle.cse_code_bounds.specs.Bounded.{IsBounded};

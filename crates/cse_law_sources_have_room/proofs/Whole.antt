@@ -18,9 +18,9 @@ use Rattle.cse_image_parts.specs.Image.{Image, Lists, ArrayLists, RoutineLists}
 use Rattle.cse_image.specs.Spelling.{Fits, ListsFit, RecordFits, ItemFits, SetFits, OrderFits, GlobalFits, MessageFits}
 use Rattle.cse_dict.specs.Dictionary.{DictionaryText, RecordText, ItemText, SetText, shape_of}
 use Rattle.cse_dict.specs.Sound.{IsSound as IsSoundDictionary}
-use Rattle.cse_syntax.specs.Tree as syntax
-use Rattle.cse_syntax.specs.Word.{Word}
-use Rattle.cse_syntax.specs.Grammar.{IsSource, spell_tree}
+use Rattle.cse_syntax_tree.specs.Tree as syntax
+use Rattle.cse_syntax_tree.specs.Word.{Word}
+use Rattle.cse_syntax_tree.specs.Grammar.{IsSource, spell_tree}
 use Rattle.cse_logic_tree.specs.Typed.{Declaration, Entry, Tree}
 use Rattle.cse_logic_tree.specs.Erase.{erase_declaration, erase_tree}
 use Rattle.cse_logic_tree.specs.Tokens.{all_tokens, declaration_tokens, globals_tokens}

@@ -5,7 +5,7 @@ use Rattle.std.specs.Str.{is_utf8}
 use Rattle.cse_value.specs.Shape.{ShapeLists}
 use Rattle.cse_image_parts.specs.Texts.{is_text}
 use Rattle.cse_image.specs.Spelling.{RecordFits, ItemFits, SetFits}
-use Rattle.cse_syntax.specs.Word.{Word, Quoted}
+use Rattle.cse_syntax_tree.specs.Word.{Word, Quoted}
 use Rattle.cse_logic_names.specs.MessageFile.{MessageText}
 
 -- the numbers of each record, item and set have the bits that their fields have in an image

@@ -2,7 +2,7 @@
 
 ghost use Rattle.std.specs.Prelude.{◌≡◌, ◌==◌, ◌||◌, not, true, false, map, slice_get, Some, None, IfOk, OnOk};
 ghost use Rattle.std.specs.Option.{option_map};
-ghost use Rattle.cse_syntax.specs.Tree.{written};
+ghost use Rattle.cse_syntax_tree.specs.Tree.{written};
 ghost use Rattle.cse_logic_tree.specs.Typed as typed;
 ghost use Rattle.cse_logic_tree.specs.Typed.{number, numbers, words, statement};
 ghost use Rattle.cse_logic_names.specs.Scope.{meant, kind_and_owner, found};
@@ -21,7 +21,7 @@ use cse_logic_names::faults::Faults;
 use cse_logic_names::meaning::Meaning;
 use cse_logic_names::scope::{Scope, kind_and_owner, own_result};
 use cse_logic_tree::{Field, Number, Pick, Statement, Variable, Which, Words};
-use cse_syntax::Lexeme;
+use cse_syntax_tree::Lexeme;
 use cse_value::shape::ItemKind;
 use std::alloc::{AllocError, Global};
 

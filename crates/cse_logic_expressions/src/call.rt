@@ -3,7 +3,7 @@
 ghost use Rattle.std.specs.Prelude.{◌≡◌, map, length, slice_get, Some, None};
 ghost use Rattle.std.specs.Option.{option_map};
 ghost use Rattle.std.specs.List.{list_any, list_all};
-ghost use Rattle.cse_syntax.specs.Tree.{written};
+ghost use Rattle.cse_syntax_tree.specs.Tree.{written};
 ghost use Rattle.cse_logic_tree.specs.Typed as typed;
 ghost use Rattle.cse_logic_tree.specs.Typed.{number, numbers};
 ghost use Rattle.cse_logic_names.specs.Scope as scope_of;
@@ -15,7 +15,7 @@ use cse_logic_names::faults::Faults;
 use cse_logic_names::names::Globals;
 use cse_logic_names::scope::{Facts, Scope, has_case};
 use cse_logic_tree::{Number, Variable};
-use cse_syntax::Lexeme;
+use cse_syntax_tree::Lexeme;
 
 fn is_same_variable(x: Variable, y: Variable) -> bool
     ensures { result ≡ scope_of.is_same_variable x y }

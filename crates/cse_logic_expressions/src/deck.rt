@@ -2,7 +2,7 @@
 
 ghost use Rattle.std.specs.Prelude.{◌≡◌, ◌&&◌, true, false, map, length, drop, slice_get, Some, None, IfOk, OnOk};
 ghost use Rattle.std.specs.Option.{option_map};
-ghost use Rattle.cse_syntax.specs.Tree.{written};
+ghost use Rattle.cse_syntax_tree.specs.Tree.{written};
 ghost use Rattle.cse_logic_tree.specs.Typed as typed;
 ghost use Rattle.cse_logic_tree.specs.Typed.{number, dimension};
 ghost use Rattle.cse_logic_names.specs.Scope.{meant};
@@ -16,7 +16,7 @@ use cse_logic_names::faults::Faults;
 use cse_logic_names::meaning::Meaning;
 use cse_logic_names::scope::{Scope, has_case};
 use cse_logic_tree::{Dimension, Number, Pick, Present};
-use cse_syntax::{Lexeme, Query};
+use cse_syntax_tree::{Lexeme, Query};
 use std::alloc::{AllocError, Global};
 
 /// The present value's place of a set's item, or the fault at this token.

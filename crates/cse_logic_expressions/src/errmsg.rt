@@ -3,8 +3,8 @@
 ghost use Rattle.std.specs.Prelude.{◌≡◌, ◌==◌, false, map, length, drop, nat_eq, find, Some, None, IfOk, OnOk};
 ghost use Rattle.std.specs.Option.{option_map};
 ghost use Rattle.cse_image_parts.specs.Placeholders.{message_kinds};
-ghost use Rattle.cse_syntax.specs.Leaf as leaf;
-ghost use Rattle.cse_syntax.specs.Tree.{expr, exprs, message};
+ghost use Rattle.cse_syntax_tree.specs.Leaf as leaf;
+ghost use Rattle.cse_syntax_tree.specs.Tree.{expr, exprs, message};
 ghost use Rattle.cse_logic_tree.specs.Typed as typed;
 ghost use Rattle.cse_logic_tree.specs.Typed.{argument, number, statement, words};
 ghost use Rattle.cse_logic_names.specs.MessageFile.{MessageText};
@@ -22,7 +22,7 @@ use cse_logic_names::faults::Faults;
 use cse_logic_names::messages::Messages;
 use cse_logic_names::scope::Scope;
 use cse_logic_tree::{Argument, Number, Statement, Words};
-use cse_syntax::{Expression, Message};
+use cse_syntax_tree::{Expression, Message};
 use std::alloc::{AllocError, Global};
 
 /// What stands between the quotes of a text.

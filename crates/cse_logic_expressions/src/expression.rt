@@ -2,10 +2,10 @@
 
 ghost use Rattle.std.specs.Prelude.{◌≡◌, ◌&&◌, ◌||◌, not, ◌≤◌, ◌==◌, MatchOption, IfSome, true, false, map, length, drop, slice_get, Some, None, IfOk, OnOk};
 ghost use Rattle.std.specs.Option.{option_map};
-ghost use Rattle.cse_syntax.specs.Leaf as leaf;
-ghost use Rattle.cse_syntax.specs.Leaf.{is_within, MOST};
-ghost use Rattle.cse_syntax.specs.Tree as syntax;
-ghost use Rattle.cse_syntax.specs.Tree.{written, expr, exprs, operations as operations_of, operation_tree as parsed};
+ghost use Rattle.cse_syntax_tree.specs.Leaf as leaf;
+ghost use Rattle.cse_syntax_tree.specs.Leaf.{is_within, MOST};
+ghost use Rattle.cse_syntax_tree.specs.Tree as syntax;
+ghost use Rattle.cse_syntax_tree.specs.Tree.{written, expr, exprs, operations as operations_of, operation_tree as parsed};
 ghost use Rattle.cse_logic_tree.specs.Typed as typed;
 ghost use Rattle.cse_logic_tree.specs.Typed.{number, numbers, words, operations, operation_tree};
 ghost use Rattle.cse_logic_names.specs.Scope.{meant};
@@ -26,7 +26,7 @@ use cse_logic_names::faults::Faults;
 use cse_logic_names::meaning::Meaning;
 use cse_logic_names::scope::{Scope, own_result};
 use cse_logic_tree::{Number, Operation, Variable, Words};
-use cse_syntax::{Expression, Function, Lexeme, Operation as Parsed, Operator, number_of};
+use cse_syntax_tree::{Expression, Function, Lexeme, Operation as Parsed, Operator, number_of};
 use std::alloc::{AllocError, Global};
 
 /// What a name without parentheses is.

@@ -4,7 +4,7 @@ ghost use Rattle.std.specs.Prelude.{◌≡◌, ◌<◌, ℕ, List, map, length, 
 ghost use Rattle.std.specs.Option.{option_map, option_map_or, option_and_then};
 ghost use Rattle.std.specs.Str.{bytes_eq};
 ghost use Rattle.cse_dict.specs.Keys.{kept_name};
-ghost use Rattle.cse_syntax.specs.Tree.{written};
+ghost use Rattle.cse_syntax_tree.specs.Tree.{written};
 ghost use Rattle.cse_logic_tree.specs.Typed.{dimension};
 ghost use Rattle.cse_logic_tree.specs.declared.tree.Variable.{Variable};
 ghost use Rattle.cse_logic_names.specs.Scope as spec;
@@ -16,7 +16,7 @@ use crate::messages::Messages;
 use crate::names::{Globals, Names, Parameters};
 use cse_dict::Dictionary;
 use cse_logic_tree::{Dimension, Found, Owner, Variable};
-use cse_syntax::Lexeme;
+use cse_syntax_tree::Lexeme;
 use cse_value::shape::ItemKind;
 use std::alloc::AllocError;
 use std::marker::Model;

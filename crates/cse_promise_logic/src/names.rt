@@ -1,7 +1,7 @@
 //! The typed tree, and the files beside the logic.
 
 ghost use Rattle.std.specs.Prelude.{◌≡◌, ◌≤◌, ◌⊎◌, IfOk, IfErr};
-ghost use Rattle.cse_syntax.specs.Tree as syntax;
+ghost use Rattle.cse_syntax_tree.specs.Tree as syntax;
 ghost use Rattle.cse_logic_tree.specs.Typed as typed;
 ghost use Rattle.cse_types.specs.Answer.{IsAnswer, checked};
 ghost use Rattle.cse_logic_names.specs.Fault.{out_of_memory};

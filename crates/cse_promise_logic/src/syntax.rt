@@ -1,11 +1,11 @@
 //! A tree from a text, and what its tokens say.
 
 ghost use Rattle.std.specs.Prelude.{◌≡◌, ◌≤◌, ◌⊎◌, Some, true, false, IfOk, IfErr, MatchOption};
-ghost use Rattle.cse_syntax.specs.Word.{words, AreNumbered};
-ghost use Rattle.cse_syntax.specs.Tree as tree;
-ghost use Rattle.cse_syntax.specs.Leaf as leaf;
+ghost use Rattle.cse_syntax_tree.specs.Word.{words, AreNumbered};
+ghost use Rattle.cse_syntax_tree.specs.Tree as tree;
+ghost use Rattle.cse_syntax_tree.specs.Leaf as leaf;
 ghost use Rattle.cse_syntax.specs.Place as places;
-ghost use Rattle.cse_syntax.specs.Grammar.{IsSource};
+ghost use Rattle.cse_syntax_tree.specs.Grammar.{IsSource};
 ghost use Rattle.cse_syntax.specs.Text.{pieces, pieces_of};
 ghost use Rattle.cse_syntax.specs.Source.{IsCovered, IsSourceText, IsRead};
 

@@ -2,7 +2,7 @@
 
 ghost use Rattle.std.specs.Prelude.{◌≡◌, ◌≤◌, ◌⊎◌, not, false, true, IfOk, IfErr};
 ghost use Rattle.std.specs.Option.{option_map};
-ghost use Rattle.cse_syntax.specs.Tree as syntax;
+ghost use Rattle.cse_syntax_tree.specs.Tree as syntax;
 ghost use Rattle.cse_syntax.specs.Place as place;
 ghost use Rattle.cse_logic_tree.specs.Typed as typed;
 ghost use Rattle.cse_types.specs.Answer.{IsAnswer, checked};

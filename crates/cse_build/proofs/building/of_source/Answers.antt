@@ -1,6 +1,6 @@
 use Rattle.std.proofs.Common.{◌≡◌, ◌⊎◌, sym, subst}
-use Rattle.cse_syntax.specs.Tree as syntax
-use Rattle.cse_syntax.specs.Grammar.{spell_tree}
+use Rattle.cse_syntax_tree.specs.Tree as syntax
+use Rattle.cse_syntax_tree.specs.Grammar.{spell_tree}
 use Rattle.cse_types.specs.Answer.{checked}
 use Rattle.cse_law_sources_have_room.specs.Given.{AreTexts, AreUtf8}
 use Rattle.cse_build.specs.declared.error.BuildFault.{BuildFault}

@@ -1,9 +1,9 @@
 use Rattle.std.specs.Prelude.{IsTrue}
 use Rattle.std.specs.List.{AllByRecursion}
 use Rattle.std.specs.Str.{is_utf8}
-use Rattle.cse_syntax.specs.declared.token.Token.{Token}
+use Rattle.cse_syntax_tree.specs.declared.token.Token.{Token}
 use Rattle.std.proofs.Common.{List, ◌≡◌, ◌⊎◌, sym, subst}
-use Rattle.cse_syntax.specs.Tree as syntax
+use Rattle.cse_syntax_tree.specs.Tree as syntax
 use Rattle.cse_build.specs.declared.error.BuildFault.{BuildFault}
 use Rattle.cse_build.specs.Fault.{out_of_memory}
 use Rattle.cse_build.specs.Build.{IsLogicFault}

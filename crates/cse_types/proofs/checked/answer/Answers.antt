@@ -1,6 +1,6 @@
 use Rattle.std.proofs.Common.{◌≡◌, ap, ◌∙◌, sym, subst, Some, None, true, false, option_map}
 use Rattle.std.specs.Prelude.{not}
-use Rattle.cse_syntax.specs.Tree as syntax
+use Rattle.cse_syntax_tree.specs.Tree as syntax
 use Rattle.cse_logic_tree.specs.Typed as typed
 use Rattle.cse_types.specs.Checked.{Checked}
 use Rattle.cse_types.specs.JudgeTree.{typed_of}

@@ -1,4 +1,4 @@
-use Rattle.cse_syntax.specs.Tree as syntax
+use Rattle.cse_syntax_tree.specs.Tree as syntax
 use Rattle.cse_types.proofs.SaidLaws.{source_said}
 use Rattle.cse_types.proofs.checked.check.Goals as goal
 

@@ -2,12 +2,12 @@
 -- from 0, and how it is written. A special value and a jump tell their token too, since they are all that is written of what
 -- they stand for. A word that is left out, or too long for a name, is a stray one: no tree has it.
 use Rattle.std.specs.Prelude.{◌≡◌, ℕ, suc, List, [], ◌∷◌, map}
-use Rattle.cse_syntax.specs.declared.token.Mark.{Mark}
-use Rattle.cse_syntax.specs.declared.tree.Special.{Special}
-use Rattle.cse_syntax.specs.declared.tree.Jump.{Jump}
-use Rattle.cse_syntax.specs.declared.token.Kind.{Kind}
-use Rattle.cse_syntax.specs.declared.token.Kind.TheVariants as k
-use Rattle.cse_syntax.specs.declared.token.Token.{Token}
+use Rattle.cse_syntax_tree.specs.declared.token.Mark.{Mark}
+use Rattle.cse_syntax_tree.specs.declared.tree.Special.{Special}
+use Rattle.cse_syntax_tree.specs.declared.tree.Jump.{Jump}
+use Rattle.cse_syntax_tree.specs.declared.token.Kind.{Kind}
+use Rattle.cse_syntax_tree.specs.declared.token.Kind.TheVariants as k
+use Rattle.cse_syntax_tree.specs.declared.token.Token.{Token}
 
 -- a name, a number or a text: the index of its token, and its bytes
 pub record Spelling : Type 0 where

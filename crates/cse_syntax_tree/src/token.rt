@@ -1,7 +1,7 @@
 //! The tokens of a text.
 
 ghost use Rattle.std.specs.Prelude.{◌≡◌, true};
-ghost use Rattle.cse_syntax.specs.Leaf.{is_token};
+ghost use Rattle.cse_syntax_tree.specs.Leaf.{is_token};
 
 use crate::tree::{Jump, Special};
 

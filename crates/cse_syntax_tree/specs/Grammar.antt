@@ -1,23 +1,23 @@
 -- The words of a tree, and which trees are of the grammar.
 use Rattle.std.specs.Prelude.{◌≡◌, ℕ, zero, suc, ◌≤◌, Bool, true, false, List, [], ◌∷◌, Option, Some, None}
 use Rattle.std.specs.Str.{str_eq_ignore_ascii_case}
-use Rattle.cse_syntax.specs.declared.token.Mark.{Mark}
-use Rattle.cse_syntax.specs.declared.token.Mark.TheVariants as m
-use Rattle.cse_syntax.specs.declared.tree.Operator.{Operator}
-use Rattle.cse_syntax.specs.declared.tree.Operator.TheVariants as o
-use Rattle.cse_syntax.specs.declared.tree.Relation.{Relation}
-use Rattle.cse_syntax.specs.declared.tree.Relation.TheVariants as r
-use Rattle.cse_syntax.specs.declared.tree.Function.{Function}
-use Rattle.cse_syntax.specs.declared.tree.Function.TheVariants as f
-use Rattle.cse_syntax.specs.declared.tree.Query.{Query}
-use Rattle.cse_syntax.specs.declared.tree.Query.TheVariants as q
-use Rattle.cse_syntax.specs.declared.tree.Count.{Count}
-use Rattle.cse_syntax.specs.declared.tree.Count.TheVariants as c
-use Rattle.cse_syntax.specs.Word.{Word, Name, Digits, Quoted, Value, Leave, Sign}
-pub use Rattle.cse_syntax.specs.Leaf.{is_name, is_within, is_text, MOST}
-use Rattle.cse_syntax.specs.Tree.{Spelling, Expr, Exprs, Operations, Number, Text, Special', Bare, Indexed, Group, Apply, Query', InValueSet, Minus, Not, Compare, Chain, no_expr, expr_and, no_operation, operation_and}
-use Rattle.cse_syntax.specs.Tree.{Literal, Limit, Fixed, Counted, Counting, Message, Own, Numbered, Stmt, Empty, Assign, Call, If, For, Do, Jump', Impute, PutDeck, ErrMsg, Stmts, no_stmt, stmt_and, Arms, no_arm, else_of, arm}
-use Rattle.cse_syntax.specs.Tree.{Dimension, Sized, Rows, Parameter, Array, Declaration, Numeric, Alpha, Array', Function', Body, Plain, Preproc, Both, Postproc, Procedure, Tree}
+use Rattle.cse_syntax_tree.specs.declared.token.Mark.{Mark}
+use Rattle.cse_syntax_tree.specs.declared.token.Mark.TheVariants as m
+use Rattle.cse_syntax_tree.specs.declared.tree.Operator.{Operator}
+use Rattle.cse_syntax_tree.specs.declared.tree.Operator.TheVariants as o
+use Rattle.cse_syntax_tree.specs.declared.tree.Relation.{Relation}
+use Rattle.cse_syntax_tree.specs.declared.tree.Relation.TheVariants as r
+use Rattle.cse_syntax_tree.specs.declared.tree.Function.{Function}
+use Rattle.cse_syntax_tree.specs.declared.tree.Function.TheVariants as f
+use Rattle.cse_syntax_tree.specs.declared.tree.Query.{Query}
+use Rattle.cse_syntax_tree.specs.declared.tree.Query.TheVariants as q
+use Rattle.cse_syntax_tree.specs.declared.tree.Count.{Count}
+use Rattle.cse_syntax_tree.specs.declared.tree.Count.TheVariants as c
+use Rattle.cse_syntax_tree.specs.Word.{Word, Name, Digits, Quoted, Value, Leave, Sign}
+pub use Rattle.cse_syntax_tree.specs.Leaf.{is_name, is_within, is_text, MOST}
+use Rattle.cse_syntax_tree.specs.Tree.{Spelling, Expr, Exprs, Operations, Number, Text, Special', Bare, Indexed, Group, Apply, Query', InValueSet, Minus, Not, Compare, Chain, no_expr, expr_and, no_operation, operation_and}
+use Rattle.cse_syntax_tree.specs.Tree.{Literal, Limit, Fixed, Counted, Counting, Message, Own, Numbered, Stmt, Empty, Assign, Call, If, For, Do, Jump', Impute, PutDeck, ErrMsg, Stmts, no_stmt, stmt_and, Arms, no_arm, else_of, arm}
+use Rattle.cse_syntax_tree.specs.Tree.{Dimension, Sized, Rows, Parameter, Array, Declaration, Numeric, Alpha, Array', Function', Body, Plain, Preproc, Both, Postproc, Procedure, Tree}
 
 -- ---- leaves
 

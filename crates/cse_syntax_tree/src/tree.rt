@@ -4,8 +4,8 @@
 //! another node begins with stands right before its first leaf: [`Expression::token`] and the like tell it.
 
 ghost use Rattle.std.specs.Prelude.{◌≡◌, ◌-◌};
-ghost use Rattle.cse_syntax.specs.Tree.{expr, literal, message, stmt};
-ghost use Rattle.cse_syntax.specs.First.{expr_token, literal_token, message_token, stmt_token};
+ghost use Rattle.cse_syntax_tree.specs.Tree.{expr, literal, message, stmt};
+ghost use Rattle.cse_syntax_tree.specs.First.{expr_token, literal_token, message_token, stmt_token};
 
 /// A name, a number or a text (its quotes included), as written.
 #[derive(Clone, Copy)]

@@ -1,6 +1,6 @@
 -- The number that digits write.
 use Rattle.std.proofs.Common.{◌≡◌, ℕ, suc, ◌+◌, ◌-◌, ◌*◌, ◌≤◌, ◌<◌, List, [], ◌∷◌, length, drop, get_or, sym, ap, ◌∙◌, arith, drop-cons}
-use Rattle.cse_syntax.specs.Leaf.{number_from}
+use Rattle.cse_syntax_tree.specs.Leaf.{number_from}
 
 at_least : (n : ℕ) (ds : List ℕ) → n ≤ number_from n ds
 at_least n [] = omega arith

@@ -1,7 +1,7 @@
 -- Which token a node begins with, counted from 0: that of its first leaf, or one or two tokens before it.
 use Rattle.std.specs.Prelude.{ℕ, ◌-◌, if◌then◌else◌, Option, Some, None}
-use Rattle.cse_syntax.specs.Tree.{Expr, Number, Text, Special', Bare, Indexed, Group, Apply, Query', InValueSet, Minus, Not, Compare, Chain}
-use Rattle.cse_syntax.specs.Tree.{Literal, Message, Own, Numbered, Stmt, Empty, Assign, Call, If, For, Do, Jump', Impute, PutDeck, ErrMsg}
+use Rattle.cse_syntax_tree.specs.Tree.{Expr, Number, Text, Special', Bare, Indexed, Group, Apply, Query', InValueSet, Minus, Not, Compare, Chain}
+use Rattle.cse_syntax_tree.specs.Tree.{Literal, Message, Own, Numbered, Stmt, Empty, Assign, Call, If, For, Do, Jump', Impute, PutDeck, ErrMsg}
 
 abbrev pub expr_token : Expr → ℕ
 expr_token (Number digits) = digits.token

@@ -2,16 +2,16 @@
 -- cite these lemmas.
 use Rattle.std.proofs.Common.{◌≡◌, List, map, Option, Some, None, refl, ap, sym, ◌∙◌}
 use Rattle.std.specs.Global.{Vec, Box}
-use Rattle.cse_syntax.specs.declared.tree.Lexeme.{Lexeme}
-use Rattle.cse_syntax.specs.declared.tree.Operation as rustop
-use Rattle.cse_syntax.specs.declared.tree.Expression as rust
-use Rattle.cse_syntax.specs.declared.tree.Expression.TheVariants as e
-use Rattle.cse_syntax.specs.declared.tree.Counting.{Counting}
-use Rattle.cse_syntax.specs.declared.tree.Statement as rusts
-use Rattle.cse_syntax.specs.declared.tree.Statement.TheVariants as s
-use Rattle.cse_syntax.specs.declared.tree.Arm as rustarm
-use Rattle.cse_syntax.specs.Tree.{If, For, Do, Stmts, Arms, stmt_and, arm, arms, else_of, counting, stmt, stmt_row, arm_row, otherwise_of, block, arm_tree, otherwise_tree}
-use Rattle.cse_syntax.specs.Tree.{written, expr, exprs, expr_row, operations, operation_row, operation_tree, Indexed, Chain, expr_and, operation_and}
+use Rattle.cse_syntax_tree.specs.declared.tree.Lexeme.{Lexeme}
+use Rattle.cse_syntax_tree.specs.declared.tree.Operation as rustop
+use Rattle.cse_syntax_tree.specs.declared.tree.Expression as rust
+use Rattle.cse_syntax_tree.specs.declared.tree.Expression.TheVariants as e
+use Rattle.cse_syntax_tree.specs.declared.tree.Counting.{Counting}
+use Rattle.cse_syntax_tree.specs.declared.tree.Statement as rusts
+use Rattle.cse_syntax_tree.specs.declared.tree.Statement.TheVariants as s
+use Rattle.cse_syntax_tree.specs.declared.tree.Arm as rustarm
+use Rattle.cse_syntax_tree.specs.Tree.{If, For, Do, Stmts, Arms, stmt_and, arm, arms, else_of, counting, stmt, stmt_row, arm_row, otherwise_of, block, arm_tree, otherwise_tree}
+use Rattle.cse_syntax_tree.specs.Tree.{written, expr, exprs, expr_row, operations, operation_row, operation_tree, Indexed, Chain, expr_and, operation_and}
 
 pub row_is : (n : _) (row : rust.Row_of-Expression n) → expr_row row ≡ exprs (map expr (rust.items-the_row-Expression n row))
 row_is n rust.end_of-Expression = refl

@@ -2,37 +2,37 @@
 use Rattle.std.specs.Prelude.{ℕ, Bool, List, [], ◌∷◌, map, Option, Some, None}
 use Rattle.std.specs.Option.{option_map}
 use Rattle.std.specs.Global.{Vec}
-pub use Rattle.cse_syntax.specs.Word.{Spelling}
-use Rattle.cse_syntax.specs.declared.tree.Operator.{Operator}
-use Rattle.cse_syntax.specs.declared.tree.Relation.{Relation}
-use Rattle.cse_syntax.specs.declared.tree.Special.{Special}
-use Rattle.cse_syntax.specs.declared.tree.Function.{Function}
-use Rattle.cse_syntax.specs.declared.tree.Query.{Query}
-use Rattle.cse_syntax.specs.declared.tree.Count.{Count}
-use Rattle.cse_syntax.specs.declared.tree.Jump.{Jump}
-use Rattle.cse_syntax.specs.declared.tree.Lexeme.{Lexeme}
-use Rattle.cse_syntax.specs.declared.tree.Expression as rust
-use Rattle.cse_syntax.specs.declared.tree.Expression.TheVariants as e
-use Rattle.cse_syntax.specs.declared.tree.Operation as rustop
-use Rattle.cse_syntax.specs.declared.tree.Literal as rustliteral
-use Rattle.cse_syntax.specs.declared.tree.Limit as rustlimit
-use Rattle.cse_syntax.specs.declared.tree.Limit.TheVariants as l
-use Rattle.cse_syntax.specs.declared.tree.Counting as rustcounting
-use Rattle.cse_syntax.specs.declared.tree.Message as rustmessage
-use Rattle.cse_syntax.specs.declared.tree.Message.TheVariants as g
-use Rattle.cse_syntax.specs.declared.tree.Statement as rusts
-use Rattle.cse_syntax.specs.declared.tree.Statement.TheVariants as s
-use Rattle.cse_syntax.specs.declared.tree.Arm as rustarm
-use Rattle.cse_syntax.specs.declared.tree.Dimension as rustdimension
-use Rattle.cse_syntax.specs.declared.tree.Dimension.TheVariants as d
-use Rattle.cse_syntax.specs.declared.tree.Parameter as rustparameter
-use Rattle.cse_syntax.specs.declared.tree.Declaration as rustdeclaration
-use Rattle.cse_syntax.specs.declared.tree.Declaration.TheVariants as c
-use Rattle.cse_syntax.specs.declared.tree.Array as rustarray
-use Rattle.cse_syntax.specs.declared.tree.Body as rustbody
-use Rattle.cse_syntax.specs.declared.tree.Body.TheVariants as b
-use Rattle.cse_syntax.specs.declared.tree.Procedure as rustprocedure
-use Rattle.cse_syntax.specs.declared.tree.Tree as rusttree
+pub use Rattle.cse_syntax_tree.specs.Word.{Spelling}
+use Rattle.cse_syntax_tree.specs.declared.tree.Operator.{Operator}
+use Rattle.cse_syntax_tree.specs.declared.tree.Relation.{Relation}
+use Rattle.cse_syntax_tree.specs.declared.tree.Special.{Special}
+use Rattle.cse_syntax_tree.specs.declared.tree.Function.{Function}
+use Rattle.cse_syntax_tree.specs.declared.tree.Query.{Query}
+use Rattle.cse_syntax_tree.specs.declared.tree.Count.{Count}
+use Rattle.cse_syntax_tree.specs.declared.tree.Jump.{Jump}
+use Rattle.cse_syntax_tree.specs.declared.tree.Lexeme.{Lexeme}
+use Rattle.cse_syntax_tree.specs.declared.tree.Expression as rust
+use Rattle.cse_syntax_tree.specs.declared.tree.Expression.TheVariants as e
+use Rattle.cse_syntax_tree.specs.declared.tree.Operation as rustop
+use Rattle.cse_syntax_tree.specs.declared.tree.Literal as rustliteral
+use Rattle.cse_syntax_tree.specs.declared.tree.Limit as rustlimit
+use Rattle.cse_syntax_tree.specs.declared.tree.Limit.TheVariants as l
+use Rattle.cse_syntax_tree.specs.declared.tree.Counting as rustcounting
+use Rattle.cse_syntax_tree.specs.declared.tree.Message as rustmessage
+use Rattle.cse_syntax_tree.specs.declared.tree.Message.TheVariants as g
+use Rattle.cse_syntax_tree.specs.declared.tree.Statement as rusts
+use Rattle.cse_syntax_tree.specs.declared.tree.Statement.TheVariants as s
+use Rattle.cse_syntax_tree.specs.declared.tree.Arm as rustarm
+use Rattle.cse_syntax_tree.specs.declared.tree.Dimension as rustdimension
+use Rattle.cse_syntax_tree.specs.declared.tree.Dimension.TheVariants as d
+use Rattle.cse_syntax_tree.specs.declared.tree.Parameter as rustparameter
+use Rattle.cse_syntax_tree.specs.declared.tree.Declaration as rustdeclaration
+use Rattle.cse_syntax_tree.specs.declared.tree.Declaration.TheVariants as c
+use Rattle.cse_syntax_tree.specs.declared.tree.Array as rustarray
+use Rattle.cse_syntax_tree.specs.declared.tree.Body as rustbody
+use Rattle.cse_syntax_tree.specs.declared.tree.Body.TheVariants as b
+use Rattle.cse_syntax_tree.specs.declared.tree.Procedure as rustprocedure
+use Rattle.cse_syntax_tree.specs.declared.tree.Tree as rusttree
 
 abbrev pub written : Lexeme → Spelling
 written x = record { token = x.token; text = x.text.now }

@@ -3,8 +3,8 @@
 ghost use Rattle.std.specs.Prelude.{◌≡◌, ◌≤◌, ◌<◌, ◌+◌, ◌*◌, MatchOption, true, false};
 ghost use Rattle.std.specs.List.{list_all};
 ghost use Rattle.std.specs.Char.{is_ascii_digit};
-ghost use Rattle.cse_syntax.specs.Leaf as spec;
-ghost use Rattle.cse_syntax.specs.Leaf.{number_from, MOST};
+ghost use Rattle.cse_syntax_tree.specs.Leaf as spec;
+ghost use Rattle.cse_syntax_tree.specs.Leaf.{number_from, MOST};
 
 /// A number with one more digit behind it, if it is at most this.
 fn appended(most: u64, value: u64, digit: u8) -> Option<u64>
