@@ -94,9 +94,12 @@ class Item:
 
     def seen(self):
         """What another function of the crate reads of this one: its head with its clauses. Where it has none, or hides its type, the body counts too."""
+        return "".join(self.tokens[self.start:(self.end if self.is_read() else self.head) + 1])
+
+    def is_read(self):
+        """Whether others read the body of this function."""
         head = self.tokens[self.start:self.head]
-        is_read = self.is_const or "impl" in head or not any(it in CLAUSE for it in head)
-        return "".join(self.tokens[self.start:(self.end if is_read else self.head) + 1])
+        return self.is_const or "impl" in head or not any(it in CLAUSE for it in head)
 
     @property
     def text(self):
