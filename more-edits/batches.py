@@ -33,6 +33,7 @@ class Turned:
     def cites(self, other):
         """Whether the proof leads to the proof of a function that the other one turns."""
         folders = [path.rpartition("/")[0].replace("/", ".") for path in other.proofs]
+        folders += [".".join(["proofs", *module_of(it.file), *([it.owner] if it.owner else []), it.name]) for it in other.functions]
         return bool(self.cited & other.proofs) or any(f".{it}." in f"{path}." for it in folders for path in self.cited)
 
     def is_apart(self, other):
