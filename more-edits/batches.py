@@ -19,6 +19,7 @@ class Turned:
         self.edit, self.functions, self.pairs = edit, functions, list(trying.pairs(text))
         self.keys = {id(it) for it in functions}
         self.names = {(it.file, it.name) for it in functions}
+        self.places = {place for it in functions for place in places_of(crate, it)}
         self.cycles = {name for it in functions for name in re.findall(r"#\[cycle\((\w+)\)\]", it.attributes)}
         self.new = own.names_in(" ".join(new for _, _, new in self.pairs))
         self.more = {id(it): called_anew(crate, it, self.new) for it in functions}
@@ -28,17 +29,20 @@ class Turned:
 
     def owns(self, place):
         """Whether an open goal is of one of the functions: of the function, of a loop or a closure in it, or of its proof."""
-        return place in self.proofs or any(is_of(it, place) for it in self.functions)
+        parts = place.split("::")
+        inner = [it for it in parts if it != "fn"]
+        fronts = {"::".join(inner[:k]) for k in range(1, len(inner))} if len(inner) < len(parts) else {place}
+        return place in self.proofs or bool(fronts & self.places)
 
     def cites(self, other):
         """Whether the proof leads to the proof of a function that the other one turns."""
         folders = [path.rpartition("/")[0].replace("/", ".") for path in other.proofs]
-        folders += [".".join(["proofs", *module_of(it.file), *([it.owner] if it.owner else []), it.name]) for it in other.functions]
+        folders += ["proofs." + place.replace("::", ".") for place in other.places]
         return bool(self.cited & other.proofs) or any(f".{it}." in f"{path}." for it in folders for path in self.cited)
 
     def is_apart(self, other):
         """Whether the goals of the one say nothing of the other's functions, but their clauses."""
-        if self.names & other.names or self.cycles & other.cycles or self.proofs & other.proofs:
+        if self.names & other.names or self.places & other.places or self.cycles & other.cycles or self.proofs & other.proofs:
             return False
         if self.below & other.keys and other.below & self.keys:
             return False
@@ -97,17 +101,9 @@ def cited_of(pieces):
     return {it.file for it in seen.values()} | {it for it in paths if ".proofs." in it}
 
 
-def module_of(file):
-    return re.sub(r"(/mod|/lib|/main)?\.rt$", "", file).split("/")[1:]
-
-
-def is_of(function, place):
-    """Whether the prover's name of a function, below its crate, is that of this one or of a closure in it."""
-    module, parts = module_of(function.file), place.split("::")
-    if parts[:len(module)] != module:
-        return False
-    rest = [it for it in parts[len(module):] if it != "fn"]
-    return rest[:2] == [function.owner, function.name] if function.owner else rest[:1] == [function.name]
+def places_of(crate, function):
+    """The names, below its crate, that a function may have in what the prover says. One of a closure has `fn` in it."""
+    return ["::".join([*module, *([function.owner] if function.owner else []), function.name]) for module in crate.modules_of(function)]
 
 
 def turned(crate, edit, text):

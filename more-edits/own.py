@@ -36,7 +36,7 @@ class Own:
     def __init__(self, folder):
         self.crate = os.path.basename(folder)
         self.texts, self.imports, self.functions, self.all = {}, {}, [], []
-        self.items, self.declared, self.always = {}, {}, []
+        self.items, self.declared, self.always, self.homes = {}, {}, [], {}
         for path in sources.files(os.path.join(folder, "src"), ".rt"):
             self.rust(os.path.relpath(path, folder), sources.read(path))
         for part in ("specs", "proofs"):
@@ -64,6 +64,8 @@ class Own:
         tokens, offsets = sources.rust_tokens_at(text)
         found = list(sources.items_of(tokens))
         types = {it.name for it in found if it.kind == "type"}
+        for name in types:
+            self.homes.setdefault(name, set()).add(file)
         for item in found:
             item.file, label = file, f"{item.owner or ''}::{item.name}"
             # (what is implemented for a type of another crate goes by the trait too)
@@ -157,12 +159,17 @@ class Own:
             around += [f"src/{folder}.rt", f"src/{folder}/mod.rt"]
         return " ".join(sources.inner_attributes(self.texts[it]) for it in dict.fromkeys(around) if it in self.texts)
 
+    def modules_of(self, function):
+        """The modules by which a function may go: that of its file, and of a method those of its type."""
+        files = sorted({function.file} | (self.homes.get(function.owner, set()) if function.owner else set()))
+        return [re.sub(r"(/mod|/lib|/main)?\.rt$", "", it).split("/")[1:] for it in files]
+
     def proofs_of(self, function):
         """The files of a function's proof: its folder, or that of its cycle."""
-        module = re.sub(r"(/mod|/lib|/main)?\.rt$", "", function.file).replace("src", "proofs", 1)
+        modules = tuple("/".join(["proofs", *it, ""]) for it in self.modules_of(function))
         cycles = {function.name, *re.findall(r"#\[cycle\((\w+)\)\]", function.attributes)}
         for file, names in self.declared.items():
-            if "" in names and file.startswith(f"{module}/"):
+            if "" in names and file.startswith(modules):
                 folders = file.split("/")[1:-1]
                 if any(it == function.name or it[0] == "+" and cycles & set(re.findall(r"\w+", it)) for it in folders):
                     yield from names[""]
