@@ -16,14 +16,14 @@ import trying
 class Part:
     """What is to be tried of a crate: batches, and single edits."""
 
-    def __init__(self, crate, texts, jobs):
-        self.crate, self.texts, self.jobs = crate, texts, jobs
+    def __init__(self, crate, texts):
+        self.crate, self.texts, self.jobs = crate, texts, []
         self.is_begun, self.is_proved = False, None
 
 
 class Trial:
-    def __init__(self, known, room, lanes, keep, parts):
-        self.known, self.root, self.keep, self.runs, self.parts = known, known.root, keep, trying.Runs(), parts
+    def __init__(self, known, room, lanes, keep, most, parts):
+        self.known, self.root, self.keep, self.most, self.runs, self.parts = known, known.root, keep, most, trying.Runs(), parts
         self.lanes = [trying.Lane(self.root, os.path.join(room, str(k)), self.runs) for k in range(lanes)]
         self.change, self.busy, self.bad = threading.Condition(), 0, 0
 
@@ -59,7 +59,7 @@ class Trial:
             more = []
             try:
                 if job is None:
-                    part.is_proved = self.prove(part.crate)
+                    self.begin(part)
                 elif isinstance(job, str) or not part.is_proved:
                     for edit in [job] if isinstance(job, str) else [it.edit for it in job]:
                         self.alone(lane, part, edit)
@@ -71,13 +71,18 @@ class Trial:
                     self.busy -= 1
                     self.change.notify_all()
 
-    def prove(self, crate):
-        """Whether the crate is proved without an edit; its check leaves the kept work that the edits' checks go on from."""
+    def begin(self, part):
+        """Makes the batches of a crate, and sees whether it is proved without an edit; that check leaves the kept work that the
+        others go on from."""
+        made, alone = [], list(part.texts)
+        if self.most > 1:
+            made, alone = batches.made(self.known.own(part.crate), part.texts, self.folder(part.crate), self.most)
         jobs = os.environ.get("RT_JOBS") or ("1" if len(self.parts) > 1 and len(self.lanes) > 1 else "")
-        said, status = self.runs.run(["rt", "check", *(["--jobs", jobs] if jobs else [])], self.folder(crate))
+        said, status = self.runs.run(["rt", "check", *(["--jobs", jobs] if jobs else [])], self.folder(part.crate))
         if status and not self.runs.stopped:
             print(said, flush=True)
-        return status == 0
+        with self.change:
+            part.jobs, part.is_proved = [*made, *alone], status == 0
 
     def check(self, lane, crate, texts, edits):
         """What the check of the crate says with these texts, its status, and its seconds."""
@@ -126,21 +131,18 @@ class Trial:
             print(f"{edit}: {' '.join(how) if how else why} ({seconds:.0f} s)", flush=True)
 
 
-def parts_of(known, found, most):
+def parts_of(known, found):
     """What is to be tried of each crate, from the lowest crates up."""
-    parts = []
-    for crate in known.uses:
-        texts = {edit: text for edit, text in found.items() if edit.split("/")[0] == crate}
-        if texts:
-            jobs, alone = batches.made(known.own(crate), texts, os.path.join(known.root, "crates", crate), most) if most > 1 else ([], list(texts))
-            parts.append(Part(crate, texts, [*jobs, *alone]))
-    return sorted(parts, key=lambda it: len(known.below(it.crate)))
+    texts = {}
+    for edit, text in found.items():
+        texts.setdefault(edit.split("/")[0], {})[edit] = text
+    return [Part(crate, texts[crate]) for crate in sorted(texts, key=lambda it: len(known.below(it)))]
 
 
 def tried(known, found, lanes, keep, most):
     """Tries these edits, as many as `most` in one check, and says how many were not refused."""
     with tempfile.TemporaryDirectory(prefix="more-edits-") as room:
-        trial = Trial(known, room, lanes, keep, parts_of(known, found, most))
+        trial = Trial(known, room, lanes, keep, most, parts_of(known, found))
         signal.signal(signal.SIGTERM, signal.default_int_handler)
         pool = ThreadPoolExecutor(lanes)
         try:
