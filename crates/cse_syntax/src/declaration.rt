@@ -12,10 +12,11 @@ ghost use Rattle.cse_syntax.specs.ReadingSource as rule;
 
 use crate::error::ReadError;
 use crate::expression::MOST;
-use cse_syntax_tree::is_within;
 use crate::parser::{Parser, refused};
-use cse_syntax_tree::{Kind, Mark};
-use cse_syntax_tree::{Array, Body, Declaration, Dimension, Lexeme, Literal, Parameter, Procedure};
+use cse_syntax_tree::{
+    Array, Body, Declaration, Dimension, Kind, Lexeme, Literal, Mark, Parameter, Procedure,
+    is_within,
+};
 
 /// The greatest length of a text, and the greatest dimension.
 const ALPHA_MOST: u64 = 255;

@@ -10,10 +10,10 @@ ghost use Rattle.cse_syntax.specs.Reading as spec;
 ghost use Rattle.cse_syntax.specs.Reading.{Reads, Makes};
 
 use crate::error::ReadError;
-use cse_syntax_tree::is_within;
 use crate::parser::{Level, Parser, refused};
-use cse_syntax_tree::{Kind, Mark, Token};
-use cse_syntax_tree::{Expression, Function, Lexeme, Operation, Query, Relation};
+use cse_syntax_tree::{
+    Expression, Function, Kind, Lexeme, Mark, Operation, Query, Relation, Token, is_within,
+};
 use std::alloc::Global;
 
 /// The greatest number of a source.

@@ -9,8 +9,8 @@ ghost use Rattle.cse_syntax_tree.specs.Leaf.{is_token};
 ghost use Rattle.cse_syntax.specs.Lexed.{depth, Splits, Continues, IsShorter};
 
 use crate::error::{Cause, Fault};
-use cse_syntax_tree::{Kind, Mark, Token};
 use crate::word::word_kind;
+use cse_syntax_tree::{Kind, Mark, Token};
 use std::alloc::{AllocError, Global};
 
 /// Where a byte of blanks and comments is.

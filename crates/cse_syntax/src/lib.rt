@@ -21,13 +21,13 @@ mod source;
 mod statement;
 mod word;
 
-pub use error::SyntaxError;
-pub use laws::{longest_tokens, one_tree, skipped_text};
-pub use place::{Position, position_of};
-pub use quoted::text_of;
-pub use source::{LIMIT, Source, parse};
 pub use cse_syntax_tree::{
     Arm, Array, Body, Count, Counting, Declaration, Dimension, Expression, Function, Jump, Kind,
     Lexeme, Limit, Literal, Mark, Message, Operation, Operator, Parameter, Place, Procedure, Query,
     Relation, Special, Statement, Token, Tree, number_of,
 };
+pub use error::SyntaxError;
+pub use laws::{longest_tokens, one_tree, skipped_text};
+pub use place::{Position, position_of};
+pub use quoted::text_of;
+pub use source::{LIMIT, Source, parse};

@@ -7,9 +7,7 @@ ghost use Rattle.cse_syntax.specs.Reading as spec;
 ghost use Rattle.cse_syntax.specs.Reading.{Reads, Leaves, IsFault, Takes};
 
 use crate::error::{Cause, Fault, ReadError};
-use cse_syntax_tree::is_within;
-use cse_syntax_tree::{Kind, Mark, Token};
-use cse_syntax_tree::{Lexeme, Operator, Relation};
+use cse_syntax_tree::{Kind, Lexeme, Mark, Operator, Relation, Token, is_within};
 use std::alloc::Global;
 
 /// The tokens that are left.

@@ -15,8 +15,7 @@ use crate::error::{Cause, Fault, ReadError, SyntaxError};
 use crate::lexer;
 use crate::parser::Parser;
 use crate::place::{Position, position_of};
-use cse_syntax_tree::Token;
-use cse_syntax_tree::Tree;
+use cse_syntax_tree::{Token, Tree};
 use std::alloc::Global;
 
 /// How many parentheses and statements may be open at once.

@@ -12,11 +12,10 @@ ghost use Rattle.cse_syntax.specs.ReadingStmt as rule;
 
 use crate::error::ReadError;
 use crate::expression::MOST;
-use cse_syntax_tree::is_within;
 use crate::parser::{Parser, refused};
-use cse_syntax_tree::{Kind, Mark, Token};
 use cse_syntax_tree::{
-    Arm, Count, Counting, Expression, Jump, Lexeme, Limit, Literal, Message, Place, Statement,
+    Arm, Count, Counting, Expression, Jump, Kind, Lexeme, Limit, Literal, Mark, Message, Place,
+    Statement, Token, is_within,
 };
 
 /// The greatest limit of a `do`, and its greatest step.

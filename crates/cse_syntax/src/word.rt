@@ -4,8 +4,7 @@ ghost use Rattle.std.specs.Prelude.{◌≡◌, length};
 ghost use Rattle.std.specs.Str.{str_eq_ignore_ascii_case};
 ghost use Rattle.cse_syntax_tree.specs.Leaf as spec;
 
-use cse_syntax_tree::{Kind, Mark};
-use cse_syntax_tree::{Jump, Special};
+use cse_syntax_tree::{Jump, Kind, Mark, Special};
 
 /// How many characters a name may have.
 const NAME_LEN: usize = 32;
