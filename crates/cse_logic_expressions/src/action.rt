@@ -12,7 +12,7 @@ ghost use Rattle.cse_logic_expressions.specs.JudgeStatement as spec;
 ghost use Rattle.cse_logic_names.specs.Walk.{is_there, only_if, IsNoted};
 
 use crate::assign::{assign, call_of, impute, put_deck};
-use crate::expression::{all_values, expression, value};
+use crate::expression::{all_values, expression, text_token, value};
 use cse_logic_names::faults::Faults;
 use cse_logic_names::scope::Scope;
 use cse_logic_tree::{Statement, Variable};
@@ -40,7 +40,7 @@ pub fn assignment<'a>(
         count,
         subscripts,
         found,
-        x.token(),
+        text_token(x),
     ))
 }
 

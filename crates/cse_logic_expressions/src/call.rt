@@ -66,6 +66,14 @@ pub fn dimensions_of(scope: &Scope<'_>, array: usize) -> Option<usize>
     }
 }
 
+/// The fault 44, where this number isn't the one that is declared.
+fn same_count(faults: &mut Faults, token: usize, count: usize, declared: Option<&usize>) {
+    match declared {
+        Some(declared) if *declared != count => faults.note(44, token),
+        _ => {}
+    }
+}
+
 /// Whether an array has so many dimensions, or the fault 44.
 pub fn has_dimensions(
     scope: &Scope<'_>,
@@ -79,7 +87,8 @@ pub fn has_dimensions(
 {
     match dimensions_of(scope, array) {
         None => {
-            // The fault of its declaration counts.
+            // Its declaration is at fault, maybe behind this place.
+            same_count(faults, token, count, scope.counts.dimensions.get(array));
             faults.note(44, usize::MAX);
             false
         }
@@ -187,12 +196,14 @@ pub fn may_call(
 {
     match scope.functions.get(function) {
         None => {
+            same_count(faults, token, arguments, scope.counts.parameters.get(function));
             faults.note(45, token);
             false
         }
         Some(facts) => match facts {
             None => {
-                // Its own fault stands before.
+                // Its own fault may stand behind this place: that of a parameter's name stands at the later of two.
+                same_count(faults, token, arguments, scope.counts.parameters.get(function));
                 faults.note(45, usize::MAX);
                 false
             }

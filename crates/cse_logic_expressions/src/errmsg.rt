@@ -14,7 +14,8 @@ ghost use Rattle.cse_logic_expressions.specs.JudgeStatement as spec;
 ghost use Rattle.cse_logic_expressions.specs.JudgeStatement.{as_argument, as_words, judge_arguments, ranged};
 ghost use Rattle.cse_logic_names.specs.Walk.{is_there, IsNoted};
 
-use crate::expression::{expression, value, written_number};
+use crate::assign::number_in;
+use crate::expression::{expression, written_number};
 use crate::judged::Judged;
 use crate::list::{both, keep};
 use cse_image_parts::placeholders::{ArgumentKind, Kinds, count_placeholders};
@@ -119,7 +120,7 @@ fn of_words<'a>(x: Option<Words<'a>>) -> Option<Argument<'a>>
     }
 }
 
-/// A value for a placeholder of this kind.
+/// A value for a placeholder of this kind; a fault of its kind is told at its first token.
 fn one_argument<'a>(
     alloc: Global,
     scope: &Scope<'_>,
@@ -136,8 +137,8 @@ fn one_argument<'a>(
             Ok(None)
         }
         Some(ArgumentKind::Number) => {
-            let found = value(alloc, scope, faults, false, x)?;
-            Ok(of_number(found))
+            let found = expression(alloc, scope, faults, false, x)?;
+            Ok(of_number(number_in(faults, x.token(), found)))
         }
         Some(ArgumentKind::Text) => {
             let found = text(alloc, scope, faults, x)?;

@@ -193,7 +193,7 @@ pub fn expression<'a>(
             negated(alloc, operand)
         }
         Expression::Compare(left, relation, right) => {
-            let tokens = (left.token(), right.token());
+            let tokens = (text_token(left), text_token(right));
             let earlier = expression(alloc, scope, faults, false, left)?;
             let later = expression(alloc, scope, faults, false, right)?;
             let made = compared(alloc, faults, *relation, earlier, later, tokens)?;
@@ -206,7 +206,15 @@ pub fn expression<'a>(
     }
 }
 
-/// A number, or the fault 44.
+/// Where an expression stands that is a text: behind the parentheses around it.
+pub fn text_token(x: &Expression<'_>) -> usize {
+    match x {
+        Expression::Group(inner) => text_token(inner),
+        _ => x.token(),
+    }
+}
+
+/// A number, or the fault 44 at the text that stands there.
 #[cycle(judge)]
 pub fn value<'a>(
     alloc: Global,
@@ -219,7 +227,7 @@ pub fn value<'a>(
     ensures noted { OnOk result (IsNoted faults.old faults.new (is_there (as_number (judge scope.now top (expr x.now))))) }
 {
     let found = expression(alloc, scope, faults, top, x)?;
-    Ok(number_in(faults, x.token(), found))
+    Ok(number_in(faults, text_token(x), found))
 }
 
 /// `int` or `special`.

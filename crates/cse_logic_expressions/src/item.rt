@@ -5,7 +5,7 @@ ghost use Rattle.std.specs.Option.{option_map};
 ghost use Rattle.cse_syntax_tree.specs.Tree.{written};
 ghost use Rattle.cse_logic_tree.specs.Typed as typed;
 ghost use Rattle.cse_logic_tree.specs.Typed.{number, numbers, words, dimension};
-ghost use Rattle.cse_logic_names.specs.Scope.{kind_and_owner, meant};
+ghost use Rattle.cse_logic_names.specs.Scope.{kind_and_owner, meant, has_case};
 ghost use Rattle.cse_logic_names.specs.WellTyped.{set_kind, set_meant};
 ghost use Rattle.cse_logic_expressions.specs.Judge as spec;
 ghost use Rattle.cse_logic_expressions.specs.Judge.{judged, is_sound, number_present};
@@ -75,6 +75,15 @@ pub fn field_at(
         return None;
     }
     Some(Field { owner, item })
+}
+
+/// The fault 49 at this token, where there is no case.
+pub fn needs_case(scope: &Scope<'_>, faults: &mut Faults, token: usize)
+    ensures { IsNoted faults.old faults.new (has_case scope.now.routine) }
+{
+    if !has_case(scope.routine) {
+        faults.note(49, token);
+    }
 }
 
 fn number_item<'a>(name: Lexeme<'a>, item: Option<Present>) -> Option<Number<'a>>

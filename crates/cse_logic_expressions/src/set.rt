@@ -10,7 +10,7 @@ ghost use Rattle.cse_logic_names.specs.WellTyped as well;
 ghost use Rattle.cse_logic_expressions.specs.Judge as spec;
 ghost use Rattle.cse_logic_names.specs.Walk.{is_there, joined, IsNoted, IsNotedAfter};
 
-use crate::item::number_present;
+use crate::item::{needs_case, number_present};
 use cse_dict::Dictionary;
 use cse_logic_names::faults::Faults;
 use cse_logic_names::meaning::Meaning;
@@ -195,7 +195,7 @@ pub fn member<'a>(
     }
 }
 
-/// The record that a name means, where there is a case; else the fault: 40 at the name, or 49 at this token.
+/// The record that a name means, where there is a case; else the fault: 40 at the name, 49 at this token where there is none.
 pub fn record_of(
     scope: &Scope<'_>,
     faults: &mut Faults,
@@ -216,6 +216,7 @@ pub fn record_of(
         }
         _ => {
             faults.note(40, name.token);
+            needs_case(scope, faults, token);
             None
         }
     }

@@ -16,7 +16,7 @@ pub(crate) const PRELUDE: &str =
 /// Logic, and the number, line and column of its fault; zeros where it is sound.
 pub(crate) type Row = (&'static str, (u8, u64, u64));
 
-pub(crate) static ROWS: [Row; 161] = [
+pub(crate) static ROWS: [Row; 188] = [
     // Logic that keeps each rule.
     (
         "PROC AGE AGE = 1; NICK = \"a\"; X = AGE; T = NICK; A(1) = 2; B(1, X) = A(3); F(2); ;",
@@ -136,9 +136,9 @@ pub(crate) static ROWS: [Row; 161] = [
     ("PROC D HH = 1;", (43, 2, 8)),
     // Kinds that differ, and counts of subscripts and arguments.
     ("PROC AGE AGE = \"a\";", (44, 2, 16)),
-    ("PROC AGE NICK = 1;", (44, 2, 17)),
+    ("PROC AGE NICK = 1;", (44, 2, 10)),
     ("PROC AGE X = T;", (44, 2, 14)),
-    ("PROC AGE T = X + 1;", (44, 2, 14)),
+    ("PROC AGE T = X + 1;", (44, 2, 10)),
     ("PROC AGE A(1) = NICK;", (44, 2, 17)),
     ("PROC AGE X(1) = 1;", (44, 2, 10)),
     ("PROC AGE T(1) = \"a\";", (44, 2, 10)),
@@ -161,7 +161,23 @@ pub(crate) static ROWS: [Row; 161] = [
     ("PROC AGE errmsg(3, 1, 2);", (44, 2, 20)),
     ("PROC AGE errmsg(3, T, T);", (44, 2, 23)),
     ("PROC AGE errmsg(\"%s\", 7 / 2);", (44, 2, 23)),
-    // Functions that are used before their end.
+    ("PROC QUEST NICK = 1;", (44, 2, 12)),
+    ("PROC AGE X = (T);", (44, 2, 15)),
+    ("PROC AGE X = ((NICK)) + 1;", (44, 2, 16)),
+    ("PROC AGE A((T)) = 1;", (44, 2, 13)),
+    ("PROC AGE if (T) < 5 then endif;", (44, 2, 14)),
+    ("PROC AGE if 5 = (\"a\") then endif;", (44, 2, 18)),
+    ("PROC AGE errmsg(\"%d\", (T));", (44, 2, 23)),
+    (
+        "PROC GLOBAL numeric X; alpha (5) T; function G() A(1) = T; end; array A(NOBODY);",
+        (44, 1, 57),
+    ),
+    ("PROC GLOBAL function G() A(1) = 2; end; array A(2, NOBODY);", (44, 1, 26)),
+    ("PROC GLOBAL function G() G = A(1); end; array A(2, NOBODY);", (44, 1, 30)),
+    ("PROC GLOBAL function G() G = A(1, 1); end; array A(2, NOBODY);", (40, 1, 55)),
+    ("PROC GLOBAL function F(P) end; function G() F(); end; numeric P;", (44, 1, 45)),
+    ("PROC GLOBAL function F(P) end; function G() F(1); end; numeric P;", (40, 1, 64)),
+    // Functions that are used before their end; with another count of arguments that is the lesser fault.
     (
         "PROC GLOBAL function F() G(); end; function G() end;",
         (45, 1, 26),
@@ -171,6 +187,12 @@ pub(crate) static ROWS: [Row; 161] = [
         "PROC GLOBAL numeric X; function F() X = F(); end;",
         (45, 1, 41),
     ),
+    ("PROC GLOBAL function F(P) F = F(); end;", (44, 1, 31)),
+    ("PROC GLOBAL function F(P) F(1, 2); end;", (44, 1, 27)),
+    ("PROC GLOBAL function F(P) F(1); end;", (45, 1, 27)),
+    ("PROC GLOBAL function G() H(); end; function H(P) end;", (44, 1, 26)),
+    ("PROC GLOBAL function G() G = H(1, 2); end; function H(P) end;", (44, 1, 30)),
+    ("PROC GLOBAL function G() G = H(1); end; function H(P) end;", (45, 1, 30)),
     // `/` outside `int`.
     ("PROC AGE AGE = AGE / 2;", (46, 2, 20)),
     ("PROC AGE if 7 / 2 = 3 then endif;", (46, 2, 15)),
@@ -248,6 +270,14 @@ pub(crate) static ROWS: [Row; 161] = [
     ("PROC D putdeck(DECK, 1);", (49, 2, 8)),
     ("PROC D CASEF();", (49, 2, 8)),
     ("PROC D X = totocc(HOUSE);", (49, 2, 19)),
+    ("PROC D X = curocc(PERSON);", (49, 2, 12)),
+    ("PROC D X = curocc(HOUSE);", (49, 2, 12)),
+    ("PROC D X = curocc(NOBODY);", (49, 2, 12)),
+    ("PROC D X = getdeck(NOBODY);", (49, 2, 12)),
+    ("PROC D putdeck(NOBODY, 1);", (49, 2, 8)),
+    ("PROC D putdeck(A, 1);", (49, 2, 8)),
+    ("PROC D X = totocc(NOBODY);", (40, 2, 19)),
+    ("PROC QUEST X = curocc(NOBODY);", (40, 2, 23)),
     ("PROC AGE if 1 then break; endif; NOBODY = 1;", (49, 2, 20)),
     (
         "PROC GLOBAL numeric X; function G() X = totocc(PERSON); end; PROC D G();",

@@ -13,6 +13,7 @@
 mod array;
 mod arrays;
 mod checked;
+mod counts;
 mod declaration;
 mod entries;
 mod fresh;
