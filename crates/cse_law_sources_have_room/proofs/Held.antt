@@ -17,7 +17,7 @@ use Rattle.cse_logic_tree.specs.Typed.{Quoted as QuotedText, TextGlobal, TextIte
 use Rattle.cse_logic_tree.specs.Erase.{erase, erase_words, erase_all, erase_operations}
 use Rattle.cse_logic_names.specs.Scope.{Scope}
 use Rattle.cse_logic_names.specs.WellTyped.{value_of, signed_value, IsNumber, IsWords, AreNumbers, AreOperands}
-use Rattle.cse_law_sources_have_room.specs.Given.{AreUtf8}
+use Rattle.cse_logic_names.specs.Texts.{AreUtf8}
 use Rattle.cse_law_sources_have_room.proofs.Leaves.{NumberHolds, WordsHold, NumbersHold, OperationsHold}
 use Rattle.cse_law_sources_have_room.proofs.Texts.{text_fits}
 

@@ -16,7 +16,7 @@ use Rattle.cse_logic_tree.specs.Typed.{Empty, Set, SetText, SetItem, SetTextItem
 use Rattle.cse_logic_tree.specs.Erase.{erase, erase_all, erase_which, erase_argument, erase_arguments, erase_limit, erase_counting, erase_statement, erase_block, erase_arms}
 use Rattle.cse_logic_names.specs.Scope.{Scope, within}
 use Rattle.cse_logic_names.specs.WellTyped.{AreNumbers, IsWhich, IsArgument, AreArguments, IsLimit, IsCounting, step_of, IsStatement, AreStatements, AreArms, messages_in, messages_of, messages_behind}
-use Rattle.cse_law_sources_have_room.specs.Given.{AreUtf8}
+use Rattle.cse_logic_names.specs.Texts.{AreUtf8}
 use Rattle.cse_law_sources_have_room.proofs.Facts.{small_number}
 use Rattle.cse_law_sources_have_room.proofs.Leaves.{NumbersHold, WhichHolds, ArgumentHolds, ArgumentsHold, LimitHolds, CountingHolds, MessageHolds, StatementHolds, BlockHolds, ArmsHold}
 use Rattle.cse_law_sources_have_room.proofs.Lists.{both}

@@ -18,7 +18,7 @@ use Rattle.cse_logic_names.specs.MessageFile.{MessageText}
 use Rattle.cse_logic_names.specs.Scope.{Scope}
 use Rattle.cse_logic_names.specs.WellTyped.{AreStatements, AreDeclared, AreProcedures, IsBody, IsWell, all_declarations, typed_declarations, function_scope, with_function, procedure_scope, messages_of, declared_messages, procedure_messages, body_messages, tree_messages, first_scope, with_functions}
 use Rattle.cse_compile.specs.Program.{declarations_in, declarations, handlers, outlines}
-use Rattle.cse_law_sources_have_room.specs.Given.{AreUtf8}
+use Rattle.cse_logic_names.specs.Texts.{AreUtf8}
 use Rattle.cse_law_sources_have_room.proofs.Leaves.{BlockHolds}
 use Rattle.cse_law_sources_have_room.proofs.Lists.{both, each_map}
 use Rattle.cse_law_sources_have_room.proofs.HeldBlocks.{EntryHolds, mark_rest, literal_rest, block_held, block_messages}

@@ -17,7 +17,7 @@ use Rattle.cse_logic_names.specs.MessageFile.{MessageText}
 use Rattle.cse_logic_names.specs.Scope.{Scope}
 use Rattle.cse_logic_names.specs.WellTyped.{message_number, numbered, message_meant, no_message, entry_of, size_of, size_in, AreDeclared, with_function, messages_of}
 use Rattle.cse_syntax_tree.specs.Tree.{Spelling}
-use Rattle.cse_law_sources_have_room.specs.Given.{AreTexts}
+use Rattle.cse_logic_names.specs.Texts.{AreTexts}
 use Rattle.cse_law_sources_have_room.specs.Within.{IsMessageWithin}
 use Rattle.cse_law_sources_have_room.proofs.Facts.{no_text}
 use Rattle.cse_law_sources_have_room.proofs.Held.{within}

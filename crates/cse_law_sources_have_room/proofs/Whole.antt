@@ -52,7 +52,8 @@ use Rattle.cse_law_sources_are_sound.specs.Sound.{IsOrdered}
 use Rattle.cse_law_sources_are_sound.proofs.EditOrder.{orders_name_all}
 use Rattle.cse_law_sources_are_sound.proofs.EventsFit as checked
 use Rattle.cse_law_sources_are_sound.proofs.Routines.{same_declarations, same_erased, each_declaration, OfGrammar, same_dictionary, statements_fit}
-use Rattle.cse_law_sources_have_room.specs.Given.{ShapeFits, AreUtf8, AreTexts}
+use Rattle.cse_logic_names.specs.Texts.{AreUtf8, AreTexts}
+use Rattle.cse_law_sources_have_room.specs.Given.{ShapeFits}
 use Rattle.cse_law_sources_have_room.specs.Within.{IsMessageWithin, IsWithin}
 use Rattle.cse_law_sources_have_room.specs.Room.{LargeAlone}
 use Rattle.cse_law_sources_have_room.proofs.Lists.{after_all, weaker, each_flat, at, by_place}

@@ -10,7 +10,8 @@ use Rattle.cse_logic_names.specs.MessageFile.{MessageText}
 use Rattle.cse_logic_names.specs.WellTyped.{IsTypedAs}
 use Rattle.cse_compile.specs.Compiled.{HasNoRoom}
 use Rattle.cse_law_sources_are_sound.specs.Sound.{IsOrdered}
-use Rattle.cse_law_sources_have_room.specs.Given.{ShapeFits, AreUtf8, AreTexts}
+use Rattle.cse_logic_names.specs.Texts.{AreUtf8, AreTexts}
+use Rattle.cse_law_sources_have_room.specs.Given.{ShapeFits}
 use Rattle.cse_law_sources_have_room.specs.Within.{IsWithin}
 
 -- Where the dictionary is sound, the source is of the grammar with at most 64 parentheses and statements open at once, it keeps each rule as

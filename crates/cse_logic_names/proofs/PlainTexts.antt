@@ -1,22 +1,26 @@
--- The texts of a message file and of a source are texts.
-use Rattle.std.proofs.Common.{◌≡◌, ℕ, Bool, true, false, not, ◌&&◌, List, [], ◌∷◌, ◌++◌, map, Option, Some, None, refl, sym, subst, ◌∙◌}
-use Rattle.std.specs.Prelude.{Result, Ok, Err, IsTrue, nat_le, nat_eq, length, take, drop, if◌then◌else◌}
+-- The texts of a message file are texts.
+use Rattle.std.proofs.Common.{◌≡◌, ℕ, Bool, true, false, not, ◌&&◌, List, [], ◌∷◌, ◌++◌, Option, Some, None, refl, sym, subst}
+use Rattle.std.specs.Prelude.{Result, Ok, Err, IsTrue, nat_le, nat_eq, take, drop, if◌then◌else◌}
 use Rattle.std.specs.List.{AllByRecursion, list_any}
 use Rattle.std.specs.Str.{is_utf8}
 use Rattle.std.proofs.lemmas.Bool.{and_parts}
 use Rattle.cse_image_parts.specs.Texts.{is_text, is_short}
 use Rattle.cse_sections.specs.Number.{number_between}
+<<<<<<< HEAD:crates/cse_build/proofs/Given.antt
 use Rattle.cse_syntax_tree.specs.declared.token.Kind.{Kind}
 use Rattle.cse_syntax_tree.specs.declared.token.Kind.TheVariants as k
 use Rattle.cse_syntax_tree.specs.declared.token.Token.{Token}
 use Rattle.cse_syntax_tree.specs.Word.{Word, word, word_of, words}
 use Rattle.cse_syntax_tree.specs.Tree as syntax
 use Rattle.cse_syntax_tree.specs.Grammar.{IsSource, spell_tree}
+=======
+>>>>>>> 54e4e740 (Typed and Messages keep what the clause on 64 asked for):crates/cse_logic_names/proofs/PlainTexts.antt
 use Rattle.cse_logic_names.specs.MessageFile.{MessageText, digit_count, begins_with_gap, text_in, has_form, is_skipped, numbered, line_of, with_message, with_line, messages_behind}
-use Rattle.cse_law_sources_have_room.specs.Given.{IsUtf8Word, AreUtf8, AreTexts}
-use Rattle.cse_law_sources_have_room.proofs.Lists.{both}
+use Rattle.cse_logic_names.specs.Texts.{AreTexts}
 
--- ---- message files
+both : {A : Type 0} (P : A → Type 0) (xs ys : List A) → AllByRecursion P xs → AllByRecursion P ys → AllByRecursion P (xs ++ ys)
+both P [] ys f g = g
+both P (x ∷ xs) ys f g = (f.0, both P xs ys f.1 g)
 
 abbrev IsPlain : MessageText → Type 0
 IsPlain x = IsTrue (is_text x.text)
@@ -66,23 +70,3 @@ behind_plain found (l ∷ ls) h = behind_plain (with_line found (line_of l)) ls 
 -- those that are read
 pub are_texts : (found : List MessageText) (lines : List (List ℕ)) → found ≡ messages_behind [] lines → AreTexts found
 are_texts found lines e = subst AreTexts (sym e) (behind_plain [] lines tt)
-
--- ---- words
-
-one_word : (n : ℕ) (kind : Kind) (text : List ℕ) → IsTrue (is_utf8 text) → IsUtf8Word (word n kind text)
-one_word n k.Name text h = tt
-one_word n k.Number text h = tt
-one_word n k.Text text h = h
-one_word n (k.Special value) text h = tt
-one_word n (k.Jump jump) text h = tt
-one_word n (k.Mark m) text h = tt
-one_word n k.LeftOut text h = tt
-one_word n k.LongWord text h = tt
-
-all_words : (ts : List Token) → AllByRecursion (λ (t : Token). IsTrue (is_utf8 t.text.now)) ts → AreUtf8 (words ts)
-all_words [] h = tt
-all_words (t ∷ ts) h = (one_word t.index t.kind t.text.now h.0, all_words ts h.1)
-
--- those of a source
-pub are_utf8 : (room : ℕ) (x : syntax.Tree) (ts : List Token) → AllByRecursion (λ (t : Token). IsTrue (is_utf8 t.text.now)) ts → IsSource room x (words ts) → AreUtf8 (spell_tree x)
-are_utf8 room x ts h s = subst AreUtf8 s.2 (all_words ts h)

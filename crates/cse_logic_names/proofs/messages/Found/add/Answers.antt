@@ -7,7 +7,7 @@ use Rattle.indexmap.proofs.CallerLemmas.{insert_entry-new}
 use Rattle.cse_dict.proofs.PlaceLaws.{is_some-copied, none_there}
 use Rattle.cse_logic_names.specs.MessageFile.{MessageText}
 use Rattle.cse_logic_names.proofs.MessageLaws.{any_told, made, told, told_more, with_message-there, with_message-new}
-use Rattle.cse_logic_names.proofs.messages.Messages.add.Goals as goal
+use Rattle.cse_logic_names.proofs.messages.Found.add.Goals as goal
 
 pub returns-then-is_some : goal.returns-then-is_some
 returns-then-is_some c =

@@ -1,0 +1,5 @@
+use Rattle.cse_logic_names.proofs.PlainTexts.{are_texts}
+use Rattle.cse_logic_names.proofs.messages.Messages.read.Goals as goal
+
+pub kept-requires : goal.kept-requires
+kept-requires c = are_texts c.in-Ok.found _ c.in-Ok.ensures.1
