@@ -13,7 +13,7 @@ ghost use Rattle.cse_law_sources_have_room.specs.Within.{IsWithin};
 ghost use Rattle.cse_meaning.specs.Means.{Means};
 
 use crate::reading::read_shape;
-use cse_compile::CompileError;
+use cse_compile::{CompileError, program_of};
 use cse_image::Program;
 use cse_law_programs_mean::{means_alone, programs_mean};
 use cse_types::Typed;
@@ -32,7 +32,7 @@ fn compiled(alloc: Global, typed: &Typed<'_>) -> Result<Program, CompileError>
     let dictionary = typed.dictionary();
     let sound = dictionary.shape();
     read_shape(sound);
-    cse_compile::compile(alloc, typed.tree(), dictionary, typed.order().records())
+    program_of(alloc, typed.tree(), dictionary, typed.order().records())
 }
 
 /// A program of a checked source that may run does what the source means.

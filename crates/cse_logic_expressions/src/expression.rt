@@ -141,7 +141,7 @@ fn named_with<'a>(
                 }
             }
             Meaning::Record(_) => Ok(unknown(faults, name.token)),
-            Meaning::Item(item) => item_at(alloc, scope, faults, name, item, arguments),
+            Meaning::Item(item) => item_at(alloc, scope, faults, name, count, item, arguments),
             Meaning::Set(_) => Ok(unknown(faults, name.token)),
             Meaning::Application => Ok(unknown(faults, name.token)),
             Meaning::Level => Ok(unknown(faults, name.token)),

@@ -165,17 +165,23 @@ fn text_item_at<'a>(
     }
 }
 
-/// The only subscript, or the fault 44.
+/// The only subscript of so many, or the fault 44, which is told also where one of them isn't sound.
 pub fn sole<'a>(
     faults: &mut Faults,
     token: usize,
+    count: usize,
     subscripts: Option<Vec<Number<'a>>>,
 ) -> Option<Number<'a>>
     ensures value { option_map number result ≡ spec.sole (option_map (λ v. numbers (map number v.items)) subscripts.entry) }
     ensures noted { IsNotedAfter (is_there subscripts.entry) faults.old faults.new (is_there (spec.sole (option_map (λ v. numbers (map number v.items)) subscripts.entry))) }
 {
     match subscripts {
-        None => None,
+        None => {
+            if count != 1 {
+                faults.note(44, token);
+            }
+            None
+        }
         Some(subscripts) => only_one(faults, token, subscripts),
     }
 }
@@ -196,12 +202,13 @@ fn only_one<'a>(
     subscripts.pop()
 }
 
-/// An item with a subscript.
+/// An item with so many subscripts.
 pub fn item_at<'a>(
     alloc: Global,
     scope: &Scope<'_>,
     faults: &mut Faults,
     name: Lexeme<'a>,
+    count: usize,
     item: u16,
     subscripts: Option<Vec<Number<'a>>>,
 ) -> Result<Judged<'a>, AllocError>
@@ -219,13 +226,13 @@ pub fn item_at<'a>(
                 Ok(Judged::Unknown)
             }
             ItemKind::Number => {
-                let place = sole(faults, name.token, subscripts);
+                let place = sole(faults, name.token, count, subscripts);
                 let field = field_at(scope, faults, 44, name.token, item, owner);
                 let found = number_item_at(alloc, name, field, place)?;
                 Ok(Judged::Number(found))
             }
             ItemKind::Text => {
-                let place = sole(faults, name.token, subscripts);
+                let place = sole(faults, name.token, count, subscripts);
                 let field = field_at(scope, faults, 44, name.token, item, owner);
                 let found = text_item_at(alloc, name, field, place)?;
                 Ok(Judged::Words(found))

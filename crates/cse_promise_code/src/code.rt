@@ -25,8 +25,8 @@ pub fn routine_size(s: &Setting, body: &Vec<Statement>) -> usize
     cse_compile_code::routine_size(s, body)
 }
 
-/// `compile`.
-pub fn compile<'t, 'a>(
+/// `program_of`.
+pub fn program_of<'t, 'a>(
     alloc: Global,
     tree: &'t Tree<'a>,
     dictionary: &Dictionary,
@@ -39,5 +39,5 @@ pub fn compile<'t, 'a>(
     ensures others { IsSound dictionary.now order.now (tree_view tree.now) → IfErr result IsReason }
     ensures cost { IsSound dictionary.now order.now (tree_view tree.now) → IfErr result (λ e. e.number ≡ 67 → MayTakeLong dictionary.now order.now (tree_view tree.now)) }
 {
-    cse_compile::compile(alloc, tree, dictionary, order)
+    cse_compile::program_of(alloc, tree, dictionary, order)
 }

@@ -8,7 +8,7 @@
 mod code;
 mod tables;
 
-pub use code::{compile, routine_size};
+pub use code::{program_of, routine_size};
 pub use tables::{
     arrays_of, edit_order, event_table, function_outlines, globals_of, handlers_of, messages_of,
 };

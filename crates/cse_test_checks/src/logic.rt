@@ -16,7 +16,7 @@ pub(crate) const PRELUDE: &str =
 /// Logic, and the number, line and column of its fault; zeros where it is sound.
 pub(crate) type Row = (&'static str, (u8, u64, u64));
 
-pub(crate) static ROWS: [Row; 188] = [
+pub(crate) static ROWS: [Row; 193] = [
     // Logic that keeps each rule.
     (
         "PROC AGE AGE = 1; NICK = \"a\"; X = AGE; T = NICK; A(1) = 2; B(1, X) = A(3); F(2); ;",
@@ -177,6 +177,11 @@ pub(crate) static ROWS: [Row; 188] = [
     ("PROC GLOBAL function G() G = A(1, 1); end; array A(2, NOBODY);", (40, 1, 55)),
     ("PROC GLOBAL function F(P) end; function G() F(); end; numeric P;", (44, 1, 45)),
     ("PROC GLOBAL function F(P) end; function G() F(1); end; numeric P;", (40, 1, 64)),
+    ("PROC AGE AGE(1, NOBODY) = 1;", (44, 2, 10)),
+    ("PROC AGE X = AGE(NOBODY, 1);", (44, 2, 14)),
+    ("PROC AGE X = AGE(NOBODY);", (40, 2, 18)),
+    ("PROC AGE X = A(NOBODY, 1);", (44, 2, 14)),
+    ("PROC AGE F(NOBODY, 1);", (44, 2, 10)),
     // Functions that are used before their end; with another count of arguments that is the lesser fault.
     (
         "PROC GLOBAL function F() G(); end; function G() end;",

@@ -1,5 +1,5 @@
 use Rattle.cse_compile.proofs.Refused.{err_others, err_cost, err_room}
-use Rattle.cse_compile.proofs.compiling.compile.Goals as goal
+use Rattle.cse_compile.proofs.compiling.program_of.Goals as goal
 
 pub returns-in-Ok-clause-others : goal.returns-in-Ok-clause-others
 returns-in-Ok-clause-others c = err_others _ _ _ _ c.spelled.result c.in-Ok.ensures.ok c.spelled.ensures.refused
