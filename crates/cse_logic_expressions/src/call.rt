@@ -194,16 +194,17 @@ pub fn may_call(
     ensures value { result ≡ well.may_call scope.now arguments (slice_get scope.now.functions function) }
     ensures noted { IsNoted faults.old faults.new (well.may_call scope.now arguments (slice_get scope.now.functions function)) }
 {
+    let declared = scope.counts.parameters.get(function);
     match scope.functions.get(function) {
         None => {
-            same_count(faults, token, arguments, scope.counts.parameters.get(function));
+            same_count(faults, token, arguments, declared);
             faults.note(45, token);
             false
         }
         Some(facts) => match facts {
             None => {
                 // Its own fault may stand behind this place: that of a parameter's name stands at the later of two.
-                same_count(faults, token, arguments, scope.counts.parameters.get(function));
+                same_count(faults, token, arguments, declared);
                 faults.note(45, usize::MAX);
                 false
             }

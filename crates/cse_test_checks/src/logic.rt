@@ -172,11 +172,26 @@ pub(crate) static ROWS: [Row; 193] = [
         "PROC GLOBAL numeric X; alpha (5) T; function G() A(1) = T; end; array A(NOBODY);",
         (44, 1, 57),
     ),
-    ("PROC GLOBAL function G() A(1) = 2; end; array A(2, NOBODY);", (44, 1, 26)),
-    ("PROC GLOBAL function G() G = A(1); end; array A(2, NOBODY);", (44, 1, 30)),
-    ("PROC GLOBAL function G() G = A(1, 1); end; array A(2, NOBODY);", (40, 1, 55)),
-    ("PROC GLOBAL function F(P) end; function G() F(); end; numeric P;", (44, 1, 45)),
-    ("PROC GLOBAL function F(P) end; function G() F(1); end; numeric P;", (40, 1, 64)),
+    (
+        "PROC GLOBAL function G() A(1) = 2; end; array A(2, NOBODY);",
+        (44, 1, 26),
+    ),
+    (
+        "PROC GLOBAL function G() G = A(1); end; array A(2, NOBODY);",
+        (44, 1, 30),
+    ),
+    (
+        "PROC GLOBAL function G() G = A(1, 1); end; array A(2, NOBODY);",
+        (40, 1, 55),
+    ),
+    (
+        "PROC GLOBAL function F(P) end; function G() F(); end; numeric P;",
+        (44, 1, 45),
+    ),
+    (
+        "PROC GLOBAL function F(P) end; function G() F(1); end; numeric P;",
+        (40, 1, 64),
+    ),
     ("PROC AGE AGE(1, NOBODY) = 1;", (44, 2, 10)),
     ("PROC AGE X = AGE(NOBODY, 1);", (44, 2, 14)),
     ("PROC AGE X = AGE(NOBODY);", (40, 2, 18)),
@@ -195,9 +210,18 @@ pub(crate) static ROWS: [Row; 193] = [
     ("PROC GLOBAL function F(P) F = F(); end;", (44, 1, 31)),
     ("PROC GLOBAL function F(P) F(1, 2); end;", (44, 1, 27)),
     ("PROC GLOBAL function F(P) F(1); end;", (45, 1, 27)),
-    ("PROC GLOBAL function G() H(); end; function H(P) end;", (44, 1, 26)),
-    ("PROC GLOBAL function G() G = H(1, 2); end; function H(P) end;", (44, 1, 30)),
-    ("PROC GLOBAL function G() G = H(1); end; function H(P) end;", (45, 1, 30)),
+    (
+        "PROC GLOBAL function G() H(); end; function H(P) end;",
+        (44, 1, 26),
+    ),
+    (
+        "PROC GLOBAL function G() G = H(1, 2); end; function H(P) end;",
+        (44, 1, 30),
+    ),
+    (
+        "PROC GLOBAL function G() G = H(1); end; function H(P) end;",
+        (45, 1, 30),
+    ),
     // `/` outside `int`.
     ("PROC AGE AGE = AGE / 2;", (46, 2, 20)),
     ("PROC AGE if 7 / 2 = 3 then endif;", (46, 2, 15)),
