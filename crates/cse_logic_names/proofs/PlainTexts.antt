@@ -6,15 +6,6 @@ use Rattle.std.specs.Str.{is_utf8}
 use Rattle.std.proofs.lemmas.Bool.{and_parts}
 use Rattle.cse_image_parts.specs.Texts.{is_text, is_short}
 use Rattle.cse_sections.specs.Number.{number_between}
-<<<<<<< HEAD:crates/cse_build/proofs/Given.antt
-use Rattle.cse_syntax_tree.specs.declared.token.Kind.{Kind}
-use Rattle.cse_syntax_tree.specs.declared.token.Kind.TheVariants as k
-use Rattle.cse_syntax_tree.specs.declared.token.Token.{Token}
-use Rattle.cse_syntax_tree.specs.Word.{Word, word, word_of, words}
-use Rattle.cse_syntax_tree.specs.Tree as syntax
-use Rattle.cse_syntax_tree.specs.Grammar.{IsSource, spell_tree}
-=======
->>>>>>> 54e4e740 (Typed and Messages keep what the clause on 64 asked for):crates/cse_logic_names/proofs/PlainTexts.antt
 use Rattle.cse_logic_names.specs.MessageFile.{MessageText, digit_count, begins_with_gap, text_in, has_form, is_skipped, numbered, line_of, with_message, with_line, messages_behind}
 use Rattle.cse_logic_names.specs.Texts.{AreTexts}
 

@@ -2,13 +2,8 @@ use Rattle.std.proofs.Common.{take}
 use Rattle.std.specs.Prelude.{IsTrue}
 use Rattle.std.specs.List.{AllByRecursion}
 use Rattle.std.specs.Str.{is_utf8}
-<<<<<<< HEAD:crates/cse_build/proofs/reading/read_tokens/Invariants.antt
-use Rattle.cse_syntax_tree.specs.declared.token.Token.{Token}
-use Rattle.cse_build.proofs.reading.read_tokens.Given as goal
-=======
 use Rattle.cse_syntax_tree.specs.declared.token.Token.{Token}
 use Rattle.cse_types.proofs.reading.read_tokens.Given as goal
->>>>>>> 54e4e740 (Typed and Messages keep what the clause on 64 asked for):crates/cse_types/proofs/reading/read_tokens/Invariants.antt
 
 abbrev pub invariant-loop-token : goal.invariant-loop-token
 invariant-loop-token l = AllByRecursion (λ (t : Token). IsTrue (is_utf8 t.text.now)) (take l.token-index l.tokens)
