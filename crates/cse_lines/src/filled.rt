@@ -1,6 +1,6 @@
 //! The columns of a run, in a vector that is filled further than they reach.
 
-ghost use Rattle.std.specs.Prelude.{◌≡◌, ℕ, ◌≤◌, ◌+◌, ◌-◌, ◌++◌, ◌<◌, [], drop, length, max, replicate, set, take, true, false, vec_capacity, IfErr, IfOk, OnErr, OnOk};
+ghost use Rattle.std.specs.Prelude.{◌≡◌, ℕ, List, ◌≤◌, ◌+◌, ◌-◌, ◌++◌, ◌<◌, [], drop, length, max, replicate, set, take, true, false, vec_capacity, IfErr, IfOk, OnErr, OnOk};
 ghost use Rattle.std.specs.Str.{IsAscii, chars, is_utf8};
 ghost use Rattle.cse_value.specs.Field.{put_whole};
 ghost use Rattle.cse_lines.specs.Decoding.{Holds, IfFault};
@@ -122,6 +122,24 @@ fn fill_up(own: &mut OwnColumns, len: usize) -> Result<(), AllocError>
     Ok(())
 }
 
+/// Writes what stands beside bytes over as much from a place on, where these bytes were written before. It is called for few
+/// lines, and isn't laid out where it is called.
+#[cold]
+#[inline(never)]
+fn put_over_beside(own: &mut OwnColumns, first: usize, len: usize, text: &OwnColumns)
+    requires room { first + len ≤ length own.old.bytes.items }
+    requires beside { HasRoom own.old }
+    requires there { len ≤ length text.now.bytes.items }
+    ensures columns { (before : List ℕ) → length before ≡ length own.old.bytes.items
+        → own.old.bytes.items ≡ with_columns first (take len text.now.bytes.items) before
+        → columns_in own.new ≡ with_columns first (take len (columns_in text.now)) (columns_by before own.old.beside.items) }
+    ensures bytes { own.new.bytes ≡ own.old.bytes }
+    ensures beside { HasRoom own.new }
+{
+    own.reach(first + len);
+    put_beside(&mut own.beside, first, &text.bytes[..len], &text.beside);
+}
+
 /// Writes columns over those from a place on. What stands beside their bytes goes along, where some are beyond ASCII.
 #[inline(always)]
 fn put_over(own: &mut OwnColumns, first: usize, len: usize, text: &OwnColumns)
@@ -133,8 +151,7 @@ fn put_over(own: &mut OwnColumns, first: usize, len: usize, text: &OwnColumns)
     ensures beside { HasRoom own.new }
 {
     if !put_between(&mut own.bytes, first, first + len, &text.bytes[..len]) {
-        own.reach(first + len);
-        put_beside(&mut own.beside, first, &text.bytes[..len], &text.beside);
+        put_over_beside(own, first, len, text);
     }
 }
 

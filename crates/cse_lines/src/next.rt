@@ -1,6 +1,6 @@
 //! One call of the reader, over its parts.
 
-ghost use Rattle.std.specs.Prelude.{◌≡◌, ◌≤◌, ◌+◌, ◌<◌, ◌^◌, ◌⊎◌, true, length, Some, IfErr, OnErr, OnOk};
+ghost use Rattle.std.specs.Prelude.{◌≡◌, ◌≢◌, ◌≤◌, ◌+◌, ◌<◌, ◌^◌, ◌⊎◌, true, length, Some, IfErr, OnErr, OnOk};
 ghost use Rattle.cse_value.specs.Device.{IsAtEnd, FailsOnce, IsUnfailing};
 ghost use Rattle.cse_lines.specs.Field.{layout_of};
 ghost use Rattle.cse_lines.specs.Reader.{Next, given_lines};
@@ -66,6 +66,7 @@ fn next_run<R: Input>(
     ensures end { ended.new ≡ true → IsAtEnd (R.given input.new) }
     ensures failed { IfErr result (λ error. error.number ≡ 70 → FailsOnce (R.given input.old) (R.given input.new) ⊎ (reads.new ≡ 2 ^ 40)) }
     ensures works { OnOk result (IsUnfailing (R.given input.old) (R.given input.new)) }
+    ensures sound { IfErr result (λ error. error.number ≢ 70 → IsUnfailing (R.given input.old) (R.given input.new)) }
 {
     'reads: loop {
         match gather(
@@ -142,6 +143,7 @@ pub fn next_by_layout<R: Input>(
     ensures end { ended.new ≡ true → IsAtEnd (R.given input.new) }
     ensures failed { IfErr result (λ error. error.number ≡ 70 → FailsOnce (R.given input.old) (R.given input.new) ⊎ (reads.new ≡ 2 ^ 40)) }
     ensures works { OnOk result (IsUnfailing (R.given input.old) (R.given input.new)) }
+    ensures sound { IfErr result (λ error. error.number ≢ 70 → IsUnfailing (R.given input.old) (R.given input.new)) }
 {
     let Ok(()) = keep_layout(alloc, dictionary, layout) else {
         return Err(error(90));

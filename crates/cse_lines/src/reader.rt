@@ -1,6 +1,6 @@
 //! The reader of runs.
 
-ghost use Rattle.std.specs.Prelude.{◌≡◌, ◌+◌, ◌*◌, ◌≤◌, ◌^◌, ◌⊎◌, [], None, Some, Err, true, false, IfErr, IfSome, OnOk, length};
+ghost use Rattle.std.specs.Prelude.{◌≡◌, ◌≢◌, ◌+◌, ◌*◌, ◌≤◌, ◌^◌, ◌⊎◌, [], None, Some, Err, true, false, IfErr, IfSome, OnOk, length};
 ghost use Rattle.cse_value.specs.Device.{IsAtEnd, FailsOnce, IsUnfailing};
 ghost use Rattle.cse_lines.specs.Reader.{HoldsLittle, Next, held_of};
 
@@ -149,8 +149,10 @@ impl<'a> RunReader<'a> {
         ensures end { self.new.ended ≡ true → IsAtEnd (R.given input.new) }
         ensures few_reads { self.new.reads ≤ 2 ^ 40 }
         ensures few { self.new.lines ≤ 2 ^ 40 * 65536 }
-        ensures failed { self.old.error ≡ None → IfErr result (λ error. error.number ≡ 70 → FailsOnce (R.given input.old) (R.given input.new) ⊎ (self.new.reads ≡ 2 ^ 40)) }
+        ensures failed { self.old.error ≡ None
+            → IfErr result (λ error. error.number ≡ 70 → FailsOnce (R.given input.old) (R.given input.new) ⊎ (self.new.reads ≡ 2 ^ 40)) }
         ensures works { OnOk result (IsUnfailing (R.given input.old) (R.given input.new)) }
+        ensures sound { IfErr result (λ error. error.number ≢ 70 → IsUnfailing (R.given input.old) (R.given input.new)) }
     {
         if let Some(error) = self.error {
             return Err(error);
