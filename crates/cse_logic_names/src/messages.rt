@@ -185,7 +185,7 @@ impl Messages {
     /// Those that were read of lines that have the form of a message.
     fn kept(found: Found) -> Messages
         requires { AreTexts found }
-        ensures { result ≡ found.entry }
+        ensures { result ≡ found }
     {
         let Found { table } = found;
         Messages { table }

@@ -123,7 +123,7 @@ fn values(text: &[u8]) -> Option<Mark>
     }
 }
 
-#[tactic(auto, unfolding(crate::specs::Leaf::mark_of))]
+#[tactic(auto, unfolding(cse_syntax_tree::specs::Leaf::mark_of))]
 fn mark_of(text: &[u8]) -> Option<Mark>
     ensures { result ≡ spec.mark_of text.now }
 {
@@ -169,7 +169,7 @@ fn jumps(text: &[u8]) -> Option<Jump>
     }
 }
 
-#[tactic(auto, unfolding(crate::specs::Leaf::reserved))]
+#[tactic(auto, unfolding(cse_syntax_tree::specs::Leaf::reserved))]
 fn reserved(text: &[u8]) -> Option<Kind>
     ensures { result ≡ spec.reserved text.now }
 {
@@ -186,7 +186,7 @@ fn reserved(text: &[u8]) -> Option<Kind>
 }
 
 // Words of CSPro's logic that are no part of this language.
-#[tactic(auto, unfolding(crate::specs::Leaf::is_left_out))]
+#[tactic(auto, unfolding(cse_syntax_tree::specs::Leaf::is_left_out))]
 fn is_left_out(text: &[u8]) -> bool
     ensures { result ≡ spec.is_left_out text.now }
 {
