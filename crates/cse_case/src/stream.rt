@@ -1,6 +1,6 @@
 //! A stream of cases over an input that each call is handed.
 
-ghost use Rattle.std.specs.Prelude.{◌≡◌, ◌+◌, ◌*◌, ◌^◌, ◌≤◌, ◌⊎◌, [], None, Some, Err, true, false, IfErr, IfOk, IfSome, OnOk, length};
+ghost use Rattle.std.specs.Prelude.{◌≡◌, ◌≢◌, ◌+◌, ◌*◌, ◌^◌, ◌≤◌, ◌⊎◌, [], None, Some, Err, true, false, IfErr, IfOk, IfSome, OnOk, length};
 ghost use Rattle.cse_value.specs.Device.{IsAtEnd, FailsOnce, IsUnfailing};
 ghost use Rattle.cse_lines.specs.Reader.{held_of, HoldsLittle};
 ghost use Rattle.cse_case.specs.Reading.{NextCase};
@@ -108,10 +108,12 @@ impl<'a> CaseStream<'a> {
         ensures err { IfErr result (λ error. self.new.error ≡ Some error) }
         ensures again { IfSome self.old.error (λ error. (result ≡ Err error) × (self.new ≡ self.old) × (input.new ≡ input.old)) }
         ensures end { self.new.ended ≡ true → IsAtEnd (R.given input.new) }
-        ensures failed { self.old.error ≡ None → IfErr result (λ error. error.number ≡ 70 → FailsOnce (R.given input.old) (R.given input.new) ⊎ (self.new.reads ≡ 2 ^ 40)) }
+        ensures failed { self.old.error ≡ None
+            → IfErr result (λ error. error.number ≡ 70 → FailsOnce (R.given input.old) (R.given input.new) ⊎ (self.new.reads ≡ 2 ^ 40)) }
         ensures few_reads { self.new.reads ≤ 2 ^ 40 }
         ensures few { self.new.lines ≤ 2 ^ 40 * 65536 }
         ensures works { OnOk result (IsUnfailing (R.given input.old) (R.given input.new)) }
+        ensures sound { IfErr result (λ error. error.number ≢ 70 → IsUnfailing (R.given input.old) (R.given input.new)) }
     {
         if let Some(error) = self.error {
             return Err(error);
