@@ -3,7 +3,7 @@
 ghost use Rattle.std.specs.Prelude.{◌≡◌, ◌<◌, ◌≤◌, [], OnOk, OnErr, IfOk, length, map, replicate};
 ghost use Rattle.cse_value.specs.Writing.{WritesAll, FailsAtErr};
 ghost use Rattle.cse_dict.specs.Dictionary.{item_names};
-ghost use Rattle.cse_output.specs.Gathering.{going, Puts};
+ghost use Rattle.cse_output.specs.Gathering.{behind, Puts};
 ghost use Rattle.cse_report.specs.Frequency.{imputed, items_lines, frequencies_text};
 
 use crate::counts::{ValueCounts, put_item};
@@ -77,7 +77,8 @@ fn put_items<W: Output>(
     dictionary: &Dictionary,
     items: &[ValueCounts],
 )
-    ensures { Puts (going (W.taken out.old) (W.has_failed out.old) gatherer.old.waiting.items gatherer.old.gave_up) (going (W.taken out.new) (W.has_failed out.new) gatherer.new.waiting.items gatherer.new.gave_up) (items_lines (item_names dictionary.now) items.now) }
+    ensures { Puts (behind W.taken W.has_failed out.old gatherer.old) (behind W.taken W.has_failed out.new gatherer.new)
+        (items_lines (item_names dictionary.now) items.now) }
 {
     let count = dictionary.shape().items.len().min(items.len());
     'items: for item in 0..count {
