@@ -1,6 +1,6 @@
 //! The next run and the next case of an input.
 
-ghost use Rattle.std.specs.Prelude.{◌≡◌, ◌*◌, ◌≤◌, ◌^◌, ◌⊎◌, None, Some, Err, true, IfErr, IfSome, OnOk};
+ghost use Rattle.std.specs.Prelude.{◌≡◌, ◌≢◌, ◌*◌, ◌≤◌, ◌^◌, ◌⊎◌, None, Some, Err, true, IfErr, IfSome, OnOk};
 ghost use Rattle.cse_value.specs.Device.{IsAtEnd, FailsOnce, IsUnfailing};
 ghost use Rattle.cse_lines.specs.Reader.{Next};
 ghost use Rattle.cse_case.specs.Reading.{NextCase};
@@ -22,8 +22,10 @@ pub fn next_run<R: Input>(
     ensures end { reader.new.ended ≡ true → IsAtEnd (R.given input.new) }
     ensures few_reads { reader.new.reads ≤ 2 ^ 40 }
     ensures few { reader.new.lines ≤ 2 ^ 40 * 65536 }
-    ensures failed { reader.old.error ≡ None → IfErr result (λ error. error.number ≡ 70 → FailsOnce (R.given input.old) (R.given input.new) ⊎ (reader.new.reads ≡ 2 ^ 40)) }
+    ensures failed { reader.old.error ≡ None
+        → IfErr result (λ error. error.number ≡ 70 → FailsOnce (R.given input.old) (R.given input.new) ⊎ (reader.new.reads ≡ 2 ^ 40)) }
     ensures works { OnOk result (IsUnfailing (R.given input.old) (R.given input.new)) }
+    ensures sound { IfErr result (λ error. error.number ≢ 70 → IsUnfailing (R.given input.old) (R.given input.new)) }
 {
     reader.next(input)
 }
@@ -37,10 +39,13 @@ pub fn next_case<'a, R: Input>(
     ensures ok { OnOk result (reader.new.stream.error ≡ None) }
     ensures err { IfErr result (λ error. reader.new.stream.error ≡ Some error) }
     ensures again { IfSome reader.old.stream.error (λ error. (result ≡ Err error) × (reader.new.stream ≡ reader.old.stream) × (reader.new.input.now ≡ reader.old.input.now)) }
-    ensures failed { reader.old.stream.error ≡ None → IfErr result (λ error. error.number ≡ 70 → FailsOnce (R.given reader.old.input.now) (R.given reader.new.input.now) ⊎ (reader.new.stream.reads ≡ 2 ^ 40)) }
+    ensures failed { reader.old.stream.error ≡ None
+        → IfErr result (λ error. error.number ≡ 70
+        → FailsOnce (R.given reader.old.input.now) (R.given reader.new.input.now) ⊎ (reader.new.stream.reads ≡ 2 ^ 40)) }
     ensures few_reads { reader.new.stream.reads ≤ 2 ^ 40 }
     ensures few { reader.new.stream.lines ≤ 2 ^ 40 * 65536 }
     ensures works { OnOk result (IsUnfailing (R.given reader.old.input.now) (R.given reader.new.input.now)) }
+    ensures sound { IfErr result (λ error. error.number ≢ 70 → IsUnfailing (R.given reader.old.input.now) (R.given reader.new.input.now)) }
 {
     reader.next()
 }
