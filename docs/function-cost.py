@@ -34,7 +34,10 @@ KIT = os.path.dirname(os.path.dirname(os.path.realpath(shutil.which("rt") or "rt
 KINDS = {"Lts": "paths", "Tie": "tie", "Proof": "proof"}
 COLUMNS = *KINDS.values(), "rest"
 # The other modules that the compiler makes of one function.
-PARTS = re.compile(r"\.(Lts|Tie|Proof|Code\.Mir|Code|Met|Statement|Symbol|Key|Kinds|Layout|Named|Reads|TheLink|Goals|Given|Invariants|Answers|TheLinks\..*)(\.decls)?$")
+PARTS = re.compile(
+    r"\.(Lts|Tie|Proof|Code|Met|Statement|Symbol|Key|Kinds|Carried|Layout|Named|Reads|View|TheLink|Goals|Given|Invariants|Answers|TheLinks)\b"
+    r"(?:-(?!requires|ensures)([^.]*?)(?:-\d+)*)?(\..*)?$"
+)
 # Where a check writes nothing for so long it was another check that wrote the file before.
 PAUSE = 600
 MODULE = ".oantt"
@@ -167,10 +170,13 @@ def steps(written):
 
 def function_of(module):
     """The function of a module, and the column that the module counts for."""
-    short = re.sub(r"^Rattle-\w+?-(proofs|specs\.contracts|specs)\.", "", module)
+    short = re.sub(r"^Rattle-\w+?-(proofs|specs\.contracts|specs)\.", "", module).removesuffix(".decls")
     found = PARTS.search(short)
-    name = short[: found.start()] if found else short
-    return name, KINDS.get(found[1] if found else "", "rest")
+    if not found:
+        return short, "rest"
+    # (a cycle's functions have their names behind the part's)
+    name = short[: found.start()] + (f" {found[2]}" if found[2] else "")
+    return name, "rest" if found[3] else KINDS.get(found[1], "rest")
 
 
 def read(path):
