@@ -1,11 +1,11 @@
 //! A device that gathers bytes in memory.
 
-ghost use Rattle.std.specs.Prelude.{◌≡◌, Some, false, []};
+ghost use Rattle.std.specs.Prelude.{◌≡◌, false, []};
 
 use cse_value::{Failed, Output};
 use std::alloc::Global;
 
-/// The bytes that were written. It fails where memory lacks.
+/// The bytes that it took. It fails where memory lacks.
 #[derive(Drop)]
 pub struct Gathered {
     bytes: Vec<u8>,
@@ -31,16 +31,23 @@ impl Gathered {
         self.failed
     }
 
-    /// The bytes that were written.
+    /// The bytes that it took.
     pub fn bytes(&self) -> &[u8]
         ensures { result.now ≡ self.now.bytes.items }
     {
         &self.bytes
     }
+
+    /// The bytes that it took.
+    pub fn into_bytes(self) -> Vec<u8>
+        ensures { result.items ≡ self.bytes.items }
+    {
+        self.bytes
+    }
 }
 
 impl Output for Gathered {
-    ghost contents = { λ s. Some s.bytes.items };
+    ghost taken = { λ s. s.bytes.items };
 
     ghost has_failed = { λ s. s.failed };
 
