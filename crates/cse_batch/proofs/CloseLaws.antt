@@ -72,6 +72,7 @@ ran v first before after store store' old new out list g totals c step =
     record {
       bytes = c.bytes;
       reads = c.reads;
+      unfailing = c.unfailing;
       end = c.end;
       sound = c.sound;
       totals_are = c.totals_are ∙ sym w.totals;
@@ -88,9 +89,9 @@ ran v first before after store store' old new out list g totals c step =
     }
 
 -- memory lacked in the postproc
-pub halts_last : (v : VerifiedProgram) (first : Kept) (before after : Given) (store : Kept) (reports : Reports) (failed : Bool) (out list : Device) (g : Going) (totals : Totals) → CasesRan v first before after store reports out list totals
-    → Puts list.going g [] → Halts v first before after failed out (record { start = list.start; sound = list.sound; going = g }) (record { number = 90; line = 0 })
-halts_last v first before after store reports failed out list g totals c idle =
+pub halts_last : (v : VerifiedProgram) (first : Kept) (before after : Given) (store : Kept) (reports : Reports) (out list : Device) (g : Going) (totals : Totals) → CasesRan v first before after store reports out list totals
+    → Puts list.going g [] → Halts v first before after out (record { start = list.start; sound = list.sound; going = g }) (record { number = 90; line = 0 })
+halts_last v first before after store reports out list g totals c idle =
     let runs = given v.dictionary true true c.bytes in
     let p = after_runs v (begun v first) runs in
     let front = fronts_stay v first c.bytes true runs [] (sym (append-nil runs)) in
@@ -114,6 +115,7 @@ halts_last v first before after store reports failed out list g totals c idle =
       listing_whole = λ low. absurd (omega arith);
       faulty = λ low. absurd (omega arith);
       needed = λ q. absurd (omega arith);
+      unfailing = λ q. c.unfailing;
       reading = λ q. absurd (omega arith);
       writing = λ q. absurd (omega arith);
       other = λ high. inr (inr refl);
@@ -194,6 +196,7 @@ stops v first before after out list fault h r r' new new' failed failed' a b f d
         given_are = h.given_are;
         appends = appends_as out.start new h.written (after_runs v (begun v first) h.runs).out h.written_is (front_of r out.start new h.written a.writes) (all_of r out.start new h.written out.sound failed a.writes a.fails works);
       };
+      unfailing = h.unfailing;
       reading = h.reading;
       writing = λ e. elim (h.writing e) [ inl g ↦ inl (a.gave_up g) | inr g ↦ inr (inl (b.gave_up g)) ];
       other = h.other;
@@ -227,6 +230,7 @@ stops_end v first before after store reports o l totals old new failed r fronts 
     given_are = sym (append-nil (given v.dictionary true true r.bytes));
     appends = subst (λ (t : List ℕ). Appends old.out new.out t) (out_whole v first r.bytes r.sound) (wrote works);
   };
+  unfailing = λ q. r.unfailing;
   reading = λ q. absurd (omega arith);
   writing = λ q. some;
   other = λ high. inr (inl refl);
@@ -246,6 +250,7 @@ stops_at_once v first before old failed = record {
   out_whole = λ low. absurd (omega arith);
   listing_whole = λ low. absurd (omega arith);
   out_runs = λ works. record { runs = []; more = _; given_are = refl; appends = subst (λ (t : List ℕ). Appends old.out old.out t) (sym (begun_out v first)) (Appends-nil old.out) };
+  unfailing = λ q. refl;
   reading = λ q. absurd (omega arith);
   writing = λ q. absurd (omega arith);
   other = λ high. inr (inr refl);
@@ -272,4 +277,4 @@ front_as a b text all e f = subst (λ (l : List ℕ). AppendsFront a b l) e f
 -- it went to the end
 pub runs_whole : (v : VerifiedProgram) (first : Kept) (before after : Given) (store : Kept) (reports : Reports) (o l : Device) (totals : Totals) (old new : Contents) (r : Ran v first before after store reports o l totals)
     → GivesTexts old new (batch v first r.bytes true) → RunsWhole v first before after old new totals
-runs_whole v first before after store reports o l totals old new r texts = record { bytes = r.bytes; reads = r.reads; end = r.end; sound = r.sound; texts = texts; totals_are = r.totals_are }
+runs_whole v first before after store reports o l totals old new r texts = record { bytes = r.bytes; reads = r.reads; unfailing = r.unfailing; end = r.end; sound = r.sound; texts = texts; totals_are = r.totals_are }

@@ -1,7 +1,7 @@
 -- What a run knows, run of lines by run of lines.
-use Rattle.std.proofs.Common.{◌≡◌, ℕ, ◌+◌, ◌*◌, ◌^◌, ◌<◌, ◌≤◌, ◌⊎◌, Bool, true, false, List, [], ◌∷◌, ◌++◌, length, None, Some, Ok, Err, cond, refl, ap, sym, ◌∙◌, subst, arith, append_assoc, append-nil, inl, inr}
+use Rattle.std.proofs.Common.{◌≡◌, ◌≢◌, ℕ, ◌+◌, ◌*◌, ◌^◌, ◌<◌, ◌≤◌, ◌⊎◌, Bool, true, false, List, [], ◌∷◌, ◌++◌, length, None, Some, Ok, Err, cond, refl, ap, sym, ◌∙◌, subst, arith, append_assoc, append-nil, inl, inr}
 use Rattle.std.specs.Prelude.{replicate}
-use Rattle.cse_value.specs.Device.{IsAtEnd, Given}
+use Rattle.cse_value.specs.Device.{FailsOnce, Given, IsAtEnd, IsUnfailing}
 use Rattle.cse_value.proofs.ReadLaws.{Consumes-nil}
 use Rattle.std.proofs.lemmas.Bool.{cases_lt}
 use Rattle.cse_image_parts.specs.declared.entries.EventCode.TheVariants.{ApplicationPreproc}
@@ -109,14 +109,14 @@ module _ (v : VerifiedProgram) (first : Kept) (before now after : Given) (r r' :
         (gives before now after v.dictionary r r' run.text totals run.so_far c n).is
         ∙ ap (λ k. case_of v.dictionary (k + 1) lines_of) (sym run.lines)
 
-    pub running_case : (c' : CaseText) (store' : Kept) (mid new : Reports) (g g' : Going) (case : Bool) → Edits v c store reports c' store' mid → Puts out.going g (written_run c'.run)
+    pub running_case : IsUnfailing now after → (c' : CaseText) (store' : Kept) (mid new : Reports) (g g' : Going) (case : Bool) → Edits v c store reports c' store' mid → Puts out.going g (written_run c'.run)
         → Puts listing.going g' mid.listing.lines → new.listing ≡ flushed mid.listing → new.frequencies ≡ mid.frequencies → case ≡ is_case (records_of c) (types_of c.run.lines) → r'.lines ≤ 2 ^ 40 * 65536
         → Running v first before after r' store' new (record { start = out.start; sound = out.sound; going = g }) (record { start = listing.start; sound = listing.sound; going = g' })
         (record { cases = totals.cases + cond case 1 0; lines = totals.lines + length c.run.lines; unseen = totals.unseen + length (unseen_lines c) })
-    running_case c' store' mid new g g' case edits puts lists flush same is few =
-        let s = SoFar-case before now after v.dictionary r r' run.text totals run.so_far c n case is few in
+    running_case works c' store' mid new g g' case edits puts lists flush same is few =
+        let s = SoFar-case before now after v.dictionary r r' run.text totals run.so_far c n works case is few in
         let p' = after_run v at lines_of in
-        let runs_are = runs-case before now after v.dictionary r r' run.text totals run.so_far c n case is few in
+        let runs_are = runs-case before now after v.dictionary r r' run.text totals run.so_far c n works case is few in
         let is_after : p' ≡ after_runs v (begun v first) s.runs = sym (runs_later v (begun v first) run.so_far.runs (lines_of ∷ [])) ∙ ap (after_runs v (begun v first)) (sym runs_are) in
         let written = out_of_case v at lines_of c c' store store' reports mid run.keeps.store_is is_next edits in
         running v first before after r' store' new _ _ _ (run.text ++ written_run c.run) s p' is_after
@@ -127,13 +127,14 @@ module _ (v : VerifiedProgram) (first : Kept) (before now after : Given) (r r' :
         })
 
   -- the end of the input was read
-  pub ran_all : NextCase now after r r' (Ok None) → IsAtEnd after → CasesRan v first before after store reports out listing totals
-  ran_all n end =
+  pub ran_all : NextCase now after r r' (Ok None) → IsUnfailing now after → IsAtEnd after → CasesRan v first before after store reports out listing totals
+  ran_all n works end =
       let d = v.dictionary in
       let is : given d true true run.text ≡ run.so_far.runs = given_all before now after d r r' run.text totals run.so_far n in
       record {
         bytes = run.text;
         reads = reads_all before now after d r r' run.text totals run.so_far n;
+        unfailing = works ∙ run.so_far.unfailing;
         end = end;
         sound = sound_all before now after d r r' run.text totals run.so_far n;
         totals_are = run.so_far.totals_are ∙ ap (totals_of d) (sym is);
@@ -176,8 +177,8 @@ module _ (v : VerifiedProgram) (first : Kept) (before now after : Given) (r r' :
           batch_broken v first bytes r'.ended run.so_far.runs f.unended (none_given f.none)
     ]
 
-    pub halts_fault : (failed : Bool) → (r'.ended ≡ true → IsAtEnd after) → (error.number ≡ 70 → (failed ≡ true) ⊎ (r'.reads ≡ 2 ^ 40)) → Halts v first before after failed out listing fault
-    halts_fault failed end reading =
+    pub halts_fault : (r'.ended ≡ true → IsAtEnd after) → (error.number ≡ 70 → FailsOnce now after ⊎ (r'.reads ≡ 2 ^ 40)) → (error.number ≢ 70 → IsUnfailing now after) → Halts v first before after out listing fault
+    halts_fault end reading sound =
         let e = is_error before now after v.dictionary r r' run.text totals run.so_far error n in
         let front = fronts_stay v first bytes r'.ended run.so_far.runs _ (given_more before now after v.dictionary r r' run.text totals run.so_far error n) in
         record {
@@ -199,15 +200,16 @@ module _ (v : VerifiedProgram) (first : Kept) (before now after : Given) (r r' :
           listing_whole = λ low. listing_stopped all at _ (is_stopped low);
           faulty = λ low. data_fault before now after v.dictionary r r' run.text totals run.so_far error n (e.faulty low);
           needed = λ q. breaks_off before now after v.dictionary r r' run.text totals run.so_far error n (e.needed q);
-          reading = λ q. few_reads before now after v.dictionary r r' run.text totals run.so_far error n failed (reading q);
+          unfailing = λ q. sound q ∙ run.so_far.unfailing;
+          reading = λ q. few_reads before now after v.dictionary r r' run.text totals run.so_far error n (reading q);
           writing = λ q. elim (e.number (omega arith)) [ inl f ↦ absurd (omega arith) | inr f ↦ absurd (omega arith) ];
           other = λ high. elim (e.number high) [ inl f ↦ inl f | inr f ↦ inr (inr f) ];
           no_line = e.line;
         }
 
   -- an output failed after a run of lines was put
-  pub halts_writing : (failed : Bool) → (r.ended ≡ true → IsAtEnd now) → (out.going.gave_up ≡ true) ⊎ (listing.going.gave_up ≡ true) → Halts v first before now failed out listing (record { number = 71; line = 0 })
-  halts_writing failed end gave_up =
+  pub halts_writing : (r.ended ≡ true → IsAtEnd now) → (out.going.gave_up ≡ true) ⊎ (listing.going.gave_up ≡ true) → Halts v first before now out listing (record { number = 71; line = 0 })
+  halts_writing end gave_up =
       let front = fronts_stay v first (run.text ++ held_of r) r.ended run.so_far.runs _ (given_so_far before now v.dictionary r run.text totals run.so_far) in
       record {
         bytes = run.text ++ held_of r;
@@ -228,6 +230,7 @@ module _ (v : VerifiedProgram) (first : Kept) (before now after : Given) (r r' :
         listing_whole = λ low. absurd (omega arith);
         faulty = λ low. absurd (omega arith);
         needed = λ q. absurd (omega arith);
+        unfailing = λ q. run.so_far.unfailing;
         reading = λ q. absurd (omega arith);
         writing = λ q. gave_up;
         other = λ high. inr (inl refl);
@@ -235,17 +238,17 @@ module _ (v : VerifiedProgram) (first : Kept) (before now after : Given) (r r' :
       }
 
   -- memory lacked in a run of lines, of which nothing was put
-  pub halts_memory : (c : CaseText) → NextCase now after r r' (Ok (Some c)) → (failed : Bool) → (r'.ended ≡ true → IsAtEnd after) → r'.lines ≤ 2 ^ 40 * 65536
-      → Halts v first before after failed out listing (record { number = 90; line = 0 })
-  halts_memory c n failed end few =
+  pub halts_memory : (c : CaseText) → NextCase now after r r' (Ok (Some c)) → IsUnfailing now after → (r'.ended ≡ true → IsAtEnd after) → r'.lines ≤ 2 ^ 40 * 65536
+      → Halts v first before after out listing (record { number = 90; line = 0 })
+  halts_memory c n works end few =
       let d = v.dictionary in
-      let s = SoFar-case before now after d r r' run.text totals run.so_far c n (is_case (records_of c) (types_of c.run.lines)) refl few in
+      let s = SoFar-case before now after d r r' run.text totals run.so_far c n works (is_case (records_of c) (types_of c.run.lines)) refl few in
       let bytes = (run.text ++ written_run c.run) ++ held_of r' in
       let lines = lines_of c n in
       let rest = given d (is_front r') r'.ended (held_of r') in
       let is : given d true r'.ended bytes ≡ run.so_far.runs ++ lines ∷ rest =
       given_so_far before after d r' (run.text ++ written_run c.run) _ s
-      ∙ (ap (λ (rs : List (List FileLine)). rs ++ rest) (runs-case before now after d r r' run.text totals run.so_far c n (is_case (records_of c) (types_of c.run.lines)) refl few)
+      ∙ (ap (λ (rs : List (List FileLine)). rs ++ rest) (runs-case before now after d r r' run.text totals run.so_far c n works (is_case (records_of c) (types_of c.run.lines)) refl few)
       ∙ append_assoc run.so_far.runs (lines ∷ []) rest) in
       let front = fronts_stay v first bytes r'.ended run.so_far.runs (lines ∷ rest) is in
       record {
@@ -267,6 +270,7 @@ module _ (v : VerifiedProgram) (first : Kept) (before now after : Given) (r r' :
         listing_whole = λ low. absurd (omega arith);
         faulty = λ low. absurd (omega arith);
         needed = λ q. absurd (omega arith);
+        unfailing = λ q. s.unfailing;
         reading = λ q. absurd (omega arith);
         writing = λ q. absurd (omega arith);
         other = λ high. inr (inr refl);
@@ -274,9 +278,9 @@ module _ (v : VerifiedProgram) (first : Kept) (before now after : Given) (r r' :
       }
 
 -- memory lacked before the first line was read: only the listing's first line was put
-pub halts_at_once : (v : VerifiedProgram) (first : Kept) (now : Given) (failed : Bool) (out listing : Device) → Has out [] → Has listing first_line
-    → Halts v first now now failed out listing (record { number = 90; line = 0 })
-halts_at_once v first now failed out listing nothing one =
+pub halts_at_once : (v : VerifiedProgram) (first : Kept) (now : Given) (out listing : Device) → Has out [] → Has listing first_line
+    → Halts v first now now out listing (record { number = 90; line = 0 })
+halts_at_once v first now out listing nothing one =
     let front = fronts_stay v first [] false [] _ refl in
     record {
       bytes = [];
@@ -297,6 +301,7 @@ halts_at_once v first now failed out listing nothing one =
       listing_whole = λ low. absurd (omega arith);
       faulty = λ low. absurd (omega arith);
       needed = λ q. absurd (omega arith);
+      unfailing = λ q. refl;
       reading = λ q. absurd (omega arith);
       writing = λ q. absurd (omega arith);
       other = λ high. inr (inr refl);

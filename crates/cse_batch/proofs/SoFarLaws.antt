@@ -1,8 +1,8 @@
 -- What is known of a data file, run of lines by run of lines.
 use Rattle.std.proofs.Common.{◌≡◌, ℕ, ◌+◌, ◌*◌, ◌^◌, ◌<◌, ◌≤◌, ◌⊎◌, Bool, true, false, List, [], ◌∷◌, ◌++◌, length, Option, None, Some, Ok, Err, Result, cond, refl, ap, sym, ◌∙◌, subst, arith, append_assoc, append-nil, length-append, add_assoc, zero-add, inl, inr}
 use Rattle.std.specs.Prelude.{sum_by, count_by}
-use Rattle.cse_value.specs.Device.{Consumes, Given}
-use Rattle.cse_value.proofs.ReadLaws.{Consumes-trans, Consumes-nil}
+use Rattle.cse_value.specs.Device.{Consumes, FailsOnce, Given, IsUnfailing}
+use Rattle.cse_value.proofs.ReadLaws.{Consumes-trans, Consumes-nil, Fails-after}
 use Rattle.std.proofs.lemmas.List.{length-map}
 use Rattle.std.proofs.lemmas.List.Sums.{sum_by-append}
 use Rattle.std.proofs.lemmas.Bool.{eq-eqb, false≢true, ne_eqb}
@@ -31,6 +31,7 @@ pub record SoFar (before now : Given) (d : DictionaryText) (r : ReaderText) (tex
   pub runs : List (List FileLine)
   pub dictionary : r.dictionary ≡ d
   pub reads : Consumes before now (text ++ held_of r)
+  pub unfailing : IsUnfailing before now
   pub counted : r.reads ≤ length (text ++ held_of r)
   pub totals_are : totals ≡ totals_of d runs
   pub lines_are : totals.lines ≡ r.lines
@@ -65,6 +66,7 @@ SoFar-none now d r same none unended unread front =
       runs = [];
       dictionary = same;
       reads = rw none (Consumes-nil now);
+      unfailing = refl;
       counted = omega arith;
       totals_are = refl;
       lines_are = sym front;
@@ -152,15 +154,16 @@ module _ (before now after : Given) (d : DictionaryText) (r r' : ReaderText) (te
     behind = ne_eqb r'.lines 0 (λ e. absurd (omega (arith, lines_now, gives.run.some)))
 
     -- a case more was read
-    pub SoFar-case : (case : Bool) → case ≡ is_case (records_of c) (types_of c.run.lines) → r'.lines ≤ 2 ^ 40 * 65536
+    pub SoFar-case : IsUnfailing now after → (case : Bool) → case ≡ is_case (records_of c) (types_of c.run.lines) → r'.lines ≤ 2 ^ 40 * 65536
         → SoFar before after d r' (text ++ written_run c.run) (record { cases = totals.cases + cond case 1 0; lines = totals.lines + length c.run.lines; unseen = totals.unseen + length (unseen_lines c) })
-    SoFar-case case is few =
+    SoFar-case works case is few =
         let more = totals_more d s.runs gives.run.lines case (length c.run.lines) (length (unseen_lines c)) (is ∙ is_case_is) run_lines unseen_is in
         let one : cond case 1 0 ≤ 1 = at_most_one case in
         record {
           runs = s.runs ++ gives.run.lines ∷ [];
           dictionary = n.dictionary ∙ s.dictionary;
           reads = subst (Consumes before after) shift (Consumes-trans before now after (text ++ held_of r) n.taken s.reads n.consumes);
+          unfailing = works ∙ s.unfailing;
           counted = omega (arith, s.counted, n.counted, ap length shift, length-append (text ++ held_of r) n.taken);
           totals_are = ap (λ (t : Totals). record { cases = t.cases + cond case 1 0; lines = t.lines + length c.run.lines; unseen = t.unseen + length (unseen_lines c) }) s.totals_are ∙ sym more;
           lines_are = omega (arith, s.lines_are, lines_now, run_lines);
@@ -186,9 +189,9 @@ module _ (before now after : Given) (d : DictionaryText) (r r' : ReaderText) (te
         }
 
     -- its run comes behind the others
-    pub runs-case : (case : Bool) (is : case ≡ is_case (records_of c) (types_of c.run.lines)) (few : r'.lines ≤ 2 ^ 40 * 65536) → (SoFar-case case is few).runs ≡ s.runs ++ gives.run.lines ∷ []
+    pub runs-case : (works : IsUnfailing now after) (case : Bool) (is : case ≡ is_case (records_of c) (types_of c.run.lines)) (few : r'.lines ≤ 2 ^ 40 * 65536) → (SoFar-case works case is few).runs ≡ s.runs ++ gives.run.lines ∷ []
     unfolding SoFar-case
-    runs-case case is few = refl
+    runs-case works case is few = refl
 
   module _ (n : NextCase now after r r' (Ok None)) where
     all : (text ++ held_of r) ++ n.taken ≡ text
@@ -237,9 +240,9 @@ module _ (before now after : Given) (d : DictionaryText) (r r' : ReaderText) (te
     pub reads_more : Consumes before after (text ++ (held_of r ++ n.taken))
     reads_more = subst (Consumes before after) whole (Consumes-trans before now after (text ++ held_of r) n.taken s.reads n.consumes)
 
-    pub few_reads : (failed : Bool) → (failed ≡ true) ⊎ (r'.reads ≡ 2 ^ 40) → (failed ≡ true) ⊎ (2 ^ 40 ≤ length (text ++ (held_of r ++ n.taken)))
-    few_reads failed (inl f) = inl f
-    few_reads failed (inr f) = inr (omega (arith, s.counted, n.counted, ap length whole, length-append (text ++ held_of r) n.taken))
+    pub few_reads : FailsOnce now after ⊎ (r'.reads ≡ 2 ^ 40) → FailsOnce before after ⊎ (2 ^ 40 ≤ length (text ++ (held_of r ++ n.taken)))
+    few_reads (inl f) = inl (Fails-after before now after s.unfailing f)
+    few_reads (inr f) = inr (omega (arith, s.counted, n.counted, ap length whole, length-append (text ++ held_of r) n.taken))
 
 -- all of the text was written, or a front of it
 pub front_of : (r : Result (Unit {0}) Failed) (a b : List ℕ) (text : List ℕ) → WritesAll r a b text → AppendsFront a b text

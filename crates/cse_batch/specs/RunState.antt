@@ -1,6 +1,6 @@
 -- How far a run is, before its outputs are closed.
-use Rattle.std.specs.Prelude.{◌≡◌, ◌≤◌, ◌<◌, ◌^◌, ◌⊎◌, ℕ, Bool, true, false, List, [], ◌++◌, length, replicate, None}
-use Rattle.cse_value.specs.Device.{Consumes, IsAtEnd, Given, FailsOnce}
+use Rattle.std.specs.Prelude.{◌≡◌, ◌≢◌, ◌≤◌, ◌<◌, ◌^◌, ◌⊎◌, ℕ, Bool, true, false, List, [], ◌++◌, length, replicate, None}
+use Rattle.cse_value.specs.Device.{Consumes, IsAtEnd, Given, FailsOnce, IsUnfailing}
 use Rattle.cse_lines.specs.Line.{FileLine}
 use Rattle.cse_lines.specs.Runs.{given, fault_in}
 use Rattle.cse_lines.specs.Reader.{ReaderText, held_of}
@@ -56,6 +56,7 @@ Has o text = Gathering o.start o.sound o.going text
 pub record CasesRan (v : VerifiedProgram) (first : Kept) (before after : Given) (store : Kept) (reports : Reports) (out listing : Device) (totals : Totals) : Type 0 where
   pub bytes : List ℕ
   pub reads : Consumes before after bytes
+  pub unfailing : IsUnfailing before after
   pub end : IsAtEnd after
   pub sound : fault_in v.dictionary true true bytes ≡ None
   pub totals_are : totals ≡ totals_of v.dictionary (given v.dictionary true true bytes)
@@ -82,6 +83,7 @@ pub record Halts (v : VerifiedProgram) (first : Kept) (before after : Given) (ou
   pub listing_whole : fault.number < 71 → listed ≡ (batch v first bytes ended).listing
   pub faulty : fault.number < 70 → IsDataFault v.dictionary ended bytes fault
   pub needed : fault.number ≡ 70 → BreaksOff v.dictionary ended bytes
+  pub unfailing : fault.number ≢ 70 → IsUnfailing before after
   pub reading : fault.number ≡ 70 → FailsOnce before after ⊎ (2 ^ 40 ≤ length bytes)
   pub writing : fault.number ≡ 71 → (out.going.gave_up ≡ true) ⊎ (listing.going.gave_up ≡ true)
   pub other : 70 ≤ fault.number → (fault.number ≡ 70) ⊎ ((fault.number ≡ 71) ⊎ (fault.number ≡ 90))
@@ -91,6 +93,7 @@ pub record Halts (v : VerifiedProgram) (first : Kept) (before after : Given) (ou
 pub record Ran (v : VerifiedProgram) (first : Kept) (before after : Given) (store : Kept) (reports : Reports) (out listing : Device) (totals : Totals) : Type 0 where
   pub bytes : List ℕ
   pub reads : Consumes before after bytes
+  pub unfailing : IsUnfailing before after
   pub end : IsAtEnd after
   pub sound : fault_in v.dictionary true true bytes ≡ None
   pub totals_are : totals ≡ (batch v first bytes true).totals

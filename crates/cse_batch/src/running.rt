@@ -2,7 +2,7 @@
 
 ghost use Rattle.std.specs.Prelude.{◌≡◌, IfOk, IfErr, OnOk};
 ghost use Rattle.cse_decks.specs.Store.{StoreFits};
-ghost use Rattle.cse_output.specs.Gathering.{going};
+ghost use Rattle.cse_output.specs.Gathering.{behind};
 ghost use Rattle.cse_report.specs.Reports.{ReportsFit};
 ghost use Rattle.cse_batch.specs.Handled.{AreHandled};
 ghost use Rattle.cse_batch.specs.RunClauses.{RunStops, RunsWhole, contents, failures};
@@ -60,11 +60,11 @@ pub(crate) fn run_cases<C: Code, M: Runs, R: Input, O: Output, L: Output>(
     ensures same_reference { reader.new.input.ghost_name ≡ reader.old.input.ghost_name }
     ensures same { M.program machine.new ≡ verified.now }
     ensures ok { IfOk result (λ totals. CasesRan verified.now store.old (R.given reader.old.input.now) (R.given reader.new.input.now) store.new reports.new
-        (device (O.taken out.old) (O.has_failed out.old) (going (O.taken out.new) (O.has_failed out.new) written.new.waiting.items written.new.gave_up))
-        (device (L.taken listing.old) (L.has_failed listing.old) (going (L.taken listing.new) (L.has_failed listing.new) listed.new.waiting.items listed.new.gave_up)) totals) }
+        (device (O.taken out.old) (O.has_failed out.old) (behind O.taken O.has_failed out.new written.new))
+        (device (L.taken listing.old) (L.has_failed listing.old) (behind L.taken L.has_failed listing.new listed.new)) totals) }
     ensures err { IfErr result (λ fault. Halts verified.now store.old (R.given reader.old.input.now) (R.given reader.new.input.now)
-        (device (O.taken out.old) (O.has_failed out.old) (going (O.taken out.new) (O.has_failed out.new) written.new.waiting.items written.new.gave_up))
-        (device (L.taken listing.old) (L.has_failed listing.old) (going (L.taken listing.new) (L.has_failed listing.new) listed.new.waiting.items listed.new.gave_up)) fault) }
+        (device (O.taken out.old) (O.has_failed out.old) (behind O.taken O.has_failed out.new written.new))
+        (device (L.taken listing.old) (L.has_failed listing.old) (behind L.taken L.has_failed listing.new listed.new)) fault) }
     ensures store_fits { OnOk result (StoreFits verified.now.image store.new) }
     ensures reports_fit { ReportsFit verified.now.image reports.new }
 {
@@ -129,11 +129,11 @@ fn run_events<C: Code, M: Runs, R: Input, O: Output, L: Output>(
     ensures same_reference { reader.new.input.ghost_name ≡ reader.old.input.ghost_name }
     ensures same { M.program machine.new ≡ verified.now }
     ensures ok { IfOk result (λ totals. Ran verified.now store.old (R.given reader.old.input.now) (R.given reader.new.input.now) store.new reports.new
-        (device (O.taken out.old) (O.has_failed out.old) (going (O.taken out.new) (O.has_failed out.new) written.new.waiting.items written.new.gave_up))
-        (device (L.taken listing.old) (L.has_failed listing.old) (going (L.taken listing.new) (L.has_failed listing.new) listed.new.waiting.items listed.new.gave_up)) totals) }
+        (device (O.taken out.old) (O.has_failed out.old) (behind O.taken O.has_failed out.new written.new))
+        (device (L.taken listing.old) (L.has_failed listing.old) (behind L.taken L.has_failed listing.new listed.new)) totals) }
     ensures err { IfErr result (λ fault. Halts verified.now store.old (R.given reader.old.input.now) (R.given reader.new.input.now)
-        (device (O.taken out.old) (O.has_failed out.old) (going (O.taken out.new) (O.has_failed out.new) written.new.waiting.items written.new.gave_up))
-        (device (L.taken listing.old) (L.has_failed listing.old) (going (L.taken listing.new) (L.has_failed listing.new) listed.new.waiting.items listed.new.gave_up)) fault) }
+        (device (O.taken out.old) (O.has_failed out.old) (behind O.taken O.has_failed out.new written.new))
+        (device (L.taken listing.old) (L.has_failed listing.old) (behind L.taken L.has_failed listing.new listed.new)) fault) }
     ensures store_fits { OnOk result (StoreFits verified.now.image store.new) }
     ensures reports_fit { ReportsFit verified.now.image reports.new }
 {
