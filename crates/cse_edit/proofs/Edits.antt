@@ -33,6 +33,7 @@ whole v t named m store fits on totals r =
     record {
       bytes = r.bytes;
       reads = r.reads;
+      unfailing = r.unfailing;
       end = r.end;
       sound = r.sound;
       texts = subst (λ (b : Batch). GivesTexts on.old on.new b) same r.texts;
@@ -64,6 +65,7 @@ stopped v t named m store fits on failed fault r =
       out_whole = λ low ok. subst (λ (b : Batch). Appends on.old.out on.new.out b.out) same (r.out_whole low ok);
       listing_whole = λ low ok. subst (λ (b : Batch). Appends on.old.listing on.new.listing b.listing) same (r.listing_whole low ok);
       out_runs = λ ok. runs_written v t named m store fits r.bytes r.ended on.old.out on.new.out (r.out_runs ok);
+      unfailing = r.unfailing;
       reading = r.reading;
       writing = r.writing;
       other = r.other;

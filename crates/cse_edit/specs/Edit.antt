@@ -1,6 +1,6 @@
 -- What an edit answers, by the texts that it begins with and the bytes that it read.
-use Rattle.std.specs.Prelude.{◌≡◌, ◌≤◌, ◌<◌, ◌^◌, ◌⊎◌, ℕ, Bool, true, false, List, [], ◌++◌, length, Option, None, Some, Ok, Err}
-use Rattle.cse_value.specs.Device.{Consumes, Appends, IsAtEnd, FailsOnce, Given}
+use Rattle.std.specs.Prelude.{◌≡◌, ◌≢◌, ◌≤◌, ◌<◌, ◌^◌, ◌⊎◌, ℕ, Bool, true, false, List, [], ◌++◌, length, Option, None, Some, Ok, Err}
+use Rattle.cse_value.specs.Device.{Consumes, Appends, IsAtEnd, FailsOnce, IsUnfailing, Given}
 use Rattle.cse_sections.specs.Sections.{sections_of}
 use Rattle.cse_dict.specs.Dictionary.{DictionaryText, dictionary_of}
 use Rattle.cse_dict.specs.Reading.{text_faults, IsAnswer}
@@ -42,7 +42,7 @@ pub record Begins (d : DictionaryText) (logic messages order : List ℕ) (decks 
 
 -- ---- devices
 
--- the bytes that the input has left, where they are known, and those that the outputs hold, before and after
+-- what the input gave and what the outputs took, before and after
 pub record Devices : Type 0 where
   pub before : Given
   pub after : Given
@@ -59,11 +59,12 @@ pub record AreUntouched (on : Devices) : Type 0 where
 
 -- ---- whole edits
 
--- The input was read to its end and no line of it is faulty. The outputs were given the texts of this batch over what was read and nothing
--- else, and the totals are its totals.
+-- The input was read to its end, no read failed, and no line of it is faulty. The outputs were given the texts of this batch over what was
+-- read and nothing else, and the totals are its totals.
 pub record RunsBatch (d : DictionaryText) (batch : List ℕ → Bool → Batch) (on : Devices) (totals : Totals) : Type 0 where
   pub bytes : List ℕ
   pub reads : Consumes on.before on.after bytes
+  pub unfailing : IsUnfailing on.before on.after
   pub end : IsAtEnd on.after
   pub sound : fault_in d true true bytes ≡ None
   pub texts : GivesTexts on.old on.new (batch bytes true)
@@ -90,10 +91,10 @@ pub record WritesRunsBy (d : DictionaryText) (written : List (List FileLine) →
   pub appends : Appends old new (written runs)
 
 -- Each output was given a front of its text in this batch over what was read. The mark says whether the end of the input was read. A fault
--- below 70 is that of the first faulty line. 70 comes only where what was read breaks off without a faulty line, and the input has failed or
--- 2^40 bytes were read. After these the written lines and the listing are whole, each unless its output has failed; and after any fault whole
--- runs were written, unless that output has failed. 71 comes only where an output has failed, and the only other fault is 90. From 70 on there
--- is no line.
+-- below 70 is that of the first faulty line. 70 comes only where what was read breaks off without a faulty line, and one read failed or 2^40
+-- bytes were read; beside another fault no read failed. Up to 70 the written lines and the listing are whole, each unless its output has
+-- failed; and after any fault whole runs were written, unless that output has failed. 71 comes only where an output has failed, and the only
+-- other fault is 90. From 70 on there is no line.
 pub record StopsBatch (d : DictionaryText) (batch : List ℕ → Bool → Batch) (written : List (List FileLine) → List ℕ) (on : Devices) (failed : Failures) (fault : RunFault) : Type 0 where
   pub bytes : List ℕ
   pub ended : Bool
@@ -105,6 +106,7 @@ pub record StopsBatch (d : DictionaryText) (batch : List ℕ → Bool → Batch)
   pub out_whole : fault.number < 71 → failed.out ≡ false → Appends on.old.out on.new.out (batch bytes ended).out
   pub listing_whole : fault.number < 71 → failed.listing ≡ false → Appends on.old.listing on.new.listing (batch bytes ended).listing
   pub out_runs : failed.out ≡ false → WritesRunsBy d written bytes ended on.old.out on.new.out
+  pub unfailing : fault.number ≢ 70 → IsUnfailing on.before on.after
   pub reading : fault.number ≡ 70 → FailsOnce on.before on.after ⊎ (2 ^ 40 ≤ length bytes)
   pub writing : fault.number ≡ 71 → HasFailure failed
   pub other : 70 ≤ fault.number → (fault.number ≡ 70) ⊎ ((fault.number ≡ 71) ⊎ (fault.number ≡ 90))
