@@ -1,6 +1,8 @@
 -- What a call comes to, by the texts that it is given: an image, its bounds, a run; or the fault, with its number and its place.
-use Rattle.std.specs.Prelude.{◌≡◌, ◌==◌, ◌⊎◌, ℕ, Bool, List, [], length, Some, Result, Ok, Err, if◌then◌else◌}
-use Rattle.cse_value.specs.Device.{Given}
+use Rattle.std.specs.Prelude.{◌≡◌, ◌==◌, ◌⊎◌, ℕ, Bool, List, [], length, false, Result, Ok, Err, if◌then◌else◌}
+use Rattle.cse_value.specs.Device.{Consumes, Given}
+use Rattle.cse_value.specs.Sound.{are_given}
+use Rattle.cse_memory.specs.Slice.{ReadOf}
 use Rattle.cse_image_parts.specs.Image.{Image}
 use Rattle.cse_sections.specs.Sections.{sections_of}
 use Rattle.cse_dict.specs.Dictionary.{DictionaryText, dictionary_of, shape_of}
@@ -135,23 +137,32 @@ StopsImage text image decks before after old new failed f =
 
 -- ---- runs over memory
 
+-- nothing read yet
+abbrev pub unread : Given
+unread = are_given [] false 0
+
 -- nothing written yet
 abbrev pub empty : Contents
-empty = contents (Some []) (Some []) (Some []) (Some [])
+empty = contents [] [] [] []
 
--- a whole run over the data, to these texts
-abbrev pub RunsData : List ℕ → List ℕ → List ℕ → List ℕ → Totals → Contents → Type 0
-RunsData text image decks data_ totals texts = (after : Given) × RunsImage text image decks (Some data_) after empty texts totals
+-- a whole run over the data, all of which was read, to these texts
+pub record RunsData (text image decks data_ : List ℕ) (totals : Totals) (texts : Contents) : Type 0 where
+  pub before : Given
+  pub after : Given
+  pub runs : RunsImage text image decks before after empty texts totals
+  pub all : runs.runs.runs.bytes ≡ data_
 
 -- an output in memory fails by want of memory alone
 abbrev pub in_memory : CsbFault → CsbFault
 in_memory f = if f.number == 71 then fault_at 90 0 0 else f
 
--- the same run stops
+-- the same run stops, after it read a front of the data
 pub record StopsData (text image decks data_ : List ℕ) (f : CsbFault) : Type 0 where
+  pub before : Given
   pub after : Given
   pub new : Contents
   pub failed : Failures
   pub fault : CsbFault
-  pub stops : StopsImage text image decks (Some data_) after empty new failed fault
+  pub stops : StopsImage text image decks before after empty new failed fault
+  pub front : (read : List ℕ) → Consumes before after read → ReadOf data_ read after
   pub tells : f ≡ in_memory fault

@@ -1,6 +1,6 @@
 //! What each call does, before C sees it.
 
-ghost use Rattle.std.specs.Prelude.{◌≡◌, Some, Ok, IfOk, IfErr};
+ghost use Rattle.std.specs.Prelude.{◌≡◌, Ok, IfOk, IfErr};
 ghost use Rattle.cse_decks.specs.Store.{StoreFits};
 ghost use Rattle.cse_batch.specs.RunClauses.{contents, failures};
 ghost use Rattle.cse_ffi.specs.Calls.{HasNoStart, IsDictionaryFault, IsImageFault, IsImageOf, IsNoImage, IsRead, MayRun, RunsData, RunsFrom, RunsImage, StopsData, StopsFrom, StopsImage, begun, in_memory};
@@ -11,7 +11,8 @@ use cse_build::build;
 use cse_decks::{Store, load};
 use cse_dict::Dictionary;
 use cse_image::{Code, Program};
-use cse_value::{Input, Output, Reads, Writes};
+use cse_memory::{FromSlice, Gathered};
+use cse_value::{Input, Output};
 use cse_verify::Verified;
 use std::alloc::Global;
 
@@ -192,30 +193,33 @@ pub(crate) fn texts_of(
     input: &[u8],
 ) -> Result<Texts, CsbFault>
     ensures whole { IfOk result (λ t. RunsData dictionary.now image.now decks.now input.now t.totals
-        (contents (Some t.out.items) (Some t.listing.items) (Some t.frequencies.items) (Some t.decks.items))) }
+        (contents t.out.items t.listing.items t.frequencies.items t.decks.items)) }
     ensures stops { IfErr result (StopsData dictionary.now image.now decks.now input.now) }
 {
-    let mut out = Writes::new(Vec::new(alloc));
-    let mut listing = Writes::new(Vec::new(alloc));
-    let mut frequencies = Writes::new(Vec::new(alloc));
-    let mut saved = Writes::new(Vec::new(alloc));
-    match run_image(
+    let mut read = FromSlice::new(input);
+    let mut out = Gathered::new(alloc);
+    let mut listing = Gathered::new(alloc);
+    let mut frequencies = Gathered::new(alloc);
+    let mut saved = Gathered::new(alloc);
+    let ran = run_image(
         alloc,
         dictionary,
         image,
         decks,
-        &mut Reads::new(input),
+        &mut read,
         &mut out,
         &mut listing,
         &mut frequencies,
         &mut saved,
-    ) {
+    );
+    read.gives();
+    match ran {
         Ok(totals) => Ok(Texts {
             totals,
-            out: out.into_inner(),
-            listing: listing.into_inner(),
-            frequencies: frequencies.into_inner(),
-            decks: saved.into_inner(),
+            out: out.into_bytes(),
+            listing: listing.into_bytes(),
+            frequencies: frequencies.into_bytes(),
+            decks: saved.into_bytes(),
         }),
         Err(why) => Err(in_memory(why)),
     }
