@@ -1,5 +1,5 @@
 -- What the files of a run took, by what the texts mean that its program was built to.
-use Rattle.std.proofs.Common.{ℕ, Bool, List, [], Option, Some, Result, Ok, Err}
+use Rattle.std.proofs.Common.{ℕ, Bool, List, [], Option, Result, Ok, Err}
 use Rattle.cse_value.specs.Device.{Given}
 use Rattle.cse_image.specs.Spelling.{StandFor}
 use Rattle.cse_build.specs.Build.{IsBuilt}
@@ -10,7 +10,7 @@ use Rattle.cse_batch.specs.RunClauses.{Contents, Failures}
 use Rattle.cse_edit.specs.Edit.{IsRead, IsStartOf, devices}
 use Rattle.cse_edit.specs.Laws.{BatchesMean}
 use Rattle.cse_edit.proofs.Edits.{edits, stops}
-use Rattle.cse_commands.specs.declared.gathered.Gathered.{Gathered}
+use Rattle.cse_memory.specs.declared.gathered.Gathered.{Gathered}
 use Rattle.cse_commands.specs.declared.outcome.Stop.{Stop}
 use Rattle.cse_commands.specs.Ran.{Tells, none_taken}
 use Rattle.cse_commands.specs.Edited.{TellsEdit}

@@ -1,11 +1,11 @@
 -- What a run over files comes to, by what its files took.
-use Rattle.std.specs.Prelude.{ℕ, Bool, List, [], Some, Result, Ok, Err}
+use Rattle.std.specs.Prelude.{ℕ, Bool, List, [], Result, Ok, Err}
 use Rattle.cse_value.specs.Device.{Given}
 use Rattle.cse_verify.specs.Verified.{VerifiedProgram}
 use Rattle.cse_decks.specs.Store.{Kept}
 use Rattle.cse_batch.specs.declared.totals.Totals.{Totals}
 use Rattle.cse_batch.specs.RunClauses.{Contents, Failures, RunsWhole, contents}
-use Rattle.cse_commands.specs.declared.gathered.Gathered.{Gathered}
+use Rattle.cse_memory.specs.declared.gathered.Gathered.{Gathered}
 use Rattle.cse_commands.specs.declared.outcome.Stop.{Stop}
 use Rattle.cse_commands.specs.Stops.{TellsRunFault}
 

@@ -6,7 +6,7 @@
 //! - `verify_image`: `verify`, from a dictionary and an image to what is known of the program. `verdict`:
 //!   its lines.
 //! - `compile_image`: `compile`, logic to the bytes of an image.
-//! - `run_image`: `run`, an image over a data file. `gathered`: bytes in memory.
+//! - `run_image`: `run`, an image over a data file.
 //! - `edit_data`: `edit`, logic over a data file with no image between.
 //! - `files`: the files of the commands. `role`, `apart`: what each is to its command, and that no two are one.
 //! - `printing`, `fault`: lines for a device. `outcome`: the exit status.
@@ -19,7 +19,6 @@ pub mod compile_image;
 pub mod edit_data;
 pub mod fault;
 pub mod files;
-pub mod gathered;
 pub mod outcome;
 pub mod plan;
 pub mod printing;

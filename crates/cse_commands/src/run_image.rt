@@ -15,7 +15,6 @@ use crate::fault::{Fault, NO_MEMORY, TOO_MANY};
 use crate::files::{
     MOST_DECKS, MOST_IMAGE, bytes_where_there, created, file_bytes, file_text, opened, write_file,
 };
-use crate::gathered::Gathered;
 use crate::outcome::Stop;
 use crate::plan::RunPaths;
 use cse_batch::{Totals, check_image, run};
@@ -23,6 +22,7 @@ use cse_decks::{Store, load};
 use cse_dict::Dictionary;
 use cse_files::sync;
 use cse_image::{Code, Program};
+use cse_memory::Gathered;
 use cse_value::{Input, Output, Reads, Writes};
 use cse_verify::Verified;
 use std::alloc::Global;

@@ -8,11 +8,11 @@ ghost use Rattle.cse_decks.specs.DeckText.{IsDeckText};
 ghost use Rattle.cse_decks.specs.Store.{Kept, StoreFits, first_kept};
 
 use cse_batch::Totals;
-use cse_commands::gathered::Gathered;
 use cse_commands::outcome::{self, Stop};
 use cse_commands::run_image;
 use cse_decks::Store;
 use cse_image::{Code, Program};
+use cse_memory::Gathered;
 use cse_value::{Input, Output};
 use cse_verify::Verified;
 use std::alloc::Global;
