@@ -9,6 +9,7 @@ ghost use Rattle.cse_batch.specs.RunClauses.{RunStops, RunsWhole, contents, fail
 ghost use Rattle.cse_batch.specs.RunState.{CasesRan, Halts, IsFresh, IsUnread, IsUnreported, Ran, device};
 
 use crate::application::apply;
+use crate::beside::put_beside;
 use crate::cases::edit;
 use crate::handled::{HandledEvents, handled_events};
 use crate::machine::Runs;
@@ -90,8 +91,10 @@ pub(crate) fn run_cases<C: Code, M: Runs, R: Input, O: Output, L: Output>(
                 let Ok(()) = edit(verified, machine, &mut case, store, reports, handled) else {
                     return Err(MEMORY_FAULT);
                 };
+                let waited = written.waiting.len();
                 case.put_to(written, out);
-                reports.listing.put_to(listed, listing);
+                let are_written = written.waiting.len() < waited;
+                put_beside(&mut reports.listing, are_written, listed, listing);
                 if written.gave_up || listed.gave_up {
                     return Err(WRITE_FAULT);
                 }

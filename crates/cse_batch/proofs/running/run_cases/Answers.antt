@@ -48,9 +48,9 @@ pub returns-then-written-clause-err : goal.returns-then-written-clause-err
 returns-then-written-clause-err g c =
     let inv = c.runs.invariant in
     let next = rw c.in-Ok-Some.field-0-is at (c.in-Ok-Some.ensures.next inv.sound) in
-    let new : Reports = record { listing = c.put_to-in-Ok-Some-2.new.self; frequencies = c.edit.new.reports.frequencies } in
+    let new : Reports = record { listing = c.put_beside.new.held; frequencies = c.edit.new.reports.frequencies } in
     let more = running_case _ _ _ _ _ _ _ _ _ _ _ _ inv.running _ next c.in-Ok-Some.ensures.works c.edit.new.case c.edit.new.store c.edit.new.reports new _ _ c.is_case.result
-    c.in-Ok-edit.ensures.edits c.put_to-in-Ok-Some.ensures c.put_to-in-Ok-Some-2.ensures.puts c.put_to-in-Ok-Some-2.ensures.held refl c.is_case.ensures c.in-Ok-Some.ensures.few in
+    c.in-Ok-edit.ensures.edits c.put_to-in-Ok-Some.ensures c.put_beside.ensures.puts c.put_beside.ensures.held refl c.is_case.ensures c.in-Ok-Some.ensures.few in
     halts_writing _ _ _ _ (g.R.Input.given c.next.new.self.input.now) _ c.next.new.self.stream _ _ _ _ _ more c.next.new.self.end
     (elim c.then-written.branch [
       | then-written-via-then-written w ↦ inl w.if-written.true
@@ -61,16 +61,16 @@ pub runs-preserved : goal.runs-preserved
 runs-preserved g c =
     let inv = c.runs.invariant in
     let next = rw c.in-Ok-Some.field-0-is at (c.in-Ok-Some.ensures.next inv.sound) in
-    let new : Reports = record { listing = c.put_to-in-Ok-Some-2.new.self; frequencies = c.edit.new.reports.frequencies } in
+    let new : Reports = record { listing = c.put_beside.new.held; frequencies = c.edit.new.reports.frequencies } in
     let more = running_case _ _ _ _ _ _ _ _ _ _ _ _ inv.running _ next c.in-Ok-Some.ensures.works c.edit.new.case c.edit.new.store c.edit.new.reports new _ _ c.is_case.result
-    c.in-Ok-edit.ensures.edits c.put_to-in-Ok-Some.ensures c.put_to-in-Ok-Some-2.ensures.puts c.put_to-in-Ok-Some-2.ensures.held refl c.is_case.ensures c.in-Ok-Some.ensures.few in
+    c.in-Ok-edit.ensures.edits c.put_to-in-Ok-Some.ensures c.put_beside.ensures.puts c.put_beside.ensures.held refl c.is_case.ensures c.in-Ok-Some.ensures.few in
     record {
       running = rw (c.take_back.ensures.input, c.take_back.ensures.stream, c.from-cases.ensures ∙ byte_is _, c.lines-lines.ensures.lines, c.unseen.ensures) more;
       sound = ap (λ (s : ReaderText). s.error) c.take_back.ensures.stream ∙ c.in-Ok-Some.ensures.ok;
       same = c.take_back.ensures.same_reference ∙ c.in-Ok-Some.ensures.same_reference ∙ inv.same;
       machine = c.in-Ok-edit.ensures.same;
       store_fits = c.in-Ok-edit.ensures.goes_on.store;
-      reports_fit = record { messages = ap (λ (h : Held). h.messages) c.put_to-in-Ok-Some-2.ensures.held ∙ c.in-Ok-edit.ensures.reports_fit.messages; counts = ap (λ (h : Held). length h.counts) c.put_to-in-Ok-Some-2.ensures.held ∙ c.in-Ok-edit.ensures.reports_fit.counts; items = c.in-Ok-edit.ensures.reports_fit.items };
+      reports_fit = record { messages = ap (λ (h : Held). h.messages) c.put_beside.ensures.held ∙ c.in-Ok-edit.ensures.reports_fit.messages; counts = ap (λ (h : Held). length h.counts) c.put_beside.ensures.held ∙ c.in-Ok-edit.ensures.reports_fit.counts; items = c.in-Ok-edit.ensures.reports_fit.items };
     }
 
 pub returns-in-Err-clause-err : goal.returns-in-Err-clause-err
