@@ -129,9 +129,13 @@ def fits(crate, batch, more, folder):
     return all(more.is_apart(it) for it in batch) and not closes_cycle(crate, [*batch, more]) and not applied([*batch, more], folder)[1]
 
 
-def made(crate, edits, folder, most=MOST):
-    """The edits of a crate in batches: each a list of what its edits turn; and those that are tried alone."""
+def made(crate, edits, folder, most=MOST, lines={}):
+    """The edits of a crate in batches: each a list of what its edits turn; and those that are tried alone. One that by these lines of the
+    record was refused at a function that it does not turn would spoil its batch."""
     known = {edit: turned(crate, edit, text) for edit, text in edits.items()}
+    for edit, it in known.items():
+        past = lines.get(edit, [])[2:]
+        known[edit] = it if len(past) < 2 or it and it.owns(past[1]) else None
     alone, together = [edit for edit, it in known.items() if not it], [it for it in known.values() if it]
     batches = [[] for _ in range(-(-len(together) // most))]
     for it in together:
@@ -150,8 +154,7 @@ def ended(said, status, texts, batch):
     they may wait for another's; and the goals elsewhere, at which a batch should have none. Nothing where the check did not reach
     the prover."""
     lines = said.split("\n")
-    last = next((it for it in reversed(lines) if it.startswith(("logic=", "rattle: no verdict"))), "")
-    if status != 1 or not last.startswith("logic=not-proved") or any(trying.unread(it, texts) for it in lines):
+    if not trying.is_told(lines, status) or any(trying.unread(it, texts) for it in lines):
         return None
     found, unseen, goals = {}, [], list(trying.places(lines))
     for it in batch:
@@ -162,6 +165,18 @@ def ended(said, status, texts, batch):
         elif not shown:
             unseen.append(it)
     return found, unseen, [goal for goal in goals if not goal[2] and not any(it.owns(goal[0]) for it in batch)]
+
+
+def decides(said, status, texts, turned, past):
+    """Whether a check of single functions decides how an edit ended that by the record ended like `past` before. Where it turns bodies
+    alone, no other goal may be open than those of what it turns, or that where it was refused. Any other edit must be refused."""
+    how = trying.outcome(said, status, texts)[0]
+    if not how:
+        return False
+    if not turned:
+        return how[0] == "refused"
+    is_there = how[0] == "refused" and how[1:2] == past[1:2]
+    return is_there or all(turned.owns(goal[0]) for goal in trying.places(said.split("\n")))
 
 
 def split(said, status, texts, batch):

@@ -160,8 +160,8 @@ class Own:
         return " ".join(sources.inner_attributes(self.texts[it]) for it in dict.fromkeys(around) if it in self.texts)
 
     def modules_of(self, function):
-        """The modules by which a function may go: that of its file, and of a method those of its type."""
-        files = sorted({function.file} | (self.homes.get(function.owner, set()) if function.owner else set()))
+        """The modules by which a function may go: of a method those of its type, and that of its file."""
+        files = dict.fromkeys([*sorted(self.homes.get(function.owner, ())), function.file])
         return [re.sub(r"(/mod|/lib|/main)?\.rt$", "", it).split("/")[1:] for it in files]
 
     def proofs_of(self, function):

@@ -4,7 +4,9 @@
 usage: more-edits/test_batches.py
 
 Each row of ALONE is an edit that goes into no batch. Each row of PAIRS has two edits, and whether they go into one. Each row of SAID
-has what the check of a batch said, how its edits ended by that, and what is to be tried of the others.
+has what the check of a batch said, how its edits ended by that, and what is to be tried of the others. Each row of PLACES has how an
+edit ended by the record, and the paths of the function of that place. Each row of AIMED has what the check of the functions said to
+which a single edit leads, what the record says of it, and whether that decides.
 Each line that is written is a row that fails, and then the status is 1.
 """
 import os
@@ -12,8 +14,10 @@ import sys
 import tempfile
 
 sys.dont_write_bytecode = True
+import aims
 import batches
 import own
+import trying
 
 FILES = {
     "src/lib.rt": "#![tactic(auto)]\nmod rows;\nmod beside;\n",
@@ -164,7 +168,11 @@ REFUSED_PUT = ["refused", "rows::Row::put", "returns"]
 REFUSED_COUNT = ["refused", "proofs/rows/Row/count/Answers.antt", "returns"]
 REFUSED_HALF = ["refused", "beside::half", "returns-then"]
 # (what a check of the edits `put`, `count` and `half` said, how these ended by that, and what is to be tried of the others)
+ONLY = "crate cse_high: modules loaded=7 checked=1\nonly=9 proved=6\n"
 SAID = [
+    ("all three are refused, by a check of them alone", COUNT + PUT + HALF + ONLY, {"put": REFUSED_PUT, "count": REFUSED_COUNT, "half": REFUSED_HALF}, []),
+    ("all three are proved, by a check of them alone", ONLY.replace("=6", "=9 logic=proved"), {}, ["put", ["count", "half"]]),
+    ("a function that they call is refused, by a check of them alone", PUT + HALF + FOURTH + ONLY, {}, ["put", ["count", "half"]]),
     ("all three are refused", COUNT + PUT + HALF + END, {"put": REFUSED_PUT, "count": REFUSED_COUNT, "half": REFUSED_HALF}, []),
     ("one is refused", HALF + END, {"half": REFUSED_HALF}, [["put", "count"]]),
     ("two are refused, and one is not", PUT + HALF + END, {"put": REFUSED_PUT, "half": REFUSED_HALF}, ["count"]),
@@ -177,6 +185,32 @@ SAID = [
     ("the crate is proved", END.replace("not-proved", "proved functions=9"), {}, ["put", ["count", "half"]]),
     ("a text cannot be read", SPOILT, {}, ["put", ["count", "half"]]),
     ("a text cannot be read, and goals are open", SPOILT.partition("rattle")[0] + PUT + END, {}, ["put", ["count", "half"]]),
+]
+# (how an edit ended by the record, and the paths of the function where)
+PLACES = [
+    (["refused", "rows::Row::put", "returns"], ["rows::Row::put"]),
+    (["refused", "rows::fn::Row::put::all", "returns"], ["rows::Row::put", "rows::Row", "rows"]),
+    (["refused", "proofs/rows/Row/count/Answers.antt", "returns"], ["rows::Row::count"]),
+    (["limit", "proofs/beside/half/Invariants.antt", "loop-n"], ["beside::half"]),
+    (["refused", "proofs/rows/+turn/Answers.antt", "odd-returns"], ["rows::turn", "rows::even", "rows::odd"]),
+    (["refused", "proofs/Laws.antt", "twice"], []),
+    (["refused", "proofs/rows/Laws.antt", "twice"], []),
+    (["told"], []),
+    ([], []),
+]
+# (an edit, what the check of its functions said, what the record says of it, and whether that decides)
+AIMED = [
+    ("a body, refused", "put", PUT, ["told"], True),
+    ("a body, at a limit", "put", PUT_LIMIT, ["told"], True),
+    ("a body, refused elsewhere", "put", HALF, ["told"], False),
+    ("a body, refused elsewhere too", "put", HALF + PUT, ["told"], False),
+    ("a body, refused elsewhere as before", "put", HALF, ["refused", "beside::half", "returns"], True),
+    ("a body, at a limit elsewhere", "put", HALF.replace("(`returns-then`)", "(`returns-then`); `search` gave up at one of its limits"), ["told"], False),
+    ("a body, proved", "put", "", ["told"], False),
+    ("a constant, refused", None, HALF, ["refused", "beside::half", "returns"], True),
+    ("a constant, refused elsewhere", None, COUNT, ["refused", "beside::half", "returns"], True),
+    ("a constant, at a limit", None, PUT_LIMIT, ["refused", "rows::Row::put", "returns"], False),
+    ("a constant, proved", None, "", ["refused", "rows::Row::put", "returns"], False),
 ]
 
 
@@ -216,12 +250,25 @@ def main():
         if not fifth.owns("rows::Row::fifth") or not fifth.owns("proofs/rows/Row/fifth/Answers.antt") or fifth.owns("rows::Row"):
             print("a method that stands beside another module than its type: its goals are not found")
             bad += 1
+        most = next(it for it in crate.functions if it.name == "most")
+        if aims.paths_of(crate, most) != ["rows::RowModel::most"]:
+            print(f"a member of a trait: {aims.paths_of(crate, most)}")
+            bad += 1
+        for how, paths in PLACES:
+            if aims.paths_at(crate, how) != paths:
+                print(f"{' '.join(how)}: {aims.paths_at(crate, how)}")
+                bad += 1
+        for what, name, said, past, is_decided in AIMED:
+            turned = batches.turned(crate, name, EDITS[name]) if name else None
+            if batches.decides(said + ONLY, 1 if said else 0, texts, turned, past) != is_decided:
+                print(f"{what}: it {'does not decide' if is_decided else 'decides'}")
+                bad += 1
         for what, said, ended, left in SAID:
             found = batches.split(said, 0 if "logic=proved" in said else 1, texts, batch)
             if (found[0], names(found[1])) != (ended, left):
                 print(f"{what}: {found[0]}, left {names(found[1])}")
                 bad += 1
-    print(f"{len(ALONE) + len(PAIRS) + len(SAID) + 5} rows, {bad} fail")
+    print(f"{len(ALONE) + len(PAIRS) + len(SAID) + len(PLACES) + len(AIMED) + 6} rows, {bad} fail")
     return int(bad > 0)
 
 

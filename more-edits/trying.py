@@ -1,4 +1,7 @@
-"""Tries edits: each on a copy of what its crate's check needs, over the work that the last check of the crate kept."""
+"""Tries edits: each on a copy of what its crate's check needs, over the work that earlier checks of the crate kept."""
+import contextlib
+import functools
+import importlib.util
 import os
 import re
 import shlex
@@ -12,6 +15,7 @@ LIMIT = re.compile(r"gave up at one of its limits|no-proof-within-its-bounds|was
 NOTE = re.compile(r"note: \S+?:\d+:\d+: (.*?) ?\(`([^`]+)`\)(.*)")
 ERROR = re.compile(r"(?:\./)?(\S+?):(\d+):\d+: error: (.*)")
 NAME_GONE = re.compile(r"has no field|is not in scope|has no `|was not admitted")
+ENDED = ("logic=", "only=", "rattle: no verdict")
 UNREAD = re.compile(r"is not in scope|has no field|is no name|operand is missing|expected the end|cannot continue")
 
 
@@ -49,10 +53,12 @@ def linked(source, to):
     def link(a, b):
         try:
             os.link(a, b)
+        except FileExistsError:
+            pass
         except OSError:
             shutil.copy2(a, b)
     if os.path.isdir(source):
-        shutil.copytree(source, to, copy_function=link)
+        shutil.copytree(source, to, copy_function=link, dirs_exist_ok=True)
 
 
 class Runs:
@@ -82,14 +88,34 @@ class Runs:
                 os.killpg(it.pid, signal.SIGKILL)
 
 
+@functools.lru_cache(maxsize=None)
+def kit():
+    """The part of the kit that knows crates and their libraries; it stands beside `rt`."""
+    path = os.path.join(os.path.dirname(os.path.realpath(shutil.which("rt"))), "rtlib.py")
+    spec = importlib.util.spec_from_file_location("rtlib", path)
+    made = importlib.util.module_from_spec(spec)
+    spec.loader.exec_module(made)
+    return made
+
+
+def is_built(folder, root):
+    """Whether the libraries of a crate and of those below it stand in out/rlib, of the texts as they are. So they are proved."""
+    try:
+        crate = kit().Crate(folder, root, {})
+        return crate.makes_rlib() and all(it.is_built() for it in [crate, *crate.below()])
+    except (OSError, AttributeError, SystemExit):
+        return False
+
+
 class Lane:
-    """A copy of a crate and of the libraries below it."""
+    """A copy of a crate and of the libraries below it. What its checks prove it keeps for those that follow."""
 
     def __init__(self, root, room, runs):
         self.root, self.room, self.runs, self.crate = root, room, runs, None
         os.makedirs(room)
 
-    def prepare(self, crate, below):
+    def prepare(self, crate, below, beside=()):
+        """Makes room for a crate, with what checks kept of it, also in the lanes beside this one."""
         shutil.rmtree(self.room)
         os.makedirs(os.path.join(self.room, "crates"))
         with open(os.path.join(self.root, "crates.txt"), encoding="utf-8") as it:
@@ -99,20 +125,24 @@ class Lane:
         for name in below:
             for part in (*PARTS, "out/rlib"):
                 linked(os.path.join(self.root, "crates", name, part), os.path.join(self.room, "crates", name, part))
+        kept = os.path.join("crates", crate, "out/incremental")
+        for it in (self.root, *(it.room for it in beside)):
+            # (a lane may leave the crate meanwhile)
+            with contextlib.suppress(OSError):
+                linked(os.path.join(it, kept), os.path.join(self.room, kept))
         self.crate = crate
 
-    def check(self, texts):
-        """What the check of the crate says with these texts in place of its own, and its status."""
+    def check(self, texts, only=()):
+        """What the check of the crate says with these texts in place of its own, or that of these functions alone, and its status."""
         source, folder = (os.path.join(it, "crates", self.crate) for it in (self.root, self.room))
-        shutil.rmtree(folder, ignore_errors=True)
-        os.makedirs(folder)
-        for part in (*PARTS, "out/incremental"):
+        for part in PARTS:
+            shutil.rmtree(os.path.join(folder, part), ignore_errors=True)
             linked(os.path.join(source, part), os.path.join(folder, part))
         for path, text in texts.items():
             os.remove(os.path.join(folder, path))
             with open(os.path.join(folder, path), "w", encoding="utf-8") as it:
                 it.write(text)
-        return self.runs.run(["rt", "check", "--jobs", "1"], folder)
+        return self.runs.run(["rt", "check", "--jobs", "1", *(word for it in only for word in ("--only", it))], folder)
 
 
 def unread(line, changed):
@@ -140,16 +170,25 @@ def places(lines):
     yield from (("a-type", goal, is_limit) for goal, is_limit in goals)
 
 
+def last_of(lines):
+    """The line by which a check ended."""
+    return next((it for it in reversed(lines) if it.startswith(ENDED)), "")
+
+
+def is_told(lines, status):
+    """Whether a check came to its end, and some function is not proved."""
+    return status == 1 and last_of(lines).startswith(("logic=not-proved", "only="))
+
+
 def outcome(said, status, changed):
     """How a check with an edit ended, in words for the record, or why it does not count."""
     lines = said.split("\n")
-    last = next((it for it in reversed(lines) if it.startswith(("logic=", "rattle: no verdict"))), "")
-    if status == 0 and last.startswith("logic=proved"):
+    if status == 0 and last_of(lines).startswith(("logic=proved", "only=")):
         return None, "NOT REFUSED: the crate is proved with this edit"
     bad = next((it for it in lines if unread(it, changed)), "")
     if bad:
         return None, f"the prover cannot read the edited text: {bad[:200]}"
-    if status != 1 or not last.startswith("logic=not-proved"):
+    if not is_told(lines, status):
         told = [it for it in lines if it.strip() and not it.startswith(("slot:", "rt: chose"))]
         return None, f"it did not reach the prover (status {status}): {' / '.join(told[:3])[:400]}"
     open_goals = list(places(lines))
