@@ -175,14 +175,25 @@ class Trial:
             print(f"{edit}: {' '.join(how) if how else why} ({seconds:.0f} s)", flush=True)
 
 
+def seconds_of(root):
+    """What the proof of each crate takes, by the table of the gate."""
+    path = os.path.join(root, "docs/gate-cost.csv")
+    if not os.path.isfile(path):
+        return {}
+    with open(path, encoding="utf-8") as it:
+        rows = [line.strip().split(",") for line in it]
+    return {row[0]: int(row[1]) for row in rows if len(row) > 1 and row[0].startswith("cse_") and row[1].isdigit()}
+
+
 def parts_of(known, found):
-    """What is to be tried of each crate: of those that are proved first where most is, then the others from the lowest up."""
-    texts = {}
+    """What is to be tried of each crate: of those that are proved first what is dearest, then the others from the lowest up."""
+    texts, seconds = {}, seconds_of(known.root)
     for edit, text in found.items():
         texts.setdefault(edit.split("/")[0], {})[edit] = text
-    built = {it: trying.is_built(os.path.join(known.root, "crates", it), known.root) for it in texts}
-    order = sorted(texts, key=lambda it: (not built[it], -len(texts[it]) if built[it] else len(known.below(it))))
-    return [Part(crate, texts[crate], built[crate]) for crate in order]
+    built = trying.built(known.root, texts)
+    dear = {it: seconds.get(it, 0) + 20 * len(texts[it]) for it in texts}
+    order = sorted(texts, key=lambda it: (it not in built, -dear[it] if it in built else len(known.below(it))))
+    return [Part(crate, texts[crate], crate in built) for crate in order]
 
 
 def tried(known, found, lanes, keep, most):

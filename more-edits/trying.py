@@ -1,6 +1,5 @@
 """Tries edits: each on a copy of what its crate's check needs, over the work that earlier checks of the crate kept."""
 import contextlib
-import functools
 import importlib.util
 import os
 import re
@@ -88,23 +87,36 @@ class Runs:
                 os.killpg(it.pid, signal.SIGKILL)
 
 
-@functools.lru_cache(maxsize=None)
 def kit():
-    """The part of the kit that knows crates and their libraries; it stands beside `rt`."""
+    """The part of `rt` that knows crates and their libraries, for one look at the texts as they are."""
     path = os.path.join(os.path.dirname(os.path.realpath(shutil.which("rt"))), "rtlib.py")
     spec = importlib.util.spec_from_file_location("rtlib", path)
     made = importlib.util.module_from_spec(spec)
     spec.loader.exec_module(made)
+    stamps, stamp = {}, made.Crate.stamp
+
+    def stamp_once(crate):
+        # (it asks for those of the libraries below, each time)
+        if crate.folder not in stamps:
+            stamps[crate.folder] = stamp(crate)
+        return stamps[crate.folder]
+    made.Crate.stamp = stamp_once
     return made
 
 
-def is_built(folder, root):
-    """Whether the libraries of a crate and of those below it stand in out/rlib, of the texts as they are. So they are proved."""
-    try:
-        crate = kit().Crate(folder, root, {})
-        return crate.makes_rlib() and all(it.is_built() for it in [crate, *crate.below()])
-    except (OSError, AttributeError, SystemExit):
-        return False
+def built(root, crates):
+    """Those of the crates whose library and the libraries below it stand in out/rlib, of the texts as they are. So they are proved."""
+    rtlib, crates_of, known, found = kit(), {}, {}, set()
+    for name in crates:
+        folder = os.path.join(root, "crates", name)
+        with contextlib.suppress(OSError, AttributeError, SystemExit):
+            crate = crates_of[folder] = crates_of.get(folder) or rtlib.Crate(folder, root, crates_of)
+            for it in [crate, *crate.below()]:
+                if it.name not in known:
+                    known[it.name] = it.makes_rlib() and it.is_built()
+            if all(known[it.name] for it in [crate, *crate.below()]):
+                found.add(name)
+    return found
 
 
 class Lane:
