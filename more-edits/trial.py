@@ -60,7 +60,7 @@ class Trial:
             return unproved[0], None
         others = [part for it, part in self.at.items() if it is not lane]
         best = min(ready, key=lambda it: (it is not self.at.get(lane), others.count(it), -len(it.jobs)), default=None)
-        if best and best not in others:
+        if best and (best is self.at.get(lane) or best not in others):
             return best, best.jobs.pop(0)
         begun = [it for it in new if it.is_built] or ([] if best else unproved)
         if begun:
