@@ -1,34 +1,12 @@
-//! The next run and the next case of an input.
+//! The next case of an input.
 
-ghost use Rattle.std.specs.Prelude.{◌≡◌, ◌≢◌, ◌*◌, ◌≤◌, ◌^◌, ◌⊎◌, None, Some, Err, true, IfErr, IfSome, OnOk};
-ghost use Rattle.cse_value.specs.Device.{IsAtEnd, FailsOnce, IsUnfailing};
-ghost use Rattle.cse_lines.specs.Reader.{Next};
+ghost use Rattle.std.specs.Prelude.{◌≡◌, ◌≢◌, ◌*◌, ◌≤◌, ◌^◌, ◌⊎◌, None, Some, Err, IfErr, IfSome, OnOk};
+ghost use Rattle.cse_value.specs.Device.{FailsOnce, IsUnfailing};
 ghost use Rattle.cse_case.specs.Reading.{NextCase};
 
 use cse_case::{Case, CaseReader};
-use cse_lines::{DataError, Run, RunReader};
+use cse_lines::DataError;
 use cse_value::Input;
-
-/// `RunReader::next`.
-pub fn next_run<R: Input>(
-    reader: &mut RunReader<'_>,
-    input: &mut R,
-) -> Result<Option<Run>, DataError>
-    requires { reader.old.ended ≡ true → IsAtEnd (R.given input.old) }
-    ensures next { reader.old.error ≡ None → Next (R.given input.old) (R.given input.new) reader.old reader.new result }
-    ensures ok { OnOk result (reader.new.error ≡ None) }
-    ensures err { IfErr result (λ error. reader.new.error ≡ Some error) }
-    ensures again { IfSome reader.old.error (λ error. (result ≡ Err error) × (reader.new ≡ reader.old) × (input.new ≡ input.old)) }
-    ensures end { reader.new.ended ≡ true → IsAtEnd (R.given input.new) }
-    ensures few_reads { reader.new.reads ≤ 2 ^ 40 }
-    ensures few { reader.new.lines ≤ 2 ^ 40 * 65536 }
-    ensures failed { reader.old.error ≡ None
-        → IfErr result (λ error. error.number ≡ 70 → FailsOnce (R.given input.old) (R.given input.new) ⊎ (reader.new.reads ≡ 2 ^ 40)) }
-    ensures works { OnOk result (IsUnfailing (R.given input.old) (R.given input.new)) }
-    ensures sound { IfErr result (λ error. error.number ≢ 70 → IsUnfailing (R.given input.old) (R.given input.new)) }
-{
-    reader.next(input)
-}
 
 /// `CaseReader::next`.
 pub fn next_case<'a, R: Input>(
