@@ -2,6 +2,7 @@ pub mod ApartLaws
 pub mod EditedLaws
 pub mod FaultLaws
 pub mod FaultyLaws
+pub mod FileLaws
 pub mod OutcomeLaws
 pub mod PrintLaws
 pub mod RanLaws

@@ -1,5 +1,5 @@
 -- What a run over files comes to: by which paths they were opened, what they gave, and what they took.
-use Rattle.std.specs.Prelude.{◌≡◌, ℕ, Bool, false, List, [], Option, None, Some, option_map, Result, Ok, Err}
+use Rattle.std.specs.Prelude.{◌≡◌, ℕ, Bool, false, List, [], Option, None, Some, option_map, Result, Ok, Err, IfOk}
 use Rattle.cse_value.specs.Device.{Given, IsAtEnd}
 use Rattle.cse_value.specs.Sound.{are_given}
 use Rattle.cse_value.specs.declared.device.Reads.{Reads}
@@ -62,12 +62,17 @@ have_failed t ran = failures (t.failed ran.out.device) (t.failed ran.listing.dev
 abbrev pub RunsStore : {F : Type 0} → Told F → VerifiedProgram → Kept → Ran F → Type 0
 RunsStore t v store ran = Tells v store (t.given ran.input.device) (took t ran) (have_failed t ran) ran.told
 
--- the data file and the outputs were opened by these paths
+-- no output is to be synced
+abbrev pub AreUnsynced : {F : Type 0} → Ran F → Type 0
+AreUnsynced ran = (ran.out.same ≡ None) × ((ran.listing.same ≡ None) × (ran.frequencies.same ≡ None))
+
+-- the data file and the outputs were opened by these paths, and no output is synced unless that is asked
 pub record AreOpened {F : Type 0} (paths : RunPaths) (ran : Ran F) : Type 0 where
   pub input : ran.input.path.now ≡ paths.data.now
   pub out : ran.out.path.now ≡ paths.out.now
   pub listing : ran.listing.path.now ≡ paths.list.now
   pub frequencies : ran.frequencies.path.now ≡ paths.freq.now
+  pub unsynced : paths.sync ≡ false → AreUnsynced ran
 
 -- ---- with the deck file
 
@@ -87,11 +92,12 @@ KeepsText t path (Ok told) (Err stop) = HasNumber stop
 KeepsText t path (Ok told) (Ok None) = path ≡ None
 KeepsText t path (Ok told) (Ok (Some f)) = (path ≡ Some f.path.now) × (t.taken f.device ≡ told.1.bytes.items)
 
--- Each file was opened by its path, and the deck file took the deck text.
+-- Each file was opened by its path, and the deck file took the deck text. A run that has neither to sync nor to keep decks doesn't fail at that.
 pub record AreOpenedFrom {F : Type 0} (t : Told F) (paths : RunPaths) (ran : RanFrom F) : Type 0 where
   pub decks : IsNamed (option_map (λ p. p.now) paths.decks) (option_map (λ f. f.input.path.now) ran.decks)
   pub devices : AreOpened paths ran.ran
   pub kept : KeepsText t (option_map (λ p. p.now) paths.decks) ran.ran.told ran.kept
+  pub quiet : paths.sync ≡ false → paths.decks ≡ None → IfOk ran.ran.told (λ told. ran.kept ≡ Ok None)
 
 -- It started with what the deck file gave.
 pub record RunsFrom {F : Type 0} (t : Told F) (v : VerifiedProgram) (ran : RanFrom F) : Type 0 where

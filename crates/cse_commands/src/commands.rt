@@ -2,11 +2,13 @@
 
 use crate::compile_image::compile_files;
 use crate::edit_data::edit_files;
+use crate::edited::EditedFiles;
 use crate::fault::{Fault, NO_MEMORY, TOO_MANY, WRITE_FAILED};
 use crate::files::{MOST_IMAGE, file_bytes, file_text};
 use crate::outcome::{Asked, Stop};
 use crate::plan::{Command, CompilePaths, EditPaths, PlanFault, RunPaths, plan};
 use crate::printing::{write_compiled, write_totals, write_version};
+use crate::ran::{RanFiles, RanImage};
 use crate::run_image::run_files;
 use crate::try_image::try_to;
 use crate::verify_image::verify_to;
@@ -67,7 +69,7 @@ pub fn try_file<R: Files + Print + AllocGlobal>(rt: &R, path: &str) -> Result<()
         Err(error) => return Err(Stop::of_failure(Asked::Write, error.kind())),
     };
     let mut out = Writes::new(buffer);
-    if let Err(fault) = try_to(rt.alloc(), &image, &mut out) {
+    if let Err(fault) = try_to(rt.alloc(), image.bytes(), &mut out) {
         return Err(Stop::Refused(Fault::of_try(&fault)));
     }
     match out.into_inner().flush() {
@@ -89,7 +91,7 @@ pub fn verify_files<R: Files + Print + AllocGlobal>(
         Err(error) => return Err(Stop::of_failure(Asked::Write, error.kind())),
     };
     let mut out = Writes::new(buffer);
-    if let Err(fault) = verify_to(rt.alloc(), &dict, &image, &mut out) {
+    if let Err(fault) = verify_to(rt.alloc(), dict.bytes(), image.bytes(), &mut out) {
         return Err(Stop::Refused(Fault::of_verify(&fault)));
     }
     match out.into_inner().flush() {
@@ -103,9 +105,9 @@ pub fn compile_and_tell<R: Files + Print + AllocGlobal>(
     rt: &R,
     paths: &CompilePaths<'_>,
 ) -> Result<(), Stop> {
-    let bytes = compile_files(rt, paths)?;
+    let compiled = compile_files(rt, paths)?;
     let mut out = Writes::new(io::writer(rt));
-    match write_compiled(bytes, &mut out) {
+    match write_compiled(compiled.len, &mut out) {
         Ok(()) => Ok(()),
         Err(_) => Err(Stop::of_number(WRITE_FAILED)),
     }
@@ -116,8 +118,10 @@ pub fn run_and_tell<R: Files + Print + AllocGlobal>(
     rt: &R,
     paths: &RunPaths<'_>,
 ) -> Result<(), Stop> {
-    let totals = run_files(rt, paths)?;
-    tell_totals(rt, totals)
+    let ran = run_files(rt, paths)?;
+    let RanFiles { program, .. } = ran;
+    let RanImage { run, .. } = program;
+    tell_totals(rt, run.into_totals()?)
 }
 
 /// `edit`, and what it counted.
@@ -125,8 +129,9 @@ pub fn edit_and_tell<R: Files + Print + AllocGlobal>(
     rt: &R,
     paths: &EditPaths<'_>,
 ) -> Result<(), Stop> {
-    let totals = edit_files(rt, paths)?;
-    tell_totals(rt, totals)
+    let edited = edit_files(rt, paths)?;
+    let EditedFiles { run, .. } = edited;
+    tell_totals(rt, run.into_totals()?)
 }
 
 /// Prints what a run counted.

@@ -1,6 +1,6 @@
 //! The files of the commands.
 
-ghost use Rattle.std.specs.Prelude.{◌≡◌, [], false, IfErr, IfOk, IfSome, option_map};
+ghost use Rattle.std.specs.Prelude.{◌≡◌, [], false, None, IfErr, IfOk, IfSome, option_copied, option_map};
 ghost use Rattle.cse_value.specs.Sound.{are_given};
 ghost use Rattle.cse_files.specs.Whole.{IsAll, IsWhole};
 ghost use Rattle.cse_commands.specs.Stops.{HasNumber, IsNotOpened};
@@ -42,6 +42,7 @@ pub fn created<'a, R: Files>(
 ) -> Result<OpenedOutput<'a, R::File>, Stop>
     ensures path { IfOk result (λ f. f.path.now ≡ path.now) }
     ensures taken { IfOk result (λ f. ⟦<Writes<R::File> as Output>⟧.taken f.device ≡ []) }
+    ensures unsynced { sync ≡ false → IfOk result (λ f. f.same ≡ None) }
     ensures not_opened { IfErr result IsNotOpened }
     ensures fault { IfErr result HasNumber }
 {
@@ -122,7 +123,7 @@ pub fn bytes_where_there<'a, R: Files + AllocGlobal>(
 
 /// The bytes of a file that may be there.
 pub fn bytes_of<'b, F: Drop>(file: &'b Option<WholeFile<'_, F>>) -> Option<&'b [u8]>
-    ensures { option_map (λ b. b.now) result ≡ option_map (λ f. f.bytes.items) file.now }
+    ensures { option_copied result ≡ option_map (λ f. f.bytes.items) file.now }
 {
     match file {
         Some(file) => Some(file.bytes()),

@@ -1,12 +1,12 @@
 //! `run`: an image over a data file, from the files of its words to those of its outputs.
 
-ghost use Rattle.std.specs.Prelude.{◌≡◌, [], IfOk, IfErr, IfSome, IfNone, option_map};
+ghost use Rattle.std.specs.Prelude.{◌≡◌, [], None, Ok, IfOk, IfErr, IfSome, IfNone, option_map};
 ghost use Rattle.cse_code_bounds.specs.EventBound.{case_bound};
 ghost use Rattle.cse_decks.specs.Store.{Kept, StoreFits, first_kept};
 ghost use Rattle.cse_decks.specs.DeckText.{IsDeckText};
 ghost use Rattle.cse_batch.specs.RunClauses.{RunsWhole, contents, failures};
 ghost use Rattle.cse_commands.specs.Stops.{HasNumber, IsMemory, IsNotOpened, IsStoreOf, TellsDeckFault, TellsRunFault};
-ghost use Rattle.cse_commands.specs.Ran.{AreOpened, AreOpenedFrom, AreRunPaths, KeepsText, RunsFiles, RunsFrom, RunsImage, RunsStore, told_by};
+ghost use Rattle.cse_commands.specs.Ran.{AreOpened, AreOpenedFrom, AreRunPaths, AreUnsynced, KeepsText, RunsFiles, RunsFrom, RunsImage, RunsStore, told_by};
 ghost use Rattle.cse_commands.specs.Allowed.{KeepsToSteps, steps_allowed};
 
 use crate::apart::{see_apart, uses_of_run};
@@ -132,8 +132,10 @@ pub(crate) fn keep_decks<'a, R: Files + AllocGlobal>(
     path: Option<&'a str>,
     ran: &Ran<'_, R::File>,
 ) -> Result<Option<Replaced<'a, R::File>>, Stop>
-    ensures { KeepsText (told_by (⟦<Reads<R::File> as Input>⟧.given)
+    // The deck file took the deck text.
+    ensures kept { KeepsText (told_by (⟦<Reads<R::File> as Input>⟧.given)
         (⟦<Writes<R::File> as Output>⟧.taken) (⟦<Writes<R::File> as Output>⟧.has_failed)) (option_map (λ p. p.now) path.entry) ran.now.told result }
+    ensures quiet { AreUnsynced ran.now → path.entry ≡ None → IfOk ran.now.told (λ told. result ≡ Ok None) }
 {
     let decks = match &ran.told {
         Ok((_, decks)) => decks,
@@ -151,6 +153,7 @@ pub(crate) fn keep_decks<'a, R: Files + AllocGlobal>(
 /// Sees that the disk has what an output took, if that is asked: 71 where it has not.
 fn see_synced<F: Write + OpenFile>(output: &OpenedOutput<'_, F>) -> Result<(), Stop>
     ensures fault { IfErr result HasNumber }
+    ensures unsynced { output.now.same ≡ None → result ≡ Ok tt }
 {
     match output.sync() {
         Ok(()) => Ok(()),

@@ -1,6 +1,6 @@
 //! Files that were opened, each with the path that it was opened by.
 
-ghost use Rattle.std.specs.Prelude.{◌≡◌, false, IfOk, []};
+ghost use Rattle.std.specs.Prelude.{◌≡◌, false, IfOk, [], None, Ok};
 ghost use Rattle.cse_value.specs.Sound.{are_given};
 
 use crate::fault::WriteFault;
@@ -46,6 +46,7 @@ pub fn create_output<'a, R: Files>(
     ensures path { IfOk result (λ f. f.path.now ≡ path.now) }
     ensures taken { IfOk result (λ f. ⟦<Writes<R::File> as Output>⟧.taken f.device ≡ []) }
     ensures sound { IfOk result (λ f. ⟦<Writes<R::File> as Output>⟧.has_failed f.device ≡ false) }
+    ensures unsynced { sync ≡ false → IfOk result (λ f. f.same ≡ None) }
 {
     let file = fs::create(rt, path)?;
     let same = if sync { Some(file.try_clone()?) } else { None };
@@ -55,7 +56,9 @@ pub fn create_output<'a, R: Files>(
 
 impl<'a, F: io::Write + OpenFile> OpenedOutput<'a, F> {
     /// Sees that the disk has what it took, where that was asked.
-    pub fn sync(&self) -> Result<(), WriteFault> {
+    pub fn sync(&self) -> Result<(), WriteFault>
+        ensures { self.now.same ≡ None → result ≡ Ok tt }
+    {
         match &self.same {
             Some(file) => sync(file),
             None => Ok(()),
