@@ -46,7 +46,7 @@ pub struct RanFiles<'a, F> {
 impl<'a, F: Drop> RanFrom<'a, F> {
     /// What the run counted, or why the command stopped. The files are closed.
     pub fn into_totals(self) -> Result<Totals, Stop>
-        ensures { result ≡ counted self.kept self.ran.told }
+        ensures { result ≡ counted self.entry.kept self.entry.ran.told }
     {
         let RanFrom { kept, ran, .. } = self;
         match kept {
