@@ -10,6 +10,7 @@ use Rattle.cse_decks.specs.Store.{Kept, first_kept}
 use Rattle.cse_commands.specs.Named.{text_or_none}
 use Rattle.cse_commands.specs.Edited.{EndsWhereNamed, text_given}
 use Rattle.cse_commands.specs.Ran.{IsStart, Told, decks_given}
+use Rattle.cse_commands.specs.Vetted.{Passes}
 
 -- a text that is not longer than is allowed
 pub all_of : (now : Given) (bytes : List ℕ) (most : ℕ) → IsWhole now bytes most → (most < length bytes → ⊥) → IsAll now bytes
@@ -47,3 +48,7 @@ pub starts_from : {F : Type 0} (t : Told F) (x y : Image) (decks : Option (Whole
 starts_from t x y decks most text store same are whole first loaded =
     subst (λ (z : Image). IsStart z (decks_given t decks) store) same
     (subst (λ (d : Option (List ℕ)). IsStart x d store) (are ∙ decks_are t decks most whole) (starts_of x text store first loaded))
+
+-- the same dictionary and the same image
+pub passes_same : (text text' bytes bytes' : List ℕ) → text ≡ text' → bytes ≡ bytes' → Passes text bytes → Passes text' bytes'
+passes_same text text' bytes bytes' a b p = subst (λ (x : List ℕ). Passes x bytes') a (subst (λ (x : List ℕ). Passes text x) b p)

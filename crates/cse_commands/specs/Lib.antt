@@ -5,6 +5,7 @@ pub mod Counted
 pub mod Edited
 pub mod Ending
 pub mod FaultLine
+pub mod Judged
 pub mod Named
 pub mod Printed
 pub mod Ran

@@ -95,9 +95,7 @@ fn edit_with<'a, R: Files + AllocGlobal>(
 {
     let image = image_of(rt.alloc(), dictionary, logic, messages, order)?;
     match check_image(rt.alloc(), dictionary, &image) {
-        Ok(verified) => edit_within(
-            rt, &verified, text, logic, messages, order, &image, paths,
-        ),
+        Ok(verified) => edit_within(rt, &verified, text, logic, messages, order, &image, paths),
         Err(fault) => Err(Stop::Refused(Fault::of_check(fault))),
     }
 }

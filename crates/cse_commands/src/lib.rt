@@ -8,7 +8,7 @@
 //! - `compile_image`: `compile`, logic to an image. `compiled`: what it came to.
 //! - `run_image`: `run`, an image over a data file. `ran`: what it came to.
 //! - `edit_data`: `edit`, logic over a data file with no image between. `edited`: what it came to.
-//! - `files`: the files of the commands. `role`, `apart`: what each is to its command, and that no two are one.
+//! - `judged`: what `verify` and `try` judged. `files`: the files of the commands. `role`, `apart`: what each is to its command, and that no two are one.
 //! - `printing`, `fault`: lines for a device. `outcome`: the exit status.
 //! - `start`: what the program is: a command, what is told of it, and its status.
 #![tactic(auto)]
@@ -21,6 +21,7 @@ pub mod edit_data;
 pub mod edited;
 pub mod fault;
 pub mod files;
+pub mod judged;
 pub mod outcome;
 pub mod plan;
 pub mod printing;

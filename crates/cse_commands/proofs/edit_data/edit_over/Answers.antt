@@ -13,6 +13,6 @@ returns-clause-took g c =
     let t = told_by input.given output.taken output.has_failed in
     IfOk-weaker c.run_over.result _ _
     (λ ran runs.
-        tells_edit c.args.verified.now c.batches_mean.ensures c.args.text.now c.args.logic.now c.args.messages.now c.args.order.now c.args.image.now (option_copied c.args.decks)
-            c.requires.read c.requires.stands c.requires.built c.args.store c.requires.starts c.requires.fits (t.given ran.input.device) (took t ran) (have_failed t ran) ran.told runs)
+    tells_edit c.args.verified.now c.batches_mean.ensures c.args.text.now c.args.logic.now c.args.messages.now c.args.order.now c.args.image.now (option_copied c.args.decks)
+    c.requires.read c.requires.stands c.requires.built c.args.store c.requires.starts c.requires.fits (t.given ran.input.device) (took t ran) (have_failed t ran) ran.told runs)
     c.run_over.ensures.took
