@@ -5,9 +5,9 @@ use cse_commands::start::{USAGE, carry_out_and_tell};
 use cse_value::Writes;
 use std::alloc::AllocError;
 use std::cell::RefCell;
+use std::io::ErrorKind;
 use std::os::unix::fs::symlink;
 use std::rt::Files;
-use std::io::ErrorKind;
 use std::{fs, io};
 
 /// The folder in which a row's files lie while it is shown.
