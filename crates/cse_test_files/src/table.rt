@@ -1,5 +1,5 @@
 //! Rows in a text: blocks of lines with an empty line between two of them. In a block a line begins with a word and a
-//! colon, and goes on in lines that are indented.
+//! colon, and goes on in lines that are indented by four blanks.
 //!
 //! A block whose first line is a comment (`#`) says what rows share: the first block what all rows of the text do, and
 //! another one what those below it do. Each other block is a row, and its first line is the row's name. What it doesn't say
@@ -43,7 +43,7 @@ fn said<'a>(block: &'a str, word: &str) -> Option<&'a str> {
     let (_, behind) = block.split_once(word)?;
     for (end, _) in behind.match_indices('\n') {
         let (value, rest) = behind.split_at_checked(end)?;
-        if !rest.starts_with("\n ") {
+        if !rest.starts_with("\n    ") {
             return Some(value.trim());
         }
     }
@@ -120,7 +120,7 @@ fn words_in(block: &str) -> usize {
 pub fn is_sound(block: &str) -> bool {
     let mut lines = 0usize;
     for line in block.lines().skip(1) {
-        if !line.starts_with(['#', ' ']) {
+        if !line.starts_with('#') && !line.starts_with("    ") {
             lines = lines.saturating_add(1);
         }
     }
