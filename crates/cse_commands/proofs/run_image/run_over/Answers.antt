@@ -9,4 +9,4 @@ returns-clause-took g c =
     c.in_ok-out.ensures.taken c.in_ok-listing.ensures.taken c.in_ok-frequencies.ensures.taken
 
 pub returns-clause-told : goal.returns-clause-told
-returns-clause-told g c = IfErr-weaker c.run_on-told.result _ _ (λ stop t. told_is_fault _ _ _ _ _ _ _ _ stop t) c.run_on-told.ensures.stopped
+returns-clause-told g c = IfErr-weaker c.run_on-told.result _ _ (λ stop t. told_is_fault _ _ _ _ _ _ _ stop t) c.run_on-told.ensures.stopped
