@@ -1,3 +1,4 @@
+pub mod CompiledLaws
 pub mod ApartLaws
 pub mod EditedLaws
 pub mod FaultLaws

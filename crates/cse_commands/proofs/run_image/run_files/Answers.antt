@@ -9,5 +9,5 @@ returns-clause-runs g c = record {
   read =
       subst (λ (b : List ℕ). IsReadAs b c.in-Ok.dictionary) (c.bytes.ensures ∙ sym c.in_ok-dict.ensures.all.gave)
       (record { sound = c.in-Ok.ensures.sound; is = c.in-Ok.ensures.dictionary });
-  runs = c.in_ok-program.ensures.runs;
+  runs = c.in_ok-program-in-Ok.ensures.runs;
 }

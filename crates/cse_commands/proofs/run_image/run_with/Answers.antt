@@ -9,5 +9,5 @@ returns-clause-runs g c = record {
   same = c.in-Ok.ensures.dictionary;
   accepted =
       subst (λ (b : List ℕ). IsAccepted (shape_of c.args.dictionary.now) b c.in-Ok.verified.image) (c.bytes.ensures ∙ sym c.in_ok-image.ensures.whole.gave) c.in-Ok.ensures.accepted;
-  runs = c.in_ok-run.ensures.runs;
+  runs = c.in_ok-run-in-Ok.ensures.runs;
 }
