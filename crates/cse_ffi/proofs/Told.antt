@@ -29,6 +29,12 @@ pub empty_of : (out listing frequencies saved : List ℕ) → out ≡ [] → lis
     → contents out listing frequencies saved ≡ empty
 empty_of out listing frequencies saved o l f s = rw o (rw l (rw f (rw s)))
 
+-- the same texts
+pub contents_same : (a a' b b' c c' d d' : List ℕ) → a' ≡ a → b' ≡ b → c' ≡ c → d' ≡ d → contents a b c d ≡ contents a' b' c' d'
+contents_same a a' b b' c c' d d' p q r s =
+    ap (λ (x : List ℕ). contents x b c d) (sym p) ∙ (ap (λ (x : List ℕ). contents a' x c d) (sym q)
+    ∙ (ap (λ (x : List ℕ). contents a' b' x d) (sym r) ∙ ap (λ (x : List ℕ). contents a' b' c' x) (sym s)))
+
 -- a run over data in memory, to outputs that have nothing yet
 pub runs_data : (text image decks data_ : List ℕ) (before after : Given) (out listing frequencies saved : List ℕ) (new texts : Contents) (totals : Totals)
     → ((read : List ℕ) → Consumes before after read → ReadOf data_ read after) → out ≡ [] → listing ≡ [] → frequencies ≡ [] → saved ≡ []
