@@ -12,6 +12,6 @@ pub mod RunLaws
 pub mod SceneLaws
 pub mod SoFarLaws
 mod UntouchedEvents
-pub mod UntouchedGiven
-pub mod UntouchedLines
+mod UntouchedGiven
+mod UntouchedLines
 mod UntouchedRuns

@@ -1,4 +1,5 @@
 mod Promises
 mod Layers
+mod Given
 mod Whole
 pub mod Meant

@@ -1,9 +1,7 @@
-pub mod CompiledLaws
 pub mod ApartLaws
 pub mod EditedLaws
 pub mod FaultLaws
 pub mod FaultyLaws
-pub mod FileLaws
 pub mod OutcomeLaws
 pub mod PrintLaws
 pub mod RanLaws

@@ -1,2 +1,1 @@
 pub mod Clashes
-pub mod Whole

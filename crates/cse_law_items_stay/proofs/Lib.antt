@@ -1,3 +1,5 @@
+pub mod Given
+pub mod Lines
 pub mod Puts
 pub mod Keeps
 pub mod Names

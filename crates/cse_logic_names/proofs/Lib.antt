@@ -1,5 +1,4 @@
 mod MessageLaws
-mod PlainTexts
 mod OrderLaws
 pub mod NameLaws
 pub mod Walks

@@ -1,11 +1,12 @@
 //! Files as runs of lines, as they are built: in pieces, cut off, and at their limits. What the runs of other files are is a law
 //! of cse_test_laws.
 
+ghost use Rattle.std.specs.Prelude.{None};
+
 use cse_dict::Dictionary;
 use cse_lines::{Columns, Run, RunReader};
-use cse_value::Reads;
+use cse_value::{Failed, Input};
 use std::alloc::{AllocError, Global};
-use std::io;
 
 /// Gives bytes in small pieces, and fails before byte `breaks`.
 #[derive(Drop)]
@@ -13,17 +14,23 @@ struct Pieces<'a> {
     bytes: &'a [u8],
     size: usize,
     breaks: usize,
+    failed: bool,
 }
 
-impl io::Read for Pieces<'_> {
-    fn read(&mut self, buf: &mut [u8]) -> io::Result<usize> {
+impl Input for Pieces<'_> {
+    ghost remaining = { λ s. None };
+
+    ghost has_failed = { λ s. s.failed };
+
+    fn read(&mut self, buf: &mut [u8]) -> Result<usize, Failed> {
         let n = self
             .size
             .min(buf.len())
             .min(self.bytes.len())
             .min(self.breaks);
-        if self.breaks == 0 {
-            return Err(io::Error::from(io::ErrorKind::TimedOut));
+        if self.failed || self.breaks == 0 {
+            self.failed = true;
+            return Err(Failed);
         }
         buf[..n].copy_from_slice(&self.bytes[..n]);
         self.bytes = &self.bytes[n..];
@@ -149,10 +156,9 @@ static ROWS: [Row; 14] = [
 fn outcome(
     alloc: Global,
     dictionary: &Dictionary,
-    pieces: Pieces<'_>,
+    mut input: Pieces<'_>,
     most: u64,
 ) -> ((u8, u64), u64) {
-    let mut input = Reads::new(pieces);
     let mut reader = RunReader::new(alloc, dictionary);
     for runs in 0..most {
         match reader.next(&mut input) {
@@ -227,11 +233,12 @@ fn place_behind(run: &Run, columns: &[&str], first: usize) -> Option<usize> {
 
 /// Whether the lines of a file have their columns.
 fn is_laid(alloc: Global, dictionary: &Dictionary, laid: &Laid) -> bool {
-    let mut input = Reads::new(Pieces {
+    let mut input = Pieces {
         bytes: laid.file,
         size: 3,
         breaks: usize::MAX,
-    });
+        failed: false,
+    };
     let mut reader = RunReader::new(alloc, dictionary);
     let mut at = 0;
     for _ in 0..99 {
@@ -274,12 +281,13 @@ fn push_times(bytes: &mut Vec<u8>, piece: &[u8], times: usize) -> Result<(), All
 
 /// Whether a file of these bytes is read as the row tells.
 fn is_read(alloc: Global, dictionary: &Dictionary, bytes: &[u8], row: &Row) -> bool {
-    let pieces = Pieces {
+    let input = Pieces {
         bytes,
         size: row.size,
         breaks: usize::MAX,
+        failed: false,
     };
-    let (told, reads) = outcome(alloc, dictionary, pieces, row.most);
+    let (told, reads) = outcome(alloc, dictionary, input, row.most);
     told == row.told && reads == row.reads.unwrap_or(reads)
 }
 
@@ -311,12 +319,13 @@ fn limits_of_runs_and_lines(rt: HostRuntime) {
 fn first_unnoticed(alloc: Global, bytes: &[u8]) -> Option<usize> {
     let dictionary = Dictionary::read(alloc, PERSONS.as_bytes()).ok()?;
     for breaks in 0..bytes.len() {
-        let pieces = Pieces {
+        let input = Pieces {
             bytes,
             size: 3,
             breaks,
+            failed: false,
         };
-        if outcome(alloc, &dictionary, pieces, 99).0 != (70, 0) {
+        if outcome(alloc, &dictionary, input, 99).0 != (70, 0) {
             return Some(breaks);
         }
     }

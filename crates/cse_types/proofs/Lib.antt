@@ -17,4 +17,3 @@ pub mod ArrayLaws
 pub mod EntryLaws
 pub mod SaidLaws
 pub mod CheckLaws
-mod Utf8

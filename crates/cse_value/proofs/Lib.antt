@@ -1,6 +1,5 @@
 pub mod FieldLaws
 pub mod NumberLaws
-pub mod ReadLaws
 pub mod FieldSteps
 pub mod TextLaws
 pub mod WidthLaws

@@ -1,5 +1,3 @@
-pub mod Device
-pub mod Sound
 pub mod Field
 pub mod Number
 pub mod Occurrences

@@ -1,5 +1,0 @@
-pub mod Leaf
-pub mod Word
-pub mod Tree
-pub mod Grammar
-pub mod First
