@@ -139,12 +139,38 @@ FAULTS = [
     (b"PROC GLOBAL numeric i; PROC QUEST for i in PERSON do i = 1; enddo;", b"refused 47 line 1 column 54\n"),
     (b"PROC AGE errmsg('%d');", b"refused 48 line 1 column 17\n"),
     (b"PROC AGE break;", b"refused 49 line 1 column 10\n"),
+    # The text at fault, the lesser of two faults at one name, and the fault that stands first.
+    (b"PROC GLOBAL numeric n; alpha (3) s; PROC AGE s = 5;", b"refused 44 line 1 column 46\n"),
+    (b"PROC GLOBAL numeric n; alpha (3) s; PROC AGE n = (s);", b"refused 44 line 1 column 51\n"),
+    (b"PROC GLOBAL numeric n; alpha (3) s; PROC AGE if ((s)) > 1 then endif;", b"refused 44 line 1 column 51\n"),
+    (b"PROC GLOBAL numeric n; alpha (3) s; PROC AGE errmsg('%d', (s));", b"refused 44 line 1 column 59\n"),
+    (b"PROC GLOBAL function f(x) f = f(); end;", b"refused 44 line 1 column 31\n"),
+    (b"PROC GLOBAL function f(x) f(1, 2); end;", b"refused 44 line 1 column 27\n"),
+    (b"PROC GLOBAL function g() g = f(1, 2); end; function f(x) end;", b"refused 44 line 1 column 30\n"),
+    (b"PROC GLOBAL function f(x) end; function g() f(); end; numeric x;", b"refused 44 line 1 column 45\n"),
+    (b"PROC GLOBAL function g() g = A(1); end; array A (2, NOBODY);", b"refused 44 line 1 column 30\n"),
+    (b"PROC GLOBAL numeric n; PROC SAMPLE_DICT n = curocc(PERSON);", b"refused 49 line 1 column 45\n"),
+    (b"PROC GLOBAL numeric n; PROC SAMPLE_DICT n = curocc(NOBODY);", b"refused 49 line 1 column 45\n"),
+    (b"PROC GLOBAL numeric n; PROC SAMPLE_DICT n = getdeck(NOBODY);", b"refused 49 line 1 column 45\n"),
+    (b"PROC SAMPLE_DICT putdeck(NOBODY, 1);", b"refused 49 line 1 column 18\n"),
+]
+
+# The same, where SEX and HH are texts.
+TEXT_FAULTS = [
+    (b"PROC AGE SEX = 5;", b"refused 44 line 1 column 10\n"),
+    (b"PROC QUEST SEX = 1;", b"refused 44 line 1 column 12\n"),
+    (b"PROC QUEST SEX(1) = 1;", b"refused 44 line 1 column 12\n"),
+    (b"PROC QUEST impute(HH, 1);", b"refused 43 line 1 column 19\n"),
+    (b"PROC QUEST HH = 1;", b"refused 43 line 1 column 12\n"),
 ]
 
 
 def faults():
     partial = sample().replace(b"Value=2;Female", b"Value=two;Female")
-    found = [Row(f"refused: {source[:40].decode(errors='replace')}", source, refused=fault) for source, fault in FAULTS]
+    texts = sample().replace(b"DataType=Numeric\r\nZeroFill=Yes", b"DataType=Alpha")
+    texts = texts.replace(b"Start=5\r\nLen=1", b"Start=5\r\nLen=1\r\nDataType=Alpha")
+    found = [Row(f"refused: {source.decode(errors='replace')}", source, refused=fault) for source, fault in FAULTS]
+    found += [Row(f"refused: {source.decode()}", source, dictionary=texts, refused=fault) for source, fault in TEXT_FAULTS]
     return [*found, Row("refused: a partial value set", b"PROC SEX if invalueset(SEX, SEX_VS) then endif;", dictionary=partial,
                         refused=b"refused 42 line 1 column 29\n")]
 

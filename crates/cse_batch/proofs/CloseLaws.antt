@@ -1,9 +1,10 @@
 -- The end of a run: the postproc, and the outputs.
-use Rattle.std.proofs.Common.{◌≡◌, ℕ, Bool, true, false, List, [], ◌++◌, Option, None, Ok, Err, Result, refl, ap, sym, ◌∙◌, subst, arith, append_assoc, append-nil, inl, inr}
+use Rattle.std.proofs.Common.{◌≡◌, ℕ, Bool, true, false, List, [], ◌++◌, None, Ok, Err, Result, refl, ap, sym, ◌∙◌, subst, arith, append_assoc, append-nil, inl, inr}
 use Rattle.std.specs.Prelude.{MatchBool}
 use Rattle.std.proofs.lemmas.Bool.{MatchBool-at_false}
-use Rattle.std.specs.Io.KnownBytes.{Appends}
-use Rattle.std.proofs.KnownBytes.{Appends-nil, Appends-trans, Consumes-nil}
+use Rattle.cse_value.specs.Device.{Appends, Given}
+use Rattle.cse_value.proofs.ReadLaws.{Consumes-nil}
+use Rattle.cse_value.proofs.WriteLaws.{Appends-nil, Appends-trans}
 use Rattle.cse_value.specs.declared.device.Failed.{Failed}
 use Rattle.cse_value.specs.Writing.{AppendsFront, FailsAtErr, WritesAll}
 use Rattle.cse_value.proofs.WriteLaws.{AppendsFront-after}
@@ -57,8 +58,8 @@ is_whole v p n b e = record {
 }
 
 -- the postproc ran
-pub ran : (v : VerifiedProgram) (first : Kept) (before after : Option (List ℕ)) (store store' : Kept) (old new : Reports) (out list : Device) (g : Going) (totals : Totals) → CasesRan v first before after store old out list totals
-    → ((p : Progress) (start : Option (List ℕ)) (sound : Bool) → Keeps v p store old start sound list.going → Keeps v (after_application v ApplicationPostproc p) store' new start sound g)
+pub ran : (v : VerifiedProgram) (first : Kept) (before after : Given) (store store' : Kept) (old new : Reports) (out list : Device) (g : Going) (totals : Totals) → CasesRan v first before after store old out list totals
+    → ((p : Progress) (start : List ℕ) (sound : Bool) → Keeps v p store old start sound list.going → Keeps v (after_application v ApplicationPostproc p) store' new start sound g)
     → Ran v first before after store' new out (record { start = list.start; sound = list.sound; going = g }) totals
 ran v first before after store store' old new out list g totals c step =
     let runs = given v.dictionary true true c.bytes in
@@ -71,6 +72,7 @@ ran v first before after store store' old new out list g totals c step =
     record {
       bytes = c.bytes;
       reads = c.reads;
+      unfailing = c.unfailing;
       end = c.end;
       sound = c.sound;
       totals_are = c.totals_are ∙ sym w.totals;
@@ -87,9 +89,9 @@ ran v first before after store store' old new out list g totals c step =
     }
 
 -- memory lacked in the postproc
-pub halts_last : (v : VerifiedProgram) (first : Kept) (before after : Option (List ℕ)) (store : Kept) (reports : Reports) (failed : Bool) (out list : Device) (g : Going) (totals : Totals) → CasesRan v first before after store reports out list totals
-    → Puts list.going g [] → Halts v first before after failed out (record { start = list.start; sound = list.sound; going = g }) (record { number = 90; line = 0 })
-halts_last v first before after store reports failed out list g totals c idle =
+pub halts_last : (v : VerifiedProgram) (first : Kept) (before after : Given) (store : Kept) (reports : Reports) (out list : Device) (g : Going) (totals : Totals) → CasesRan v first before after store reports out list totals
+    → Puts list.going g [] → Halts v first before after out (record { start = list.start; sound = list.sound; going = g }) (record { number = 90; line = 0 })
+halts_last v first before after store reports out list g totals c idle =
     let runs = given v.dictionary true true c.bytes in
     let p = after_runs v (begun v first) runs in
     let front = fronts_stay v first c.bytes true runs [] (sym (append-nil runs)) in
@@ -113,6 +115,7 @@ halts_last v first before after store reports failed out list g totals c idle =
       listing_whole = λ low. absurd (omega arith);
       faulty = λ low. absurd (omega arith);
       needed = λ q. absurd (omega arith);
+      unfailing = λ q. c.unfailing;
       reading = λ q. absurd (omega arith);
       writing = λ q. absurd (omega arith);
       other = λ high. inr (inr refl);
@@ -122,14 +125,14 @@ halts_last v first before after store reports failed out list g totals c idle =
 -- ---- fronts of texts
 
 -- nothing was written
-pub no_front : (c : Option (List ℕ)) (text : List ℕ) → AppendsFront c c text
+pub no_front : (c : List ℕ) (text : List ℕ) → AppendsFront c c text
 no_front c text = record { written = []; rest = text; is = refl; appends = Appends-nil c }
 
-front_more : (a b : Option (List ℕ)) (text all : List ℕ) → Begins text all → AppendsFront a b text → AppendsFront a b all
+front_more : (a b : List ℕ) (text all : List ℕ) → Begins text all → AppendsFront a b text → AppendsFront a b all
 front_more a b text all g f = record { written = f.written; rest = f.rest ++ g.rest; is = g.is ∙ (ap (λ l. l ++ g.rest) f.is ∙ append_assoc f.written f.rest g.rest); appends = f.appends }
 
 -- where it was not given up, a front was written and the rest waits
-gathered : (start : Option (List ℕ)) (sound : Bool) (g : Going) (text : List ℕ) → g.gave_up ≡ false → Gathering start sound g text → Gathered start sound g text
+gathered : (start : List ℕ) (sound : Bool) (g : Going) (text : List ℕ) → g.gave_up ≡ false → Gathering start sound g text → Gathered start sound g text
 gathered start sound g text e h = MatchBool-at_false (GaveUp start g text) (Gathered start sound g text) e h
 
 -- where it was, it doesn't count whether the device was sound
@@ -137,7 +140,7 @@ still : (o : Device) (text : List ℕ) → o.going.gave_up ≡ true → Has o te
 still o text e h = subst (λ (b : Bool). MatchBool b (GaveUp o.start o.going text) (Gathered o.start true o.going text)) (sym e) (gave_up o.start o.sound o.going text e h)
 
 -- all of it, where nothing of the front is left
-appends_as : (a b : Option (List ℕ)) (text all : List ℕ) → text ≡ all → (f : AppendsFront a b text) → f.rest ≡ [] → Appends a b all
+appends_as : (a b : List ℕ) (text all : List ℕ) → text ≡ all → (f : AppendsFront a b text) → f.rest ≡ [] → Appends a b all
 appends_as a b text all e f none = subst (λ (l : List ℕ). Appends a b l) (sym (append-nil f.written) ∙ (ap (λ l. f.written ++ l) (sym none) ∙ (sym f.is ∙ e))) f.appends
 
 -- what was put so far was written, or a front of it
@@ -154,12 +157,12 @@ failed_at (Ok x) failed f = f
 failed_at (Err e) failed f = f
 
 -- how an output was closed
-pub record Closed (o : Device) (r : Result (Unit {0}) Failed) (new : Option (List ℕ)) (failed : Bool) (text : List ℕ) : Type 0 where
+pub record Closed (o : Device) (r : Result (Unit {0}) Failed) (new : List ℕ) (failed : Bool) (text : List ℕ) : Type 0 where
   pub writes : WritesAll r o.start new text
   pub fails : FailsAtErr r o.sound failed
   pub gave_up : o.going.gave_up ≡ true → failed ≡ true
 
-pub closed : (o : Device) (r : Result (Unit {0}) Failed) (new : Option (List ℕ)) (failed : Bool) (text : List ℕ) → Finishes r o.going new failed → Has o text → Closed o r new failed text
+pub closed : (o : Device) (r : Result (Unit {0}) Failed) (new : List ℕ) (failed : Bool) (text : List ℕ) → Finishes r o.going new failed → Has o text → Closed o r new failed text
 closed o r new failed text f h = record {
   writes = (f o.start o.sound text h).0;
   fails = (f o.start o.sound text h).1;
@@ -167,10 +170,10 @@ closed o r new failed text f h = record {
 }
 
 -- a run that was stopped
-pub stops : (v : VerifiedProgram) (first : Kept) (before after : Option (List ℕ)) (input_failed : Bool) (out list : Device) (fault : RunFault) (h : Halts v first before after input_failed out list fault)
-    (r r' : Result (Unit {0}) Failed) (new new' : Option (List ℕ)) (failed failed' : Bool) → Closed out r new failed h.written → Closed list r' new' failed' h.listed → (f d : Option (List ℕ)) (ff df : Bool)
-    → RunStops v first before after (contents out.start list.start f d) (contents new new' f d) input_failed (failures failed failed' ff df) fault
-stops v first before after input_failed out list fault h r r' new new' failed failed' a b f d ff df =
+pub stops : (v : VerifiedProgram) (first : Kept) (before after : Given) (out list : Device) (fault : RunFault) (h : Halts v first before after out list fault)
+    (r r' : Result (Unit {0}) Failed) (new new' : List ℕ) (failed failed' : Bool) → Closed out r new failed h.written → Closed list r' new' failed' h.listed → (f d : List ℕ) (ff df : Bool)
+    → RunStops v first before after (contents out.start list.start f d) (contents new new' f d) (failures failed failed' ff df) fault
+stops v first before after out list fault h r r' new new' failed failed' a b f d ff df =
     let all = batch v first h.bytes h.ended in
     record {
       bytes = h.bytes;
@@ -193,6 +196,7 @@ stops v first before after input_failed out list fault h r r' new new' failed fa
         given_are = h.given_are;
         appends = appends_as out.start new h.written (after_runs v (begun v first) h.runs).out h.written_is (front_of r out.start new h.written a.writes) (all_of r out.start new h.written out.sound failed a.writes a.fails works);
       };
+      unfailing = h.unfailing;
       reading = h.reading;
       writing = λ e. elim (h.writing e) [ inl g ↦ inl (a.gave_up g) | inr g ↦ inr (inl (b.gave_up g)) ];
       other = h.other;
@@ -208,9 +212,9 @@ out_whole v first bytes sound =
     let p = after_runs v (begun v first) runs in
     (is_whole v (after_application v ApplicationPostproc p) (totals_of v.dictionary runs) (batch v first bytes true) (batch_whole v first bytes runs sound refl)).out ∙ application_out v p
 
-pub stops_end : (v : VerifiedProgram) (first : Kept) (before after : Option (List ℕ)) (store : Kept) (reports : Reports) (o l : Device) (totals : Totals) (input_failed : Bool) (old new : Contents) (failed : Failures) (r : Ran v first before after store reports o l totals)
-    → GivesFronts old new (batch v first r.bytes true) → (failed.out ≡ false → Appends old.out new.out (batch v first r.bytes true).out) → HasFailure failed → RunStops v first before after old new input_failed failed (record { number = 71; line = 0 })
-stops_end v first before after store reports o l totals input_failed old new failed r fronts wrote some = record {
+pub stops_end : (v : VerifiedProgram) (first : Kept) (before after : Given) (store : Kept) (reports : Reports) (o l : Device) (totals : Totals) (old new : Contents) (failed : Failures) (r : Ran v first before after store reports o l totals)
+    → GivesFronts old new (batch v first r.bytes true) → (failed.out ≡ false → Appends old.out new.out (batch v first r.bytes true).out) → HasFailure failed → RunStops v first before after old new failed (record { number = 71; line = 0 })
+stops_end v first before after store reports o l totals old new failed r fronts wrote some = record {
   bytes = r.bytes;
   ended = true;
   reads = r.reads;
@@ -226,6 +230,7 @@ stops_end v first before after store reports o l totals input_failed old new fai
     given_are = sym (append-nil (given v.dictionary true true r.bytes));
     appends = subst (λ (t : List ℕ). Appends old.out new.out t) (out_whole v first r.bytes r.sound) (wrote works);
   };
+  unfailing = λ q. r.unfailing;
   reading = λ q. absurd (omega arith);
   writing = λ q. some;
   other = λ high. inr (inl refl);
@@ -233,8 +238,8 @@ stops_end v first before after store reports o l totals input_failed old new fai
 }
 
 -- memory lacked before anything was read
-pub stops_at_once : (v : VerifiedProgram) (first : Kept) (before : Option (List ℕ)) (input_failed : Bool) (old : Contents) (failed : Failures) → RunStops v first before before old old input_failed failed (record { number = 90; line = 0 })
-stops_at_once v first before input_failed old failed = record {
+pub stops_at_once : (v : VerifiedProgram) (first : Kept) (before : Given) (old : Contents) (failed : Failures) → RunStops v first before before old old failed (record { number = 90; line = 0 })
+stops_at_once v first before old failed = record {
   bytes = [];
   ended = false;
   reads = Consumes-nil before;
@@ -245,6 +250,7 @@ stops_at_once v first before input_failed old failed = record {
   out_whole = λ low. absurd (omega arith);
   listing_whole = λ low. absurd (omega arith);
   out_runs = λ works. record { runs = []; more = _; given_are = refl; appends = subst (λ (t : List ℕ). Appends old.out old.out t) (sym (begun_out v first)) (Appends-nil old.out) };
+  unfailing = λ q. refl;
   reading = λ q. absurd (omega arith);
   writing = λ q. absurd (omega arith);
   other = λ high. inr (inr refl);
@@ -252,23 +258,23 @@ stops_at_once v first before input_failed old failed = record {
 }
 
 -- all of a text is a front of it
-pub front_all : (a b : Option (List ℕ)) (text all : List ℕ) → text ≡ all → Appends a b text → AppendsFront a b all
+pub front_all : (a b : List ℕ) (text all : List ℕ) → text ≡ all → Appends a b text → AppendsFront a b all
 front_all a b text all e w = record { written = text; rest = []; is = sym e ∙ sym (append-nil text); appends = w }
 
 -- a front of what comes behind a text that was written
-pub front_behind : (a b c : Option (List ℕ)) (text more all : List ℕ) → text ++ more ≡ all → Appends a b text → AppendsFront b c more → AppendsFront a c all
+pub front_behind : (a b c : List ℕ) (text more all : List ℕ) → text ++ more ≡ all → Appends a b text → AppendsFront b c more → AppendsFront a c all
 front_behind a b c text more all e w f = subst (λ (l : List ℕ). AppendsFront a c l) e (AppendsFront-after a b c text more w f)
 
-pub front_first : (a b : Option (List ℕ)) (text more all : List ℕ) → text ++ more ≡ all → AppendsFront a b text → AppendsFront a b all
+pub front_first : (a b : List ℕ) (text more all : List ℕ) → text ++ more ≡ all → AppendsFront a b text → AppendsFront a b all
 front_first a b text more all e f = front_more a b text all (record { rest = more; is = sym e }) f
 
-pub appends_behind : (a b c : Option (List ℕ)) (text more all : List ℕ) → text ++ more ≡ all → Appends a b text → Appends b c more → Appends a c all
+pub appends_behind : (a b c : List ℕ) (text more all : List ℕ) → text ++ more ≡ all → Appends a b text → Appends b c more → Appends a c all
 appends_behind a b c text more all e w f = subst (λ (l : List ℕ). Appends a c l) e (Appends-trans a b c text more w f)
 
-pub front_as : (a b : Option (List ℕ)) (text all : List ℕ) → text ≡ all → AppendsFront a b text → AppendsFront a b all
+pub front_as : (a b : List ℕ) (text all : List ℕ) → text ≡ all → AppendsFront a b text → AppendsFront a b all
 front_as a b text all e f = subst (λ (l : List ℕ). AppendsFront a b l) e f
 
 -- it went to the end
-pub runs_whole : (v : VerifiedProgram) (first : Kept) (before after : Option (List ℕ)) (store : Kept) (reports : Reports) (o l : Device) (totals : Totals) (old new : Contents) (r : Ran v first before after store reports o l totals)
+pub runs_whole : (v : VerifiedProgram) (first : Kept) (before after : Given) (store : Kept) (reports : Reports) (o l : Device) (totals : Totals) (old new : Contents) (r : Ran v first before after store reports o l totals)
     → GivesTexts old new (batch v first r.bytes true) → RunsWhole v first before after old new totals
-runs_whole v first before after store reports o l totals old new r texts = record { bytes = r.bytes; reads = r.reads; end = r.end; sound = r.sound; texts = texts; totals_are = r.totals_are }
+runs_whole v first before after store reports o l totals old new r texts = record { bytes = r.bytes; reads = r.reads; unfailing = r.unfailing; end = r.end; sound = r.sound; texts = texts; totals_are = r.totals_are }

@@ -96,7 +96,7 @@ lines_on m rs later h e =
     ∙ (ap (λ (x : Held). x.lines) (sym (flushes_between (no_reports m) rs later)) ∙ unended_held m (rs ++ later)))
 
 -- more reports and imputations, the lines of which are put
-pub keeps_more : (v : VerifiedProgram) (p q : Progress) (store store' : Kept) (old mid new : Reports) (start : Option (List ℕ)) (sound : Bool) (g g' : Going) (later : List Report) (values : List (ℕ × Num))
+pub keeps_more : (v : VerifiedProgram) (p q : Progress) (store store' : Kept) (old mid new : Reports) (start : List ℕ) (sound : Bool) (g g' : Going) (later : List Report) (values : List (ℕ × Num))
     → q.reports ≡ p.reports ++ later → q.imputed ≡ p.imputed ++ values → store' ≡ q.store
     → mid.listing ≡ all_reported old.listing later → mid.frequencies ≡ all_imputed old.frequencies values
     → Puts g g' mid.listing.lines → new.listing ≡ flushed mid.listing → new.frequencies ≡ mid.frequencies
@@ -112,7 +112,7 @@ keeps_more v p q store store' old mid new start sound g g' later values reports 
       list = subst (λ (l : List ℕ). Gathering start sound g' l) (lines_on m p.reports later mid.listing held ∙ ap (unended m) (sym reports)) (puts start sound (unended m p.reports) k.list);
     }
 
-pub keeps_application : (v : VerifiedProgram) (code : EventCode) (p : Progress) (store store' : Kept) (old mid new : Reports) (start : Option (List ℕ)) (sound : Bool) (g g' : Going)
+pub keeps_application : (v : VerifiedProgram) (code : EventCode) (p : Progress) (store store' : Kept) (old mid new : Reports) (start : List ℕ) (sound : Bool) (g g' : Going)
     → Applies v code store old store' mid → Puts g g' mid.listing.lines → new.listing ≡ flushed mid.listing → new.frequencies ≡ mid.frequencies
     → Keeps v p store old start sound g → Keeps v (after_application v code p) store' new start sound g'
 unfolding after_application
@@ -124,7 +124,7 @@ keeps_application v code p store store' old mid new start sound g g' a puts flus
     a.listing a.frequencies puts flush same k
 
 -- the lines of a case are put, and what it listed
-pub keeps_case : (v : VerifiedProgram) (p : Progress) (lines : List FileLine) (t t' : CaseText) (store store' : Kept) (old mid new : Reports) (start : Option (List ℕ)) (sound : Bool) (g g' : Going)
+pub keeps_case : (v : VerifiedProgram) (p : Progress) (lines : List FileLine) (t t' : CaseText) (store store' : Kept) (old mid new : Reports) (start : List ℕ) (sound : Bool) (g g' : Going)
     → t ≡ next_case v p lines → Edits v t store old t' store' mid → Puts g g' mid.listing.lines → new.listing ≡ flushed mid.listing → new.frequencies ≡ mid.frequencies
     → Keeps v p store old start sound g → Keeps v (after_run v p lines) store' new start sound g'
 unfolding after_run

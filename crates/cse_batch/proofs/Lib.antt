@@ -12,6 +12,6 @@ pub mod RunLaws
 pub mod SceneLaws
 pub mod SoFarLaws
 mod UntouchedEvents
-mod UntouchedGiven
-mod UntouchedLines
+pub mod UntouchedGiven
+pub mod UntouchedLines
 mod UntouchedRuns

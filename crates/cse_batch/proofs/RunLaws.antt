@@ -1,8 +1,8 @@
 -- What a run knows, run of lines by run of lines.
-use Rattle.std.proofs.Common.{◌≡◌, ℕ, ◌+◌, ◌*◌, ◌^◌, ◌<◌, ◌≤◌, ◌⊎◌, Bool, true, false, List, [], ◌∷◌, ◌++◌, length, Option, None, Some, Ok, Err, cond, refl, ap, sym, ◌∙◌, subst, arith, append_assoc, append-nil, inl, inr}
+use Rattle.std.proofs.Common.{◌≡◌, ◌≢◌, ℕ, ◌+◌, ◌*◌, ◌^◌, ◌<◌, ◌≤◌, ◌⊎◌, Bool, true, false, List, [], ◌∷◌, ◌++◌, length, None, Some, Ok, Err, cond, refl, ap, sym, ◌∙◌, subst, arith, append_assoc, append-nil, inl, inr}
 use Rattle.std.specs.Prelude.{replicate}
-use Rattle.std.specs.Io.KnownBytes.{IsAtEnd}
-use Rattle.std.proofs.KnownBytes.{Consumes-nil}
+use Rattle.cse_value.specs.Device.{FailsOnce, Given, IsAtEnd, IsUnfailing}
+use Rattle.cse_value.proofs.ReadLaws.{Consumes-nil}
 use Rattle.std.proofs.lemmas.Bool.{cases_lt}
 use Rattle.cse_image_parts.specs.declared.entries.EventCode.TheVariants.{ApplicationPreproc}
 use Rattle.cse_lines.specs.declared.error.DataError.{DataError}
@@ -35,7 +35,7 @@ abbrev pub unbegun : Kept → Progress
 unbegun store = record { store = store; reports = []; imputed = []; out = []; lines = 0 }
 
 -- the listing's first line is put
-pub keeps_nothing : (v : VerifiedProgram) (store : Kept) (old new : Reports) (start : Option (List ℕ)) (sound : Bool) (g g' : Going) → old.listing ≡ no_reports v.image.lists.messages → old.frequencies ≡ replicate (length v.image.lists.items) []
+pub keeps_nothing : (v : VerifiedProgram) (store : Kept) (old new : Reports) (start : List ℕ) (sound : Bool) (g g' : Going) → old.listing ≡ no_reports v.image.lists.messages → old.frequencies ≡ replicate (length v.image.lists.items) []
     → Gathering start sound g [] → Puts g g' old.listing.lines → new.listing ≡ flushed old.listing → new.frequencies ≡ old.frequencies → Keeps v (unbegun store) store new start sound g'
 keeps_nothing v store old new start sound g g' none empty nothing puts flush same = record {
   store_is = refl;
@@ -45,7 +45,7 @@ keeps_nothing v store old new start sound g g' none empty nothing puts flush sam
 }
 
 -- and nothing else
-pub one_line : (v : VerifiedProgram) (old : Reports) (start : Option (List ℕ)) (sound : Bool) (g g' g'' : Going) → old.listing ≡ no_reports v.image.lists.messages → Gathering start sound g [] → Puts g g' old.listing.lines → Puts g' g'' []
+pub one_line : (v : VerifiedProgram) (old : Reports) (start : List ℕ) (sound : Bool) (g g' g'' : Going) → old.listing ≡ no_reports v.image.lists.messages → Gathering start sound g [] → Puts g g' old.listing.lines → Puts g' g'' []
     → Gathering start sound g'' first_line
 one_line v old start sound g g' g'' none nothing puts idle =
     let put = subst (λ (l : List ℕ). Gathering start sound g' l) (ap (λ (h : Held). h.lines) none) (puts start sound [] nothing) in
@@ -54,7 +54,7 @@ one_line v old start sound g g' g'' none nothing puts idle =
 -- ---- the runs so far
 
 -- the run is as far as the batch over the runs that were given
-pub record Running (v : VerifiedProgram) (first : Kept) (before now : Option (List ℕ)) (r : ReaderText) (store : Kept) (reports : Reports) (out listing : Device) (totals : Totals) : Type 0 where
+pub record Running (v : VerifiedProgram) (first : Kept) (before now : Given) (r : ReaderText) (store : Kept) (reports : Reports) (out listing : Device) (totals : Totals) : Type 0 where
   pub text : List ℕ
   pub so_far : SoFar before now v.dictionary r text totals
   pub keeps : Keeps v (after_runs v (begun v first) so_far.runs) store reports listing.start listing.sound listing.going
@@ -67,7 +67,7 @@ record IsAsFar (v : VerifiedProgram) (p : Progress) (r : ReaderText) (store : Ke
   written : Has out p.out
   lines : p.lines ≡ r.lines
 
-running : (v : VerifiedProgram) (first : Kept) (before now : Option (List ℕ)) (r : ReaderText) (store : Kept) (reports : Reports) (out listing : Device) (totals : Totals) (text : List ℕ) (s : SoFar before now v.dictionary r text totals)
+running : (v : VerifiedProgram) (first : Kept) (before now : Given) (r : ReaderText) (store : Kept) (reports : Reports) (out listing : Device) (totals : Totals) (text : List ℕ) (s : SoFar before now v.dictionary r text totals)
     (p : Progress) → p ≡ after_runs v (begun v first) s.runs → IsAsFar v p r store reports out listing → Running v first before now r store reports out listing totals
 running v first before now r store reports out listing totals text s p is far =
     let here = subst (λ (q : Progress). IsAsFar v q r store reports out listing) is far in
@@ -86,7 +86,7 @@ unfolding after_run
 run_lines v p run = refl
 
 -- after the application's preproc
-pub running_none : (v : VerifiedProgram) (first : Kept) (now : Option (List ℕ)) (r : ReaderText) (store : Kept) (reports : Reports) (out listing : Device) → IsUnread v r
+pub running_none : (v : VerifiedProgram) (first : Kept) (now : Given) (r : ReaderText) (store : Kept) (reports : Reports) (out listing : Device) → IsUnread v r
     → Keeps v (after_application v ApplicationPreproc (unbegun first)) store reports listing.start listing.sound listing.going → Has out []
     → Running v first now now r store reports out listing (record { cases = 0; lines = 0; unseen = 0 })
 unfolding begun
@@ -95,7 +95,7 @@ running_none v first now r store reports out listing u keeps nothing =
     running v first now now r store reports out listing (record { cases = 0; lines = 0; unseen = 0 }) [] s (begun v first) (ap (after_runs v (begun v first)) (sym (runs-none now v.dictionary r u.dictionary u.nothing_held u.unended u.unread u.front)))
     (record { keeps = keeps; written = subst (Has out) (sym (begun_out v first)) nothing; lines = begun_lines v first ∙ sym u.front })
 
-module _ (v : VerifiedProgram) (first : Kept) (before now after : Option (List ℕ)) (r r' : ReaderText) (store : Kept) (reports : Reports) (out listing : Device) (totals : Totals) (run : Running v first before now r store reports out listing totals) where
+module _ (v : VerifiedProgram) (first : Kept) (before now after : Given) (r r' : ReaderText) (store : Kept) (reports : Reports) (out listing : Device) (totals : Totals) (run : Running v first before now r store reports out listing totals) where
   abbrev at : Progress
   at = after_runs v (begun v first) run.so_far.runs
 
@@ -109,14 +109,14 @@ module _ (v : VerifiedProgram) (first : Kept) (before now after : Option (List �
         (gives before now after v.dictionary r r' run.text totals run.so_far c n).is
         ∙ ap (λ k. case_of v.dictionary (k + 1) lines_of) (sym run.lines)
 
-    pub running_case : (c' : CaseText) (store' : Kept) (mid new : Reports) (g g' : Going) (case : Bool) → Edits v c store reports c' store' mid → Puts out.going g (written_run c'.run)
+    pub running_case : IsUnfailing now after → (c' : CaseText) (store' : Kept) (mid new : Reports) (g g' : Going) (case : Bool) → Edits v c store reports c' store' mid → Puts out.going g (written_run c'.run)
         → Puts listing.going g' mid.listing.lines → new.listing ≡ flushed mid.listing → new.frequencies ≡ mid.frequencies → case ≡ is_case (records_of c) (types_of c.run.lines) → r'.lines ≤ 2 ^ 40 * 65536
         → Running v first before after r' store' new (record { start = out.start; sound = out.sound; going = g }) (record { start = listing.start; sound = listing.sound; going = g' })
         (record { cases = totals.cases + cond case 1 0; lines = totals.lines + length c.run.lines; unseen = totals.unseen + length (unseen_lines c) })
-    running_case c' store' mid new g g' case edits puts lists flush same is few =
-        let s = SoFar-case before now after v.dictionary r r' run.text totals run.so_far c n case is few in
+    running_case works c' store' mid new g g' case edits puts lists flush same is few =
+        let s = SoFar-case before now after v.dictionary r r' run.text totals run.so_far c n works case is few in
         let p' = after_run v at lines_of in
-        let runs_are = runs-case before now after v.dictionary r r' run.text totals run.so_far c n case is few in
+        let runs_are = runs-case before now after v.dictionary r r' run.text totals run.so_far c n works case is few in
         let is_after : p' ≡ after_runs v (begun v first) s.runs = sym (runs_later v (begun v first) run.so_far.runs (lines_of ∷ [])) ∙ ap (after_runs v (begun v first)) (sym runs_are) in
         let written = out_of_case v at lines_of c c' store store' reports mid run.keeps.store_is is_next edits in
         running v first before after r' store' new _ _ _ (run.text ++ written_run c.run) s p' is_after
@@ -127,13 +127,14 @@ module _ (v : VerifiedProgram) (first : Kept) (before now after : Option (List �
         })
 
   -- the end of the input was read
-  pub ran_all : NextCase now after r r' (Ok None) → IsAtEnd after → CasesRan v first before after store reports out listing totals
-  ran_all n end =
+  pub ran_all : NextCase now after r r' (Ok None) → IsUnfailing now after → IsAtEnd after → CasesRan v first before after store reports out listing totals
+  ran_all n works end =
       let d = v.dictionary in
       let is : given d true true run.text ≡ run.so_far.runs = given_all before now after d r r' run.text totals run.so_far n in
       record {
         bytes = run.text;
         reads = reads_all before now after d r r' run.text totals run.so_far n;
+        unfailing = works ∙ run.so_far.unfailing;
         end = end;
         sound = sound_all before now after d r r' run.text totals run.so_far n;
         totals_are = run.so_far.totals_are ∙ ap (totals_of d) (sym is);
@@ -176,8 +177,8 @@ module _ (v : VerifiedProgram) (first : Kept) (before now after : Option (List �
           batch_broken v first bytes r'.ended run.so_far.runs f.unended (none_given f.none)
     ]
 
-    pub halts_fault : (failed : Bool) → (r'.ended ≡ true → IsAtEnd after) → (error.number ≡ 70 → (failed ≡ true) ⊎ (r'.reads ≡ 2 ^ 40)) → Halts v first before after failed out listing fault
-    halts_fault failed end reading =
+    pub halts_fault : (r'.ended ≡ true → IsAtEnd after) → (error.number ≡ 70 → FailsOnce now after ⊎ (r'.reads ≡ 2 ^ 40)) → (error.number ≢ 70 → IsUnfailing now after) → Halts v first before after out listing fault
+    halts_fault end reading sound =
         let e = is_error before now after v.dictionary r r' run.text totals run.so_far error n in
         let front = fronts_stay v first bytes r'.ended run.so_far.runs _ (given_more before now after v.dictionary r r' run.text totals run.so_far error n) in
         record {
@@ -199,15 +200,16 @@ module _ (v : VerifiedProgram) (first : Kept) (before now after : Option (List �
           listing_whole = λ low. listing_stopped all at _ (is_stopped low);
           faulty = λ low. data_fault before now after v.dictionary r r' run.text totals run.so_far error n (e.faulty low);
           needed = λ q. breaks_off before now after v.dictionary r r' run.text totals run.so_far error n (e.needed q);
-          reading = λ q. few_reads before now after v.dictionary r r' run.text totals run.so_far error n failed (reading q);
+          unfailing = λ q. sound q ∙ run.so_far.unfailing;
+          reading = λ q. few_reads before now after v.dictionary r r' run.text totals run.so_far error n (reading q);
           writing = λ q. elim (e.number (omega arith)) [ inl f ↦ absurd (omega arith) | inr f ↦ absurd (omega arith) ];
           other = λ high. elim (e.number high) [ inl f ↦ inl f | inr f ↦ inr (inr f) ];
           no_line = e.line;
         }
 
   -- an output failed after a run of lines was put
-  pub halts_writing : (failed : Bool) → (r.ended ≡ true → IsAtEnd now) → (out.going.gave_up ≡ true) ⊎ (listing.going.gave_up ≡ true) → Halts v first before now failed out listing (record { number = 71; line = 0 })
-  halts_writing failed end gave_up =
+  pub halts_writing : (r.ended ≡ true → IsAtEnd now) → (out.going.gave_up ≡ true) ⊎ (listing.going.gave_up ≡ true) → Halts v first before now out listing (record { number = 71; line = 0 })
+  halts_writing end gave_up =
       let front = fronts_stay v first (run.text ++ held_of r) r.ended run.so_far.runs _ (given_so_far before now v.dictionary r run.text totals run.so_far) in
       record {
         bytes = run.text ++ held_of r;
@@ -228,6 +230,7 @@ module _ (v : VerifiedProgram) (first : Kept) (before now after : Option (List �
         listing_whole = λ low. absurd (omega arith);
         faulty = λ low. absurd (omega arith);
         needed = λ q. absurd (omega arith);
+        unfailing = λ q. run.so_far.unfailing;
         reading = λ q. absurd (omega arith);
         writing = λ q. gave_up;
         other = λ high. inr (inl refl);
@@ -235,17 +238,17 @@ module _ (v : VerifiedProgram) (first : Kept) (before now after : Option (List �
       }
 
   -- memory lacked in a run of lines, of which nothing was put
-  pub halts_memory : (c : CaseText) → NextCase now after r r' (Ok (Some c)) → (failed : Bool) → (r'.ended ≡ true → IsAtEnd after) → r'.lines ≤ 2 ^ 40 * 65536
-      → Halts v first before after failed out listing (record { number = 90; line = 0 })
-  halts_memory c n failed end few =
+  pub halts_memory : (c : CaseText) → NextCase now after r r' (Ok (Some c)) → IsUnfailing now after → (r'.ended ≡ true → IsAtEnd after) → r'.lines ≤ 2 ^ 40 * 65536
+      → Halts v first before after out listing (record { number = 90; line = 0 })
+  halts_memory c n works end few =
       let d = v.dictionary in
-      let s = SoFar-case before now after d r r' run.text totals run.so_far c n (is_case (records_of c) (types_of c.run.lines)) refl few in
+      let s = SoFar-case before now after d r r' run.text totals run.so_far c n works (is_case (records_of c) (types_of c.run.lines)) refl few in
       let bytes = (run.text ++ written_run c.run) ++ held_of r' in
       let lines = lines_of c n in
       let rest = given d (is_front r') r'.ended (held_of r') in
       let is : given d true r'.ended bytes ≡ run.so_far.runs ++ lines ∷ rest =
       given_so_far before after d r' (run.text ++ written_run c.run) _ s
-      ∙ (ap (λ (rs : List (List FileLine)). rs ++ rest) (runs-case before now after d r r' run.text totals run.so_far c n (is_case (records_of c) (types_of c.run.lines)) refl few)
+      ∙ (ap (λ (rs : List (List FileLine)). rs ++ rest) (runs-case before now after d r r' run.text totals run.so_far c n works (is_case (records_of c) (types_of c.run.lines)) refl few)
       ∙ append_assoc run.so_far.runs (lines ∷ []) rest) in
       let front = fronts_stay v first bytes r'.ended run.so_far.runs (lines ∷ rest) is in
       record {
@@ -267,6 +270,7 @@ module _ (v : VerifiedProgram) (first : Kept) (before now after : Option (List �
         listing_whole = λ low. absurd (omega arith);
         faulty = λ low. absurd (omega arith);
         needed = λ q. absurd (omega arith);
+        unfailing = λ q. s.unfailing;
         reading = λ q. absurd (omega arith);
         writing = λ q. absurd (omega arith);
         other = λ high. inr (inr refl);
@@ -274,9 +278,9 @@ module _ (v : VerifiedProgram) (first : Kept) (before now after : Option (List �
       }
 
 -- memory lacked before the first line was read: only the listing's first line was put
-pub halts_at_once : (v : VerifiedProgram) (first : Kept) (now : Option (List ℕ)) (failed : Bool) (out listing : Device) → Has out [] → Has listing first_line
-    → Halts v first now now failed out listing (record { number = 90; line = 0 })
-halts_at_once v first now failed out listing nothing one =
+pub halts_at_once : (v : VerifiedProgram) (first : Kept) (now : Given) (out listing : Device) → Has out [] → Has listing first_line
+    → Halts v first now now out listing (record { number = 90; line = 0 })
+halts_at_once v first now out listing nothing one =
     let front = fronts_stay v first [] false [] _ refl in
     record {
       bytes = [];
@@ -297,6 +301,7 @@ halts_at_once v first now failed out listing nothing one =
       listing_whole = λ low. absurd (omega arith);
       faulty = λ low. absurd (omega arith);
       needed = λ q. absurd (omega arith);
+      unfailing = λ q. refl;
       reading = λ q. absurd (omega arith);
       writing = λ q. absurd (omega arith);
       other = λ high. inr (inr refl);

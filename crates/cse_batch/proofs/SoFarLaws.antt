@@ -1,8 +1,8 @@
 -- What is known of a data file, run of lines by run of lines.
 use Rattle.std.proofs.Common.{◌≡◌, ℕ, ◌+◌, ◌*◌, ◌^◌, ◌<◌, ◌≤◌, ◌⊎◌, Bool, true, false, List, [], ◌∷◌, ◌++◌, length, Option, None, Some, Ok, Err, Result, cond, refl, ap, sym, ◌∙◌, subst, arith, append_assoc, append-nil, length-append, add_assoc, zero-add, inl, inr}
 use Rattle.std.specs.Prelude.{sum_by, count_by}
-use Rattle.std.specs.Io.KnownBytes.{Consumes}
-use Rattle.std.proofs.KnownBytes.{Consumes-trans, Consumes-nil}
+use Rattle.cse_value.specs.Device.{Consumes, FailsOnce, Given, IsUnfailing}
+use Rattle.cse_value.proofs.ReadLaws.{Consumes-trans, Consumes-nil, Fails-after}
 use Rattle.std.proofs.lemmas.List.{length-map}
 use Rattle.std.proofs.lemmas.List.Sums.{sum_by-append}
 use Rattle.std.proofs.lemmas.Bool.{eq-eqb, false≢true, ne_eqb}
@@ -27,10 +27,11 @@ use Rattle.cse_batch.specs.Totals.{is_case_run, unseen_in, totals_of}
 use Rattle.cse_batch.specs.DataFaults.{BreaksOff, IsDataFault}
 
 -- the runs so far: their bytes, and that the rest is given of what is held and may follow
-pub record SoFar (before now : Option (List ℕ)) (d : DictionaryText) (r : ReaderText) (text : List ℕ) (totals : Totals) : Type 0 where
+pub record SoFar (before now : Given) (d : DictionaryText) (r : ReaderText) (text : List ℕ) (totals : Totals) : Type 0 where
   pub runs : List (List FileLine)
   pub dictionary : r.dictionary ≡ d
   pub reads : Consumes before now (text ++ held_of r)
+  pub unfailing : IsUnfailing before now
   pub counted : r.reads ≤ length (text ++ held_of r)
   pub totals_are : totals ≡ totals_of d runs
   pub lines_are : totals.lines ≡ r.lines
@@ -57,7 +58,7 @@ unfolding fault_in lines_in
 nothing_faulty d front = refl
 
 -- nothing was read
-pub SoFar-none : (now : Option (List ℕ)) (d : DictionaryText) (r : ReaderText) → r.dictionary ≡ d → held_of r ≡ [] → r.ended ≡ false → r.reads ≡ 0 → r.lines ≡ 0
+pub SoFar-none : (now : Given) (d : DictionaryText) (r : ReaderText) → r.dictionary ≡ d → held_of r ≡ [] → r.ended ≡ false → r.reads ≡ 0 → r.lines ≡ 0
     → SoFar now now d r [] (record { cases = 0; lines = 0; unseen = 0 })
 SoFar-none now d r same none unended unread front =
     let first : is_front r ≡ true = eq-eqb r.lines 0 front in
@@ -65,6 +66,7 @@ SoFar-none now d r same none unended unread front =
       runs = [];
       dictionary = same;
       reads = rw none (Consumes-nil now);
+      unfailing = refl;
       counted = omega arith;
       totals_are = refl;
       lines_are = sym front;
@@ -75,7 +77,7 @@ SoFar-none now d r same none unended unread front =
       fault = λ later more h. ap (λ f. fault_in d f later (held_of r ++ more)) (sym first) ∙ (sym (later_by-none (fault_in d (is_front r) later (held_of r ++ more))) ∙ ap (λ n. later_by n (fault_in d (is_front r) later (held_of r ++ more))) (sym front));
     }
 
-pub runs-none : (now : Option (List ℕ)) (d : DictionaryText) (r : ReaderText) (same : r.dictionary ≡ d) (none : held_of r ≡ []) (unended : r.ended ≡ false) (unread : r.reads ≡ 0) (front : r.lines ≡ 0)
+pub runs-none : (now : Given) (d : DictionaryText) (r : ReaderText) (same : r.dictionary ≡ d) (none : held_of r ≡ []) (unended : r.ended ≡ false) (unread : r.reads ≡ 0) (front : r.lines ≡ 0)
     → (SoFar-none now d r same none unended unread front).runs ≡ []
 unfolding SoFar-none
 runs-none now d r same none unended unread front = refl
@@ -102,7 +104,7 @@ at_most_one true = omega arith
 at_most_one false = omega arith
 
 -- the runs that are given of all that was read
-pub given_so_far : (before now : Option (List ℕ)) (d : DictionaryText) (r : ReaderText) (text : List ℕ) (totals : Totals) (s : SoFar before now d r text totals)
+pub given_so_far : (before now : Given) (d : DictionaryText) (r : ReaderText) (text : List ℕ) (totals : Totals) (s : SoFar before now d r text totals)
     → given d true r.ended (text ++ held_of r) ≡ s.runs ++ given d (is_front r) r.ended (held_of r)
 given_so_far before now d r text totals s =
     ap (given d true r.ended) (sym (append-nil (text ++ held_of r))) ∙ (s.goes_on r.ended [] (λ e. (e, refl)) ∙ ap (λ l. s.runs ++ given d (is_front r) r.ended l) (append-nil (held_of r)))
@@ -114,7 +116,7 @@ may_follow ended ended' later taken more stays h = λ e.
     let f = h (s.1) in
     (f.0, ap (λ l. l ++ more) (s.0) ∙ f.1)
 
-module _ (before now after : Option (List ℕ)) (d : DictionaryText) (r r' : ReaderText) (text : List ℕ) (totals : Totals) (s : SoFar before now d r text totals) where
+module _ (before now after : Given) (d : DictionaryText) (r r' : ReaderText) (text : List ℕ) (totals : Totals) (s : SoFar before now d r text totals) where
   module _ (c : CaseText) (n : NextCase now after r r' (Ok (Some c))) where
     pub gives : GivesCase d (held_of r ++ n.taken) (held_of r') (is_front r) r'.ended (r.lines + 1) c
     gives = subst (λ (x : DictionaryText). GivesCase x (held_of r ++ n.taken) (held_of r') (is_front r) r'.ended (r.lines + 1) c) s.dictionary n.answers
@@ -152,15 +154,16 @@ module _ (before now after : Option (List ℕ)) (d : DictionaryText) (r r' : Rea
     behind = ne_eqb r'.lines 0 (λ e. absurd (omega (arith, lines_now, gives.run.some)))
 
     -- a case more was read
-    pub SoFar-case : (case : Bool) → case ≡ is_case (records_of c) (types_of c.run.lines) → r'.lines ≤ 2 ^ 40 * 65536
+    pub SoFar-case : IsUnfailing now after → (case : Bool) → case ≡ is_case (records_of c) (types_of c.run.lines) → r'.lines ≤ 2 ^ 40 * 65536
         → SoFar before after d r' (text ++ written_run c.run) (record { cases = totals.cases + cond case 1 0; lines = totals.lines + length c.run.lines; unseen = totals.unseen + length (unseen_lines c) })
-    SoFar-case case is few =
+    SoFar-case works case is few =
         let more = totals_more d s.runs gives.run.lines case (length c.run.lines) (length (unseen_lines c)) (is ∙ is_case_is) run_lines unseen_is in
         let one : cond case 1 0 ≤ 1 = at_most_one case in
         record {
           runs = s.runs ++ gives.run.lines ∷ [];
           dictionary = n.dictionary ∙ s.dictionary;
           reads = subst (Consumes before after) shift (Consumes-trans before now after (text ++ held_of r) n.taken s.reads n.consumes);
+          unfailing = works ∙ s.unfailing;
           counted = omega (arith, s.counted, n.counted, ap length shift, length-append (text ++ held_of r) n.taken);
           totals_are = ap (λ (t : Totals). record { cases = t.cases + cond case 1 0; lines = t.lines + length c.run.lines; unseen = t.unseen + length (unseen_lines c) }) s.totals_are ∙ sym more;
           lines_are = omega (arith, s.lines_are, lines_now, run_lines);
@@ -186,9 +189,9 @@ module _ (before now after : Option (List ℕ)) (d : DictionaryText) (r r' : Rea
         }
 
     -- its run comes behind the others
-    pub runs-case : (case : Bool) (is : case ≡ is_case (records_of c) (types_of c.run.lines)) (few : r'.lines ≤ 2 ^ 40 * 65536) → (SoFar-case case is few).runs ≡ s.runs ++ gives.run.lines ∷ []
+    pub runs-case : (works : IsUnfailing now after) (case : Bool) (is : case ≡ is_case (records_of c) (types_of c.run.lines)) (few : r'.lines ≤ 2 ^ 40 * 65536) → (SoFar-case works case is few).runs ≡ s.runs ++ gives.run.lines ∷ []
     unfolding SoFar-case
-    runs-case case is few = refl
+    runs-case works case is few = refl
 
   module _ (n : NextCase now after r r' (Ok None)) where
     all : (text ++ held_of r) ++ n.taken ≡ text
@@ -237,21 +240,21 @@ module _ (before now after : Option (List ℕ)) (d : DictionaryText) (r r' : Rea
     pub reads_more : Consumes before after (text ++ (held_of r ++ n.taken))
     reads_more = subst (Consumes before after) whole (Consumes-trans before now after (text ++ held_of r) n.taken s.reads n.consumes)
 
-    pub few_reads : (failed : Bool) → (failed ≡ true) ⊎ (r'.reads ≡ 2 ^ 40) → (failed ≡ true) ⊎ (2 ^ 40 ≤ length (text ++ (held_of r ++ n.taken)))
-    few_reads failed (inl f) = inl f
-    few_reads failed (inr f) = inr (omega (arith, s.counted, n.counted, ap length whole, length-append (text ++ held_of r) n.taken))
+    pub few_reads : FailsOnce now after ⊎ (r'.reads ≡ 2 ^ 40) → FailsOnce before after ⊎ (2 ^ 40 ≤ length (text ++ (held_of r ++ n.taken)))
+    few_reads (inl f) = inl (Fails-after before now after s.unfailing f)
+    few_reads (inr f) = inr (omega (arith, s.counted, n.counted, ap length whole, length-append (text ++ held_of r) n.taken))
 
 -- all of the text was written, or a front of it
-pub front_of : (r : Result (Unit {0}) Failed) (a b : Option (List ℕ)) (text : List ℕ) → WritesAll r a b text → AppendsFront a b text
+pub front_of : (r : Result (Unit {0}) Failed) (a b : List ℕ) (text : List ℕ) → WritesAll r a b text → AppendsFront a b text
 front_of (Ok x) a b text w = record { written = text; rest = []; is = sym (append-nil text); appends = w }
 front_of (Err e) a b text w = w
 
 -- and all of it where the device hasn't failed
-pub all_of : (r : Result (Unit {0}) Failed) (a b : Option (List ℕ)) (text : List ℕ) (sound failed : Bool) → (w : WritesAll r a b text) → FailsAtErr r sound failed → failed ≡ false → (front_of r a b text w).rest ≡ []
+pub all_of : (r : Result (Unit {0}) Failed) (a b : List ℕ) (text : List ℕ) (sound failed : Bool) → (w : WritesAll r a b text) → FailsAtErr r sound failed → failed ≡ false → (front_of r a b text w).rest ≡ []
 unfolding front_of
 all_of (Ok x) a b text sound failed w f e = refl
 all_of (Err x) a b text sound failed w f e = absurd (false≢true (sym e ∙ f))
 
 -- once it was given up, a front was written and the device has failed
-pub gave_up : (start : Option (List ℕ)) (sound : Bool) (g : Going) (text : List ℕ) → g.gave_up ≡ true → Gathering start sound g text → GaveUp start g text
+pub gave_up : (start : List ℕ) (sound : Bool) (g : Going) (text : List ℕ) → g.gave_up ≡ true → Gathering start sound g text → GaveUp start g text
 gave_up start sound g text e h = MatchBool-at_true (GaveUp start g text) (Gathered start sound g text) e h

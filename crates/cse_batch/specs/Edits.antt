@@ -1,5 +1,5 @@
 -- What a run of lines comes to, and an event of the application.
-use Rattle.std.specs.Prelude.{◌≡◌, ℕ, Bool, List, Option, Some}
+use Rattle.std.specs.Prelude.{◌≡◌, ℕ, Bool, List, Some}
 use Rattle.cse_image_parts.specs.declared.entries.EventCode.{EventCode}
 use Rattle.cse_case.specs.Case.{CaseText}
 use Rattle.cse_code_bounds.specs.CaseEvents.{moment}
@@ -28,7 +28,7 @@ pub record Applies (v : VerifiedProgram) (code : EventCode) (store : Kept) (old 
   pub frequencies : new.frequencies ≡ all_imputed old.frequencies (after_moment v (without_case store) (moment code 0 0)).told.imputed
 
 -- What a batch keeps that has come so far: its store and its tables, and its reports, whose lines were all put before the listing.
-pub record Keeps (v : VerifiedProgram) (p : Progress) (store : Kept) (reports : Reports) (start : Option (List ℕ)) (sound : Bool) (g : Going) : Type 0 where
+pub record Keeps (v : VerifiedProgram) (p : Progress) (store : Kept) (reports : Reports) (start : List ℕ) (sound : Bool) (g : Going) : Type 0 where
   pub store_is : store ≡ p.store
   pub listing : reports.listing ≡ flushed (all_reported (no_reports v.image.lists.messages) p.reports)
   pub frequencies : reports.frequencies ≡ tables_of v p.imputed

@@ -1,6 +1,6 @@
 -- What a run answers, by the batch over the bytes that it read.
-use Rattle.std.specs.Prelude.{◌≡◌, ◌≤◌, ◌<◌, ◌^◌, ◌⊎◌, ℕ, Bool, true, false, List, ◌++◌, length, Option, None}
-use Rattle.std.specs.Io.KnownBytes.{Consumes, Appends, IsAtEnd}
+use Rattle.std.specs.Prelude.{◌≡◌, ◌≢◌, ◌≤◌, ◌<◌, ◌^◌, ◌⊎◌, ℕ, Bool, true, false, List, ◌++◌, length, None}
+use Rattle.cse_value.specs.Device.{Consumes, Appends, IsAtEnd, Given, FailsOnce, IsUnfailing}
 use Rattle.cse_value.specs.Writing.{AppendsFront}
 use Rattle.cse_lines.specs.Line.{FileLine}
 use Rattle.cse_lines.specs.Runs.{given, fault_in}
@@ -11,14 +11,14 @@ use Rattle.cse_batch.specs.declared.totals.RunFault.{RunFault}
 use Rattle.cse_batch.specs.DataFaults.{BreaksOff, IsDataFault}
 use Rattle.cse_batch.specs.Batch.{Batch, after_runs, batch, begun}
 
--- the bytes that the four outputs hold, where they are known
+-- the bytes that the four outputs took
 pub record Contents : Type 0 where
-  pub out : Option (List ℕ)
-  pub listing : Option (List ℕ)
-  pub frequencies : Option (List ℕ)
-  pub decks : Option (List ℕ)
+  pub out : List ℕ
+  pub listing : List ℕ
+  pub frequencies : List ℕ
+  pub decks : List ℕ
 
-abbrev pub contents : Option (List ℕ) → Option (List ℕ) → Option (List ℕ) → Option (List ℕ) → Contents
+abbrev pub contents : List ℕ → List ℕ → List ℕ → List ℕ → Contents
 contents out listing frequencies decks = record { out = out; listing = listing; frequencies = frequencies; decks = decks }
 
 -- whether they have failed
@@ -49,29 +49,29 @@ pub record GivesFronts (old new : Contents) (b : Batch) : Type 0 where
   pub frequencies : AppendsFront old.frequencies new.frequencies b.frequencies
   pub decks : AppendsFront old.decks new.decks b.decks
 
--- The input was read to its end and no line of it is faulty. The outputs were given the texts of the batch over what was read and nothing else, and the
--- totals are its totals.
-pub record RunsWhole (v : VerifiedProgram) (store : Kept) (before after : Option (List ℕ)) (old new : Contents) (totals : Totals) : Type 0 where
+-- The input was read to its end, no read of it failed, and no line of it is faulty. The outputs were given the texts of the batch over what was read and
+-- nothing else, and the totals are its totals.
+pub record RunsWhole (v : VerifiedProgram) (store : Kept) (before after : Given) (old new : Contents) (totals : Totals) : Type 0 where
   pub bytes : List ℕ
   pub reads : Consumes before after bytes
+  pub unfailing : IsUnfailing before after
   pub end : IsAtEnd after
   pub sound : fault_in v.dictionary true true bytes ≡ None
   pub texts : GivesTexts old new (batch v store bytes true)
   pub totals_are : totals ≡ (batch v store bytes true).totals
 
 -- The lines of whole runs were written, as their events leave them.
-pub record WritesRuns (v : VerifiedProgram) (store : Kept) (bytes : List ℕ) (ended : Bool) (old new : Option (List ℕ)) : Type 0 where
+pub record WritesRuns (v : VerifiedProgram) (store : Kept) (bytes : List ℕ) (ended : Bool) (old new : List ℕ) : Type 0 where
   pub runs : List (List FileLine)
   pub more : List (List FileLine)
   pub given_are : given v.dictionary true ended bytes ≡ runs ++ more
   pub appends : Appends old new (after_runs v (begun v store) runs).out
 
 -- Each output was given a front of its text in the batch over what was read. The mark says whether the end of the input was read. A fault below 70 is that
--- of the first faulty line. 70 comes only where what was read breaks off without a faulty line, and the input has failed or 2^40 bytes were read. After
--- these the written lines and the listing are whole, each unless its output has failed; and after any fault whole runs were written, unless that
--- output has failed. 71 comes only where an output has failed, and the only other
--- fault is 90. From 70 on there is no line.
-pub record RunStops (v : VerifiedProgram) (store : Kept) (before after : Option (List ℕ)) (old new : Contents) (input_failed : Bool) (failed : Failures) (fault : RunFault) : Type 0 where
+-- of the first faulty line. 70 comes only where what was read breaks off without a faulty line, and one read failed or 2^40 bytes were read; beside another
+-- fault no read failed. Up to 70 the written lines and the listing are whole, each unless its output has failed; and after any fault whole runs were written,
+-- unless that output has failed. 71 comes only where an output has failed, and the only other fault is 90. From 70 on there is no line.
+pub record RunStops (v : VerifiedProgram) (store : Kept) (before after : Given) (old new : Contents) (failed : Failures) (fault : RunFault) : Type 0 where
   pub bytes : List ℕ
   pub ended : Bool
   pub reads : Consumes before after bytes
@@ -82,7 +82,8 @@ pub record RunStops (v : VerifiedProgram) (store : Kept) (before after : Option 
   pub out_whole : fault.number < 71 → failed.out ≡ false → Appends old.out new.out (batch v store bytes ended).out
   pub listing_whole : fault.number < 71 → failed.listing ≡ false → Appends old.listing new.listing (batch v store bytes ended).listing
   pub out_runs : failed.out ≡ false → WritesRuns v store bytes ended old.out new.out
-  pub reading : fault.number ≡ 70 → (input_failed ≡ true) ⊎ (2 ^ 40 ≤ length bytes)
+  pub unfailing : fault.number ≢ 70 → IsUnfailing before after
+  pub reading : fault.number ≡ 70 → FailsOnce before after ⊎ (2 ^ 40 ≤ length bytes)
   pub writing : fault.number ≡ 71 → HasFailure failed
   pub other : 70 ≤ fault.number → (fault.number ≡ 70) ⊎ ((fault.number ≡ 71) ⊎ (fault.number ≡ 90))
   pub no_line : 70 ≤ fault.number → fault.line ≡ 0

@@ -1,6 +1,6 @@
 -- How far a run is, before its outputs are closed.
-use Rattle.std.specs.Prelude.{◌≡◌, ◌≤◌, ◌<◌, ◌^◌, ◌⊎◌, ℕ, Bool, true, false, List, [], ◌++◌, length, replicate, Option, None}
-use Rattle.std.specs.Io.KnownBytes.{Consumes, IsAtEnd}
+use Rattle.std.specs.Prelude.{◌≡◌, ◌≢◌, ◌≤◌, ◌<◌, ◌^◌, ◌⊎◌, ℕ, Bool, true, false, List, [], ◌++◌, length, replicate, None}
+use Rattle.cse_value.specs.Device.{Consumes, IsAtEnd, Given, FailsOnce, IsUnfailing}
 use Rattle.cse_lines.specs.Line.{FileLine}
 use Rattle.cse_lines.specs.Runs.{given, fault_in}
 use Rattle.cse_lines.specs.Reader.{ReaderText, held_of}
@@ -41,11 +41,11 @@ pub record IsFresh (waiting : List ℕ) (gave_up : Bool) : Type 0 where
 
 -- where an output stood, whether it had failed, and how far it is
 pub record Device : Type 0 where
-  pub start : Option (List ℕ)
+  pub start : List ℕ
   pub sound : Bool
   pub going : Going
 
-abbrev pub device : Option (List ℕ) → Bool → Going → Device
+abbrev pub device : List ℕ → Bool → Going → Device
 device start sound going = record { start = start; sound = sound; going = going }
 
 -- these bytes were put
@@ -53,9 +53,10 @@ abbrev pub Has : Device → List ℕ → Type 0
 Has o text = Gathering o.start o.sound o.going text
 
 -- All was read, no line of it is faulty, and the run is as far as the batch over it is after its last run of lines.
-pub record CasesRan (v : VerifiedProgram) (first : Kept) (before after : Option (List ℕ)) (store : Kept) (reports : Reports) (out listing : Device) (totals : Totals) : Type 0 where
+pub record CasesRan (v : VerifiedProgram) (first : Kept) (before after : Given) (store : Kept) (reports : Reports) (out listing : Device) (totals : Totals) : Type 0 where
   pub bytes : List ℕ
   pub reads : Consumes before after bytes
+  pub unfailing : IsUnfailing before after
   pub end : IsAtEnd after
   pub sound : fault_in v.dictionary true true bytes ≡ None
   pub totals_are : totals ≡ totals_of v.dictionary (given v.dictionary true true bytes)
@@ -63,7 +64,7 @@ pub record CasesRan (v : VerifiedProgram) (first : Kept) (before after : Option 
   pub written : Has out (after_runs v (begun v first) (given v.dictionary true true bytes)).out
 
 -- It was stopped: the lines of some runs were put, and fronts of the texts of the batch over what was read, and all of them after a fault of the data, and after 70.
-pub record Halts (v : VerifiedProgram) (first : Kept) (before after : Option (List ℕ)) (input_failed : Bool) (out listing : Device) (fault : RunFault) : Type 0 where
+pub record Halts (v : VerifiedProgram) (first : Kept) (before after : Given) (out listing : Device) (fault : RunFault) : Type 0 where
   pub bytes : List ℕ
   pub ended : Bool
   pub reads : Consumes before after bytes
@@ -82,15 +83,17 @@ pub record Halts (v : VerifiedProgram) (first : Kept) (before after : Option (Li
   pub listing_whole : fault.number < 71 → listed ≡ (batch v first bytes ended).listing
   pub faulty : fault.number < 70 → IsDataFault v.dictionary ended bytes fault
   pub needed : fault.number ≡ 70 → BreaksOff v.dictionary ended bytes
-  pub reading : fault.number ≡ 70 → (input_failed ≡ true) ⊎ (2 ^ 40 ≤ length bytes)
+  pub unfailing : fault.number ≢ 70 → IsUnfailing before after
+  pub reading : fault.number ≡ 70 → FailsOnce before after ⊎ (2 ^ 40 ≤ length bytes)
   pub writing : fault.number ≡ 71 → (out.going.gave_up ≡ true) ⊎ (listing.going.gave_up ≡ true)
   pub other : 70 ≤ fault.number → (fault.number ≡ 70) ⊎ ((fault.number ≡ 71) ⊎ (fault.number ≡ 90))
   pub no_line : 70 ≤ fault.number → fault.line ≡ 0
 
 -- All ran: the written lines are those of the batch over what was read, and what is listed, counted and kept makes up its other texts.
-pub record Ran (v : VerifiedProgram) (first : Kept) (before after : Option (List ℕ)) (store : Kept) (reports : Reports) (out listing : Device) (totals : Totals) : Type 0 where
+pub record Ran (v : VerifiedProgram) (first : Kept) (before after : Given) (store : Kept) (reports : Reports) (out listing : Device) (totals : Totals) : Type 0 where
   pub bytes : List ℕ
   pub reads : Consumes before after bytes
+  pub unfailing : IsUnfailing before after
   pub end : IsAtEnd after
   pub sound : fault_in v.dictionary true true bytes ≡ None
   pub totals_are : totals ≡ (batch v first bytes true).totals

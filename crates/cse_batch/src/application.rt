@@ -1,7 +1,7 @@
 //! The events of the application, which stand around the cases.
 
-ghost use Rattle.std.specs.Prelude.{◌≡◌, ℕ, Bool, List, [], Option, OnOk, OnErr, true};
-ghost use Rattle.cse_output.specs.Gathering.{going, Puts};
+ghost use Rattle.std.specs.Prelude.{◌≡◌, ℕ, Bool, List, [], OnOk, OnErr, true};
+ghost use Rattle.cse_output.specs.Gathering.{behind, Puts};
 ghost use Rattle.cse_decks.specs.Store.{StoreFits};
 ghost use Rattle.cse_report.specs.Reports.{ReportsFit};
 ghost use Rattle.cse_steps.specs.Fits.{is_of_run};
@@ -55,9 +55,9 @@ pub(crate) fn apply<C: Code, M: Runs, L: Output>(
     requires store { StoreFits verified.now.image store.old }
     requires reports { ReportsFit verified.now.image reports.old }
     ensures same { M.program machine.new ≡ verified.now }
-    ensures keeps { OnOk result ((p : Progress) (start : Option (List ℕ)) (sound : Bool) → Keeps verified.now p store.old reports.old start sound (going (L.contents listing.old) (L.has_failed listing.old) gatherer.old.waiting.items gatherer.old.gave_up)
-        → Keeps verified.now (after_application verified.now code p) store.new reports.new start sound (going (L.contents listing.new) (L.has_failed listing.new) gatherer.new.waiting.items gatherer.new.gave_up)) }
-    ensures err { OnErr result (Puts (going (L.contents listing.old) (L.has_failed listing.old) gatherer.old.waiting.items gatherer.old.gave_up) (going (L.contents listing.new) (L.has_failed listing.new) gatherer.new.waiting.items gatherer.new.gave_up) []) }
+    ensures keeps { OnOk result ((p : Progress) (start : List ℕ) (sound : Bool) → Keeps verified.now p store.old reports.old start sound (behind L.taken L.has_failed listing.old gatherer.old)
+        → Keeps verified.now (after_application verified.now code p) store.new reports.new start sound (behind L.taken L.has_failed listing.new gatherer.new)) }
+    ensures err { OnErr result (Puts (behind L.taken L.has_failed listing.old gatherer.old) (behind L.taken L.has_failed listing.new gatherer.new) []) }
     ensures store_fits { OnOk result (StoreFits verified.now.image store.new) }
     ensures reports_fit { ReportsFit verified.now.image reports.new }
 {

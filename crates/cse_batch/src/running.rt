@@ -2,13 +2,14 @@
 
 ghost use Rattle.std.specs.Prelude.{◌≡◌, IfOk, IfErr, OnOk};
 ghost use Rattle.cse_decks.specs.Store.{StoreFits};
-ghost use Rattle.cse_output.specs.Gathering.{going};
+ghost use Rattle.cse_output.specs.Gathering.{behind};
 ghost use Rattle.cse_report.specs.Reports.{ReportsFit};
 ghost use Rattle.cse_batch.specs.Handled.{AreHandled};
 ghost use Rattle.cse_batch.specs.RunClauses.{RunStops, RunsWhole, contents, failures};
 ghost use Rattle.cse_batch.specs.RunState.{CasesRan, Halts, IsFresh, IsUnread, IsUnreported, Ran, device};
 
 use crate::application::apply;
+use crate::beside::put_beside;
 use crate::cases::edit;
 use crate::handled::{HandledEvents, handled_events};
 use crate::machine::Runs;
@@ -59,12 +60,12 @@ pub(crate) fn run_cases<C: Code, M: Runs, R: Input, O: Output, L: Output>(
     requires listed { IsFresh listed.old.waiting.items listed.old.gave_up }
     ensures same_reference { reader.new.input.ghost_name ≡ reader.old.input.ghost_name }
     ensures same { M.program machine.new ≡ verified.now }
-    ensures ok { IfOk result (λ totals. CasesRan verified.now store.old (R.remaining reader.old.input.now) (R.remaining reader.new.input.now) store.new reports.new
-        (device (O.contents out.old) (O.has_failed out.old) (going (O.contents out.new) (O.has_failed out.new) written.new.waiting.items written.new.gave_up))
-        (device (L.contents listing.old) (L.has_failed listing.old) (going (L.contents listing.new) (L.has_failed listing.new) listed.new.waiting.items listed.new.gave_up)) totals) }
-    ensures err { IfErr result (λ fault. Halts verified.now store.old (R.remaining reader.old.input.now) (R.remaining reader.new.input.now) (R.has_failed reader.new.input.now)
-        (device (O.contents out.old) (O.has_failed out.old) (going (O.contents out.new) (O.has_failed out.new) written.new.waiting.items written.new.gave_up))
-        (device (L.contents listing.old) (L.has_failed listing.old) (going (L.contents listing.new) (L.has_failed listing.new) listed.new.waiting.items listed.new.gave_up)) fault) }
+    ensures ok { IfOk result (λ totals. CasesRan verified.now store.old (R.given reader.old.input.now) (R.given reader.new.input.now) store.new reports.new
+        (device (O.taken out.old) (O.has_failed out.old) (behind O.taken O.has_failed out.new written.new))
+        (device (L.taken listing.old) (L.has_failed listing.old) (behind L.taken L.has_failed listing.new listed.new)) totals) }
+    ensures err { IfErr result (λ fault. Halts verified.now store.old (R.given reader.old.input.now) (R.given reader.new.input.now)
+        (device (O.taken out.old) (O.has_failed out.old) (behind O.taken O.has_failed out.new written.new))
+        (device (L.taken listing.old) (L.has_failed listing.old) (behind L.taken L.has_failed listing.new listed.new)) fault) }
     ensures store_fits { OnOk result (StoreFits verified.now.image store.new) }
     ensures reports_fit { ReportsFit verified.now.image reports.new }
 {
@@ -90,8 +91,10 @@ pub(crate) fn run_cases<C: Code, M: Runs, R: Input, O: Output, L: Output>(
                 let Ok(()) = edit(verified, machine, &mut case, store, reports, handled) else {
                     return Err(MEMORY_FAULT);
                 };
+                let waited = written.waiting.len();
                 case.put_to(written, out);
-                reports.listing.put_to(listed, listing);
+                let are_written = written.waiting.len() < waited;
+                put_beside(&mut reports.listing, are_written, listed, listing);
                 if written.gave_up || listed.gave_up {
                     return Err(WRITE_FAULT);
                 }
@@ -128,12 +131,12 @@ fn run_events<C: Code, M: Runs, R: Input, O: Output, L: Output>(
     requires listed { IsFresh listed.old.waiting.items listed.old.gave_up }
     ensures same_reference { reader.new.input.ghost_name ≡ reader.old.input.ghost_name }
     ensures same { M.program machine.new ≡ verified.now }
-    ensures ok { IfOk result (λ totals. Ran verified.now store.old (R.remaining reader.old.input.now) (R.remaining reader.new.input.now) store.new reports.new
-        (device (O.contents out.old) (O.has_failed out.old) (going (O.contents out.new) (O.has_failed out.new) written.new.waiting.items written.new.gave_up))
-        (device (L.contents listing.old) (L.has_failed listing.old) (going (L.contents listing.new) (L.has_failed listing.new) listed.new.waiting.items listed.new.gave_up)) totals) }
-    ensures err { IfErr result (λ fault. Halts verified.now store.old (R.remaining reader.old.input.now) (R.remaining reader.new.input.now) (R.has_failed reader.new.input.now)
-        (device (O.contents out.old) (O.has_failed out.old) (going (O.contents out.new) (O.has_failed out.new) written.new.waiting.items written.new.gave_up))
-        (device (L.contents listing.old) (L.has_failed listing.old) (going (L.contents listing.new) (L.has_failed listing.new) listed.new.waiting.items listed.new.gave_up)) fault) }
+    ensures ok { IfOk result (λ totals. Ran verified.now store.old (R.given reader.old.input.now) (R.given reader.new.input.now) store.new reports.new
+        (device (O.taken out.old) (O.has_failed out.old) (behind O.taken O.has_failed out.new written.new))
+        (device (L.taken listing.old) (L.has_failed listing.old) (behind L.taken L.has_failed listing.new listed.new)) totals) }
+    ensures err { IfErr result (λ fault. Halts verified.now store.old (R.given reader.old.input.now) (R.given reader.new.input.now)
+        (device (O.taken out.old) (O.has_failed out.old) (behind O.taken O.has_failed out.new written.new))
+        (device (L.taken listing.old) (L.has_failed listing.old) (behind L.taken L.has_failed listing.new listed.new)) fault) }
     ensures store_fits { OnOk result (StoreFits verified.now.image store.new) }
     ensures reports_fit { ReportsFit verified.now.image reports.new }
 {
@@ -168,11 +171,11 @@ fn run_reader<C: Code, M: Runs, R: Input, O: Output, L: Output, F: Output, D: Ou
     requires unreported { IsUnreported verified.now reports.old }
     ensures same_reference { reader.new.input.ghost_name ≡ reader.old.input.ghost_name }
     ensures same { M.program machine.new ≡ verified.now }
-    ensures ok { IfOk result (λ totals. RunsWhole verified.now store.old (R.remaining reader.old.input.now) (R.remaining reader.new.input.now)
-        (contents (O.contents out.old) (L.contents listing.old) (F.contents frequencies.old) (D.contents decks.old)) (contents (O.contents out.new) (L.contents listing.new) (F.contents frequencies.new) (D.contents decks.new)) totals) }
-    ensures err { IfErr result (λ fault. RunStops verified.now store.old (R.remaining reader.old.input.now) (R.remaining reader.new.input.now)
-        (contents (O.contents out.old) (L.contents listing.old) (F.contents frequencies.old) (D.contents decks.old)) (contents (O.contents out.new) (L.contents listing.new) (F.contents frequencies.new) (D.contents decks.new))
-        (R.has_failed reader.new.input.now) (failures (O.has_failed out.new) (L.has_failed listing.new) (F.has_failed frequencies.new) (D.has_failed decks.new)) fault) }
+    ensures ok { IfOk result (λ totals. RunsWhole verified.now store.old (R.given reader.old.input.now) (R.given reader.new.input.now)
+        (contents (O.taken out.old) (L.taken listing.old) (F.taken frequencies.old) (D.taken decks.old)) (contents (O.taken out.new) (L.taken listing.new) (F.taken frequencies.new) (D.taken decks.new)) totals) }
+    ensures err { IfErr result (λ fault. RunStops verified.now store.old (R.given reader.old.input.now) (R.given reader.new.input.now)
+        (contents (O.taken out.old) (L.taken listing.old) (F.taken frequencies.old) (D.taken decks.old)) (contents (O.taken out.new) (L.taken listing.new) (F.taken frequencies.new) (D.taken decks.new))
+        (failures (O.has_failed out.new) (L.has_failed listing.new) (F.has_failed frequencies.new) (D.has_failed decks.new)) fault) }
 {
     let mut written = Gatherer::new();
     let mut listed = Gatherer::new();
@@ -241,11 +244,11 @@ pub fn run_by<C: Code, M: Runs, R: Input, O: Output, L: Output, F: Output, D: Ou
     requires fits { StoreFits verified.now.image store }
     // The machine still runs this program, so it may be lent to another run.
     ensures same { M.program machine.new ≡ verified.now }
-    ensures ok { IfOk result (λ totals. RunsWhole verified.now store (R.remaining input.old) (R.remaining input.new)
-        (contents (O.contents out.old) (L.contents listing.old) (F.contents frequencies.old) (D.contents decks.old)) (contents (O.contents out.new) (L.contents listing.new) (F.contents frequencies.new) (D.contents decks.new)) totals) }
-    ensures err { IfErr result (λ fault. RunStops verified.now store (R.remaining input.old) (R.remaining input.new)
-        (contents (O.contents out.old) (L.contents listing.old) (F.contents frequencies.old) (D.contents decks.old)) (contents (O.contents out.new) (L.contents listing.new) (F.contents frequencies.new) (D.contents decks.new))
-        (R.has_failed input.new) (failures (O.has_failed out.new) (L.has_failed listing.new) (F.has_failed frequencies.new) (D.has_failed decks.new)) fault) }
+    ensures ok { IfOk result (λ totals. RunsWhole verified.now store (R.given input.old) (R.given input.new)
+        (contents (O.taken out.old) (L.taken listing.old) (F.taken frequencies.old) (D.taken decks.old)) (contents (O.taken out.new) (L.taken listing.new) (F.taken frequencies.new) (D.taken decks.new)) totals) }
+    ensures err { IfErr result (λ fault. RunStops verified.now store (R.given input.old) (R.given input.new)
+        (contents (O.taken out.old) (L.taken listing.old) (F.taken frequencies.old) (D.taken decks.old)) (contents (O.taken out.new) (L.taken listing.new) (F.taken frequencies.new) (D.taken decks.new))
+        (failures (O.has_failed out.new) (L.has_failed listing.new) (F.has_failed frequencies.new) (D.has_failed decks.new)) fault) }
 {
     let Ok(mut reports) = Reports::new(alloc, verified.program()) else {
         return Err(MEMORY_FAULT);
@@ -291,11 +294,11 @@ pub fn run<C: Code, R: Input, O: Output, L: Output, F: Output, D: Output>(
     decks: &mut D,
 ) -> Result<Totals, RunFault>
     requires fits { StoreFits verified.now.image store }
-    ensures ok { IfOk result (λ totals. RunsWhole verified.now store (R.remaining input.old) (R.remaining input.new)
-        (contents (O.contents out.old) (L.contents listing.old) (F.contents frequencies.old) (D.contents decks.old)) (contents (O.contents out.new) (L.contents listing.new) (F.contents frequencies.new) (D.contents decks.new)) totals) }
-    ensures err { IfErr result (λ fault. RunStops verified.now store (R.remaining input.old) (R.remaining input.new)
-        (contents (O.contents out.old) (L.contents listing.old) (F.contents frequencies.old) (D.contents decks.old)) (contents (O.contents out.new) (L.contents listing.new) (F.contents frequencies.new) (D.contents decks.new))
-        (R.has_failed input.new) (failures (O.has_failed out.new) (L.has_failed listing.new) (F.has_failed frequencies.new) (D.has_failed decks.new)) fault) }
+    ensures ok { IfOk result (λ totals. RunsWhole verified.now store (R.given input.old) (R.given input.new)
+        (contents (O.taken out.old) (L.taken listing.old) (F.taken frequencies.old) (D.taken decks.old)) (contents (O.taken out.new) (L.taken listing.new) (F.taken frequencies.new) (D.taken decks.new)) totals) }
+    ensures err { IfErr result (λ fault. RunStops verified.now store (R.given input.old) (R.given input.new)
+        (contents (O.taken out.old) (L.taken listing.old) (F.taken frequencies.old) (D.taken decks.old)) (contents (O.taken out.new) (L.taken listing.new) (F.taken frequencies.new) (D.taken decks.new))
+        (failures (O.has_failed out.new) (L.has_failed listing.new) (F.has_failed frequencies.new) (D.has_failed decks.new)) fault) }
 {
     let Ok(mut machine) = Machine::new(alloc, verified) else {
         return Err(MEMORY_FAULT);

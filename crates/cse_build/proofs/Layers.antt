@@ -8,10 +8,10 @@ use Rattle.cse_image_parts.specs.Image.{Image}
 use Rattle.cse_image.specs.Spelling.{Spells}
 use Rattle.cse_dict.specs.Dictionary.{DictionaryText, shape_of}
 use Rattle.cse_syntax.specs.declared.error.SyntaxError.{SyntaxError}
-use Rattle.cse_syntax.specs.declared.token.Token.{Token}
-use Rattle.cse_syntax.specs.Word.{Word, word, word_of, words, AreNumbered}
-use Rattle.cse_syntax.specs.Tree as syntax
-use Rattle.cse_syntax.specs.Grammar.{IsSource}
+use Rattle.cse_syntax_tree.specs.declared.token.Token.{Token}
+use Rattle.cse_syntax_tree.specs.Word.{Word, word, word_of, words, AreNumbered}
+use Rattle.cse_syntax_tree.specs.Tree as syntax
+use Rattle.cse_syntax_tree.specs.Grammar.{IsSource}
 use Rattle.cse_syntax.specs.Text.{pieces, pieces_of}
 use Rattle.cse_syntax.specs.Source.{IsSourceText, said_from}
 use Rattle.cse_logic_tree.specs.Typed.{Tree}

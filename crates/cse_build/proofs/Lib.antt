@@ -1,5 +1,4 @@
 mod Promises
 mod Layers
-mod Given
 mod Whole
 pub mod Meant

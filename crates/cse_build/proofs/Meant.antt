@@ -10,7 +10,7 @@ use Rattle.cse_image.specs.Spelling.{Fits, SpellsIn, StandFor, program_in}
 use Rattle.cse_dict.specs.Dictionary.{DictionaryText, shape_of}
 use Rattle.cse_dict.specs.Sound.{IsSound}
 use Rattle.cse_syntax.specs.Source.{said}
-use Rattle.cse_syntax.specs.Grammar.{spell_tree}
+use Rattle.cse_syntax_tree.specs.Grammar.{spell_tree}
 use Rattle.cse_logic_tree.specs.Erase.{erase_tree}
 use Rattle.cse_types.specs.Checked.{Checked, IsChecked}
 use Rattle.cse_code_typing.specs.Typed.{IsTyped}

@@ -4,7 +4,7 @@ use Rattle.std.specs.Prelude.{IsTrue, ◌||◌, nat_eq, Result, Ok, Err, IfErr}
 use Rattle.std.proofs.Math.Logic.{∥∥₁_elim, ∥∥₁_prop}
 use Rattle.cse_dict.specs.Dictionary.{DictionaryText, shape_of}
 use Rattle.cse_dict.specs.Sound.{IsSound as IsSoundDictionary}
-use Rattle.cse_syntax.specs.Grammar.{spell_tree}
+use Rattle.cse_syntax_tree.specs.Grammar.{spell_tree}
 use Rattle.cse_logic_tree.specs.Typed.{Tree}
 use Rattle.cse_logic_tree.specs.Erase.{erase_tree}
 use Rattle.cse_types.specs.Checked.{Checked, IsChecked}
@@ -14,7 +14,7 @@ use Rattle.cse_compile.specs.Fault.{IsReason}
 use Rattle.cse_law_sources_are_sound.specs.Costs.{KeepsCosts}
 use Rattle.cse_law_sources_are_sound.proofs.SoundLaws.{grammar_suffices}
 use Rattle.cse_law_sources_are_sound.proofs.CaseCosts.{long_only_at_cost}
-use Rattle.cse_law_sources_have_room.specs.Given.{ShapeFits, AreTexts, AreUtf8}
+use Rattle.cse_law_sources_have_room.specs.Given.{ShapeFits}
 use Rattle.cse_law_sources_have_room.specs.Within.{IsWithin}
 use Rattle.cse_law_sources_have_room.proofs.Whole.{large_alone}
 
@@ -61,7 +61,7 @@ module _ (c : Checked) (dictionary : IsSoundDictionary c.dictionary) (is : ∥ I
     no_room (Ok x) h = tt
     no_room (Err e) h = λ is64. room_here (h is64)
 
-    pub within_limits : {T : Type 0} (r : Result T CompileError) → ShapeFits (shape_of c.dictionary) → IfErr r (λ e. e.number ≡ 64 → HasNoRoom d named t) → IfErr r (λ e. e.number ≡ 64 → AreUtf8 (spell_tree (erase_tree c.tree)) → AreTexts c.messages → IsWithin c.tree → ⊥)
+    pub within_limits : {T : Type 0} (r : Result T CompileError) → ShapeFits (shape_of c.dictionary) → IfErr r (λ e. e.number ≡ 64 → HasNoRoom d named t) → IfErr r (λ e. e.number ≡ 64 → IsWithin c.tree → ⊥)
     within_limits (Ok x) shape h = tt
-    within_limits (Err e) shape h = λ is64 utf8 texts within. ∥∥₁_elim is (λ a b. absurd a) (λ k.
-        large_alone c.dictionary c.messages c.order (erase_tree c.tree) (spell_tree (erase_tree c.tree)) c.tree dictionary shape k.source utf8 texts (record { erased = refl; well = k.well }) k.ordered within (room_here (h is64)))
+    within_limits (Err e) shape h = λ is64 within. ∥∥₁_elim is (λ a b. absurd a) (λ k. ∥∥₁_elim k.utf8 (λ a b. absurd a) (λ utf8.
+        large_alone c.dictionary c.messages c.order (erase_tree c.tree) (spell_tree (erase_tree c.tree)) c.tree dictionary shape k.source utf8 k.texts (record { erased = refl; well = k.well }) k.ordered within (room_here (h is64))))

@@ -3,10 +3,10 @@ use Rattle.std.proofs.Common.{◌≡◌, ◌⊎◌, inl, inr, ℕ, true, false, 
 use Rattle.std.specs.Prelude.{◌||◌, nat_eq, IsTrue, Result, Ok, Err, IfErr}
 use Rattle.std.proofs.lemmas.Option.{same_Some, none-some}
 use Rattle.cse_dict.specs.Dictionary.{DictionaryText}
-use Rattle.cse_syntax.specs.Tree as syntax
+use Rattle.cse_syntax_tree.specs.Tree as syntax
 use Rattle.cse_syntax.specs.Source.{IsSourceText, said}
 use Rattle.cse_syntax.specs.Text.{Piece}
-use Rattle.cse_syntax.specs.Grammar.{IsSource}
+use Rattle.cse_syntax_tree.specs.Grammar.{IsSource}
 use Rattle.cse_syntax.proofs.Whole.{one_tree}
 use Rattle.cse_logic_tree.specs.Typed.{Tree}
 use Rattle.cse_logic_names.specs.MessageFile.{MessageText, file_lines, messages_behind}

@@ -7,15 +7,12 @@ ghost use Rattle.std.specs.Prelude.{◌≡◌, ◌⊎◌, ℕ, List, true, IfOk,
 ghost use Rattle.std.specs.Str.{is_utf8};
 ghost use Rattle.cse_image_parts.specs.Image.{Image};
 ghost use Rattle.cse_image.specs.Spelling.{Spells};
-ghost use Rattle.cse_syntax.specs.Tree as syntax;
+ghost use Rattle.cse_syntax_tree.specs.Tree as syntax;
 ghost use Rattle.cse_syntax.specs.Source.{IsSourceText};
 ghost use Rattle.cse_logic_tree.specs.Typed as typed_spec;
-ghost use Rattle.cse_syntax.specs.Grammar.{spell_tree};
-ghost use Rattle.cse_logic_tree.specs.Erase.{erase_tree};
 ghost use Rattle.cse_types.specs.Answer.{checked};
 ghost use Rattle.cse_logic_names.specs.OrderFile.{IsOrderOf};
 ghost use Rattle.cse_logic_names.specs.WellTyped.{IsTypedAs};
-ghost use Rattle.cse_law_sources_have_room.specs.Given.{AreTexts, AreUtf8};
 ghost use Rattle.cse_build.specs.Build.{AreSound, IsBuilt, IsFault};
 ghost use Rattle.cse_build.specs.Build.{AreNamed, IsFaultBehind, IsImage, IsLimitFault, IsLogic, IsLogicFault, IsSourceFault};
 ghost use Rattle.cse_build.specs.Fault.{IsReason, out_of_memory};
@@ -23,7 +20,6 @@ ghost use Rattle.cse_build.specs.Meant.{MeansLogic};
 
 use crate::compiling::compile;
 use crate::error::{BuildFault, NO_TEXT, WANT_OF_MEMORY};
-use crate::reading::read_tokens;
 use cse_dict::Dictionary;
 use cse_image::{Program, none_begins_another, write_image};
 use cse_law_programs_mean::programs_mean;
@@ -45,8 +41,6 @@ fn spelled(alloc: Global, program: &Program) -> Result<Vec<u8>, BuildFault>
 
 /// The image of a checked source.
 fn of_typed(alloc: Global, typed: Typed<'_>) -> Result<Vec<u8>, BuildFault>
-    requires utf8 { AreUtf8 (spell_tree (erase_tree (checked typed).tree)) }
-    requires texts { AreTexts (checked typed).messages }
     ensures image { IfOk result (λ v. (x : Image) × IsImage (checked typed.entry).dictionary (checked typed.entry).order (checked typed.entry).tree x v.items) }
     ensures fault { IfErr result (λ e. (e ≡ out_of_memory) ⊎ IsLimitFault (checked typed.entry).dictionary (checked typed.entry).tree e) }
 {
@@ -65,8 +59,6 @@ fn of_source<'a>(
     order: &'a Order,
 ) -> Result<Vec<u8>, BuildFault>
     requires order { IsOrderOf dictionary.now order.now }
-    requires utf8 { AreUtf8 (spell_tree (syntax.tree source.now.tree)) }
-    requires texts { AreTexts messages.now }
     ensures image { IfOk result (λ v. (t : typed_spec.Tree) × (x : Image) × IsTypedAs dictionary.now messages.now (syntax.tree source.now.tree) t × IsImage dictionary.now order.now t x v.items) }
     ensures fault { IfErr result (λ e. (e ≡ out_of_memory) ⊎ IsSourceFault dictionary.now messages.now (syntax.tree source.now.tree) e) }
 {
@@ -85,15 +77,11 @@ fn of_text<'a>(
     order: &'a Order,
 ) -> Result<Vec<u8>, BuildFault>
     requires order { IsOrderOf dictionary.now order.now }
-    requires texts { AreTexts messages.now }
     ensures image { IfOk result (λ v. (source : syntax.Tree) × (t : typed_spec.Tree) × (x : Image) × IsSourceText 64 text.now source × IsTypedAs dictionary.now messages.now source t × IsImage dictionary.now order.now t x v.items) }
     ensures fault { IfErr result (λ e. (e ≡ out_of_memory) ⊎ IsLogicFault dictionary.now messages.now text.now e) }
 {
     match parse(alloc, text) {
-        Ok(source) => {
-            read_tokens(&source.tokens);
-            of_source(alloc, dictionary, &source, messages, order)
-        }
+        Ok(source) => of_source(alloc, dictionary, &source, messages, order),
         Err(error) => Err(BuildFault::from(error)),
     }
 }
@@ -107,7 +95,6 @@ fn of_logic(
     order: &Order,
 ) -> Result<Vec<u8>, BuildFault>
     requires order { IsOrderOf dictionary.now order.now }
-    requires texts { AreTexts messages.now }
     ensures image { IfOk result (λ v. (source : syntax.Tree) × (t : typed_spec.Tree) × (x : Image) × IsLogic dictionary.now messages.now logic.now source t × IsImage dictionary.now order.now t x v.items) }
     ensures fault { IfErr result (λ e. (e ≡ out_of_memory) ⊎ IsLogicFault dictionary.now messages.now logic.now e) }
 {
@@ -125,7 +112,6 @@ fn with_messages(
     messages: &Messages,
     order: &[u8],
 ) -> Result<Vec<u8>, BuildFault>
-    requires { AreTexts messages.now }
     ensures image { IfOk result (λ v. (named : List ℕ) × (source : syntax.Tree) × (t : typed_spec.Tree) × (x : Image) × AreNamed dictionary.now order.now named × IsLogic dictionary.now messages.now logic.now source t × IsImage dictionary.now named t x v.items) }
     ensures fault { IfErr result (λ e. (e ≡ out_of_memory) ⊎ IsFaultBehind dictionary.now messages.now logic.now order.now e) }
 {

@@ -2,8 +2,6 @@
 
 ghost use Rattle.std.specs.Prelude.{◌≡◌, IfOk, IfErr};
 ghost use Rattle.cse_dict.specs.Dictionary.{shape_of};
-ghost use Rattle.cse_syntax.specs.Grammar.{spell_tree};
-ghost use Rattle.cse_logic_tree.specs.Erase.{erase_tree};
 ghost use Rattle.cse_code_typing.specs.Typed.{IsTyped};
 ghost use Rattle.cse_code_bounds.specs.Bounded.{IsBounded};
 ghost use Rattle.cse_types.specs.Answer.{checked};
@@ -11,12 +9,11 @@ ghost use Rattle.cse_compile.specs.Compiled.{HasNoRoom};
 ghost use Rattle.cse_compile.specs.Fault.{IsReason};
 ghost use Rattle.cse_compile.specs.Program.{IsProgramOf};
 ghost use Rattle.cse_law_sources_are_sound.specs.Costs.{KeepsCosts};
-ghost use Rattle.cse_law_sources_have_room.specs.Given.{AreTexts, AreUtf8};
 ghost use Rattle.cse_law_sources_have_room.specs.Within.{IsWithin};
 ghost use Rattle.cse_meaning.specs.Means.{Means};
 
 use crate::reading::read_shape;
-use cse_compile::CompileError;
+use cse_compile::{CompileError, program_of};
 use cse_image::Program;
 use cse_law_programs_mean::{means_alone, programs_mean};
 use cse_types::Typed;
@@ -29,13 +26,13 @@ fn compiled(alloc: Global, typed: &Typed<'_>) -> Result<Program, CompileError>
     ensures tables { IfOk result (IsProgramOf (checked typed.now).dictionary (checked typed.now).order (checked typed.now).tree) }
     ensures others { IfErr result IsReason }
     ensures room { IfErr result (λ e. e.number ≡ 64 → HasNoRoom (checked typed.now).dictionary (checked typed.now).order (checked typed.now).tree) }
-    ensures within { IfErr result (λ e. e.number ≡ 64 → AreUtf8 (spell_tree (erase_tree (checked typed.now).tree)) → AreTexts (checked typed.now).messages → IsWithin (checked typed.now).tree → ⊥) }
+    ensures within { IfErr result (λ e. e.number ≡ 64 → IsWithin (checked typed.now).tree → ⊥) }
     ensures cost { IfErr result (λ e. e.number ≡ 67 → KeepsCosts (checked typed.now).dictionary (checked typed.now).tree → ⊥) }
 {
     let dictionary = typed.dictionary();
     let sound = dictionary.shape();
     read_shape(sound);
-    cse_compile::compile(alloc, typed.tree(), dictionary, typed.order().records())
+    program_of(alloc, typed.tree(), dictionary, typed.order().records())
 }
 
 /// A program of a checked source that may run does what the source means.
@@ -60,7 +57,7 @@ fn does_as_meant(typed: &Typed<'_>, program: &Program)
 /// one of its tables, or its code, is beyond a limit of the format (`room`), and by 67 only where a routine or the events
 /// of a case cost more than 10^15 steps (`cost`). By 64 only where the source itself is beyond a limit: where it has more
 /// than 60,000 tokens, or 4,096 functions and parts of procedures, or an array, a function or a message that no image may
-/// have (`within`); its texts are UTF-8, and those of the message file have no character below U+0020.
+/// have (`within`).
 pub fn compile(alloc: Global, typed: &Typed<'_>) -> Result<Program, CompileError>
     ensures typed { IfOk result (IsTyped (shape_of (checked typed.now).dictionary)) }
     ensures bounded { IfOk result IsBounded }
@@ -68,7 +65,7 @@ pub fn compile(alloc: Global, typed: &Typed<'_>) -> Result<Program, CompileError
     ensures means { IfOk result (λ p. Means (record { dictionary = (checked typed.now).dictionary; image = p }) (checked typed.now).tree) }
     ensures others { IfErr result IsReason }
     ensures room { IfErr result (λ e. e.number ≡ 64 → HasNoRoom (checked typed.now).dictionary (checked typed.now).order (checked typed.now).tree) }
-    ensures within { IfErr result (λ e. e.number ≡ 64 → AreUtf8 (spell_tree (erase_tree (checked typed.now).tree)) → AreTexts (checked typed.now).messages → IsWithin (checked typed.now).tree → ⊥) }
+    ensures within { IfErr result (λ e. e.number ≡ 64 → IsWithin (checked typed.now).tree → ⊥) }
     ensures cost { IfErr result (λ e. e.number ≡ 67 → KeepsCosts (checked typed.now).dictionary (checked typed.now).tree → ⊥) }
 {
     match compiled(alloc, typed) {

@@ -1,13 +1,10 @@
-//! What the types of a shape and of tokens hold: numbers of so many bits, and UTF-8.
+//! What the types of a shape hold: numbers of so many bits.
 
-ghost use Rattle.std.specs.Prelude.{IsTrue};
 ghost use Rattle.std.specs.List.{AllByRecursion};
-ghost use Rattle.std.specs.Str.{is_utf8};
 ghost use Rattle.cse_value.specs.Shape.{shape_lists};
 ghost use Rattle.cse_image.specs.Spelling.{ItemFits, RecordFits, SetFits};
 ghost use Rattle.cse_law_sources_have_room.specs.Given.{ShapeFits};
 
-use cse_syntax::Token;
 use cse_value::shape::{ItemShape, RecordShape, SetShape, Shape};
 
 /// Reading the fields of a record tells their ranges.
@@ -66,20 +63,4 @@ pub fn read_shape(shape: &Shape)
     read_records(&shape.records);
     read_items(&shape.items);
     read_sets(&shape.sets);
-}
-
-/// Reading a text tells that it is UTF-8.
-fn read_text(text: &str)
-    ensures { IsTrue (is_utf8 text.now) }
-{
-    let _length = text.len();
-}
-
-/// The texts of tokens are UTF-8.
-pub fn read_tokens(tokens: &[Token<'_>])
-    ensures { AllByRecursion (λ t. IsTrue (is_utf8 t.text.now)) tokens.now }
-{
-    for token in tokens {
-        read_text(token.text);
-    }
 }

@@ -1,5 +1,6 @@
 -- Laws of reading cases.
 use Rattle.std.proofs.Common.{◌≡◌, ℕ, ◌+◌, ◌<◌, List, [], ◌++◌, length, Bool, Option, Some, Ok, ap, sym, ◌∙◌, subst}
+use Rattle.cse_value.specs.Device.{Given}
 use Rattle.cse_dict.specs.Dictionary.{DictionaryText}
 use Rattle.cse_lines.specs.declared.error.DataError.{DataError}
 use Rattle.cse_lines.specs.Field.{ids_of}
@@ -29,7 +30,7 @@ of_run_in : DictionaryText → RunText → CaseText
 of_run_in d run = of_run run d
 
 -- a run that is given is given as its case
-pub next_case : (before after : Option (List ℕ)) (old new : ReaderText) (e e' : Option DataError) (run : RunText) (c : CaseText) (source : DictionaryText) → Next before after old new (Ok (Some run))
+pub next_case : (before after : Given) (old new : ReaderText) (e e' : Option DataError) (run : RunText) (c : CaseText) (source : DictionaryText) → Next before after old new (Ok (Some run))
     → old.dictionary ≡ source → c ≡ record { dictionary = source; ids = ids_of source (line_at run 0).columns; run = run }
     → NextCase before after (record old { error = e }) (record new { error = e' }) (Ok (Some c))
 unfolding of_run of_run_in

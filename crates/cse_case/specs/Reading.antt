@@ -1,6 +1,6 @@
 -- What one call of the reader of cases answers.
 use Rattle.std.specs.Prelude.{◌≡◌, ◌+◌, ◌≤◌, ℕ, Bool, true, List, [], ◌++◌, length, Option, None, Some, Result, Ok, Err, IfOk}
-use Rattle.std.specs.Io.KnownBytes.{Consumes}
+use Rattle.cse_value.specs.Device.{Consumes, Given}
 use Rattle.cse_dict.specs.Dictionary.{DictionaryText}
 use Rattle.cse_lines.specs.declared.error.DataError.{DataError}
 use Rattle.cse_lines.specs.Reader.{ReaderText, GivesRun, IsEnd, IsError, held_of, is_front}
@@ -14,7 +14,7 @@ pub record GivesCase (d : DictionaryText) (bytes held : List ℕ) (front ended :
   pub fits : IsFit c
 
 -- what the answer says of the bytes held before and read in the call
-abbrev pub CaseAnswers : DictionaryText → List ℕ → List ℕ → Bool → Bool → Option (List ℕ) → ℕ → Result (Option CaseText) DataError → Type 0
+abbrev pub CaseAnswers : DictionaryText → List ℕ → List ℕ → Bool → Bool → Given → ℕ → Result (Option CaseText) DataError → Type 0
 CaseAnswers d bytes held front ended after before (Ok (Some c)) = GivesCase d bytes held front ended (before + 1) c
 CaseAnswers d bytes held front ended after before (Ok None) = IsEnd bytes held ended after
 CaseAnswers d bytes held front ended after before (Err error) = IsError d bytes front ended before error
@@ -25,7 +25,7 @@ lines_given (Some c) = length c.run.lines
 lines_given None = 0
 
 -- one call: the bytes that were read in it, none once the end was read, and what it answers of these behind the held ones
-pub record NextCase (before after : Option (List ℕ)) (old new : ReaderText) (result : Result (Option CaseText) DataError) : Type 0 where
+pub record NextCase (before after : Given) (old new : ReaderText) (result : Result (Option CaseText) DataError) : Type 0 where
   pub taken : List ℕ
   pub consumes : Consumes before after taken
   pub rises : old.reads ≤ new.reads

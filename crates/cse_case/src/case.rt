@@ -4,7 +4,7 @@ ghost use Rattle.std.specs.Prelude.{◌≡◌, ◌<◌, ◌≤◌, ◌+◌, ◌^
 ghost use Rattle.std.specs.Bool.{OnTrue, OnFalse};
 ghost use Rattle.cse_value.specs.declared.shape.ItemKind.TheVariants.{Number as ANumber, Opaque as AnOpaque, Text as AText};
 ghost use Rattle.cse_value.specs.Writing.{WritesAll, FailsAtErr};
-ghost use Rattle.cse_output.specs.Gathering.{going, Puts};
+ghost use Rattle.cse_output.specs.Gathering.{behind, Puts};
 ghost use Rattle.cse_dict.specs.Sound.{IsSound};
 ghost use Rattle.cse_lines.specs.Run.{line_at, written_run};
 ghost use Rattle.cse_case.specs.Seen.{is_case};
@@ -405,7 +405,7 @@ impl<'a> Case<'a> {
 
     /// Puts the lines of the run into a buffer before a device: their bytes, where no line was written into.
     pub fn put_to<W: Output>(&self, gatherer: &mut Gatherer, out: &mut W)
-        ensures { Puts (going (W.contents out.old) (W.has_failed out.old) gatherer.old.waiting.items gatherer.old.gave_up) (going (W.contents out.new) (W.has_failed out.new) gatherer.new.waiting.items gatherer.new.gave_up) (written_run self.now.run) }
+        ensures { Puts (behind W.taken W.has_failed out.old gatherer.old) (behind W.taken W.has_failed out.new gatherer.new) (written_run self.now.run) }
     {
         gatherer.put(out, mark(self.marked));
         if self.is_set {
@@ -419,7 +419,7 @@ impl<'a> Case<'a> {
     /// file, and its own end. A line that was not written into is written as it came. At the front of the
     /// file the mark stands before it, where it was there. An error is 71 of a run.
     pub fn write_to<W: Output>(&self, out: &mut W) -> Result<(), Failed>
-        ensures bytes { WritesAll result (W.contents out.old) (W.contents out.new) (written_run self.now.run) }
+        ensures bytes { WritesAll result (W.taken out.old) (W.taken out.new) (written_run self.now.run) }
         ensures failed { FailsAtErr result (W.has_failed out.old) (W.has_failed out.new) }
     {
         let mut gatherer = Gatherer::new();

@@ -1,6 +1,5 @@
 //! Cases in and out: the lines of a data file with equal id columns, read by a dictionary.
 //!
-//! - `few`: a number that is written into a few columns.
 //! - `field`: the columns of an item in a line.
 //! - `items`: a dictionary, and which numbers are no codes of its items.
 //! - `number`: the number in a few columns.

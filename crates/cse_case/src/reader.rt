@@ -1,7 +1,7 @@
 //! The reader of cases.
 
 ghost use Rattle.std.specs.Prelude.{ℕ, Bool, ◌≡◌, true};
-ghost use Rattle.std.specs.Io.KnownBytes.{IsAtEnd};
+ghost use Rattle.cse_value.specs.Device.{IsAtEnd, FailsOnce, IsUnfailing};
 ghost use Rattle.cse_case.specs.AtEnd.{ended-prop};
 
 use crate::case::Case;
@@ -17,7 +17,7 @@ pub struct CaseReader<'a, R: Input> {
     pub input: &'a mut R,
     /// What was read and not yet given.
     pub stream: CaseStream<'a>,
-    ghost end: { stream.ended ≡ true → IsAtEnd (R.remaining input.now) } by { ended-prop stream.ended (R.remaining input.now) },
+    ghost end: { stream.ended ≡ true → IsAtEnd (R.given input.now) } by { ended-prop stream.ended (R.given input.now) },
 }
 
 // Written out, so that a crate that owns a reader calls this drop and does not prove one for each part.
@@ -31,7 +31,7 @@ impl<'a, R: Input> Drop for CaseReader<'a, R> {
 }
 
 impl<'a, R: Input> CaseReader<'a, R> {
-    ghost use Rattle.std.specs.Prelude.{[], ◌≡◌, ◌≤◌, ◌*◌, ◌^◌, ◌⊎◌, None, Some, Err, true, false, IfErr, IfSome, OnOk, length};
+    ghost use Rattle.std.specs.Prelude.{[], ◌≡◌, ◌≢◌, ◌≤◌, ◌*◌, ◌^◌, ◌⊎◌, None, Some, Err, true, false, IfErr, IfSome, OnOk, length};
     ghost use Rattle.cse_lines.specs.Reader.{HoldsLittle, held_of};
     ghost use Rattle.cse_case.specs.Reading.{NextCase};
 
@@ -59,14 +59,17 @@ impl<'a, R: Input> CaseReader<'a, R> {
     #[inline(always)]
     pub fn next(&mut self) -> Result<Option<Case<'a>>, DataError>
         ensures same_reference { self.new.input.ghost_name ≡ self.old.input.ghost_name }
-        ensures next { self.old.stream.error ≡ None → NextCase (R.remaining self.old.input.now) (R.remaining self.new.input.now) self.old.stream self.new.stream result }
+        ensures next { self.old.stream.error ≡ None → NextCase (R.given self.old.input.now) (R.given self.new.input.now) self.old.stream self.new.stream result }
         ensures ok { OnOk result (self.new.stream.error ≡ None) }
         ensures err { IfErr result (λ error. self.new.stream.error ≡ Some error) }
         ensures again { IfSome self.old.stream.error (λ error. (result ≡ Err error) × (self.new.stream ≡ self.old.stream) × (self.new.input.now ≡ self.old.input.now)) }
-        ensures failed { self.old.stream.error ≡ None → IfErr result (λ error. error.number ≡ 70 → (R.has_failed self.new.input.now ≡ true) ⊎ (self.new.stream.reads ≡ 2 ^ 40)) }
+        ensures failed { self.old.stream.error ≡ None
+            → IfErr result (λ error. error.number ≡ 70
+            → FailsOnce (R.given self.old.input.now) (R.given self.new.input.now) ⊎ (self.new.stream.reads ≡ 2 ^ 40)) }
         ensures few_reads { self.new.stream.reads ≤ 2 ^ 40 }
         ensures few { self.new.stream.lines ≤ 2 ^ 40 * 65536 }
-        ensures works { OnOk result (R.has_failed self.new.input.now ≡ R.has_failed self.old.input.now) }
+        ensures works { OnOk result (IsUnfailing (R.given self.old.input.now) (R.given self.new.input.now)) }
+        ensures sound { IfErr result (λ error. error.number ≢ 70 → IsUnfailing (R.given self.old.input.now) (R.given self.new.input.now)) }
     {
         self.stream.next(self.input)
     }
@@ -98,8 +101,8 @@ impl<'a, R: Input> CaseReader<'a, R> {
         self.stream.kept()
     }
 
-    /// Gives the input back. What the input has left is known to a caller who closes the reader, and not
-    /// to one who drops it.
+    /// Gives the input back. What the input gave is known to a caller who closes the reader, and not to one
+    /// who drops it.
     pub fn close(self) -> &'a mut R
         ensures same_reference { result.ghost_name ≡ self.entry.input.ghost_name }
         ensures input { result.now ≡ self.entry.input.now }

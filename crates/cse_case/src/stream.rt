@@ -1,7 +1,7 @@
 //! A stream of cases over an input that each call is handed.
 
-ghost use Rattle.std.specs.Prelude.{◌≡◌, ◌+◌, ◌*◌, ◌^◌, ◌≤◌, ◌⊎◌, [], None, Some, Err, true, false, IfErr, IfOk, IfSome, OnOk, length};
-ghost use Rattle.std.specs.Io.KnownBytes.{IsAtEnd};
+ghost use Rattle.std.specs.Prelude.{◌≡◌, ◌≢◌, ◌+◌, ◌*◌, ◌^◌, ◌≤◌, ◌⊎◌, [], None, Some, Err, true, false, IfErr, IfOk, IfSome, OnOk, length};
+ghost use Rattle.cse_value.specs.Device.{IsAtEnd, FailsOnce, IsUnfailing};
 ghost use Rattle.cse_lines.specs.Reader.{held_of, HoldsLittle};
 ghost use Rattle.cse_case.specs.Reading.{NextCase};
 
@@ -102,16 +102,18 @@ impl<'a> CaseStream<'a> {
     /// since 2^40 reads had given bytes.
     #[inline(always)]
     pub fn next<R: Input>(&mut self, input: &mut R) -> Result<Option<Case<'a>>, DataError>
-        requires { self.old.ended ≡ true → IsAtEnd (R.remaining input.old) }
-        ensures next { self.old.error ≡ None → NextCase (R.remaining input.old) (R.remaining input.new) self.old self.new result }
+        requires { self.old.ended ≡ true → IsAtEnd (R.given input.old) }
+        ensures next { self.old.error ≡ None → NextCase (R.given input.old) (R.given input.new) self.old self.new result }
         ensures ok { OnOk result (self.new.error ≡ None) }
         ensures err { IfErr result (λ error. self.new.error ≡ Some error) }
         ensures again { IfSome self.old.error (λ error. (result ≡ Err error) × (self.new ≡ self.old) × (input.new ≡ input.old)) }
-        ensures end { self.new.ended ≡ true → IsAtEnd (R.remaining input.new) }
-        ensures failed { self.old.error ≡ None → IfErr result (λ error. error.number ≡ 70 → (R.has_failed input.new ≡ true) ⊎ (self.new.reads ≡ 2 ^ 40)) }
+        ensures end { self.new.ended ≡ true → IsAtEnd (R.given input.new) }
+        ensures failed { self.old.error ≡ None
+            → IfErr result (λ error. error.number ≡ 70 → FailsOnce (R.given input.old) (R.given input.new) ⊎ (self.new.reads ≡ 2 ^ 40)) }
         ensures few_reads { self.new.reads ≤ 2 ^ 40 }
         ensures few { self.new.lines ≤ 2 ^ 40 * 65536 }
-        ensures works { OnOk result (R.has_failed input.new ≡ R.has_failed input.old) }
+        ensures works { OnOk result (IsUnfailing (R.given input.old) (R.given input.new)) }
+        ensures sound { IfErr result (λ error. error.number ≢ 70 → IsUnfailing (R.given input.old) (R.given input.new)) }
     {
         if let Some(error) = self.error {
             return Err(error);

@@ -3,7 +3,7 @@
 
 ghost use Rattle.std.specs.Prelude.{◌≡◌, ◌≤◌, ◌+◌, ◌-◌, ◌*◌, length, take, encode_utf8, encode_utf8_all, true};
 ghost use Rattle.std.specs.List.{flat_map};
-ghost use Rattle.cse_output.specs.Gathering.{going, Puts};
+ghost use Rattle.cse_output.specs.Gathering.{behind, Puts};
 ghost use Rattle.cse_lines.specs.Bytes.{columns_lent};
 ghost use Rattle.cse_lines.specs.Laid.{IsLaid, laid_line, laid_lines};
 ghost use Rattle.cse_lines.specs.Line.{end_bytes};
@@ -118,7 +118,8 @@ fn put_parts<W: Output>(
 ) -> usize
     ensures low { result ≤ length (columns_lent columns.entry) }
     ensures few { length (columns_lent columns.entry) - result ≤ 127 }
-    ensures put { Puts (going (W.contents out.old) (W.has_failed out.old) gatherer.old.waiting.items gatherer.old.gave_up) (going (W.contents out.new) (W.has_failed out.new) gatherer.new.waiting.items gatherer.new.gave_up) (encode_utf8_all (take result (columns_lent columns.entry))) }
+    ensures put { Puts (behind W.taken W.has_failed out.old gatherer.old) (behind W.taken W.has_failed out.new gatherer.new)
+        (encode_utf8_all (take result (columns_lent columns.entry))) }
 {
     let mut at = 0;
     'parts: while columns.len() - at > PART {
@@ -139,7 +140,8 @@ fn put_line<W: Output>(
 )
     requires within { line.first + line.width ≤ length (columns_lent columns) }
     requires padded { line.len ≤ line.width }
-    ensures { Puts (going (W.contents out.old) (W.has_failed out.old) gatherer.old.waiting.items gatherer.old.gave_up) (going (W.contents out.new) (W.has_failed out.new) gatherer.new.waiting.items gatherer.new.gave_up) (written_line (laid_line (columns_lent columns.entry) line)) }
+    ensures { Puts (behind W.taken W.has_failed out.old gatherer.old) (behind W.taken W.has_failed out.new gatherer.new)
+        (written_line (laid_line (columns_lent columns.entry) line)) }
 {
     let kept = kept(line_columns(columns, line), line.len);
     let at = put_parts(gatherer, out, kept, bytes);
@@ -156,7 +158,8 @@ pub fn put_lines<W: Output>(
     lines: &[Line],
 )
     requires { IsLaid 0 (columns_lent columns) lines.now }
-    ensures { Puts (going (W.contents out.old) (W.has_failed out.old) gatherer.old.waiting.items gatherer.old.gave_up) (going (W.contents out.new) (W.has_failed out.new) gatherer.new.waiting.items gatherer.new.gave_up) (flat_map written_line (laid_lines (columns_lent columns.entry) lines.now)) }
+    ensures { Puts (behind W.taken W.has_failed out.old gatherer.old) (behind W.taken W.has_failed out.new gatherer.new)
+        (flat_map written_line (laid_lines (columns_lent columns.entry) lines.now)) }
 {
     let mut bytes = [0; ROOM];
     'lines: for line in lines {

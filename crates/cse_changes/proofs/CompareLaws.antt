@@ -1,6 +1,6 @@
 -- Laws of a comparison of two files.
-use Rattle.std.proofs.Common.{◌≡◌, ℕ, zero, suc, ◌+◌, ◌^◌, ◌<◌, Bool, true, List, [], ◌∷◌, ◌++◌, length, get_or, Option, None, Some, Ok, Err, refl, ap, sym, ◌∙◌, subst, arith, append_assoc, append-nil, add_assoc, ◌⊎◌, zero-add, replicate}
-use Rattle.std.specs.Io.KnownBytes.{IsAtEnd}
+use Rattle.std.proofs.Common.{◌≡◌, ◌≢◌, ℕ, zero, suc, ◌+◌, ◌^◌, ◌<◌, Bool, true, List, [], ◌∷◌, ◌++◌, length, get_or, None, Some, Ok, Err, refl, ap, sym, ◌∙◌, subst, arith, append_assoc, append-nil, add_assoc, ◌⊎◌, zero-add, replicate}
+use Rattle.cse_value.specs.Device.{FailsOnce, Given, IsAtEnd, IsUnfailing}
 use Rattle.std.proofs.lemmas.List.Sums.{sum_by-append}
 use Rattle.cse_value.specs.declared.shape.ItemShape.{ItemShape}
 use Rattle.cse_value.specs.declared.shape.RecordShape.{RecordShape}
@@ -52,10 +52,10 @@ lines_more : (pairs : List RunPair) (p : RunPair) → lines_in (pairs ++ p ∷ [
 lines_more pairs p = sum_by-append (λ q. length (q.0)) pairs (p ∷ []) ∙ ap (λ n. lines_in pairs + n) (zero-add (length (p.0)))
 
 -- a file that was read to its end
-pub whole : (d : DictionaryText) (before after : Option (List ℕ)) (runs : List (List FileLine)) → IsRead d before after runs → IsReadSoFar d before after (runs ++ [])
-whole d before after runs all = record { bytes = all.bytes; ended = true; reads = all.reads; end = λ e. all.end; runs_are = all.runs_are ∙ sym (append-nil runs) }
+pub whole : (d : DictionaryText) (before after : Given) (runs : List (List FileLine)) → IsRead d before after runs → IsReadSoFar d before after (runs ++ [])
+whole d before after runs all = record { bytes = all.bytes; ended = true; reads = all.reads; end = λ e. all.end; unfailing = all.unfailing; runs_are = all.runs_are ∙ sym (append-nil runs) }
 
-whole_ended : (d : DictionaryText) (before after : Option (List ℕ)) (runs : List (List FileLine)) (all : IsRead d before after runs) → (whole d before after runs all).ended ≡ true
+whole_ended : (d : DictionaryText) (before after : Given) (runs : List (List FileLine)) (all : IsRead d before after runs) → (whole d before after runs all).ended ≡ true
 unfolding whole
 whole_ended d before after runs all = refl
 
@@ -67,15 +67,15 @@ pub record IsAdded (records : List RecordShape) (items : List ItemShape) (before
   pub few : AreFew items new (lines + length before)
 
 -- what a fault says follows
-pub if_apart : (d : DictionaryText) (before after before' after' : Option (List ℕ)) (failed failed' : Bool) (P : ℕ → Type 0) (fault : Fault) → ((line : ℕ) → P line → IsApart d before after before' after' line) → IfApart P fault
-    → Stops d before after before' after' failed failed' fault
-if_apart d before after before' after' failed failed' P (Data e) h p = absurd p
-if_apart d before after before' after' failed failed' P (Out e) h p = absurd p
-if_apart d before after before' after' failed failed' P (Apart line) h p = h line p
-if_apart d before after before' after' failed failed' P Memory h p = absurd p
+pub if_apart : (d : DictionaryText) (before after before' after' : Given) (P : ℕ → Type 0) (fault : Fault) → ((line : ℕ) → P line → IsApart d before after before' after' line) → IfApart P fault
+    → Stops d before after before' after' fault
+if_apart d before after before' after' P (Data e) h p = absurd p
+if_apart d before after before' after' P (Out e) h p = absurd p
+if_apart d before after before' after' P (Apart line) h p = h line p
+if_apart d before after before' after' P Memory h p = absurd p
 
 -- what a comparison knows between runs
-pub record Comparing (d : DictionaryText) (before now : Option (List ℕ)) (r : ReaderText) (before' now' : Option (List ℕ)) (r' : ReaderText) (counts : List Count) (lines : ℕ) : Type 0 where
+pub record Comparing (d : DictionaryText) (before now : Given) (r : ReaderText) (before' now' : Given) (r' : ReaderText) (counts : List Count) (lines : ℕ) : Type 0 where
   pub pairs : List RunPair
   pub text : List ℕ
   pub text' : List ℕ
@@ -93,7 +93,7 @@ none_of (suc n) zero = refl
 none_of (suc n) (suc k) = none_of n k
 
 -- nothing was read
-pub Comparing-none : (d : DictionaryText) (now now' : Option (List ℕ)) (r r' : ReaderText) (counts : List Count) → r.dictionary ≡ d → held_of r ≡ [] → r.reads ≡ 0 → r.lines ≡ 0 → r'.dictionary ≡ d → held_of r' ≡ [] → r'.reads ≡ 0 → r'.lines ≡ 0
+pub Comparing-none : (d : DictionaryText) (now now' : Given) (r r' : ReaderText) (counts : List Count) → r.dictionary ≡ d → held_of r ≡ [] → r.reads ≡ 0 → r.lines ≡ 0 → r'.dictionary ≡ d → held_of r' ≡ [] → r'.reads ≡ 0 → r'.lines ≡ 0
     → counts ≡ replicate (length (shape_of d).items) no_count → length counts ≡ length (shape_of d).items → Comparing d now now r now' now' r' counts 0
 Comparing-none d now now' r r' counts same none unread front same' none' unread' front' are len =
     let each : (n : ℕ) → get_or counts n no_count ≡ no_count = λ n. ap (λ l. get_or l n no_count) are ∙ none_of (length (shape_of d).items) n in
@@ -110,13 +110,13 @@ Comparing-none d now now' r r' counts same none unread front same' none' unread'
       lines_in_are = refl;
     }
 
-module _ (d : DictionaryText) (before now after before' now' after' : Option (List ℕ)) (r s r' s' : ReaderText) (counts : List Count) (lines : ℕ) (c : Comparing d before now r before' now' r' counts lines) where
+module _ (d : DictionaryText) (before now after before' now' after' : Given) (r s r' s' : ReaderText) (counts : List Count) (lines : ℕ) (c : Comparing d before now r before' now' r' counts lines) where
   -- both were read to their ends
-  pub compared : Next now after r s (Ok None) → Next now' after' r' s' (Ok None) → IsCompared d before after before' after' counts
-  compared n n' = record {
+  pub compared : Next now after r s (Ok None) → Next now' after' r' s' (Ok None) → IsUnfailing now after → IsUnfailing now' after' → IsCompared d before after before' after' counts
+  compared n n' works works' = record {
     pairs = c.pairs;
-    read = is_read before now after d r s c.text (befores c.pairs) c.read n;
-    written = is_read before' now' after' d r' s' c.text' (afters c.pairs) c.written n';
+    read = is_read before now after d r s c.text (befores c.pairs) c.read n works;
+    written = is_read before' now' after' d r' s' c.text' (afters c.pairs) c.written n' works';
     are_pairs = c.are_pairs;
     counts_are = c.counts_are;
   }
@@ -141,15 +141,15 @@ module _ (d : DictionaryText) (before now after before' now' after' : Option (Li
     same_apart items = ap (λ l. first_apart items 0 l run'.lines) first_lines ∙ ap (λ l. first_apart items 0 (lines_of d first) l) second_lines
 
     -- a run more of both
-    pub Comparing-more : (new : List Count) → IsAdded (shape_of d).records (shape_of d).items run.lines run'.lines lines counts new → Comparing d before after s before' after' s' new (lines + length run.lines)
-    Comparing-more new a =
+    pub Comparing-more : (new : List Count) → IsUnfailing now after → IsUnfailing now' after' → IsAdded (shape_of d).records (shape_of d).items run.lines run'.lines lines counts new → Comparing d before after s before' after' s' new (lines + length run.lines)
+    Comparing-more new works works' a =
         let p : RunPair = (first, second) in
         record {
           pairs = c.pairs ++ p ∷ [];
           text = _;
           text' = _;
-          read = subst (SoFar before after d s _) (sym (befores_more c.pairs p)) (SoFar-run before now after d r s c.text (befores c.pairs) c.read run n);
-          written = subst (SoFar before' after' d s' _) (sym (afters_more c.pairs p)) (SoFar-run before' now' after' d r' s' c.text' (afters c.pairs) c.written run' n');
+          read = subst (SoFar before after d s _) (sym (befores_more c.pairs p)) (SoFar-run before now after d r s c.text (befores c.pairs) c.read run n works);
+          written = subst (SoFar before' after' d s' _) (sym (afters_more c.pairs p)) (SoFar-run before' now' after' d r' s' c.text' (afters c.pairs) c.written run' n' works');
           are_pairs = pairs_more d c.pairs p c.are_pairs (sym (same_apart (shape_of d).items) ∙ a.pair);
           counts_are = record {
             as_many = a.len ∙ c.counts_are.as_many;
@@ -165,16 +165,16 @@ module _ (d : DictionaryText) (before now after before' now' after' : Option (Li
         }
 
     -- the next runs are apart
-    pub apart_here : (s.ended ≡ true → IsAtEnd after) → (s'.ended ≡ true → IsAtEnd after') → (line : ℕ) → IsApartIn (shape_of d).items run.lines run'.lines lines line → IsApart d before after before' after' line
-    apart_here end end' line apart = record {
+    pub apart_here : IsUnfailing now after → IsUnfailing now' after' → (s.ended ≡ true → IsAtEnd after) → (s'.ended ≡ true → IsAtEnd after') → (line : ℕ) → IsApartIn (shape_of d).items run.lines run'.lines lines line → IsApart d before after before' after' line
+    apart_here works works' end end' line apart = record {
       pairs = c.pairs;
       are_pairs = c.are_pairs;
       more = first ∷ given d (is_front s) s.ended (held_of s);
       more' = second ∷ given d (is_front s') s'.ended (held_of s');
       read = subst (IsReadSoFar d before after) (append_assoc (befores c.pairs) (first ∷ []) (given d (is_front s) s.ended (held_of s)))
-          (so_far before after d s _ (befores c.pairs ++ first ∷ []) (SoFar-run before now after d r s c.text (befores c.pairs) c.read run n) end);
+          (so_far before after d s _ (befores c.pairs ++ first ∷ []) (SoFar-run before now after d r s c.text (befores c.pairs) c.read run n works) end);
       written = subst (IsReadSoFar d before' after') (append_assoc (afters c.pairs) (second ∷ []) (given d (is_front s') s'.ended (held_of s')))
-          (so_far before' after' d s' _ (afters c.pairs ++ second ∷ []) (SoFar-run before' now' after' d r' s' c.text' (afters c.pairs) c.written run' n') end');
+          (so_far before' after' d s' _ (afters c.pairs ++ second ∷ []) (SoFar-run before' now' after' d r' s' c.text' (afters c.pairs) c.written run' n' works') end');
       read_ended = λ e. absurd (omega (arith, ap length e));
       written_ended = λ e. absurd (omega (arith, ap length e));
       place = apart.place;
@@ -183,9 +183,9 @@ module _ (d : DictionaryText) (before now after before' now' after' : Option (Li
     }
 
   -- the one that was read has ended, and the other one has a run more
-  pub ended_first : (run : RunText) → Next now after r s (Ok None) → (n' : Next now' after' r' s' (Ok (Some run))) → (s'.ended ≡ true → IsAtEnd after') → IsApart d before after before' after' (lines + 1)
-  ended_first run n n' end' =
-      let all = is_read before now after d r s c.text (befores c.pairs) c.read n in
+  pub ended_first : (run : RunText) → Next now after r s (Ok None) → (n' : Next now' after' r' s' (Ok (Some run))) → IsUnfailing now after → IsUnfailing now' after' → (s'.ended ≡ true → IsAtEnd after') → IsApart d before after before' after' (lines + 1)
+  ended_first run n n' works works' end' =
+      let all = is_read before now after d r s c.text (befores c.pairs) c.read n works in
       let next = (gives before' now' after' d r' s' c.text' (afters c.pairs) c.written run n').lines in
       let later = given d (is_front s') s'.ended (held_of s') in
       record {
@@ -195,7 +195,7 @@ module _ (d : DictionaryText) (before now after before' now' after' : Option (Li
         more' = next ∷ later;
         read = whole d before after (befores c.pairs) all;
         written = subst (IsReadSoFar d before' after') (append_assoc (afters c.pairs) (next ∷ []) later)
-            (so_far before' after' d s' _ (afters c.pairs ++ next ∷ []) (SoFar-run before' now' after' d r' s' c.text' (afters c.pairs) c.written run n') end');
+            (so_far before' after' d s' _ (afters c.pairs ++ next ∷ []) (SoFar-run before' now' after' d r' s' c.text' (afters c.pairs) c.written run n' works') end');
         read_ended = λ e. whole_ended d before after (befores c.pairs) all;
         written_ended = λ e. absurd (omega (arith, ap length e));
         place = 0;
@@ -204,9 +204,9 @@ module _ (d : DictionaryText) (before now after before' now' after' : Option (Li
       }
 
   -- and the other way round
-  pub ended_second : (run : RunText) → (n : Next now after r s (Ok (Some run))) → Next now' after' r' s' (Ok None) → (s.ended ≡ true → IsAtEnd after) → IsApart d before after before' after' (lines + 1)
-  ended_second run n n' end =
-      let all = is_read before' now' after' d r' s' c.text' (afters c.pairs) c.written n' in
+  pub ended_second : (run : RunText) → (n : Next now after r s (Ok (Some run))) → Next now' after' r' s' (Ok None) → IsUnfailing now after → IsUnfailing now' after' → (s.ended ≡ true → IsAtEnd after) → IsApart d before after before' after' (lines + 1)
+  ended_second run n n' works works' end =
+      let all = is_read before' now' after' d r' s' c.text' (afters c.pairs) c.written n' works' in
       let next = (gives before now after d r s c.text (befores c.pairs) c.read run n).lines in
       let later = given d (is_front s) s.ended (held_of s) in
       record {
@@ -215,7 +215,7 @@ module _ (d : DictionaryText) (before now after before' now' after' : Option (Li
         more = next ∷ later;
         more' = [];
         read = subst (IsReadSoFar d before after) (append_assoc (befores c.pairs) (next ∷ []) later)
-            (so_far before after d s _ (befores c.pairs ++ next ∷ []) (SoFar-run before now after d r s c.text (befores c.pairs) c.read run n) end);
+            (so_far before after d s _ (befores c.pairs ++ next ∷ []) (SoFar-run before now after d r s c.text (befores c.pairs) c.read run n works) end);
         written = whole d before' after' (afters c.pairs) all;
         read_ended = λ e. absurd (omega (arith, ap length e));
         written_ended = λ e. whole_ended d before' after' (afters c.pairs) all;
@@ -225,31 +225,32 @@ module _ (d : DictionaryText) (before now after before' now' after' : Option (Li
       }
 
   -- a file has a fault: the one that was read
-  pub stops_read : (error : DataError) (failed : Bool) → Next now after r s (Err error) → (s.ended ≡ true → IsAtEnd after) → (error.number ≡ 70 → (failed ≡ true) ⊎ (s.reads ≡ 2 ^ 40)) → (r'.ended ≡ true → IsAtEnd now')
-      → HasReadFault d before after before' now' failed error
-  stops_read error failed n end reading end' = record {
+  pub stops_read : (error : DataError) → Next now after r s (Err error) → (s.ended ≡ true → IsAtEnd after) → (error.number ≡ 70 → FailsOnce now after ⊎ (s.reads ≡ 2 ^ 40))
+      → (error.number ≢ 70 → IsUnfailing now after) → (r'.ended ≡ true → IsAtEnd now') → HasReadFault d before after before' now' error
+  stops_read error n end reading sound end' = record {
     pairs = c.pairs;
     are_pairs = c.are_pairs;
     more = given d (is_front r') r'.ended (held_of r');
-    read = has_fault before now after d r s c.text (befores c.pairs) c.read error n failed end reading;
+    read = has_fault before now after d r s c.text (befores c.pairs) c.read error n end reading sound;
     written = so_far before' now' d r' c.text' (afters c.pairs) c.written end';
   }
 
   -- the one that was written, when the other has ended
-  pub stops_ended : (error : DataError) (failed : Bool) → Next now after r s (Ok None) → Next now' after' r' s' (Err error) → (s'.ended ≡ true → IsAtEnd after') → (error.number ≡ 70 → (failed ≡ true) ⊎ (s'.reads ≡ 2 ^ 40))
-      → HasWrittenFault d before after before' after' failed error
-  stops_ended error failed n n' end' reading = record {
+  pub stops_ended : (error : DataError) → Next now after r s (Ok None) → Next now' after' r' s' (Err error) → IsUnfailing now after → (s'.ended ≡ true → IsAtEnd after')
+      → (error.number ≡ 70 → FailsOnce now' after' ⊎ (s'.reads ≡ 2 ^ 40)) → (error.number ≢ 70 → IsUnfailing now' after') → HasWrittenFault d before after before' after' error
+  stops_ended error n n' works end' reading sound = record {
     pairs = c.pairs;
     are_pairs = c.are_pairs;
     more = [];
-    read = whole d before after (befores c.pairs) (is_read before now after d r s c.text (befores c.pairs) c.read n);
-    written = has_fault before' now' after' d r' s' c.text' (afters c.pairs) c.written error n' failed end' reading;
+    read = whole d before after (befores c.pairs) (is_read before now after d r s c.text (befores c.pairs) c.read n works);
+    written = has_fault before' now' after' d r' s' c.text' (afters c.pairs) c.written error n' end' reading sound;
   }
 
   -- and when the other gives a run
-  pub stops_written : (run : RunText) (error : DataError) (failed : Bool) → (n : Next now after r s (Ok (Some run))) → Next now' after' r' s' (Err error) → (s.ended ≡ true → IsAtEnd after) → (s'.ended ≡ true → IsAtEnd after')
-      → (error.number ≡ 70 → (failed ≡ true) ⊎ (s'.reads ≡ 2 ^ 40)) → HasWrittenFault d before after before' after' failed error
-  stops_written run error failed n n' end end' reading =
+  pub stops_written : (run : RunText) (error : DataError) → (n : Next now after r s (Ok (Some run))) → Next now' after' r' s' (Err error) → IsUnfailing now after
+      → (s.ended ≡ true → IsAtEnd after) → (s'.ended ≡ true → IsAtEnd after') → (error.number ≡ 70 → FailsOnce now' after' ⊎ (s'.reads ≡ 2 ^ 40))
+      → (error.number ≢ 70 → IsUnfailing now' after') → HasWrittenFault d before after before' after' error
+  stops_written run error n n' works end end' reading sound =
       let next = (gives before now after d r s c.text (befores c.pairs) c.read run n).lines in
       let later = given d (is_front s) s.ended (held_of s) in
       record {
@@ -257,6 +258,6 @@ module _ (d : DictionaryText) (before now after before' now' after' : Option (Li
         are_pairs = c.are_pairs;
         more = next ∷ later;
         read = subst (IsReadSoFar d before after) (append_assoc (befores c.pairs) (next ∷ []) later)
-            (so_far before after d s _ (befores c.pairs ++ next ∷ []) (SoFar-run before now after d r s c.text (befores c.pairs) c.read run n) end);
-        written = has_fault before' now' after' d r' s' c.text' (afters c.pairs) c.written error n' failed end' reading;
+            (so_far before after d s _ (befores c.pairs ++ next ∷ []) (SoFar-run before now after d r s c.text (befores c.pairs) c.read run n works) end);
+        written = has_fault before' now' after' d r' s' c.text' (afters c.pairs) c.written error n' end' reading sound;
       }

@@ -1,7 +1,7 @@
 -- Laws of a file that is read, run of lines by run of lines.
-use Rattle.std.proofs.Common.{◌≡◌, ℕ, ◌+◌, ◌^◌, ◌<◌, ◌≤◌, Bool, true, false, List, [], ◌∷◌, ◌++◌, length, Option, None, Some, Ok, Err, refl, ap, sym, ◌∙◌, subst, arith, append_assoc, append-nil, length-append, ◌⊎◌, inl, inr, add_assoc, zero-add, eq-eqb, ne_eqb}
-use Rattle.std.specs.Io.KnownBytes.{Consumes, IsAtEnd}
-use Rattle.std.proofs.KnownBytes.{Consumes-trans, Consumes-nil}
+use Rattle.std.proofs.Common.{◌≡◌, ◌≢◌, ℕ, ◌+◌, ◌^◌, ◌<◌, ◌≤◌, Bool, true, false, List, [], ◌∷◌, ◌++◌, length, Option, None, Some, Ok, Err, refl, ap, sym, ◌∙◌, subst, arith, append_assoc, append-nil, length-append, ◌⊎◌, inl, inr, add_assoc, zero-add, eq-eqb, ne_eqb}
+use Rattle.cse_value.specs.Device.{Consumes, FailsOnce, Given, IsAtEnd, IsUnfailing}
+use Rattle.cse_value.proofs.ReadLaws.{Consumes-trans, Consumes-nil, Fails-after}
 use Rattle.std.proofs.lemmas.List.{length-map}
 use Rattle.cse_dict.specs.Dictionary.{DictionaryText}
 use Rattle.cse_lines.specs.declared.error.DataError.{DataError}
@@ -13,9 +13,10 @@ use Rattle.cse_lines.specs.Reader.{GivesRun, IsError, Next, ReaderText, held_of,
 use Rattle.cse_changes.specs.Files.{HasFault, IsRead, IsReadSoFar, lines_of}
 
 -- the runs so far: their bytes, and that the rest is given of what is held and may follow
-pub record SoFar (before now : Option (List ℕ)) (d : DictionaryText) (r : ReaderText) (text : List ℕ) (runs : List (List FileLine)) : Type 0 where
+pub record SoFar (before now : Given) (d : DictionaryText) (r : ReaderText) (text : List ℕ) (runs : List (List FileLine)) : Type 0 where
   pub dictionary : r.dictionary ≡ d
   pub reads : Consumes before now (text ++ held_of r)
+  pub unfailing : IsUnfailing before now
   pub counted : r.reads ≤ length (text ++ held_of r)
   pub goes_on : (later : Bool) (more : List ℕ) → MayFollow r.ended later more → given d true later ((text ++ held_of r) ++ more) ≡ runs ++ given d (is_front r) later (held_of r ++ more)
   pub fault : (later : Bool) (more : List ℕ) → MayFollow r.ended later more → fault_in d true later ((text ++ held_of r) ++ more) ≡ later_by r.lines (fault_in d (is_front r) later (held_of r ++ more))
@@ -37,12 +38,13 @@ unfolding fault_in lines_in
 nothing_faulty d front = refl
 
 -- nothing was read
-pub SoFar-none : (now : Option (List ℕ)) (d : DictionaryText) (r : ReaderText) → r.dictionary ≡ d → held_of r ≡ [] → r.reads ≡ 0 → r.lines ≡ 0 → SoFar now now d r [] []
+pub SoFar-none : (now : Given) (d : DictionaryText) (r : ReaderText) → r.dictionary ≡ d → held_of r ≡ [] → r.reads ≡ 0 → r.lines ≡ 0 → SoFar now now d r [] []
 SoFar-none now d r same none unread front =
     let first : is_front r ≡ true = eq-eqb r.lines 0 front in
     record {
       dictionary = same;
       reads = rw none (Consumes-nil now);
+      unfailing = refl;
       counted = omega arith;
       goes_on = λ later more h. ap (λ f. given d f later (held_of r ++ more)) (sym first);
       fault = λ later more h. ap (λ f. fault_in d f later (held_of r ++ more)) (sym first) ∙ (sym (later_by-none (fault_in d (is_front r) later (held_of r ++ more))) ∙ ap (λ n. later_by n (fault_in d (is_front r) later (held_of r ++ more))) (sym front));
@@ -56,17 +58,18 @@ may_follow ended ended' later taken more stays h = λ e.
     (f.0, ap (λ l. l ++ more) (s.0) ∙ f.1)
 
 -- what was read so far, and the runs that are given of it
-pub so_far : (before now : Option (List ℕ)) (d : DictionaryText) (r : ReaderText) (text : List ℕ) (runs : List (List FileLine)) → SoFar before now d r text runs → (r.ended ≡ true → IsAtEnd now)
+pub so_far : (before now : Given) (d : DictionaryText) (r : ReaderText) (text : List ℕ) (runs : List (List FileLine)) → SoFar before now d r text runs → (r.ended ≡ true → IsAtEnd now)
     → IsReadSoFar d before now (runs ++ given d (is_front r) r.ended (held_of r))
 so_far before now d r text runs s end = record {
   bytes = text ++ held_of r;
   ended = r.ended;
   reads = s.reads;
   end = end;
+  unfailing = s.unfailing;
   runs_are = ap (given d true r.ended) (sym (append-nil (text ++ held_of r))) ∙ (s.goes_on r.ended [] (λ e. (e, refl)) ∙ ap (λ l. runs ++ given d (is_front r) r.ended l) (append-nil (held_of r)));
 }
 
-module _ (before now after : Option (List ℕ)) (d : DictionaryText) (r r' : ReaderText) (text : List ℕ) (runs : List (List FileLine)) (s : SoFar before now d r text runs) where
+module _ (before now after : Given) (d : DictionaryText) (r r' : ReaderText) (text : List ℕ) (runs : List (List FileLine)) (s : SoFar before now d r text runs) where
   module _ (run : RunText) (n : Next now after r r' (Ok (Some run))) where
     pub gives : GivesRun d (held_of r ++ n.taken) (held_of r') (is_front r) r'.ended (r.lines + 1) run
     gives = subst (λ (x : DictionaryText). GivesRun x (held_of r ++ n.taken) (held_of r') (is_front r) r'.ended (r.lines + 1) run) s.dictionary n.answers
@@ -88,10 +91,11 @@ module _ (before now after : Option (List ℕ)) (d : DictionaryText) (r r' : Rea
     behind = ne_eqb r'.lines 0 (λ e. absurd (omega (arith, lines_now, gives.some)))
 
     -- a run more was read
-    pub SoFar-run : SoFar before after d r' (text ++ written_run run) (runs ++ gives.lines ∷ [])
-    SoFar-run = record {
+    pub SoFar-run : IsUnfailing now after → SoFar before after d r' (text ++ written_run run) (runs ++ gives.lines ∷ [])
+    SoFar-run works = record {
       dictionary = n.dictionary ∙ s.dictionary;
       reads = subst (Consumes before after) shift (Consumes-trans before now after (text ++ held_of r) n.taken s.reads n.consumes);
+      unfailing = works ∙ s.unfailing;
       counted = omega (arith, s.counted, n.counted, ap length shift, length-append (text ++ held_of r) n.taken);
       goes_on = λ later rest h.
           let before' = s.goes_on later (n.taken ++ rest) (may_follow r.ended r'.ended later n.taken rest n.stays h) in
@@ -116,11 +120,12 @@ module _ (before now after : Option (List ℕ)) (d : DictionaryText) (r r' : Rea
     all = append_assoc text (held_of r) n.taken ∙ (ap (λ l. text ++ l) n.answers.none ∙ append-nil text)
 
     -- the end was read, and these are all runs
-    pub is_read : IsRead d before after runs
-    is_read = record {
+    pub is_read : IsUnfailing now after → IsRead d before after runs
+    is_read works = record {
       bytes = text;
       reads = subst (Consumes before after) all (Consumes-trans before now after (text ++ held_of r) n.taken s.reads n.consumes);
       end = n.answers.end;
+      unfailing = works ∙ s.unfailing;
       sound = ap (fault_in d true true) (sym all)
           ∙ (s.fault true n.taken (λ e. (refl, (n.stays e).0)) ∙ (ap (λ l. later_by r.lines (fault_in d (is_front r) true l)) n.answers.none ∙ ap (later_by r.lines) (nothing_faulty d (is_front r))));
       runs_are = ap (given d true true) (sym all)
@@ -140,17 +145,18 @@ module _ (before now after : Option (List ℕ)) (d : DictionaryText) (r r' : Rea
     none_given none =
         ap (given d true r'.ended) (sym joined) ∙ (s.goes_on r'.ended n.taken (λ e. ((n.stays e).1, (n.stays e).0)) ∙ (ap (λ l. runs ++ l) none ∙ append-nil runs))
 
-    few_reads : (failed : Bool) → (failed ≡ true) ⊎ (r'.reads ≡ 2 ^ 40) → (failed ≡ true) ⊎ (2 ^ 40 ≤ length (text ++ (held_of r ++ n.taken)))
-    few_reads failed (inl f) = inl f
-    few_reads failed (inr f) = inr (omega (arith, s.counted, n.counted, ap length joined, length-append (text ++ held_of r) n.taken))
+    few_reads : FailsOnce now after ⊎ (r'.reads ≡ 2 ^ 40) → FailsOnce before after ⊎ (2 ^ 40 ≤ length (text ++ (held_of r ++ n.taken)))
+    few_reads (inl f) = inl (Fails-after before now after s.unfailing f)
+    few_reads (inr f) = inr (omega (arith, s.counted, n.counted, ap length joined, length-append (text ++ held_of r) n.taken))
 
     both_none : (error.number < 70) ⊎ (error.number ≡ 70) → given d (is_front r) r'.ended (held_of r ++ n.taken) ≡ []
     both_none (inl low) = (is_error.faulty low).none
     both_none (inr e) = (is_error.needed e).none
 
     -- the file has this fault
-    pub has_fault : (failed : Bool) → (r'.ended ≡ true → IsAtEnd after) → (error.number ≡ 70 → (failed ≡ true) ⊎ (r'.reads ≡ 2 ^ 40)) → HasFault d before after failed runs error
-    has_fault failed end reading = record {
+    pub has_fault : (r'.ended ≡ true → IsAtEnd after) → (error.number ≡ 70 → FailsOnce now after ⊎ (r'.reads ≡ 2 ^ 40)) → (error.number ≢ 70 → IsUnfailing now after)
+        → HasFault d before after runs error
+    has_fault end reading sound = record {
       bytes = text ++ (held_of r ++ n.taken);
       ended = r'.ended;
       reads = subst (Consumes before after) joined (Consumes-trans before now after (text ++ held_of r) n.taken s.reads n.consumes);
@@ -162,7 +168,8 @@ module _ (before now after : Option (List ℕ)) (d : DictionaryText) (r r' : Rea
           let f = is_error.needed e in
           (f.unended, ap (fault_in d true r'.ended) (sym joined) ∙ (s.fault r'.ended n.taken (λ e. ((n.stays e).1, (n.stays e).0)) ∙ ap (later_by r.lines) f.sound));
       runs_are = λ low. none_given (both_none low);
-      reading = λ e. few_reads failed (reading e);
+      reading = λ e. few_reads (reading e);
+      unfailing = λ e. sound e ∙ s.unfailing;
       other = is_error.number;
       no_line = is_error.line;
     }

@@ -1,7 +1,7 @@
 -- Two files of one dictionary side by side, run of lines beside run of lines: what is counted of all items where they pair up,
 -- and why a comparison stops where they don't.
-use Rattle.std.specs.Prelude.{◌≡◌, ◌<◌, ◌≤◌, ◌⊎◌, ◌^◌, ℕ, ◌+◌, Bool, true, false, map, List, [], ◌∷◌, ◌++◌, length, sum_by, slice_index_or, Option, None, Some}
-use Rattle.std.specs.Io.KnownBytes.{Consumes, IsAtEnd}
+use Rattle.std.specs.Prelude.{◌≡◌, ◌≢◌, ◌<◌, ◌≤◌, ◌⊎◌, ◌^◌, ℕ, ◌+◌, Bool, true, false, map, List, [], ◌∷◌, ◌++◌, length, sum_by, slice_index_or, Option, None, Some}
+use Rattle.cse_value.specs.Device.{Consumes, FailsOnce, Given, IsAtEnd, IsUnfailing}
 use Rattle.cse_value.specs.declared.shape.ItemShape.{ItemShape}
 use Rattle.cse_dict.specs.Dictionary.{DictionaryText, shape_of}
 use Rattle.cse_lines.specs.declared.error.DataError.{DataError}
@@ -47,24 +47,26 @@ pub record AreCounts (d : DictionaryText) (pairs : List RunPair) (counts : List 
   pub as_many : length counts ≡ length (shape_of d).items
   pub each : (n : ℕ) → n < length (shape_of d).items → slice_index_or counts n no_count ≡ total d (item_at (shape_of d).items n) pairs
 
--- A file was read to its end, and none of its lines is faulty: these are its runs.
-pub record IsRead (d : DictionaryText) (before after : Option (List ℕ)) (runs : List (List FileLine)) : Type 0 where
+-- A file was read to its end, no read failed, and none of its lines is faulty: these are its runs.
+pub record IsRead (d : DictionaryText) (before after : Given) (runs : List (List FileLine)) : Type 0 where
   pub bytes : List ℕ
   pub reads : Consumes before after bytes
   pub end : IsAtEnd after
+  pub unfailing : IsUnfailing before after
   pub sound : fault_in d true true bytes ≡ None
   pub runs_are : given d true true bytes ≡ runs
 
--- So far a file was read, and these are the runs of it that are given.
-pub record IsReadSoFar (d : DictionaryText) (before after : Option (List ℕ)) (runs : List (List FileLine)) : Type 0 where
+-- So far a file was read, no read failed, and these are the runs of it that are given.
+pub record IsReadSoFar (d : DictionaryText) (before after : Given) (runs : List (List FileLine)) : Type 0 where
   pub bytes : List ℕ
   pub ended : Bool
   pub reads : Consumes before after bytes
   pub end : ended ≡ true → IsAtEnd after
+  pub unfailing : IsUnfailing before after
   pub runs_are : given d true ended bytes ≡ runs
 
 -- Both were read to their ends, all lines pair up, and the counts are those of all runs.
-pub record IsCompared (d : DictionaryText) (before after before' after' : Option (List ℕ)) (counts : List Count) : Type 0 where
+pub record IsCompared (d : DictionaryText) (before after before' after' : Given) (counts : List Count) : Type 0 where
   pub pairs : List RunPair
   pub read : IsRead d before after (befores pairs)
   pub written : IsRead d before' after' (afters pairs)
@@ -84,7 +86,7 @@ apart_next d (before ∷ befores) (after ∷ afters) = apart_in d before after
 
 -- The lines of some runs pair up, and then comes one that is apart, by its number in the file: either both files give a next run, and these are
 -- apart, or one has ended, and the other gives a run.
-pub record IsApart (d : DictionaryText) (before after before' after' : Option (List ℕ)) (line : ℕ) : Type 0 where
+pub record IsApart (d : DictionaryText) (before after before' after' : Given) (line : ℕ) : Type 0 where
   pub pairs : List RunPair
   pub are_pairs : ArePairs d pairs
   pub more : List (List FileLine)
@@ -98,8 +100,9 @@ pub record IsApart (d : DictionaryText) (before after before' after' : Option (L
   pub line_is : line ≡ lines_in pairs + place + 1
 
 -- So far a file was read, and it has a fault, or gives no more bytes: 20 to 22 are those of its first faulty line, 70 comes only where a read is needed,
--- and then the device has failed, or 2^40 reads gave bytes; another fault is want of memory. All runs that are given before are these, unless memory lacks.
-pub record HasFault (d : DictionaryText) (before after : Option (List ℕ)) (failed : Bool) (runs : List (List FileLine)) (error : DataError) : Type 0 where
+-- and then one read failed, the last, or 2^40 reads gave bytes; another fault is want of memory, and no other fault is of a read that failed. All runs
+-- that are given before are these, unless memory lacks.
+pub record HasFault (d : DictionaryText) (before after : Given) (runs : List (List FileLine)) (error : DataError) : Type 0 where
   pub bytes : List ℕ
   pub ended : Bool
   pub reads : Consumes before after bytes
@@ -107,32 +110,33 @@ pub record HasFault (d : DictionaryText) (before after : Option (List ℕ)) (fai
   pub faulty : error.number < 70 → (place : ℕ) × ((fault_in d true ended bytes ≡ Some (place, error.number)) × (error.line ≡ place + 1))
   pub needed : error.number ≡ 70 → (ended ≡ false) × (fault_in d true ended bytes ≡ None)
   pub runs_are : (error.number < 70) ⊎ (error.number ≡ 70) → given d true ended bytes ≡ runs
-  pub reading : error.number ≡ 70 → (failed ≡ true) ⊎ (2 ^ 40 ≤ length bytes)
+  pub reading : error.number ≡ 70 → FailsOnce before after ⊎ (2 ^ 40 ≤ length bytes)
+  pub unfailing : error.number ≢ 70 → IsUnfailing before after
   pub other : 70 ≤ error.number → (error.number ≡ 70) ⊎ (error.number ≡ 90)
   pub no_line : 70 ≤ error.number → error.line ≡ 0
 
 -- All lines of the runs before pair up, and then the file that was read has the fault.
-pub record HasReadFault (d : DictionaryText) (before after before' after' : Option (List ℕ)) (failed : Bool) (error : DataError) : Type 0 where
+pub record HasReadFault (d : DictionaryText) (before after before' after' : Given) (error : DataError) : Type 0 where
   pub pairs : List RunPair
   pub are_pairs : ArePairs d pairs
   pub more : List (List FileLine)
-  pub read : HasFault d before after failed (befores pairs) error
+  pub read : HasFault d before after (befores pairs) error
   pub written : IsReadSoFar d before' after' (afters pairs ++ more)
 
 -- So has the one that was written.
-pub record HasWrittenFault (d : DictionaryText) (before after before' after' : Option (List ℕ)) (failed : Bool) (error : DataError) : Type 0 where
+pub record HasWrittenFault (d : DictionaryText) (before after before' after' : Given) (error : DataError) : Type 0 where
   pub pairs : List RunPair
   pub are_pairs : ArePairs d pairs
   pub more : List (List FileLine)
   pub read : IsReadSoFar d before after (befores pairs ++ more)
-  pub written : HasFault d before' after' failed (afters pairs) error
+  pub written : HasFault d before' after' (afters pairs) error
 
 -- why a comparison stopped
-abbrev pub Stops : DictionaryText → Option (List ℕ) → Option (List ℕ) → Option (List ℕ) → Option (List ℕ) → Bool → Bool → Fault → Type 0
-Stops d before after before' after' failed failed' (Data error) = HasReadFault d before after before' after' failed error
-Stops d before after before' after' failed failed' (Out error) = HasWrittenFault d before after before' after' failed' error
-Stops d before after before' after' failed failed' (Apart line) = IsApart d before after before' after' line
-Stops d before after before' after' failed failed' Memory = Unit {0}
+abbrev pub Stops : DictionaryText → Given → Given → Given → Given → Fault → Type 0
+Stops d before after before' after' (Data error) = HasReadFault d before after before' after' error
+Stops d before after before' after' (Out error) = HasWrittenFault d before after before' after' error
+Stops d before after before' after' (Apart line) = IsApart d before after before' after' line
+Stops d before after before' after' Memory = Unit {0}
 
 -- of two runs: no fault but one of a line that is apart
 abbrev pub IfApart : (ℕ → Type 0) → Fault → Type 0

@@ -74,8 +74,8 @@ pub fn compare<R: Input, S: Input>(
     read: &mut R,
     written: &mut S,
 ) -> Result<Vec<Count>, Fault>
-    ensures ok { IfOk result (λ counts. IsCompared dictionary.now (R.remaining read.old) (R.remaining read.new) (S.remaining written.old) (S.remaining written.new) counts.items) }
-    ensures stops { IfErr result (Stops dictionary.now (R.remaining read.old) (R.remaining read.new) (S.remaining written.old) (S.remaining written.new) (R.has_failed read.new) (S.has_failed written.new)) }
+    ensures ok { IfOk result (λ counts. IsCompared dictionary.now (R.given read.old) (R.given read.new) (S.given written.old) (S.given written.new) counts.items) }
+    ensures stops { IfErr result (Stops dictionary.now (R.given read.old) (R.given read.new) (S.given written.old) (S.given written.new)) }
 {
     let shape = dictionary.shape();
     let mut counts = no_counts(alloc, shape.items.len())?;

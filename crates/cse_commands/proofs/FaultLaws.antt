@@ -1,7 +1,7 @@
 -- The line of a fault: its words, and the end of the line behind them.
-use Rattle.std.proofs.Common.{◌≡◌, ℕ, List, [], ◌∷◌, ◌++◌, Option, Some, Result, refl, ap, sym, ◌∙◌, subst, append_assoc}
+use Rattle.std.proofs.Common.{◌≡◌, ℕ, List, [], ◌∷◌, ◌++◌, Some, Result, refl, ap, sym, ◌∙◌, subst, append_assoc}
 use Rattle.std.specs.Prelude.{codes}
-use Rattle.std.specs.Io.KnownBytes.{Appends}
+use Rattle.cse_value.specs.Device.{Appends}
 use Rattle.cse_value.specs.Writing.{AppendsFront, WritesAll}
 use Rattle.cse_value.proofs.WriteLaws.{AppendsFront-more, WritesAll-after}
 use Rattle.cse_commands.specs.FaultLine.{told, fault_text}
@@ -33,9 +33,9 @@ words_ended number fault e =
     ++ told (codes " routine ") fault.routine ++ told (codes " place ") fault.place ++ 10 ∷ [])
     e
 
-pub words_front : (number : ℕ) (fault : Fault) (a b : Option (List ℕ)) → number ≡ fault.number → AppendsFront a b (words_of number fault) → AppendsFront a b (fault_text fault)
+pub words_front : (number : ℕ) (fault : Fault) (a b : List ℕ) → number ≡ fault.number → AppendsFront a b (words_of number fault) → AppendsFront a b (fault_text fault)
 words_front number fault a b e front = subst (λ l. AppendsFront a b l) (words_ended number fault e) (AppendsFront-more a b (words_of number fault) (10 ∷ []) front)
 
-pub words_whole : {T E : Type 0} (r : Result T E) (number : ℕ) (fault : Fault) (a b c : Option (List ℕ)) → number ≡ fault.number → Appends a b (words_of number fault)
+pub words_whole : {T E : Type 0} (r : Result T E) (number : ℕ) (fault : Fault) (a b c : List ℕ) → number ≡ fault.number → Appends a b (words_of number fault)
     → WritesAll r b c (10 ∷ []) → WritesAll r a c (fault_text fault)
 words_whole r number fault a b c e h w = subst (λ l. WritesAll r a c l) (words_ended number fault e) (WritesAll-after r a b c (words_of number fault) (10 ∷ []) h w)

@@ -1,5 +1,6 @@
 -- Which stops are faults, and what becomes of a run whose steps are refused.
 use Rattle.std.proofs.Common.{◌≡◌, ℕ, Bool, true, false, List, Option, None, Some, Result, Ok, Err, IfErr, IfSome, IfNone, subst, sym, refl}
+use Rattle.cse_value.specs.Device.{Given}
 use Rattle.std.specs.Borrow.{Bor}
 use Rattle.cse_image_parts.specs.Image.{Image}
 use Rattle.cse_verify.specs.Verified.{VerifiedProgram}
@@ -15,9 +16,9 @@ is_told true fault = tt
 is_told false fault = tt
 
 -- the fault of a run
-pub told_is_fault : (v : VerifiedProgram) (store : Kept) (before after : Option (List ℕ)) (old new : Option (List ℕ) → Contents) (input_failed : Bool) (failed : Bool → Failures)
-    (stop : Stop) → TellsRunFault v store before after old new input_failed failed stop → HasNumber stop
-told_is_fault v store before after old new input_failed failed stop t = subst HasNumber (sym t.tells) (is_told t.lacked t.fault)
+pub told_is_fault : (v : VerifiedProgram) (store : Kept) (before after : Given) (old new : List ℕ → Contents) (failed : Bool → Failures)
+    (stop : Stop) → TellsRunFault v store before after old new failed stop → HasNumber stop
+told_is_fault v store before after old new failed stop t = subst HasNumber (sym t.tells) (is_told t.lacked t.fault)
 
 -- that of a store
 pub store_is_fault : (x : Image) (text : Option (Bor (List ℕ))) (r : Result Kept Stop) → IfNone text (IfErr r IsMemory)

@@ -1,7 +1,9 @@
+pub mod CompiledLaws
 pub mod ApartLaws
 pub mod EditedLaws
 pub mod FaultLaws
 pub mod FaultyLaws
+pub mod FileLaws
 pub mod OutcomeLaws
 pub mod PrintLaws
 pub mod RanLaws

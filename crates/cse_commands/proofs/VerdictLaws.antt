@@ -1,7 +1,7 @@
 -- What `verify` prints of the routines of a program, line by line.
-use Rattle.std.proofs.Common.{◌≡◌, ℕ, zero, suc, ◌+◌, ◌<◌, ◌≤◌, List, [], ◌++◌, Option, refl, ap, sym, ◌∙◌, subst, arith, inl, inr, add-one, append_assoc}
-use Rattle.std.specs.Io.KnownBytes.{Appends}
-use Rattle.std.proofs.KnownBytes.{Appends-nil, Appends-trans}
+use Rattle.std.proofs.Common.{◌≡◌, ℕ, zero, suc, ◌+◌, ◌<◌, ◌≤◌, List, [], ◌++◌, refl, ap, sym, ◌∙◌, subst, arith, inl, inr, add-one, append_assoc}
+use Rattle.cse_value.specs.Device.{Appends}
+use Rattle.cse_value.proofs.WriteLaws.{Appends-nil, Appends-trans}
 use Rattle.std.proofs.lemmas.Bool.{cases_lt}
 use Rattle.std.proofs.lemmas.List.{append-nil}
 use Rattle.cse_value.specs.Writing.{AppendsFront}
@@ -12,7 +12,7 @@ use Rattle.cse_verify.specs.declared.depth.Depth.{Depth}
 use Rattle.cse_commands.specs.Verdict.{routine_line, routine_lines, last_lines}
 
 -- before the first line
-pub no_lines : (x : Image) (a : Option (List ℕ)) → Appends a a (routine_lines x 0)
+pub no_lines : (x : Image) (a : List ℕ) → Appends a a (routine_lines x 0)
 unfolding routine_lines
 no_lines x a = Appends-nil a
 
@@ -21,7 +21,7 @@ unfolding routine_lines
 lines_more x n = refl
 
 -- one line more
-pub line_more : (x : Image) (n r steps : ℕ) (a b c : Option (List ℕ)) → r ≡ n → steps ≡ bound x r → Appends a b (routine_lines x n) → Appends b c (routine_line r steps)
+pub line_more : (x : Image) (n r steps : ℕ) (a b c : List ℕ) → r ≡ n → steps ≡ bound x r → Appends a b (routine_lines x n) → Appends b c (routine_line r steps)
     → Appends a c (routine_lines x (n + 1))
 line_more x n r steps a b c e told before line =
     let known : steps ≡ bound x n = told ∙ ap (bound x) e in
@@ -39,7 +39,7 @@ lines_rest x n (suc m) h =
     ]
 
 -- a line that was not written whole
-pub line_front : (x : Image) (n m r steps : ℕ) (a b c : Option (List ℕ)) → r ≡ n → steps ≡ bound x r → n < m → Appends a b (routine_lines x n) → AppendsFront b c (routine_line r steps)
+pub line_front : (x : Image) (n m r steps : ℕ) (a b c : List ℕ) → r ≡ n → steps ≡ bound x r → n < m → Appends a b (routine_lines x n) → AppendsFront b c (routine_line r steps)
     → AppendsFront a c (routine_lines x m)
 line_front x n m r steps a b c e told h before front =
     let known : steps ≡ bound x n = told ∙ ap (bound x) e in

@@ -2,6 +2,8 @@
 use Rattle.std.specs.Prelude.{ℕ, ◌==◌, ◌||◌, if◌then◌else◌, Option, None, Some, Result, Ok, Err}
 use Rattle.cse_image.specs.declared.error.ImageError.{ImageError}
 use Rattle.cse_code_typing.specs.declared.refusal.Refusal.{Refusal}
+use Rattle.cse_files.specs.declared.fault.ReadFault.{ReadFault}
+use Rattle.cse_files.specs.declared.fault.ReadFault.TheVariants as reads
 use Rattle.cse_files.specs.declared.fault.WriteFault.{WriteFault}
 use Rattle.cse_files.specs.declared.fault.WriteFault.TheVariants.{NotOpened, NotWritten, Memory}
 use Rattle.cse_batch.specs.declared.image.CheckFault.{CheckFault}
@@ -65,6 +67,12 @@ abbrev pub number_asked : Asked → ℕ
 number_asked Open = 72
 number_asked Read = 70
 number_asked Write = 71
+
+-- the number of a file that was not read
+abbrev pub number_of_read : ReadFault → ℕ
+number_of_read reads.NotOpened = 72
+number_of_read reads.NotRead = 70
+number_of_read reads.Memory = 90
 
 -- the number of a file that was not written
 abbrev pub number_of_write : WriteFault → ℕ

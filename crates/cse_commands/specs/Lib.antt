@@ -1,8 +1,12 @@
 pub mod Allowed
 pub mod Apart
+pub mod Compiled
+pub mod Counted
 pub mod Edited
 pub mod Ending
 pub mod FaultLine
+pub mod Judged
+pub mod Named
 pub mod Printed
 pub mod Ran
 pub mod Roles

@@ -1,5 +1,6 @@
 -- Why logic becomes no image; why a run over files has no store to begin with, or stops.
-use Rattle.std.specs.Prelude.{◌≡◌, ◌⊎◌, ℕ, Bool, true, false, List, [], Option, Some, Result, Ok, Err}
+use Rattle.std.specs.Prelude.{◌≡◌, ◌⊎◌, ℕ, Bool, true, false, List, [], Result, Ok, Err}
+use Rattle.cse_value.specs.Device.{Given}
 use Rattle.cse_image_parts.specs.Image.{Image}
 use Rattle.cse_dict.specs.Dictionary.{DictionaryText}
 use Rattle.cse_build.specs.declared.error.BuildFault.{BuildFault}
@@ -47,11 +48,11 @@ told_of true fault = Refused (plain_fault 90)
 told_of false fault = Refused (fault_at fault.number fault.line)
 
 -- It tells the fault of a run, whose outputs hold what is said of such a run. The deck text was gathered beside them.
-pub record TellsRunFault (v : VerifiedProgram) (store : Kept) (before after : Option (List ℕ)) (old new : Option (List ℕ) → Contents) (input_failed : Bool) (failed : Bool → Failures) (stop : Stop) : Type 0 where
+pub record TellsRunFault (v : VerifiedProgram) (store : Kept) (before after : Given) (old new : List ℕ → Contents) (failed : Bool → Failures) (stop : Stop) : Type 0 where
   pub fault : RunFault
   pub gathered : List ℕ
   pub lacked : Bool
-  pub stops : RunStops v store before after (old (Some [])) (new (Some gathered)) input_failed (failed lacked) fault
+  pub stops : RunStops v store before after (old []) (new gathered) (failed lacked) fault
   pub tells : stop ≡ told_of lacked fault
 
 -- It tells the number, the line and the column of a fault of these texts: of a message file, an order file and logic. Of sound texts it is a

@@ -1,6 +1,6 @@
 -- What `try` answers of the bytes of an image.
-use Rattle.std.specs.Prelude.{◌≡◌, ℕ, Bool, true, false, ◌||◌, List, [], Option, None, Result, Ok, Err, codes}
-use Rattle.std.specs.Io.KnownBytes.{Appends}
+use Rattle.std.specs.Prelude.{◌≡◌, ℕ, Bool, true, false, ◌||◌, List, [], None, Result, Ok, Err, codes}
+use Rattle.cse_value.specs.Device.{Appends}
 use Rattle.cse_value.specs.Writing.{AppendsFront}
 use Rattle.cse_image_parts.specs.declared.entries.EventCode.TheVariants.{ApplicationPreproc}
 use Rattle.cse_image_parts.specs.Image.{Image}
@@ -58,7 +58,7 @@ IsRefused bytes faults.Write = ⊥
 IsRefused bytes faults.Memory = Unit {0}
 
 -- What was printed before a fault: nothing, but that a device may fail in the text of a run.
-abbrev pub PrintsBefore : List ℕ → TryFault → Option (List ℕ) → Option (List ℕ) → Type 0
+abbrev pub PrintsBefore : List ℕ → TryFault → List ℕ → List ℕ → Type 0
 PrintsBefore bytes (faults.Image e) old new = Appends old new []
 PrintsBefore bytes (faults.Refused r) old new = Appends old new []
 PrintsBefore bytes faults.Write old new = (n : ℕ) × ((r : Runs bytes n) × AppendsFront old new (text_of r))

@@ -1,6 +1,6 @@
 -- What `verify` answers of the text of a dictionary and the bytes of an image.
-use Rattle.std.specs.Prelude.{◌≡◌, ℕ, Bool, true, false, ◌||◌, List, [], Option, Result, Ok, Err}
-use Rattle.std.specs.Io.KnownBytes.{Appends}
+use Rattle.std.specs.Prelude.{◌≡◌, ℕ, Bool, true, false, ◌||◌, List, [], Result, Ok, Err}
+use Rattle.cse_value.specs.Device.{Appends}
 use Rattle.cse_value.specs.Writing.{AppendsFront}
 use Rattle.cse_value.specs.Shape.{ShapeLists}
 use Rattle.cse_image_parts.specs.Image.{Image}
@@ -52,7 +52,7 @@ FailsBy text bytes (faults.Check f) = IsNoPass text bytes f
 FailsBy text bytes faults.Write = ⊥
 
 -- What was printed before a fault: nothing, but that a device may fail in the text.
-abbrev pub TellsBefore : List ℕ → List ℕ → VerifyFault → Option (List ℕ) → Option (List ℕ) → Type 0
+abbrev pub TellsBefore : List ℕ → List ℕ → VerifyFault → List ℕ → List ℕ → Type 0
 TellsBefore text bytes (faults.Dict e) old new = Appends old new []
 TellsBefore text bytes (faults.Check f) old new = Appends old new []
 TellsBefore text bytes faults.Write old new = (p : Passes text bytes) × AppendsFront old new (told p)

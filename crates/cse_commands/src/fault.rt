@@ -190,7 +190,7 @@ pub fn ending(number: u8) -> u8
 /// Writes `refused N` and what the fault tells of its place, as one line: ` line L`, ` column C`,
 /// ` byte B`, ` routine R`, ` place P`. A write that fails is the only fault (71).
 pub fn fault_line<W: Output>(fault: &Fault, out: &mut W) -> Result<(), Failed>
-    ensures bytes { WritesAll result (W.contents out.old) (W.contents out.new) (fault_text fault.now) }
+    ensures bytes { WritesAll result (W.taken out.old) (W.taken out.new) (fault_text fault.now) }
     ensures failed { FailsAtErr result (W.has_failed out.old) (W.has_failed out.new) }
 {
     write_all_told(
@@ -209,7 +209,7 @@ pub fn fault_line<W: Output>(fault: &Fault, out: &mut W) -> Result<(), Failed>
 
 /// Writes words with their numbers, one after the other.
 fn write_all_told<W: Output>(parts: &[(&[u8], Option<u64>)], out: &mut W) -> Result<(), Failed>
-    ensures bytes { WritesAll result (W.contents out.old) (W.contents out.new) (flat_map (λ part. told part.0.now part.1) parts.now) }
+    ensures bytes { WritesAll result (W.taken out.old) (W.taken out.new) (flat_map (λ part. told part.0.now part.1) parts.now) }
     ensures failed { FailsAtErr result (W.has_failed out.old) (W.has_failed out.new) }
 {
     for part in parts {
@@ -220,7 +220,7 @@ fn write_all_told<W: Output>(parts: &[(&[u8], Option<u64>)], out: &mut W) -> Res
 
 /// Writes a word and a number, where the number is told.
 fn write_told<W: Output>(word: &[u8], number: Option<u64>, out: &mut W) -> Result<(), Failed>
-    ensures bytes { WritesAll result (W.contents out.old) (W.contents out.new) (told word.now number) }
+    ensures bytes { WritesAll result (W.taken out.old) (W.taken out.new) (told word.now number) }
     ensures failed { FailsAtErr result (W.has_failed out.old) (W.has_failed out.new) }
 {
     match number {
@@ -234,7 +234,7 @@ fn write_told<W: Output>(word: &[u8], number: Option<u64>, out: &mut W) -> Resul
 
 /// Writes which two words lead to one file.
 pub fn write_one_file<W: Output>(first: Role, second: Role, out: &mut W) -> Result<(), Failed>
-    ensures bytes { WritesAll result (W.contents out.old) (W.contents out.new) (one_file_text first second) }
+    ensures bytes { WritesAll result (W.taken out.old) (W.taken out.new) (one_file_text first second) }
     ensures failed { FailsAtErr result (W.has_failed out.old) (W.has_failed out.new) }
 {
     let (first, second) = (first.word().as_bytes(), second.word().as_bytes());
@@ -252,7 +252,7 @@ pub fn write_one_file<W: Output>(first: Role, second: Role, out: &mut W) -> Resu
 
 /// Writes how many steps a case may take, and how many are allowed.
 pub fn write_steps_above<W: Output>(steps: u64, allowed: u64, out: &mut W) -> Result<(), Failed>
-    ensures bytes { WritesAll result (W.contents out.old) (W.contents out.new) (steps_text steps allowed) }
+    ensures bytes { WritesAll result (W.taken out.old) (W.taken out.new) (steps_text steps allowed) }
     ensures failed { FailsAtErr result (W.has_failed out.old) (W.has_failed out.new) }
 {
     let mut first = Buffer::new();

@@ -1,13 +1,17 @@
 //! The files of the commands.
 
-ghost use Rattle.std.specs.Prelude.{◌≤◌, IfErr, IfOk, length};
+ghost use Rattle.std.specs.Prelude.{◌≡◌, [], false, None, IfErr, IfOk, IfSome, option_copied, option_map};
+ghost use Rattle.cse_value.specs.Sound.{are_given};
+ghost use Rattle.cse_files.specs.Whole.{IsAll, IsWhole};
 ghost use Rattle.cse_commands.specs.Stops.{HasNumber, IsNotOpened};
-ghost use Rattle.cse_commands.specs.declared.files.TheConstants.{MOST_TEXT};
+ghost use Rattle.cse_commands.specs.Named.{IsNamed, text_or_none};
 
 use crate::outcome::{Asked, Stop};
-use cse_files::{WriteFault, replace};
-use std::fs;
-use std::io::{ErrorKind, Read};
+use cse_files::{
+    OpenedInput, OpenedOutput, Replaced, WholeFile, create_output, open_input, read_where_there,
+    read_whole, replace,
+};
+use cse_value::{Input, Output, Reads, Writes};
 use std::rt::Files;
 
 /// The most bytes of an image: its header, 12 counts and what they count, and its instructions.
@@ -18,99 +22,138 @@ pub const MOST_DECKS: u64 = 21_233_489;
 pub const MOST_TEXT: u64 = 268_435_456;
 
 /// A file that is read: 72 where it can't be opened.
-pub fn opened<R: Files>(rt: &R, path: &str) -> Result<R::File, Stop>
+pub fn opened<'a, R: Files>(rt: &R, path: &'a str) -> Result<OpenedInput<'a, R::File>, Stop>
+    ensures path { IfOk result (λ f. f.path.now ≡ path.now) }
+    ensures given { IfOk result (λ f. ⟦<Reads<R::File> as Input>⟧.given f.device ≡ are_given [] false 0) }
     ensures not_opened { IfErr result IsNotOpened }
     ensures fault { IfErr result HasNumber }
 {
-    match fs::open(rt, path) {
+    match open_input(rt, path) {
         Ok(file) => Ok(file),
         Err(error) => Err(Stop::of_failure(Asked::Open, error.kind())),
     }
 }
 
-/// A file that is written from its beginning: 72 where it can't be opened.
-pub fn created<R: Files>(rt: &R, path: &str) -> Result<R::File, Stop>
+/// A file that is written from its beginning, and synced later, if that is asked: 72 where it can't be opened.
+pub fn created<'a, R: Files>(
+    rt: &R,
+    path: &'a str,
+    sync: bool,
+) -> Result<OpenedOutput<'a, R::File>, Stop>
+    ensures path { IfOk result (λ f. f.path.now ≡ path.now) }
+    ensures taken { IfOk result (λ f. ⟦<Writes<R::File> as Output>⟧.taken f.device ≡ []) }
+    ensures unsynced { sync ≡ false → IfOk result (λ f. f.same ≡ None) }
     ensures not_opened { IfErr result IsNotOpened }
     ensures fault { IfErr result HasNumber }
 {
-    match fs::create(rt, path) {
+    match create_output(rt, path, sync) {
         Ok(file) => Ok(file),
         Err(error) => Err(Stop::of_failure(Asked::Open, error.kind())),
     }
 }
 
-/// The bytes that a file has left, and one more than these at most: 70 where a read fails.
-fn bytes_left<R: AllocGlobal, F: Read + Drop>(rt: &R, file: F, most: u64) -> Result<Vec<u8>, Stop>
+/// A file and its bytes, and one more than these at most: 72 where it can't be opened, 70 where a read fails.
+pub fn file_bytes<'a, R: Files + AllocGlobal>(
+    rt: &R,
+    path: &'a str,
+    most: u64,
+) -> Result<WholeFile<'a, R::File>, Stop>
+    ensures path { IfOk result (λ f. f.input.path.now ≡ path.now) }
+    ensures whole { IfOk result (λ f. IsWhole (⟦<Reads<R::File> as Input>⟧.given f.input.device) f.bytes.items most) }
     ensures fault { IfErr result HasNumber }
 {
-    let mut bytes = Vec::new(rt.alloc());
-    match file.take(most.saturating_add(1)).read_to_end(&mut bytes) {
-        Ok(_) => Ok(bytes),
-        Err(error) => Err(Stop::of_failure(Asked::Read, error.kind())),
+    match read_whole(rt, path, most) {
+        Ok(file) => Ok(file),
+        Err(fault) => Err(Stop::of_read(fault)),
     }
 }
 
-/// The bytes of a file, and one more than these at most: 72 where it can't be opened, 70 where a read fails.
-pub fn file_bytes<R: Files + AllocGlobal>(rt: &R, path: &str, most: u64) -> Result<Vec<u8>, Stop>
-    ensures fault { IfErr result HasNumber }
-{
-    bytes_left(rt, opened(rt, path)?, most)
-}
-
-/// All bytes of a text: 72 where its file can't be opened, 70 where a read fails, and a fault of its own above
+/// A file and all bytes of its text: 72 where it can't be opened, 70 where a read fails, and a fault of its own above
 /// `MOST_TEXT` bytes.
-pub fn file_text<R: Files + AllocGlobal>(rt: &R, path: &str, too_long: u8) -> Result<Vec<u8>, Stop>
+pub fn file_text<'a, R: Files + AllocGlobal>(
+    rt: &R,
+    path: &'a str,
+    too_long: u8,
+) -> Result<WholeFile<'a, R::File>, Stop>
+    ensures path { IfOk result (λ f. f.input.path.now ≡ path.now) }
+    ensures all { IfOk result (λ f. IsAll (⟦<Reads<R::File> as Input>⟧.given f.input.device) f.bytes.items) }
     ensures fault { IfErr result HasNumber }
-    ensures most { IfOk result (λ text. length text.items ≤ MOST_TEXT) }
 {
     let text = file_bytes(rt, path, MOST_TEXT)?;
-    if text.len() as u64 > MOST_TEXT {
+    if text.bytes().len() as u64 > MOST_TEXT {
         return Err(Stop::of_number(too_long));
     }
     Ok(text)
 }
 
-/// All bytes of a text that is named; none, where it isn't.
-pub fn text_where_named<R: Files + AllocGlobal>(
+/// A file and all bytes of its text, if it is named.
+pub fn text_where_named<'a, R: Files + AllocGlobal>(
     rt: &R,
-    path: Option<&str>,
+    path: Option<&'a str>,
     too_long: u8,
-) -> Result<Vec<u8>, Stop>
+) -> Result<Option<WholeFile<'a, R::File>>, Stop>
+    ensures path { IfOk result (λ text. option_map (λ f. f.input.path.now) text ≡ option_map (λ p. p.now) path.entry) }
+    ensures all { IfOk result (λ text. IfSome text (λ f. IsAll (⟦<Reads<R::File> as Input>⟧.given f.input.device) f.bytes.items)) }
     ensures fault { IfErr result HasNumber }
-    ensures most { IfOk result (λ text. length text.items ≤ MOST_TEXT) }
 {
     match path {
-        Some(path) => file_text(rt, path, too_long),
-        None => Ok(Vec::new(rt.alloc())),
+        Some(path) => Ok(Some(file_text(rt, path, too_long)?)),
+        None => Ok(None),
     }
 }
 
-/// The bytes of a file, and one more than these at most, where one is named and there.
-pub fn bytes_where_there<R: Files + AllocGlobal>(
+/// A file and its bytes, and one more than these at most, where one is named and there.
+pub fn bytes_where_there<'a, R: Files + AllocGlobal>(
     rt: &R,
-    path: Option<&str>,
+    path: Option<&'a str>,
     most: u64,
-) -> Result<Option<Vec<u8>>, Stop>
+) -> Result<Option<WholeFile<'a, R::File>>, Stop>
+    ensures path { IfOk result (λ read. IsNamed (option_map (λ p. p.now) path.entry) (option_map (λ f. f.input.path.now) read)) }
+    ensures whole { IfOk result (λ read. IfSome read (λ f. IsWhole (⟦<Reads<R::File> as Input>⟧.given f.input.device) f.bytes.items most)) }
     ensures fault { IfErr result HasNumber }
 {
     let Some(path) = path else {
         return Ok(None);
     };
-    let file = match fs::open(rt, path) {
-        Ok(file) => file,
-        Err(error) if error.kind() == ErrorKind::NotFound => return Ok(None),
-        Err(error) => return Err(Stop::of_failure(Asked::Open, error.kind())),
-    };
-    Ok(Some(bytes_left(rt, file, most)?))
+    match read_where_there(rt, path, most) {
+        Ok(read) => Ok(read),
+        Err(fault) => Err(Stop::of_read(fault)),
+    }
+}
+
+/// The bytes of a file that may be there.
+pub fn bytes_of<'b, F: Drop>(file: &'b Option<WholeFile<'_, F>>) -> Option<&'b [u8]>
+    ensures { option_copied result ≡ option_map (λ f. f.bytes.items) file.now }
+{
+    match file {
+        Some(file) => Some(file.bytes()),
+        None => None,
+    }
+}
+
+/// The text of a file that may be named; an empty one, where none is.
+pub fn text_of<'b, F: Drop>(file: &'b Option<WholeFile<'_, F>>) -> &'b [u8]
+    ensures { result.now ≡ text_or_none (option_map (λ f. f.bytes.items) file.now) }
+{
+    match file {
+        Some(file) => file.bytes(),
+        None => &[],
+    }
 }
 
 /// Makes these the bytes of a file: 72 where it can't be opened, 71 where they can't be written. Then a file that was
 /// there is as it was, as far as `cse_files::replace` can see to it.
-pub fn write_file<R: Files + AllocGlobal>(rt: &R, path: &str, bytes: &[u8]) -> Result<(), Stop>
+pub fn write_file<'a, R: Files + AllocGlobal>(
+    rt: &R,
+    path: &'a str,
+    bytes: &[u8],
+) -> Result<Replaced<'a, R::File>, Stop>
+    ensures path { IfOk result (λ f. f.path.now ≡ path.now) }
+    ensures taken { IfOk result (λ f. ⟦<Writes<R::File> as Output>⟧.taken f.device ≡ bytes.now) }
     ensures fault { IfErr result HasNumber }
 {
     match replace(rt, path, bytes) {
-        Ok(()) => Ok(()),
+        Ok(file) => Ok(file),
         Err(fault) => Err(Stop::of_write(fault)),
     }
 }

@@ -5,10 +5,10 @@
 //! - `try_image`: `try`, from the bytes of an image to the messages of its preproc.
 //! - `verify_image`: `verify`, from a dictionary and an image to what is known of the program. `verdict`:
 //!   its lines.
-//! - `compile_image`: `compile`, logic to the bytes of an image.
-//! - `run_image`: `run`, an image over a data file. `gathered`: bytes in memory.
-//! - `edit_data`: `edit`, logic over a data file with no image between.
-//! - `files`: the files of the commands. `role`, `apart`: what each is to its command, and that no two are one.
+//! - `compile_image`: `compile`, logic to an image. `compiled`: what it came to.
+//! - `run_image`: `run`, an image over a data file. `ran`: what it came to.
+//! - `edit_data`: `edit`, logic over a data file with no image between. `edited`: what it came to.
+//! - `judged`: what `verify` and `try` judged. `files`: the files of the commands. `role`, `apart`: what each is to its command, and that no two are one.
 //! - `printing`, `fault`: lines for a device. `outcome`: the exit status.
 //! - `start`: what the program is: a command, what is told of it, and its status.
 #![tactic(auto)]
@@ -16,13 +16,16 @@
 pub mod apart;
 pub mod commands;
 pub mod compile_image;
+pub mod compiled;
 pub mod edit_data;
+pub mod edited;
 pub mod fault;
 pub mod files;
-pub mod gathered;
+pub mod judged;
 pub mod outcome;
 pub mod plan;
 pub mod printing;
+pub mod ran;
 pub mod role;
 pub mod run_image;
 pub mod start;

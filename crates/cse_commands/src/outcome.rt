@@ -3,11 +3,11 @@
 ghost use Rattle.std.specs.Prelude.{◌≡◌, ◌≢◌};
 ghost use Rattle.std.specs.declared.io.ErrorKind.TheVariants.{OutOfMemory};
 ghost use Rattle.cse_commands.specs.Stops.{HasNumber};
-ghost use Rattle.cse_commands.specs.Ending.{exit_status, number_asked, number_of_write, plain_fault};
+ghost use Rattle.cse_commands.specs.Ending.{exit_status, number_asked, number_of_read, number_of_write, plain_fault};
 
 use crate::fault::{Fault, NO_MEMORY, NOT_OPENED, READ_FAILED, WRITE_FAILED, ending};
 use crate::role::Role;
-use cse_files::WriteFault;
+use cse_files::{ReadFault, WriteFault};
 use std::alloc::AllocError;
 use std::io::ErrorKind;
 
@@ -50,6 +50,17 @@ impl Stop {
         match kind {
             ErrorKind::OutOfMemory => Stop::of_number(NO_MEMORY),
             _ => Stop::of_number(number_asked(asked)),
+        }
+    }
+
+    /// The fault of a file that was not read.
+    pub fn of_read(fault: ReadFault) -> Stop
+        ensures { result ≡ Stop.Refused (plain_fault (number_of_read fault)) }
+    {
+        match fault {
+            ReadFault::NotOpened => Stop::of_number(NOT_OPENED),
+            ReadFault::NotRead => Stop::of_number(READ_FAILED),
+            ReadFault::Memory => Stop::of_number(NO_MEMORY),
         }
     }
 

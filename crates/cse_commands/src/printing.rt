@@ -14,7 +14,7 @@ use itoa::Buffer;
 
 /// Writes parts, one after the other.
 pub fn write_parts<W: Output>(parts: &[&[u8]], out: &mut W) -> Result<(), Failed>
-    ensures bytes { WritesAll result (W.contents out.old) (W.contents out.new) (flat_map (λ part. part.now) parts.now) }
+    ensures bytes { WritesAll result (W.taken out.old) (W.taken out.new) (flat_map (λ part. part.now) parts.now) }
     ensures failed { FailsAtErr result (W.has_failed out.old) (W.has_failed out.new) }
 {
     for part in parts {
@@ -25,7 +25,7 @@ pub fn write_parts<W: Output>(parts: &[&[u8]], out: &mut W) -> Result<(), Failed
 
 /// Writes a text on a line.
 fn write_text<W: Output>(text: &str, out: &mut W) -> Result<(), Failed>
-    ensures bytes { WritesAll result (W.contents out.old) (W.contents out.new) (text_line text.now) }
+    ensures bytes { WritesAll result (W.taken out.old) (W.taken out.new) (text_line text.now) }
     ensures failed { FailsAtErr result (W.has_failed out.old) (W.has_failed out.new) }
 {
     write_all(out, text.as_bytes())?;
@@ -34,7 +34,7 @@ fn write_text<W: Output>(text: &str, out: &mut W) -> Result<(), Failed>
 
 /// Writes the texts of the messages that are held, each on a line.
 fn write_texts<W: Output>(listing: &Listing, out: &mut W) -> Result<(), Failed>
-    ensures bytes { WritesAll result (W.contents out.old) (W.contents out.new) (text_lines listing.now.texts) }
+    ensures bytes { WritesAll result (W.taken out.old) (W.taken out.new) (text_lines listing.now.texts) }
     ensures failed { FailsAtErr result (W.has_failed out.old) (W.has_failed out.new) }
 {
     let mut number = 0;
@@ -47,7 +47,7 @@ fn write_texts<W: Output>(listing: &Listing, out: &mut W) -> Result<(), Failed>
 
 /// Writes how many steps a run took.
 fn write_steps<W: Output>(steps: u64, out: &mut W) -> Result<(), Failed>
-    ensures bytes { WritesAll result (W.contents out.old) (W.contents out.new) (steps_line steps) }
+    ensures bytes { WritesAll result (W.taken out.old) (W.taken out.new) (steps_line steps) }
     ensures failed { FailsAtErr result (W.has_failed out.old) (W.has_failed out.new) }
 {
     let mut buffer = Buffer::new();
@@ -57,7 +57,7 @@ fn write_steps<W: Output>(steps: u64, out: &mut W) -> Result<(), Failed>
 
 /// Writes the texts of the messages that are held, and how many steps the run took.
 pub fn print<W: Output>(listing: &Listing, steps: u64, out: &mut W) -> Result<(), Failed>
-    ensures bytes { WritesAll result (W.contents out.old) (W.contents out.new) (printed listing.now.texts steps) }
+    ensures bytes { WritesAll result (W.taken out.old) (W.taken out.new) (printed listing.now.texts steps) }
     ensures failed { FailsAtErr result (W.has_failed out.old) (W.has_failed out.new) }
 {
     write_texts(listing, out)?;
@@ -69,7 +69,7 @@ pub const VERSION: &str = "0.1.0";
 
 /// Writes the version.
 pub fn write_version<W: Output>(out: &mut W) -> Result<(), Failed>
-    ensures bytes { WritesAll result (W.contents out.old) (W.contents out.new) (version_line VERSION.now) }
+    ensures bytes { WritesAll result (W.taken out.old) (W.taken out.new) (version_line VERSION.now) }
     ensures failed { FailsAtErr result (W.has_failed out.old) (W.has_failed out.new) }
 {
     write_parts(&[b"csbatch ", VERSION.as_bytes(), b"\n"], out)
@@ -77,7 +77,7 @@ pub fn write_version<W: Output>(out: &mut W) -> Result<(), Failed>
 
 /// Writes how many bytes an image has that was made.
 pub fn write_compiled<W: Output>(bytes: usize, out: &mut W) -> Result<(), Failed>
-    ensures bytes { WritesAll result (W.contents out.old) (W.contents out.new) (compiled_line bytes) }
+    ensures bytes { WritesAll result (W.taken out.old) (W.taken out.new) (compiled_line bytes) }
     ensures failed { FailsAtErr result (W.has_failed out.old) (W.has_failed out.new) }
 {
     let mut buffer = Buffer::new();
@@ -87,7 +87,7 @@ pub fn write_compiled<W: Output>(bytes: usize, out: &mut W) -> Result<(), Failed
 
 /// Writes what a run counted.
 pub fn write_totals<W: Output>(totals: Totals, out: &mut W) -> Result<(), Failed>
-    ensures bytes { WritesAll result (W.contents out.old) (W.contents out.new) (totals_line totals) }
+    ensures bytes { WritesAll result (W.taken out.old) (W.taken out.new) (totals_line totals) }
     ensures failed { FailsAtErr result (W.has_failed out.old) (W.has_failed out.new) }
 {
     let mut first = Buffer::new();

@@ -1,7 +1,7 @@
 //! The start of the program: a command is carried out, what it has not done is told, and its status answered.
 
 ghost use Rattle.std.specs.Prelude.{◌≡◌, false};
-ghost use Rattle.std.specs.Io.KnownBytes.{Appends};
+ghost use Rattle.cse_value.specs.Device.{Appends};
 ghost use Rattle.cse_value.specs.Writing.{AppendsFront, FailsAtErr, WritesAll};
 ghost use Rattle.cse_commands.specs.Ending.{exit_status};
 ghost use Rattle.cse_commands.specs.FaultLine.{outcome_text};
@@ -56,7 +56,7 @@ pub fn carry_out_and_tell<R: Env + Files + Print + AllocGlobal, W: Output>(
 /// Tells what a command came to, all of it or a front where the device fails: the fault as a line, two files that are one
 /// or steps that are too many as a sentence, the usage where its words are none, and of work that is done nothing.
 fn write_outcome<W: Output>(outcome: &Result<(), Stop>, errors: &mut W) -> Result<(), Failed>
-    ensures bytes { WritesAll result (W.contents errors.old) (W.contents errors.new) (outcome_text USAGE.now outcome.now) }
+    ensures bytes { WritesAll result (W.taken errors.old) (W.taken errors.new) (outcome_text USAGE.now outcome.now) }
     ensures failed { FailsAtErr result (W.has_failed errors.old) (W.has_failed errors.new) }
 {
     match outcome {
@@ -72,8 +72,8 @@ fn write_outcome<W: Output>(outcome: &Result<(), Stop>, errors: &mut W) -> Resul
 /// device doesn't take is not told. Answers the exit status.
 pub fn tell<W: Output>(outcome: &Result<(), Stop>, errors: &mut W) -> u8
     ensures status { result ≡ exit_status outcome.now }
-    ensures front { AppendsFront (W.contents errors.old) (W.contents errors.new) (outcome_text USAGE.now outcome.now) }
-    ensures told { W.has_failed errors.new ≡ false → Appends (W.contents errors.old) (W.contents errors.new) (outcome_text USAGE.now outcome.now) }
+    ensures front { AppendsFront (W.taken errors.old) (W.taken errors.new) (outcome_text USAGE.now outcome.now) }
+    ensures told { W.has_failed errors.new ≡ false → Appends (W.taken errors.old) (W.taken errors.new) (outcome_text USAGE.now outcome.now) }
 {
     let _ = write_outcome(outcome, errors);
     exit_status(outcome)

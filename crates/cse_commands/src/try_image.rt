@@ -1,7 +1,7 @@
 //! `try`: an image runs from its bytes to the messages of its preproc.
 
 ghost use Rattle.std.specs.Prelude.{◌≡◌, false, None, IfOk, IfErr};
-ghost use Rattle.std.specs.Io.KnownBytes.{Appends};
+ghost use Rattle.cse_value.specs.Device.{Appends};
 ghost use Rattle.cse_decks.specs.Store.{StoreFits};
 ghost use Rattle.cse_report.specs.Held.{begun};
 ghost use Rattle.cse_report.specs.Reports.{ReportsFit};
@@ -61,11 +61,11 @@ struct Tried {
 /// an answer.
 pub fn try_to<W: Output>(alloc: Global, image: &[u8], out: &mut W) -> Result<u64, TryFault>
     // What is printed is a run to its end.
-    ensures runs { IfOk result (λ n. (r : Runs image.now n) × Appends (W.contents out.old) (W.contents out.new) (text_of r)) }
+    ensures runs { IfOk result (λ n. (r : Runs image.now n) × Appends (W.taken out.old) (W.taken out.new) (text_of r)) }
     // Why there is no run.
     ensures refused { IfErr result (λ f. is_write f ≡ false → IsRefused image.now f) }
     // What was printed before a fault.
-    ensures printed { IfErr result (λ f. PrintsBefore image.now f (W.contents out.old) (W.contents out.new)) }
+    ensures printed { IfErr result (λ f. PrintsBefore image.now f (W.taken out.old) (W.taken out.new)) }
     ensures failed { FailsByWrite result (W.has_failed out.old) (W.has_failed out.new) }
 {
     // The text is a dictionary, so that reading it meets want of memory alone.
@@ -83,9 +83,9 @@ fn try_with<W: Output>(
     out: &mut W,
 ) -> Result<u64, TryFault>
     requires empty { IsReadAs empty_text dictionary.now }
-    ensures runs { IfOk result (λ n. (r : Runs image.now n) × Appends (W.contents out.old) (W.contents out.new) (text_of r)) }
+    ensures runs { IfOk result (λ n. (r : Runs image.now n) × Appends (W.taken out.old) (W.taken out.new) (text_of r)) }
     ensures refused { IfErr result (λ f. is_write f ≡ false → IsRefused image.now f) }
-    ensures printed { IfErr result (λ f. PrintsBefore image.now f (W.contents out.old) (W.contents out.new)) }
+    ensures printed { IfErr result (λ f. PrintsBefore image.now f (W.taken out.old) (W.taken out.new)) }
     ensures failed { FailsByWrite result (W.has_failed out.old) (W.has_failed out.new) }
 {
     let verified = match check_image(alloc, dictionary, image) {

@@ -12,7 +12,7 @@ use itoa::Buffer;
 
 /// Writes the bound of a routine.
 fn write_routine<W: Output>(routine: u32, steps: u64, out: &mut W) -> Result<(), Failed>
-    ensures bytes { WritesAll result (W.contents out.old) (W.contents out.new) (routine_line routine steps) }
+    ensures bytes { WritesAll result (W.taken out.old) (W.taken out.new) (routine_line routine steps) }
     ensures failed { FailsAtErr result (W.has_failed out.old) (W.has_failed out.new) }
 {
     let mut first = Buffer::new();
@@ -24,7 +24,7 @@ fn write_routine<W: Output>(routine: u32, steps: u64, out: &mut W) -> Result<(),
 
 /// Writes the bounds of the routines.
 fn write_routines<C: Code, W: Output>(verified: &Verified<'_, C>, out: &mut W) -> Result<(), Failed>
-    ensures bytes { WritesAll result (W.contents out.old) (W.contents out.new) (routine_lines verified.now.image (length verified.now.image.lists.routines)) }
+    ensures bytes { WritesAll result (W.taken out.old) (W.taken out.new) (routine_lines verified.now.image (length verified.now.image.lists.routines)) }
     ensures failed { FailsAtErr result (W.has_failed out.old) (W.has_failed out.new) }
 {
     let tables = verified.program().tables();
@@ -38,7 +38,7 @@ fn write_routines<C: Code, W: Output>(verified: &Verified<'_, C>, out: &mut W) -
 
 /// Writes the bounds of a case and of the application's events.
 fn write_sums<W: Output>(case: u64, run: u64, out: &mut W) -> Result<(), Failed>
-    ensures bytes { WritesAll result (W.contents out.old) (W.contents out.new) (sums case run) }
+    ensures bytes { WritesAll result (W.taken out.old) (W.taken out.new) (sums case run) }
     ensures failed { FailsAtErr result (W.has_failed out.old) (W.has_failed out.new) }
 {
     let mut first = Buffer::new();
@@ -50,7 +50,7 @@ fn write_sums<W: Output>(case: u64, run: u64, out: &mut W) -> Result<(), Failed>
 
 /// Writes how much a run keeps at once, and that the image is accepted.
 fn write_depth<W: Output>(depth: Depth, out: &mut W) -> Result<(), Failed>
-    ensures bytes { WritesAll result (W.contents out.old) (W.contents out.new) (depth_line depth) }
+    ensures bytes { WritesAll result (W.taken out.old) (W.taken out.new) (depth_line depth) }
     ensures failed { FailsAtErr result (W.has_failed out.old) (W.has_failed out.new) }
 {
     let mut first = Buffer::new();
@@ -79,7 +79,7 @@ fn write_depth<W: Output>(depth: Depth, out: &mut W) -> Result<(), Failed>
 
 /// Writes the lines after those of the routines.
 fn write_last<W: Output>(case: u64, run: u64, depth: Depth, out: &mut W) -> Result<(), Failed>
-    ensures bytes { WritesAll result (W.contents out.old) (W.contents out.new) (last_lines case run depth) }
+    ensures bytes { WritesAll result (W.taken out.old) (W.taken out.new) (last_lines case run depth) }
     ensures failed { FailsAtErr result (W.has_failed out.old) (W.has_failed out.new) }
 {
     write_sums(case, run, out)?;
@@ -92,7 +92,7 @@ pub fn write_verdict<C: Code, W: Output>(
     depth: Depth,
     out: &mut W,
 ) -> Result<(), Failed>
-    ensures bytes { WritesAll result (W.contents out.old) (W.contents out.new) (verdict_text verified.now.image depth) }
+    ensures bytes { WritesAll result (W.taken out.old) (W.taken out.new) (verdict_text verified.now.image depth) }
     ensures failed { FailsAtErr result (W.has_failed out.old) (W.has_failed out.new) }
 {
     write_routines(verified, out)?;

@@ -1,7 +1,7 @@
 //! `verify`: whether an image may run with a dictionary, from the bytes of both to what is known of it.
 
 ghost use Rattle.std.specs.Prelude.{◌≡◌, ℕ, List, false, OnOk, IfErr};
-ghost use Rattle.std.specs.Io.KnownBytes.{Appends};
+ghost use Rattle.cse_value.specs.Device.{Appends};
 ghost use Rattle.cse_commands.specs.Vetted.{Passes, IsReadAs, told, FailsBy, TellsBefore, FailsOnlyByWrite, is_failed_write};
 
 use crate::verdict::write_verdict;
@@ -38,11 +38,11 @@ pub fn verify_to<W: Output>(
     out: &mut W,
 ) -> Result<(), VerifyFault>
     // What is printed is what holds of the program.
-    ensures passes { OnOk result ((p : Passes dict.now image.now) × Appends (W.contents out.old) (W.contents out.new) (told p)) }
+    ensures passes { OnOk result ((p : Passes dict.now image.now) × Appends (W.taken out.old) (W.taken out.new) (told p)) }
     // Why nothing is accepted.
     ensures fails { IfErr result (λ f. is_failed_write f ≡ false → FailsBy dict.now image.now f) }
     // What was printed before a fault.
-    ensures before { IfErr result (λ f. TellsBefore dict.now image.now f (W.contents out.old) (W.contents out.new)) }
+    ensures before { IfErr result (λ f. TellsBefore dict.now image.now f (W.taken out.old) (W.taken out.new)) }
     ensures failed { FailsOnlyByWrite result (W.has_failed out.old) (W.has_failed out.new) }
 {
     match Dictionary::read(alloc, dict) {
@@ -58,9 +58,9 @@ fn verify_with<W: Output>(
     image: &[u8],
     out: &mut W,
 ) -> Result<(), VerifyFault>
-    ensures passes { (text : List ℕ) → IsReadAs text dictionary.now → OnOk result ((p : Passes text image.now) × Appends (W.contents out.old) (W.contents out.new) (told p)) }
+    ensures passes { (text : List ℕ) → IsReadAs text dictionary.now → OnOk result ((p : Passes text image.now) × Appends (W.taken out.old) (W.taken out.new) (told p)) }
     ensures fails { (text : List ℕ) → IsReadAs text dictionary.now → IfErr result (λ f. is_failed_write f ≡ false → FailsBy text image.now f) }
-    ensures before { (text : List ℕ) → IsReadAs text dictionary.now → IfErr result (λ f. TellsBefore text image.now f (W.contents out.old) (W.contents out.new)) }
+    ensures before { (text : List ℕ) → IsReadAs text dictionary.now → IfErr result (λ f. TellsBefore text image.now f (W.taken out.old) (W.taken out.new)) }
     ensures failed { FailsOnlyByWrite result (W.has_failed out.old) (W.has_failed out.new) }
 {
     let verified = match check_image(alloc, dictionary, image) {

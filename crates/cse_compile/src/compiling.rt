@@ -60,7 +60,7 @@ fn spelled(alloc: Global, dictionary: &Dictionary, parts: Parts) -> Result<Progr
 /// spelling, since one of its tables, or its code, is beyond a limit of the format (`room`). A source whose programs are
 /// typed is refused by 64, 67 or 90 alone (`others`), and by 67 only where its program may take more than 10^15 steps
 /// (`cost`).
-pub fn compile<'t, 'a>(
+pub fn program_of<'t, 'a>(
     alloc: Global,
     tree: &'t Tree<'a>,
     dictionary: &Dictionary,

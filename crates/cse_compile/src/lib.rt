@@ -19,6 +19,6 @@ mod pooled;
 mod resolve;
 mod routes;
 
-pub use compiling::compile;
+pub use compiling::program_of;
 pub use error::CompileError;
 pub use laws::handlers_keep_numbers;

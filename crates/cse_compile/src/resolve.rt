@@ -2,7 +2,7 @@
 
 ghost use Rattle.std.specs.Prelude.{◌≡◌, ◌≤◌, ◌^◌, length, MatchOption, true, IfOk, OnOk, IfErr};
 ghost use Rattle.std.specs.Bool.{Decides};
-ghost use Rattle.cse_syntax.specs.Leaf.{text_of};
+ghost use Rattle.cse_syntax_tree.specs.Leaf.{text_of};
 ghost use Rattle.cse_image.specs.Spelling.{TextFits};
 ghost use Rattle.cse_compile_code.specs.Wide as w;
 ghost use Rattle.cse_compile.specs.Stands.{Stands, AllStand, IsMore};

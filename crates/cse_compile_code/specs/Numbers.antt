@@ -3,13 +3,13 @@ use Rattle.std.specs.Prelude.{ℕ, ◌+◌, pos, Bool, false, ◌||◌, not, if�
 use Rattle.cse_value.specs.Occurrences.{most_occurrences}
 use Rattle.cse_image_parts.specs.declared.instruction.Op.{Op}
 use Rattle.cse_image_parts.specs.declared.instruction.Op.TheVariants as ops
-use Rattle.cse_syntax.specs.Leaf.{text_of}
-use Rattle.cse_syntax.specs.declared.tree.Operator.{Operator}
-use Rattle.cse_syntax.specs.declared.tree.Operator.TheVariants as operators
-use Rattle.cse_syntax.specs.declared.tree.Relation.{Relation}
-use Rattle.cse_syntax.specs.declared.tree.Relation.TheVariants as relations
-use Rattle.cse_syntax.specs.declared.tree.Special.{Special}
-use Rattle.cse_syntax.specs.declared.tree.Special.TheVariants as specials
+use Rattle.cse_syntax_tree.specs.Leaf.{text_of}
+use Rattle.cse_syntax_tree.specs.declared.tree.Operator.{Operator}
+use Rattle.cse_syntax_tree.specs.declared.tree.Operator.TheVariants as operators
+use Rattle.cse_syntax_tree.specs.declared.tree.Relation.{Relation}
+use Rattle.cse_syntax_tree.specs.declared.tree.Relation.TheVariants as relations
+use Rattle.cse_syntax_tree.specs.declared.tree.Special.{Special}
+use Rattle.cse_syntax_tree.specs.declared.tree.Special.TheVariants as specials
 use Rattle.cse_logic_tree.specs.declared.tree.Variable.{Variable}
 use Rattle.cse_logic_tree.specs.declared.tree.Variable.TheVariants as v
 use Rattle.cse_logic_tree.specs.declared.tree.Found.{Found}

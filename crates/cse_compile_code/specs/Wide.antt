@@ -4,7 +4,7 @@ use Rattle.cse_value.specs.declared.number.Num.{Num}
 use Rattle.cse_value.specs.declared.number.Num.TheVariants.{Whole, NotAppl, Missing, Undef}
 use Rattle.cse_image_parts.specs.declared.instruction.Op.{Op}
 use Rattle.cse_image_parts.specs.declared.instruction.Op.TheVariants as ops
-use Rattle.cse_syntax.specs.Leaf.{text_of}
+use Rattle.cse_syntax_tree.specs.Leaf.{text_of}
 use Rattle.cse_compile_code.specs.declared.wide.Wide as rust
 use Rattle.cse_compile_code.specs.declared.wide.Wide.TheVariants as r
 

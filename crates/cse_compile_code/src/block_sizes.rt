@@ -11,7 +11,7 @@ use crate::decks::{deepest, picks_size};
 use crate::setting::Setting;
 use crate::sizes::{TOO_LONG, behind, indexes_size, number_size, numbers_size, plus, words_size};
 use cse_logic_tree::{Argument, Arm, Counting, Found, Limit, Statement, Which};
-use cse_syntax::{Count, Jump};
+use cse_syntax_tree::{Count, Jump};
 
 /// A jump over so many instructions: none over nothing.
 pub fn jump_size(count: usize) -> usize

@@ -12,7 +12,7 @@ use crate::setting::Setting;
 use crate::wide::Wide;
 use cse_image_parts::instruction::Op;
 use cse_logic_tree::{Counting, Limit};
-use cse_syntax::Count;
+use cse_syntax_tree::Count;
 use cse_value::number::{Num, add, quo, sub};
 use std::alloc::AllocError;
 

@@ -11,7 +11,7 @@ use crate::setting::Setting;
 use crate::wide::Wide;
 use cse_image_parts::instruction::Op;
 use cse_logic_tree::{Found, Present, Variable};
-use cse_syntax::{Operator, Relation, Special};
+use cse_syntax_tree::{Operator, Relation, Special};
 use std::alloc::AllocError;
 
 /// The special value `default`.

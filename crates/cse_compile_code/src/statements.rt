@@ -14,7 +14,7 @@ use crate::setting::{Loop, Setting};
 use crate::wide::Wide;
 use cse_image_parts::instruction::Op;
 use cse_logic_tree::{Arm, Counting, Statement, Variable};
-use cse_syntax::Jump;
+use cse_syntax_tree::Jump;
 use std::alloc::AllocError;
 
 impl<'a> Emitter<'a> {

@@ -8,7 +8,7 @@ ghost use Rattle.cse_decks.specs.Store.{StoreFits};
 ghost use Rattle.cse_decks.specs.Deck.{size_word, cell_line, array_line, saved_block, blocks, deck_text};
 ghost use Rattle.cse_decks.specs.DeckText.{saved_kept};
 ghost use Rattle.cse_decks.specs.Loading.{loaded};
-ghost use Rattle.cse_output.specs.Gathering.{going, line, Puts};
+ghost use Rattle.cse_output.specs.Gathering.{behind, line, Puts};
 
 use crate::cells::ArrayCells;
 use crate::store::Store;
@@ -27,7 +27,7 @@ pub fn save<C: Code, W: Output>(
 ) -> Result<(), Failed>
     requires { StoreFits program.now store.now }
     ensures loads { loaded program.now (deck_text program.now store.now) ≡ Ok (saved_kept program.now store.now) }
-    ensures bytes { WritesAll result (W.contents out.old) (W.contents out.new) (deck_text program.now store.now) }
+    ensures bytes { WritesAll result (W.taken out.old) (W.taken out.new) (deck_text program.now store.now) }
     ensures failed { FailsAtErr result (W.has_failed out.old) (W.has_failed out.new) }
 {
     let tables = program.tables();
@@ -46,7 +46,8 @@ fn put_blocks<W: Output>(
     cells: &[ArrayCells],
 )
     requires { length arrays.now ≡ length cells.now }
-    ensures { Puts (going (W.contents out.old) (W.has_failed out.old) gatherer.old.waiting.items gatherer.old.gave_up) (going (W.contents out.new) (W.has_failed out.new) gatherer.new.waiting.items gatherer.new.gave_up) (blocks (map array_lists arrays.now) cells.now) }
+    ensures { Puts (behind W.taken W.has_failed out.old gatherer.old) (behind W.taken W.has_failed out.new gatherer.new)
+        (blocks (map array_lists arrays.now) cells.now) }
 {
     'arrays: for i in 0..arrays.len() {
         put_saved(gatherer, out, &arrays[i], cells[i].as_slice());
@@ -55,7 +56,8 @@ fn put_blocks<W: Output>(
 
 /// Puts the lines of an array, if it is saved.
 fn put_saved<W: Output>(gatherer: &mut Gatherer, out: &mut W, array: &Array, cells: &[Num])
-    ensures { Puts (going (W.contents out.old) (W.has_failed out.old) gatherer.old.waiting.items gatherer.old.gave_up) (going (W.contents out.new) (W.has_failed out.new) gatherer.new.waiting.items gatherer.new.gave_up) (saved_block (array_lists array.now) cells.now) }
+    ensures { Puts (behind W.taken W.has_failed out.old gatherer.old) (behind W.taken W.has_failed out.new gatherer.new)
+        (saved_block (array_lists array.now) cells.now) }
 {
     if !array.saved {
         return;
@@ -66,7 +68,8 @@ fn put_saved<W: Output>(gatherer: &mut Gatherer, out: &mut W, array: &Array, cel
 
 /// Puts the line before an array's cells.
 fn put_array_line<W: Output>(gatherer: &mut Gatherer, out: &mut W, array: &Array)
-    ensures { Puts (going (W.contents out.old) (W.has_failed out.old) gatherer.old.waiting.items gatherer.old.gave_up) (going (W.contents out.new) (W.has_failed out.new) gatherer.new.waiting.items gatherer.new.gave_up) (line (array_line (array_lists array.now))) }
+    ensures { Puts (behind W.taken W.has_failed out.old gatherer.old) (behind W.taken W.has_failed out.new gatherer.new)
+        (line (array_line (array_lists array.now))) }
 {
     gatherer.put(out, b"ARRAY ");
     gatherer.put(out, array.name.as_bytes());
@@ -76,7 +79,7 @@ fn put_array_line<W: Output>(gatherer: &mut Gatherer, out: &mut W, array: &Array
 
 /// Puts the sizes of an array.
 fn put_sizes<W: Output>(gatherer: &mut Gatherer, out: &mut W, sizes: &[u16])
-    ensures { Puts (going (W.contents out.old) (W.has_failed out.old) gatherer.old.waiting.items gatherer.old.gave_up) (going (W.contents out.new) (W.has_failed out.new) gatherer.new.waiting.items gatherer.new.gave_up) (flat_map size_word sizes.now) }
+    ensures { Puts (behind W.taken W.has_failed out.old gatherer.old) (behind W.taken W.has_failed out.new gatherer.new) (flat_map size_word sizes.now) }
 {
     'sizes: for size in sizes {
         put_size(gatherer, out, *size);
@@ -85,7 +88,7 @@ fn put_sizes<W: Output>(gatherer: &mut Gatherer, out: &mut W, sizes: &[u16])
 
 /// Puts a size.
 fn put_size<W: Output>(gatherer: &mut Gatherer, out: &mut W, size: u16)
-    ensures { Puts (going (W.contents out.old) (W.has_failed out.old) gatherer.old.waiting.items gatherer.old.gave_up) (going (W.contents out.new) (W.has_failed out.new) gatherer.new.waiting.items gatherer.new.gave_up) (size_word size) }
+    ensures { Puts (behind W.taken W.has_failed out.old gatherer.old) (behind W.taken W.has_failed out.new gatherer.new) (size_word size) }
 {
     gatherer.put(out, b" ");
     gatherer.put(out, Buffer::new().format(size).as_bytes());
@@ -93,7 +96,7 @@ fn put_size<W: Output>(gatherer: &mut Gatherer, out: &mut W, size: u16)
 
 /// Puts the lines of cells.
 fn put_cells<W: Output>(gatherer: &mut Gatherer, out: &mut W, cells: &[Num])
-    ensures { Puts (going (W.contents out.old) (W.has_failed out.old) gatherer.old.waiting.items gatherer.old.gave_up) (going (W.contents out.new) (W.has_failed out.new) gatherer.new.waiting.items gatherer.new.gave_up) (flat_map cell_line cells.now) }
+    ensures { Puts (behind W.taken W.has_failed out.old gatherer.old) (behind W.taken W.has_failed out.new gatherer.new) (flat_map cell_line cells.now) }
 {
     'cells: for cell in cells {
         gatherer.put_line(out, show_num(*cell).as_str().as_bytes());

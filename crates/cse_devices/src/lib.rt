@@ -1,8 +1,11 @@
 //! What devices remember: the bytes that went through them, which clauses alone read.
+//!
+//! - `record`: what an output took.
+//! - `history`: what an input gave, whether it was at its end, and how often it failed.
 #![tactic(auto)]
 
-mod noted;
+mod history;
 mod record;
 
-pub use noted::Noted;
+pub use history::History;
 pub use record::Record;

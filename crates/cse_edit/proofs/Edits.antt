@@ -10,7 +10,7 @@ use Rattle.cse_batch.specs.declared.totals.Totals.{Totals}
 use Rattle.cse_batch.specs.declared.totals.RunFault.{RunFault}
 use Rattle.cse_batch.specs.Batch.{Batch, Progress}
 use Rattle.cse_batch.specs.RunClauses.{Failures, GivesFronts, GivesTexts, RunStops, RunsWhole, WritesRuns}
-use Rattle.std.specs.Io.KnownBytes.{Appends}
+use Rattle.cse_value.specs.Device.{Appends}
 use Rattle.cse_edit.specs.declared.fault.EditFault.{EditFault}
 use Rattle.cse_edit.specs.declared.fault.EditFault.TheVariants as faults
 use Rattle.cse_edit.specs.Logic.{batch_meant}
@@ -33,13 +33,14 @@ whole v t named m store fits on totals r =
     record {
       bytes = r.bytes;
       reads = r.reads;
+      unfailing = r.unfailing;
       end = r.end;
       sound = r.sound;
       texts = subst (λ (b : Batch). GivesTexts on.old on.new b) same r.texts;
       totals_are = r.totals_are ∙ ap (λ (b : Batch). b.totals) same;
     }
 
-runs_written : (v : VerifiedProgram) (t : Tree) (named : List ℕ) → IsMeant v t named → (store : Kept) → StoreFits v.image store → (bytes : List ℕ) (ended : Bool) (old new : Option (List ℕ))
+runs_written : (v : VerifiedProgram) (t : Tree) (named : List ℕ) → IsMeant v t named → (store : Kept) → StoreFits v.image store → (bytes : List ℕ) (ended : Bool) (old new : List ℕ)
     → WritesRuns v store bytes ended old new → WritesRunsBy v.dictionary (written_meant v.dictionary t named store) bytes ended old new
 runs_written v t named m store fits bytes ended old new w = record {
   runs = w.runs;
@@ -48,10 +49,10 @@ runs_written v t named m store fits bytes ended old new w = record {
   appends = subst (λ (p : Progress). Appends old new p.out) (m.runs_are store bytes ended w.runs w.more fits w.given_are) w.appends;
 }
 
-stopped : (v : VerifiedProgram) (t : Tree) (named : List ℕ) → IsMeant v t named → (store : Kept) → StoreFits v.image store → (on : Devices) (input_failed : Bool) (failed : Failures) (fault : RunFault)
-    → RunStops v store on.before on.after on.old on.new input_failed failed fault
-    → StopsBatch v.dictionary (batch_meant v.dictionary t named store) (written_meant v.dictionary t named store) on input_failed failed fault
-stopped v t named m store fits on input_failed failed fault r =
+stopped : (v : VerifiedProgram) (t : Tree) (named : List ℕ) → IsMeant v t named → (store : Kept) → StoreFits v.image store → (on : Devices) (failed : Failures) (fault : RunFault)
+    → RunStops v store on.before on.after on.old on.new failed fault
+    → StopsBatch v.dictionary (batch_meant v.dictionary t named store) (written_meant v.dictionary t named store) on failed fault
+stopped v t named m store fits on failed fault r =
     let same = m.batch_is store r.bytes r.ended fits in
     record {
       bytes = r.bytes;
@@ -64,6 +65,7 @@ stopped v t named m store fits on input_failed failed fault r =
       out_whole = λ low ok. subst (λ (b : Batch). Appends on.old.out on.new.out b.out) same (r.out_whole low ok);
       listing_whole = λ low ok. subst (λ (b : Batch). Appends on.old.listing on.new.listing b.listing) same (r.listing_whole low ok);
       out_runs = λ ok. runs_written v t named m store fits r.bytes r.ended on.old.out on.new.out (r.out_runs ok);
+      unfailing = r.unfailing;
       reading = r.reading;
       writing = r.writing;
       other = r.other;
@@ -79,7 +81,7 @@ written_is_meant v law logic messages order image accepted built =
     let m : IsMeant v t named = law logic messages order image accepted.spells built in
     record {
       whole = λ store on totals fits ran. whole v t named m store fits on totals ran;
-      stops = λ store on input_failed failed fault fits ran. stopped v t named m store fits on input_failed failed fault ran;
+      stops = λ store on failed fault fits ran. stopped v t named m store fits on failed fault ran;
       first_is = m.first_is;
       loaded_is = m.loaded_is;
     }
@@ -100,19 +102,19 @@ module _ (v : VerifiedProgram) (law : BatchesMean v) (logic messages order image
     runs = whole v built.texts.tree built.texts.named meant store fits on totals ran;
   }
 
-  pub stops : (store : Kept) → IsStartOf v.image decks store → StoreFits v.image store → (on : Devices) (input_failed : Bool) (failed : Failures) (fault : RunFault)
-      → RunStops v store on.before on.after on.old on.new input_failed failed fault
-      → StopsEdit v.dictionary logic messages order decks on input_failed failed fault
-  stops store is fits on input_failed failed fault ran = record {
+  pub stops : (store : Kept) → IsStartOf v.image decks store → StoreFits v.image store → (on : Devices) (failed : Failures) (fault : RunFault)
+      → RunStops v store on.before on.after on.old on.new failed fault
+      → StopsEdit v.dictionary logic messages order decks on failed fault
+  stops store is fits on failed fault ran = record {
     begins = begins store is;
-    stops = stopped v built.texts.tree built.texts.named meant store fits on input_failed failed fault ran;
+    stops = stopped v built.texts.tree built.texts.named meant store fits on failed fault ran;
   }
 
-  pub no_start : (on : Devices) (input_failed : Bool) (failed : Failures) (fault : EditFault) → AreUntouched on → IsNoStartOf v.image decks fault
-      → Stops v.dictionary logic messages order decks on input_failed failed fault
-  no_start on input_failed failed fault untouched is = by decks fault is
+  pub no_start : (on : Devices) (failed : Failures) (fault : EditFault) → AreUntouched on → IsNoStartOf v.image decks fault
+      → Stops v.dictionary logic messages order decks on failed fault
+  no_start on failed fault untouched is = by decks fault is
     where
-      by : (decks : Option (List ℕ)) (fault : EditFault) → IsNoStartOf v.image decks fault → Stops v.dictionary logic messages order decks on input_failed failed fault
+      by : (decks : Option (List ℕ)) (fault : EditFault) → IsNoStartOf v.image decks fault → Stops v.dictionary logic messages order decks on failed fault
       by (Some text) (faults.Decks e) is = (untouched, (built.texts, sym (meant.loaded_is text) ∙ is))
       by (Some text) (faults.Dictionary e) is = absurd is
       by (Some text) (faults.Logic e) is = absurd is
@@ -126,16 +128,16 @@ module _ (v : VerifiedProgram) (law : BatchesMean v) (logic messages order image
 
 -- ---- behind the text of the dictionary
 
-pub behind : (text logic messages order : List ℕ) (decks : Option (List ℕ)) (d : DictionaryText) (on : Devices) (input_failed : Bool) (failed : Failures) (fault : EditFault) → IsRead text d
-    → Stops d logic messages order decks on input_failed failed fault → EditStops text logic messages order decks on input_failed failed fault
-behind text logic messages order decks d on input_failed failed (faults.Dictionary e) read stops = absurd stops
-behind text logic messages order decks d on input_failed failed (faults.Logic e) read stops = record { dictionary = d; read = read; stops = stops }
-behind text logic messages order decks d on input_failed failed (faults.Decks e) read stops = record { dictionary = d; read = read; stops = stops }
-behind text logic messages order decks d on input_failed failed (faults.Run e) read stops = record { dictionary = d; read = read; stops = stops }
-behind text logic messages order decks d on input_failed failed faults.Memory read stops = record { dictionary = d; read = read; stops = stops }
+pub behind : (text logic messages order : List ℕ) (decks : Option (List ℕ)) (d : DictionaryText) (on : Devices) (failed : Failures) (fault : EditFault) → IsRead text d
+    → Stops d logic messages order decks on failed fault → EditStops text logic messages order decks on failed fault
+behind text logic messages order decks d on failed (faults.Dictionary e) read stops = absurd stops
+behind text logic messages order decks d on failed (faults.Logic e) read stops = record { dictionary = d; read = read; stops = stops }
+behind text logic messages order decks d on failed (faults.Decks e) read stops = record { dictionary = d; read = read; stops = stops }
+behind text logic messages order decks d on failed (faults.Run e) read stops = record { dictionary = d; read = read; stops = stops }
+behind text logic messages order decks d on failed faults.Memory read stops = record { dictionary = d; read = read; stops = stops }
 
-pub all_behind : (text logic messages order : List ℕ) (decks : Option (List ℕ)) (d : DictionaryText) (on : Devices) (input_failed : Bool) (failed : Failures) → IsRead text d
-    → (r : Result Totals EditFault) → IfErr r (λ fault. Stops d logic messages order decks on input_failed failed fault)
-    → IfErr r (λ fault. EditStops text logic messages order decks on input_failed failed fault)
-all_behind text logic messages order decks d on input_failed failed read (Ok totals) stops = stops
-all_behind text logic messages order decks d on input_failed failed read (Err fault) stops = behind text logic messages order decks d on input_failed failed fault read stops
+pub all_behind : (text logic messages order : List ℕ) (decks : Option (List ℕ)) (d : DictionaryText) (on : Devices) (failed : Failures) → IsRead text d
+    → (r : Result Totals EditFault) → IfErr r (λ fault. Stops d logic messages order decks on failed fault)
+    → IfErr r (λ fault. EditStops text logic messages order decks on failed fault)
+all_behind text logic messages order decks d on failed read (Ok totals) stops = stops
+all_behind text logic messages order decks d on failed read (Err fault) stops = behind text logic messages order decks d on failed fault read stops

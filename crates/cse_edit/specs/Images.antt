@@ -18,9 +18,9 @@ use Rattle.cse_edit.specs.Edit.{Devices, RunsBatch, StopsBatch, written_meant}
 pub record WritesWhatIsMeant (v : VerifiedProgram) (t : Tree) (named : List ℕ) : Type 0 where
   pub whole : (store : Kept) (on : Devices) (totals : Totals) → StoreFits v.image store → RunsWhole v store on.before on.after on.old on.new totals
       → RunsBatch v.dictionary (batch_meant v.dictionary t named store) on totals
-  pub stops : (store : Kept) (on : Devices) (input_failed : Bool) (failed : Failures) (fault : RunFault) → StoreFits v.image store
-      → RunStops v store on.before on.after on.old on.new input_failed failed fault
-      → StopsBatch v.dictionary (batch_meant v.dictionary t named store) (written_meant v.dictionary t named store) on input_failed failed fault
+  pub stops : (store : Kept) (on : Devices) (failed : Failures) (fault : RunFault) → StoreFits v.image store
+      → RunStops v store on.before on.after on.old on.new failed fault
+      → StopsBatch v.dictionary (batch_meant v.dictionary t named store) (written_meant v.dictionary t named store) on failed fault
   pub first_is : first_kept v.image ≡ first_meant t
   pub loaded_is : (text : List ℕ) → loaded v.image text ≡ loaded_meant t text
 

@@ -63,16 +63,15 @@ fn edit_verified<C: Code, R: Input, O: Output, L: Output, F: Output, D: Output>(
     requires stands { StandFor verified.now.image image.now }
     ensures whole { IfOk result (λ totals. Edits verified.now.dictionary texts.now.logic.now texts.now.messages.now texts.now.order.now
         (option_copied texts.now.decks)
-        (devices (R.remaining input.old) (R.remaining input.new)
-        (contents (O.contents out.old) (L.contents listing.old) (F.contents frequencies.old) (D.contents decks.old))
-        (contents (O.contents out.new) (L.contents listing.new) (F.contents frequencies.new) (D.contents decks.new)))
+        (devices (R.given input.old) (R.given input.new)
+        (contents (O.taken out.old) (L.taken listing.old) (F.taken frequencies.old) (D.taken decks.old))
+        (contents (O.taken out.new) (L.taken listing.new) (F.taken frequencies.new) (D.taken decks.new)))
         totals) }
     ensures stops { IfErr result (λ fault. Stops verified.now.dictionary texts.now.logic.now texts.now.messages.now texts.now.order.now
         (option_copied texts.now.decks)
-        (devices (R.remaining input.old) (R.remaining input.new)
-        (contents (O.contents out.old) (L.contents listing.old) (F.contents frequencies.old) (D.contents decks.old))
-        (contents (O.contents out.new) (L.contents listing.new) (F.contents frequencies.new) (D.contents decks.new)))
-        (R.has_failed input.new)
+        (devices (R.given input.old) (R.given input.new)
+        (contents (O.taken out.old) (L.taken listing.old) (F.taken frequencies.old) (D.taken decks.old))
+        (contents (O.taken out.new) (L.taken listing.new) (F.taken frequencies.new) (D.taken decks.new)))
         (failures (O.has_failed out.new) (L.has_failed listing.new) (F.has_failed frequencies.new) (D.has_failed decks.new)) fault) }
 {
     batches_mean(verified);
@@ -108,16 +107,15 @@ fn edit_with<R: Input, O: Output, L: Output, F: Output, D: Output>(
 ) -> Result<Totals, EditFault>
     ensures whole { IfOk result (λ totals. Edits dictionary.now texts.now.logic.now texts.now.messages.now texts.now.order.now
         (option_copied texts.now.decks)
-        (devices (R.remaining input.old) (R.remaining input.new)
-        (contents (O.contents out.old) (L.contents listing.old) (F.contents frequencies.old) (D.contents decks.old))
-        (contents (O.contents out.new) (L.contents listing.new) (F.contents frequencies.new) (D.contents decks.new)))
+        (devices (R.given input.old) (R.given input.new)
+        (contents (O.taken out.old) (L.taken listing.old) (F.taken frequencies.old) (D.taken decks.old))
+        (contents (O.taken out.new) (L.taken listing.new) (F.taken frequencies.new) (D.taken decks.new)))
         totals) }
     ensures stops { IfErr result (λ fault. Stops dictionary.now texts.now.logic.now texts.now.messages.now texts.now.order.now
         (option_copied texts.now.decks)
-        (devices (R.remaining input.old) (R.remaining input.new)
-        (contents (O.contents out.old) (L.contents listing.old) (F.contents frequencies.old) (D.contents decks.old))
-        (contents (O.contents out.new) (L.contents listing.new) (F.contents frequencies.new) (D.contents decks.new)))
-        (R.has_failed input.new)
+        (devices (R.given input.old) (R.given input.new)
+        (contents (O.taken out.old) (L.taken listing.old) (F.taken frequencies.old) (D.taken decks.old))
+        (contents (O.taken out.new) (L.taken listing.new) (F.taken frequencies.new) (D.taken decks.new)))
         (failures (O.has_failed out.new) (L.has_failed listing.new) (F.has_failed frequencies.new) (D.has_failed decks.new)) fault) }
 {
     let image = match build(alloc, dictionary, texts.logic, texts.messages, texts.order) {
@@ -159,16 +157,15 @@ pub fn edit<R: Input, O: Output, L: Output, F: Output, D: Output>(
 ) -> Result<Totals, EditFault>
     ensures whole { IfOk result (λ totals. EditsWhole texts.now.dictionary.now texts.now.logic.now texts.now.messages.now texts.now.order.now
         (option_copied texts.now.decks)
-        (devices (R.remaining input.old) (R.remaining input.new)
-        (contents (O.contents out.old) (L.contents listing.old) (F.contents frequencies.old) (D.contents decks.old))
-        (contents (O.contents out.new) (L.contents listing.new) (F.contents frequencies.new) (D.contents decks.new)))
+        (devices (R.given input.old) (R.given input.new)
+        (contents (O.taken out.old) (L.taken listing.old) (F.taken frequencies.old) (D.taken decks.old))
+        (contents (O.taken out.new) (L.taken listing.new) (F.taken frequencies.new) (D.taken decks.new)))
         totals) }
     ensures stops { IfErr result (λ fault. EditStops texts.now.dictionary.now texts.now.logic.now texts.now.messages.now texts.now.order.now
         (option_copied texts.now.decks)
-        (devices (R.remaining input.old) (R.remaining input.new)
-        (contents (O.contents out.old) (L.contents listing.old) (F.contents frequencies.old) (D.contents decks.old))
-        (contents (O.contents out.new) (L.contents listing.new) (F.contents frequencies.new) (D.contents decks.new)))
-        (R.has_failed input.new)
+        (devices (R.given input.old) (R.given input.new)
+        (contents (O.taken out.old) (L.taken listing.old) (F.taken frequencies.old) (D.taken decks.old))
+        (contents (O.taken out.new) (L.taken listing.new) (F.taken frequencies.new) (D.taken decks.new)))
         (failures (O.has_failed out.new) (L.has_failed listing.new) (F.has_failed frequencies.new) (D.has_failed decks.new)) fault) }
 {
     match Dictionary::read(alloc, texts.dictionary) {

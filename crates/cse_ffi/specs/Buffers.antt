@@ -1,12 +1,13 @@
 -- What C finds behind a call: the number that it answers, and what stands in its buffers and places.
-use Rattle.std.specs.Prelude.{◌≡◌, ◌⊎◌, ◌&&◌, ◌++◌, ℕ, Bool, List, length, drop, nat_le, None, Some, if◌then◌else◌}
+use Rattle.std.specs.Prelude.{◌≡◌, ◌⊎◌, ◌&&◌, ◌++◌, ℕ, Bool, List, length, drop, nat_le, if◌then◌else◌}
+use Rattle.cse_value.specs.Device.{Given}
 use Rattle.cse_batch.specs.declared.totals.Totals.{Totals}
 use Rattle.cse_batch.specs.RunClauses.{Contents, Failures, contents}
 use Rattle.cse_ffi.specs.declared.fault.CsbFault.{CsbFault}
 use Rattle.cse_ffi.specs.declared.fault.CsbCounts.{CsbCounts}
 use Rattle.cse_ffi.specs.declared.fault.CsbTotals.{CsbTotals}
 use Rattle.cse_ffi.specs.Fault.{counts_of, status_of, totals_of}
-use Rattle.cse_ffi.specs.Calls.{IsImageFault, IsImageOf, IsNoImage, MayRun, RunsData, RunsImage, StopsData, StopsImage, empty}
+use Rattle.cse_ffi.specs.Calls.{IsImageFault, IsImageOf, IsNoImage, MayRun, RunsData, RunsImage, StopsData, StopsImage, empty, unread}
 
 -- ---- buffers
 
@@ -58,7 +59,7 @@ pub record FindsRun (text image decks data_ : List ℕ) (old new : Buffers) (tol
   pub listing : List ℕ
   pub frequencies : List ℕ
   pub saved : List ℕ
-  pub runs : RunsData text image decks data_ totals (contents (Some out) (Some listing) (Some frequencies) (Some saved))
+  pub runs : RunsData text image decks data_ totals (contents out listing frequencies saved)
   pub totals_are : told ≡ totals_of totals out listing frequencies saved
   pub out_put : new.out ≡ put_in out old.out
   pub listing_put : new.listing ≡ put_in listing old.listing
@@ -73,18 +74,19 @@ FindsTexts text image decks data_ old new totals_old totals_new fault_old fault_
 
 -- ---- runs over descriptors
 
--- Some bytes were read, and some were taken: a whole run over the former, to the latter. What a file has then no clause says.
+-- The descriptors gave and took some bytes: a whole run over the former, to the latter.
 pub record RanOver (text image decks : List ℕ) (told : CsbCounts) : Type 0 where
+  pub after : Given
   pub took : Contents
   pub totals : Totals
-  pub runs : RunsImage text image decks None None empty took totals
+  pub runs : RunsImage text image decks unread after empty took totals
   pub counts_are : told ≡ counts_of totals
 
 pub record StoppedOver (text image decks : List ℕ) (f : CsbFault) : Type 0 where
+  pub after : Given
   pub took : Contents
-  pub input_failed : Bool
   pub failed : Failures
-  pub stops : StopsImage text image decks None None empty took input_failed failed f
+  pub stops : StopsImage text image decks unread after empty took failed f
 
 abbrev pub FindsCounts : List ℕ → List ℕ → List ℕ → CsbCounts → CsbCounts → CsbFault → CsbFault → ℕ → Type 0
 FindsCounts text image decks counts_old counts_new fault_old fault_new number =

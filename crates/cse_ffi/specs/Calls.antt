@@ -1,5 +1,8 @@
 -- What a call comes to, by the texts that it is given: an image, its bounds, a run; or the fault, with its number and its place.
-use Rattle.std.specs.Prelude.{◌≡◌, ◌==◌, ◌⊎◌, ℕ, Bool, List, [], length, Option, Some, Result, Ok, Err, if◌then◌else◌}
+use Rattle.std.specs.Prelude.{◌≡◌, ◌==◌, ◌⊎◌, ℕ, Bool, List, [], length, false, Result, Ok, Err, if◌then◌else◌}
+use Rattle.cse_value.specs.Device.{Consumes, Given}
+use Rattle.cse_value.specs.Sound.{are_given}
+use Rattle.cse_memory.specs.Slice.{ReadOf}
 use Rattle.cse_image_parts.specs.Image.{Image}
 use Rattle.cse_sections.specs.Sections.{sections_of}
 use Rattle.cse_dict.specs.Dictionary.{DictionaryText, dictionary_of, shape_of}
@@ -84,13 +87,13 @@ abbrev pub begun : Image → List ℕ → Result Kept DeckError
 begun x decks = if length decks == 0 then Ok (first_kept x) else loaded x decks
 
 -- a whole run of a program, over what its devices had and have
-pub record RunsFrom (v : VerifiedProgram) (decks : List ℕ) (before after : Option (List ℕ)) (old new : Contents) (totals : Totals) : Type 0 where
+pub record RunsFrom (v : VerifiedProgram) (decks : List ℕ) (before after : Given) (old new : Contents) (totals : Totals) : Type 0 where
   pub store : Kept
   pub starts : begun v.image decks ≡ Ok store
   pub runs : RunsWhole v store before after old new totals
 
 -- nothing is read or written
-pub record AreUntouched (before after : Option (List ℕ)) (old new : Contents) : Type 0 where
+pub record AreUntouched (before after : Given) (old new : Contents) : Type 0 where
   pub input : before ≡ after
   pub outputs : old ≡ new
 
@@ -99,16 +102,16 @@ abbrev pub HasNoStart : Image → List ℕ → CsbFault → Type 0
 HasNoStart x decks f = (f ≡ fault_at 90 0 0) ⊎ ((e : DeckError) × (begun x decks ≡ Err e) × (f ≡ fault_at e.number e.line 0))
 
 -- the run stops
-pub record StopsBehind (v : VerifiedProgram) (decks : List ℕ) (before after : Option (List ℕ)) (old new : Contents) (input_failed : Bool) (failed : Failures) (f : CsbFault) : Type 0 where
+pub record StopsBehind (v : VerifiedProgram) (decks : List ℕ) (before after : Given) (old new : Contents) (failed : Failures) (f : CsbFault) : Type 0 where
   pub store : Kept
   pub starts : begun v.image decks ≡ Ok store
   pub error : RunFault
-  pub stops : RunStops v store before after old new input_failed failed error
+  pub stops : RunStops v store before after old new failed error
   pub tells : f ≡ fault_at error.number error.line 0
 
-abbrev pub StopsFrom : VerifiedProgram → List ℕ → Option (List ℕ) → Option (List ℕ) → Contents → Contents → Bool → Failures → CsbFault → Type 0
-StopsFrom v decks before after old new input_failed failed f =
-    (AreUntouched before after old new × HasNoStart v.image decks f) ⊎ StopsBehind v decks before after old new input_failed failed f
+abbrev pub StopsFrom : VerifiedProgram → List ℕ → Given → Given → Contents → Contents → Failures → CsbFault → Type 0
+StopsFrom v decks before after old new failed f =
+    (AreUntouched before after old new × HasNoStart v.image decks f) ⊎ StopsBehind v decks before after old new failed f
 
 -- the program is that of the image, and may run with the dictionary
 pub record IsOf (text image : List ℕ) (v : VerifiedProgram) : Type 0 where
@@ -116,42 +119,50 @@ pub record IsOf (text image : List ℕ) (v : VerifiedProgram) : Type 0 where
   pub accepted : IsAccepted (shape_of v.dictionary) image v.image
 
 -- the image may run, and a run of it is whole
-pub record RunsImage (text image decks : List ℕ) (before after : Option (List ℕ)) (old new : Contents) (totals : Totals) : Type 0 where
+pub record RunsImage (text image decks : List ℕ) (before after : Given) (old new : Contents) (totals : Totals) : Type 0 where
   pub program : VerifiedProgram
   pub is : IsOf text image program
   pub runs : RunsFrom program decks before after old new totals
 
 -- the image may run, and a run of it stops
-pub record StopsProgram (text image decks : List ℕ) (before after : Option (List ℕ)) (old new : Contents) (input_failed : Bool) (failed : Failures) (f : CsbFault) : Type 0 where
+pub record StopsProgram (text image decks : List ℕ) (before after : Given) (old new : Contents) (failed : Failures) (f : CsbFault) : Type 0 where
   pub program : VerifiedProgram
   pub is : IsOf text image program
-  pub stops : StopsFrom program decks before after old new input_failed failed f
+  pub stops : StopsFrom program decks before after old new failed f
 
 -- the image may not run, and nothing is read or written; or it stops
-abbrev pub StopsImage : List ℕ → List ℕ → List ℕ → Option (List ℕ) → Option (List ℕ) → Contents → Contents → Bool → Failures → CsbFault → Type 0
-StopsImage text image decks before after old new input_failed failed f =
-    (AreUntouched before after old new × IsImageFault text image f) ⊎ StopsProgram text image decks before after old new input_failed failed f
+abbrev pub StopsImage : List ℕ → List ℕ → List ℕ → Given → Given → Contents → Contents → Failures → CsbFault → Type 0
+StopsImage text image decks before after old new failed f =
+    (AreUntouched before after old new × IsImageFault text image f) ⊎ StopsProgram text image decks before after old new failed f
 
 -- ---- runs over memory
 
+-- nothing read yet
+abbrev pub unread : Given
+unread = are_given [] false 0
+
 -- nothing written yet
 abbrev pub empty : Contents
-empty = contents (Some []) (Some []) (Some []) (Some [])
+empty = contents [] [] [] []
 
--- a whole run over the data, to these texts
-abbrev pub RunsData : List ℕ → List ℕ → List ℕ → List ℕ → Totals → Contents → Type 0
-RunsData text image decks data_ totals texts = (after : Option (List ℕ)) × RunsImage text image decks (Some data_) after empty texts totals
+-- a whole run over the data, all of which was read, to these texts
+pub record RunsData (text image decks data_ : List ℕ) (totals : Totals) (texts : Contents) : Type 0 where
+  pub before : Given
+  pub after : Given
+  pub runs : RunsImage text image decks before after empty texts totals
+  pub all : runs.runs.runs.bytes ≡ data_
 
 -- an output in memory fails by want of memory alone
 abbrev pub in_memory : CsbFault → CsbFault
 in_memory f = if f.number == 71 then fault_at 90 0 0 else f
 
--- the same run stops
+-- the same run stops, after it read a front of the data
 pub record StopsData (text image decks data_ : List ℕ) (f : CsbFault) : Type 0 where
-  pub after : Option (List ℕ)
+  pub before : Given
+  pub after : Given
   pub new : Contents
-  pub input_failed : Bool
   pub failed : Failures
   pub fault : CsbFault
-  pub stops : StopsImage text image decks (Some data_) after empty new input_failed failed fault
+  pub stops : StopsImage text image decks before after empty new failed fault
+  pub front : (read : List ℕ) → Consumes before after read → ReadOf data_ read after
   pub tells : f ≡ in_memory fault

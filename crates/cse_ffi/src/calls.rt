@@ -1,6 +1,6 @@
 //! What each call does, before C sees it.
 
-ghost use Rattle.std.specs.Prelude.{◌≡◌, Some, Ok, IfOk, IfErr};
+ghost use Rattle.std.specs.Prelude.{◌≡◌, Ok, IfOk, IfErr};
 ghost use Rattle.cse_decks.specs.Store.{StoreFits};
 ghost use Rattle.cse_batch.specs.RunClauses.{contents, failures};
 ghost use Rattle.cse_ffi.specs.Calls.{HasNoStart, IsDictionaryFault, IsImageFault, IsImageOf, IsNoImage, IsRead, MayRun, RunsData, RunsFrom, RunsImage, StopsData, StopsFrom, StopsImage, begun, in_memory};
@@ -11,7 +11,8 @@ use cse_build::build;
 use cse_decks::{Store, load};
 use cse_dict::Dictionary;
 use cse_image::{Code, Program};
-use cse_value::{Input, Output, Reads, Writes};
+use cse_memory::{FromSlice, Gathered};
+use cse_value::{Input, Output};
 use cse_verify::Verified;
 use std::alloc::Global;
 
@@ -78,14 +79,13 @@ pub(crate) fn run_image<R: Input, O: Output, L: Output, F: Output, D: Output>(
     saved: &mut D,
 ) -> Result<Totals, CsbFault>
     ensures whole { IfOk result (RunsImage dictionary.now image.now decks.now
-        (R.remaining input.old) (R.remaining input.new)
-        (contents (O.contents out.old) (L.contents listing.old) (F.contents frequencies.old) (D.contents saved.old))
-        (contents (O.contents out.new) (L.contents listing.new) (F.contents frequencies.new) (D.contents saved.new))) }
+        (R.given input.old) (R.given input.new)
+        (contents (O.taken out.old) (L.taken listing.old) (F.taken frequencies.old) (D.taken saved.old))
+        (contents (O.taken out.new) (L.taken listing.new) (F.taken frequencies.new) (D.taken saved.new))) }
     ensures stops { IfErr result (StopsImage dictionary.now image.now decks.now
-        (R.remaining input.old) (R.remaining input.new)
-        (contents (O.contents out.old) (L.contents listing.old) (F.contents frequencies.old) (D.contents saved.old))
-        (contents (O.contents out.new) (L.contents listing.new) (F.contents frequencies.new) (D.contents saved.new))
-        (R.has_failed input.new)
+        (R.given input.old) (R.given input.new)
+        (contents (O.taken out.old) (L.taken listing.old) (F.taken frequencies.old) (D.taken saved.old))
+        (contents (O.taken out.new) (L.taken listing.new) (F.taken frequencies.new) (D.taken saved.new))
         (failures (O.has_failed out.new) (L.has_failed listing.new) (F.has_failed frequencies.new) (D.has_failed saved.new))) }
 {
     let dictionary = dictionary_of(alloc, dictionary)?;
@@ -135,14 +135,13 @@ fn run_verified<C: Code, R: Input, O: Output, L: Output, F: Output, D: Output>(
     saved: &mut D,
 ) -> Result<Totals, CsbFault>
     ensures whole { IfOk result (RunsFrom verified.now decks.now
-        (R.remaining input.old) (R.remaining input.new)
-        (contents (O.contents out.old) (L.contents listing.old) (F.contents frequencies.old) (D.contents saved.old))
-        (contents (O.contents out.new) (L.contents listing.new) (F.contents frequencies.new) (D.contents saved.new))) }
+        (R.given input.old) (R.given input.new)
+        (contents (O.taken out.old) (L.taken listing.old) (F.taken frequencies.old) (D.taken saved.old))
+        (contents (O.taken out.new) (L.taken listing.new) (F.taken frequencies.new) (D.taken saved.new))) }
     ensures stops { IfErr result (StopsFrom verified.now decks.now
-        (R.remaining input.old) (R.remaining input.new)
-        (contents (O.contents out.old) (L.contents listing.old) (F.contents frequencies.old) (D.contents saved.old))
-        (contents (O.contents out.new) (L.contents listing.new) (F.contents frequencies.new) (D.contents saved.new))
-        (R.has_failed input.new)
+        (R.given input.old) (R.given input.new)
+        (contents (O.taken out.old) (L.taken listing.old) (F.taken frequencies.old) (D.taken saved.old))
+        (contents (O.taken out.new) (L.taken listing.new) (F.taken frequencies.new) (D.taken saved.new))
         (failures (O.has_failed out.new) (L.has_failed listing.new) (F.has_failed frequencies.new) (D.has_failed saved.new))) }
 {
     let store = match begun(alloc, verified.program(), decks) {
@@ -194,30 +193,33 @@ pub(crate) fn texts_of(
     input: &[u8],
 ) -> Result<Texts, CsbFault>
     ensures whole { IfOk result (λ t. RunsData dictionary.now image.now decks.now input.now t.totals
-        (contents (Some t.out.items) (Some t.listing.items) (Some t.frequencies.items) (Some t.decks.items))) }
+        (contents t.out.items t.listing.items t.frequencies.items t.decks.items)) }
     ensures stops { IfErr result (StopsData dictionary.now image.now decks.now input.now) }
 {
-    let mut out = Writes::new(Vec::new(alloc));
-    let mut listing = Writes::new(Vec::new(alloc));
-    let mut frequencies = Writes::new(Vec::new(alloc));
-    let mut saved = Writes::new(Vec::new(alloc));
-    match run_image(
+    let mut read = FromSlice::new(input);
+    let mut out = Gathered::new(alloc);
+    let mut listing = Gathered::new(alloc);
+    let mut frequencies = Gathered::new(alloc);
+    let mut saved = Gathered::new(alloc);
+    let ran = run_image(
         alloc,
         dictionary,
         image,
         decks,
-        &mut Reads::new(input),
+        &mut read,
         &mut out,
         &mut listing,
         &mut frequencies,
         &mut saved,
-    ) {
+    );
+    read.gives();
+    match ran {
         Ok(totals) => Ok(Texts {
             totals,
-            out: out.into_inner(),
-            listing: listing.into_inner(),
-            frequencies: frequencies.into_inner(),
-            decks: saved.into_inner(),
+            out: out.into_bytes(),
+            listing: listing.into_bytes(),
+            frequencies: frequencies.into_bytes(),
+            decks: saved.into_bytes(),
         }),
         Err(why) => Err(in_memory(why)),
     }

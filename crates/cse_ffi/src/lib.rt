@@ -17,7 +17,6 @@ mod fault;
 
 use buffers::{is_put, length};
 use calls::{bounds_of, image_of, run_image, texts_of};
-use cse_devices::Noted;
 use cse_value::{Reads, Writes};
 use descriptors::{FromDescriptor, ToDescriptor};
 pub use fault::{CsbCounts, CsbFault, CsbTotals};
@@ -144,10 +143,10 @@ pub extern "C" fn csb_run_descriptors(
         image,
         decks,
         &mut Reads::new(FromDescriptor::new(input, input_length)),
-        &mut Writes::new(Noted::new(ToDescriptor::new(out))),
-        &mut Writes::new(Noted::new(ToDescriptor::new(listing))),
-        &mut Writes::new(Noted::new(ToDescriptor::new(frequencies))),
-        &mut Writes::new(Noted::new(ToDescriptor::new(saved))),
+        &mut Writes::new(ToDescriptor::new(out)),
+        &mut Writes::new(ToDescriptor::new(listing)),
+        &mut Writes::new(ToDescriptor::new(frequencies)),
+        &mut Writes::new(ToDescriptor::new(saved)),
     );
     match ran {
         Ok(totals) => {

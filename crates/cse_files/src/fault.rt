@@ -1,12 +1,46 @@
-//! Why a file was not written.
+//! Why a file was not read, or not written.
 
 ghost use Rattle.std.specs.Prelude.{◌≡◌, ◌≢◌};
 ghost use Rattle.std.specs.declared.io.ErrorKind.TheVariants.{OutOfMemory};
+ghost use Rattle.cse_files.specs.declared.fault.ReadFault.TheVariants as reads;
 ghost use Rattle.cse_files.specs.declared.fault.WriteFault.TheVariants.{NotOpened, NotWritten, Memory};
 
 use std::alloc::AllocError;
 use std::io::ErrorKind;
 use thiserror::Error;
+
+/// Why a file was not read.
+#[derive(Clone, Copy, Debug, PartialEq, Eq, Error)]
+pub enum ReadFault {
+    /// It can't be opened (72).
+    #[error("a file can't be opened")]
+    NotOpened,
+    /// A read failed (70).
+    #[error("a file can't be read")]
+    NotRead,
+    /// Want of memory (90).
+    #[error("out of memory")]
+    Memory,
+}
+
+impl ReadFault {
+    /// The fault of a file that can't be opened.
+    pub(crate) fn of_open(kind: ErrorKind) -> ReadFault
+        ensures memory { kind ≡ OutOfMemory → result ≡ reads.Memory }
+        ensures other { kind ≢ OutOfMemory → result ≡ reads.NotOpened }
+    {
+        match kind {
+            ErrorKind::OutOfMemory => ReadFault::Memory,
+            _ => ReadFault::NotOpened,
+        }
+    }
+}
+
+impl From<AllocError> for ReadFault {
+    fn from(_refused: AllocError) -> ReadFault {
+        ReadFault::Memory
+    }
+}
 
 /// Why a file was not written.
 #[derive(Clone, Copy, Debug, PartialEq, Eq, Error)]

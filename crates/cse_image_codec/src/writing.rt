@@ -1,6 +1,6 @@
 //! Fields written at the end of a list of bytes.
 
-ghost use Rattle.std.specs.Prelude.{◌≡◌, ℕ, ◌++◌, take, OnOk, OnErr};
+ghost use Rattle.std.specs.Prelude.{◌≡◌, ◌++◌, OnOk, OnErr};
 ghost use Rattle.std.specs.List.{flat_map};
 ghost use Rattle.cse_image_codec.specs.Spelling.{u8 as u8_spelling, u16 as u16_spelling, u32 as u32_spelling, i64 as i64_spelling};
 
@@ -62,24 +62,32 @@ pub fn put_bytes(out: &mut Vec<u8>, bytes: &[u8]) -> Result<(), AllocError>
     out.extend_from_slice(bytes)
 }
 
-/// Numbers of four bytes each, one after another. Where memory is wanting, those before stand.
+/// Numbers of four bytes each, one after another. Want of memory changes nothing.
 pub fn put_u32s(out: &mut Vec<u8>, numbers: &[u32]) -> Result<(), AllocError>
     ensures bytes { OnOk result (out.new.items ≡ out.old.items ++ flat_map u32_spelling numbers.now) }
-    ensures err { OnErr result ((n : ℕ) × (out.new.items ≡ out.old.items ++ flat_map u32_spelling (take n numbers.now))) }
+    ensures err { OnErr result (out.new.items ≡ out.old.items) }
 {
+    let len = out.len();
     for n in numbers {
-        put_u32(out, *n)?;
+        if let Err(refused) = put_u32(out, *n) {
+            out.truncate(len);
+            return Err(refused);
+        }
     }
     Ok(())
 }
 
-/// Numbers of eight bytes each, one after another. Where memory is wanting, those before stand.
+/// Numbers of eight bytes each, one after another. Want of memory changes nothing.
 pub fn put_i64s(out: &mut Vec<u8>, numbers: &[i64]) -> Result<(), AllocError>
     ensures bytes { OnOk result (out.new.items ≡ out.old.items ++ flat_map i64_spelling numbers.now) }
-    ensures err { OnErr result ((n : ℕ) × (out.new.items ≡ out.old.items ++ flat_map i64_spelling (take n numbers.now))) }
+    ensures err { OnErr result (out.new.items ≡ out.old.items) }
 {
+    let len = out.len();
     for n in numbers {
-        put_i64(out, n)?;
+        if let Err(refused) = put_i64(out, n) {
+            out.truncate(len);
+            return Err(refused);
+        }
     }
     Ok(())
 }

@@ -2,8 +2,8 @@
 use Rattle.std.proofs.Common.{◌≤◌, ℕ, ◌+◌, ◌*◌, ℤ, Bool, true, false, List, [], ◌∷◌, length, Option, Some, None, arith}
 use Rattle.std.specs.Prelude.{if◌then◌else◌}
 use Rattle.cse_value.specs.declared.shape.RecordShape.{RecordShape}
-use Rattle.cse_syntax.specs.declared.tree.Jump.{Jump}
-use Rattle.cse_syntax.specs.declared.tree.Jump.TheVariants as j
+use Rattle.cse_syntax_tree.specs.declared.tree.Jump.{Jump}
+use Rattle.cse_syntax_tree.specs.declared.tree.Jump.TheVariants as j
 use Rattle.cse_logic_tree.specs.declared.tree.Found.{Found}
 use Rattle.cse_logic_tree.specs.declared.tree.Found.TheVariants as h
 use Rattle.cse_logic_tree.specs.declared.tree.Present.{Present}

@@ -7,7 +7,7 @@ use Rattle.cse_value.specs.declared.number.Num.{Num}
 use Rattle.cse_value.specs.declared.number.Num.TheVariants as num
 use Rattle.cse_image_parts.specs.declared.entries.Gift.TheVariants as gifts
 use Rattle.cse_image_parts.specs.declared.instruction.Op.TheVariants as ops
-use Rattle.cse_syntax.specs.declared.tree.Count.TheVariants as counts
+use Rattle.cse_syntax_tree.specs.declared.tree.Count.TheVariants as counts
 use Rattle.cse_code_typing.specs.declared.kind.Kind.TheVariants as k
 use Rattle.cse_code_typing.specs.declared.control.Control.{Control}
 use Rattle.cse_code_typing.specs.declared.control.Control.TheVariants as c

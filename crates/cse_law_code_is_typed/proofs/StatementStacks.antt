@@ -3,8 +3,8 @@ use Rattle.std.proofs.Common.{◌≡◌, ℕ, ◌+◌, ℤ, true, false, List, [
 use Rattle.std.specs.Prelude.{◌==◌, ◌≤◌, if◌then◌else◌, ◌⊎◌}
 use Rattle.std.proofs.lemmas.Bool.{cases_Bool, cases_eq, eqb-true, eq-eqb, false≢true}
 use Rattle.cse_code_typing.specs.declared.kind.Kind.TheVariants as k
-use Rattle.cse_syntax.specs.declared.tree.Jump.{Jump}
-use Rattle.cse_syntax.specs.declared.tree.Jump.TheVariants as j
+use Rattle.cse_syntax_tree.specs.declared.tree.Jump.{Jump}
+use Rattle.cse_syntax_tree.specs.declared.tree.Jump.TheVariants as j
 use Rattle.cse_logic_tree.specs.declared.tree.Found.TheVariants as h
 use Rattle.cse_logic_tree.specs.Typed.{Number}
 use Rattle.cse_logic_tree.specs.Typed.{Which, Here, At, Argument, OfNumber, OfWords, Counting, Statement, Statements, Arms}

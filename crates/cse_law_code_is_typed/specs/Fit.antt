@@ -7,9 +7,9 @@ use Rattle.cse_image_parts.specs.declared.entries.Gift.TheVariants as gifts
 use Rattle.cse_image_parts.specs.declared.instruction.Op.TheVariants as ops
 use Rattle.cse_image_parts.specs.Image.{ArrayLists, MessageLists, RoutineLists}
 use Rattle.cse_image_parts.specs.Placeholders.{message_kinds}
-use Rattle.cse_syntax.specs.declared.tree.Count.TheVariants as counts
-use Rattle.cse_syntax.specs.declared.tree.Jump.{Jump}
-use Rattle.cse_syntax.specs.declared.tree.Jump.TheVariants as j
+use Rattle.cse_syntax_tree.specs.declared.tree.Count.TheVariants as counts
+use Rattle.cse_syntax_tree.specs.declared.tree.Jump.{Jump}
+use Rattle.cse_syntax_tree.specs.declared.tree.Jump.TheVariants as j
 use Rattle.cse_code_typing.specs.declared.kind.Kind.{Kind}
 use Rattle.cse_code_typing.specs.declared.kind.Kind.TheVariants as kind
 use Rattle.cse_code_typing.specs.Kinds.{local_kind, argument_kind}

@@ -1,5 +1,3 @@
-pub mod Given
-pub mod Lines
 pub mod Puts
 pub mod Keeps
 pub mod Names

@@ -33,8 +33,8 @@ use Rattle.cse_batch.specs.Totals.{totals_of}
 use Rattle.cse_batch.specs.Events.{unedited}
 use Rattle.cse_batch.specs.Batch.{Progress, is_whole}
 use Rattle.cse_batch.specs.Untouched.{LineStays}
-use Rattle.cse_law_items_stay.proofs.Given.{AreGood, all_given, given_are_good}
-use Rattle.cse_law_items_stay.proofs.Lines.{IsLeft as IsLeftOf, as_many_written, line_stays, lines_written, sound_at, written_at, written_together}
+use Rattle.cse_batch.proofs.UntouchedGiven.{AreGood, all_given, given_are_good}
+use Rattle.cse_batch.proofs.UntouchedLines.{IsLeft as IsLeftOf, as_many_written, line_stays, lines_written, sound_at, written_at, written_together}
 use Rattle.cse_edit.specs.Logic.{after_meant, all_meant, edited_meant, events_meant, after_run_meant, after_runs_meant, begun_meant, told_meant, batch_meant}
 use Rattle.cse_law_items_stay.specs.Stay.{MayChange, AllStay, lines_read, ItemsStay, NamedItemsAloneChange, ChecksChangeNothing, EditsKeepOthers}
 use Rattle.cse_law_items_stay.proofs.Puts.{FunctionsPut, ProceduresPut}
@@ -218,5 +218,5 @@ edits_keep_others law sound text logic messages order decks on d read =
     let is_sound : IsSound d = subst (λ (d : DictionaryText). IsSound d) (sym read.is) (sound text read.sound) in
     record {
       whole = λ totals e. law d logic messages order e.begins.texts e.begins.store e.runs.bytes true is_sound;
-      stopped = λ input_failed failed fault e. law d logic messages order e.begins.texts e.begins.store e.stops.bytes e.stops.ended is_sound;
+      stopped = λ failed fault e. law d logic messages order e.begins.texts e.begins.store e.stops.bytes e.stops.ended is_sound;
     }

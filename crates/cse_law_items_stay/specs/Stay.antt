@@ -61,7 +61,7 @@ ChecksChangeNothing =
 pub record KeepsOthers (d : DictionaryText) (logic messages order : List ℕ) (decks : Option (List ℕ)) (on : Devices) : Type 0 where
   pub whole : (totals : Totals) (e : Edits d logic messages order decks on totals)
       → ItemsStay d e.begins.texts.tree e.begins.texts.named e.begins.store e.runs.bytes true
-  pub stopped : (input_failed : Bool) (failed : Failures) (fault : RunFault) (e : StopsEdit d logic messages order decks on input_failed failed fault)
+  pub stopped : (failed : Failures) (fault : RunFault) (e : StopsEdit d logic messages order decks on failed fault)
       → ItemsStay d e.begins.texts.tree e.begins.texts.named e.begins.store e.stops.bytes e.stops.ended
 
 abbrev pub EditsKeepOthers : Type 0

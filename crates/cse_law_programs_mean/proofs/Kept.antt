@@ -8,7 +8,7 @@ use Rattle.cse_value.specs.declared.number.Num.TheVariants.{Whole}
 use Rattle.cse_value.specs.declared.shape.RecordShape.{RecordShape}
 use Rattle.cse_value.specs.Number.{fits_i64, is_zero}
 use Rattle.cse_value.specs.Occurrences.{most_occurrences}
-use Rattle.cse_syntax.specs.declared.tree.Count.TheVariants as counts
+use Rattle.cse_syntax_tree.specs.declared.tree.Count.TheVariants as counts
 use Rattle.cse_logic_tree.specs.Typed.{Limit, Fixed, Counted, Counting}
 use Rattle.cse_compile_code.specs.Statements as emit
 use Rattle.cse_compile_code.specs.Statements.{as_limit, least, greatest}

@@ -10,11 +10,11 @@ use Rattle.cse_value.specs.declared.shape.RecordShape.{RecordShape}
 use Rattle.cse_value.specs.Occurrences.{most_occurrences}
 use Rattle.cse_dict.specs.Dictionary.{DictionaryText, RecordText, shape_of}
 use Rattle.cse_dict.specs.Sound.{IsSound, IsSoundRecord}
-use Rattle.cse_syntax.specs.Leaf.{is_within, is_digits, number_of, MOST}
-use Rattle.cse_syntax.specs.Tree as syntax
-use Rattle.cse_syntax.specs.Tree.{Spelling}
-use Rattle.cse_syntax.specs.Grammar as grammar
-use Rattle.cse_syntax.specs.Grammar.{Below, IsStmt, AreStmts, IsBy}
+use Rattle.cse_syntax_tree.specs.Leaf.{is_within, is_digits, number_of, MOST}
+use Rattle.cse_syntax_tree.specs.Tree as syntax
+use Rattle.cse_syntax_tree.specs.Tree.{Spelling}
+use Rattle.cse_syntax_tree.specs.Grammar as grammar
+use Rattle.cse_syntax_tree.specs.Grammar.{Below, IsStmt, AreStmts, IsBy}
 use Rattle.cse_logic_tree.specs.Typed.{Limit, Fixed, Counted, Counting, Statement, Statements, Arms}
 use Rattle.cse_logic_tree.specs.Typed.{Empty, Set, SetText, SetItem, SetTextItem, SetCell, CallOf, If, For, Do, Jump', Impute, PutDeck, ErrMsg, no_statement, statement_and, no_arm, else_of, arm}
 use Rattle.cse_logic_tree.specs.Erase.{erase_limit, erase_counting, erase_statement, erase_block, erase_arms}

@@ -8,10 +8,10 @@ use Rattle.cse_value.specs.Occurrences.{most_occurrences}
 use Rattle.cse_image_parts.specs.Image.{Image}
 use Rattle.cse_dict.specs.Dictionary.{DictionaryText, shape_of}
 use Rattle.cse_dict.specs.Keys.{kept_name}
-use Rattle.cse_syntax.specs.Tree as syntax
-use Rattle.cse_syntax.specs.Word.{Word}
-use Rattle.cse_syntax.specs.Grammar as grammar
-use Rattle.cse_syntax.specs.Grammar.{Each, AreStmts, IsDeclaration, IsProcedure}
+use Rattle.cse_syntax_tree.specs.Tree as syntax
+use Rattle.cse_syntax_tree.specs.Word.{Word}
+use Rattle.cse_syntax_tree.specs.Grammar as grammar
+use Rattle.cse_syntax_tree.specs.Grammar.{Each, AreStmts, IsDeclaration, IsProcedure}
 use Rattle.cse_logic_tree.specs.declared.tree.Owner.{Owner}
 use Rattle.cse_logic_tree.specs.Typed.{Statements, Function, Declaration, Numeric, Alpha, Array', Function', Body, Plain, Preproc, Both, Postproc, Procedure, Tree}
 use Rattle.cse_logic_tree.specs.Erase.{erase_block, erase_body, erase_declaration, erase_procedure, erase_tree}

@@ -13,8 +13,8 @@ use Rattle.cse_case.specs.Case.{CaseText}
 use Rattle.cse_decks.specs.Store.{Kept}
 use Rattle.cse_code_bounds.specs.CaseEvents.{Moment}
 use Rattle.cse_dict.specs.Dictionary.{DictionaryText, shape_of}
-use Rattle.cse_syntax.specs.Tree as syntax
-use Rattle.cse_syntax.specs.Word.{Word}
+use Rattle.cse_syntax_tree.specs.Tree as syntax
+use Rattle.cse_syntax_tree.specs.Word.{Word}
 use Rattle.cse_code_typing.specs.Handlers.{routine_of}
 use Rattle.cse_code_typing.specs.Order.{handles, handles_item, is_occurrence_of}
 use Rattle.cse_code_typing.proofs.HandlerLaws.{handlers_run}

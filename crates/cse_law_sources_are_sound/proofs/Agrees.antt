@@ -9,7 +9,7 @@ use Rattle.cse_value.specs.Shape.{ShapeLists}
 use Rattle.cse_image_parts.specs.declared.entries.Gift.TheVariants as gifts
 use Rattle.cse_image_parts.specs.Image.{ArrayLists, RoutineLists}
 use Rattle.cse_dict.specs.Dictionary.{shape_of}
-use Rattle.cse_syntax.specs.Tree.{Spelling}
+use Rattle.cse_syntax_tree.specs.Tree.{Spelling}
 use Rattle.cse_code_typing.specs.declared.kind.Kind.TheVariants as kind
 use Rattle.cse_code_typing.specs.Kinds.{local_kind}
 use Rattle.cse_code_typing.specs.Signature.{is_record, rows_of, global_at, local_at}

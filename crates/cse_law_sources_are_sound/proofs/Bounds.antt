@@ -11,8 +11,8 @@ use Rattle.cse_value.specs.Occurrences.{most_occurrences}
 use Rattle.cse_image_parts.specs.Image.{Image}
 use Rattle.cse_dict.specs.Dictionary.{DictionaryText, RecordText, shape_of}
 use Rattle.cse_dict.specs.Sound.{IsSound, IsSoundRecord}
-use Rattle.cse_syntax.specs.Tree as syntax
-use Rattle.cse_syntax.specs.Word.{Word}
+use Rattle.cse_syntax_tree.specs.Tree as syntax
+use Rattle.cse_syntax_tree.specs.Word.{Word}
 use Rattle.cse_code_typing.specs.Signature.{is_record}
 use Rattle.cse_logic_tree.specs.Typed.{Tree}
 use Rattle.cse_logic_names.specs.MessageFile.{MessageText}

@@ -17,8 +17,8 @@ use Rattle.cse_image_parts.specs.declared.entries.EventEntry.{EventEntry}
 use Rattle.cse_image_parts.specs.Image.{Image, RoutineLists}
 use Rattle.cse_image.specs.Spelling.{Fits}
 use Rattle.cse_dict.specs.Dictionary.{DictionaryText, shape_of}
-use Rattle.cse_syntax.specs.Tree as syntax
-use Rattle.cse_syntax.specs.Word.{Word}
+use Rattle.cse_syntax_tree.specs.Tree as syntax
+use Rattle.cse_syntax_tree.specs.Word.{Word}
 use Rattle.cse_logic_tree.specs.Typed.{Tree}
 use Rattle.cse_code_typing.specs.Code.{part, start_of, code_of}
 use Rattle.cse_code_typing.specs.Shapes as image

@@ -11,7 +11,7 @@ use Rattle.std.proofs.lemmas.Option.{same_Some, none-some}
 use Rattle.cse_image_parts.specs.declared.entries.GlobalVariable.{GlobalVariable}
 use Rattle.cse_dict.specs.Dictionary.{RecordText, shape_of, number_named, record_names, item_names, set_names}
 use Rattle.cse_dict.specs.Keys.{kept_name}
-use Rattle.cse_syntax.specs.Tree.{Spelling}
+use Rattle.cse_syntax_tree.specs.Tree.{Spelling}
 use Rattle.cse_code_typing.specs.declared.kind.Kind.TheVariants as kind
 use Rattle.cse_code_typing.specs.Kinds.{global_kind}
 use Rattle.cse_code_typing.specs.Signature.{is_record, global_at, local_at}

@@ -11,7 +11,7 @@ use Rattle.cse_value.specs.declared.shape.ItemShape.{ItemShape}
 use Rattle.cse_value.specs.Shape.{ShapeLists}
 use Rattle.cse_image_parts.specs.declared.instruction.Op.TheVariants as ops
 use Rattle.cse_dict.specs.Dictionary.{DictionaryText, ItemText, SetText as ValueSet, shape_of}
-use Rattle.cse_syntax.specs.Tree.{Spelling}
+use Rattle.cse_syntax_tree.specs.Tree.{Spelling}
 use Rattle.cse_code_typing.specs.declared.kind.Kind.TheVariants as kind
 use Rattle.cse_code_typing.specs.Signature.{is_record, rows_of, rows_by, is_numeric, is_number_kind, is_text_kind, item_where, is_id, id_number, id_text, number_item, text_item}
 use Rattle.cse_code_typing.specs.Calls.{calls_well, may_call as may_be_called}

@@ -12,9 +12,9 @@ use Rattle.cse_image_parts.specs.Image.{Image, Lists, ArrayLists, MessageLists, 
 use Rattle.cse_dict.specs.Dictionary.{DictionaryText, ItemText, RecordText, shape_of}
 use Rattle.cse_dict.specs.Keys.{kept_name}
 use Rattle.cse_dict.specs.Sound.{IsSound, IsSoundItem}
-use Rattle.cse_syntax.specs.Tree as syntax
-use Rattle.cse_syntax.specs.Word.{Word}
-use Rattle.cse_syntax.specs.Grammar.{Each, AreStmts, IsDeclaration, IsBody as IsBodyOf, IsProcedure, AreGlobals}
+use Rattle.cse_syntax_tree.specs.Tree as syntax
+use Rattle.cse_syntax_tree.specs.Word.{Word}
+use Rattle.cse_syntax_tree.specs.Grammar.{Each, AreStmts, IsDeclaration, IsBody as IsBodyOf, IsProcedure, AreGlobals}
 use Rattle.cse_code_typing.specs.declared.kind.Kind.TheVariants as kind
 use Rattle.cse_code_typing.specs.Kinds.{local_kind}
 use Rattle.cse_code_typing.specs.Signature.{is_record, local_at}

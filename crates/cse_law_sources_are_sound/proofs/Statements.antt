@@ -6,11 +6,11 @@ use Rattle.std.proofs.lemmas.List.{length-map, map-append}
 use Rattle.std.proofs.lemmas.Option.{same_Some, none-some}
 use Rattle.cse_image_parts.specs.Image.{MessageLists}
 use Rattle.cse_image_parts.specs.Placeholders.{message_kinds}
-use Rattle.cse_syntax.specs.declared.tree.Count.TheVariants as counts
-use Rattle.cse_syntax.specs.declared.tree.Jump.{Jump}
-use Rattle.cse_syntax.specs.declared.tree.Jump.TheVariants as j
-use Rattle.cse_syntax.specs.Tree as syntax
-use Rattle.cse_syntax.specs.Grammar.{Below, IsStmt, AreStmts, AreArms as AreArmsOf}
+use Rattle.cse_syntax_tree.specs.declared.tree.Count.TheVariants as counts
+use Rattle.cse_syntax_tree.specs.declared.tree.Jump.{Jump}
+use Rattle.cse_syntax_tree.specs.declared.tree.Jump.TheVariants as j
+use Rattle.cse_syntax_tree.specs.Tree as syntax
+use Rattle.cse_syntax_tree.specs.Grammar.{Below, IsStmt, AreStmts, AreArms as AreArmsOf}
 use Rattle.cse_code_typing.specs.Kinds as kinds
 use Rattle.cse_logic_tree.specs.Typed.{Which, Here, At, Argument, OfNumber, OfWords, Limit, Fixed, Counted, Statement, Statements, Arms}
 use Rattle.cse_logic_tree.specs.Typed.{Empty, Set, SetText, SetItem, SetTextItem, SetCell, CallOf, If, For, Do, Jump', Impute, PutDeck, ErrMsg, no_statement, statement_and, no_arm, else_of, arm}

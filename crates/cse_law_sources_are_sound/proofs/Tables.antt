@@ -7,7 +7,7 @@ use Rattle.std.proofs.lemmas.Option.{same_Some, none-some}
 use Rattle.cse_value.specs.Shape.{ShapeLists}
 use Rattle.cse_image_parts.specs.Image.{ArrayLists}
 use Rattle.cse_dict.specs.Dictionary.{SetText as ValueSet, shape_of}
-use Rattle.cse_syntax.specs.Grammar.{Each, IsSome, IsDeclaration}
+use Rattle.cse_syntax_tree.specs.Grammar.{Each, IsSome, IsDeclaration}
 use Rattle.cse_logic_tree.specs.Typed.{Dimension, Sized, Rows, Declaration, Numeric, Alpha, Array', Function'}
 use Rattle.cse_logic_tree.specs.Erase.{erase_dimension, erase_declaration, erase_block}
 use Rattle.cse_compile_sections.specs.declared.outlines.Sort.TheVariants as sorts

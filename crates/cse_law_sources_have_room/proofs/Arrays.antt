@@ -16,9 +16,9 @@ use Rattle.cse_image_parts.specs.Texts.{is_name, is_new}
 use Rattle.cse_image_codec.specs.Reader.{AllAfter}
 use Rattle.cse_image.specs.Spelling.{ArrayFits, DimensionFits}
 use Rattle.cse_dict.specs.Dictionary.{SetText as ValueSet}
-use Rattle.cse_syntax.specs.Grammar.{Each, IsSome, IsDeclaration}
-use Rattle.cse_syntax.specs.Leaf.{is_within, number_of}
-use Rattle.cse_syntax.specs.Tree.{Spelling}
+use Rattle.cse_syntax_tree.specs.Grammar.{Each, IsSome, IsDeclaration}
+use Rattle.cse_syntax_tree.specs.Leaf.{is_within, number_of}
+use Rattle.cse_syntax_tree.specs.Tree.{Spelling}
 use Rattle.cse_logic_tree.specs.Typed.{Whole, Dimension, Sized, Rows, Declaration, Numeric, Alpha, Array', Function'}
 use Rattle.cse_logic_tree.specs.Erase.{erase_block, erase_dimension, erase_declaration}
 use Rattle.cse_compile_sections.specs.Tables.{size_of, cell_of, arrays_in}

@@ -1,7 +1,7 @@
 -- A source has fewer messages than tokens.
 use Rattle.std.proofs.Common.{◌≤◌, List, [], ◌∷◌, length, Option, Some, None, length-append, arith}
-use Rattle.cse_syntax.specs.Tree.{Stmt, Empty, Assign, Call, If, For, Do, Jump', Impute, PutDeck, ErrMsg, Stmts, no_stmt, stmt_and, Arms, no_arm, else_of, arm}
-use Rattle.cse_syntax.specs.Tree.{Declaration, Numeric, Alpha, Array', Function', Body, Plain, Preproc, Both, Postproc, Procedure, Tree}
+use Rattle.cse_syntax_tree.specs.Tree.{Stmt, Empty, Assign, Call, If, For, Do, Jump', Impute, PutDeck, ErrMsg, Stmts, no_stmt, stmt_and, Arms, no_arm, else_of, arm}
+use Rattle.cse_syntax_tree.specs.Tree.{Declaration, Numeric, Alpha, Array', Function', Body, Plain, Preproc, Both, Postproc, Procedure, Tree}
 use Rattle.cse_logic_tree.specs.Tokens.{stmt_tokens, stmts_tokens, arms_tokens, all_tokens, declaration_tokens, body_tokens, procedure_tokens, globals_tokens, tree_tokens}
 use Rattle.cse_logic_names.specs.WellTyped.{messages_in, messages_of, messages_behind, all_declarations, declared_messages, body_messages, procedure_messages, tree_messages}
 

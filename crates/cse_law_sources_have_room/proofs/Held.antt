@@ -6,18 +6,18 @@ use Rattle.std.specs.Option.{option_map}
 use Rattle.std.proofs.lemmas.Bool.{and_parts, leb-true}
 use Rattle.std.proofs.lemmas.Int.{fits_signed_from_abs}
 use Rattle.std.proofs.lemmas.Option.{same_Some, none-some}
-use Rattle.cse_syntax.specs.declared.token.Mark.TheVariants as mark
-use Rattle.cse_syntax.specs.Leaf.{number_of, is_within, is_digits, MOST}
-use Rattle.cse_syntax.specs.Tree as syntax
-use Rattle.cse_syntax.specs.Tree.{Spelling}
-use Rattle.cse_syntax.specs.Word.{Word, Sign}
-use Rattle.cse_syntax.specs.Grammar.{Below, IsExpr, AreInner, AreOperations, spell_expr, spell_exprs, spell_others, spell_operations, spell_set}
+use Rattle.cse_syntax_tree.specs.declared.token.Mark.TheVariants as mark
+use Rattle.cse_syntax_tree.specs.Leaf.{number_of, is_within, is_digits, MOST}
+use Rattle.cse_syntax_tree.specs.Tree as syntax
+use Rattle.cse_syntax_tree.specs.Tree.{Spelling}
+use Rattle.cse_syntax_tree.specs.Word.{Word, Sign}
+use Rattle.cse_syntax_tree.specs.Grammar.{Below, IsExpr, AreInner, AreOperations, spell_expr, spell_exprs, spell_others, spell_operations, spell_set}
 use Rattle.cse_logic_tree.specs.Typed.{Number, Words, Numbers, Operations, Constant, Special', Variable', Item, ItemAt, Cell, Call, Group, Int, IsSpecial, Deck, TotOcc, MaxOcc, CurOcc, InSet, Minus, Not, Compare, CompareTexts, Chain}
 use Rattle.cse_logic_tree.specs.Typed.{Quoted as QuotedText, TextGlobal, TextItem, TextItemAt, TextGroup, no_number, number_and, no_operation, operation_and}
 use Rattle.cse_logic_tree.specs.Erase.{erase, erase_words, erase_all, erase_operations}
 use Rattle.cse_logic_names.specs.Scope.{Scope}
 use Rattle.cse_logic_names.specs.WellTyped.{value_of, signed_value, IsNumber, IsWords, AreNumbers, AreOperands}
-use Rattle.cse_law_sources_have_room.specs.Given.{AreUtf8}
+use Rattle.cse_logic_names.specs.Texts.{AreUtf8}
 use Rattle.cse_law_sources_have_room.proofs.Leaves.{NumberHolds, WordsHold, NumbersHold, OperationsHold}
 use Rattle.cse_law_sources_have_room.proofs.Texts.{text_fits}
 

@@ -4,19 +4,19 @@ use Rattle.std.specs.Prelude.{FitsSigned}
 use Rattle.std.specs.Int.{w64}
 use Rattle.std.specs.List.{AllByRecursion}
 use Rattle.std.proofs.lemmas.Option.{same_Some}
-use Rattle.cse_syntax.specs.declared.token.Mark.{Mark}
-use Rattle.cse_syntax.specs.declared.token.Mark.TheVariants as mark
-use Rattle.cse_syntax.specs.Tree as syntax
-use Rattle.cse_syntax.specs.Tree.{Spelling}
-use Rattle.cse_syntax.specs.Word.{Word, Digits, Sign}
-use Rattle.cse_syntax.specs.Grammar as grammar
-use Rattle.cse_syntax.specs.Grammar.{Below, IsExpr, AreInner, IsMessage, IsStmt, AreStmts, spell_expr, spell_others, spell_mark, spell_subscripts, spell_literal, spell_limit, spell_by, spell_counting, spell_message, spell_stmt, spell_stmts, spell_arms}
+use Rattle.cse_syntax_tree.specs.declared.token.Mark.{Mark}
+use Rattle.cse_syntax_tree.specs.declared.token.Mark.TheVariants as mark
+use Rattle.cse_syntax_tree.specs.Tree as syntax
+use Rattle.cse_syntax_tree.specs.Tree.{Spelling}
+use Rattle.cse_syntax_tree.specs.Word.{Word, Digits, Sign}
+use Rattle.cse_syntax_tree.specs.Grammar as grammar
+use Rattle.cse_syntax_tree.specs.Grammar.{Below, IsExpr, AreInner, IsMessage, IsStmt, AreStmts, spell_expr, spell_others, spell_mark, spell_subscripts, spell_literal, spell_limit, spell_by, spell_counting, spell_message, spell_stmt, spell_stmts, spell_arms}
 use Rattle.cse_logic_tree.specs.Typed.{Numbers, no_number, number_and, Which, Here, At, Argument, OfNumber, OfWords, Limit, Fixed, Counted, Counting, Statement, Statements, Arms}
 use Rattle.cse_logic_tree.specs.Typed.{Empty, Set, SetText, SetItem, SetTextItem, SetCell, CallOf, If, For, Do, Jump', Impute, PutDeck, ErrMsg, no_statement, statement_and, no_arm, else_of, arm}
 use Rattle.cse_logic_tree.specs.Erase.{erase, erase_all, erase_which, erase_argument, erase_arguments, erase_limit, erase_counting, erase_statement, erase_block, erase_arms}
 use Rattle.cse_logic_names.specs.Scope.{Scope, within}
 use Rattle.cse_logic_names.specs.WellTyped.{AreNumbers, IsWhich, IsArgument, AreArguments, IsLimit, IsCounting, step_of, IsStatement, AreStatements, AreArms, messages_in, messages_of, messages_behind}
-use Rattle.cse_law_sources_have_room.specs.Given.{AreUtf8}
+use Rattle.cse_logic_names.specs.Texts.{AreUtf8}
 use Rattle.cse_law_sources_have_room.proofs.Facts.{small_number}
 use Rattle.cse_law_sources_have_room.proofs.Leaves.{NumbersHold, WhichHolds, ArgumentHolds, ArgumentsHold, LimitHolds, CountingHolds, MessageHolds, StatementHolds, BlockHolds, ArmsHold}
 use Rattle.cse_law_sources_have_room.proofs.Lists.{both}

@@ -4,11 +4,11 @@ use Rattle.std.specs.Prelude.{if◌then◌else◌}
 use Rattle.std.specs.List.{AllByRecursion}
 use Rattle.std.specs.Option.{option_map}
 use Rattle.cse_dict.specs.Dictionary.{DictionaryText}
-use Rattle.cse_syntax.specs.declared.token.Mark.TheVariants as mark
-use Rattle.cse_syntax.specs.Tree as syntax
-use Rattle.cse_syntax.specs.Tree.{Spelling}
-use Rattle.cse_syntax.specs.Word.{Word, Name, Sign}
-use Rattle.cse_syntax.specs.Grammar.{Spells, Each, AreGlobals, AreStmts, IsDeclaration, IsBody as IsBodyOf, IsProcedure, spell_each, spell_list, spell_all, spell_mark, spell_name, spell_literal, spell_dimension, spell_parameter, spell_cells, spell_array, spell_stmts, spell_declaration, spell_body, spell_procedure, spell_globals, spell_tree}
+use Rattle.cse_syntax_tree.specs.declared.token.Mark.TheVariants as mark
+use Rattle.cse_syntax_tree.specs.Tree as syntax
+use Rattle.cse_syntax_tree.specs.Tree.{Spelling}
+use Rattle.cse_syntax_tree.specs.Word.{Word, Name, Sign}
+use Rattle.cse_syntax_tree.specs.Grammar.{Spells, Each, AreGlobals, AreStmts, IsDeclaration, IsBody as IsBodyOf, IsProcedure, spell_each, spell_list, spell_all, spell_mark, spell_name, spell_literal, spell_dimension, spell_parameter, spell_cells, spell_array, spell_stmts, spell_declaration, spell_body, spell_procedure, spell_globals, spell_tree}
 use Rattle.cse_logic_tree.specs.declared.tree.Owner.{Owner}
 use Rattle.cse_logic_tree.specs.Typed.{Statements, Declaration, Numeric, Alpha, Array', Function', Body, Plain, Preproc, Both, Postproc, Procedure, Tree}
 use Rattle.cse_logic_tree.specs.Erase.{erase_block, erase_array, erase_declaration, erase_body, erase_procedure, erase_tree}
@@ -18,7 +18,7 @@ use Rattle.cse_logic_names.specs.MessageFile.{MessageText}
 use Rattle.cse_logic_names.specs.Scope.{Scope}
 use Rattle.cse_logic_names.specs.WellTyped.{AreStatements, AreDeclared, AreProcedures, IsBody, IsWell, all_declarations, typed_declarations, function_scope, with_function, procedure_scope, messages_of, declared_messages, procedure_messages, body_messages, tree_messages, first_scope, with_functions}
 use Rattle.cse_compile.specs.Program.{declarations_in, declarations, handlers, outlines}
-use Rattle.cse_law_sources_have_room.specs.Given.{AreUtf8}
+use Rattle.cse_logic_names.specs.Texts.{AreUtf8}
 use Rattle.cse_law_sources_have_room.proofs.Leaves.{BlockHolds}
 use Rattle.cse_law_sources_have_room.proofs.Lists.{both, each_map}
 use Rattle.cse_law_sources_have_room.proofs.HeldBlocks.{EntryHolds, mark_rest, literal_rest, block_held, block_messages}

@@ -7,8 +7,8 @@ use Rattle.std.proofs.lemmas.List.{length-append, length-replicate}
 use Rattle.std.proofs.lemmas.Option.{same_Some, none-some}
 use Rattle.cse_image_parts.specs.Texts.{is_text}
 use Rattle.cse_image.specs.Spelling.{GlobalFits, MessageFits}
-use Rattle.cse_syntax.specs.Leaf.{is_within, number_of}
-use Rattle.cse_syntax.specs.Tree as syntax
+use Rattle.cse_syntax_tree.specs.Leaf.{is_within, number_of}
+use Rattle.cse_syntax_tree.specs.Tree as syntax
 use Rattle.cse_logic_tree.specs.Typed.{Declaration, Numeric, Alpha, Array', Function'}
 use Rattle.cse_logic_tree.specs.Erase.{erase_block, erase_declaration}
 use Rattle.cse_logic_tree.specs.Tokens.{all_tokens, list_tokens, each_tokens, one_token, declaration_tokens}
@@ -16,8 +16,8 @@ use Rattle.cse_compile_sections.specs.Tables.{number_global, text_global, global
 use Rattle.cse_logic_names.specs.MessageFile.{MessageText}
 use Rattle.cse_logic_names.specs.Scope.{Scope}
 use Rattle.cse_logic_names.specs.WellTyped.{message_number, numbered, message_meant, no_message, entry_of, size_of, size_in, AreDeclared, with_function, messages_of}
-use Rattle.cse_syntax.specs.Tree.{Spelling}
-use Rattle.cse_law_sources_have_room.specs.Given.{AreTexts}
+use Rattle.cse_syntax_tree.specs.Tree.{Spelling}
+use Rattle.cse_logic_names.specs.Texts.{AreTexts}
 use Rattle.cse_law_sources_have_room.specs.Within.{IsMessageWithin}
 use Rattle.cse_law_sources_have_room.proofs.Facts.{no_text}
 use Rattle.cse_law_sources_have_room.proofs.Held.{within}

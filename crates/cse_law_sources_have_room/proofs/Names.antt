@@ -11,8 +11,8 @@ use Rattle.std.proofs.lemmas.Str.Ascii.{uppercase_is}
 use Rattle.cse_dict.specs.Keys.{kept_name}
 use Rattle.cse_image_parts.specs.Image.{ArrayLists}
 use Rattle.cse_image_parts.specs.Texts.{is_upper, is_name_char, is_name}
-use Rattle.cse_syntax.specs.Leaf as leaf
-use Rattle.cse_syntax.specs.Leaf.{starts_with_letter, is_word_byte, is_none, reserved, is_left_out}
+use Rattle.cse_syntax_tree.specs.Leaf as leaf
+use Rattle.cse_syntax_tree.specs.Leaf.{starts_with_letter, is_word_byte, is_none, reserved, is_left_out}
 use Rattle.cse_logic_tree.specs.Typed.{Declaration, Numeric, Alpha, Array', Function'}
 use Rattle.cse_logic_tree.specs.Erase.{erase_declaration}
 use Rattle.cse_compile_sections.specs.Tables.{arrays_in}

@@ -7,12 +7,12 @@ use Rattle.cse_image_parts.specs.declared.instruction.Op.TheVariants as ops
 use Rattle.cse_image_parts.specs.declared.version.Version.TheVariants as versions
 use Rattle.cse_image_parts.specs.Opcodes.{Shape, Range, shape, lies_in, none, up_to, any, any_record}
 use Rattle.cse_image.specs.Spelling.{InstrFits}
-use Rattle.cse_syntax.specs.declared.tree.Operator.{Operator}
-use Rattle.cse_syntax.specs.declared.tree.Operator.TheVariants as operators
-use Rattle.cse_syntax.specs.declared.tree.Relation.{Relation}
-use Rattle.cse_syntax.specs.declared.tree.Relation.TheVariants as relations
-use Rattle.cse_syntax.specs.declared.tree.Special.{Special}
-use Rattle.cse_syntax.specs.declared.tree.Special.TheVariants as specials
+use Rattle.cse_syntax_tree.specs.declared.tree.Operator.{Operator}
+use Rattle.cse_syntax_tree.specs.declared.tree.Operator.TheVariants as operators
+use Rattle.cse_syntax_tree.specs.declared.tree.Relation.{Relation}
+use Rattle.cse_syntax_tree.specs.declared.tree.Relation.TheVariants as relations
+use Rattle.cse_syntax_tree.specs.declared.tree.Special.{Special}
+use Rattle.cse_syntax_tree.specs.declared.tree.Special.TheVariants as specials
 use Rattle.cse_compile_code.specs.Numbers.{operation_of, relation_number, special_number}
 use Rattle.cse_compile.specs.Stands.{instr}
 

@@ -11,8 +11,8 @@ use Rattle.std.proofs.lemmas.List.Sums.{sum_by-cons, sum_by-append}
 use Rattle.std.proofs.lemmas.Str.{IsUtf8-from_is_utf8, is_utf8-from_IsUtf8, IsUtf8-between, encodes-chars, encode_ascii}
 use Rattle.cse_image_parts.specs.Texts.{is_text, is_short}
 use Rattle.cse_image.specs.Spelling.{TextFits}
-use Rattle.cse_syntax.specs.Leaf as leaf
-use Rattle.cse_syntax.specs.Leaf.{begins, is_inside, is_start, is_quote, text_of}
+use Rattle.cse_syntax_tree.specs.Leaf as leaf
+use Rattle.cse_syntax_tree.specs.Leaf.{begins, is_inside, is_start, is_quote, text_of}
 use Rattle.cse_syntax.proofs.QuotedText.{quotes, first_cut, last_cut, inside_is}
 
 -- ---- one character

@@ -18,9 +18,9 @@ use Rattle.cse_image_parts.specs.Image.{Image, Lists, ArrayLists, RoutineLists}
 use Rattle.cse_image.specs.Spelling.{Fits, ListsFit, RecordFits, ItemFits, SetFits, OrderFits, GlobalFits, MessageFits}
 use Rattle.cse_dict.specs.Dictionary.{DictionaryText, RecordText, ItemText, SetText, shape_of}
 use Rattle.cse_dict.specs.Sound.{IsSound as IsSoundDictionary}
-use Rattle.cse_syntax.specs.Tree as syntax
-use Rattle.cse_syntax.specs.Word.{Word}
-use Rattle.cse_syntax.specs.Grammar.{IsSource, spell_tree}
+use Rattle.cse_syntax_tree.specs.Tree as syntax
+use Rattle.cse_syntax_tree.specs.Word.{Word}
+use Rattle.cse_syntax_tree.specs.Grammar.{IsSource, spell_tree}
 use Rattle.cse_logic_tree.specs.Typed.{Declaration, Entry, Tree}
 use Rattle.cse_logic_tree.specs.Erase.{erase_declaration, erase_tree}
 use Rattle.cse_logic_tree.specs.Tokens.{all_tokens, declaration_tokens, globals_tokens}
@@ -52,7 +52,8 @@ use Rattle.cse_law_sources_are_sound.specs.Sound.{IsOrdered}
 use Rattle.cse_law_sources_are_sound.proofs.EditOrder.{orders_name_all}
 use Rattle.cse_law_sources_are_sound.proofs.EventsFit as checked
 use Rattle.cse_law_sources_are_sound.proofs.Routines.{same_declarations, same_erased, each_declaration, OfGrammar, same_dictionary, statements_fit}
-use Rattle.cse_law_sources_have_room.specs.Given.{ShapeFits, AreUtf8, AreTexts}
+use Rattle.cse_logic_names.specs.Texts.{AreUtf8, AreTexts}
+use Rattle.cse_law_sources_have_room.specs.Given.{ShapeFits}
 use Rattle.cse_law_sources_have_room.specs.Within.{IsMessageWithin, IsWithin}
 use Rattle.cse_law_sources_have_room.specs.Room.{LargeAlone}
 use Rattle.cse_law_sources_have_room.proofs.Lists.{after_all, weaker, each_flat, at, by_place}

@@ -2,15 +2,16 @@
 use Rattle.std.specs.Prelude.{ℕ, List}
 use Rattle.cse_dict.specs.Dictionary.{DictionaryText, shape_of}
 use Rattle.cse_dict.specs.Sound.{IsSound as IsSoundDictionary}
-use Rattle.cse_syntax.specs.Tree as syntax
-use Rattle.cse_syntax.specs.Word.{Word}
-use Rattle.cse_syntax.specs.Grammar.{IsSource}
+use Rattle.cse_syntax_tree.specs.Tree as syntax
+use Rattle.cse_syntax_tree.specs.Word.{Word}
+use Rattle.cse_syntax_tree.specs.Grammar.{IsSource}
 use Rattle.cse_logic_tree.specs.Typed.{Tree}
 use Rattle.cse_logic_names.specs.MessageFile.{MessageText}
 use Rattle.cse_logic_names.specs.WellTyped.{IsTypedAs}
 use Rattle.cse_compile.specs.Compiled.{HasNoRoom}
 use Rattle.cse_law_sources_are_sound.specs.Sound.{IsOrdered}
-use Rattle.cse_law_sources_have_room.specs.Given.{ShapeFits, AreUtf8, AreTexts}
+use Rattle.cse_logic_names.specs.Texts.{AreUtf8, AreTexts}
+use Rattle.cse_law_sources_have_room.specs.Given.{ShapeFits}
 use Rattle.cse_law_sources_have_room.specs.Within.{IsWithin}
 
 -- Where the dictionary is sound, the source is of the grammar with at most 64 parentheses and statements open at once, it keeps each rule as

@@ -1,15 +1,15 @@
 -- Laws of columns that are kept as bytes.
-use Rattle.std.proofs.Common.{◌≡◌, ℕ, ◌+◌, ◌-◌, ◌<◌, ◌≤◌, cond, ltb, Bool, true, false, List, [], ◌∷◌, ◌++◌, length, get_or, set, take, drop, zero, suc, refl, ap, sym, ◌∙◌, arith, inl, inr, ◌^◌, min, length-append, length-take, get_or-take, replicate, subst, bit_or, append_assoc, append-nil, drop-drop, length-take-le}
+use Rattle.std.proofs.Common.{◌≡◌, ℕ, ◌+◌, ◌-◌, ◌<◌, ◌≤◌, cond, ltb, Bool, true, false, List, [], ◌∷◌, ◌++◌, length, get_or, set, take, drop, zero, suc, refl, ap, sym, ◌∙◌, arith, inl, inr, ◌^◌, min, length-append, length-take, get_or-take, replicate, subst, bit_or, append_assoc, append-nil, drop-drop, length-drop, length-take-le}
 use Rattle.std.specs.Str.{IsAscii}
 use Rattle.std.proofs.lemmas.Bool.{cases_lt, lt-ltb, ltb-true}
-use Rattle.std.proofs.lemmas.List.{drop_at, ext_get_or, get_or_append_left, get_or_past, get_or-replicate, length-replicate, take-append-le, take-take, take_at}
+use Rattle.std.proofs.lemmas.List.{drop-take, drop_at, ext_get_or, get_or_append_left, get_or_past, get_or-replicate, length-replicate, take-append-le, take-take, take_at}
 use Rattle.std.proofs.Math.ListN.{drop_of_length-le}
 use Rattle.std.proofs.lemmas.Nat.{le_or_l, le_or_r}
 use Rattle.std.proofs.lemmas.Str.{IsAscii-append}
-use Rattle.cse_lines.specs.Bytes.{column_by, columns_by}
+use Rattle.cse_lines.specs.Bytes.{column_by, columns_by, reaching}
 use Rattle.cse_lines.specs.Field.{padded}
 use Rattle.cse_lines.specs.Run.{with_columns}
-use Rattle.cse_lines.proofs.LaidLaws.{inside}
+use Rattle.cse_lines.proofs.LaidLaws.{inside, length-with_columns}
 
 pub length-columns_by : (bytes beside : List ℕ) → length (columns_by bytes beside) ≡ length bytes
 unfolding columns_by
@@ -150,21 +150,36 @@ blanked_behind bytes beside all more fits is =
     ∙ ap (λ l. l ++ columns_by (replicate more 32) (drop (length (take n bytes)) beside)) (take-columns_by n bytes beside ∙ is)
     ∙ ap (λ l. all ++ l) (ascii-columns_by (replicate more 32) (drop (length (take n bytes)) beside) (IsAscii-blanks more))
 
--- columns that were made longer, with room beside them
-pub grown : (bytes beside longer wider : List ℕ) → length bytes ≤ length beside → take (length bytes) longer ≡ bytes → take (length beside) wider ≡ beside
-    → (n : ℕ) → n ≤ length bytes → take n (columns_by longer wider) ≡ take n (columns_by bytes beside)
-grown bytes beside longer wider room same_bytes same_beside n fits =
+-- columns that were made longer, beside which stands what stood there
+pub grown : (bytes longer beside wider : List ℕ) → take (length bytes) longer ≡ bytes → wider ≡ beside → (n : ℕ) → n ≤ length bytes → take n (columns_by longer wider) ≡ take n (columns_by bytes beside)
+grown bytes longer beside wider same_bytes same_beside n fits =
     let front : take n longer ≡ take n bytes = sym (take-take n (length bytes) longer fits) ∙ ap (take n) same_bytes in
-    let len : length (take n bytes) ≡ n = length-take-le n bytes fits in
-    sym (take-columns_by n longer wider)
-    ∙ ap (λ l. columns_by l wider) front
-    ∙ beside-columns_by (take n bytes) beside wider (omega (arith, len, fits, room)) (λ i below.
-    let d = get_or (take n bytes) i 0 in
-    sym (get_or-take-d (length beside) wider i d (omega (arith, below, len, fits, room))) ∙ ap (λ l. get_or l i d) same_beside)
-    ∙ take-columns_by n bytes beside
-  where
-    get_or-take-d : (m : ℕ) (l : List ℕ) (i d : ℕ) → i < m → get_or (take m l) i d ≡ get_or l i d
-    get_or-take-d m l i d h = get_or-take m l i d h
+    ap (λ l. take n (columns_by longer l)) same_beside ∙ sym (take-columns_by n longer beside) ∙ ap (λ l. columns_by l beside) front ∙ take-columns_by n bytes beside
+
+-- bytes beside themselves
+self_beside : (bytes : List ℕ) (n : ℕ) → columns_by bytes (take n bytes) ≡ columns_by bytes []
+unfolding columns_by
+self_beside [] n = refl
+self_beside (b ∷ bytes) zero = refl
+self_beside (b ∷ bytes) (suc n) = ap (λ c. c ∷ columns_by bytes (take n bytes)) (sym (same_byte b)) ∙ ap (λ l. b ∷ l) (self_beside bytes n)
+
+-- the columns stay where bytes stand beside themselves, behind what stood there
+pub reaching-columns_by : (n : ℕ) (bytes beside : List ℕ) → columns_by bytes (reaching (take n bytes) beside) ≡ columns_by bytes beside
+unfolding columns_by
+reaching-columns_by n [] beside = refl
+reaching-columns_by n (b ∷ bytes) [] = self_beside (b ∷ bytes) n
+reaching-columns_by zero (b ∷ bytes) (c ∷ beside) = ap (λ l. column_by b c ∷ columns_by bytes l) (append-nil beside)
+reaching-columns_by (suc n) (b ∷ bytes) (c ∷ beside) = ap (λ l. column_by b c ∷ l) (reaching-columns_by n bytes beside)
+
+-- what stands there, and behind it the next bytes
+pub reached : (n : ℕ) (bytes beside new : List ℕ) → length beside ≤ n → new ≡ beside ++ take (n - length beside) (drop (length beside) bytes) → new ≡ reaching (take n bytes) beside
+reached n bytes beside new fits is =
+    let all : n ≡ length beside + (n - length beside) = omega (arith, fits) in
+    is ∙ ap (λ l. beside ++ l) (sym (ap (λ k. drop (length beside) (take k bytes)) all ∙ drop-take (length beside) (n - length beside) bytes))
+
+-- and it reaches as far as the bytes
+pub length-reaching : (bytes beside : List ℕ) → length bytes ≤ length (reaching bytes beside)
+length-reaching bytes beside = omega (arith, length-append beside (drop (length beside) bytes), length-drop (length beside) bytes)
 
 -- so many columns are there
 pub taken_len : (n : ℕ) (bytes beside : List ℕ) → n ≤ length bytes → length (take n (columns_by bytes beside)) ≡ n
@@ -208,18 +223,23 @@ beside_more bytes beside rest room =
     beside-columns_by bytes beside (beside ++ rest) room (λ i below. get_or_append_left beside rest (get_or bytes i 0) i (omega (arith, below, room)))
 
 -- so many of the columns, with as much beside them
-pub taken_beside : (n : ℕ) (bytes beside : List ℕ) → n ≤ length bytes → length bytes ≤ length beside → columns_by (take n bytes) (take n beside) ≡ take n (columns_by bytes beside)
+pub taken_beside : (n : ℕ) (bytes beside : List ℕ) → n ≤ length bytes → n ≤ length beside → columns_by (take n bytes) (take n beside) ≡ take n (columns_by bytes beside)
 taken_beside n bytes beside fits room =
     let len : length (take n bytes) ≡ n = length-take-le n bytes fits in
     beside-columns_by (take n bytes) beside (take n beside) (omega (arith, len, fits, room)) (λ i below. get_or-take n beside i (get_or (take n bytes) i 0) (omega (arith, below, len)))
     ∙ take-columns_by n bytes beside
+
+pub taken_reaching : (n : ℕ) (bytes beside : List ℕ) → n ≤ length bytes → columns_by (take n bytes) (take n (reaching (take n bytes) beside)) ≡ take n (columns_by bytes beside)
+taken_reaching n bytes beside fits =
+    let len : length (take n bytes) ≡ n = length-take-le n bytes fits in
+    taken_beside n bytes (reaching (take n bytes) beside) fits (omega (arith, len, length-reaching (take n bytes) beside)) ∙ ap (take n) (reaching-columns_by n bytes beside)
 
 pub over_ascii : (at : ℕ) (text there bytes beside : List ℕ) → IsAscii text → at + length text ≤ length bytes
     → columns_by (with_columns at text bytes) beside ≡ with_columns at (columns_by text there) (columns_by bytes beside)
 over_ascii at text there bytes beside ascii fits =
     with_ascii at text bytes beside ascii fits ∙ ap (λ l. with_columns at l (columns_by bytes beside)) (sym (ascii-columns_by text there ascii))
 
-pub over_beside : (at : ℕ) (text piece bytes beside : List ℕ) → length piece ≡ length text → at + length text ≤ length bytes → length bytes ≤ length beside
+pub over_beside : (at : ℕ) (text piece bytes beside : List ℕ) → length piece ≡ length text → at + length text ≤ length bytes → at + length text ≤ length beside
     → columns_by (with_columns at text bytes) (with_columns at piece beside) ≡ with_columns at (columns_by text piece) (columns_by bytes beside)
 over_beside at text piece bytes beside same_len fits room =
     let n = length text in
@@ -250,6 +270,44 @@ over_beside at text piece bytes beside same_len fits room =
     ∙ ap (λ l. l ++ columns_by rest (drop n (piece ++ behind))) (beside_more text piece behind (omega (arith, same_len)))
     ∙ ap (λ l. own ++ columns_by rest l) (drop_at piece behind n same_len)
     ∙ ap (λ l. own ++ l) last)
+
+-- what was written is there, and what stands behind it stays
+behind : (at : ℕ) (field bytes : List ℕ) → at ≤ length bytes → drop (at + length field) (with_columns at field bytes) ≡ drop (at + length field) bytes
+behind at field bytes h =
+    let front = take at bytes in
+    let rest = drop (at + length field) bytes in
+    let len : length front ≡ at = length-take-le at bytes h in
+    ap (drop (at + length field)) (sym (append_assoc front field rest))
+    ∙ drop_at (front ++ field) rest (at + length field) (length-append front field ∙ (let e : length front + length field ≡ at + length field = omega (arith, len) in e))
+
+pub written_again : (at : ℕ) (field other bytes : List ℕ) → length other ≡ length field → at ≤ length bytes → with_columns at other (with_columns at field bytes) ≡ with_columns at other bytes
+written_again at field other bytes len h =
+    ap (λ l. l ++ (other ++ drop (at + length other) (with_columns at field bytes))) (take_before at field bytes h)
+    ∙ ap (λ k. take at bytes ++ (other ++ drop (at + k) (with_columns at field bytes))) len
+    ∙ ap (λ l. take at bytes ++ (other ++ l)) (behind at field bytes h)
+    ∙ ap (λ k. take at bytes ++ (other ++ drop (at + k) bytes)) (sym len)
+
+-- columns that are written over the columns of bytes which were written over there
+over_bytes : (at : ℕ) (text columns bytes beside : List ℕ) → length columns ≡ length text → at ≤ length bytes
+    → with_columns at columns (columns_by (with_columns at text bytes) beside) ≡ with_columns at columns (columns_by bytes beside)
+over_bytes at text columns bytes beside len h =
+    let new = with_columns at text bytes in
+    ap (λ l. l ++ (columns ++ drop (at + length columns) (columns_by new beside))) (sym (take-columns_by at new beside) ∙ ap (λ l. columns_by l beside) (take_before at text bytes h) ∙ take-columns_by at bytes beside)
+    ∙ ap (λ k. take at (columns_by bytes beside) ++ (columns ++ drop (at + k) (columns_by new beside))) len
+    ∙ ap (λ l. take at (columns_by bytes beside) ++ (columns ++ l)) (sym (drop-columns_by (at + length text) new beside) ∙ ap (λ l. columns_by l (drop (at + length text) beside)) (behind at text bytes h) ∙ drop-columns_by (at + length text) bytes beside)
+    ∙ ap (λ k. take at (columns_by bytes beside) ++ (columns ++ drop (at + k) (columns_by bytes beside))) (sym len)
+
+-- bytes that are written there, and then what stands beside them over as much that stands there
+pub over_reaching : (at : ℕ) (text piece bytes beside wider : List ℕ) → length piece ≡ length text → at + length text ≤ length bytes → at + length text ≤ length wider
+    → columns_by (with_columns at text bytes) wider ≡ columns_by (with_columns at text bytes) beside
+    → columns_by (with_columns at text bytes) (with_columns at piece wider) ≡ with_columns at (columns_by text piece) (columns_by bytes beside)
+over_reaching at text piece bytes beside wider len fits reaches same =
+    let new = with_columns at text bytes in
+    let here : at ≤ length bytes = omega (arith, fits) in
+    ap (λ l. columns_by l (with_columns at piece wider)) (sym (written_again at text text bytes refl here))
+    ∙ over_beside at text piece new wider len (omega (arith, fits, length-with_columns at text bytes fits)) reaches
+    ∙ ap (with_columns at (columns_by text piece)) same
+    ∙ over_bytes at text (columns_by text piece) bytes beside (length-columns_by text piece) here
 
 -- a field that is written among the first columns
 pub view_with : (len at : ℕ) (field columns : List ℕ) → at + length field ≤ len → len ≤ length columns → take len (with_columns at field columns) ≡ with_columns at field (take len columns)

@@ -1,8 +1,10 @@
 -- Laws of lists that are written over in two pieces that overlap.
-use Rattle.std.proofs.Common.{◌≡◌, ℕ, ◌+◌, ◌-◌, ◌≤◌, List, [], ◌++◌, length, take, drop, ap, sym, ◌∙◌, arith, append-nil, drop-drop, length-drop, length-take-le, take-append-drop}
-use Rattle.std.proofs.lemmas.List.{drop_at, take_all}
+use Rattle.std.proofs.Common.{◌≡◌, ℕ, ◌+◌, ◌-◌, ◌≤◌, List, [], ◌++◌, length, take, drop, ap, sym, ◌∙◌, arith, append-nil, drop-drop, length-append, length-drop, length-take-le, take-append-drop}
+use Rattle.std.proofs.lemmas.List.{drop_at, take-append-le, take_all}
 use Rattle.std.proofs.Math.ListN.{drop_of_length-le}
+use Rattle.cse_lines.specs.Bytes.{reaching}
 use Rattle.cse_lines.specs.Run.{with_columns}
+use Rattle.cse_lines.proofs.ShortLaws.{with_further}
 
 -- the last ones, and then the first ones
 pub two_ends : (n last : ℕ) (text columns : List ℕ) → last ≡ length text - n → n ≤ length text → length text ≤ n + n → length columns ≡ length text
@@ -25,3 +27,19 @@ two_ends n last text columns is some few fits =
     ∙ ap (λ k. take n text ++ drop k (front ++ rest)) first_len
     ∙ ap (λ l. take n text ++ l) behind
     ∙ take-append-drop n text
+
+-- what stands beside bytes and reaches as far
+pub one_piece : (bytes there : List ℕ) → length bytes ≤ length there → take (length bytes) there ≡ take (length bytes) (reaching bytes there)
+one_piece bytes there wide = sym (take-append-le (length bytes) there (drop (length there) bytes) wide)
+
+-- and what doesn't, with the bytes behind it
+pub two_pieces : (first : ℕ) (bytes there beside : List ℕ) → length there ≤ length bytes → first + length bytes ≤ length beside
+    → with_columns (first + length there) (drop (length there) bytes) (with_columns first (take (length there) there) beside) ≡ with_columns first (take (length bytes) (reaching bytes there)) beside
+two_pieces first bytes there beside few fits =
+    let n = length there in
+    let all = reaching bytes there in
+    let whole : take n there ≡ there = take_all n there (omega arith) in
+    let wide : length all ≤ length bytes = omega (arith, few, length-append there (drop n bytes), length-drop n bytes) in
+    ap (λ l. with_columns (first + n) (drop n bytes) (with_columns first l beside)) whole
+    ∙ with_further first there (drop n bytes) beside (omega (arith, few, fits))
+    ∙ ap (λ l. with_columns first l beside) (sym (take_all (length bytes) all wide))

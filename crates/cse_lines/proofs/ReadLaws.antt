@@ -1,9 +1,9 @@
 -- What a call of the reader knows while it reads.
 use Rattle.std.proofs.Common.{◌≡◌, ℕ, ◌+◌, ◌*◌, ◌^◌, ◌<◌, ◌≤◌, Bool, true, false, eqb, List, [], ◌∷◌, ◌++◌, length, take, refl, ap, sym, ◌∙◌, subst, arith, Some, None, Ok, Err, Option, Result, add-zero, append_assoc, append-nil, length-append, inl, inr}
-use Rattle.std.proofs.KnownBytes.{Consumes-kept, Consumes-nil, Consumes-trans, Keeps-refl}
+use Rattle.cse_value.proofs.ReadLaws.{Consumes-kept, Consumes-nil, Consumes-trans, Keeps-refl}
 use Rattle.std.proofs.lemmas.Bool.{eqb-true, false≢true}
 use Rattle.std.proofs.lemmas.List.{length-map, nil_from_length, take_at}
-use Rattle.std.specs.Io.KnownBytes.{Consumes, IsAtEnd, Keeps}
+use Rattle.cse_value.specs.Device.{Consumes, IsAtEnd, IsUnfailing, Keeps, Given}
 use Rattle.cse_dict.specs.Dictionary.{DictionaryText}
 use Rattle.cse_lines.specs.declared.error.DataError.{DataError}
 use Rattle.cse_lines.specs.Line.{FileLine, lines_in}
@@ -20,14 +20,14 @@ use Rattle.cse_lines.proofs.GatherLaws.{are_sound, held_bytes, length-done}
 use Rattle.cse_lines.proofs.RunLaws.{first_fault-none, first_fault-run, given_of-last, given_of-nil, given_of-open}
 use Rattle.cse_lines.proofs.LineLaws.{lines_in-nil}
 
-pub record HasRead (before now : Option (List ℕ)) (old : ReaderText) (run : RunText) (uncut : List ℕ) (ended : Bool) (reads : ℕ) (had has : Bool) : Type 0 where
+pub record HasRead (before now : Given) (old : ReaderText) (run : RunText) (uncut : List ℕ) (ended : Bool) (reads : ℕ) : Type 0 where
   pub taken : List ℕ
   pub consumes : Consumes before now taken
   pub held : written_run run ++ uncut ≡ held_of old ++ taken
   pub gathered : Gathered old.dictionary (is_front old) ended run.first_line run uncut
   pub number : run.first_line ≡ old.lines + 1
   pub end : ended ≡ true → IsAtEnd now
-  pub sound : has ≡ had
+  pub sound : IsUnfailing before now
   pub stays : old.ended ≡ true → (taken ≡ []) × (ended ≡ true)
   pub rises : old.reads ≤ reads
   pub counted : reads ≤ old.reads + length taken
@@ -41,9 +41,9 @@ pub record HasRead (before now : Option (List ℕ)) (old : ReaderText) (run : Ru
 no_bytes : HasNoFeed []
 no_bytes k l = absurd (omega arith)
 
-pub HasRead-none : (before : Option (List ℕ)) (old : ReaderText) (had : Bool) → IsResting old → (old.ended ≡ true → IsAtEnd before)
-    → HasRead before before old old.run old.uncut old.ended old.reads had had
-HasRead-none before old had r end = record {
+pub HasRead-none : (before : Given) (old : ReaderText) → IsResting old → (old.ended ≡ true → IsAtEnd before)
+    → HasRead before before old old.run old.uncut old.ended old.reads
+HasRead-none before old r end = record {
   taken = [];
   consumes = Consumes-nil before;
   held = sym (append-nil (held_of old));
@@ -78,12 +78,12 @@ Gathered-more d front ended number run uncut taken uncut' g e = record {
 }
 
 -- all lines were cut, and one read more was made
-pub HasRead-more : (before now after : Option (List ℕ)) (old : ReaderText) (run new : RunText) (uncut rest rest' : List ℕ) (ended ended' : Bool) (reads reads' n : ℕ) (had has has' : Bool)
-    → HasRead before now old run uncut ended reads had has → ended ≡ false → GathersAll old.dictionary (is_front old) ended run uncut new rest
-    → ReadsMore now after rest rest' n → has' ≡ has → (ended' ≡ true → IsAtEnd after)
+pub HasRead-more : (before now after : Given) (old : ReaderText) (run new : RunText) (uncut rest rest' : List ℕ) (ended ended' : Bool) (reads reads' n : ℕ)
+    → HasRead before now old run uncut ended reads → ended ≡ false → GathersAll old.dictionary (is_front old) ended run uncut new rest
+    → ReadsMore now after rest rest' n → IsUnfailing now after → (ended' ≡ true → IsAtEnd after)
     → reads ≤ reads' → reads' ≤ 2 ^ 40 → reads' ≤ reads + n → (old.lines + (length run.lines + length uncut) ≤ reads * 65536 → old.lines + (length run.lines + length uncut) + n ≤ reads' * 65536)
-    → HasRead before after old new rest' ended' reads' had has'
-HasRead-more before now after old run new uncut rest rest' ended ended' reads reads' n had has has' h open' a m sound end up few counted room =
+    → HasRead before after old new rest' ended' reads'
+HasRead-more before now after old run new uncut rest rest' ended ended' reads reads' n h open' a m sound end up few counted room =
     let len : length rest' ≡ length rest + n = ap length m.grows ∙ length-append rest m.taken ∙ ap (λ k. length rest + k) m.count in
     let g : Gathered old.dictionary (is_front old) false new.first_line new rest = subst (λ e. Gathered old.dictionary (is_front old) e new.first_line new rest) open' a.gathers.gathered in
     record {
@@ -113,8 +113,8 @@ not_zero n h = by_cases (eqb n 0) (λ e. let z : n ≡ 0 = eqb-true n 0 e in abs
     by_cases true never = absurd (never refl)
     by_cases false never = refl
 
-module _ (before now : Option (List ℕ)) (old : ReaderText) (run : RunText) (uncut : List ℕ) (ended : Bool) (reads : ℕ) (had has : Bool)
-    (h : HasRead before now old run uncut ended reads had has) where
+module _ (before now : Given) (old : ReaderText) (run : RunText) (uncut : List ℕ) (ended : Bool) (reads : ℕ)
+    (h : HasRead before now old run uncut ended reads) where
   -- the run is given before a line of another id
   pub Next-given : (new given' : RunText) (rest : List ℕ) → GivesFirst old.dictionary (is_front old) ended run uncut new rest given'
       → Next before now old (reader_of old.dictionary new rest ended reads (old.lines + length given'.lines)) (Ok (Some given'))
@@ -226,8 +226,8 @@ no_lines d front ended number run uncut g l =
 written_empty : (d : DictionaryText) (run : RunText) → run.lines ≡ [] → run.marked ≡ false → written_run run ≡ []
 written_empty d run l m = ap written_run (empty_run d run l m)
 
-module _ (before now : Option (List ℕ)) (old : ReaderText) (run : RunText) (uncut : List ℕ) (ended : Bool) (reads : ℕ) (had has : Bool)
-    (h : HasRead before now old run uncut ended reads had has) (end : ended ≡ true) (new : RunText) (rest : List ℕ)
+module _ (before now : Given) (old : ReaderText) (run : RunText) (uncut : List ℕ) (ended : Bool) (reads : ℕ)
+    (h : HasRead before now old run uncut ended reads) (end : ended ≡ true) (new : RunText) (rest : List ℕ)
     (a : GathersAll old.dictionary (is_front old) ended run uncut new rest) where
   -- the last run
   pub Next-rest : (left given' : RunText) → GivesRest new left given'
@@ -310,11 +310,11 @@ IsError-needed d bytes front ended before error needs n l =
     record { faulty = λ low. absurd (omega arith); needed = λ e. needs; number = λ high. inl n; line = λ high. l }
 
 -- the device gave nothing more
-HasRead-kept : (before now after : Option (List ℕ)) (old : ReaderText) (run : RunText) (uncut : List ℕ) (ended : Bool) (reads : ℕ) (had has : Bool)
-    → (h : HasRead before now old run uncut ended reads had has) → Keeps now after → (new : RunText) (rest : List ℕ) (error : DataError)
+HasRead-kept : (before now after : Given) (old : ReaderText) (run : RunText) (uncut : List ℕ) (ended : Bool) (reads : ℕ)
+    → (h : HasRead before now old run uncut ended reads) → Keeps now after → (new : RunText) (rest : List ℕ) (error : DataError)
     → IsError old.dictionary (held_of old ++ h.taken) (is_front old) ended old.lines error
     → Next before after old (reader_of old.dictionary new rest ended reads (old.lines + 0)) (Err error)
-HasRead-kept before now after old run uncut ended reads had has h k new rest error is = record {
+HasRead-kept before now after old run uncut ended reads h k new rest error is = record {
   taken = h.taken;
   consumes = Consumes-kept before now after h.taken h.consumes k;
   rises = h.rises;
@@ -326,14 +326,14 @@ HasRead-kept before now after old run uncut ended reads had has h k new rest err
 }
 
 -- memory lacked
-pub HasRead-memory : (before now after : Option (List ℕ)) (old : ReaderText) (run : RunText) (uncut : List ℕ) (ended : Bool) (reads : ℕ) (had has : Bool)
-    → HasRead before now old run uncut ended reads had has → Keeps now after → (new : RunText) (rest : List ℕ) (error : DataError) → error.number ≡ 90 → error.line ≡ 0
+pub HasRead-memory : (before now after : Given) (old : ReaderText) (run : RunText) (uncut : List ℕ) (ended : Bool) (reads : ℕ)
+    → HasRead before now old run uncut ended reads → Keeps now after → (new : RunText) (rest : List ℕ) (error : DataError) → error.number ≡ 90 → error.line ≡ 0
     → Next before after old (reader_of old.dictionary new rest ended reads (old.lines + 0)) (Err error)
-HasRead-memory before now after old run uncut ended reads had has h k new rest error n l =
-    HasRead-kept before now after old run uncut ended reads had has h k new rest error (IsError-memory old.dictionary (held_of old ++ h.taken) (is_front old) ended old.lines error n l)
+HasRead-memory before now after old run uncut ended reads h k new rest error n l =
+    HasRead-kept before now after old run uncut ended reads h k new rest error (IsError-memory old.dictionary (held_of old ++ h.taken) (is_front old) ended old.lines error n l)
 
-module _ (before now : Option (List ℕ)) (old : ReaderText) (run : RunText) (uncut : List ℕ) (ended : Bool) (reads : ℕ) (had has : Bool)
-    (h : HasRead before now old run uncut ended reads had has) (open' : ended ≡ false) (new : RunText) (rest : List ℕ)
+module _ (before now : Given) (old : ReaderText) (run : RunText) (uncut : List ℕ) (ended : Bool) (reads : ℕ)
+    (h : HasRead before now old run uncut ended reads) (open' : ended ≡ false) (new : RunText) (rest : List ℕ)
     (a : GathersAll old.dictionary (is_front old) ended run uncut new rest) where
   -- all lines that are there go on one run, which may go on
   needs_more : NeedsMore old.dictionary (held_of old ++ h.taken) (is_front old) ended
@@ -354,34 +354,34 @@ module _ (before now : Option (List ℕ)) (old : ReaderText) (run : RunText) (un
       }
 
   -- no more could be read where a read was needed
-  pub HasRead-needed : (after : Option (List ℕ)) → Keeps now after → (new' : RunText) (rest' : List ℕ) (error : DataError) → error.number ≡ 70 → error.line ≡ 0
+  pub HasRead-needed : (after : Given) → Keeps now after → (new' : RunText) (rest' : List ℕ) (error : DataError) → error.number ≡ 70 → error.line ≡ 0
       → Next before after old (reader_of old.dictionary new' rest' ended reads (old.lines + 0)) (Err error)
   HasRead-needed after k new' rest' error n l =
-      HasRead-kept before now after old run uncut ended reads had has h k new' rest' error
+      HasRead-kept before now after old run uncut ended reads h k new' rest' error
       (IsError-needed old.dictionary (held_of old ++ h.taken) (is_front old) ended old.lines error needs_more n l)
 
 -- what the end of the file gives
-module _ (before now : Option (List ℕ)) (old : ReaderText) (run : RunText) (uncut : List ℕ) (ended : Bool) (reads : ℕ) (had has : Bool)
-    (h : HasRead before now old run uncut ended reads had has) (end : ended ≡ true) (new : RunText) (rest : List ℕ)
+module _ (before now : Given) (old : ReaderText) (run : RunText) (uncut : List ℕ) (ended : Bool) (reads : ℕ)
+    (h : HasRead before now old run uncut ended reads) (end : ended ≡ true) (new : RunText) (rest : List ℕ)
     (a : GathersAll old.dictionary (is_front old) ended run uncut new rest) where
   pub Next-end : (left : RunText) (result : Option RunText) → TakesRest new left result
       → Next before now old (reader_of old.dictionary left rest ended reads (old.lines + length (given_lines (Ok result)))) (Ok result)
-  Next-end left None r = Next-none before now old run uncut ended reads had has h end new rest a left r
-  Next-end left (Some given') r = Next-rest before now old run uncut ended reads had has h end new rest a left given' r
+  Next-end left None r = Next-none before now old run uncut ended reads h end new rest a left r
+  Next-end left (Some given') r = Next-rest before now old run uncut ended reads h end new rest a left given' r
 
   pub IsResting-end : (left : RunText) (result : Option RunText) → TakesRest new left result
       → IsResting (reader_of old.dictionary left rest ended reads (old.lines + length (given_lines (Ok result))))
-  IsResting-end left None r = IsResting-none before now old run uncut ended reads had has h end new rest a left r
-  IsResting-end left (Some given') r = IsResting-rest before now old run uncut ended reads had has h end new rest a left given' r
+  IsResting-end left None r = IsResting-none before now old run uncut ended reads h end new rest a left r
+  IsResting-end left (Some given') r = IsResting-rest before now old run uncut ended reads h end new rest a left given' r
 
 -- memory lacked before anything was read
-pub Next-memory : (before : Option (List ℕ)) (old : ReaderText) (error : DataError) → IsResting old → (old.ended ≡ true → IsAtEnd before) → error.number ≡ 90 → error.line ≡ 0
+pub Next-memory : (before : Given) (old : ReaderText) (error : DataError) → IsResting old → (old.ended ≡ true → IsAtEnd before) → error.number ≡ 90 → error.line ≡ 0
     → Next before before old (reader_of old.dictionary old.run old.uncut old.ended old.reads (old.lines + 0)) (Err error)
 Next-memory before old error r end n l =
-    HasRead-memory before before before old old.run old.uncut old.ended old.reads false false (HasRead-none before old false r end) (Keeps-refl before) old.run old.uncut error n l
+    HasRead-memory before before before old old.run old.uncut old.ended old.reads (HasRead-none before old r end) (Keeps-refl before) old.run old.uncut error n l
 
 -- the error that a reader keeps is no part of a call
-pub Next-errors : (before after : Option (List ℕ)) (old new : ReaderText) (e f : Option DataError) (result : Result (Option RunText) DataError)
+pub Next-errors : (before after : Given) (old new : ReaderText) (e f : Option DataError) (result : Result (Option RunText) DataError)
     → Next before after old new result → Next before after (record old { error = e }) (record new { error = f }) result
 Next-errors before after old new e f result h = record {
   taken = h.taken;
@@ -395,7 +395,7 @@ Next-errors before after old new e f result h = record {
 }
 
 -- after an error nothing is held
-pub Next-failed : (before after : Option (List ℕ)) (old new new' : ReaderText) (error : DataError) → Next before after old new (Err error)
+pub Next-failed : (before after : Given) (old new new' : ReaderText) (error : DataError) → Next before after old new (Err error)
     → new'.reads ≡ new.reads → new'.ended ≡ new.ended → new'.dictionary ≡ new.dictionary → new'.lines ≡ old.lines → Next before after old new' (Err error)
 Next-failed before after old new new' error h r e d l = record {
   taken = h.taken;

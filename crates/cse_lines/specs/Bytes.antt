@@ -1,5 +1,5 @@
--- Columns as they are kept: a byte for each, and room for a character beside each byte.
-use Rattle.std.specs.Prelude.{◌≡◌, ◌≤◌, ℕ, cond, ltb, List, [], ◌∷◌, length, drop}
+-- Columns as they are kept: a byte for each, and characters beside the bytes, as far as there are some beyond ASCII.
+use Rattle.std.specs.Prelude.{◌≡◌, ◌≤◌, ℕ, cond, ltb, List, [], ◌∷◌, ◌++◌, length, drop, vec_capacity}
 use Rattle.cse_lines.specs.declared.columns.Columns.{Columns}
 use Rattle.cse_lines.specs.declared.columns.OwnColumns.{OwnColumns}
 
@@ -21,9 +21,13 @@ AreBytesOf columns bytes = (beside : List ℕ) × (columns ≡ columns_by bytes 
 abbrev pub columns_in : OwnColumns → List ℕ
 columns_in own = columns_by own.bytes.items own.beside.items
 
--- there is room beside each byte
+-- there is memory for a character beside each byte, so that one can be put there without more
 abbrev pub HasRoom : OwnColumns → Type 0
-HasRoom own = length own.bytes.items ≤ length own.beside.items
+HasRoom own = length own.bytes.items ≤ vec_capacity own.beside
+
+-- what stands beside bytes, and behind it these bytes as characters
+abbrev pub reaching : List ℕ → List ℕ → List ℕ
+reaching bytes beside = beside ++ drop (length beside) bytes
 
 -- what stands beside the bytes of columns that are lent, and the columns
 abbrev pub beside_lent : Columns → List ℕ

@@ -1,7 +1,7 @@
 -- A reader of runs: what it holds between calls, and what one call of it answers.
 use Rattle.std.specs.Prelude.{◌≡◌, ◌+◌, ◌<◌, ◌≤◌, ◌==◌, ◌⊎◌, ℕ, Bool, true, false, List, [], ◌∷◌, ◌++◌, length, Option, None, Some, Result, Ok, Err}
 use Rattle.std.specs.List.{flat_map}
-use Rattle.std.specs.Io.KnownBytes.{Consumes, IsAtEnd}
+use Rattle.cse_value.specs.Device.{Consumes, IsAtEnd, Given}
 use Rattle.cse_dict.specs.Dictionary.{DictionaryText}
 use Rattle.cse_lines.specs.declared.error.DataError.{DataError}
 use Rattle.cse_lines.specs.Line.{FileLine}
@@ -48,7 +48,7 @@ pub record GivesRun (d : DictionaryText) (bytes held : List ℕ) (front ended : 
       → fault_in d front later (bytes ++ more) ≡ later_by (length lines) (fault_in d false later (held ++ more))
 
 -- nothing is left
-pub record IsEnd (bytes held : List ℕ) (ended : Bool) (after : Option (List ℕ)) : Type 0 where
+pub record IsEnd (bytes held : List ℕ) (ended : Bool) (after : Given) : Type 0 where
   pub none : bytes ≡ []
   pub none_held : held ≡ []
   pub read : ended ≡ true
@@ -75,13 +75,13 @@ pub record IsError (d : DictionaryText) (bytes : List ℕ) (front ended : Bool) 
   pub line : 70 ≤ error.number → error.line ≡ 0
 
 -- what the answer says of the bytes held before and read in the call
-abbrev pub Answers : DictionaryText → List ℕ → List ℕ → Bool → Bool → Option (List ℕ) → ℕ → Result (Option RunText) DataError → Type 0
+abbrev pub Answers : DictionaryText → List ℕ → List ℕ → Bool → Bool → Given → ℕ → Result (Option RunText) DataError → Type 0
 Answers d bytes held front ended after before (Ok (Some run)) = GivesRun d bytes held front ended (before + 1) run
 Answers d bytes held front ended after before (Ok None) = IsEnd bytes held ended after
 Answers d bytes held front ended after before (Err error) = IsError d bytes front ended before error
 
 -- one call: the bytes that were read in it, none once the end was read, and what it answers of these behind the held ones
-pub record Next (before after : Option (List ℕ)) (old new : ReaderText) (result : Result (Option RunText) DataError) : Type 0 where
+pub record Next (before after : Given) (old new : ReaderText) (result : Result (Option RunText) DataError) : Type 0 where
   pub taken : List ℕ
   pub consumes : Consumes before after taken
   pub rises : old.reads ≤ new.reads

@@ -1,7 +1,7 @@
 //! The bytes that were read and aren't cut into lines yet.
 
 ghost use Rattle.std.specs.Prelude.{◌≡◌, ◌≤◌, [], drop, length, IfOk, OnOk, OnErr, true, IsErrOf};
-ghost use Rattle.std.specs.Io.KnownBytes.{Keeps};
+ghost use Rattle.cse_value.specs.Device.{Keeps, IsUnfailing, FailsOnce};
 ghost use Rattle.cse_lines.specs.Reading.{ReadsMore};
 ghost use Rattle.cse_lines.specs.declared.buffer.ReadFault.TheVariants.{Device, Memory};
 
@@ -90,12 +90,12 @@ impl Buffer {
 
     /// Reads once, behind what is held.
     pub fn read_from<R: Input>(&mut self, alloc: Global, input: &mut R) -> Result<usize, ReadFault>
-        ensures more { IfOk result (λ n. ReadsMore (R.remaining input.old) (R.remaining input.new) self.old self.new n) }
+        ensures more { IfOk result (λ n. ReadsMore (R.given input.old) (R.given input.new) self.old self.new n) }
         ensures same { OnErr result (self.new ≡ self.old) }
-        ensures kept { OnErr result (Keeps (R.remaining input.old) (R.remaining input.new)) }
-        ensures works { OnOk result (R.has_failed input.new ≡ R.has_failed input.old) }
-        ensures failed { IsErrOf result ReadFault.Device → R.has_failed input.new ≡ true }
-        ensures sound { IsErrOf result ReadFault.Memory → R.has_failed input.new ≡ R.has_failed input.old }
+        ensures kept { OnErr result (Keeps (R.given input.old) (R.given input.new)) }
+        ensures works { OnOk result (IsUnfailing (R.given input.old) (R.given input.new)) }
+        ensures failed { IsErrOf result ReadFault.Device → FailsOnce (R.given input.old) (R.given input.new) }
+        ensures sound { IsErrOf result ReadFault.Memory → IsUnfailing (R.given input.old) (R.given input.new) }
     {
         let mut bytes = Vec::from_slice(alloc, self.as_slice())?;
         bytes.reserve(CHUNK)?;

@@ -1,6 +1,6 @@
 //! Columns as bytes: a byte of ASCII is its column, and a column beyond ASCII stands beside the bytes.
 
-ghost use Rattle.std.specs.Prelude.{◌≡◌, ◌<◌, ◌≤◌, ◌+◌, ℕ, [], length, get_or, set, take, drop, true, false};
+ghost use Rattle.std.specs.Prelude.{◌≡◌, ◌<◌, ◌≤◌, ◌+◌, ◌++◌, ◌∷◌, ℕ, [], length, get_or, set, take, drop, true, false, vec_capacity};
 ghost use Rattle.std.specs.Str.{IsAscii};
 ghost use Rattle.std.specs.Int.{to_le_bytes, w32};
 ghost use Rattle.cse_lines.specs.Bytes.{AreBytesOf, HasRoom, columns_by, columns_in, columns_lent};
@@ -132,11 +132,11 @@ pub fn put_columns(characters: &mut [char], columns: Columns<'_>)
     }
 }
 
-/// Writes a character as a column.
+/// Writes a character as a column. One beyond ASCII stands beside its byte.
 #[inline(always)]
 pub(crate) fn put_at(bytes: &mut [u8], beside: &mut [char], i: usize, column: char)
     requires bytes { i < length bytes.old }
-    requires beside { i < length beside.old }
+    requires beside { 128 ≤ column → i < length beside.old }
     ensures len { length bytes.new ≡ length bytes.old }
     ensures room { length beside.new ≡ length beside.old }
     ensures columns { columns_by bytes.new beside.new ≡ set (columns_by bytes.old beside.old) i column }
@@ -150,8 +150,32 @@ pub(crate) fn put_at(bytes: &mut [u8], beside: &mut [char], i: usize, column: ch
     }
 }
 
-/// Columns one after the other. Beside each byte is room for a character, which is written where the column is beyond
-/// ASCII, and only there.
+/// Appends a character, for which there is memory.
+#[inline(always)]
+fn push_within(characters: &mut Vec<char>, character: char)
+    requires { length characters.old.items < vec_capacity characters.old }
+    ensures items { characters.new.items ≡ characters.old.items ++ character ∷ [] }
+    ensures capacity { vec_capacity characters.old ≤ vec_capacity characters.new }
+{
+    let Ok(()) = characters.push(character) else {
+        unreachable!();
+    };
+}
+
+/// Appends bytes as characters, for which there is memory.
+#[inline(never)]
+fn push_bytes(characters: &mut Vec<char>, bytes: &[u8])
+    requires { length characters.old.items + length bytes.now ≤ vec_capacity characters.old }
+    ensures items { characters.new.items ≡ characters.old.items ++ bytes.now }
+    ensures capacity { vec_capacity characters.old ≤ vec_capacity characters.new }
+{
+    'bytes: for byte in bytes {
+        push_within(characters, *byte as char);
+    }
+}
+
+/// Columns one after the other. There is memory for a character beside each byte. What stands there grows only where a column
+/// beyond ASCII is put, so columns of ASCII write none of it.
 #[derive(Drop)]
 pub(crate) struct OwnColumns {
     pub bytes: Vec<u8>,
@@ -178,6 +202,22 @@ impl OwnColumns {
         Columns::new(&self.bytes, &self.beside)
     }
 
+    /// Lets what stands beside the bytes reach so far: where nothing stands there, it is the byte itself.
+    #[inline(always)]
+    pub(crate) fn reach(&mut self, len: usize)
+        requires there { len ≤ length self.old.bytes.items }
+        requires room { HasRoom self.old }
+        ensures bytes { self.new.bytes ≡ self.old.bytes }
+        ensures beside { len ≤ length self.new.beside.items }
+        ensures columns { columns_in self.new ≡ columns_in self.old }
+        ensures room { HasRoom self.new }
+    {
+        let first = self.beside.len();
+        if first < len {
+            push_bytes(&mut self.beside, piece(&self.bytes, first, len - first));
+        }
+    }
+
     /// Writes a character as a column, at a place.
     #[inline(always)]
     pub(crate) fn put(&mut self, i: usize, column: char)
@@ -187,6 +227,9 @@ impl OwnColumns {
         ensures len { length self.new.bytes.items ≡ length self.old.bytes.items }
         ensures room { HasRoom self.new }
     {
+        if column as u32 >= 128 {
+            self.reach(i + 1);
+        }
         put_at(&mut self.bytes, &mut self.beside, i, column);
     }
 }

@@ -3,9 +3,11 @@
 //! Most of these are few. They are taken in two pieces of a fixed size that overlap, the last ones and then the first ones, which
 //! takes less than a call.
 
-ghost use Rattle.std.specs.Prelude.{◌≡◌, ◌≤◌, ◌+◌, drop, length, take};
+ghost use Rattle.std.specs.Prelude.{◌≡◌, ◌≤◌, ◌+◌, drop, length, take, vec_capacity};
+ghost use Rattle.cse_lines.specs.Bytes.{reaching};
 ghost use Rattle.cse_lines.specs.Run.{with_columns};
 
+use crate::columns::put_bytes;
 use std::simd::Simd;
 
 /// Writes N bytes over others.
@@ -96,12 +98,61 @@ fn put_characters(beside: &mut [char], there: &[char])
     }
 }
 
-/// Writes so many characters beside bytes over those from a place on.
-#[inline(never)]
-pub fn put_beside(beside: &mut Vec<char>, first: usize, len: usize, there: &[char])
+/// Writes so many characters over those from a place on.
+#[inline(always)]
+fn put_characters_at(beside: &mut Vec<char>, first: usize, len: usize, there: &[char])
     requires room { first + len ≤ length beside.old.items }
     requires there { len ≤ length there.now }
-    ensures { beside.new.items ≡ with_columns first (take len there.now) beside.old.items }
+    ensures items { beside.new.items ≡ with_columns first (take len there.now) beside.old.items }
+    ensures capacity { vec_capacity beside.new ≡ vec_capacity beside.old }
 {
     put_characters(&mut beside[first..first + len], &there[..len]);
+}
+
+/// Writes bytes as characters over those from a place on.
+#[inline(always)]
+fn put_bytes_at(beside: &mut Vec<char>, first: usize, bytes: &[u8])
+    requires { first + length bytes.now ≤ length beside.old.items }
+    ensures items { beside.new.items ≡ with_columns first bytes.now beside.old.items }
+    ensures capacity { vec_capacity beside.new ≡ vec_capacity beside.old }
+{
+    let _ascii = put_bytes(&mut beside[first..first + bytes.len()], bytes);
+}
+
+/// Writes what stands beside bytes over as much from a place on, where it reaches as far as they do.
+#[inline(always)]
+fn put_all_beside(beside: &mut Vec<char>, first: usize, bytes: &[u8], there: &[char])
+    requires room { first + length bytes.now ≤ length beside.old.items }
+    requires wide { length bytes.now ≤ length there.now }
+    ensures items { beside.new.items ≡ with_columns first (take (length bytes.now) (reaching bytes.now there.now)) beside.old.items }
+    ensures capacity { vec_capacity beside.new ≡ vec_capacity beside.old }
+{
+    put_characters_at(beside, first, bytes.len(), there);
+}
+
+/// The same, where it doesn't: the bytes themselves stand behind it.
+#[inline(never)]
+fn put_some_beside(beside: &mut Vec<char>, first: usize, bytes: &[u8], there: &[char])
+    requires room { first + length bytes.now ≤ length beside.old.items }
+    requires few { length there.now ≤ length bytes.now }
+    ensures items { beside.new.items ≡ with_columns first (take (length bytes.now) (reaching bytes.now there.now)) beside.old.items }
+    ensures capacity { vec_capacity beside.new ≡ vec_capacity beside.old }
+{
+    let len = there.len();
+    put_characters_at(beside, first, len, there);
+    put_bytes_at(beside, first + len, &bytes[len..]);
+}
+
+/// Writes what stands beside bytes over as much from a place on. Where nothing stands there, it is the byte itself.
+#[inline(never)]
+pub fn put_beside(beside: &mut Vec<char>, first: usize, bytes: &[u8], there: &[char])
+    requires { first + length bytes.now ≤ length beside.old.items }
+    ensures items { beside.new.items ≡ with_columns first (take (length bytes.now) (reaching bytes.now there.now)) beside.old.items }
+    ensures capacity { vec_capacity beside.new ≡ vec_capacity beside.old }
+{
+    if bytes.len() <= there.len() {
+        put_all_beside(beside, first, bytes, there);
+    } else {
+        put_some_beside(beside, first, bytes, there);
+    }
 }

@@ -1,6 +1,6 @@
 //! The columns of a run, in a vector that is filled further than they reach.
 
-ghost use Rattle.std.specs.Prelude.{◌≡◌, ℕ, ◌≤◌, ◌+◌, ◌-◌, ◌++◌, ◌<◌, [], drop, length, max, replicate, set, take, true, false, IfErr, IfOk, OnErr, OnOk};
+ghost use Rattle.std.specs.Prelude.{◌≡◌, ℕ, List, ◌≤◌, ◌+◌, ◌-◌, ◌++◌, ◌<◌, [], drop, length, max, replicate, set, take, true, false, vec_capacity, IfErr, IfOk, OnErr, OnOk};
 ghost use Rattle.std.specs.Str.{IsAscii, chars, is_utf8};
 ghost use Rattle.cse_value.specs.Field.{put_whole};
 ghost use Rattle.cse_lines.specs.Decoding.{Holds, IfFault};
@@ -85,16 +85,13 @@ pub(crate) fn fill_bytes(bytes: &mut Vec<u8>, len: usize) -> Result<(), AllocErr
     Ok(())
 }
 
-/// Makes room beside bytes up to a length.
-fn fill_beside(beside: &mut Vec<char>, len: usize) -> Result<(), AllocError>
-    ensures room { OnOk result (len ≤ length beside.new.items) }
-    ensures same { take (length beside.old.items) beside.new.items ≡ beside.old.items }
-    ensures wide { length beside.old.items ≤ length beside.new.items }
+/// Takes memory beside bytes up to a length. Nothing is written there.
+fn keep_beside(beside: &mut Vec<char>, len: usize) -> Result<(), AllocError>
+    ensures room { OnOk result (len ≤ vec_capacity beside.new) }
+    ensures same { beside.new.items ≡ beside.old.items }
+    ensures wide { vec_capacity beside.old ≤ vec_capacity beside.new }
 {
-    if beside.len() < len {
-        beside.resize(len, ' ')?;
-    }
-    Ok(())
+    beside.reserve(len.saturating_sub(beside.len()))
 }
 
 /// Fills columns up to a length.
@@ -106,7 +103,7 @@ fn grow(own: &mut OwnColumns, len: usize) -> Result<(), AllocError>
     ensures same { (n : ℕ) → n ≤ length own.old.bytes.items → take n (columns_in own.new) ≡ take n (columns_in own.old) }
     ensures beside { HasRoom own.new }
 {
-    fill_beside(&mut own.beside, len)?;
+    keep_beside(&mut own.beside, len)?;
     fill_bytes(&mut own.bytes, len)
 }
 
@@ -125,19 +122,36 @@ fn fill_up(own: &mut OwnColumns, len: usize) -> Result<(), AllocError>
     Ok(())
 }
 
+/// Writes what stands beside bytes over as much from a place on, where these bytes were written before. It is called for few
+/// lines, and isn't laid out where it is called.
+#[cold]
+#[inline(never)]
+fn put_over_beside(own: &mut OwnColumns, first: usize, len: usize, text: &OwnColumns)
+    requires room { first + len ≤ length own.old.bytes.items }
+    requires beside { HasRoom own.old }
+    requires there { len ≤ length text.now.bytes.items }
+    ensures columns { (before : List ℕ) → length before ≡ length own.old.bytes.items
+        → own.old.bytes.items ≡ with_columns first (take len text.now.bytes.items) before
+        → columns_in own.new ≡ with_columns first (take len (columns_in text.now)) (columns_by before own.old.beside.items) }
+    ensures bytes { own.new.bytes ≡ own.old.bytes }
+    ensures beside { HasRoom own.new }
+{
+    own.reach(first + len);
+    put_beside(&mut own.beside, first, &text.bytes[..len], &text.beside);
+}
+
 /// Writes columns over those from a place on. What stands beside their bytes goes along, where some are beyond ASCII.
 #[inline(always)]
 fn put_over(own: &mut OwnColumns, first: usize, len: usize, text: &OwnColumns)
     requires room { first + len ≤ length own.old.bytes.items }
     requires beside { HasRoom own.old }
     requires there { len ≤ length text.now.bytes.items }
-    requires known { HasRoom text.now }
     ensures columns { columns_in own.new ≡ with_columns first (take len (columns_in text.now)) (columns_in own.old) }
     ensures bytes { length own.new.bytes.items ≡ length own.old.bytes.items }
     ensures beside { HasRoom own.new }
 {
     if !put_between(&mut own.bytes, first, first + len, &text.bytes[..len]) {
-        put_beside(&mut own.beside, first, len, &text.beside);
+        put_over_beside(own, first, len, text);
     }
 }
 
@@ -228,6 +242,8 @@ impl Filled {
         if put_between(&mut self.own.bytes, 0, self.len, text) {
             return Ok(text.len());
         }
+        let reached = self.own.bytes.len();
+        self.own.reach(reached);
         put_beyond_in(&mut self.own.bytes, &mut self.own.beside, self.len, text)
     }
 

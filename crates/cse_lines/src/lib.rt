@@ -3,6 +3,7 @@
 //! - `line`: a line of a run, and how it ends.
 //! - `columns`: columns that are lent, as bytes, with the characters of those beyond ASCII beside them.
 //! - `filled`: columns that are kept so.
+//! - `few`: a number that is written into a few columns.
 //! - `run`: consecutive lines with equal id columns (CSPro Users Guide, data files; the limits are own).
 //! - `run_bytes`: the bytes of these lines.
 //! - `error`: what a data file can be refused by.

@@ -1,7 +1,7 @@
 //! One call of the reader, over its parts.
 
-ghost use Rattle.std.specs.Prelude.{◌≡◌, ◌≤◌, ◌+◌, ◌<◌, ◌^◌, ◌⊎◌, true, length, Some, IfErr, OnErr, OnOk};
-ghost use Rattle.std.specs.Io.KnownBytes.{IsAtEnd};
+ghost use Rattle.std.specs.Prelude.{◌≡◌, ◌≢◌, ◌≤◌, ◌+◌, ◌<◌, ◌^◌, ◌⊎◌, true, length, Some, IfErr, OnErr, OnOk};
+ghost use Rattle.cse_value.specs.Device.{IsAtEnd, FailsOnce, IsUnfailing};
 ghost use Rattle.cse_lines.specs.Field.{layout_of};
 ghost use Rattle.cse_lines.specs.Reader.{Next, given_lines};
 ghost use Rattle.cse_lines.specs.Resting.{IsLayoutOf, IsResting, TakesRest, reader_of};
@@ -58,14 +58,15 @@ fn next_run<R: Input>(
 ) -> Result<Option<Run>, DataError>
     requires layout { layout.now ≡ layout_of dictionary.now }
     requires rests { IsResting (reader_of dictionary.now run.old buffer.old ended.old reads.old lines) }
-    requires end { ended.old ≡ true → IsAtEnd (R.remaining input.old) }
-    ensures next { Next (R.remaining input.old) (R.remaining input.new) (reader_of dictionary.now run.old buffer.old ended.old reads.old lines)
+    requires end { ended.old ≡ true → IsAtEnd (R.given input.old) }
+    ensures next { Next (R.given input.old) (R.given input.new) (reader_of dictionary.now run.old buffer.old ended.old reads.old lines)
         (reader_of dictionary.now run.new buffer.new ended.new reads.new (lines + length (given_lines result))) result }
     ensures rests { OnOk result (IsResting (reader_of dictionary.now run.new buffer.new ended.new reads.new (lines + length (given_lines result)))) }
     ensures few_reads { reads.new ≤ 2 ^ 40 }
-    ensures end { ended.new ≡ true → IsAtEnd (R.remaining input.new) }
-    ensures failed { IfErr result (λ error. error.number ≡ 70 → (R.has_failed input.new ≡ true) ⊎ (reads.new ≡ 2 ^ 40)) }
-    ensures works { OnOk result (R.has_failed input.new ≡ R.has_failed input.old) }
+    ensures end { ended.new ≡ true → IsAtEnd (R.given input.new) }
+    ensures failed { IfErr result (λ error. error.number ≡ 70 → FailsOnce (R.given input.old) (R.given input.new) ⊎ (reads.new ≡ 2 ^ 40)) }
+    ensures works { OnOk result (IsUnfailing (R.given input.old) (R.given input.new)) }
+    ensures sound { IfErr result (λ error. error.number ≢ 70 → IsUnfailing (R.given input.old) (R.given input.new)) }
 {
     'reads: loop {
         match gather(
@@ -133,15 +134,16 @@ pub fn next_by_layout<R: Input>(
 ) -> Result<Option<Run>, DataError>
     requires layout { IsLayoutOf dictionary.now layout.old }
     requires rests { IsResting (reader_of dictionary.now run.old buffer.old ended.old reads.old lines) }
-    requires end { ended.old ≡ true → IsAtEnd (R.remaining input.old) }
+    requires end { ended.old ≡ true → IsAtEnd (R.given input.old) }
     ensures layout { IsLayoutOf dictionary.now layout.new }
-    ensures next { Next (R.remaining input.old) (R.remaining input.new) (reader_of dictionary.now run.old buffer.old ended.old reads.old lines)
+    ensures next { Next (R.given input.old) (R.given input.new) (reader_of dictionary.now run.old buffer.old ended.old reads.old lines)
         (reader_of dictionary.now run.new buffer.new ended.new reads.new (lines + length (given_lines result))) result }
     ensures rests { OnOk result (IsResting (reader_of dictionary.now run.new buffer.new ended.new reads.new (lines + length (given_lines result)))) }
     ensures few_reads { reads.new ≤ 2 ^ 40 }
-    ensures end { ended.new ≡ true → IsAtEnd (R.remaining input.new) }
-    ensures failed { IfErr result (λ error. error.number ≡ 70 → (R.has_failed input.new ≡ true) ⊎ (reads.new ≡ 2 ^ 40)) }
-    ensures works { OnOk result (R.has_failed input.new ≡ R.has_failed input.old) }
+    ensures end { ended.new ≡ true → IsAtEnd (R.given input.new) }
+    ensures failed { IfErr result (λ error. error.number ≡ 70 → FailsOnce (R.given input.old) (R.given input.new) ⊎ (reads.new ≡ 2 ^ 40)) }
+    ensures works { OnOk result (IsUnfailing (R.given input.old) (R.given input.new)) }
+    ensures sound { IfErr result (λ error. error.number ≢ 70 → IsUnfailing (R.given input.old) (R.given input.new)) }
 {
     let Ok(()) = keep_layout(alloc, dictionary, layout) else {
         return Err(error(90));

@@ -5,9 +5,9 @@ use Rattle.std.proofs.lemmas.List.{length-map}
 use Rattle.std.proofs.lemmas.Bool.{eqb-true, false≢true}
 use Rattle.cse_value.specs.declared.shape.ItemKind.{ItemKind}
 use Rattle.cse_value.specs.declared.shape.ItemKind.TheVariants as kind
-use Rattle.cse_syntax.specs.Tree as syntax
-use Rattle.cse_syntax.specs.declared.tree.Expression.{Expression}
-use Rattle.cse_syntax.specs.Tree.{Spelling, expr, exprs}
+use Rattle.cse_syntax_tree.specs.Tree as syntax
+use Rattle.cse_syntax_tree.specs.declared.tree.Expression.{Expression}
+use Rattle.cse_syntax_tree.specs.Tree.{Spelling, expr, exprs}
 use Rattle.cse_logic_tree.specs.declared.tree.Variable.{Variable}
 use Rattle.cse_logic_tree.specs.declared.tree.Found.{Found}
 use Rattle.cse_logic_tree.specs.Typed.{Number, Words, Numbers, Set, SetText, SetCell, CallOf, PutDeck, Statement, Here, At}

@@ -2,8 +2,8 @@
 use Rattle.std.specs.Prelude.{Bool, true, false, ◌&&◌, MatchOption}
 use Rattle.std.proofs.Common.{◌≡◌, ℕ, ◌+◌, ◌<◌, ◌≤◌, get_or, drop, List, [], ◌∷◌, length, map, Option, Some, None, refl, ap, sym, ◌∙◌, option_map}
 use Rattle.cse_image_parts.specs.declared.placeholders.ArgumentKind.{ArgumentKind}
-use Rattle.cse_syntax.specs.declared.tree.Expression.{Expression}
-use Rattle.cse_syntax.specs.Tree.{expr, exprs}
+use Rattle.cse_syntax_tree.specs.declared.tree.Expression.{Expression}
+use Rattle.cse_syntax_tree.specs.Tree.{expr, exprs}
 use Rattle.cse_logic_tree.specs.declared.tree.Argument as rust
 use Rattle.cse_logic_tree.specs.Typed.{Argument, argument}
 use Rattle.cse_logic_names.specs.Scope.{Scope}

@@ -4,16 +4,16 @@ use Rattle.std.specs.Prelude.{◌&&◌, ◌||◌, not, option_map}
 use Rattle.std.proofs.lemmas.List.{length-map}
 use Rattle.std.proofs.lemmas.Bool.{leb-true}
 use Rattle.std.specs.Global.{Vec, Box}
-use Rattle.cse_syntax.specs.declared.tree.Lexeme.{Lexeme}
-use Rattle.cse_syntax.specs.declared.tree.Operator.{Operator}
-use Rattle.cse_syntax.specs.declared.tree.Relation.{Relation}
-use Rattle.cse_syntax.specs.declared.tree.Operation as rustop
-use Rattle.cse_syntax.specs.declared.tree.Expression as rust
-use Rattle.cse_syntax.specs.declared.tree.Expression.TheVariants as e
-use Rattle.cse_syntax.specs.Leaf.{is_within, is_digits, number_of, MOST}
-use Rattle.cse_syntax.specs.Tree as syntax
-use Rattle.cse_syntax.specs.Tree.{written, expr, exprs, operation_tree}
-use Rattle.cse_syntax.proofs.Rows.{indexed_is, chain_is}
+use Rattle.cse_syntax_tree.specs.declared.tree.Lexeme.{Lexeme}
+use Rattle.cse_syntax_tree.specs.declared.tree.Operator.{Operator}
+use Rattle.cse_syntax_tree.specs.declared.tree.Relation.{Relation}
+use Rattle.cse_syntax_tree.specs.declared.tree.Operation as rustop
+use Rattle.cse_syntax_tree.specs.declared.tree.Expression as rust
+use Rattle.cse_syntax_tree.specs.declared.tree.Expression.TheVariants as e
+use Rattle.cse_syntax_tree.specs.Leaf.{is_within, is_digits, number_of, MOST}
+use Rattle.cse_syntax_tree.specs.Tree as syntax
+use Rattle.cse_syntax_tree.specs.Tree.{written, expr, exprs, operation_tree}
+use Rattle.cse_syntax_tree.proofs.Rows.{indexed_is, chain_is}
 use Rattle.cse_logic_tree.specs.Typed as typed
 use Rattle.cse_logic_names.specs.Scope.{Scope, meant}
 use Rattle.cse_logic_names.specs.WellTyped.{may_divide}

@@ -2,7 +2,7 @@
 use Rattle.std.specs.Prelude.{Bool, true, false, ◌&&◌, nat_le, if◌then◌else◌}
 use Rattle.std.proofs.Common.{◌≡◌, ℕ, List, Option, Some, None, refl, ap, sym, ◌∙◌, arith}
 use Rattle.std.proofs.lemmas.Bool.Decides.{nat_tests}
-use Rattle.cse_syntax.specs.Leaf.{is_within, is_digits, number_of, MOST}
+use Rattle.cse_syntax_tree.specs.Leaf.{is_within, is_digits, number_of, MOST}
 use Rattle.cse_logic_names.specs.WellTyped.{message_number}
 use Rattle.cse_logic_expressions.specs.JudgeStatement.{ranged}
 use Rattle.cse_logic_expressions.proofs.Right.{and_holds}

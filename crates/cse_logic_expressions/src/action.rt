@@ -2,7 +2,7 @@
 
 ghost use Rattle.std.specs.Prelude.{◌≡◌, ◌||◌, not, false, map, Some, IfOk, OnOk};
 ghost use Rattle.std.specs.Option.{option_map};
-ghost use Rattle.cse_syntax.specs.Tree.{written, expr, exprs};
+ghost use Rattle.cse_syntax_tree.specs.Tree.{written, expr, exprs};
 ghost use Rattle.cse_logic_tree.specs.Typed as typed;
 ghost use Rattle.cse_logic_tree.specs.Typed.{statement};
 ghost use Rattle.cse_logic_names.specs.Scope.{meant};
@@ -12,11 +12,11 @@ ghost use Rattle.cse_logic_expressions.specs.JudgeStatement as spec;
 ghost use Rattle.cse_logic_names.specs.Walk.{is_there, only_if, IsNoted};
 
 use crate::assign::{assign, call_of, impute, put_deck};
-use crate::expression::{all_values, expression, value};
+use crate::expression::{all_values, expression, text_token, value};
 use cse_logic_names::faults::Faults;
 use cse_logic_names::scope::Scope;
 use cse_logic_tree::{Statement, Variable};
-use cse_syntax::{Expression, Jump, Lexeme, Place};
+use cse_syntax_tree::{Expression, Jump, Lexeme, Place};
 use std::alloc::{AllocError, Global};
 
 /// An assignment.
@@ -40,7 +40,7 @@ pub fn assignment<'a>(
         count,
         subscripts,
         found,
-        x.token(),
+        text_token(x),
     ))
 }
 

@@ -2,7 +2,7 @@
 
 ghost use Rattle.std.specs.Prelude.{◌≡◌, ◌==◌, ◌||◌, not, true, false, map, slice_get, Some, None, IfOk, OnOk};
 ghost use Rattle.std.specs.Option.{option_map};
-ghost use Rattle.cse_syntax.specs.Tree.{written};
+ghost use Rattle.cse_syntax_tree.specs.Tree.{written};
 ghost use Rattle.cse_logic_tree.specs.Typed as typed;
 ghost use Rattle.cse_logic_tree.specs.Typed.{number, numbers, words, statement};
 ghost use Rattle.cse_logic_names.specs.Scope.{meant, kind_and_owner, found};
@@ -15,13 +15,14 @@ ghost use Rattle.cse_logic_names.specs.Walk.{is_there, joined, only_if, IsNoted,
 
 use crate::call::{has_dimensions, is_free, may_call};
 use crate::deck::picks;
+use crate::item::{field_at, needs_case};
 use crate::judged::Judged;
 use crate::place::place_at;
 use cse_logic_names::faults::Faults;
 use cse_logic_names::meaning::Meaning;
 use cse_logic_names::scope::{Scope, kind_and_owner, own_result};
 use cse_logic_tree::{Field, Number, Pick, Statement, Variable, Which, Words};
-use cse_syntax::Lexeme;
+use cse_syntax_tree::Lexeme;
 use cse_value::shape::ItemKind;
 use std::alloc::{AllocError, Global};
 
@@ -94,7 +95,7 @@ fn set<'a>(
     }
 }
 
-/// An assignment of a variable, behind which so many subscripts stand. The value begins at this token.
+/// An assignment of a variable, behind which so many subscripts stand. A value that is a text stands at this token.
 fn assign_variable<'a>(
     scope: &Scope<'_>,
     faults: &mut Faults,
@@ -145,13 +146,13 @@ fn set_text<'a>(name: Lexeme<'a>, global: usize, value: Option<Words<'a>>) -> Op
     }
 }
 
+/// An assignment of a text variable, which is the text at fault where the value is none.
 fn assign_text<'a>(
     faults: &mut Faults,
     name: Lexeme<'a>,
     global: usize,
     count: usize,
     value: Judged<'a>,
-    token: usize,
 ) -> Option<Statement<'a>>
     ensures value { option_map statement result ≡ only_if (count == 0) (option_map (typed.SetText (written name.entry) global) (as_words (judged value.entry))) }
     ensures noted { IsNotedAfter (is_sound (judged value.entry)) faults.old faults.new (is_there (only_if (count == 0) (option_map (typed.SetText (written name.entry) global) (as_words (judged value.entry))))) }
@@ -160,7 +161,7 @@ fn assign_text<'a>(
         faults.note(44, name.token);
         return None;
     }
-    let value = words_in(faults, token, value);
+    let value = words_in(faults, name.token, value);
     set_text(name, global, value)
 }
 
@@ -270,7 +271,7 @@ pub fn call_of<'a>(
     }
 }
 
-/// An assignment of an item.
+/// An assignment of an item. A value that is a text stands at this token.
 fn assign_item<'a>(
     scope: &Scope<'_>,
     faults: &mut Faults,
@@ -301,14 +302,15 @@ fn assign_item<'a>(
             }
             ItemKind::Text => {
                 let place = place_at(scope, faults, name.token, count, number, owner, subscripts);
-                let value = words_in(faults, token, value);
+                // Where the value is no text, the text at fault is the item.
+                let value = words_in(faults, name.token, value);
                 set_text_item(name, place, value)
             }
         },
     }
 }
 
-/// An assignment of a cell.
+/// An assignment of a cell. A value that is a text stands at this token.
 fn assign_cell<'a>(
     scope: &Scope<'_>,
     faults: &mut Faults,
@@ -323,13 +325,16 @@ fn assign_cell<'a>(
     ensures noted { (is_there faults.old.worst || (not (is_there subscripts.entry) || not (is_sound (judged value.entry)))) ≡ is_there faults.old.worst → IsNoted faults.old faults.new (is_there (only_if (judge.is_count count (dimensions_of scope.now array)) (joined (typed.SetCell (written name.entry) array) (option_map (λ v. numbers (map number v.items)) subscripts.entry) (as_number (judged value.entry))))) }
 {
     if !has_dimensions(scope, faults, name.token, count, array) {
+        // The array may be declared behind the value.
+        number_in(faults, token, value);
         return None;
     }
     let value = number_in(faults, token, value);
     set_cell(name, array, subscripts, value)
 }
 
-/// A value, assigned to what a name means; so many subscripts stand behind it, and the value begins at this token.
+/// A value, assigned to what a name means; so many subscripts stand behind it, and a value that is a text stands at
+/// this token.
 pub fn assign<'a>(
     scope: &Scope<'_>,
     faults: &mut Faults,
@@ -346,7 +351,7 @@ pub fn assign<'a>(
         Some(Meaning::Variable(variable)) => {
             assign_variable(scope, faults, name, Some(variable), count, value, token)
         }
-        Some(Meaning::Text(global)) => assign_text(faults, name, global, count, value, token),
+        Some(Meaning::Text(global)) => assign_text(faults, name, global, count, value),
         Some(Meaning::Array(array)) => {
             assign_cell(scope, faults, name, count, array, subscripts, value, token)
         }
@@ -393,6 +398,8 @@ fn impute_number<'a>(
             }
             ItemKind::Text => {
                 faults.note(44, name.token);
+                // Of an id item 43 is the lesser.
+                field_at(scope, faults, 43, name.token, item, owner);
                 None
             }
         },
@@ -433,14 +440,15 @@ pub fn put_deck<'a>(
     ensures value { IfOk result (λ r. option_map statement r ≡ spec.put_deck scope.now (written name.entry) (meant scope.now (written name.entry)) (option_map number value.entry)) }
     ensures noted { OnOk result (IsNotedAfter (is_there value.entry) faults.old faults.new (is_there (spec.put_deck scope.now (written name.entry) (meant scope.now (written name.entry)) (option_map number value.entry)))) }
 {
+    let word = name.token.saturating_sub(2);
     match scope.meant(name) {
         Some(Meaning::Array(array)) => {
-            let tokens = (name.token, name.token.saturating_sub(2));
-            let picks = picks(alloc, scope, faults, tokens, array)?;
+            let picks = picks(alloc, scope, faults, (name.token, word), array)?;
             Ok(put(name, array, picks, value))
         }
         _ => {
             faults.note(40, name.token);
+            needs_case(scope, faults, word);
             Ok(None)
         }
     }

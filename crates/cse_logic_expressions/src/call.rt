@@ -3,7 +3,7 @@
 ghost use Rattle.std.specs.Prelude.{◌≡◌, map, length, slice_get, Some, None};
 ghost use Rattle.std.specs.Option.{option_map};
 ghost use Rattle.std.specs.List.{list_any, list_all};
-ghost use Rattle.cse_syntax.specs.Tree.{written};
+ghost use Rattle.cse_syntax_tree.specs.Tree.{written};
 ghost use Rattle.cse_logic_tree.specs.Typed as typed;
 ghost use Rattle.cse_logic_tree.specs.Typed.{number, numbers};
 ghost use Rattle.cse_logic_names.specs.Scope as scope_of;
@@ -15,7 +15,7 @@ use cse_logic_names::faults::Faults;
 use cse_logic_names::names::Globals;
 use cse_logic_names::scope::{Facts, Scope, has_case};
 use cse_logic_tree::{Number, Variable};
-use cse_syntax::Lexeme;
+use cse_syntax_tree::Lexeme;
 
 fn is_same_variable(x: Variable, y: Variable) -> bool
     ensures { result ≡ scope_of.is_same_variable x y }
@@ -66,6 +66,14 @@ pub fn dimensions_of(scope: &Scope<'_>, array: usize) -> Option<usize>
     }
 }
 
+/// The fault 44, where this number isn't the one that is declared.
+fn same_count(faults: &mut Faults, token: usize, count: usize, declared: Option<&usize>) {
+    match declared {
+        Some(declared) if *declared != count => faults.note(44, token),
+        _ => {}
+    }
+}
+
 /// Whether an array has so many dimensions, or the fault 44.
 pub fn has_dimensions(
     scope: &Scope<'_>,
@@ -79,7 +87,8 @@ pub fn has_dimensions(
 {
     match dimensions_of(scope, array) {
         None => {
-            // The fault of its declaration counts.
+            // Its declaration is at fault, maybe behind this place.
+            same_count(faults, token, count, scope.counts.dimensions.get(array));
             faults.note(44, usize::MAX);
             false
         }
@@ -185,14 +194,17 @@ pub fn may_call(
     ensures value { result ≡ well.may_call scope.now arguments (slice_get scope.now.functions function) }
     ensures noted { IsNoted faults.old faults.new (well.may_call scope.now arguments (slice_get scope.now.functions function)) }
 {
+    let declared = scope.counts.parameters.get(function);
     match scope.functions.get(function) {
         None => {
+            same_count(faults, token, arguments, declared);
             faults.note(45, token);
             false
         }
         Some(facts) => match facts {
             None => {
-                // Its own fault stands before.
+                // Its own fault may stand behind this place: that of a parameter's name stands at the later of two.
+                same_count(faults, token, arguments, declared);
                 faults.note(45, usize::MAX);
                 false
             }

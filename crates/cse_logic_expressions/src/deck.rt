@@ -2,21 +2,21 @@
 
 ghost use Rattle.std.specs.Prelude.{◌≡◌, ◌&&◌, true, false, map, length, drop, slice_get, Some, None, IfOk, OnOk};
 ghost use Rattle.std.specs.Option.{option_map};
-ghost use Rattle.cse_syntax.specs.Tree.{written};
+ghost use Rattle.cse_syntax_tree.specs.Tree.{written};
 ghost use Rattle.cse_logic_tree.specs.Typed as typed;
 ghost use Rattle.cse_logic_tree.specs.Typed.{number, dimension};
 ghost use Rattle.cse_logic_names.specs.Scope.{meant};
 ghost use Rattle.cse_logic_expressions.specs.Judge as spec;
 ghost use Rattle.cse_logic_names.specs.Walk.{is_there, IsNoted, IsNotedAfter};
 
-use crate::item::number_present;
+use crate::item::{needs_case, number_present};
 use crate::list::{both, keep};
 use crate::set::{current, max_occ, record_of, tot_occ, whole_set};
 use cse_logic_names::faults::Faults;
 use cse_logic_names::meaning::Meaning;
 use cse_logic_names::scope::{Scope, has_case};
 use cse_logic_tree::{Dimension, Number, Pick, Present};
-use cse_syntax::{Lexeme, Query};
+use cse_syntax_tree::{Lexeme, Query};
 use std::alloc::{AllocError, Global};
 
 /// The present value's place of a set's item, or the fault at this token.
@@ -110,12 +110,14 @@ pub fn picks(
     match scope.arrays.get(array) {
         None => {
             faults.note(40, tokens.0);
+            needs_case(scope, faults, tokens.1);
             Ok(None)
         }
         Some(directions) => match directions {
             None => {
                 // The fault of its declaration counts.
                 faults.note(40, usize::MAX);
+                needs_case(scope, faults, tokens.1);
                 Ok(None)
             }
             Some(directions) => {
@@ -139,6 +141,7 @@ fn deck<'a>(name: Lexeme<'a>, array: usize, picks: Option<Vec<Pick>>) -> Option<
     }
 }
 
+/// The value of a hot deck; else 40 at its name, or 49 at this token, where there is no case.
 fn deck_of<'a>(
     alloc: Global,
     scope: &Scope<'_>,
@@ -156,12 +159,14 @@ fn deck_of<'a>(
         }
         _ => {
             faults.note(40, name.token);
+            needs_case(scope, faults, token);
             Ok(None)
         }
     }
 }
 
-/// A function of one name. Its word stands two tokens before the name.
+/// A function of one name. Its word stands two tokens before the name. Where there is no case, the fault 49 of the number
+/// of records is at the name, and that of the other functions at the word.
 pub fn queried<'a>(
     alloc: Global,
     scope: &Scope<'_>,
@@ -184,7 +189,7 @@ pub fn queried<'a>(
             Ok(max_occ(name, over))
         }
         Query::CurOcc => {
-            let over = record_of(scope, faults, name, name.token);
+            let over = record_of(scope, faults, name, word);
             Ok(current(scope, faults, name, word, over))
         }
     }

@@ -3,8 +3,8 @@
 ghost use Rattle.std.specs.Prelude.{◌≡◌, ◌==◌, false, map, length, drop, nat_eq, find, Some, None, IfOk, OnOk};
 ghost use Rattle.std.specs.Option.{option_map};
 ghost use Rattle.cse_image_parts.specs.Placeholders.{message_kinds};
-ghost use Rattle.cse_syntax.specs.Leaf as leaf;
-ghost use Rattle.cse_syntax.specs.Tree.{expr, exprs, message};
+ghost use Rattle.cse_syntax_tree.specs.Leaf as leaf;
+ghost use Rattle.cse_syntax_tree.specs.Tree.{expr, exprs, message};
 ghost use Rattle.cse_logic_tree.specs.Typed as typed;
 ghost use Rattle.cse_logic_tree.specs.Typed.{argument, number, statement, words};
 ghost use Rattle.cse_logic_names.specs.MessageFile.{MessageText};
@@ -14,7 +14,8 @@ ghost use Rattle.cse_logic_expressions.specs.JudgeStatement as spec;
 ghost use Rattle.cse_logic_expressions.specs.JudgeStatement.{as_argument, as_words, judge_arguments, ranged};
 ghost use Rattle.cse_logic_names.specs.Walk.{is_there, IsNoted};
 
-use crate::expression::{expression, value, written_number};
+use crate::assign::number_in;
+use crate::expression::{expression, written_number};
 use crate::judged::Judged;
 use crate::list::{both, keep};
 use cse_image_parts::placeholders::{ArgumentKind, Kinds, count_placeholders};
@@ -22,7 +23,7 @@ use cse_logic_names::faults::Faults;
 use cse_logic_names::messages::Messages;
 use cse_logic_names::scope::Scope;
 use cse_logic_tree::{Argument, Number, Statement, Words};
-use cse_syntax::{Expression, Message};
+use cse_syntax_tree::{Expression, Message};
 use std::alloc::{AllocError, Global};
 
 /// What stands between the quotes of a text.
@@ -119,7 +120,7 @@ fn of_words<'a>(x: Option<Words<'a>>) -> Option<Argument<'a>>
     }
 }
 
-/// A value for a placeholder of this kind.
+/// A value for a placeholder of this kind; a fault of its kind is told at its first token.
 fn one_argument<'a>(
     alloc: Global,
     scope: &Scope<'_>,
@@ -136,8 +137,8 @@ fn one_argument<'a>(
             Ok(None)
         }
         Some(ArgumentKind::Number) => {
-            let found = value(alloc, scope, faults, false, x)?;
-            Ok(of_number(found))
+            let found = expression(alloc, scope, faults, false, x)?;
+            Ok(of_number(number_in(faults, x.token(), found)))
         }
         Some(ArgumentKind::Text) => {
             let found = text(alloc, scope, faults, x)?;

@@ -2,10 +2,10 @@
 
 ghost use Rattle.std.specs.Prelude.{◌≡◌, ◌&&◌, ◌||◌, not, ◌≤◌, ◌==◌, MatchOption, IfSome, true, false, map, length, drop, slice_get, Some, None, IfOk, OnOk};
 ghost use Rattle.std.specs.Option.{option_map};
-ghost use Rattle.cse_syntax.specs.Leaf as leaf;
-ghost use Rattle.cse_syntax.specs.Leaf.{is_within, MOST};
-ghost use Rattle.cse_syntax.specs.Tree as syntax;
-ghost use Rattle.cse_syntax.specs.Tree.{written, expr, exprs, operations as operations_of, operation_tree as parsed};
+ghost use Rattle.cse_syntax_tree.specs.Leaf as leaf;
+ghost use Rattle.cse_syntax_tree.specs.Leaf.{is_within, MOST};
+ghost use Rattle.cse_syntax_tree.specs.Tree as syntax;
+ghost use Rattle.cse_syntax_tree.specs.Tree.{written, expr, exprs, operations as operations_of, operation_tree as parsed};
 ghost use Rattle.cse_logic_tree.specs.Typed as typed;
 ghost use Rattle.cse_logic_tree.specs.Typed.{number, numbers, words, operations, operation_tree};
 ghost use Rattle.cse_logic_names.specs.Scope.{meant};
@@ -26,7 +26,7 @@ use cse_logic_names::faults::Faults;
 use cse_logic_names::meaning::Meaning;
 use cse_logic_names::scope::{Scope, own_result};
 use cse_logic_tree::{Number, Operation, Variable, Words};
-use cse_syntax::{Expression, Function, Lexeme, Operation as Parsed, Operator, number_of};
+use cse_syntax_tree::{Expression, Function, Lexeme, Operation as Parsed, Operator, number_of};
 use std::alloc::{AllocError, Global};
 
 /// What a name without parentheses is.
@@ -141,7 +141,7 @@ fn named_with<'a>(
                 }
             }
             Meaning::Record(_) => Ok(unknown(faults, name.token)),
-            Meaning::Item(item) => item_at(alloc, scope, faults, name, item, arguments),
+            Meaning::Item(item) => item_at(alloc, scope, faults, name, count, item, arguments),
             Meaning::Set(_) => Ok(unknown(faults, name.token)),
             Meaning::Application => Ok(unknown(faults, name.token)),
             Meaning::Level => Ok(unknown(faults, name.token)),
@@ -193,7 +193,7 @@ pub fn expression<'a>(
             negated(alloc, operand)
         }
         Expression::Compare(left, relation, right) => {
-            let tokens = (left.token(), right.token());
+            let tokens = (text_token(left), text_token(right));
             let earlier = expression(alloc, scope, faults, false, left)?;
             let later = expression(alloc, scope, faults, false, right)?;
             let made = compared(alloc, faults, *relation, earlier, later, tokens)?;
@@ -206,7 +206,15 @@ pub fn expression<'a>(
     }
 }
 
-/// A number, or the fault 44.
+/// Where an expression stands that is a text: behind the parentheses around it.
+pub fn text_token(x: &Expression<'_>) -> usize {
+    match x {
+        Expression::Group(inner) => text_token(inner),
+        _ => x.token(),
+    }
+}
+
+/// A number, or the fault 44 at the text that stands there.
 #[cycle(judge)]
 pub fn value<'a>(
     alloc: Global,
@@ -219,7 +227,7 @@ pub fn value<'a>(
     ensures noted { OnOk result (IsNoted faults.old faults.new (is_there (as_number (judge scope.now top (expr x.now))))) }
 {
     let found = expression(alloc, scope, faults, top, x)?;
-    Ok(number_in(faults, x.token(), found))
+    Ok(number_in(faults, text_token(x), found))
 }
 
 /// `int` or `special`.

@@ -2,8 +2,8 @@
 
 ghost use Rattle.std.specs.Prelude.{◌≡◌, true, false, Some, None};
 ghost use Rattle.std.specs.Option.{option_map};
-ghost use Rattle.cse_syntax.specs.Tree as syntax;
-ghost use Rattle.cse_syntax.specs.Tree.{written};
+ghost use Rattle.cse_syntax_tree.specs.Tree as syntax;
+ghost use Rattle.cse_syntax_tree.specs.Tree.{written};
 ghost use Rattle.cse_logic_tree.specs.Typed as typed;
 ghost use Rattle.cse_logic_names.specs.Scope as scope_of;
 ghost use Rattle.cse_logic_names.specs.WellTyped.{signed_value, step_of, value_of};
@@ -18,7 +18,7 @@ use cse_logic_names::faults::Faults;
 use cse_logic_names::meaning::Meaning;
 use cse_logic_names::scope::Scope;
 use cse_logic_tree::{Counting, Limit, Variable, Whole};
-use cse_syntax::{Counting as Parsed, Lexeme, Limit as ParsedLimit, Literal};
+use cse_syntax_tree::{Counting as Parsed, Lexeme, Limit as ParsedLimit, Literal};
 
 /// The variable of a loop: a numeric global or a parameter.
 fn loop_variable(scope: &Scope<'_>, name: Lexeme<'_>) -> Option<Variable>

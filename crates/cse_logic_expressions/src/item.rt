@@ -2,10 +2,10 @@
 
 ghost use Rattle.std.specs.Prelude.{◌≡◌, ◌≤◌, map, slice_get, Some, None, IfOk, OnOk};
 ghost use Rattle.std.specs.Option.{option_map};
-ghost use Rattle.cse_syntax.specs.Tree.{written};
+ghost use Rattle.cse_syntax_tree.specs.Tree.{written};
 ghost use Rattle.cse_logic_tree.specs.Typed as typed;
 ghost use Rattle.cse_logic_tree.specs.Typed.{number, numbers, words, dimension};
-ghost use Rattle.cse_logic_names.specs.Scope.{kind_and_owner, meant};
+ghost use Rattle.cse_logic_names.specs.Scope.{kind_and_owner, meant, has_case};
 ghost use Rattle.cse_logic_names.specs.WellTyped.{set_kind, set_meant};
 ghost use Rattle.cse_logic_expressions.specs.Judge as spec;
 ghost use Rattle.cse_logic_expressions.specs.Judge.{judged, is_sound, number_present};
@@ -16,7 +16,7 @@ use cse_logic_names::faults::Faults;
 use cse_logic_names::meaning::Meaning;
 use cse_logic_names::scope::{Scope, has_case, kind_and_owner};
 use cse_logic_tree::{Field, Number, Present, Words};
-use cse_syntax::Lexeme;
+use cse_syntax_tree::Lexeme;
 use cse_value::shape::ItemKind;
 use std::alloc::{AllocError, Global};
 
@@ -75,6 +75,15 @@ pub fn field_at(
         return None;
     }
     Some(Field { owner, item })
+}
+
+/// The fault 49 at this token, where there is no case.
+pub fn needs_case(scope: &Scope<'_>, faults: &mut Faults, token: usize)
+    ensures { IsNoted faults.old faults.new (has_case scope.now.routine) }
+{
+    if !has_case(scope.routine) {
+        faults.note(49, token);
+    }
 }
 
 fn number_item<'a>(name: Lexeme<'a>, item: Option<Present>) -> Option<Number<'a>>
@@ -156,17 +165,23 @@ fn text_item_at<'a>(
     }
 }
 
-/// The only subscript, or the fault 44.
+/// The only subscript of so many, or the fault 44, which is told also where one of them isn't sound.
 pub fn sole<'a>(
     faults: &mut Faults,
     token: usize,
+    count: usize,
     subscripts: Option<Vec<Number<'a>>>,
 ) -> Option<Number<'a>>
     ensures value { option_map number result ≡ spec.sole (option_map (λ v. numbers (map number v.items)) subscripts.entry) }
     ensures noted { IsNotedAfter (is_there subscripts.entry) faults.old faults.new (is_there (spec.sole (option_map (λ v. numbers (map number v.items)) subscripts.entry))) }
 {
     match subscripts {
-        None => None,
+        None => {
+            if count != 1 {
+                faults.note(44, token);
+            }
+            None
+        }
         Some(subscripts) => only_one(faults, token, subscripts),
     }
 }
@@ -187,12 +202,13 @@ fn only_one<'a>(
     subscripts.pop()
 }
 
-/// An item with a subscript.
+/// An item with so many subscripts.
 pub fn item_at<'a>(
     alloc: Global,
     scope: &Scope<'_>,
     faults: &mut Faults,
     name: Lexeme<'a>,
+    count: usize,
     item: u16,
     subscripts: Option<Vec<Number<'a>>>,
 ) -> Result<Judged<'a>, AllocError>
@@ -210,13 +226,13 @@ pub fn item_at<'a>(
                 Ok(Judged::Unknown)
             }
             ItemKind::Number => {
-                let place = sole(faults, name.token, subscripts);
+                let place = sole(faults, name.token, count, subscripts);
                 let field = field_at(scope, faults, 44, name.token, item, owner);
                 let found = number_item_at(alloc, name, field, place)?;
                 Ok(Judged::Number(found))
             }
             ItemKind::Text => {
-                let place = sole(faults, name.token, subscripts);
+                let place = sole(faults, name.token, count, subscripts);
                 let field = field_at(scope, faults, 44, name.token, item, owner);
                 let found = text_item_at(alloc, name, field, place)?;
                 Ok(Judged::Words(found))

@@ -1,7 +1,7 @@
 //! A law of the definitions, the contract of a function that does nothing.
 
 ghost use Rattle.std.specs.Prelude.{◌≡◌, Bool, Some};
-ghost use Rattle.cse_syntax.specs.Tree.{Expr};
+ghost use Rattle.cse_syntax_tree.specs.Tree.{Expr};
 ghost use Rattle.cse_logic_tree.specs.Typed.{Number, Words};
 ghost use Rattle.cse_logic_tree.specs.Erase.{erase, erase_words};
 ghost use Rattle.cse_logic_names.specs.Scope.{Scope};

@@ -11,7 +11,7 @@ ghost use Rattle.cse_logic_names.specs.Walk.{is_there, joined, IsNoted};
 use crate::judged::Judged;
 use cse_logic_names::faults::Faults;
 use cse_logic_tree::{Number, Operation, Words};
-use cse_syntax::Relation;
+use cse_syntax_tree::Relation;
 use std::alloc::{AllocError, Global};
 
 /// The negative of a number, where it is sound.

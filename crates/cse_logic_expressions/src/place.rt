@@ -50,7 +50,7 @@ fn which_at<'a>(
     if count == 0 {
         here(faults, token, found)
     } else {
-        at(sole(faults, token, subscripts))
+        at(sole(faults, token, count, subscripts))
     }
 }
 

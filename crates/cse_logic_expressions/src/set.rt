@@ -2,7 +2,7 @@
 
 ghost use Rattle.std.specs.Prelude.{◌≡◌, ◌<◌, ◌≤◌, length, IfSome, map, nat_eq, position, slice_get, Some, None, IfOk, OnOk};
 ghost use Rattle.std.specs.Option.{option_map};
-ghost use Rattle.cse_syntax.specs.Tree.{written};
+ghost use Rattle.cse_syntax_tree.specs.Tree.{written};
 ghost use Rattle.cse_logic_tree.specs.Typed as typed;
 ghost use Rattle.cse_logic_tree.specs.Typed.{number, dimension};
 ghost use Rattle.cse_logic_names.specs.Scope.{meant};
@@ -10,13 +10,13 @@ ghost use Rattle.cse_logic_names.specs.WellTyped as well;
 ghost use Rattle.cse_logic_expressions.specs.Judge as spec;
 ghost use Rattle.cse_logic_names.specs.Walk.{is_there, joined, IsNoted, IsNotedAfter};
 
-use crate::item::number_present;
+use crate::item::{needs_case, number_present};
 use cse_dict::Dictionary;
 use cse_logic_names::faults::Faults;
 use cse_logic_names::meaning::Meaning;
 use cse_logic_names::scope::{Scope, has_case, kind_and_owner};
 use cse_logic_tree::{Dimension, Number, Pick, Present};
-use cse_syntax::{Lexeme, Query};
+use cse_syntax_tree::{Lexeme, Query};
 use cse_value::shape::{ItemKind, SetShape};
 use std::alloc::{AllocError, Global};
 
@@ -195,7 +195,7 @@ pub fn member<'a>(
     }
 }
 
-/// The record that a name means, where there is a case; else the fault: 40 at the name, or 49 at this token.
+/// The record that a name means, where there is a case; else the fault: 40 at the name, 49 at this token where there is none.
 pub fn record_of(
     scope: &Scope<'_>,
     faults: &mut Faults,
@@ -216,6 +216,7 @@ pub fn record_of(
         }
         _ => {
             faults.note(40, name.token);
+            needs_case(scope, faults, token);
             None
         }
     }

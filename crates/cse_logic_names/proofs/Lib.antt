@@ -1,4 +1,5 @@
 mod MessageLaws
+mod PlainTexts
 mod OrderLaws
 pub mod NameLaws
 pub mod Walks

@@ -1,5 +1,6 @@
 pub mod Fault
 pub mod MessageFile
+pub mod Texts
 pub mod OrderFile
 pub mod Scope
 pub mod Uses

@@ -18,13 +18,13 @@ use Rattle.cse_image_parts.specs.declared.placeholders.ArgumentKind.TheVariants 
 use Rattle.cse_image_parts.specs.Placeholders.{message_kinds}
 use Rattle.cse_dict.specs.Dictionary.{DictionaryText, SetText as ValueSet}
 use Rattle.cse_dict.specs.Keys.{kept_name}
-use Rattle.cse_syntax.specs.declared.tree.Operator.{Operator}
-use Rattle.cse_syntax.specs.declared.tree.Operator.TheVariants as op
-use Rattle.cse_syntax.specs.declared.tree.Jump.{Jump}
-use Rattle.cse_syntax.specs.declared.tree.Jump.TheVariants as j
-use Rattle.cse_syntax.specs.Leaf.{number_of, text_of, is_within, MOST}
-use Rattle.cse_syntax.specs.Tree as syntax
-use Rattle.cse_syntax.specs.Tree.{Spelling}
+use Rattle.cse_syntax_tree.specs.declared.tree.Operator.{Operator}
+use Rattle.cse_syntax_tree.specs.declared.tree.Operator.TheVariants as op
+use Rattle.cse_syntax_tree.specs.declared.tree.Jump.{Jump}
+use Rattle.cse_syntax_tree.specs.declared.tree.Jump.TheVariants as j
+use Rattle.cse_syntax_tree.specs.Leaf.{number_of, text_of, is_within, MOST}
+use Rattle.cse_syntax_tree.specs.Tree as syntax
+use Rattle.cse_syntax_tree.specs.Tree.{Spelling}
 use Rattle.cse_logic_tree.specs.declared.tree.Variable.{Variable}
 use Rattle.cse_logic_tree.specs.declared.tree.Field.{Field}
 use Rattle.cse_logic_tree.specs.declared.tree.Present.{Present}

@@ -5,6 +5,7 @@ ghost use Rattle.std.specs.Prelude.{◌≡◌, ◌<◌, ◌≤◌, List, nat_eq,
 ghost use Rattle.std.specs.Option.{option_map};
 ghost use Rattle.std.specs.String.{string_bytes};
 ghost use Rattle.cse_sections.specs.Sections.{lines_of};
+ghost use Rattle.cse_logic_names.specs.Texts.{AreTexts};
 ghost use Rattle.cse_logic_names.specs.MessageFile.{MessageText, ReadsMessages, Takes, digit_count, file_lines, has_form, is_skipped, line_of, text_in, with_message};
 
 use crate::error::{Stop, TypeError, error_at};
@@ -85,25 +86,19 @@ fn line_of(line: &[u8]) -> Result<Option<MessageLine<'_>>, u8>
     }
 }
 
-/// The messages of a message file, in order, each number once.
-pub struct Messages {
+/// The messages that were read so far, in order, each number once.
+#[derive(Drop)]
+struct Found {
     table: IndexMap<u32, String>,
 }
 
-// Written out, so that a crate that owns messages calls this drop and does not prove one for each part.
-impl Drop for Messages {
-    fn drop(self) {
-        let Messages { table: _table } = self;
-    }
-}
-
-impl Model for Messages {
+impl Model for Found {
     ghost Value = { List MessageText };
 
-    ghost view = { λ m. map (λ e. record { number = e.0; text = string_bytes e.1 }) m.table.entries };
+    ghost view = { λ f. map (λ e. record { number = e.0; text = string_bytes e.1 }) f.table.entries };
 }
 
-impl Messages {
+impl Found {
     /// One message more; of a number that comes twice the first counts.
     fn add(&mut self, alloc: Global, message: MessageLine<'_>) -> Result<(), AllocError>
         ensures { OnOk result (self.new ≡ with_message self.old message.entry) }
@@ -132,10 +127,10 @@ impl Messages {
 
     /// The messages of the lines of a text.
     #[tactic(auto, unfolding(cse_sections::specs::Sections::lines_of))]
-    fn read_lines(alloc: Global, text: &[u8]) -> Result<Messages, TypeError>
+    fn read_lines(alloc: Global, text: &[u8]) -> Result<Found, TypeError>
         ensures { ReadsMessages result (lines_of text.now) }
     {
-        let mut messages = Messages {
+        let mut found = Found {
             table: IndexMap::new(alloc),
         };
         let mut rest = text;
@@ -143,15 +138,37 @@ impl Messages {
         'lines: while !rest.is_empty() {
             let (line, more) = first_line(rest);
             number += 1;
-            match messages.take_line(alloc, line) {
+            match found.take_line(alloc, line) {
                 Ok(()) => {}
                 Err(stop) => return Err(error_at(stop, number)),
             }
             rest = more;
         }
-        Ok(messages)
+        Ok(found)
     }
+}
 
+/// The messages of a message file, in order, each number once.
+pub struct Messages {
+    table: IndexMap<u32, String>,
+}
+
+// Written out, so that a crate that owns messages calls this drop and does not prove one for each part.
+impl Drop for Messages {
+    fn drop(self) {
+        let Messages { table: _table } = self;
+    }
+}
+
+impl Model for Messages {
+    ghost Value = { List MessageText };
+
+    ghost view = { λ m. map (λ e. record { number = e.0; text = string_bytes e.1 }) m.table.entries };
+
+    ghost invariant = { λ m. AreTexts (map (λ e. record { number = e.0; text = string_bytes e.1 }) m.table.entries) };
+}
+
+impl Messages {
     /// The messages of a file: UTF-8, a byte order mark at its front aside; lines `number text` with a number
     /// from 1 to 999,999,999, blanks, and a text of at most 255 characters, none below U+0020; empty lines;
     /// and comments, which begin with `{` or `//`. Else the first line that is none of these (30), or whose
@@ -159,12 +176,25 @@ impl Messages {
     pub fn read(alloc: Global, text: &[u8]) -> Result<Messages, TypeError>
         ensures { ReadsMessages result (file_lines text.now) }
     {
-        Messages::read_lines(alloc, after_mark(text))
+        match Found::read_lines(alloc, after_mark(text)) {
+            Ok(found) => Ok(Messages::kept(found)),
+            Err(error) => Err(error),
+        }
     }
 
-    /// How many there are.
+    /// Those that were read of lines that have the form of a message.
+    fn kept(found: Found) -> Messages
+        requires { AreTexts found }
+        ensures { result ≡ found }
+    {
+        let Found { table } = found;
+        Messages { table }
+    }
+
+    /// How many there are. Whoever has messages has texts without a character below U+0020.
     pub fn count(&self) -> usize
-        ensures { result ≡ length self.now }
+        ensures count { result ≡ length self.now }
+        ensures texts { AreTexts self.now }
     {
         self.table.len()
     }

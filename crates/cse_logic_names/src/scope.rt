@@ -4,7 +4,7 @@ ghost use Rattle.std.specs.Prelude.{◌≡◌, ◌<◌, ℕ, List, map, length, 
 ghost use Rattle.std.specs.Option.{option_map, option_map_or, option_and_then};
 ghost use Rattle.std.specs.Str.{bytes_eq};
 ghost use Rattle.cse_dict.specs.Keys.{kept_name};
-ghost use Rattle.cse_syntax.specs.Tree.{written};
+ghost use Rattle.cse_syntax_tree.specs.Tree.{written};
 ghost use Rattle.cse_logic_tree.specs.Typed.{dimension};
 ghost use Rattle.cse_logic_tree.specs.declared.tree.Variable.{Variable};
 ghost use Rattle.cse_logic_names.specs.Scope as spec;
@@ -16,9 +16,9 @@ use crate::messages::Messages;
 use crate::names::{Globals, Names, Parameters};
 use cse_dict::Dictionary;
 use cse_logic_tree::{Dimension, Found, Owner, Variable};
-use cse_syntax::Lexeme;
+use cse_syntax_tree::Lexeme;
 use cse_value::shape::ItemKind;
-use std::alloc::AllocError;
+use std::alloc::{AllocError, Global};
 use std::marker::Model;
 
 /// What is known of a function that has ended.
@@ -38,6 +38,26 @@ impl Model for Facts {
     ghost view = { λ f. record { parameters = f.parameters; needs_case = f.needs_case; assigned = f.assigned } };
 }
 
+/// How many parameters each function is declared with, and how many dimensions each array, sound or not. They tell no
+/// more than which fault is the least.
+#[derive(Drop)]
+pub struct Counts {
+    /// Of each function.
+    pub parameters: Vec<usize>,
+    /// Of each array.
+    pub dimensions: Vec<usize>,
+}
+
+impl Counts {
+    /// No function and no array.
+    pub fn new(alloc: Global) -> Counts {
+        Counts {
+            parameters: Vec::new(alloc),
+            dimensions: Vec::new(alloc),
+        }
+    }
+}
+
 /// What is known at a place of logic.
 #[derive(Drop)]
 pub struct Scope<'a> {
@@ -47,6 +67,8 @@ pub struct Scope<'a> {
     pub messages: &'a Messages,
     /// The names of all declarations.
     pub declared: Names,
+    /// What the source declares of functions and arrays.
+    pub counts: Counts,
     /// The dimensions of each array, if they are sound.
     pub arrays: Vec<Option<Vec<Dimension<'a>>>>,
     /// Each function that has ended, if it is sound.

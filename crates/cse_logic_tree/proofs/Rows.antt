@@ -2,8 +2,8 @@
 -- cite these lemmas.
 use Rattle.std.proofs.Common.{◌≡◌, ℕ, List, map, Option, Some, None, refl, ap, sym, ◌∙◌}
 use Rattle.std.specs.Global.{Vec, Box}
-use Rattle.cse_syntax.specs.declared.tree.Lexeme.{Lexeme}
-use Rattle.cse_syntax.specs.Tree.{written}
+use Rattle.cse_syntax_tree.specs.declared.tree.Lexeme.{Lexeme}
+use Rattle.cse_syntax_tree.specs.Tree.{written}
 use Rattle.cse_logic_tree.specs.declared.tree.Variable.{Variable}
 use Rattle.cse_logic_tree.specs.declared.tree.Operation as rustop
 use Rattle.cse_logic_tree.specs.declared.tree.Number as rust

@@ -1,12 +1,12 @@
 -- The words that a tree spells are as many as its structure tells.
 use Rattle.std.proofs.Common.{◌≡◌, ℕ, ◌+◌, Bool, true, false, List, [], ◌∷◌, length, Option, Some, None, refl, arith}
-use Rattle.cse_syntax.specs.Word.{Word, Name, Digits, Sign, Spelling}
-use Rattle.cse_syntax.specs.declared.token.Mark.{Mark}
-use Rattle.cse_syntax.specs.declared.token.Mark.TheVariants as m
-use Rattle.cse_syntax.specs.Tree.{Expr, Exprs, Operations, Number, Text, Special', Bare, Indexed, Group, Apply, Query', InValueSet, Minus, Not, Compare, Chain, no_expr, expr_and, no_operation, operation_and}
-use Rattle.cse_syntax.specs.Tree.{Literal, Limit, Fixed, Counted, Counting, Message, Own, Numbered, Stmt, Empty, Assign, Call, If, For, Do, Jump', Impute, PutDeck, ErrMsg, Stmts, no_stmt, stmt_and, Arms, no_arm, else_of, arm}
-use Rattle.cse_syntax.specs.Tree.{Dimension, Sized, Rows, Parameter, Array, Declaration, Numeric, Alpha, Array', Function', Body, Plain, Preproc, Both, Postproc, Procedure, Tree}
-use Rattle.cse_syntax.specs.Grammar.{Spells, relation_sign, spell_each, spell_list, spell_all, spell_mark, spell_name, spell_set, spell_expr, spell_exprs, spell_others, spell_operations, spell_subscripts, spell_literal, spell_limit, spell_by, spell_counting, spell_message, spell_stmt, spell_stmts, spell_arms, spell_dimension, spell_parameter, spell_cells, spell_array, spell_declaration, spell_body, spell_procedure, spell_globals, spell_tree}
+use Rattle.cse_syntax_tree.specs.Word.{Word, Name, Digits, Sign, Spelling}
+use Rattle.cse_syntax_tree.specs.declared.token.Mark.{Mark}
+use Rattle.cse_syntax_tree.specs.declared.token.Mark.TheVariants as m
+use Rattle.cse_syntax_tree.specs.Tree.{Expr, Exprs, Operations, Number, Text, Special', Bare, Indexed, Group, Apply, Query', InValueSet, Minus, Not, Compare, Chain, no_expr, expr_and, no_operation, operation_and}
+use Rattle.cse_syntax_tree.specs.Tree.{Literal, Limit, Fixed, Counted, Counting, Message, Own, Numbered, Stmt, Empty, Assign, Call, If, For, Do, Jump', Impute, PutDeck, ErrMsg, Stmts, no_stmt, stmt_and, Arms, no_arm, else_of, arm}
+use Rattle.cse_syntax_tree.specs.Tree.{Dimension, Sized, Rows, Parameter, Array, Declaration, Numeric, Alpha, Array', Function', Body, Plain, Preproc, Both, Postproc, Procedure, Tree}
+use Rattle.cse_syntax_tree.specs.Grammar.{Spells, relation_sign, spell_each, spell_list, spell_all, spell_mark, spell_name, spell_set, spell_expr, spell_exprs, spell_others, spell_operations, spell_subscripts, spell_literal, spell_limit, spell_by, spell_counting, spell_message, spell_stmt, spell_stmts, spell_arms, spell_dimension, spell_parameter, spell_cells, spell_array, spell_declaration, spell_body, spell_procedure, spell_globals, spell_tree}
 use Rattle.cse_logic_tree.specs.Tokens.{mark_tokens, each_tokens, list_tokens, all_tokens, one_token, two_tokens, expr_tokens, exprs_tokens, others_tokens, operations_tokens, subscripts_tokens, literal_tokens, limit_tokens, counting_tokens, stmt_tokens, stmts_tokens, arms_tokens, dimension_tokens, parameter_tokens, cells_tokens, array_tokens, declaration_tokens, body_tokens, procedure_tokens, globals_tokens, tree_tokens}
 
 mark_counts : (m : Mark) (b : Bool) (rest : List Word) → length (spell_mark m b rest) ≡ mark_tokens b + length rest

@@ -1,10 +1,10 @@
 -- How many tokens a tree is written in, by its structure.
 use Rattle.std.specs.Prelude.{◌≡◌, ℕ, ◌+◌, Bool, true, false, List, [], ◌∷◌, length, Option, Some, None}
-use Rattle.cse_syntax.specs.Word.{Spelling}
-use Rattle.cse_syntax.specs.Tree.{Expr, Exprs, Operations, Number, Text, Special', Bare, Indexed, Group, Apply, Query', InValueSet, Minus, Not, Compare, Chain, no_expr, expr_and, no_operation, operation_and}
-use Rattle.cse_syntax.specs.Tree.{Literal, Limit, Fixed, Counted, Counting, Message, Stmt, Empty, Assign, Call, If, For, Do, Jump', Impute, PutDeck, ErrMsg, Stmts, no_stmt, stmt_and, Arms, no_arm, else_of, arm}
-use Rattle.cse_syntax.specs.Tree.{Dimension, Sized, Rows, Parameter, Array, Declaration, Numeric, Alpha, Array', Function', Body, Plain, Preproc, Both, Postproc, Procedure, Tree}
-use Rattle.cse_syntax.specs.Grammar.{spell_tree}
+use Rattle.cse_syntax_tree.specs.Word.{Spelling}
+use Rattle.cse_syntax_tree.specs.Tree.{Expr, Exprs, Operations, Number, Text, Special', Bare, Indexed, Group, Apply, Query', InValueSet, Minus, Not, Compare, Chain, no_expr, expr_and, no_operation, operation_and}
+use Rattle.cse_syntax_tree.specs.Tree.{Literal, Limit, Fixed, Counted, Counting, Message, Stmt, Empty, Assign, Call, If, For, Do, Jump', Impute, PutDeck, ErrMsg, Stmts, no_stmt, stmt_and, Arms, no_arm, else_of, arm}
+use Rattle.cse_syntax_tree.specs.Tree.{Dimension, Sized, Rows, Parameter, Array, Declaration, Numeric, Alpha, Array', Function', Body, Plain, Preproc, Both, Postproc, Procedure, Tree}
+use Rattle.cse_syntax_tree.specs.Grammar.{spell_tree}
 
 -- ---- lists
 

@@ -1,12 +1,12 @@
 //! Nodes that hold others in a `Vec`. Each is made in a function of its own, whose clause is its view.
 
 ghost use Rattle.std.specs.Prelude.{◌≡◌, map};
-ghost use Rattle.cse_syntax.specs.Tree.{written};
+ghost use Rattle.cse_syntax_tree.specs.Tree.{written};
 ghost use Rattle.cse_logic_tree.specs.Typed as spec;
 ghost use Rattle.cse_logic_tree.specs.Typed.{number, numbers, operations, operation_tree, statement, counting, block, arms, arm_tree, otherwise_tree};
 
 use crate::tree::{Arm, Counting, Number, Operation, Statement, Variable};
-use cse_syntax::Lexeme;
+use cse_syntax_tree::Lexeme;
 
 impl<'a> Number<'a> {
     /// A cell of an array.

@@ -4,7 +4,9 @@
 //! the source with their tokens, as in the trees of syntax. Globals, arrays, functions and messages are numbered from
 //! 0 in order of the source; items, records and value sets as in the dictionary.
 
-use cse_syntax::{Count, Jump, Lexeme, Literal, Message, Operator, Parameter, Relation, Special};
+use cse_syntax_tree::{
+    Count, Jump, Lexeme, Literal, Message, Operator, Parameter, Relation, Special,
+};
 
 // ---- what names mean
 

@@ -13,12 +13,12 @@ use Rattle.cse_image_parts.specs.Image.{Lists}
 use Rattle.cse_decks.specs.declared.global.GlobalValue.{GlobalValue}
 use Rattle.cse_code_typing.specs.Code.{code_of}
 use Rattle.cse_verify.specs.Verified.{VerifiedProgram}
-use Rattle.cse_syntax.specs.declared.tree.Operator.{Operator}
-use Rattle.cse_syntax.specs.declared.tree.Operator.TheVariants as operators
-use Rattle.cse_syntax.specs.declared.tree.Relation.{Relation}
-use Rattle.cse_syntax.specs.declared.tree.Relation.TheVariants as relations
-use Rattle.cse_syntax.specs.declared.tree.Special.{Special}
-use Rattle.cse_syntax.specs.declared.tree.Special.TheVariants as specials
+use Rattle.cse_syntax_tree.specs.declared.tree.Operator.{Operator}
+use Rattle.cse_syntax_tree.specs.declared.tree.Operator.TheVariants as operators
+use Rattle.cse_syntax_tree.specs.declared.tree.Relation.{Relation}
+use Rattle.cse_syntax_tree.specs.declared.tree.Relation.TheVariants as relations
+use Rattle.cse_syntax_tree.specs.declared.tree.Special.{Special}
+use Rattle.cse_syntax_tree.specs.declared.tree.Special.TheVariants as specials
 use Rattle.cse_compile_code.specs.Wide as wide
 use Rattle.cse_compile_code.specs.Wide.{Wide, bare, with_a, with_c}
 use Rattle.cse_compile_code.specs.Numbers.{special_number, relation_number, operation_of}

@@ -121,20 +121,22 @@ module _ (compose : RunsCompose) (s : Spot) (there : IsThere s) (w : World) (t :
 
   -- ---- a number as an occurrence, and what stands in its place where it is none
 
-  module _ (of : ℕ) (taken none : Wide) (value : ℕ → Cell) (other : Cell) (takes : Takes s w t of taken value) (leaves : Leaves s w none other) where
+  module _ (of : ℕ) (there_is : is_record (shape_of s.program.dictionary) of ≡ true) (taken none : Wide) (value : ℕ → Cell) (other : Cell) (takes : Takes s w t of taken value) (leaves : Leaves s w none other) where
     guarded_by : (p : ℕ) (n : Num) (o : Option ℕ) (cells : List Cell) → whole_within (length (places_of t of)) n ≡ o → HasCode s p (guarded taken none of p) → Goes s.program (at s p (Number n ∷ cells) w) (at s (p + 4) (option_map_or value o other ∷ cells) w)
     unfolding acts
     guarded_by p n None cells e has =
         let g = plain_at compose s there p ops.Occurrence of 0 (p + 3) (Number n ∷ cells) w _ (has.0, tt)
-        (ap (λ a. left s.below (option_and_then (λ (t : CaseText). or_to (call_at p (Number n ∷ cells)) w (p + 3) cells (option_map (λ o. Occurrence o of) (whole_within (length (places_of t of)) n))) a)) is
-        ∙ ap (λ a. left s.below (or_to (call_at p (Number n ∷ cells)) w (p + 3) cells (option_map (λ o. Occurrence o of) a))) e) in
+        (ap (λ a. left s.below (option_and_then (λ (t : CaseText). if is_record (shape_of s.program.dictionary) of then or_to (call_at p (Number n ∷ cells)) w (p + 3) cells (option_map (λ o. Occurrence o of) (whole_within (length (places_of t of)) n)) else None) a)) is
+        ∙ (ap (λ b. left s.below (if b then or_to (call_at p (Number n ∷ cells)) w (p + 3) cells (option_map (λ o. Occurrence o of) (whole_within (length (places_of t of)) n)) else None)) there_is
+        ∙ ap (λ a. left s.below (or_to (call_at p (Number n ∷ cells)) w (p + 3) cells (option_map (λ o. Occurrence o of) a))) e)) in
         let q : p + 1 + 1 + 1 ≡ p + 3 = omega arith in
         let z : p + 3 + 1 ≡ p + 4 = omega arith in
         named compose s there _ _ _ _ _ z (then_goes compose s there _ _ _ g (leaves (p + 3) cells (subst (λ p. HasCode s p (none ∷ [])) q has.1.1.1)))
     guarded_by p n (Some i) cells e has =
         let g = plain_at compose s there p ops.Occurrence of 0 (p + 3) (Number n ∷ cells) w _ (has.0, tt)
-        (ap (λ a. left s.below (option_and_then (λ (t : CaseText). or_to (call_at p (Number n ∷ cells)) w (p + 3) cells (option_map (λ o. Occurrence o of) (whole_within (length (places_of t of)) n))) a)) is
-        ∙ ap (λ a. left s.below (or_to (call_at p (Number n ∷ cells)) w (p + 3) cells (option_map (λ o. Occurrence o of) a))) e) in
+        (ap (λ a. left s.below (option_and_then (λ (t : CaseText). if is_record (shape_of s.program.dictionary) of then or_to (call_at p (Number n ∷ cells)) w (p + 3) cells (option_map (λ o. Occurrence o of) (whole_within (length (places_of t of)) n)) else None) a)) is
+        ∙ (ap (λ b. left s.below (if b then or_to (call_at p (Number n ∷ cells)) w (p + 3) cells (option_map (λ o. Occurrence o of) (whole_within (length (places_of t of)) n)) else None)) there_is
+        ∙ ap (λ a. left s.below (or_to (call_at p (Number n ∷ cells)) w (p + 3) cells (option_map (λ o. Occurrence o of) a))) e)) in
         let k = takes (p + 1) i cells (is_within_from (length (places_of t of)) n i e) (has.1.0, tt) in
         let j = plain_at compose s there (p + 1 + 1) ops.Jump 0 0 (p + 4) (value i ∷ cells) w _ (has.1.1.0, tt) refl in
         then_goes compose s there _ _ _ g (then_goes compose s there _ _ _ k j)

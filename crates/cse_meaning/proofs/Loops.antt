@@ -29,7 +29,7 @@ use Rattle.cse_steps.specs.Fits.{FitsWorld, occurrences_in}
 use Rattle.cse_steps.specs.Laws.{RunsCompose}
 use Rattle.cse_meaning.specs.Setting.{Context, Locals, Functions, within}
 use Rattle.cse_meaning.specs.Reading.{many, variable}
-use Rattle.cse_syntax.specs.declared.tree.Count.TheVariants as counts
+use Rattle.cse_syntax_tree.specs.declared.tree.Count.TheVariants as counts
 use Rattle.cse_value.specs.Number.{sum_of}
 use Rattle.cse_meaning.specs.Writing.{local_set, global_set}
 use Rattle.cse_meaning.specs.Expressions.{number_of}

@@ -69,7 +69,7 @@ module _ (compose : RunsCompose) (e : Setting) (s : Spot) (c : Context) (first :
   number_present_goes (present.Here f x) p cells w fits fit has =
       let t = case_here e s c first ls laid w fits fit.0.0.0 in
       subst (λ n. Goes s.program (at s p cells w) (at s (p + present_size (present.Here f x)) (n ∷ cells) w)) (map_out Number (number_there w f) (found c w f.owner x) Undef)
-      (here_goes compose s laid.there w t.0 t.1 f.owner (with_c ops.ItemNumber f.item) undefined (λ o. Number (number_there w f o)) (Number Undef) (takes_number w t.0 t.1 f fit.0.1) (undefined_goes w) e c first ls laid fits x p cells fit.1 has)
+      (here_goes compose s laid.there w t.0 t.1 f.owner fit.0.0.1 (with_c ops.ItemNumber f.item) undefined (λ o. Number (number_there w f o)) (Number Undef) (takes_number w t.0 t.1 f fit.0.1) (undefined_goes w) e c first ls laid fits x p cells fit.1 has)
 
   pub words_present_goes : (x : Present) (p : ℕ) (cells : List Cell) (w : World) → FitsWorld s.program first w → IsTextPresent (place_in e s c) x → HasCode s p (text_of_item p x) → Goes s.program (at s p cells w) (at s (p + present_size x) (Words (words_here c w x) ∷ cells) w)
   words_present_goes (present.Id item) p cells w fits fit has =
@@ -79,20 +79,20 @@ module _ (compose : RunsCompose) (e : Setting) (s : Spot) (c : Context) (first :
   words_present_goes (present.Here f x) p cells w fits fit has =
       let t = case_here e s c first ls laid w fits fit.0.0.0 in
       subst (λ n. Goes s.program (at s p cells w) (at s (p + present_size (present.Here f x)) (n ∷ cells) w)) (map_out Words (words_in w f) (found c w f.owner x) [])
-      (here_goes compose s laid.there w t.0 t.1 f.owner (with_c ops.ItemText f.item) (wide.Chars []) (λ o. Words (words_in w f o)) (Words []) (takes_words w t.0 t.1 f fit.0.1) (blank_goes w) e c first ls laid fits x p cells fit.1 has)
+      (here_goes compose s laid.there w t.0 t.1 f.owner fit.0.0.1 (with_c ops.ItemText f.item) (wide.Chars []) (λ o. Words (words_in w f o)) (Words []) (takes_words w t.0 t.1 f fit.0.1) (blank_goes w) e c first ls laid fits x p cells fit.1 has)
 
   -- an item at an occurrence that a number tells
   pub number_at_goes : (f : Field) (n : Num) (p : ℕ) (cells : List Cell) (w : World) → FitsWorld s.program first w → IsNumberField (place_in e s c) f → HasCode s p (guarded (with_c ops.ItemNumber f.item) undefined f.owner p) → Goes s.program (at s p (Number n ∷ cells) w) (at s (p + 4) (Number (reading.number_at w f (number_of_one (many w f.owner) n)) ∷ cells) w)
   number_at_goes f n p cells w fits fit has =
       let t = case_here e s c first ls laid w fits fit.0.0 in
       subst (λ x. Goes s.program (at s p (Number n ∷ cells) w) (at s (p + 4) (x ∷ cells) w)) (map_out Number (number_there w f) (number_of_one (many w f.owner) n) Undef)
-      (guarded_goes compose s laid.there w t.0 t.1 f.owner (with_c ops.ItemNumber f.item) undefined (λ o. Number (number_there w f o)) (Number Undef) (takes_number w t.0 t.1 f fit.1) (undefined_goes w) p n cells has)
+      (guarded_goes compose s laid.there w t.0 t.1 f.owner fit.0.1 (with_c ops.ItemNumber f.item) undefined (λ o. Number (number_there w f o)) (Number Undef) (takes_number w t.0 t.1 f fit.1) (undefined_goes w) p n cells has)
 
   pub words_at_goes : (f : Field) (n : Num) (p : ℕ) (cells : List Cell) (w : World) → FitsWorld s.program first w → IsTextField (place_in e s c) f → HasCode s p (guarded (with_c ops.ItemText f.item) (wide.Chars []) f.owner p) → Goes s.program (at s p (Number n ∷ cells) w) (at s (p + 4) (Words (reading.words_at w f (number_of_one (many w f.owner) n)) ∷ cells) w)
   words_at_goes f n p cells w fits fit has =
       let t = case_here e s c first ls laid w fits fit.0.0 in
       subst (λ x. Goes s.program (at s p (Number n ∷ cells) w) (at s (p + 4) (x ∷ cells) w)) (map_out Words (words_in w f) (number_of_one (many w f.owner) n) [])
-      (guarded_goes compose s laid.there w t.0 t.1 f.owner (with_c ops.ItemText f.item) (wide.Chars []) (λ o. Words (words_in w f o)) (Words []) (takes_words w t.0 t.1 f fit.1) (blank_goes w) p n cells has)
+      (guarded_goes compose s laid.there w t.0 t.1 f.owner fit.0.1 (with_c ops.ItemText f.item) (wide.Chars []) (λ o. Words (words_in w f o)) (Words []) (takes_words w t.0 t.1 f fit.1) (blank_goes w) p n cells has)
 
   -- ---- records and value sets
 
@@ -108,7 +108,7 @@ module _ (compose : RunsCompose) (e : Setting) (s : Spot) (c : Context) (first :
   occurrence_here of x p cells w fits fit is has =
       let t = case_here e s c first ls laid w fits fit.0 in
       subst (λ n. Goes s.program (at s p cells w) (at s (p + here_size x) (n ∷ cells) w)) (map_out Number (λ o. Whole (pos o)) (found c w of x) Undef)
-      (here_goes compose s laid.there w t.0 t.1 of (with_a ops.OccurrenceNumber of) undefined (λ o. Number (Whole (pos o))) (Number Undef) (occurrence_number_goes compose s laid.there w t.0 t.1 of) (undefined_goes w) e c first ls laid fits x p cells is has)
+      (here_goes compose s laid.there w t.0 t.1 of fit.1 (with_a ops.OccurrenceNumber of) undefined (λ o. Number (Whole (pos o))) (Number Undef) (occurrence_number_goes compose s laid.there w t.0 t.1 of) (undefined_goes w) e c first ls laid fits x p cells is has)
 
   pub in_set_goes : (set n p : ℕ) (x : Num) (cells : List Cell) (w : World) → rows_of (shape_of s.program.dictionary) set ≡ Some n → HasCode s p (with_b ops.InSet set ∷ []) → Goes s.program (at s p (Number x ∷ cells) w) (at s (p + 1) (Number (one_if (is_some (row c set x))) ∷ cells) w)
   unfolding acts

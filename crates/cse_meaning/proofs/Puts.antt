@@ -12,7 +12,7 @@ use Rattle.cse_dict.specs.Sound.{IsSound}
 use Rattle.cse_case.specs.Case.{CaseText, places_of, with_number, with_text}
 use Rattle.cse_code_typing.specs.Code.{code_of}
 use Rattle.cse_verify.specs.Verified.{VerifiedProgram}
-use Rattle.cse_code_typing.specs.Signature.{number_item, text_item}
+use Rattle.cse_code_typing.specs.Signature.{number_item, text_item, is_record}
 use Rattle.cse_logic_tree.specs.declared.tree.Field.{Field}
 use Rattle.cse_logic_tree.specs.declared.tree.Found.TheVariants as h
 use Rattle.cse_logic_tree.specs.Typed.{Which, Here, At}
@@ -56,25 +56,27 @@ module _ (compose : RunsCompose) (e : Setting) (s : Spot) (fn : Functions) (c : 
   -- ---- an occurrence
 
   -- the number on top as an occurrence
-  occurs_by : (of fail p : ℕ) (n : Num) (w : World) (t : CaseText) → w.case ≡ Some t → (o : Option ℕ) → number_of_one (many w of) n ≡ o → HasCode s p (occurrence of fail ∷ [])
+  occurs_by : (of fail p : ℕ) → is_record (shape_of s.program.dictionary) of ≡ true → (n : Num) (w : World) (t : CaseText) → w.case ≡ Some t → (o : Option ℕ) → number_of_one (many w of) n ≡ o → HasCode s p (occurrence of fail ∷ [])
       → (q : ℕ) (v : World) → Goes s.program (at s q [] v) (at s p (Number n ∷ []) w) → FoundBy s of fail q (p + 1) v o w
   unfolding acts
-  occurs_by of fail p n w t is None e has q v g =
+  occurs_by of fail p there_is n w t is None e has q v g =
       let k : Call = record { routine = s.number; place = p; locals = s.locals; cells = Number n ∷ []; opens = s.opens } in
       let none = sym (ap (λ m. number_of_one m n) (many_of w t of is) ∙ same_within (length (places_of t of)) n) ∙ e in
       then_goes compose s laid.there _ _ _ g
       (plain_at compose s laid.there p ops.Occurrence of 0 fail (Number n ∷ []) w _ has
-      (ap (λ a. left s.below (option_and_then (λ (t : CaseText). or_to k w fail [] (option_map (λ o. Occurrence o of) (whole_within (length (places_of t of)) n))) a)) is
-      ∙ ap (λ a. left s.below (or_to k w fail [] (option_map (λ o. Occurrence o of) a))) none))
-  occurs_by of fail p n w t is (Some o) e has q v g =
+      (ap (λ a. left s.below (option_and_then (λ (t : CaseText). if is_record (shape_of s.program.dictionary) of then or_to k w fail [] (option_map (λ o. Occurrence o of) (whole_within (length (places_of t of)) n)) else None) a)) is
+      ∙ (ap (λ b. left s.below (if b then or_to k w fail [] (option_map (λ o. Occurrence o of) (whole_within (length (places_of t of)) n)) else None)) there_is
+      ∙ ap (λ a. left s.below (or_to k w fail [] (option_map (λ o. Occurrence o of) a))) none)))
+  occurs_by of fail p there_is n w t is (Some o) e has q v g =
       let k : Call = record { routine = s.number; place = p; locals = s.locals; cells = Number n ∷ []; opens = s.opens } in
       let some = sym (ap (λ m. number_of_one m n) (many_of w t of is) ∙ same_within (length (places_of t of)) n) ∙ e in
       let within = subst (λ m. is_within m o ≡ true) (sym (many_of w t of is)) (is_within_from (length (places_of t of)) n o some) in (
         within,
         then_goes compose s laid.there _ _ _ g
             (plain_at compose s laid.there p ops.Occurrence of 0 fail (Number n ∷ []) w _ has
-            (ap (λ a. left s.below (option_and_then (λ (t : CaseText). or_to k w fail [] (option_map (λ o. Occurrence o of) (whole_within (length (places_of t of)) n))) a)) is
-            ∙ ap (λ a. left s.below (or_to k w fail [] (option_map (λ o. Occurrence o of) a))) some)),
+            (ap (λ a. left s.below (option_and_then (λ (t : CaseText). if is_record (shape_of s.program.dictionary) of then or_to k w fail [] (option_map (λ o. Occurrence o of) (whole_within (length (places_of t of)) n)) else None) a)) is
+            ∙ (ap (λ b. left s.below (if b then or_to k w fail [] (option_map (λ o. Occurrence o of) (whole_within (length (places_of t of)) n)) else None)) there_is
+            ∙ ap (λ a. left s.below (or_to k w fail [] (option_map (λ o. Occurrence o of) a))) some))),
       )
 
   -- an occurrence that is there is found
@@ -99,7 +101,7 @@ module _ (compose : RunsCompose) (e : Setting) (s : Spot) (fn : Functions) (c : 
       let t = case_here e s c first ls laid w fits rec.0 in
       let g = constant_goes compose s laid.there p (pos 1) [] w (has.0, tt) in
       let z : p + 1 + 1 ≡ p + 2 = omega arith in
-      record { goes = subst (λ q. FoundBy s of fail p q w (one_of (many w of) 1) w) z (occurs_by of fail (p + 1) (Whole (pos 1)) w t.0 t.1 (one_of (many w of) 1) refl has.1 p w g); fits = fits }
+      record { goes = subst (λ q. FoundBy s of fail p q w (one_of (many w of) 1) w) z (occurs_by of fail (p + 1) rec.1 (Whole (pos 1)) w t.0 t.1 (one_of (many w of) 1) refl has.1 p w g); fits = fits }
   which_goes of fail p (At x) w fits rec plain fit has =
       let n = (number_of fn c x ls w).0 in
       let w1 = (number_of fn c x ls w).1 in
@@ -107,7 +109,7 @@ module _ (compose : RunsCompose) (e : Setting) (s : Spot) (fn : Functions) (c : 
       let h = stand_back s.program.image.lists (code_of s.program.image s.number) p (number_size x) (number_code e p x) _ (number_length e p x) has in
       let t = case_here e s c first ls laid w1 g.fits rec.0 in
       let z : p + number_size x + 1 ≡ p + (number_size x + 1) = omega arith in
-      record { goes = subst (λ q. FoundBy s of fail p q w (number_of_one (many w1 of) n) w1) z (occurs_by of fail (p + number_size x) n w1 t.0 t.1 (number_of_one (many w1 of) n) refl h p w g.goes); fits = g.fits }
+      record { goes = subst (λ q. FoundBy s of fail p q w (number_of_one (many w1 of) n) w1) z (occurs_by of fail (p + number_size x) rec.1 n w1 t.0 t.1 (number_of_one (many w1 of) n) refl h p w g.goes); fits = g.fits }
 
 -- ---- a value into an item
 

@@ -10,8 +10,8 @@ use Rattle.cse_dict.specs.Sound.{IsSound}
 use Rattle.cse_code_typing.specs.Code.{code_of}
 use Rattle.cse_code_typing.specs.Signature.{global_at}
 use Rattle.cse_code_typing.specs.declared.kind.Kind.TheVariants as kind
-use Rattle.cse_syntax.specs.declared.tree.Jump.{Jump}
-use Rattle.cse_syntax.specs.declared.tree.Jump.TheVariants as j
+use Rattle.cse_syntax_tree.specs.declared.tree.Jump.{Jump}
+use Rattle.cse_syntax_tree.specs.declared.tree.Jump.TheVariants as j
 use Rattle.cse_logic_tree.specs.declared.tree.Field.{Field}
 use Rattle.cse_logic_tree.specs.Typed as tree
 use Rattle.cse_logic_tree.specs.Typed.{Limit, Fixed, Counted, Counting, Which, Statement, Statements, Arms}
@@ -30,7 +30,7 @@ use Rattle.cse_steps.specs.State.{Open, Call, World, in_store, with_given}
 use Rattle.cse_image_parts.specs.Image.{ArrayLists}
 use Rattle.cse_steps.proofs.Calls.{case_for_callee}
 use Rattle.cse_decks.specs.Store.{with_global, rewritten}
-use Rattle.cse_syntax.specs.Tree.{Spelling}
+use Rattle.cse_syntax_tree.specs.Tree.{Spelling}
 use Rattle.cse_steps.specs.Operands.{is_within, popped}
 use Rattle.cse_steps.specs.Step.{acts, broken, ends_at}
 use Rattle.cse_steps.specs.Fits.{FitsWorld}

@@ -12,8 +12,8 @@ use Rattle.cse_image_parts.specs.declared.instruction.Op.TheVariants as ops
 use Rattle.cse_dict.specs.Dictionary.{DictionaryText, shape_of}
 use Rattle.cse_case.specs.Case.{CaseText, places_of}
 use Rattle.cse_case.specs.Fit.{IsFit}
-use Rattle.cse_syntax.specs.declared.tree.Count.TheVariants as counts
-use Rattle.cse_syntax.specs.declared.tree.Special.TheVariants as specials
+use Rattle.cse_syntax_tree.specs.declared.tree.Count.TheVariants as counts
+use Rattle.cse_syntax_tree.specs.declared.tree.Special.TheVariants as specials
 use Rattle.cse_logic_tree.specs.Typed.{Limit, Fixed, Counted, Counting}
 use Rattle.cse_compile_code.specs.Wide as wide
 use Rattle.cse_compile_code.specs.Wide.{bare, with_a}

@@ -4,7 +4,7 @@ use Rattle.cse_value.specs.declared.number.Num.{Num}
 use Rattle.cse_value.specs.Number.{is_condition}
 use Rattle.cse_case.specs.Case.{CaseText}
 use Rattle.cse_image_parts.specs.declared.instruction.Op.TheVariants as ops
-use Rattle.cse_syntax.specs.Tree.{Spelling}
+use Rattle.cse_syntax_tree.specs.Tree.{Spelling}
 use Rattle.cse_logic_tree.specs.declared.tree.Variable.{Variable}
 use Rattle.cse_logic_tree.specs.declared.tree.Variable.TheVariants as v
 use Rattle.cse_logic_tree.specs.Typed as tree

@@ -8,7 +8,7 @@ use Rattle.cse_value.specs.Number.{holds, is_condition, negative_of}
 use Rattle.cse_value.specs.Texts.{holds_of_order, text_order}
 use Rattle.cse_value.specs.Occurrences.{most_occurrences}
 use Rattle.cse_dict.specs.Dictionary.{shape_of}
-use Rattle.cse_syntax.specs.Leaf.{text_of}
+use Rattle.cse_syntax_tree.specs.Leaf.{text_of}
 use Rattle.std.specs.Option.{option_map_or}
 use Rattle.cse_logic_tree.specs.Typed.{Number, Words, Numbers, Operations, Constant, Special', Variable', Item, ItemAt, Cell, Call, Group, Int, IsSpecial, Deck, TotOcc, MaxOcc, CurOcc, InSet, Minus, Not, Compare, CompareTexts, Chain}
 use Rattle.cse_logic_tree.specs.Typed.{Quoted, TextGlobal, TextItem, TextItemAt, TextGroup, no_number, number_and, no_operation, operation_and}

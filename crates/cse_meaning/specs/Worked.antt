@@ -13,10 +13,10 @@ use Rattle.cse_decks.specs.Store.{Kept}
 use Rattle.cse_decks.specs.declared.global.GlobalValue.TheVariants as globals
 use Rattle.cse_report.specs.declared.argument.Arg.{Arg}
 use Rattle.cse_report.specs.declared.argument.Arg.TheVariants as args
-use Rattle.cse_syntax.specs.Tree.{Spelling, Own}
-use Rattle.cse_syntax.specs.declared.tree.Operator.TheVariants as operators
-use Rattle.cse_syntax.specs.declared.tree.Relation.TheVariants as relations
-use Rattle.cse_syntax.specs.declared.tree.Special.TheVariants as specials
+use Rattle.cse_syntax_tree.specs.Tree.{Spelling, Own}
+use Rattle.cse_syntax_tree.specs.declared.tree.Operator.TheVariants as operators
+use Rattle.cse_syntax_tree.specs.declared.tree.Relation.TheVariants as relations
+use Rattle.cse_syntax_tree.specs.declared.tree.Special.TheVariants as specials
 use Rattle.cse_logic_tree.specs.declared.tree.Variable.TheVariants as v
 use Rattle.cse_logic_tree.specs.declared.tree.Found.TheVariants as h
 use Rattle.cse_logic_tree.specs.declared.tree.Field.{Field}

@@ -1,7 +1,7 @@
 //! Lines that are gathered in a buffer and written when it is full.
 
 ghost use Rattle.std.specs.Prelude.{◌≡◌, ◌≤◌, ◌+◌, ◌++◌, [], length, false};
-ghost use Rattle.cse_output.specs.Gathering.{going, line, Puts, Finishes};
+ghost use Rattle.cse_output.specs.Gathering.{behind, line, Puts, Finishes};
 
 use arrayvec::ArrayVec;
 use cse_value::{Failed, Output, write_all};
@@ -30,7 +30,7 @@ impl Gatherer {
 
     /// Puts a line.
     pub fn put_line<W: Output>(&mut self, out: &mut W, text: &[u8])
-        ensures { Puts (going (W.contents out.old) (W.has_failed out.old) self.old.waiting.items self.old.gave_up) (going (W.contents out.new) (W.has_failed out.new) self.new.waiting.items self.new.gave_up) (line text.now) }
+        ensures { Puts (behind W.taken W.has_failed out.old self.old) (behind W.taken W.has_failed out.new self.new) (line text.now) }
     {
         self.put(out, text);
         self.put(out, b"\n");
@@ -38,7 +38,7 @@ impl Gatherer {
 
     /// Puts bytes.
     pub fn put<W: Output>(&mut self, out: &mut W, bytes: &[u8])
-        ensures { Puts (going (W.contents out.old) (W.has_failed out.old) self.old.waiting.items self.old.gave_up) (going (W.contents out.new) (W.has_failed out.new) self.new.waiting.items self.new.gave_up) bytes.now }
+        ensures { Puts (behind W.taken W.has_failed out.old self.old) (behind W.taken W.has_failed out.new self.new) bytes.now }
     {
         if bytes.is_empty() {
             return;
@@ -58,7 +58,7 @@ impl Gatherer {
     #[cold]
     fn put_first<W: Output>(&mut self, out: &mut W, bytes: &[u8])
         requires { self.old.waiting.items ≡ [] }
-        ensures { Puts (going (W.contents out.old) (W.has_failed out.old) self.old.waiting.items self.old.gave_up) (going (W.contents out.new) (W.has_failed out.new) self.new.waiting.items self.new.gave_up) bytes.now }
+        ensures { Puts (behind W.taken W.has_failed out.old self.old) (behind W.taken W.has_failed out.new self.new) bytes.now }
     {
         if self.gave_up {
             return;
@@ -73,7 +73,7 @@ impl Gatherer {
     /// Writes bytes at once, where none wait.
     fn write<W: Output>(&mut self, out: &mut W, bytes: &[u8])
         requires { self.old.waiting.items ≡ [] }
-        ensures { Puts (going (W.contents out.old) (W.has_failed out.old) self.old.waiting.items self.old.gave_up) (going (W.contents out.new) (W.has_failed out.new) self.new.waiting.items self.new.gave_up) bytes.now }
+        ensures { Puts (behind W.taken W.has_failed out.old self.old) (behind W.taken W.has_failed out.new self.new) bytes.now }
     {
         if self.gave_up {
             return;
@@ -86,7 +86,7 @@ impl Gatherer {
 
     /// Writes the bytes that wait.
     pub fn flush<W: Output>(&mut self, out: &mut W)
-        ensures puts { Puts (going (W.contents out.old) (W.has_failed out.old) self.old.waiting.items self.old.gave_up) (going (W.contents out.new) (W.has_failed out.new) self.new.waiting.items self.new.gave_up) [] }
+        ensures puts { Puts (behind W.taken W.has_failed out.old self.old) (behind W.taken W.has_failed out.new self.new) [] }
         ensures none { self.new.waiting.items ≡ [] }
     {
         if self.gave_up {
@@ -104,7 +104,7 @@ impl Gatherer {
 
     /// Writes the bytes that wait, and tells whether all that was put was written.
     pub fn finish<W: Output>(mut self, out: &mut W) -> Result<(), Failed>
-        ensures { Finishes result (going (W.contents out.old) (W.has_failed out.old) self.waiting.items self.gave_up) (W.contents out.new) (W.has_failed out.new) }
+        ensures { Finishes result (behind W.taken W.has_failed out.old self) (W.taken out.new) (W.has_failed out.new) }
     {
         self.flush(out);
         if self.gave_up {

@@ -1,12 +1,10 @@
-//! What the public calls of cse_syntax and cse_types promise, each said again of the call alone, as in cse_promise_dict: a
-//! body that the clauses here refuse is refused by the call's own.
-//!
-//! - `syntax`: a tree from a text, and what its tokens say.
-//! - `names`: the typed tree, and the files beside the logic.
+//! What `parse` of cse_syntax and `check` of cse_types promise, said again of each call alone.
+//! It is proved only while the call's own clauses say as much, so a body that is refused here is refused by the call's:
+//! the edits of `must-fail/` are such bodies, each for a check of a few lines.
 #![tactic(auto)]
 
 mod names;
 mod syntax;
 
-pub use names::{check, read_messages, read_order};
-pub use syntax::{number_of, parse, position_of, text_of};
+pub use names::check;
+pub use syntax::parse;

@@ -1,33 +1,17 @@
-//! The typed tree, and the files beside the logic.
+//! The typed tree.
 
 ghost use Rattle.std.specs.Prelude.{◌≡◌, ◌≤◌, ◌⊎◌, IfOk, IfErr};
-ghost use Rattle.cse_syntax.specs.Tree as syntax;
+ghost use Rattle.cse_syntax_tree.specs.Tree as syntax;
 ghost use Rattle.cse_logic_tree.specs.Typed as typed;
 ghost use Rattle.cse_types.specs.Answer.{IsAnswer, checked};
 ghost use Rattle.cse_logic_names.specs.Fault.{out_of_memory};
-ghost use Rattle.cse_logic_names.specs.MessageFile.{ReadsMessages, file_lines};
-ghost use Rattle.cse_logic_names.specs.OrderFile.{IsOrderOf, ReadsOrder};
+ghost use Rattle.cse_logic_names.specs.OrderFile.{IsOrderOf};
 ghost use Rattle.cse_logic_names.specs.WellTyped.{IsTypedAs};
 
 use cse_dict::Dictionary;
 use cse_syntax::Source;
 use cse_types::{Messages, Order, TypeError, Typed};
 use std::alloc::Global;
-
-/// `Messages::read`.
-pub fn read_messages(alloc: Global, text: &[u8]) -> Result<Messages, TypeError>
-    ensures { ReadsMessages result (file_lines text.now) }
-{
-    Messages::read(alloc, text)
-}
-
-/// `Order::read`.
-pub fn read_order(alloc: Global, dictionary: &Dictionary, text: &[u8]) -> Result<Order, TypeError>
-    ensures reads { ReadsOrder dictionary.now result (file_lines text.now) }
-    ensures order { IfOk result (λ o. IsOrderOf dictionary.now o) }
-{
-    Order::read(alloc, dictionary, text)
-}
 
 /// `check`.
 pub fn check<'a>(

@@ -1,12 +1,10 @@
-//! What the public calls of cse_image and cse_decks promise, each said again of the call alone, as in cse_promise_dict: a
-//! body that the clauses here refuse is refused by the call's own.
-//!
-//! - `images`: a program from its bytes or its parts, and its bytes.
-//! - `stores`: what a run keeps, where it comes from and where it goes.
+//! What `read_image` of cse_image and `load` of cse_decks promise, said again of each call alone.
+//! It is proved only while the call's own clauses say as much, so a body that is refused here is refused by the call's:
+//! the edits of `must-fail/` are such bodies, each for a check of a few lines.
 #![tactic(auto)]
 
 mod images;
 mod stores;
 
-pub use images::{from_parts, read_image, view_image, write_image};
-pub use stores::{cell, load, new, num, save, set_cell, set_num, set_text, text};
+pub use images::read_image;
+pub use stores::load;

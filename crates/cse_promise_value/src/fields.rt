@@ -1,16 +1,9 @@
-//! Numbers, read from columns and written into them.
+//! A number, written into columns.
 
 ghost use Rattle.std.specs.Prelude.{◌≡◌, length};
-ghost use Rattle.cse_value.specs.Field.{field, put};
+ghost use Rattle.cse_value.specs.Field.{put};
 
 use cse_value::Num;
-
-/// `read_num`.
-pub fn read_num(columns: &[char], code: Option<i64>) -> Num
-    ensures { result ≡ field columns.now code }
-{
-    cse_value::read_num(columns, code)
-}
 
 /// `put_num`.
 pub fn put_num(columns: &mut [char], value: Num, zero_fill: bool, code: Option<i64>)

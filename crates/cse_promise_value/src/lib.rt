@@ -1,18 +1,8 @@
-//! What public calls of cse_value promise, each said again of the call alone, as in cse_promise_dict: a body that the clauses
-//! here refuse is refused by the call's own.
-//!
-//! - `numbers`: arithmetic, relations, and the text of a number.
-//! - `fields`: numbers, read from columns and written into them.
-//! - `texts`: texts, read from columns and written into them.
-//! - `devices`: bytes that a device takes.
+//! What `put_num` of cse_value promises, said again of the call alone.
+//! It is proved only while the call's own clauses say as much, so a body that is refused here is refused by the call's:
+//! the edits of `must-fail/` are such bodies, each for a check of a few lines.
 #![tactic(auto)]
 
-mod devices;
 mod fields;
-mod numbers;
-mod texts;
 
-pub use devices::write_all;
-pub use fields::{put_num, read_num};
-pub use numbers::{compare, mul, neg, quo, rem, show_num, sub, truth};
-pub use texts::{put_text, read_text};
+pub use fields::put_num;

@@ -2,7 +2,7 @@
 
 ghost use Rattle.std.specs.Prelude.{◌≡◌, ◌<◌, [], Some, OnOk, OnErr, length, slice_get};
 ghost use Rattle.std.specs.List.{flat_map};
-ghost use Rattle.cse_output.specs.Gathering.{going, Puts};
+ghost use Rattle.cse_output.specs.Gathering.{behind, Puts};
 ghost use Rattle.cse_report.specs.Frequency.{tallied, total, value_line, item_line, item_lines};
 ghost use Rattle.cse_report.specs.Values.{num_of, key_of};
 
@@ -120,7 +120,7 @@ fn total_of(counts: &ValueCounts) -> u64
 
 /// Puts the line of a value.
 fn put_value<W: Output>(gatherer: &mut Gatherer, out: &mut W, value: Num, count: u64)
-    ensures { Puts (going (W.contents out.old) (W.has_failed out.old) gatherer.old.waiting.items gatherer.old.gave_up) (going (W.contents out.new) (W.has_failed out.new) gatherer.new.waiting.items gatherer.new.gave_up) (value_line (value, count)) }
+    ensures { Puts (behind W.taken W.has_failed out.old gatherer.old) (behind W.taken W.has_failed out.new gatherer.new) (value_line (value, count)) }
 {
     gatherer.put(out, show_num(value).as_str().as_bytes());
     gatherer.put(out, b" ");
@@ -129,7 +129,7 @@ fn put_value<W: Output>(gatherer: &mut Gatherer, out: &mut W, value: Num, count:
 
 /// Puts the lines of all values.
 fn put_values<W: Output>(gatherer: &mut Gatherer, out: &mut W, counts: &ValueCounts)
-    ensures { Puts (going (W.contents out.old) (W.has_failed out.old) gatherer.old.waiting.items gatherer.old.gave_up) (going (W.contents out.new) (W.has_failed out.new) gatherer.new.waiting.items gatherer.new.gave_up) (flat_map value_line counts.now) }
+    ensures { Puts (behind W.taken W.has_failed out.old gatherer.old) (behind W.taken W.has_failed out.new gatherer.new) (flat_map value_line counts.now) }
 {
     'values: for i in 0..counts.len() {
         let (value, count) = counts.get(i);
@@ -139,7 +139,7 @@ fn put_values<W: Output>(gatherer: &mut Gatherer, out: &mut W, counts: &ValueCou
 
 /// Puts the line before the values of an item.
 fn put_item_line<W: Output>(gatherer: &mut Gatherer, out: &mut W, name: &str, counts: &ValueCounts)
-    ensures { Puts (going (W.contents out.old) (W.has_failed out.old) gatherer.old.waiting.items gatherer.old.gave_up) (going (W.contents out.new) (W.has_failed out.new) gatherer.new.waiting.items gatherer.new.gave_up) (item_line name.now counts.now) }
+    ensures { Puts (behind W.taken W.has_failed out.old gatherer.old) (behind W.taken W.has_failed out.new gatherer.new) (item_line name.now counts.now) }
 {
     gatherer.put(out, b"ITEM ");
     gatherer.put(out, name.as_bytes());
@@ -149,7 +149,7 @@ fn put_item_line<W: Output>(gatherer: &mut Gatherer, out: &mut W, name: &str, co
 
 /// Puts the lines of an item, if a value was imputed to it.
 pub fn put_item<W: Output>(gatherer: &mut Gatherer, out: &mut W, name: &str, counts: &ValueCounts)
-    ensures { Puts (going (W.contents out.old) (W.has_failed out.old) gatherer.old.waiting.items gatherer.old.gave_up) (going (W.contents out.new) (W.has_failed out.new) gatherer.new.waiting.items gatherer.new.gave_up) (item_lines name.now counts.now) }
+    ensures { Puts (behind W.taken W.has_failed out.old gatherer.old) (behind W.taken W.has_failed out.new gatherer.new) (item_lines name.now counts.now) }
 {
     if counts.len() == 0 {
         return;

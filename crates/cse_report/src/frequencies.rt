@@ -3,7 +3,7 @@
 ghost use Rattle.std.specs.Prelude.{◌≡◌, ◌<◌, ◌≤◌, [], OnOk, OnErr, IfOk, length, map, replicate};
 ghost use Rattle.cse_value.specs.Writing.{WritesAll, FailsAtErr};
 ghost use Rattle.cse_dict.specs.Dictionary.{item_names};
-ghost use Rattle.cse_output.specs.Gathering.{going, Puts};
+ghost use Rattle.cse_output.specs.Gathering.{behind, Puts};
 ghost use Rattle.cse_report.specs.Frequency.{imputed, items_lines, frequencies_text};
 
 use crate::counts::{ValueCounts, put_item};
@@ -59,7 +59,7 @@ impl Frequencies {
     /// Writes the frequencies (own): a heading, for each item of the dictionary to which a value was imputed
     /// a line with its name and total and a line for each value, and an end. Takes no memory.
     pub fn write_to<W: Output>(&self, dictionary: &Dictionary, out: &mut W) -> Result<(), Failed>
-        ensures bytes { WritesAll result (W.contents out.old) (W.contents out.new) (frequencies_text (item_names dictionary.now) self.now) }
+        ensures bytes { WritesAll result (W.taken out.old) (W.taken out.new) (frequencies_text (item_names dictionary.now) self.now) }
         ensures failed { FailsAtErr result (W.has_failed out.old) (W.has_failed out.new) }
     {
         let mut gatherer = Gatherer::new();
@@ -77,7 +77,8 @@ fn put_items<W: Output>(
     dictionary: &Dictionary,
     items: &[ValueCounts],
 )
-    ensures { Puts (going (W.contents out.old) (W.has_failed out.old) gatherer.old.waiting.items gatherer.old.gave_up) (going (W.contents out.new) (W.has_failed out.new) gatherer.new.waiting.items gatherer.new.gave_up) (items_lines (item_names dictionary.now) items.now) }
+    ensures { Puts (behind W.taken W.has_failed out.old gatherer.old) (behind W.taken W.has_failed out.new gatherer.new)
+        (items_lines (item_names dictionary.now) items.now) }
 {
     let count = dictionary.shape().items.len().min(items.len());
     'items: for item in 0..count {

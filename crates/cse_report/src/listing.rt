@@ -5,7 +5,7 @@ ghost use Rattle.std.specs.Option.{option_copied};
 ghost use Rattle.std.specs.Bool.{Decides, OnTrue};
 ghost use Rattle.cse_value.specs.Writing.{WritesAll, FailsAtErr};
 ghost use Rattle.cse_image_parts.specs.Image.{message_lists};
-ghost use Rattle.cse_output.specs.Gathering.{going, Puts};
+ghost use Rattle.cse_output.specs.Gathering.{behind, Puts};
 ghost use Rattle.cse_report.specs.declared.argument.Arg.{Arg};
 ghost use Rattle.cse_report.specs.Counts.{one_more};
 ghost use Rattle.cse_report.specs.MessageText.{HasArguments};
@@ -270,7 +270,7 @@ impl Listing {
 
     /// Writes the lines held and drops them; after a failure they are still held. Takes no memory.
     pub fn flush_to<W: Output>(&mut self, out: &mut W) -> Result<(), Failed>
-        ensures bytes { WritesAll result (W.contents out.old) (W.contents out.new) self.old.lines }
+        ensures bytes { WritesAll result (W.taken out.old) (W.taken out.new) self.old.lines }
         ensures failed { FailsAtErr result (W.has_failed out.old) (W.has_failed out.new) }
         ensures ok { OnOk result (self.new ≡ flushed self.old) }
         ensures err { OnErr result (self.new ≡ self.old) }
@@ -284,7 +284,7 @@ impl Listing {
     /// Puts the lines held into a buffer and drops them: the buffer's end tells whether they were written.
     /// Takes no memory.
     pub fn put_to<W: Output>(&mut self, gatherer: &mut Gatherer, out: &mut W)
-        ensures puts { Puts (going (W.contents out.old) (W.has_failed out.old) gatherer.old.waiting.items gatherer.old.gave_up) (going (W.contents out.new) (W.has_failed out.new) gatherer.new.waiting.items gatherer.new.gave_up) self.old.lines }
+        ensures puts { Puts (behind W.taken W.has_failed out.old gatherer.old) (behind W.taken W.has_failed out.new gatherer.new) self.old.lines }
         ensures held { self.new ≡ flushed self.old }
     {
         gatherer.put(out, &self.lines);
@@ -301,7 +301,7 @@ impl Listing {
         unseen: u64,
         out: &mut W,
     ) -> Result<(), Failed>
-        ensures bytes { WritesAll result (W.contents out.old) (W.contents out.new) (ending self.now cases lines unseen) }
+        ensures bytes { WritesAll result (W.taken out.old) (W.taken out.new) (ending self.now cases lines unseen) }
         ensures failed { FailsAtErr result (W.has_failed out.old) (W.has_failed out.new) }
     {
         let mut gatherer = Gatherer::new();

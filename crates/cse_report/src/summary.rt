@@ -1,7 +1,7 @@
 //! The summary at the end of a listing.
 
 ghost use Rattle.std.specs.Prelude.{◌≡◌, length, map};
-ghost use Rattle.cse_output.specs.Gathering.{going, Puts};
+ghost use Rattle.cse_output.specs.Gathering.{behind, Puts};
 ghost use Rattle.cse_image_parts.specs.Image.{message_lists};
 ghost use Rattle.cse_report.specs.Listing.{number_line, number_word, count_line, count_lines, summary};
 
@@ -12,7 +12,7 @@ use itoa::Buffer;
 
 /// Puts a line of a word and a number.
 fn put_number<W: Output>(gatherer: &mut Gatherer, out: &mut W, word: &[u8], number: u64)
-    ensures { Puts (going (W.contents out.old) (W.has_failed out.old) gatherer.old.waiting.items gatherer.old.gave_up) (going (W.contents out.new) (W.has_failed out.new) gatherer.new.waiting.items gatherer.new.gave_up) (number_line word.now number) }
+    ensures { Puts (behind W.taken W.has_failed out.old gatherer.old) (behind W.taken W.has_failed out.new gatherer.new) (number_line word.now number) }
 {
     gatherer.put(out, word);
     gatherer.put_line(out, Buffer::new().format(number).as_bytes());
@@ -20,7 +20,7 @@ fn put_number<W: Output>(gatherer: &mut Gatherer, out: &mut W, word: &[u8], numb
 
 /// Puts a number and a blank.
 fn put_word<W: Output>(gatherer: &mut Gatherer, out: &mut W, number: u64)
-    ensures { Puts (going (W.contents out.old) (W.has_failed out.old) gatherer.old.waiting.items gatherer.old.gave_up) (going (W.contents out.new) (W.has_failed out.new) gatherer.new.waiting.items gatherer.new.gave_up) (number_word number) }
+    ensures { Puts (behind W.taken W.has_failed out.old gatherer.old) (behind W.taken W.has_failed out.new gatherer.new) (number_word number) }
 {
     gatherer.put(out, Buffer::new().format(number).as_bytes());
     gatherer.put(out, b" ");
@@ -28,7 +28,8 @@ fn put_word<W: Output>(gatherer: &mut Gatherer, out: &mut W, number: u64)
 
 /// Puts the line of a message and its count.
 fn put_count<W: Output>(gatherer: &mut Gatherer, out: &mut W, message: &Message, count: u64)
-    ensures { Puts (going (W.contents out.old) (W.has_failed out.old) gatherer.old.waiting.items gatherer.old.gave_up) (going (W.contents out.new) (W.has_failed out.new) gatherer.new.waiting.items gatherer.new.gave_up) (count_line (message_lists message.now) count) }
+    ensures { Puts (behind W.taken W.has_failed out.old gatherer.old) (behind W.taken W.has_failed out.new gatherer.new)
+        (count_line (message_lists message.now) count) }
 {
     gatherer.put(out, b"message ");
     put_word(gatherer, out, u64::from(message.number));
@@ -39,7 +40,8 @@ fn put_count<W: Output>(gatherer: &mut Gatherer, out: &mut W, message: &Message,
 /// Puts the lines of all messages.
 fn put_counts<W: Output>(gatherer: &mut Gatherer, out: &mut W, messages: &[Message], counts: &[u64])
     requires { length counts.now ≡ length messages.now }
-    ensures { Puts (going (W.contents out.old) (W.has_failed out.old) gatherer.old.waiting.items gatherer.old.gave_up) (going (W.contents out.new) (W.has_failed out.new) gatherer.new.waiting.items gatherer.new.gave_up) (count_lines (map message_lists messages.now) counts.now) }
+    ensures { Puts (behind W.taken W.has_failed out.old gatherer.old) (behind W.taken W.has_failed out.new gatherer.new)
+        (count_lines (map message_lists messages.now) counts.now) }
 {
     'messages: for i in 0..messages.len() {
         put_count(gatherer, out, &messages[i], counts[i]);
@@ -57,7 +59,8 @@ pub fn put_summary<W: Output>(
     unseen: u64,
 )
     requires { length counts.now ≡ length messages.now }
-    ensures { Puts (going (W.contents out.old) (W.has_failed out.old) gatherer.old.waiting.items gatherer.old.gave_up) (going (W.contents out.new) (W.has_failed out.new) gatherer.new.waiting.items gatherer.new.gave_up) (summary (map message_lists messages.now) counts.now cases lines unseen) }
+    ensures { Puts (behind W.taken W.has_failed out.old gatherer.old) (behind W.taken W.has_failed out.new gatherer.new)
+        (summary (map message_lists messages.now) counts.now cases lines unseen) }
 {
     gatherer.put_line(out, b"SUMMARY");
     put_number(gatherer, out, b"cases ", cases);

@@ -157,8 +157,9 @@ inner_same v y code c w ops.JumpUnless a b k h = number w.case c.cells (λ x res
 inner_same v y code c w ops.Index a b k h =
     number w.case c.cells (λ x rest. or_to c w k rest (option_map (λ i. Index i b) (whole_within b x))) (λ x rest. or_goes c w k rest (option_map (λ i. Index i b) (whole_within b x)))
 inner_same v y code c w ops.Occurrence a b k h =
-    bound w.case (λ t. with_number c.cells (λ x rest. or_to c w k rest (option_map (λ o. Occurrence o a) (whole_within (many t a) x)))) w.case
-    (λ t. number w.case c.cells (λ x rest. or_to c w k rest (option_map (λ o. Occurrence o a) (whole_within (many t a) x))) (λ x rest. or_goes c w k rest (option_map (λ o. Occurrence o a) (whole_within (many t a) x))))
+    bound w.case (λ t. given (is_record (shape_of v.dictionary) a) (with_number c.cells (λ x rest. or_to c w k rest (option_map (λ o. Occurrence o a) (whole_within (many t a) x))))) w.case
+    (λ t. either w.case (is_record (shape_of v.dictionary) a) (with_number c.cells (λ x rest. or_to c w k rest (option_map (λ o. Occurrence o a) (whole_within (many t a) x)))) None
+    (number w.case c.cells (λ x rest. or_to c w k rest (option_map (λ o. Occurrence o a) (whole_within (many t a) x))) (λ x rest. or_goes c w k rest (option_map (λ o. Occurrence o a) (whole_within (many t a) x)))) tt)
 inner_same v y code c w ops.Row a b k h =
     bound w.case (λ n. with_number c.cells (λ x rest. rowed c w a k rest n (row_within n (row_in x (spans_at v.dictionary b))))) (rows_of (shape_of v.dictionary) b)
     (λ n. number w.case c.cells (λ x rest. rowed c w a k rest n (row_within n (row_in x (spans_at v.dictionary b)))) (λ x rest. rows c w a k rest n (row_within n (row_in x (spans_at v.dictionary b)))))

@@ -13,7 +13,7 @@ use Rattle.cse_dict.specs.Dictionary.{DictionaryText}
 use Rattle.cse_lines.specs.Columns.{no_line}
 use Rattle.cse_case.specs.Case.{CaseText}
 use Rattle.cse_verify.specs.Verified.{VerifiedProgram}
-use Rattle.cse_steps.specs.Cell.{Cell, Index, Words}
+use Rattle.cse_steps.specs.Cell.{Cell, Index, Occurrence, Words}
 use Rattle.cse_steps.specs.State.{Open, Call, State}
 use Rattle.cse_steps.specs.Operands.{arguments_taken}
 use Rattle.cse_steps.specs.Step.{current}
@@ -89,6 +89,10 @@ loops =
 abbrev pub index_of_ten : List Instr
 index_of_ten = instr ops.Number 0 0 0 ∷ instr ops.Index 0 10 3 ∷ instr ops.Pop 2 0 0 ∷ instr ops.Return 0 0 0 ∷ []
 
+-- an occurrence of a record, or to the last place
+abbrev pub occurrence_of : ℕ → List Instr
+occurrence_of a = instr ops.Number 0 0 0 ∷ instr ops.Occurrence a 0 3 ∷ instr ops.Pop 2 0 0 ∷ instr ops.Return 0 0 0 ∷ []
+
 -- a return within a loop
 abbrev pub returns_within : List Instr
 returns_within = instr ops.Number 0 0 0 ∷ instr ops.LoopCount 0 0 3 ∷ instr ops.Return 0 0 0 ∷ instr ops.End 0 0 1 ∷ instr ops.Return 0 0 0 ∷ []
@@ -110,6 +114,9 @@ pub record AreWorked : Type 0 where
   pub two_persons : ends_after 108 (pos 10 ∷ pos 2 ∷ []) loops 2 ≡ true
   pub index_is_there : places_after 2 (pos 10 ∷ []) index_of_ten 1 ≡ Some ((2, Index 10 10 ∷ []) ∷ [])
   pub index_is_not : places_after 2 (pos 11 ∷ []) index_of_ten 1 ≡ Some ((3, []) ∷ [])
+  pub occurrence_is_there : places_after 2 (pos 1 ∷ []) (occurrence_of 0) 1 ≡ Some ((2, Occurrence 1 0 ∷ []) ∷ [])
+  pub occurrence_is_not : places_after 2 (pos 2 ∷ []) (occurrence_of 0) 1 ≡ Some ((3, []) ∷ [])
+  pub record_is_not : places_after 2 (pos 1 ∷ []) (occurrence_of 1) 1 ≡ None
   pub return_ends_brackets : ends_after 3 (pos 10 ∷ []) returns_within 1 ≡ true
   pub outer_occurrence : current 0 inner_count ≡ Some 2
   pub text_is_cut : arguments_taken short_text (Words (65 ∷ 66 ∷ 67 ∷ 68 ∷ []) ∷ []) ≡ Some (Words (65 ∷ 66 ∷ 67 ∷ []) ∷ [], [])

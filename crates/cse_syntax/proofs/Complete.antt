@@ -2,19 +2,19 @@
 use Rattle.std.proofs.Common.{◌≡◌, ℕ, zero, suc, ◌≤◌, ◌<◌, ◌⊎◌, false, List, [], ◌∷◌, ◌++◌, length, Option, Some, None, refl, ap, subst, ◌∙◌, arith, inl, inr, append_assoc}
 use Rattle.std.proofs.lemmas.Bool.{cases_lt}
 use Rattle.std.proofs.lemmas.List.{append-nil}
-use Rattle.cse_syntax.specs.declared.token.Mark.{Mark}
-use Rattle.cse_syntax.specs.declared.token.Mark.TheVariants as m
-use Rattle.cse_syntax.specs.declared.tree.Operator.{Operator}
-use Rattle.cse_syntax.specs.declared.tree.Operator.TheVariants as o
-use Rattle.cse_syntax.specs.declared.tree.Relation.{Relation}
-use Rattle.cse_syntax.specs.declared.tree.Relation.TheVariants as r
-use Rattle.cse_syntax.specs.declared.tree.Function.{Function}
-use Rattle.cse_syntax.specs.declared.tree.Function.TheVariants as u
-use Rattle.cse_syntax.specs.declared.tree.Query.{Query}
-use Rattle.cse_syntax.specs.declared.tree.Query.TheVariants as q
-use Rattle.cse_syntax.specs.Word.{Word, Name, Sign}
-use Rattle.cse_syntax.specs.Tree.{Spelling, Expr, Exprs, Operations, Number, Text, Special', Bare, Indexed, Group, Apply, Query', InValueSet, Minus, Not, Compare, Chain, no_expr, expr_and, no_operation, operation_and, exprs, operations}
-use Rattle.cse_syntax.specs.Grammar.{sign, relation_sign, spell_each, spell_list, spell_set, Each, IsSome, spell_expr, spell_exprs, spell_others, spell_operations, binds, level, rule, Below, HasRoom, IsExpr, AreInner, AreOperations, spell_subscripts, IsName, IsSetName}
+use Rattle.cse_syntax_tree.specs.declared.token.Mark.{Mark}
+use Rattle.cse_syntax_tree.specs.declared.token.Mark.TheVariants as m
+use Rattle.cse_syntax_tree.specs.declared.tree.Operator.{Operator}
+use Rattle.cse_syntax_tree.specs.declared.tree.Operator.TheVariants as o
+use Rattle.cse_syntax_tree.specs.declared.tree.Relation.{Relation}
+use Rattle.cse_syntax_tree.specs.declared.tree.Relation.TheVariants as r
+use Rattle.cse_syntax_tree.specs.declared.tree.Function.{Function}
+use Rattle.cse_syntax_tree.specs.declared.tree.Function.TheVariants as u
+use Rattle.cse_syntax_tree.specs.declared.tree.Query.{Query}
+use Rattle.cse_syntax_tree.specs.declared.tree.Query.TheVariants as q
+use Rattle.cse_syntax_tree.specs.Word.{Word, Name, Sign}
+use Rattle.cse_syntax_tree.specs.Tree.{Spelling, Expr, Exprs, Operations, Number, Text, Special', Bare, Indexed, Group, Apply, Query', InValueSet, Minus, Not, Compare, Chain, no_expr, expr_and, no_operation, operation_and, exprs, operations}
+use Rattle.cse_syntax_tree.specs.Grammar.{sign, relation_sign, spell_each, spell_list, spell_set, Each, IsSome, spell_expr, spell_exprs, spell_others, spell_operations, binds, level, rule, Below, HasRoom, IsExpr, AreInner, AreOperations, spell_subscripts, IsName, IsSetName}
 use Rattle.cse_syntax.specs.Reading.{Parser, sees, enter, snoc, others_from, listed, operator_at, operations_from, chain, or_operator, and_operator, sum_operator, product_operator, relation_of, bracketed, subscripts, arguments, named, closed, group, apply, name_before, query, set_after, member, marked, prim, unary, product, sum, related, relation, negation, conjunction, disjunction, nested}
 use Rattle.cse_syntax.proofs.Sound.{IsAt, IsInner}
 

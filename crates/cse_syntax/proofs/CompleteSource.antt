@@ -1,10 +1,10 @@
 -- A source is read.
 use Rattle.std.proofs.Common.{◌≡◌, ℕ, zero, suc, ◌≤◌, Bool, true, false, List, [], ◌∷◌, ◌++◌, length, Option, Some, None, refl, arith, append_assoc}
 use Rattle.std.proofs.lemmas.List.{append-nil}
-use Rattle.cse_syntax.specs.declared.token.Mark.TheVariants as m
-use Rattle.cse_syntax.specs.Word.{Word, Name, Sign}
-use Rattle.cse_syntax.specs.Tree.{Spelling, Stmts, no_stmt, stmt_and, Empty, Literal, Dimension, Sized, Rows, Parameter, Array, Declaration, Numeric, Alpha, Array', Function', Body, Plain, Preproc, Both, Postproc, Procedure, Tree}
-use Rattle.cse_syntax.specs.Grammar.{MOST, IsName, IsParameter, spell_mark, spell_each, spell_list, spell_all, spell_name, Each, IsSome, spell_stmts, AreStmts, spell_literal, spell_dimension, spell_parameter, spell_cells, spell_array, spell_declaration, spell_body, spell_procedure, spell_globals, IsDimension, IsLiteral, IsArray, IsDeclaration, IsBody, IsProcedure, AreGlobals, IsSource}
+use Rattle.cse_syntax_tree.specs.declared.token.Mark.TheVariants as m
+use Rattle.cse_syntax_tree.specs.Word.{Word, Name, Sign}
+use Rattle.cse_syntax_tree.specs.Tree.{Spelling, Stmts, no_stmt, stmt_and, Empty, Literal, Dimension, Sized, Rows, Parameter, Array, Declaration, Numeric, Alpha, Array', Function', Body, Plain, Preproc, Both, Postproc, Procedure, Tree}
+use Rattle.cse_syntax_tree.specs.Grammar.{MOST, IsName, IsParameter, spell_mark, spell_each, spell_list, spell_all, spell_name, Each, IsSome, spell_stmts, AreStmts, spell_literal, spell_dimension, spell_parameter, spell_cells, spell_array, spell_declaration, spell_body, spell_procedure, spell_globals, IsDimension, IsLiteral, IsArray, IsDeclaration, IsBody, IsProcedure, AreGlobals, IsSource}
 use Rattle.cse_syntax.specs.Reading.{Parser, sees, after, ends, take_name, name_before, loop, snoc, listed}
 use Rattle.cse_syntax.specs.ReadingStmt.{literal, starts_stmt}
 use Rattle.cse_syntax.specs.ReadingSource.{rows, dimension, parameter, parameters, cells, numeric, alpha, array, array_declaration, function, declaration, starts_declaration, declarations, globals, plain, postproc, preproc, body, procedure, procedures, source_at}

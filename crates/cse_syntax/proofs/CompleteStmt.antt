@@ -2,14 +2,14 @@
 use Rattle.std.proofs.Common.{◌≡◌, ℕ, zero, suc, ◌≤◌, Bool, true, false, List, [], ◌∷◌, ◌++◌, length, Option, Some, None, refl, ap, ◌∙◌, arith, append_assoc}
 use Rattle.std.proofs.lemmas.List.{append-nil}
 use Rattle.std.specs.Str.{str_eq_ignore_ascii_case}
-use Rattle.cse_syntax.specs.declared.token.Mark.{Mark}
-use Rattle.cse_syntax.specs.declared.token.Mark.TheVariants as m
-use Rattle.cse_syntax.specs.declared.tree.Count.{Count}
-use Rattle.cse_syntax.specs.declared.tree.Count.TheVariants as c
-use Rattle.cse_syntax.specs.declared.tree.Jump.{Jump}
-use Rattle.cse_syntax.specs.Word.{Word, Name, Digits, Sign}
-use Rattle.cse_syntax.specs.Tree.{Spelling, Expr, Exprs, no_expr, expr_and, exprs, Literal, Limit, Fixed, Counted, Counting, Message, Own, Numbered, Stmt, Empty, Assign, Call, If, For, Do, Jump', Impute, PutDeck, ErrMsg, Stmts, no_stmt, stmt_and, stmts, Arms, no_arm, arm, arms, else_of}
-use Rattle.cse_syntax.specs.Grammar.{is_within, IsName, Below, HasRoom, spell_mark, spell_expr, spell_exprs, spell_others, spell_subscripts, IsExpr, AreInner, spell_literal, spell_limit, spell_by, spell_counting, spell_message, spell_stmt, spell_stmts, spell_arms, IsLimit, IsBy, IsCounting, IsMessage, IsStmt, AreStmts, AreArms}
+use Rattle.cse_syntax_tree.specs.declared.token.Mark.{Mark}
+use Rattle.cse_syntax_tree.specs.declared.token.Mark.TheVariants as m
+use Rattle.cse_syntax_tree.specs.declared.tree.Count.{Count}
+use Rattle.cse_syntax_tree.specs.declared.tree.Count.TheVariants as c
+use Rattle.cse_syntax_tree.specs.declared.tree.Jump.{Jump}
+use Rattle.cse_syntax_tree.specs.Word.{Word, Name, Digits, Sign}
+use Rattle.cse_syntax_tree.specs.Tree.{Spelling, Expr, Exprs, no_expr, expr_and, exprs, Literal, Limit, Fixed, Counted, Counting, Message, Own, Numbered, Stmt, Empty, Assign, Call, If, For, Do, Jump', Impute, PutDeck, ErrMsg, Stmts, no_stmt, stmt_and, stmts, Arms, no_arm, arm, arms, else_of}
+use Rattle.cse_syntax_tree.specs.Grammar.{is_within, IsName, Below, HasRoom, spell_mark, spell_expr, spell_exprs, spell_others, spell_subscripts, IsExpr, AreInner, spell_literal, spell_limit, spell_by, spell_counting, spell_message, spell_stmt, spell_stmts, spell_arms, IsLimit, IsBy, IsCounting, IsMessage, IsStmt, AreStmts, AreArms}
 use Rattle.cse_syntax.specs.Reading.{Parser, same, sees, after, ends, name_before, snoc, nested}
 use Rattle.cse_syntax.specs.ReadingStmt.{literal, counted, fixed, limit, step, again, counting, message, assigned, called, named_stmt, putdeck, other_values, errmsg, jump, imputed, impute, visiting, visiting_at, counting_at, guarded, elseifs, elseifs_from, body_to, otherwise, alternatives, conditional, over, repeated, marked_stmt, statement, starts_stmt, statements, statements_from, body_at, statements_at}
 use Rattle.cse_syntax.proofs.Complete.{longer_expr, longer_exprs, longer_others, longer_subscripts, list_of, exprs-list_of, enter_reads, has_room, inner_listed, subscripts_read, arguments_read, nested_reads, expr_reads}

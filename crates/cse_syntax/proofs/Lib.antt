@@ -1,7 +1,5 @@
 pub mod Loops
 pub mod Text
-pub mod Digits
-pub mod Rows
 pub mod Steps
 pub mod Sound
 pub mod SoundStmt

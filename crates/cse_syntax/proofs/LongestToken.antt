@@ -3,9 +3,9 @@ use Rattle.std.proofs.Common.{◌≡◌, ℕ, zero, suc, ◌+◌, ◌≤◌, ◌
 use Rattle.std.specs.Prelude.{nat_le}
 use Rattle.std.specs.List.{prefix_len, count_by}
 use Rattle.std.specs.Char.{is_ascii_alphabetic, is_ascii_digit}
-use Rattle.cse_syntax.specs.declared.token.Kind.{Kind}
-use Rattle.cse_syntax.specs.declared.token.Mark.{Mark}
-use Rattle.cse_syntax.specs.Leaf.{begins, is_word_byte, is_inside, is_start}
+use Rattle.cse_syntax_tree.specs.declared.token.Kind.{Kind}
+use Rattle.cse_syntax_tree.specs.declared.token.Mark.{Mark}
+use Rattle.cse_syntax_tree.specs.Leaf.{begins, is_word_byte, is_inside, is_start}
 use Rattle.cse_syntax.specs.Text.{symbol, symbol_at, text_len, token_at}
 use Rattle.cse_syntax.proofs.Steps.{some_is, bind_some, if_some, test_some}
 

@@ -1,14 +1,14 @@
 -- A loop of the code beside the loop that reads.
 use Rattle.std.proofs.Common.{◌≡◌, ℕ, zero, suc, ◌≤◌, ◌<◌, Bool, true, false, List, [], ◌∷◌, length, Option, Some, None, Result, Ok, Err, refl, sym, subst, ◌∙◌, arith}
 use Rattle.std.proofs.Common.{drop, ap, ◌++◌}
-use Rattle.cse_syntax.specs.declared.token.Token.{Token}
+use Rattle.cse_syntax_tree.specs.declared.token.Token.{Token}
 use Rattle.cse_syntax.specs.declared.error.ReadError.{ReadError}
 use Rattle.cse_syntax.specs.declared.error.ReadError.TheVariants as errors
-use Rattle.cse_syntax.specs.declared.token.Mark.{Mark}
-use Rattle.cse_syntax.specs.declared.token.Mark.TheVariants as m
-use Rattle.cse_syntax.specs.declared.tree.Operator.{Operator}
-use Rattle.cse_syntax.specs.Word.{Word, words}
-use Rattle.cse_syntax.specs.Tree.{Expr}
+use Rattle.cse_syntax_tree.specs.declared.token.Mark.{Mark}
+use Rattle.cse_syntax_tree.specs.declared.token.Mark.TheVariants as m
+use Rattle.cse_syntax_tree.specs.declared.tree.Operator.{Operator}
+use Rattle.cse_syntax_tree.specs.Word.{Word, words}
+use Rattle.cse_syntax_tree.specs.Tree.{Expr}
 use Rattle.cse_syntax.specs.Reading.{Parser, Fails, Makes, Gives, sees, after, expect, after_comma, others_from, listed, operator_at, is_some, operation, operations_from}
 use Rattle.cse_syntax.specs.Loop.{◌>>=◌, Reader, loop, snoc}
 

@@ -5,7 +5,7 @@ use Rattle.std.specs.List.{count_by, list_all}
 use Rattle.std.specs.Str.{IsCharBoundary}
 use Rattle.std.proofs.lemmas.Str.{IsCharBoundary-after_ascii, IsCharBoundary-before_ascii}
 use Rattle.std.proofs.lemmas.Bool.{eqb-true}
-use Rattle.cse_syntax.specs.Leaf.{begins, is_inside, is_start, is_quote, text_of, is_text}
+use Rattle.cse_syntax_tree.specs.Leaf.{begins, is_inside, is_start, is_quote, text_of, is_text}
 use Rattle.cse_syntax.proofs.SoundStmt.{both_true}
 
 quote_small : (q : ℕ) → is_quote q ≡ true → q < 128

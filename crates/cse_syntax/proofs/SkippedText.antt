@@ -4,7 +4,7 @@ use Rattle.std.specs.List.{list_all}
 use Rattle.std.proofs.lemmas.Bool.{eqb-true}
 use Rattle.cse_syntax.specs.declared.lexer.Gap.{Gap}
 use Rattle.cse_syntax.specs.declared.lexer.Gap.TheVariants as g
-use Rattle.cse_syntax.specs.Leaf.{begins, or_else}
+use Rattle.cse_syntax_tree.specs.Leaf.{begins, or_else}
 use Rattle.cse_syntax.specs.Text.{is_blank, skip}
 use Rattle.cse_syntax.specs.BlankText.{Inside, close, byte, nested, Blanks, nothing, blank, braces, line, last_line, spell_inside, spell_blanks, in_line, IsInside, AreBlanks}
 

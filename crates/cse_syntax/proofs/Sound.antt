@@ -1,16 +1,16 @@
 -- What is read is of the grammar, and its words stood at the front.
 use Rattle.std.proofs.Common.{◌≡◌, ℕ, zero, suc, ◌≤◌, Bool, List, [], ◌∷◌, length, drop, Option, Some, None, refl, sym, ap, subst, ◌∙◌, arith, inl, inr}
-use Rattle.cse_syntax.specs.declared.token.Mark.{Mark}
-use Rattle.cse_syntax.specs.declared.token.Mark.TheVariants as m
-use Rattle.cse_syntax.specs.declared.tree.Operator.{Operator}
-use Rattle.cse_syntax.specs.declared.tree.Relation.{Relation}
-use Rattle.cse_syntax.specs.declared.tree.Function.{Function}
-use Rattle.cse_syntax.specs.declared.tree.Function.TheVariants as f
-use Rattle.cse_syntax.specs.declared.tree.Query.{Query}
-use Rattle.cse_syntax.specs.declared.tree.Query.TheVariants as q
-use Rattle.cse_syntax.specs.Word.{Word, Name, Digits, Quoted, Value, Leave, Sign, Stray}
-use Rattle.cse_syntax.specs.Tree.{Spelling, Expr, Number, Text, Special', Bare, Indexed, Group, Apply, Query', InValueSet, Minus, Not, Compare, exprs, operations}
-use Rattle.cse_syntax.specs.Grammar.{sign, relation_sign, function_sign, query_sign, spell_each, spell_list, spell_set, Each, IsSome, spell_expr, spell_exprs, spell_others, spell_operations, binds, level, rule, Below, HasRoom, IsExpr, AreInner, AreOperations, spell_subscripts, is_name, is_within, is_text, MOST, IsName, IsSetName}
+use Rattle.cse_syntax_tree.specs.declared.token.Mark.{Mark}
+use Rattle.cse_syntax_tree.specs.declared.token.Mark.TheVariants as m
+use Rattle.cse_syntax_tree.specs.declared.tree.Operator.{Operator}
+use Rattle.cse_syntax_tree.specs.declared.tree.Relation.{Relation}
+use Rattle.cse_syntax_tree.specs.declared.tree.Function.{Function}
+use Rattle.cse_syntax_tree.specs.declared.tree.Function.TheVariants as f
+use Rattle.cse_syntax_tree.specs.declared.tree.Query.{Query}
+use Rattle.cse_syntax_tree.specs.declared.tree.Query.TheVariants as q
+use Rattle.cse_syntax_tree.specs.Word.{Word, Name, Digits, Quoted, Value, Leave, Sign, Stray}
+use Rattle.cse_syntax_tree.specs.Tree.{Spelling, Expr, Number, Text, Special', Bare, Indexed, Group, Apply, Query', InValueSet, Minus, Not, Compare, exprs, operations}
+use Rattle.cse_syntax_tree.specs.Grammar.{sign, relation_sign, function_sign, query_sign, spell_each, spell_list, spell_set, Each, IsSome, spell_expr, spell_exprs, spell_others, spell_operations, binds, level, rule, Below, HasRoom, IsExpr, AreInner, AreOperations, spell_subscripts, is_name, is_within, is_text, MOST, IsName, IsSetName}
 use Rattle.cse_syntax.specs.Reading.{◌>>=◌, Parser, sees, expect, enter, take_name, name_before, loop, snoc, after_comma, listed, operator_at, is_some, operation, operations_from, chained, chain, or_operator, and_operator, sum_operator, product_operator, relation_of, bracketed, subscripts, arguments, named, closed, group, apply, query, set_after, member, marked, prim, unary, product, sum, related, relation, negation, conjunction, disjunction, nested}
 use Rattle.cse_syntax.proofs.Steps.{read, some_is, both_are, bind_some, if_some, test_some, sees_is, expect_is, enter_is, take_name_is, name_before_is}
 

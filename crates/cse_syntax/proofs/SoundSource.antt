@@ -2,10 +2,10 @@
 use Rattle.std.proofs.Common.{◌≡◌, ℕ, Bool, true, false, ◌&&◌, ◌==◌, List, [], ◌∷◌, length, drop, Some, None, refl, ap, subst, ◌∙◌, inl, inr}
 use Rattle.std.proofs.lemmas.Bool.{eqb-true}
 use Rattle.std.proofs.lemmas.List.{nil_from_length}
-use Rattle.cse_syntax.specs.declared.token.Mark.TheVariants as m
-use Rattle.cse_syntax.specs.Word.{Word, Name, Digits, Quoted, Value, Leave, Sign, Stray}
-use Rattle.cse_syntax.specs.Tree.{Spelling, stmts, Literal, Sized, Rows, Numeric, Alpha, Array', Function', Plain, Preproc, Both, Postproc, Tree}
-use Rattle.cse_syntax.specs.Grammar.{is_name, is_within, MOST, IsName, IsParameter, spell_mark, spell_list, spell_all, spell_name, Each, IsSome, spell_literal, spell_dimension, spell_parameter, spell_cells, spell_array, spell_declaration, spell_body, spell_procedure, spell_globals, spell_tree, IsDimension, IsLiteral, IsArray, IsDeclaration, IsBody, IsProcedure, AreGlobals, IsSource}
+use Rattle.cse_syntax_tree.specs.declared.token.Mark.TheVariants as m
+use Rattle.cse_syntax_tree.specs.Word.{Word, Name, Digits, Quoted, Value, Leave, Sign, Stray}
+use Rattle.cse_syntax_tree.specs.Tree.{Spelling, stmts, Literal, Sized, Rows, Numeric, Alpha, Array', Function', Plain, Preproc, Both, Postproc, Tree}
+use Rattle.cse_syntax_tree.specs.Grammar.{is_name, is_within, MOST, IsName, IsParameter, spell_mark, spell_list, spell_all, spell_name, Each, IsSome, spell_literal, spell_dimension, spell_parameter, spell_cells, spell_array, spell_declaration, spell_body, spell_procedure, spell_globals, spell_tree, IsDimension, IsLiteral, IsArray, IsDeclaration, IsBody, IsProcedure, AreGlobals, IsSource}
 use Rattle.cse_syntax.specs.Reading.{Parser, sees, after, expect, ends, take_name, name_before, take_number, loop, snoc, listed}
 use Rattle.cse_syntax.specs.ReadingStmt.{literal, statements_at}
 use Rattle.cse_syntax.specs.ReadingSource.{rows, dimension, parameter, parameters, cells, numeric, alpha, array, array_declaration, function, declaration, starts_declaration, declarations, globals, plain, postproc, preproc, body, procedure, procedures, source_at}

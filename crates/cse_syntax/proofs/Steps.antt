@@ -2,12 +2,12 @@
 use Rattle.std.proofs.Common.{◌≡◌, ℕ, zero, suc, Bool, true, false, cond, List, [], ◌∷◌, drop, Option, Some, None, refl, sym, ap, subst, ◌∙◌, inl, inr, ◌⊎◌}
 use denote.Enum.Bare.{same_true}
 use Rattle.std.proofs.Common.{rules}
-use Rattle.cse_syntax.specs.contracts.token.Mark.{the_type}
-use Rattle.cse_syntax.specs.declared.token.Mark.{Mark}
-use Rattle.cse_syntax.specs.declared.token.Mark.TheVariants as m
-use Rattle.cse_syntax.specs.Word.{Word, Name, Digits, Quoted, Value, Leave, Sign, Stray}
-use Rattle.cse_syntax.specs.Tree.{Spelling}
-use Rattle.cse_syntax.specs.Grammar.{is_name, is_within, IsName, HasRoom, spell_mark}
+use Rattle.cse_syntax_tree.specs.contracts.token.Mark.{the_type}
+use Rattle.cse_syntax_tree.specs.declared.token.Mark.{Mark}
+use Rattle.cse_syntax_tree.specs.declared.token.Mark.TheVariants as m
+use Rattle.cse_syntax_tree.specs.Word.{Word, Name, Digits, Quoted, Value, Leave, Sign, Stray}
+use Rattle.cse_syntax_tree.specs.Tree.{Spelling}
+use Rattle.cse_syntax_tree.specs.Grammar.{is_name, is_within, IsName, HasRoom, spell_mark}
 use Rattle.cse_syntax.specs.Reading.{◌>>=◌, same, sees, after, expect, ends, enter, take_name, name_before, take_number}
 
 pub some_is : {A : Type 0} {x y : A} → Some x ≡ Some y → x ≡ y

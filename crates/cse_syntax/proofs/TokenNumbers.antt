@@ -1,7 +1,7 @@
 -- The numbers of tokens.
 use Rattle.std.proofs.Common.{◌≡◌, ℕ, suc, ◌+◌, List, [], ◌∷◌, ◌++◌, length, arith}
-use Rattle.cse_syntax.specs.declared.token.Token.{Token}
-use Rattle.cse_syntax.specs.Word.{AreNumbered}
+use Rattle.cse_syntax_tree.specs.declared.token.Token.{Token}
+use Rattle.cse_syntax_tree.specs.Word.{AreNumbered}
 
 -- one more token
 numbered_more : (n : ℕ) (ts : List Token) (t : Token) → AreNumbered n ts → t.index ≡ n + length ts → AreNumbered n (ts ++ t ∷ [])

@@ -2,10 +2,10 @@
 use Rattle.std.proofs.Common.{◌≡◌, ℕ, suc, List, [], ◌∷◌, Some, refl, sym, ap, ◌∙◌}
 use Rattle.cse_syntax.specs.declared.error.ReadError.{ReadError}
 use Rattle.cse_syntax.specs.declared.error.ReadError.TheVariants as errors
-use Rattle.cse_syntax.specs.declared.token.Token.{Token}
-use Rattle.cse_syntax.specs.Word.{Word, word, word_of, words, AreNumbered}
-use Rattle.cse_syntax.specs.Tree.{Tree}
-use Rattle.cse_syntax.specs.Grammar.{IsSource}
+use Rattle.cse_syntax_tree.specs.declared.token.Token.{Token}
+use Rattle.cse_syntax_tree.specs.Word.{Word, word, word_of, words, AreNumbered}
+use Rattle.cse_syntax_tree.specs.Tree.{Tree}
+use Rattle.cse_syntax_tree.specs.Grammar.{IsSource}
 use Rattle.cse_syntax.specs.Reading.{Fails}
 use Rattle.cse_syntax.specs.ReadingSource.{source_at, tree_of}
 use Rattle.cse_syntax.specs.Text.{pieces, pieces_of}

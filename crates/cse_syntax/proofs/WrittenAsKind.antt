@@ -6,12 +6,12 @@ use Rattle.std.specs.Option.{option_map}
 use Rattle.std.specs.Char.{is_ascii_alphabetic, is_ascii_digit}
 use Rattle.std.proofs.lemmas.Bool.{le-leb}
 use Rattle.std.proofs.lemmas.List.{take-take, drop-take, length-take-le}
-use Rattle.cse_syntax.specs.declared.token.Kind.{Kind}
-use Rattle.cse_syntax.specs.declared.token.Kind.TheVariants as kinds
-use Rattle.cse_syntax.specs.declared.token.Mark.{Mark}
-use Rattle.cse_syntax.specs.declared.tree.Special.{Special}
-use Rattle.cse_syntax.specs.declared.tree.Jump.{Jump}
-use Rattle.cse_syntax.specs.Leaf.{or_else, begins, first_of, mark_of, looked_up, specials, jumps, reserved, is_left_out, word_kind, is_word_byte, is_name, starts_with_letter, is_digits, is_inside, is_start, is_quote, is_text, is_token}
+use Rattle.cse_syntax_tree.specs.declared.token.Kind.{Kind}
+use Rattle.cse_syntax_tree.specs.declared.token.Kind.TheVariants as kinds
+use Rattle.cse_syntax_tree.specs.declared.token.Mark.{Mark}
+use Rattle.cse_syntax_tree.specs.declared.tree.Special.{Special}
+use Rattle.cse_syntax_tree.specs.declared.tree.Jump.{Jump}
+use Rattle.cse_syntax_tree.specs.Leaf.{or_else, begins, first_of, mark_of, looked_up, specials, jumps, reserved, is_left_out, word_kind, is_word_byte, is_name, starts_with_letter, is_digits, is_inside, is_start, is_quote, is_text, is_token}
 use Rattle.cse_syntax.specs.Text.{symbol_at, text_len, token_at}
 use Rattle.cse_syntax.proofs.Steps.{some_is, bind_some, if_some, test_some}
 use Rattle.cse_syntax.proofs.SoundStmt.{both_true}

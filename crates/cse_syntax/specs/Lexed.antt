@@ -2,11 +2,11 @@
 use Rattle.std.specs.Prelude.{◌≡◌, ◌<◌, ℕ, suc, List, map, length, Option, Some, None}
 use Rattle.cse_syntax.specs.declared.lexer.Gap.{Gap}
 use Rattle.cse_syntax.specs.declared.lexer.Gap.TheVariants as g
-use Rattle.cse_syntax.specs.declared.token.Token.{Token}
+use Rattle.cse_syntax_tree.specs.declared.token.Token.{Token}
 use Rattle.cse_syntax.specs.declared.error.Fault.{Fault}
 use Rattle.cse_syntax.specs.declared.lexer.Next.{Next}
 use Rattle.cse_syntax.specs.declared.lexer.Next.TheVariants as n
-use Rattle.cse_syntax.specs.Word.{AreNumbered}
+use Rattle.cse_syntax_tree.specs.Word.{AreNumbered}
 use Rattle.cse_syntax.specs.Text.{piece, pieces_of, next_piece}
 
 -- how many comments in braces are open

@@ -1,15 +1,10 @@
 pub mod Loop
-pub mod Leaf
-pub mod Word
 pub mod Text
 pub mod Lexed
-pub mod Tree
-pub mod Grammar
 pub mod Reading
 pub mod ReadingStmt
 pub mod Source
 pub mod ReadingSource
 pub mod Place
-pub mod First
 pub mod TreeLaws
 pub mod BlankText

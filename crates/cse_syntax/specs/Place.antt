@@ -2,8 +2,8 @@
 -- order mark at the front is none.
 use Rattle.std.specs.Prelude.{ℕ, ◌+◌, ◌-◌, Bool, ◌==◌, if◌then◌else◌, List, [], ◌∷◌, length, take, drop, slice_get, nat_le, nat_lt}
 use Rattle.std.specs.List.{count_by}
-use Rattle.cse_syntax.specs.declared.token.Token.{Token}
-use Rattle.cse_syntax.specs.Leaf.{or_else, is_start}
+use Rattle.cse_syntax_tree.specs.declared.token.Token.{Token}
+use Rattle.cse_syntax_tree.specs.Leaf.{or_else, is_start}
 use Rattle.cse_syntax.specs.Text.{mark_len}
 
 abbrev pub smaller : ℕ → ℕ → ℕ

@@ -1,26 +1,26 @@
 -- Reading from left to right: a tree and the words after it, or nothing. Expressions.
 use Rattle.std.specs.Prelude.{◌≤◌, ℕ, zero, suc, ◌≡◌, Bool, true, false, if◌then◌else◌, List, [], ◌∷◌, length, drop, Option, Some, None, Result, Ok, Err}
 use denote.Enum.Bare.{sameb}
-use Rattle.cse_syntax.specs.declared.token.Mark.{Mark}
-use Rattle.cse_syntax.specs.contracts.token.Mark.{the_type}
-use Rattle.cse_syntax.specs.declared.token.Mark.TheVariants as m
+use Rattle.cse_syntax_tree.specs.declared.token.Mark.{Mark}
+use Rattle.cse_syntax_tree.specs.contracts.token.Mark.{the_type}
+use Rattle.cse_syntax_tree.specs.declared.token.Mark.TheVariants as m
 use Rattle.cse_syntax.specs.declared.error.ReadError.{ReadError}
 use Rattle.cse_syntax.specs.declared.error.ReadError.TheVariants as errors
-use Rattle.cse_syntax.specs.declared.tree.Operator.{Operator}
-use Rattle.cse_syntax.specs.declared.tree.Operator.TheVariants as o
-use Rattle.cse_syntax.specs.declared.tree.Relation.{Relation}
-use Rattle.cse_syntax.specs.declared.tree.Relation.TheVariants as r
-use Rattle.cse_syntax.specs.declared.tree.Function.{Function}
-use Rattle.cse_syntax.specs.declared.tree.Function.TheVariants as f
-use Rattle.cse_syntax.specs.declared.tree.Query.{Query}
-use Rattle.cse_syntax.specs.declared.tree.Query.TheVariants as q
-use Rattle.cse_syntax.specs.declared.token.Token.{Token}
+use Rattle.cse_syntax_tree.specs.declared.tree.Operator.{Operator}
+use Rattle.cse_syntax_tree.specs.declared.tree.Operator.TheVariants as o
+use Rattle.cse_syntax_tree.specs.declared.tree.Relation.{Relation}
+use Rattle.cse_syntax_tree.specs.declared.tree.Relation.TheVariants as r
+use Rattle.cse_syntax_tree.specs.declared.tree.Function.{Function}
+use Rattle.cse_syntax_tree.specs.declared.tree.Function.TheVariants as f
+use Rattle.cse_syntax_tree.specs.declared.tree.Query.{Query}
+use Rattle.cse_syntax_tree.specs.declared.tree.Query.TheVariants as q
+use Rattle.cse_syntax_tree.specs.declared.token.Token.{Token}
 use Rattle.cse_syntax.specs.declared.parser.Level.{Level}
 use Rattle.cse_syntax.specs.declared.parser.Level.TheVariants as level
-use Rattle.cse_syntax.specs.Word.{Word, Name, Digits, Quoted, Value, Sign, word_of, words}
+use Rattle.cse_syntax_tree.specs.Word.{Word, Name, Digits, Quoted, Value, Sign, word_of, words}
 pub use Rattle.cse_syntax.specs.Loop.{◌>>=◌, Reader, loop, snoc}
-use Rattle.cse_syntax.specs.Tree.{Spelling, Expr, Number, Text, Special', Bare, Indexed, Group, Apply, Query', InValueSet, Minus, Not, Compare, Chain, exprs, operations}
-use Rattle.cse_syntax.specs.Leaf.{is_token, is_name, is_within, is_text, MOST}
+use Rattle.cse_syntax_tree.specs.Tree.{Spelling, Expr, Number, Text, Special', Bare, Indexed, Group, Apply, Query', InValueSet, Minus, Not, Compare, Chain, exprs, operations}
+use Rattle.cse_syntax_tree.specs.Leaf.{is_token, is_name, is_within, is_text, MOST}
 
 abbrev pub Parser : Type 0 → Type 0
 Parser A = Reader Word A

@@ -1,9 +1,9 @@
 -- Reading declarations, procedures and whole sources from left to right.
 use Rattle.std.specs.Prelude.{ℕ, Bool, true, false, ◌&&◌, ◌==◌, if◌then◌else◌, List, [], ◌∷◌, length, drop, Option, Some, None}
-use Rattle.cse_syntax.specs.declared.token.Mark.TheVariants as m
-use Rattle.cse_syntax.specs.Word.{Word, Name, Digits, Sign}
-use Rattle.cse_syntax.specs.Tree.{Spelling, Literal, stmts, Dimension, Sized, Rows, Parameter, Array, Declaration, Numeric, Alpha, Array', Function', Body, Plain, Preproc, Both, Postproc, Procedure, Tree}
-use Rattle.cse_syntax.specs.Leaf.{is_name, is_within, MOST}
+use Rattle.cse_syntax_tree.specs.declared.token.Mark.TheVariants as m
+use Rattle.cse_syntax_tree.specs.Word.{Word, Name, Digits, Sign}
+use Rattle.cse_syntax_tree.specs.Tree.{Spelling, Literal, stmts, Dimension, Sized, Rows, Parameter, Array, Declaration, Numeric, Alpha, Array', Function', Body, Plain, Preproc, Both, Postproc, Procedure, Tree}
+use Rattle.cse_syntax_tree.specs.Leaf.{is_name, is_within, MOST}
 use Rattle.cse_syntax.specs.Reading.{◌>>=◌, Parser, loop, snoc, sees, expect, ends, after, take_name, name_before, take_number, listed}
 use Rattle.cse_syntax.specs.ReadingStmt.{literal, statements_at}
 use Rattle.cse_syntax.specs.Text.{pieces_of}

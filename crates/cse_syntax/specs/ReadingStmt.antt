@@ -1,14 +1,14 @@
 -- Reading statements from left to right.
 use Rattle.std.specs.Prelude.{ℕ, zero, suc, Bool, true, false, ◌&&◌, if◌then◌else◌, List, [], ◌∷◌, length, drop, Option, Some, None}
 use Rattle.std.specs.Str.{str_eq_ignore_ascii_case}
-use Rattle.cse_syntax.specs.declared.token.Mark.{Mark}
-use Rattle.cse_syntax.specs.declared.token.Mark.TheVariants as m
-use Rattle.cse_syntax.specs.declared.tree.Count.{Count}
-use Rattle.cse_syntax.specs.declared.tree.Count.TheVariants as c
-use Rattle.cse_syntax.specs.declared.tree.Jump.{Jump}
-use Rattle.cse_syntax.specs.Word.{Word, Name, Digits, Quoted, Leave, Sign}
-use Rattle.cse_syntax.specs.Tree.{Spelling, Expr, exprs, Literal, Limit, Fixed, Counted, Counting, Message, Own, Numbered, Stmt, Empty, Assign, Call, If, For, Do, Jump', Impute, PutDeck, ErrMsg, Stmts, stmts, Arms, no_arm, else_of, arms}
-use Rattle.cse_syntax.specs.Leaf.{is_name, is_within, is_text, MOST}
+use Rattle.cse_syntax_tree.specs.declared.token.Mark.{Mark}
+use Rattle.cse_syntax_tree.specs.declared.token.Mark.TheVariants as m
+use Rattle.cse_syntax_tree.specs.declared.tree.Count.{Count}
+use Rattle.cse_syntax_tree.specs.declared.tree.Count.TheVariants as c
+use Rattle.cse_syntax_tree.specs.declared.tree.Jump.{Jump}
+use Rattle.cse_syntax_tree.specs.Word.{Word, Name, Digits, Quoted, Leave, Sign}
+use Rattle.cse_syntax_tree.specs.Tree.{Spelling, Expr, exprs, Literal, Limit, Fixed, Counted, Counting, Message, Own, Numbered, Stmt, Empty, Assign, Call, If, For, Do, Jump', Impute, PutDeck, ErrMsg, Stmts, stmts, Arms, no_arm, else_of, arms}
+use Rattle.cse_syntax_tree.specs.Leaf.{is_name, is_within, is_text, MOST}
 use Rattle.cse_syntax.specs.Reading.{◌>>=◌, Parser, loop, snoc, sees, expect, ends, after, enter, take_name, name_before, take_number, listed, subscripts, arguments, nested, expr_at}
 
 abbrev pub starts_mark : Mark → Bool

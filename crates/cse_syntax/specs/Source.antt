@@ -6,9 +6,9 @@ use Rattle.cse_syntax.specs.declared.error.Cause.TheVariants as cause
 use Rattle.cse_syntax.specs.declared.error.ReadError.{ReadError}
 use Rattle.cse_syntax.specs.declared.error.ReadError.TheVariants as errors
 use Rattle.cse_syntax.specs.declared.error.SyntaxError.{SyntaxError}
-use Rattle.cse_syntax.specs.Word.{Word, word}
-use Rattle.cse_syntax.specs.Tree.{Tree}
-use Rattle.cse_syntax.specs.Grammar.{IsSource}
+use Rattle.cse_syntax_tree.specs.Word.{Word, word}
+use Rattle.cse_syntax_tree.specs.Tree.{Tree}
+use Rattle.cse_syntax_tree.specs.Grammar.{IsSource}
 use Rattle.cse_syntax.specs.Text.{skip, mark_len, Piece, pieces_of}
 
 -- the words of tokens, which are counted from this number

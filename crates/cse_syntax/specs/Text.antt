@@ -2,15 +2,15 @@
 use Rattle.std.specs.Prelude.{ℕ, zero, suc, ◌-◌, ◌+◌, Bool, true, false, ◌||◌, ◌&&◌, ◌==◌, if◌then◌else◌, List, [], ◌∷◌, length, take, drop, map, Option, Some, None, nat_le}
 use Rattle.std.specs.List.{prefix_len, count_by}
 use Rattle.std.specs.Char.{is_ascii_alphabetic, is_ascii_digit}
-use Rattle.cse_syntax.specs.declared.token.Mark.{Mark}
-use Rattle.cse_syntax.specs.declared.token.Mark.TheVariants as m
-use Rattle.cse_syntax.specs.declared.token.Kind.{Kind}
-use Rattle.cse_syntax.specs.declared.token.Kind.TheVariants as k
-use Rattle.cse_syntax.specs.declared.token.Token.{Token}
+use Rattle.cse_syntax_tree.specs.declared.token.Mark.{Mark}
+use Rattle.cse_syntax_tree.specs.declared.token.Mark.TheVariants as m
+use Rattle.cse_syntax_tree.specs.declared.token.Kind.{Kind}
+use Rattle.cse_syntax_tree.specs.declared.token.Kind.TheVariants as k
+use Rattle.cse_syntax_tree.specs.declared.token.Token.{Token}
 use Rattle.cse_syntax.specs.declared.lexer.Gap.{Gap}
 use Rattle.cse_syntax.specs.declared.lexer.Gap.TheVariants as g
 use Rattle.cse_syntax.specs.Loop.{◌>>=◌, Reader, loop, snoc}
-pub use Rattle.cse_syntax.specs.Leaf.{or_else, begins, word_kind, is_word_byte, is_inside, is_start}
+pub use Rattle.cse_syntax_tree.specs.Leaf.{or_else, begins, word_kind, is_word_byte, is_inside, is_start}
 
 -- ---- blanks and comments
 

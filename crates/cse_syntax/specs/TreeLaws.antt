@@ -1,9 +1,9 @@
 -- Laws of the definitions: each is the contract of a public function.
 use Rattle.std.specs.Prelude.{◌≡◌, ◌<◌, ◌≤◌, ℕ, List, length, take, Some}
-use Rattle.cse_syntax.specs.declared.token.Kind.{Kind}
-use Rattle.cse_syntax.specs.Word.{Word}
-use Rattle.cse_syntax.specs.Tree.{Tree}
-use Rattle.cse_syntax.specs.Grammar.{IsSource}
+use Rattle.cse_syntax_tree.specs.declared.token.Kind.{Kind}
+use Rattle.cse_syntax_tree.specs.Word.{Word}
+use Rattle.cse_syntax_tree.specs.Tree.{Tree}
+use Rattle.cse_syntax_tree.specs.Grammar.{IsSource}
 use Rattle.cse_syntax.specs.Text.{token_at}
 
 -- Words are those of one tree at most.

@@ -2,9 +2,9 @@
 
 ghost use Rattle.std.specs.Prelude.{◌≡◌, ◌<◌, IfOk, length, map};
 ghost use Rattle.std.specs.Option.{option_map};
-ghost use Rattle.cse_syntax.specs.Word.{words};
-ghost use Rattle.cse_syntax.specs.Tree as tree;
-ghost use Rattle.cse_syntax.specs.Tree.{written};
+ghost use Rattle.cse_syntax_tree.specs.Word.{words};
+ghost use Rattle.cse_syntax_tree.specs.Tree as tree;
+ghost use Rattle.cse_syntax_tree.specs.Tree.{written};
 ghost use Rattle.cse_syntax.specs.Reading as spec;
 ghost use Rattle.cse_syntax.specs.Reading.{Reads};
 ghost use Rattle.cse_syntax.specs.ReadingStmt as stmts;
@@ -12,10 +12,11 @@ ghost use Rattle.cse_syntax.specs.ReadingSource as rule;
 
 use crate::error::ReadError;
 use crate::expression::MOST;
-use crate::number::is_within;
 use crate::parser::{Parser, refused};
-use crate::token::{Kind, Mark};
-use crate::tree::{Array, Body, Declaration, Dimension, Lexeme, Literal, Parameter, Procedure};
+use cse_syntax_tree::{
+    Array, Body, Declaration, Dimension, Kind, Lexeme, Literal, Mark, Parameter, Procedure,
+    is_within,
+};
 
 /// The greatest length of a text, and the greatest dimension.
 const ALPHA_MOST: u64 = 255;

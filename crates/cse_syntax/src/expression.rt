@@ -2,18 +2,18 @@
 //! statements may be open, so no text makes the methods call themselves without end.
 
 ghost use Rattle.std.specs.Prelude.{◌≡◌, [], ◌∷◌, length, map};
-ghost use Rattle.cse_syntax.specs.Word.{words};
-ghost use Rattle.cse_syntax.specs.Tree as tree;
-ghost use Rattle.cse_syntax.specs.Tree.{written, expr, exprs, operation_tree, Compare};
+ghost use Rattle.cse_syntax_tree.specs.Word.{words};
+ghost use Rattle.cse_syntax_tree.specs.Tree as tree;
+ghost use Rattle.cse_syntax_tree.specs.Tree.{written, expr, exprs, operation_tree, Compare};
 ghost use Rattle.std.specs.Option.{option_map};
 ghost use Rattle.cse_syntax.specs.Reading as spec;
 ghost use Rattle.cse_syntax.specs.Reading.{Reads, Makes};
 
 use crate::error::ReadError;
-use crate::number::is_within;
 use crate::parser::{Level, Parser, refused};
-use crate::token::{Kind, Mark, Token};
-use crate::tree::{Expression, Function, Lexeme, Operation, Query, Relation};
+use cse_syntax_tree::{
+    Expression, Function, Kind, Lexeme, Mark, Operation, Query, Relation, Token, is_within,
+};
 use std::alloc::Global;
 
 /// The greatest number of a source.

@@ -5,12 +5,12 @@ ghost use Rattle.std.specs.List.{prefix_len, count_by};
 ghost use Rattle.std.specs.Char.{is_ascii_digit};
 ghost use Rattle.cse_syntax.specs.Text as spec;
 ghost use Rattle.cse_syntax.specs.Text.{piece};
-ghost use Rattle.cse_syntax.specs.Leaf.{is_token};
+ghost use Rattle.cse_syntax_tree.specs.Leaf.{is_token};
 ghost use Rattle.cse_syntax.specs.Lexed.{depth, Splits, Continues, IsShorter};
 
 use crate::error::{Cause, Fault};
-use crate::token::{Kind, Mark, Token};
 use crate::word::word_kind;
+use cse_syntax_tree::{Kind, Mark, Token};
 use std::alloc::{AllocError, Global};
 
 /// Where a byte of blanks and comments is.

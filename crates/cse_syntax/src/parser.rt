@@ -1,15 +1,13 @@
 //! From tokens to trees: what all rules of the grammar are made of.
 
 ghost use Rattle.std.specs.Prelude.{◌≡◌, ◌==◌, ◌≤◌, ◌<◌, IfSome, IfNone, true, length, drop};
-ghost use Rattle.cse_syntax.specs.Word.{words};
-ghost use Rattle.cse_syntax.specs.Tree.{written};
+ghost use Rattle.cse_syntax_tree.specs.Word.{words};
+ghost use Rattle.cse_syntax_tree.specs.Tree.{written};
 ghost use Rattle.cse_syntax.specs.Reading as spec;
 ghost use Rattle.cse_syntax.specs.Reading.{Reads, Leaves, IsFault, Takes};
 
 use crate::error::{Cause, Fault, ReadError};
-use crate::number::is_within;
-use crate::token::{Kind, Mark, Token};
-use crate::tree::{Lexeme, Operator, Relation};
+use cse_syntax_tree::{Kind, Lexeme, Mark, Operator, Relation, Token, is_within};
 use std::alloc::Global;
 
 /// The tokens that are left.

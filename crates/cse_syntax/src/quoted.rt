@@ -1,7 +1,7 @@
 //! What a text in quotes says.
 
 ghost use Rattle.std.specs.Prelude.{◌≡◌, true};
-ghost use Rattle.cse_syntax.specs.Leaf as spec;
+ghost use Rattle.cse_syntax_tree.specs.Leaf as spec;
 
 /// What stands between the quotes of a text.
 pub fn text_of(text: &str) -> &str

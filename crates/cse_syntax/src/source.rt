@@ -1,11 +1,11 @@
 //! A whole text.
 
 ghost use Rattle.std.specs.Prelude.{◌≡◌, ◌≤◌, ◌⊎◌, Some, IfOk, IfErr};
-ghost use Rattle.cse_syntax.specs.Word.{words, AreNumbered};
-ghost use Rattle.cse_syntax.specs.Tree as tree;
-ghost use Rattle.cse_syntax.specs.Tree.{tree as seen};
+ghost use Rattle.cse_syntax_tree.specs.Word.{words, AreNumbered};
+ghost use Rattle.cse_syntax_tree.specs.Tree as tree;
+ghost use Rattle.cse_syntax_tree.specs.Tree.{tree as seen};
 ghost use Rattle.cse_syntax.specs.Place.{cut, line_of, column_of, start_of};
-ghost use Rattle.cse_syntax.specs.Grammar.{IsSource};
+ghost use Rattle.cse_syntax_tree.specs.Grammar.{IsSource};
 ghost use Rattle.cse_syntax.specs.Reading.{GivesAll};
 ghost use Rattle.cse_syntax.specs.ReadingSource.{source_at, tree_of};
 ghost use Rattle.cse_syntax.specs.Text.{pieces, pieces_of};
@@ -15,8 +15,7 @@ use crate::error::{Cause, Fault, ReadError, SyntaxError};
 use crate::lexer;
 use crate::parser::Parser;
 use crate::place::{Position, position_of};
-use crate::token::Token;
-use crate::tree::Tree;
+use cse_syntax_tree::{Token, Tree};
 use std::alloc::Global;
 
 /// How many parentheses and statements may be open at once.

@@ -3,20 +3,19 @@
 ghost use Rattle.std.specs.Prelude.{◌≡◌, ◌<◌, IfOk, [], ◌∷◌, length, map};
 ghost use Rattle.std.specs.Option.{option_map};
 ghost use Rattle.std.specs.Str.{str_eq_ignore_ascii_case};
-ghost use Rattle.cse_syntax.specs.Word.{words};
-ghost use Rattle.cse_syntax.specs.Tree as tree;
-ghost use Rattle.cse_syntax.specs.Tree.{written, expr, exprs, stmt, stmts, block, arms, arm_tree, otherwise_tree};
+ghost use Rattle.cse_syntax_tree.specs.Word.{words};
+ghost use Rattle.cse_syntax_tree.specs.Tree as tree;
+ghost use Rattle.cse_syntax_tree.specs.Tree.{written, expr, exprs, stmt, stmts, block, arms, arm_tree, otherwise_tree};
 ghost use Rattle.cse_syntax.specs.Reading as spec;
 ghost use Rattle.cse_syntax.specs.Reading.{Reads};
 ghost use Rattle.cse_syntax.specs.ReadingStmt as rule;
 
 use crate::error::ReadError;
 use crate::expression::MOST;
-use crate::number::is_within;
 use crate::parser::{Parser, refused};
-use crate::token::{Kind, Mark, Token};
-use crate::tree::{
-    Arm, Count, Counting, Expression, Jump, Lexeme, Limit, Literal, Message, Place, Statement,
+use cse_syntax_tree::{
+    Arm, Count, Counting, Expression, Jump, Kind, Lexeme, Limit, Literal, Mark, Message, Place,
+    Statement, Token, is_within,
 };
 
 /// The greatest limit of a `do`, and its greatest step.

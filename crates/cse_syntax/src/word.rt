@@ -2,10 +2,9 @@
 
 ghost use Rattle.std.specs.Prelude.{◌≡◌, length};
 ghost use Rattle.std.specs.Str.{str_eq_ignore_ascii_case};
-ghost use Rattle.cse_syntax.specs.Leaf as spec;
+ghost use Rattle.cse_syntax_tree.specs.Leaf as spec;
 
-use crate::token::{Kind, Mark};
-use crate::tree::{Jump, Special};
+use cse_syntax_tree::{Jump, Kind, Mark, Special};
 
 /// How many characters a name may have.
 const NAME_LEN: usize = 32;
@@ -124,7 +123,7 @@ fn values(text: &[u8]) -> Option<Mark>
     }
 }
 
-#[tactic(auto, unfolding(crate::specs::Leaf::mark_of))]
+#[tactic(auto, unfolding(cse_syntax_tree::specs::Leaf::mark_of))]
 fn mark_of(text: &[u8]) -> Option<Mark>
     ensures { result ≡ spec.mark_of text.now }
 {
@@ -170,7 +169,7 @@ fn jumps(text: &[u8]) -> Option<Jump>
     }
 }
 
-#[tactic(auto, unfolding(crate::specs::Leaf::reserved))]
+#[tactic(auto, unfolding(cse_syntax_tree::specs::Leaf::reserved))]
 fn reserved(text: &[u8]) -> Option<Kind>
     ensures { result ≡ spec.reserved text.now }
 {
@@ -187,7 +186,7 @@ fn reserved(text: &[u8]) -> Option<Kind>
 }
 
 // Words of CSPro's logic that are no part of this language.
-#[tactic(auto, unfolding(crate::specs::Leaf::is_left_out))]
+#[tactic(auto, unfolding(cse_syntax_tree::specs::Leaf::is_left_out))]
 fn is_left_out(text: &[u8]) -> bool
     ensures { result ≡ spec.is_left_out text.now }
 {

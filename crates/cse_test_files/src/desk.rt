@@ -13,24 +13,24 @@ use std::rt::{Env, Files};
 
 /// What is amiss at a desk.
 #[derive(Clone, Copy)]
-pub enum Amiss {
+pub enum Amiss<'a> {
     Nothing,
     /// A file may not be opened.
-    Closed(&'static str),
+    Closed(&'a str),
     /// A file may be opened to be read, and not to be written.
-    Kept(&'static str),
+    Kept(&'a str),
     /// A folder stands where a file should.
-    Folder(&'static str),
+    Folder(&'a str),
     /// What is written to a file, or beside it, finds no room.
-    Full(&'static str),
+    Full(&'a str),
     /// What is written to a file, or beside it, is taken, and the disk has no room for it.
-    Late(&'static str),
+    Late(&'a str),
     /// A file is a link to another one.
-    Link(&'static str, &'static str),
+    Link(&'a str, &'a str),
     /// A file is another one by a second name.
-    Name(&'static str, &'static str),
+    Name(&'a str, &'a str),
     /// Nothing can be made beside a file.
-    Alone(&'static str),
+    Alone(&'a str),
     /// Nothing can be printed.
     Mute,
 }
@@ -42,9 +42,9 @@ pub struct Desk<'a, R> {
     pub alloc: Global,
     /// The folder in which its files lie.
     pub room: &'a str,
-    /// The words after the program's name.
-    pub words: &'a [&'a str],
-    pub amiss: Amiss,
+    /// The words after the program's name, with blanks between them.
+    pub words: &'a str,
+    pub amiss: Amiss<'a>,
     /// The files that were opened, or should have been, with `>` before each that is written, and blanks between them.
     pub opened: RefCell<String>,
     pub printed: RefCell<Vec<u8>>,
@@ -97,8 +97,8 @@ impl<R> Env for Desk<'_, R> {
     fn arg(&self, i: usize, buf: &mut [u8]) -> Result<usize, FillError> {
         let word = match i {
             0 => "csbatch",
-            _ => match self.words.get(i - 1) {
-                Some(word) => *word,
+            _ => match self.words.split_ascii_whitespace().nth(i - 1) {
+                Some(word) => word,
                 None => return Err(FillError::NotPresent),
             },
         };

@@ -66,4 +66,12 @@ impl<F: OpenFile> OpenFile for Sheet<F> {
     fn set_permissions(&self, perm: Permissions) -> io::Result<()> {
         self.file.set_permissions(perm)
     }
+
+    fn try_clone(&self) -> io::Result<Sheet<F>> {
+        Ok(Sheet {
+            file: self.file.try_clone()?,
+            is_full: self.is_full,
+            is_late: self.is_late,
+        })
+    }
 }

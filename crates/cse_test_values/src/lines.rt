@@ -1,12 +1,11 @@
 //! Files as runs of lines, as they are built: in pieces, cut off, and at their limits. What the runs of other files are is a law
 //! of cse_test_laws.
 
-ghost use Rattle.std.specs.Prelude.{None};
-
 use cse_dict::Dictionary;
 use cse_lines::{Columns, Run, RunReader};
-use cse_value::{Failed, Input};
+use cse_value::Reads;
 use std::alloc::{AllocError, Global};
+use std::io;
 
 /// Gives bytes in small pieces, and fails before byte `breaks`.
 #[derive(Drop)]
@@ -14,23 +13,17 @@ struct Pieces<'a> {
     bytes: &'a [u8],
     size: usize,
     breaks: usize,
-    failed: bool,
 }
 
-impl Input for Pieces<'_> {
-    ghost remaining = { λ s. None };
-
-    ghost has_failed = { λ s. s.failed };
-
-    fn read(&mut self, buf: &mut [u8]) -> Result<usize, Failed> {
+impl io::Read for Pieces<'_> {
+    fn read(&mut self, buf: &mut [u8]) -> io::Result<usize> {
         let n = self
             .size
             .min(buf.len())
             .min(self.bytes.len())
             .min(self.breaks);
-        if self.failed || self.breaks == 0 {
-            self.failed = true;
-            return Err(Failed);
+        if self.breaks == 0 {
+            return Err(io::Error::from(io::ErrorKind::TimedOut));
         }
         buf[..n].copy_from_slice(&self.bytes[..n]);
         self.bytes = &self.bytes[n..];
@@ -156,9 +149,10 @@ static ROWS: [Row; 14] = [
 fn outcome(
     alloc: Global,
     dictionary: &Dictionary,
-    mut input: Pieces<'_>,
+    pieces: Pieces<'_>,
     most: u64,
 ) -> ((u8, u64), u64) {
+    let mut input = Reads::new(pieces);
     let mut reader = RunReader::new(alloc, dictionary);
     for runs in 0..most {
         match reader.next(&mut input) {
@@ -233,12 +227,11 @@ fn place_behind(run: &Run, columns: &[&str], first: usize) -> Option<usize> {
 
 /// Whether the lines of a file have their columns.
 fn is_laid(alloc: Global, dictionary: &Dictionary, laid: &Laid) -> bool {
-    let mut input = Pieces {
+    let mut input = Reads::new(Pieces {
         bytes: laid.file,
         size: 3,
         breaks: usize::MAX,
-        failed: false,
-    };
+    });
     let mut reader = RunReader::new(alloc, dictionary);
     let mut at = 0;
     for _ in 0..99 {
@@ -281,13 +274,12 @@ fn push_times(bytes: &mut Vec<u8>, piece: &[u8], times: usize) -> Result<(), All
 
 /// Whether a file of these bytes is read as the row tells.
 fn is_read(alloc: Global, dictionary: &Dictionary, bytes: &[u8], row: &Row) -> bool {
-    let input = Pieces {
+    let pieces = Pieces {
         bytes,
         size: row.size,
         breaks: usize::MAX,
-        failed: false,
     };
-    let (told, reads) = outcome(alloc, dictionary, input, row.most);
+    let (told, reads) = outcome(alloc, dictionary, pieces, row.most);
     told == row.told && reads == row.reads.unwrap_or(reads)
 }
 
@@ -319,13 +311,12 @@ fn limits_of_runs_and_lines(rt: HostRuntime) {
 fn first_unnoticed(alloc: Global, bytes: &[u8]) -> Option<usize> {
     let dictionary = Dictionary::read(alloc, PERSONS.as_bytes()).ok()?;
     for breaks in 0..bytes.len() {
-        let input = Pieces {
+        let pieces = Pieces {
             bytes,
             size: 3,
             breaks,
-            failed: false,
         };
-        if outcome(alloc, &dictionary, input, 99).0 != (70, 0) {
+        if outcome(alloc, &dictionary, pieces, 99).0 != (70, 0) {
             return Some(breaks);
         }
     }

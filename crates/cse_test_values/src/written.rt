@@ -3,7 +3,7 @@
 use crate::changes::PERSONS;
 use cse_dict::Dictionary;
 use cse_logic_tree::{Body, Field, Found, Number, Owner, Procedure, Statement, Tree, Which};
-use cse_syntax::{Lexeme, Special};
+use cse_syntax_tree::{Lexeme, Special};
 use cse_written_items::items_written;
 use std::alloc::{AllocError, Global};
 

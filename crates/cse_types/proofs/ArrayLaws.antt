@@ -1,7 +1,7 @@
 -- The dimensions of all arrays, which are found one after the other.
 use Rattle.std.proofs.Common.{◌≡◌, ℕ, ◌+◌, ◌<◌, ◌≤◌, List, [], ◌∷◌, ◌++◌, length, map, drop, get_or, Option, refl, sym, ap, ◌∙◌, append_assoc}
-use Rattle.cse_syntax.specs.Tree as syntax
-use Rattle.cse_syntax.specs.declared.tree.Declaration as rust
+use Rattle.cse_syntax_tree.specs.Tree as syntax
+use Rattle.cse_syntax_tree.specs.declared.tree.Declaration as rust
 use Rattle.cse_logic_tree.specs.Typed.{Dimension}
 use Rattle.cse_logic_names.specs.Scope.{Scope}
 use Rattle.cse_types.specs.JudgeTree.{arrays_judged}

@@ -1,10 +1,10 @@
 -- What statements that hold others are judged to be, and the messages that stand in them.
 use Rattle.std.specs.Prelude.{Bool, true, false, ◌||◌, not}
 use Rattle.std.proofs.Common.{◌≡◌, ℕ, ◌+◌, List, [], ◌∷◌, ◌++◌, length, map, Option, Some, None, refl, ap, sym, ◌∙◌, arith, option_map, append_assoc, length-append}
-use Rattle.cse_syntax.specs.declared.tree.Statement as rusts
-use Rattle.cse_syntax.specs.declared.tree.Arm as rustarm
-use Rattle.cse_syntax.specs.Tree as syntax
-use Rattle.cse_syntax.specs.Tree.{Spelling, stmt, arm_tree}
+use Rattle.cse_syntax_tree.specs.declared.tree.Statement as rusts
+use Rattle.cse_syntax_tree.specs.declared.tree.Arm as rustarm
+use Rattle.cse_syntax_tree.specs.Tree as syntax
+use Rattle.cse_syntax_tree.specs.Tree.{Spelling, stmt, arm_tree}
 use Rattle.cse_logic_tree.specs.declared.tree.Variable.{Variable}
 use Rattle.cse_logic_tree.specs.Typed as typed
 use Rattle.cse_logic_tree.specs.Typed.{Number, Statement, Statements, Arms, Counting, If, Do, statement_and, statements, arms, arm, no_arm, else_of}

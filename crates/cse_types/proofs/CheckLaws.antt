@@ -5,9 +5,9 @@ use Rattle.std.proofs.lemmas.List.{length-map}
 use Rattle.std.proofs.lemmas.Bool.{false≢true}
 use Rattle.std.proofs.Math.Logic.{∥∥₁_map}
 use Rattle.cse_dict.specs.Dictionary.{DictionaryText}
-use Rattle.cse_syntax.specs.Word.{Word}
-use Rattle.cse_syntax.specs.Grammar.{IsSource, spell_tree}
-use Rattle.cse_syntax.specs.Tree as syntax
+use Rattle.cse_syntax_tree.specs.Word.{Word}
+use Rattle.cse_syntax_tree.specs.Grammar.{IsSource, spell_tree}
+use Rattle.cse_syntax_tree.specs.Tree as syntax
 use Rattle.cse_logic_tree.specs.Typed.{Declaration, Procedure, Tree}
 use Rattle.cse_logic_tree.specs.Erase.{erase_tree}
 use Rattle.cse_logic_names.specs.declared.error.TypeError.{TypeError}
@@ -20,6 +20,7 @@ use Rattle.cse_types.specs.Told.{told_of}
 use Rattle.cse_logic_names.specs.Scope.{Scope}
 use Rattle.cse_types.specs.Table.{table_of}
 use Rattle.cse_logic_names.specs.OrderFile.{IsOrderOf}
+use Rattle.cse_logic_names.specs.Texts.{AreTexts, AreUtf8}
 use Rattle.cse_types.specs.Checked.{Checked, IsChecked, start_of, parts_of, parts_judged, with_entries}
 use Rattle.cse_logic_names.specs.Walk.{is_there, joined, only_if}
 use Rattle.cse_logic_expressions.proofs.Right.{For}
@@ -136,8 +137,15 @@ pub no_fault : (w : Bool) (o : Option Tree) (t : Tree) → w ≡ true → w ≡ 
 no_fault w o t h k e = false≢true (sym (ap (λ z. not (is_there z)) e) ∙ sym k ∙ h)
 
 pub checked_so : (d : DictionaryText) (messages : List MessageText) (order : List ℕ) (x : syntax.Tree) (ws : List Word) (t : Tree) → IsTypedAs d messages x t → ∥ IsSource 64 x ws ∥₁ → IsOrderOf d order
+    → ∥ AreUtf8 (spell_tree x) ∥₁ → AreTexts messages
     → IsChecked (record { dictionary = d; messages = messages; order = order; tree = t })
-checked_so d messages order x ws t h p q = record { well = h.well; source = subst (λ (y : syntax.Tree). ∥ IsSource 64 y (spell_tree y) ∥₁) (sym h.erased) (its_words x ws p); ordered = q }
+checked_so d messages order x ws t h p q utf8 texts = record {
+  well = h.well;
+  source = subst (λ (y : syntax.Tree). ∥ IsSource 64 y (spell_tree y) ∥₁) (sym h.erased) (its_words x ws p);
+  ordered = q;
+  utf8 = subst (λ (y : syntax.Tree). ∥ AreUtf8 (spell_tree y) ∥₁) (sym h.erased) utf8;
+  texts = texts;
+}
 
 pub typed_right : (d : DictionaryText) (messages : List MessageText) (x : syntax.Tree) (t : Tree) → typed_of d messages x ≡ Some t → IsTypedAs d messages x t
 typed_right d messages x t e = subst (For (IsTypedAs d messages x)) e (tree_right d messages x)

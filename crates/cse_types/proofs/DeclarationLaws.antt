@@ -2,8 +2,8 @@
 use Rattle.std.proofs.Common.{◌≡◌, ℕ, ◌+◌, ◌<◌, ◌≤◌, Bool, true, false, List, [], ◌∷◌, ◌++◌, length, map, drop, get_or, Option, Some, None, refl, sym, ap, ◌∙◌, subst, arith, append_assoc, option_map}
 use Rattle.std.specs.Prelude.{◌&&◌, ◌||◌, not}
 use Rattle.std.proofs.lemmas.List.{length-map}
-use Rattle.cse_syntax.specs.Tree as syntax
-use Rattle.cse_syntax.specs.declared.tree.Declaration as rust
+use Rattle.cse_syntax_tree.specs.Tree as syntax
+use Rattle.cse_syntax_tree.specs.declared.tree.Declaration as rust
 use Rattle.cse_types.specs.declared.told.Told.{Told}
 use Rattle.cse_types.specs.Told.{told_of}
 use Rattle.cse_logic_names.specs.Scope.{Scope}

@@ -9,9 +9,9 @@ use Rattle.std.proofs.lemmas.List.{length-map}
 use Rattle.std.proofs.lemmas.Str.Ascii.{uppercase-uppercase}
 use Rattle.cse_dict.specs.Dictionary.{DictionaryText}
 use Rattle.cse_dict.specs.Keys.{kept_name}
-use Rattle.cse_syntax.specs.Tree as syntax
-use Rattle.cse_syntax.specs.Tree.{Spelling}
-use Rattle.cse_syntax.specs.declared.tree.Parameter.{Parameter}
+use Rattle.cse_syntax_tree.specs.Tree as syntax
+use Rattle.cse_syntax_tree.specs.Tree.{Spelling}
+use Rattle.cse_syntax_tree.specs.declared.tree.Parameter.{Parameter}
 use Rattle.cse_logic_names.specs.WellTyped.{parameter_names}
 use Rattle.cse_types.specs.declared.fresh.Fresh.{Fresh}
 use Rattle.cse_logic_names.specs.Scope.{Scope, in_dictionary}

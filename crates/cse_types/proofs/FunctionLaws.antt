@@ -1,8 +1,8 @@
 -- A function, judged in the scope that its parameters make.
 use Rattle.std.proofs.Common.{◌≡◌, ℕ, Bool, true, false, List, [], ◌∷◌, ◌++◌, length, map, Option, Some, None, refl, sym, ap, ◌∙◌}
 use Rattle.std.specs.Prelude.{◌||◌, not, option_map, Result, Ok, Err, OnOk}
-use Rattle.cse_syntax.specs.Tree as syntax
-use Rattle.cse_syntax.specs.Tree.{Spelling}
+use Rattle.cse_syntax_tree.specs.Tree as syntax
+use Rattle.cse_syntax_tree.specs.Tree.{Spelling}
 use Rattle.cse_logic_tree.specs.Typed.{Statements, Function}
 use Rattle.cse_types.specs.declared.fresh.Fresh.{Fresh}
 use Rattle.cse_logic_names.specs.Scope.{Scope, Facts}

@@ -17,3 +17,4 @@ pub mod ArrayLaws
 pub mod EntryLaws
 pub mod SaidLaws
 pub mod CheckLaws
+mod Utf8

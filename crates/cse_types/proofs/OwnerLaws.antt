@@ -1,8 +1,8 @@
 -- The names of procedures, which are taken one after the other.
 use Rattle.std.proofs.Common.{◌≡◌, List, [], ◌∷◌, map, refl, true}
 use Rattle.cse_dict.specs.Keys.{kept_name}
-use Rattle.cse_syntax.specs.Tree as syntax
-use Rattle.cse_syntax.specs.declared.tree.Procedure.{Procedure}
+use Rattle.cse_syntax_tree.specs.Tree as syntax
+use Rattle.cse_syntax_tree.specs.declared.tree.Procedure.{Procedure}
 use Rattle.cse_types.specs.declared.fresh.Fresh.{Fresh}
 use Rattle.cse_types.specs.Fresh.{all_after, with_fresh}
 use Rattle.cse_types.specs.JudgeTree.{owner_names}

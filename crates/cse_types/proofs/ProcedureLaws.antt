@@ -2,8 +2,8 @@
 use Rattle.std.proofs.Common.{◌≡◌, ℕ, ◌+◌, ◌<◌, List, [], ◌∷◌, ◌++◌, length, map, drop, get_or, Option, Some, None, refl, sym, ap, ◌∙◌, append_assoc, option_map}
 use Rattle.std.specs.Prelude.{Bool, true, false, ◌||◌, ◌&&◌, not}
 use Rattle.cse_logic_tree.specs.declared.tree.Owner.{Owner}
-use Rattle.cse_syntax.specs.Tree as syntax
-use Rattle.cse_syntax.specs.declared.tree.Procedure as rust
+use Rattle.cse_syntax_tree.specs.Tree as syntax
+use Rattle.cse_syntax_tree.specs.declared.tree.Procedure as rust
 use Rattle.cse_types.specs.declared.told.Told.{Told}
 use Rattle.cse_types.specs.Told.{told_of}
 use Rattle.cse_logic_names.specs.Scope.{Scope}

@@ -3,9 +3,9 @@ use Rattle.std.proofs.Common.{◌≡◌, ℕ, zero, suc, Bool, true, false, List
 use Rattle.std.specs.Prelude.{◌&&◌}
 use Rattle.std.proofs.lemmas.Bool.{false≢true}
 use Rattle.std.proofs.lemmas.Grind.{not_there}
-use Rattle.cse_syntax.specs.Word.{Word}
-use Rattle.cse_syntax.specs.Tree as syntax
-use Rattle.cse_syntax.specs.Grammar.{Below, Each, IsSource, IsMessage, IsStmt, AreStmts, AreArms, IsDeclaration, IsBody, IsProcedure, IsExpr, IsCounting, AreGlobals}
+use Rattle.cse_syntax_tree.specs.Word.{Word}
+use Rattle.cse_syntax_tree.specs.Tree as syntax
+use Rattle.cse_syntax_tree.specs.Grammar.{Below, Each, IsSource, IsMessage, IsStmt, AreStmts, AreArms, IsDeclaration, IsBody, IsProcedure, IsExpr, IsCounting, AreGlobals}
 use Rattle.cse_logic_names.specs.WellTyped.{messages_in, messages_of, messages_behind, declared_messages, body_messages, procedure_messages, tree_messages, all_declarations}
 use Rattle.cse_types.specs.Entries.{is_said, are_said}
 

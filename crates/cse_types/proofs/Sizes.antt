@@ -3,7 +3,7 @@ use Rattle.std.proofs.Common.{◌≡◌, ◌≤◌, ◌<◌, ℕ, Bool, true, fa
 use Rattle.std.specs.Prelude.{◌&&◌, nat_le, if◌then◌else◌}
 use Rattle.std.proofs.lemmas.Bool.{leb-true, leb-false, le-leb, false≢true}
 use Rattle.std.proofs.Common.{◌⊎◌, inl, inr, ⊎_elim}
-use Rattle.cse_syntax.specs.Leaf.{is_within, is_digits, number_of, MOST}
+use Rattle.cse_syntax_tree.specs.Leaf.{is_within, is_digits, number_of, MOST}
 use Rattle.cse_logic_names.specs.WellTyped.{size_in, size_fit}
 use Rattle.cse_logic_expressions.proofs.Right.{and_holds}
 

@@ -5,8 +5,8 @@ use Rattle.std.proofs.lemmas.Bool.{eq-eqb}
 use Rattle.std.proofs.lemmas.Option.{none-some}
 use Rattle.cse_value.specs.declared.shape.ItemKind.{ItemKind}
 use Rattle.cse_value.specs.declared.shape.ItemKind.TheVariants as kind
-use Rattle.cse_syntax.specs.Tree as syntax
-use Rattle.cse_syntax.specs.Tree.{Spelling}
+use Rattle.cse_syntax_tree.specs.Tree as syntax
+use Rattle.cse_syntax_tree.specs.Tree.{Spelling}
 use Rattle.cse_logic_tree.specs.declared.tree.Variable.{Variable}
 use Rattle.cse_logic_tree.specs.declared.tree.Field.{Field}
 use Rattle.cse_logic_tree.specs.Typed.{Number, Numbers, no_number, Which, Here, At, Argument, OfNumber, OfWords, Whole, Limit, Fixed, Counted, Counting, Statement, Statements, Arms}

@@ -7,10 +7,10 @@ use Rattle.std.specs.Str.{bytes_eq}
 use Rattle.std.proofs.lemmas.Bool.{false≢true}
 use Rattle.cse_dict.specs.Dictionary.{DictionaryText}
 use Rattle.cse_dict.specs.Keys.{kept_name}
-use Rattle.cse_syntax.specs.Tree as syntax
-use Rattle.cse_syntax.specs.Tree.{Spelling, written}
-use Rattle.cse_syntax.specs.declared.tree.Lexeme.{Lexeme}
-use Rattle.cse_syntax.specs.declared.tree.Declaration as rust
+use Rattle.cse_syntax_tree.specs.Tree as syntax
+use Rattle.cse_syntax_tree.specs.Tree.{Spelling, written}
+use Rattle.cse_syntax_tree.specs.declared.tree.Lexeme.{Lexeme}
+use Rattle.cse_syntax_tree.specs.declared.tree.Declaration as rust
 use Rattle.cse_logic_names.specs.declared.meaning.Meaning.{Meaning}
 use Rattle.cse_logic_names.specs.declared.meaning.Meaning.TheVariants as m
 use Rattle.cse_types.specs.declared.table.Table.{Table}

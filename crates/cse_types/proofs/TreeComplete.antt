@@ -5,7 +5,7 @@ use Rattle.std.specs.Map.{lookup}
 use Rattle.std.specs.Str.{bytes_eq}
 use Rattle.std.proofs.Common.{◌≡◌, ℕ, ◌+◌, List, [], ◌∷◌, ◌++◌, length, map, Option, Some, None, refl, sym, ap, ◌∙◌, subst}
 use Rattle.cse_dict.specs.Dictionary.{DictionaryText}
-use Rattle.cse_syntax.specs.Tree as syntax
+use Rattle.cse_syntax_tree.specs.Tree as syntax
 use Rattle.cse_logic_tree.specs.Typed.{Whole, Dimension, Sized, Rows, Array, Function, Declaration, Numeric, Alpha, Array', Function', Body, Plain, Preproc, Both, Postproc, Procedure, Tree}
 use Rattle.cse_logic_tree.specs.Erase.{erase_block, erase_dimension, erase_array, erase_declaration, erase_body, erase_procedure, erase_tree}
 use Rattle.cse_logic_names.specs.declared.meaning.Meaning.{Meaning}

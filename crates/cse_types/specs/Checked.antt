@@ -2,8 +2,8 @@
 use Rattle.std.specs.Prelude.{◌≡◌, ℕ, Bool, true, ◌&&◌, List, [], length, map, Option, Some, None}
 use Rattle.std.specs.Option.{option_map}
 use Rattle.cse_dict.specs.Dictionary.{DictionaryText}
-use Rattle.cse_syntax.specs.Tree as syntax
-use Rattle.cse_syntax.specs.Grammar.{IsSource, spell_tree}
+use Rattle.cse_syntax_tree.specs.Tree as syntax
+use Rattle.cse_syntax_tree.specs.Grammar.{IsSource, spell_tree}
 use Rattle.cse_logic_tree.specs.declared.tree.Owner.TheVariants as o
 use Rattle.cse_logic_tree.specs.Typed.{Declaration, Procedure, Tree}
 use Rattle.cse_logic_tree.specs.Erase.{erase_tree}
@@ -11,6 +11,7 @@ use Rattle.cse_logic_names.specs.declared.meaning.Meaning.{Meaning}
 use Rattle.cse_logic_names.specs.declared.meaning.Routine.TheVariants as r
 use Rattle.cse_logic_names.specs.MessageFile.{MessageText}
 use Rattle.cse_logic_names.specs.OrderFile.{IsOrderOf}
+use Rattle.cse_logic_names.specs.Texts.{AreTexts, AreUtf8}
 use Rattle.cse_logic_names.specs.Scope.{Scope}
 use Rattle.cse_logic_names.specs.WellTyped.{IsWell, all_declarations, declared_messages, entry_of, tree_messages}
 use Rattle.cse_types.specs.JudgeTree.{arrays_judged, behind_all, globals_judged, procedures_judged, tree_of}
@@ -23,11 +24,14 @@ pub record Checked : Type 0 where
   pub order : List ℕ
   pub tree : Tree
 
--- the tree keeps each rule of 40 to 49, and it is one of a source, with at most 64 parentheses and statements open at once
+-- the tree keeps each rule of 40 to 49, and it is one of a source, with at most 64 parentheses and statements open at once; its texts are
+-- UTF-8, and those of the messages have no character below U+0020
 pub record IsChecked (c : Checked) : Type 0 where
   pub well : IsWell c.dictionary c.messages c.tree
   pub source : ∥ IsSource 64 (erase_tree c.tree) (spell_tree (erase_tree c.tree)) ∥₁
   pub ordered : IsOrderOf c.dictionary c.order
+  pub utf8 : ∥ AreUtf8 (spell_tree (erase_tree c.tree)) ∥₁
+  pub texts : AreTexts c.messages
 
 -- ---- from names to the tree
 

@@ -1,7 +1,7 @@
 -- Messages whose own texts are written as texts are.
 use Rattle.std.specs.Prelude.{Bool, true, ◌&&◌, List, [], ◌∷◌}
-use Rattle.cse_syntax.specs.Leaf.{is_text}
-use Rattle.cse_syntax.specs.Tree as syntax
+use Rattle.cse_syntax_tree.specs.Leaf.{is_text}
+use Rattle.cse_syntax_tree.specs.Tree as syntax
 
 abbrev pub is_said : syntax.Message → Bool
 is_said (syntax.Own text) = is_text text.text

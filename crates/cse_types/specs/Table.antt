@@ -2,8 +2,8 @@
 use Rattle.std.specs.Prelude.{ℕ, ◌+◌, Bool, true, false, if◌then◌else◌, List, [], ◌∷◌, ◌++◌}
 use Rattle.cse_dict.specs.Dictionary.{DictionaryText}
 use Rattle.cse_dict.specs.Keys.{kept_name}
-use Rattle.cse_syntax.specs.Tree as syntax
-use Rattle.cse_syntax.specs.Tree.{Spelling}
+use Rattle.cse_syntax_tree.specs.Tree as syntax
+use Rattle.cse_syntax_tree.specs.Tree.{Spelling}
 use Rattle.cse_logic_tree.specs.declared.tree.Variable.TheVariants as v
 use Rattle.cse_logic_names.specs.declared.meaning.Meaning.{Meaning}
 use Rattle.cse_logic_names.specs.declared.meaning.Meaning.TheVariants as m

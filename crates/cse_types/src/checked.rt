@@ -2,18 +2,21 @@
 
 ghost use Rattle.std.specs.Prelude.{◌≡◌, ◌≤◌, ◌⊎◌, not, false, true, IfOk, IfErr};
 ghost use Rattle.std.specs.Option.{option_map};
-ghost use Rattle.cse_syntax.specs.Tree as syntax;
+ghost use Rattle.cse_syntax_tree.specs.Tree as syntax;
+ghost use Rattle.cse_syntax_tree.specs.Grammar.{spell_tree};
 ghost use Rattle.cse_syntax.specs.Place as place;
 ghost use Rattle.cse_logic_tree.specs.Typed as typed;
 ghost use Rattle.cse_types.specs.Answer.{IsAnswer, checked};
 ghost use Rattle.cse_types.specs.Checked.{IsChecked};
 ghost use Rattle.cse_logic_names.specs.Fault.{out_of_memory};
 ghost use Rattle.cse_logic_names.specs.OrderFile.{IsOrderOf};
+ghost use Rattle.cse_logic_names.specs.Texts.{AreTexts, AreUtf8};
 ghost use Rattle.cse_types.specs.JudgeTree.{typed_of};
 ghost use Rattle.cse_logic_names.specs.WellTyped.{IsTypedAs};
 ghost use Rattle.cse_logic_names.specs.Walk.{is_there};
 
 use crate::parts::judged;
+use crate::reading::read_tokens;
 use crate::typed::Typed;
 use cse_dict::Dictionary;
 use cse_logic_names::error::TypeError;
@@ -79,6 +82,8 @@ fn answer<'a>(
 ) -> Result<Typed<'a>, TypeError>
     requires order { IsOrderOf dictionary.now order.now }
     requires noted { is_there worst ≡ not (is_there (typed_of dictionary.now messages.now (syntax.tree source.now.tree))) }
+    requires utf8 { ∥ AreUtf8 (spell_tree (syntax.tree source.now.tree)) ∥₁ }
+    requires texts { AreTexts messages.now }
     requires found { is_there worst ≡ false → option_map typed.tree found ≡ typed_of dictionary.now messages.now (syntax.tree source.now.tree) }
     ensures sound { IfOk result (λ t. IsTypedAs dictionary.now messages.now (syntax.tree source.now.tree) (checked t).tree) }
     ensures made_for { IfOk result (λ t. ((checked t).dictionary ≡ dictionary.now) × ((checked t).messages ≡ messages.now) × ((checked t).order ≡ order.now)) }
@@ -113,6 +118,8 @@ pub fn check<'a>(
     ensures only { (t : typed.Tree) → IsTypedAs dictionary.now messages.now (syntax.tree source.now.tree) t → IsAnswer result t }
     ensures cause { IfErr result (λ e. ((40 ≤ e.number) × (e.number ≤ 49)) ⊎ (e ≡ out_of_memory)) }
 {
+    read_tokens(&source.tokens);
+    messages.count();
     let mut faults = Faults { worst: None };
     match judged(alloc, dictionary, messages, &mut faults, &source.tree) {
         Err(_) => Err(memory()),

@@ -1,7 +1,7 @@
 //! The messages of a source, with their numbers and their texts.
 
 ghost use Rattle.std.specs.Prelude.{◌≡◌, true, map, unwrap_or, IfOk};
-ghost use Rattle.cse_syntax.specs.Tree.{message};
+ghost use Rattle.cse_syntax_tree.specs.Tree.{message};
 ghost use Rattle.cse_logic_tree.specs.Typed as typed;
 ghost use Rattle.cse_types.specs.Entries.{is_said, are_said};
 ghost use Rattle.cse_types.specs.Told.{told_of};

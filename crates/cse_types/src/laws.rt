@@ -2,8 +2,8 @@
 
 ghost use Rattle.std.specs.Prelude.{◌≡◌, ℕ, List, Some};
 ghost use Rattle.cse_dict.specs.Dictionary.{DictionaryText};
-ghost use Rattle.cse_syntax.specs.Tree.{Stmts};
-ghost use Rattle.cse_syntax.specs.Tree as syntax;
+ghost use Rattle.cse_syntax_tree.specs.Tree.{Stmts};
+ghost use Rattle.cse_syntax_tree.specs.Tree as syntax;
 ghost use Rattle.cse_logic_tree.specs.Typed.{Statements, Tree};
 ghost use Rattle.cse_logic_tree.specs.Erase.{erase_block};
 ghost use Rattle.cse_logic_names.specs.Scope.{Scope};

@@ -6,6 +6,8 @@
 //! - `array`, `arrays`: arrays, and the dimensions of all of them.
 //! - `function`, `declaration`, `procedure`: functions, declarations and procedures, one after the other.
 //! - `entries`: the messages of a source with their numbers and texts.
+//! - `counts`: how many parameters and dimensions are declared.
+//! - `reading`: what the types of tokens hold.
 //! - `parts`, `checked`, `typed`: a whole source, from its names to the typed tree.
 //! - `laws`: laws of the definitions.
 #![tactic(auto)]
@@ -13,6 +15,7 @@
 mod array;
 mod arrays;
 mod checked;
+mod counts;
 mod declaration;
 mod entries;
 mod fresh;
@@ -21,6 +24,7 @@ mod laws;
 mod owners;
 mod parts;
 mod procedure;
+mod reading;
 mod statement;
 mod table;
 mod told;

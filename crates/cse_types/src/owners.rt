@@ -2,7 +2,7 @@
 
 ghost use Rattle.std.specs.Prelude.{◌≡◌, ◌||◌, not, true, map, IfOk, OnOk};
 ghost use Rattle.cse_dict.specs.Keys.{kept_name};
-ghost use Rattle.cse_syntax.specs.Tree as syntax;
+ghost use Rattle.cse_syntax_tree.specs.Tree as syntax;
 ghost use Rattle.cse_types.specs.JudgeTree as spec;
 ghost use Rattle.cse_types.specs.Fresh.{fresh_names, is_fresh, with_fresh};
 ghost use Rattle.cse_logic_names.specs.Walk.{is_there, IsNoted};

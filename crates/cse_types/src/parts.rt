@@ -2,7 +2,7 @@
 
 ghost use Rattle.std.specs.Prelude.{◌≡◌, ◌&&◌, ◌||◌, not, false, true, [], map, length, Some, None, IfOk, OnOk};
 ghost use Rattle.std.specs.Option.{option_map};
-ghost use Rattle.cse_syntax.specs.Tree as syntax;
+ghost use Rattle.cse_syntax_tree.specs.Tree as syntax;
 ghost use Rattle.cse_logic_tree.specs.Typed as typed;
 ghost use Rattle.cse_types.specs.Checked as spec;
 ghost use Rattle.cse_types.specs.Checked.{parts_judged, with_entries};
@@ -15,6 +15,7 @@ ghost use Rattle.cse_logic_names.specs.WellTyped.{all_declarations, declared_mes
 ghost use Rattle.cse_logic_names.specs.Walk.{is_there, joined, IsNoted};
 
 use crate::arrays::arrays;
+use crate::counts::counts_of;
 use crate::declaration::declarations;
 use crate::entries::entries;
 use crate::owners::owners;
@@ -26,7 +27,7 @@ use cse_logic_names::faults::Faults;
 use cse_logic_names::meaning::Routine;
 use cse_logic_names::messages::Messages;
 use cse_logic_names::names::{Names, Parameters};
-use cse_logic_names::scope::Scope;
+use cse_logic_names::scope::{Counts, Scope};
 use cse_logic_tree::{Declaration, Dimension, Owner, Procedure, Tree};
 use cse_syntax::{Procedure as ParsedProcedure, Tree as Parsed};
 use std::alloc::{AllocError, Global};
@@ -61,6 +62,7 @@ fn first_scope<'a>(
     dictionary: &'a Dictionary,
     messages: &'a Messages,
     declared: Names,
+    counts: Counts,
 ) -> Scope<'a>
     ensures { result ≡ spec.names_of dictionary.now messages.now declared }
 {
@@ -68,6 +70,7 @@ fn first_scope<'a>(
         dictionary,
         messages,
         declared,
+        counts,
         arrays: Vec::new(alloc),
         functions: Vec::new(alloc),
         parameters: Parameters::new(alloc),
@@ -100,7 +103,8 @@ fn start<'a>(
 ) -> Result<Scope<'a>, AllocError>
     ensures { IfOk result (λ s. s ≡ spec.start_of dictionary.now messages.now declared (all_declarations (syntax.tree tree.now).globals)) }
 {
-    let mut scope = first_scope(alloc, dictionary, messages, declared);
+    let counts = counts_of(alloc, tree)?;
+    let mut scope = first_scope(alloc, dictionary, messages, declared, counts);
     scope.arrays = all_arrays(alloc, &scope, tree)?;
     Ok(scope)
 }

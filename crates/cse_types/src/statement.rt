@@ -2,8 +2,8 @@
 
 ghost use Rattle.std.specs.Prelude.{◌≡◌, ◌+◌, [], ◌∷◌, ◌++◌, map, length, Some, None, IfOk, OnOk};
 ghost use Rattle.std.specs.Option.{option_map};
-ghost use Rattle.cse_syntax.specs.Tree as syntax;
-ghost use Rattle.cse_syntax.specs.Tree.{written, stmt, arm_tree as parsed_arm, arms as parsed_arms, otherwise_tree as parsed_otherwise};
+ghost use Rattle.cse_syntax_tree.specs.Tree as syntax;
+ghost use Rattle.cse_syntax_tree.specs.Tree.{written, stmt, arm_tree as parsed_arm, arms as parsed_arms, otherwise_tree as parsed_otherwise};
 ghost use Rattle.cse_logic_tree.specs.Typed as typed;
 ghost use Rattle.cse_logic_tree.specs.Typed.{number, statement, arm_tree, otherwise_tree, counting};
 ghost use Rattle.cse_logic_names.specs.WellTyped.{messages_in, messages_of};

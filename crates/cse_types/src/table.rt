@@ -2,8 +2,8 @@
 
 ghost use Rattle.std.specs.Prelude.{◌≡◌, ◌+◌, ◌&&◌, ◌||◌, not, map, Some, None, OnOk, IfOk, true};
 ghost use Rattle.cse_dict.specs.Keys.{kept_name};
-ghost use Rattle.cse_syntax.specs.Tree as syntax;
-ghost use Rattle.cse_syntax.specs.Tree.{written};
+ghost use Rattle.cse_syntax_tree.specs.Tree as syntax;
+ghost use Rattle.cse_syntax_tree.specs.Tree.{written};
 ghost use Rattle.cse_types.specs.Fresh.{all_after};
 ghost use Rattle.cse_types.specs.Table as spec;
 ghost use Rattle.cse_logic_names.specs.Walk.{is_there};

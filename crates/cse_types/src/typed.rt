@@ -14,7 +14,7 @@ pub struct Typed<'a> {
     pub(crate) messages: &'a Messages,
     pub(crate) order: &'a Order,
     pub(crate) tree: Tree<'a>,
-    // Each rule of 40 to 49 is kept, and the tree is one of a source.
+    // Each rule of 40 to 49 is kept, the tree is one of a source, and its texts are UTF-8.
     pub ghost is_checked: { ∥ IsChecked (record { dictionary = dictionary.now; messages = messages.now; order = order.now; tree = typed.tree tree }) ∥₁ },
 }
 

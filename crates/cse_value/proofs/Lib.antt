@@ -1,5 +1,6 @@
 pub mod FieldLaws
 pub mod NumberLaws
+pub mod ReadLaws
 pub mod FieldSteps
 pub mod TextLaws
 pub mod WidthLaws

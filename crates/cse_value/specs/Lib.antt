@@ -1,3 +1,5 @@
+pub mod Device
+pub mod Sound
 pub mod Field
 pub mod Number
 pub mod Occurrences

@@ -1,12 +1,15 @@
 //! Devices: what gives and takes bytes, and those of std's readers and writers.
 //!
-//! A device tells its bytes where they are known (memory tells all, a file none) and whether it has
-//! failed. A call answers `Err` exactly where the device has failed, and a failed one fails for good.
+//! An input tells what it gave, and an output what it took: the past, which is known of each device, of a file as
+//! of memory. A call answers `Err` exactly where the device has failed, and a failed one fails for good.
 
-ghost use Rattle.std.specs.Prelude.{◌≡◌, ◌≤◌, ◌<◌, ℕ, List, Bool, false, Option, is_err, IfOk, OnOk, Some, codes, length};
+ghost use Rattle.std.specs.Prelude.{◌≡◌, ◌≤◌, ◌<◌, ◌++◌, ℕ, List, [], Bool, false, is_err, IfOk, OnOk, Some, codes, length};
 ghost use Rattle.std.specs.Io.KnownBytes.{ReadConsumes, WriteAppends};
+ghost use Rattle.cse_value.specs.Device.{Given, ReadGives, CountsFailure, WriteTakes};
+ghost use Rattle.cse_value.specs.Sound.{are_given, counts_failures, unfailed-prop};
 ghost use Rattle.cse_value.specs.Writing.{WritesAll, FailsAtErr};
 
+use cse_devices::{History, Record};
 use std::error::Error;
 use std::{fmt, io};
 
@@ -26,24 +29,21 @@ impl Error for Failed {}
 
 /// What gives bytes.
 pub trait Input {
-    // The bytes that reads will give from here on, where they are known.
-    ghost remaining: { Self → Option (List ℕ) };
-
-    // Whether the device has failed.
-    ghost has_failed: { Self → Bool };
+    // What the reads gave so far, whether the last was at the end, and how many failed.
+    ghost given: { Self → Given };
 
     /// Reads at most as many bytes as `buf` has; none, if it has room, only at the end.
     fn read(&mut self, buf: &mut [u8]) -> Result<usize, Failed>
         ensures bound { IfOk result (λ n. n ≤ length buf.new) }
-        ensures bytes { ReadConsumes (remaining self.old) (remaining self.new) result buf.new }
-        ensures failed { has_failed self.new ≡ is_err result }
-        ensures for_good { OnOk result (has_failed self.old ≡ false) };
+        ensures bytes { ReadGives (given self.old) (given self.new) result buf.new }
+        ensures counted { CountsFailure (given self.old) (given self.new) result }
+        ensures for_good { OnOk result ((given self.old).failures ≡ 0) };
 }
 
 /// What takes bytes.
 pub trait Output {
-    // The bytes that the device holds, where they are known.
-    ghost contents: { Self → Option (List ℕ) };
+    // The bytes that the writes took so far.
+    ghost taken: { Self → List ℕ };
 
     // Whether the device has failed.
     ghost has_failed: { Self → Bool };
@@ -52,7 +52,7 @@ pub trait Output {
     fn write(&mut self, bytes: &[u8]) -> Result<usize, Failed>
         ensures bound { IfOk result (λ n. n ≤ length bytes.now) }
         ensures some { IfOk result (λ n. 0 < length bytes.now → 0 < n) }
-        ensures bytes { WriteAppends (contents self.old) (contents self.new) result bytes.now }
+        ensures bytes { WriteTakes (taken self.old) (taken self.new) result bytes.now }
         ensures failed { has_failed self.new ≡ is_err result }
         ensures for_good { OnOk result (has_failed self.old ≡ false) };
 }
@@ -62,35 +62,53 @@ pub trait Output {
 pub struct Reads<R> {
     reader: R,
     failed: bool,
+    history: History,
+    ghost unfailed: { counts_failures failed history.failures } by { unfailed-prop failed history.failures },
 }
 
 impl<R: io::Read> Reads<R> {
-    /// The device of the reader, which has not failed.
+    /// The device of the reader, which has given nothing yet.
     pub fn new(reader: R) -> Reads<R>
-        ensures bytes { ⟦<Reads<R> as Input>⟧.remaining result ≡ R.remaining reader }
-        ensures sound { ⟦<Reads<R> as Input>⟧.has_failed result ≡ false }
+        ensures { ⟦<Reads<R> as Input>⟧.given result ≡ are_given [] false 0 }
     {
-        let failed = false;
-        Reads { reader, failed }
+        Reads {
+            reader,
+            failed: false,
+            history: History::new(),
+        }
+    }
+
+    /// A read of the reader, which is asked as long as it has not failed. What it gave is noted, and nothing else.
+    fn read_noted(&mut self, buf: &mut [u8]) -> Result<usize, Failed>
+        ensures bound { IfOk result (λ n. n ≤ length buf.new) }
+        ensures noted { ReadGives (⟦<Reads<R> as Input>⟧.given self.old) (⟦<Reads<R> as Input>⟧.given self.new) result buf.new }
+        ensures read { ReadConsumes (R.remaining self.old.reader) (R.remaining self.new.reader) result buf.new }
+        ensures counted { CountsFailure (⟦<Reads<R> as Input>⟧.given self.old) (⟦<Reads<R> as Input>⟧.given self.new) result }
+        ensures for_good { OnOk result (self.old.history.failures ≡ 0) }
+    {
+        if self.failed {
+            self.history.note_failure();
+            return Err(Failed);
+        }
+        match self.reader.read(buf) {
+            Ok(count) => {
+                self.history.note(&buf[..count]);
+                Ok(count)
+            }
+            Err(_) => {
+                self.failed = true;
+                self.history.note_failure();
+                Err(Failed)
+            }
+        }
     }
 }
 
 impl<R: io::Read> Input for Reads<R> {
-    ghost remaining = { λ s. R.remaining s.reader };
-
-    ghost has_failed = { λ s. s.failed };
+    ghost given = { λ s. are_given s.history.bytes s.history.ended s.history.failures };
 
     fn read(&mut self, buf: &mut [u8]) -> Result<usize, Failed> {
-        if self.failed {
-            return Err(Failed);
-        }
-        match self.reader.read(buf) {
-            Ok(n) => Ok(n),
-            Err(_) => {
-                self.failed = true;
-                Err(Failed)
-            }
-        }
+        self.read_noted(buf)
     }
 }
 
@@ -100,33 +118,37 @@ impl<R: io::Read> Input for Reads<R> {
 pub struct Writes<W> {
     writer: W,
     failed: bool,
+    record: Record,
 }
 
 impl<W: io::Write> Writes<W> {
-    /// The device of the writer, which has not failed.
+    /// The device of the writer, which has taken nothing yet.
     pub fn new(writer: W) -> Writes<W>
-        ensures bytes { ⟦<Writes<W> as Output>⟧.contents result ≡ W.contents writer }
+        ensures bytes { ⟦<Writes<W> as Output>⟧.taken result ≡ [] }
         ensures sound { ⟦<Writes<W> as Output>⟧.has_failed result ≡ false }
     {
-        let failed = false;
-        Writes { writer, failed }
+        Writes {
+            writer,
+            failed: false,
+            record: Record::new(),
+        }
     }
 
     /// The writer.
-    pub fn into_inner(self) -> W
-        ensures { ⟦<Writes<W> as Output>⟧.contents self ≡ W.contents result }
-    {
-        let Writes { writer, failed: _ } = self;
+    pub fn into_inner(self) -> W {
+        let Writes { writer, .. } = self;
         writer
     }
-}
 
-impl<W: io::Write> Output for Writes<W> {
-    ghost contents = { λ s. W.contents s.writer };
-
-    ghost has_failed = { λ s. s.failed };
-
-    fn write(&mut self, bytes: &[u8]) -> Result<usize, Failed> {
+    /// A write of the writer, which is asked as long as it has not failed. What it took is noted, and nothing else.
+    fn write_noted(&mut self, bytes: &[u8]) -> Result<usize, Failed>
+        ensures bound { IfOk result (λ n. n ≤ length bytes.now) }
+        ensures some { IfOk result (λ n. 0 < length bytes.now → 0 < n) }
+        ensures noted { WriteTakes self.old.record.bytes self.new.record.bytes result bytes.now }
+        ensures written { WriteAppends (W.contents self.old.writer) (W.contents self.new.writer) result bytes.now }
+        ensures failed { self.new.failed ≡ is_err result }
+        ensures for_good { OnOk result (self.old.failed ≡ false) }
+    {
         if self.failed {
             return Err(Failed);
         }
@@ -135,7 +157,10 @@ impl<W: io::Write> Output for Writes<W> {
                 self.failed = true;
                 Err(Failed)
             }
-            Ok(n) => Ok(n),
+            Ok(count) => {
+                self.record.note(&bytes[..count]);
+                Ok(count)
+            }
             Err(_) => {
                 self.failed = true;
                 Err(Failed)
@@ -144,9 +169,19 @@ impl<W: io::Write> Output for Writes<W> {
     }
 }
 
+impl<W: io::Write> Output for Writes<W> {
+    ghost taken = { λ s. s.record.bytes };
+
+    ghost has_failed = { λ s. s.failed };
+
+    fn write(&mut self, bytes: &[u8]) -> Result<usize, Failed> {
+        self.write_noted(bytes)
+    }
+}
+
 /// Writes all of the bytes, or a front of them where the device fails.
 pub fn write_all<W: Output>(out: &mut W, bytes: &[u8]) -> Result<(), Failed>
-    ensures bytes { WritesAll result (W.contents out.old) (W.contents out.new) bytes.now }
+    ensures bytes { WritesAll result (W.taken out.old) (W.taken out.new) bytes.now }
     ensures failed { FailsAtErr result (W.has_failed out.old) (W.has_failed out.new) }
 {
     let mut at = 0;

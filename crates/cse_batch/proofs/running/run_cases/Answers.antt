@@ -11,16 +11,16 @@ use Rattle.cse_batch.proofs.running.run_cases.Goals.{then-written-via-then-writt
 pub returns-in_default-clause-err : goal.returns-in_default-clause-err
 returns-in_default-clause-err g c =
     let v = c.args.verified.now in
-    let nothing = Gathering-none (g.O.Output.contents c.args.out.now) (g.O.Output.has_failed c.args.out.now) c.args.written.now.waiting.items c.args.written.now.gave_up c.requires.written.nothing_waits c.requires.written.going in
-    let none = Gathering-none (g.L.Output.contents c.args.listing.now) (g.L.Output.has_failed c.args.listing.now) c.args.listed.now.waiting.items c.args.listed.now.gave_up c.requires.listed.nothing_waits c.requires.listed.going in
-    halts_at_once v c.args.store.now _ _ _ _ nothing (one_line v c.args.reports.now _ _ _ _ _ c.requires.unreported.listing none c.put_to.ensures.puts c.in_default.ensures.err)
+    let nothing = Gathering-none (g.O.Output.taken c.args.out.now) (g.O.Output.has_failed c.args.out.now) c.args.written.now.waiting.items c.args.written.now.gave_up c.requires.written.nothing_waits c.requires.written.going in
+    let none = Gathering-none (g.L.Output.taken c.args.listing.now) (g.L.Output.has_failed c.args.listing.now) c.args.listed.now.waiting.items c.args.listed.now.gave_up c.requires.listed.nothing_waits c.requires.listed.going in
+    halts_at_once v c.args.store.now _ _ _ nothing (one_line v c.args.reports.now _ _ _ _ _ c.requires.unreported.listing none c.put_to.ensures.puts c.in_default.ensures.err)
 
 pub runs-init : goal.runs-init
 runs-init g c =
     let v = c.args.verified.now in
     let first = c.args.store.now in
-    let nothing = Gathering-none (g.O.Output.contents c.args.out.now) (g.O.Output.has_failed c.args.out.now) c.args.written.now.waiting.items c.args.written.now.gave_up c.requires.written.nothing_waits c.requires.written.going in
-    let none = Gathering-none (g.L.Output.contents c.args.listing.now) (g.L.Output.has_failed c.args.listing.now) c.args.listed.now.waiting.items c.args.listed.now.gave_up c.requires.listed.nothing_waits c.requires.listed.going in
+    let nothing = Gathering-none (g.O.Output.taken c.args.out.now) (g.O.Output.has_failed c.args.out.now) c.args.written.now.waiting.items c.args.written.now.gave_up c.requires.written.nothing_waits c.requires.written.going in
+    let none = Gathering-none (g.L.Output.taken c.args.listing.now) (g.L.Output.has_failed c.args.listing.now) c.args.listed.now.waiting.items c.args.listed.now.gave_up c.requires.listed.nothing_waits c.requires.listed.going in
     let reports : Reports = record { listing = c.put_to.new.self; frequencies = c.args.reports.now.frequencies } in
     let begins = keeps_nothing v first c.args.reports.now reports _ _ _ _ c.requires.unreported.listing c.requires.unreported.frequencies none c.put_to.ensures.puts c.put_to.ensures.held refl in
     record {
@@ -36,22 +36,22 @@ pub returns-in-Ok-None-clause-ok : goal.returns-in-Ok-None-clause-ok
 returns-in-Ok-None-clause-ok g c =
     let inv = c.runs.invariant in
     let next = rw c.in-Ok-None.field-0-is at (c.in-Ok-None.ensures.next inv.sound) in
-    ran_all _ _ _ _ _ _ _ _ _ _ _ _ inv.running next next.answers.end
+    ran_all _ _ _ _ _ _ _ _ _ _ _ _ inv.running next c.in-Ok-None.ensures.works next.answers.end
 
 pub returns-in_default-edit-clause-err : goal.returns-in_default-edit-clause-err
 returns-in_default-edit-clause-err g c =
     let inv = c.runs.invariant in
     let next = rw c.in-Ok-Some.field-0-is at (c.in-Ok-Some.ensures.next inv.sound) in
-    halts_memory _ _ _ _ _ _ _ _ _ _ _ _ inv.running _ next _ c.next.new.self.end c.in-Ok-Some.ensures.few
+    halts_memory _ _ _ _ _ _ _ _ _ _ _ _ inv.running _ next c.in-Ok-Some.ensures.works c.next.new.self.end c.in-Ok-Some.ensures.few
 
 pub returns-then-written-clause-err : goal.returns-then-written-clause-err
 returns-then-written-clause-err g c =
     let inv = c.runs.invariant in
     let next = rw c.in-Ok-Some.field-0-is at (c.in-Ok-Some.ensures.next inv.sound) in
-    let new : Reports = record { listing = c.put_to-in-Ok-Some-2.new.self; frequencies = c.edit.new.reports.frequencies } in
-    let more = running_case _ _ _ _ _ _ _ _ _ _ _ _ inv.running _ next c.edit.new.case c.edit.new.store c.edit.new.reports new _ _ c.is_case.result
-    c.in-Ok-edit.ensures.edits c.put_to-in-Ok-Some.ensures c.put_to-in-Ok-Some-2.ensures.puts c.put_to-in-Ok-Some-2.ensures.held refl c.is_case.ensures c.in-Ok-Some.ensures.few in
-    halts_writing _ _ _ _ (g.R.Input.remaining c.next.new.self.input.now) _ c.next.new.self.stream _ _ _ _ _ more _ c.next.new.self.end
+    let new : Reports = record { listing = c.put_beside.new.held; frequencies = c.edit.new.reports.frequencies } in
+    let more = running_case _ _ _ _ _ _ _ _ _ _ _ _ inv.running _ next c.in-Ok-Some.ensures.works c.edit.new.case c.edit.new.store c.edit.new.reports new _ _ c.is_case.result
+    c.in-Ok-edit.ensures.edits c.put_to-in-Ok-Some.ensures c.put_beside.ensures.puts c.put_beside.ensures.held refl c.is_case.ensures c.in-Ok-Some.ensures.few in
+    halts_writing _ _ _ _ (g.R.Input.given c.next.new.self.input.now) _ c.next.new.self.stream _ _ _ _ _ more c.next.new.self.end
     (elim c.then-written.branch [
       | then-written-via-then-written w ↦ inl w.if-written.true
       | then-written-via-else-written+then-listed w ↦ inr w.if-listed.true
@@ -61,20 +61,20 @@ pub runs-preserved : goal.runs-preserved
 runs-preserved g c =
     let inv = c.runs.invariant in
     let next = rw c.in-Ok-Some.field-0-is at (c.in-Ok-Some.ensures.next inv.sound) in
-    let new : Reports = record { listing = c.put_to-in-Ok-Some-2.new.self; frequencies = c.edit.new.reports.frequencies } in
-    let more = running_case _ _ _ _ _ _ _ _ _ _ _ _ inv.running _ next c.edit.new.case c.edit.new.store c.edit.new.reports new _ _ c.is_case.result
-    c.in-Ok-edit.ensures.edits c.put_to-in-Ok-Some.ensures c.put_to-in-Ok-Some-2.ensures.puts c.put_to-in-Ok-Some-2.ensures.held refl c.is_case.ensures c.in-Ok-Some.ensures.few in
+    let new : Reports = record { listing = c.put_beside.new.held; frequencies = c.edit.new.reports.frequencies } in
+    let more = running_case _ _ _ _ _ _ _ _ _ _ _ _ inv.running _ next c.in-Ok-Some.ensures.works c.edit.new.case c.edit.new.store c.edit.new.reports new _ _ c.is_case.result
+    c.in-Ok-edit.ensures.edits c.put_to-in-Ok-Some.ensures c.put_beside.ensures.puts c.put_beside.ensures.held refl c.is_case.ensures c.in-Ok-Some.ensures.few in
     record {
       running = rw (c.take_back.ensures.input, c.take_back.ensures.stream, c.from-cases.ensures ∙ byte_is _, c.lines-lines.ensures.lines, c.unseen.ensures) more;
       sound = ap (λ (s : ReaderText). s.error) c.take_back.ensures.stream ∙ c.in-Ok-Some.ensures.ok;
       same = c.take_back.ensures.same_reference ∙ c.in-Ok-Some.ensures.same_reference ∙ inv.same;
       machine = c.in-Ok-edit.ensures.same;
       store_fits = c.in-Ok-edit.ensures.goes_on.store;
-      reports_fit = record { messages = ap (λ (h : Held). h.messages) c.put_to-in-Ok-Some-2.ensures.held ∙ c.in-Ok-edit.ensures.reports_fit.messages; counts = ap (λ (h : Held). length h.counts) c.put_to-in-Ok-Some-2.ensures.held ∙ c.in-Ok-edit.ensures.reports_fit.counts; items = c.in-Ok-edit.ensures.reports_fit.items };
+      reports_fit = record { messages = ap (λ (h : Held). h.messages) c.put_beside.ensures.held ∙ c.in-Ok-edit.ensures.reports_fit.messages; counts = ap (λ (h : Held). length h.counts) c.put_beside.ensures.held ∙ c.in-Ok-edit.ensures.reports_fit.counts; items = c.in-Ok-edit.ensures.reports_fit.items };
     }
 
 pub returns-in-Err-clause-err : goal.returns-in-Err-clause-err
 returns-in-Err-clause-err g c =
     let inv = c.runs.invariant in
     let next = c.in-Err.ensures.next inv.sound in
-    halts_fault _ _ _ _ _ _ _ _ _ _ _ _ inv.running _ next _ c.next.new.self.end (c.in-Err.ensures.failed inv.sound)
+    halts_fault _ _ _ _ _ _ _ _ _ _ _ _ inv.running _ next c.next.new.self.end (c.in-Err.ensures.failed inv.sound) c.in-Err.ensures.sound

@@ -1,9 +1,7 @@
 use Rattle.std.proofs.Common.{sym, subst}
-use Rattle.cse_logic_names.specs.MessageFile.{file_lines}
 use Rattle.cse_build.specs.declared.error.BuildFault.{BuildFault}
 use Rattle.cse_build.specs.Fault.{IsReason}
 use Rattle.cse_build.specs.Build.{IsFault}
-use Rattle.cse_build.proofs.Given.{are_texts}
 use Rattle.cse_build.proofs.Layers.{fault_of_messages, image_of_messages, messages_told}
 use Rattle.cse_build.proofs.Meant.{all_mean_logic}
 use Rattle.cse_build.proofs.Whole.{by_fault, sound_reasons}
@@ -39,6 +37,3 @@ returns-in-Err-clause-sound c = λ h.
     let d = c.args.dictionary.now in
     subst (λ (f : BuildFault). IsReason f) (sym c.from.ensures)
     (by_fault d c.args.logic.now c.args.messages.now c.args.order.now h _ (messages_told d c.args.logic.now c.args.messages.now c.args.order.now c.in-Err.error c.in-Err.ensures))
-
-pub with_messages-requires : goal.with_messages-requires
-with_messages-requires c = are_texts c.in-Ok.messages (file_lines c.args.messages.now) c.in-Ok.ensures.1

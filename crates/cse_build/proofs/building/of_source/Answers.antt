@@ -1,8 +1,6 @@
 use Rattle.std.proofs.Common.{◌≡◌, ◌⊎◌, sym, subst}
-use Rattle.cse_syntax.specs.Tree as syntax
-use Rattle.cse_syntax.specs.Grammar.{spell_tree}
+use Rattle.cse_syntax_tree.specs.Tree as syntax
 use Rattle.cse_types.specs.Answer.{checked}
-use Rattle.cse_law_sources_have_room.specs.Given.{AreTexts, AreUtf8}
 use Rattle.cse_build.specs.declared.error.BuildFault.{BuildFault}
 use Rattle.cse_build.specs.Fault.{out_of_memory}
 use Rattle.cse_build.specs.Build.{IsSourceFault}
@@ -29,9 +27,3 @@ returns-in-Err-clause-fault c =
     let m = c.args.messages.now in
     let source = syntax.tree c.args.source.now.tree in
     subst (λ (f : BuildFault). (f ≡ out_of_memory) ⊎ IsSourceFault d m source f) (sym c.from.ensures) (rule_told d m source c.in-Err.error c.in-Err.ensures.cause c.in-Err.ensures.only)
-
-pub of_typed-requires-clause-utf8 : goal.of_typed-requires-clause-utf8
-of_typed-requires-clause-utf8 c = subst (λ (x : syntax.Tree). AreUtf8 (spell_tree x)) (sym c.in-Ok.ensures.sound.erased) c.requires.utf8
-
-pub of_typed-requires-clause-texts : goal.of_typed-requires-clause-texts
-of_typed-requires-clause-texts c = subst AreTexts (sym c.in-Ok.ensures.made_for.1) c.requires.texts

@@ -1,13 +1,8 @@
-use Rattle.std.specs.Prelude.{IsTrue}
-use Rattle.std.specs.List.{AllByRecursion}
-use Rattle.std.specs.Str.{is_utf8}
-use Rattle.cse_syntax.specs.declared.token.Token.{Token}
-use Rattle.std.proofs.Common.{List, ◌≡◌, ◌⊎◌, sym, subst}
-use Rattle.cse_syntax.specs.Tree as syntax
+use Rattle.std.proofs.Common.{◌≡◌, ◌⊎◌, sym, subst}
+use Rattle.cse_syntax_tree.specs.Tree as syntax
 use Rattle.cse_build.specs.declared.error.BuildFault.{BuildFault}
 use Rattle.cse_build.specs.Fault.{out_of_memory}
 use Rattle.cse_build.specs.Build.{IsLogicFault}
-use Rattle.cse_build.proofs.Given.{are_utf8}
 use Rattle.cse_build.proofs.Layers.{fault_of_text, image_of_text, source_text, text_told}
 use Rattle.cse_build.proofs.building.of_text.Goals as goal
 
@@ -31,6 +26,3 @@ returns-in-Err-clause-fault c =
     let m = c.args.messages.now in
     let text = c.args.text.now in
     subst (λ (f : BuildFault). (f ≡ out_of_memory) ⊎ IsLogicFault d m text f) (sym c.from.ensures) (text_told d m text c.in-Err.error c.in-Err.ensures.cause c.in-Err.ensures.only)
-
-pub of_source-requires-clause-utf8 : goal.of_source-requires-clause-utf8
-of_source-requires-clause-utf8 c = are_utf8 64 (syntax.tree c.in-Ok.source.tree) c.in-Ok.source.tokens.items (subst (λ (ts : List Token). AllByRecursion (λ (t : Token). IsTrue (is_utf8 t.text.now)) ts) c.deref.ensures.value c.read_tokens.ensures) c.in-Ok.ensures.tree

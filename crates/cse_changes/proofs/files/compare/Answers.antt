@@ -30,21 +30,21 @@ returns-in-Ok-None-next-clause-ok g c =
     let inv = c.runs.invariant in
     let next = rw c.in-Ok-None.field-0-is at (c.in-Ok-None.ensures.next inv.sound) in
     let other = rw c.in-Ok-None-next.field-0-is at (c.in-Ok-None-next.ensures.next inv.sound_other) in
-    compared _ _ _ _ _ _ _ _ _ _ _ _ _ inv.comparing next other
+    compared _ _ _ _ _ _ _ _ _ _ _ _ _ inv.comparing next other c.in-Ok-None.ensures.works c.in-Ok-None-next.ensures.works
 
 pub returns-in-Ok-Some-next-clause-stops : goal.returns-in-Ok-Some-next-clause-stops
 returns-in-Ok-Some-next-clause-stops g c =
     let inv = c.runs.invariant in
     let next = rw c.in-Ok-None.field-0-is at (c.in-Ok-None.ensures.next inv.sound) in
     let other = rw c.in-Ok-Some-next.field-0-is at (c.in-Ok-Some-next.ensures.next inv.sound_other) in
-    ended_first _ _ _ _ _ _ _ _ _ _ _ _ _ inv.comparing _ next other c.in-Ok-Some-next.ensures.end
+    ended_first _ _ _ _ _ _ _ _ _ _ _ _ _ inv.comparing _ next other c.in-Ok-None.ensures.works c.in-Ok-Some-next.ensures.works c.in-Ok-Some-next.ensures.end
 
 pub returns-in-Ok-None-next-2-clause-stops : goal.returns-in-Ok-None-next-2-clause-stops
 returns-in-Ok-None-next-2-clause-stops g c =
     let inv = c.runs.invariant in
     let next = rw c.in-Ok-Some.field-0-is at (c.in-Ok-Some.ensures.next inv.sound) in
     let other = rw c.in-Ok-None-next-2.field-0-is at (c.in-Ok-None-next-2.ensures.next inv.sound_other) in
-    ended_second _ _ _ _ _ _ _ _ _ _ _ _ _ inv.comparing _ next other c.in-Ok-Some.ensures.end
+    ended_second _ _ _ _ _ _ _ _ _ _ _ _ _ inv.comparing _ next other c.in-Ok-Some.ensures.works c.in-Ok-None-next-2.ensures.works c.in-Ok-Some.ensures.end
 
 pub returns-in-Err-added-clause-stops : goal.returns-in-Err-added-clause-stops
 returns-in-Err-added-clause-stops g c =
@@ -54,7 +54,7 @@ returns-in-Err-added-clause-stops g c =
     let other = rw c.in-Ok-Some-next-2.field-0-is at (c.in-Ok-Some-next-2.ensures.next inv.sound_other) in
     let shape : shape_lists c.shape-shape.result.now ≡ shape_of d = c.shape-shape.ensures.shape in
     let items = c.deref-in-Ok-Some-next-2.ensures.value ∙ ap (λ (s : ShapeLists). s.items) shape in
-    if_apart d _ _ _ _ _ _ _ _ (λ line h. apart_here d _ _ _ _ _ _ _ _ _ _ _ _ inv.comparing _ _ next other c.in-Ok-Some.ensures.end c.in-Ok-Some-next-2.ensures.end line
+    if_apart d _ _ _ _ _ _ (λ line h. apart_here d _ _ _ _ _ _ _ _ _ _ _ _ inv.comparing _ _ next other c.in-Ok-Some.ensures.works c.in-Ok-Some-next-2.ensures.works c.in-Ok-Some.ensures.end c.in-Ok-Some-next-2.ensures.end line
     (subst (λ l. IsApartIn l c.in-Ok-Some.before.lines c.in-Ok-Some-next-2.after.lines c.runs.lines line) items h)) c.in-Err-added.ensures.apart
 
 pub runs-preserved : goal.runs-preserved
@@ -75,7 +75,7 @@ runs-preserved g c =
     let second = subst (λ rs. IsAdded rs c.deref-in-Ok-Some-next-2.result.now before after c.runs.lines old new) records first in
     let third = subst (λ is. IsAdded (shape_of d).records is before after c.runs.lines old new) items second in
     let added = subst (λ l. IsAdded (shape_of d).records (shape_of d).items before after c.runs.lines l new) c.deref_mut.ensures.value third in
-    let more = Comparing-more d _ _ _ _ _ _ _ _ _ _ _ _ inv.comparing _ _ next other new added in
+    let more = Comparing-more d _ _ _ _ _ _ _ _ _ _ _ _ inv.comparing _ _ next other new c.in-Ok-Some.ensures.works c.in-Ok-Some-next-2.ensures.works added in
     let kept : (with_items c.runs.counts new).items ≡ new = with_items_is c.runs.counts new (c.add_runs-added.auto.counts ∙ c.deref_mut.ensures.len) in
     record {
       comparing = rw (kept, said.lines) more;
@@ -89,16 +89,18 @@ runs-preserved g c =
 pub returns-in-Err-clause-stops : goal.returns-in-Err-clause-stops
 returns-in-Err-clause-stops g c =
     let inv = c.runs.invariant in
-    stops_read _ _ _ _ _ _ (g.S.Input.remaining c.runs.written) _ _ _ c.runs.other _ _ inv.comparing c.in-Err.error _ (c.in-Err.ensures.next inv.sound) c.in-Err.ensures.end (c.in-Err.ensures.failed inv.sound) inv.end_other
+    stops_read _ _ _ _ _ _ (g.S.Input.given c.runs.written) _ _ _ c.runs.other _ _ inv.comparing c.in-Err.error (c.in-Err.ensures.next inv.sound) c.in-Err.ensures.end (c.in-Err.ensures.failed inv.sound) c.in-Err.ensures.sound inv.end_other
 
 pub returns-in-Err-next-clause-stops : goal.returns-in-Err-next-clause-stops
 returns-in-Err-next-clause-stops g c =
     let inv = c.runs.invariant in
     let next = rw c.in-Ok-None.field-0-is at (c.in-Ok-None.ensures.next inv.sound) in
-    stops_ended _ _ _ _ _ _ _ _ _ _ _ _ _ inv.comparing c.in-Err-next.error _ next (c.in-Err-next.ensures.next inv.sound_other) c.in-Err-next.ensures.end (c.in-Err-next.ensures.failed inv.sound_other)
+    stops_ended _ _ _ _ _ _ _ _ _ _ _ _ _ inv.comparing c.in-Err-next.error next (c.in-Err-next.ensures.next inv.sound_other) c.in-Ok-None.ensures.works c.in-Err-next.ensures.end
+    (c.in-Err-next.ensures.failed inv.sound_other) c.in-Err-next.ensures.sound
 
 pub returns-in-Err-next-2-clause-stops : goal.returns-in-Err-next-2-clause-stops
 returns-in-Err-next-2-clause-stops g c =
     let inv = c.runs.invariant in
     let next = rw c.in-Ok-Some.field-0-is at (c.in-Ok-Some.ensures.next inv.sound) in
-    stops_written _ _ _ _ _ _ _ _ _ _ _ _ _ inv.comparing _ c.in-Err-next-2.error _ next (c.in-Err-next-2.ensures.next inv.sound_other) c.in-Ok-Some.ensures.end c.in-Err-next-2.ensures.end (c.in-Err-next-2.ensures.failed inv.sound_other)
+    stops_written _ _ _ _ _ _ _ _ _ _ _ _ _ inv.comparing _ c.in-Err-next-2.error next (c.in-Err-next-2.ensures.next inv.sound_other) c.in-Ok-Some.ensures.works c.in-Ok-Some.ensures.end
+    c.in-Err-next-2.ensures.end (c.in-Err-next-2.ensures.failed inv.sound_other) c.in-Err-next-2.ensures.sound

@@ -1,15 +1,15 @@
 use Rattle.std.proofs.Common.{◌≡◌, ◌≤◌, ◌-◌, ◌*◌, ◌^◌, None, true}
-use Rattle.std.specs.Io.KnownBytes.{IsAtEnd}
+use Rattle.cse_value.specs.Device.{IsAtEnd}
 use Rattle.cse_changes.proofs.CompareLaws.{Comparing}
 use Rattle.cse_changes.proofs.files.compare.Given as goal
 
 abbrev pub invariant-runs : goal.invariant-runs
 invariant-runs g l = record {
-  comparing : Comparing l.dictionary (g.R.Input.remaining l.fn.read) (g.R.Input.remaining l.read) l.reader (g.S.Input.remaining l.fn.written) (g.S.Input.remaining l.written) l.other l.counts.items l.lines;
+  comparing : Comparing l.dictionary (g.R.Input.given l.fn.read) (g.R.Input.given l.read) l.reader (g.S.Input.given l.fn.written) (g.S.Input.given l.written) l.other l.counts.items l.lines;
   sound : l.reader.error ≡ None;
   sound_other : l.other.error ≡ None;
-  end : l.reader.ended ≡ true → IsAtEnd (g.R.Input.remaining l.read);
-  end_other : l.other.ended ≡ true → IsAtEnd (g.S.Input.remaining l.written);
+  end : l.reader.ended ≡ true → IsAtEnd (g.R.Input.given l.read);
+  end_other : l.other.ended ≡ true → IsAtEnd (g.S.Input.given l.written);
   few : l.lines ≤ 2 ^ 40 * 65536;
 }
 

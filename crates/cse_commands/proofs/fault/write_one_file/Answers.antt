@@ -4,7 +4,7 @@ use Rattle.cse_commands.proofs.fault.write_one_file.Goals as goal
 
 pub returns-clause-bytes : goal.returns-clause-bytes
 returns-clause-bytes g c =
-    subst (λ (text : List ℕ). WritesAll c.write_parts.result (g.W.Output.contents c.args.out.now) (g.W.Output.contents c.write_parts.new.out) text)
+    subst (λ (text : List ℕ). WritesAll c.write_parts.result (g.W.Output.taken c.args.out.now) (g.W.Output.taken c.write_parts.new.out) text)
     (ap₂ (λ (f s : List ℕ). codes "usage: " ++ (f ++ (codes " and " ++ (s ++ codes " are one file, which would be overwritten\n"))))
     (c.as_bytes-first.ensures.value ∙ c.word.ensures) (c.as_bytes-second.ensures.value ∙ c.word-2.ensures))
     c.write_parts.ensures.bytes

@@ -7,7 +7,7 @@ use Rattle.cse_commands.proofs.verdict.write_routines.Goals as goal
 
 pub routines-init : goal.routines-init
 routines-init g c = record {
-  bytes = no_lines c.args.verified.now.image (g.W.Output.contents c.args.out.now);
+  bytes = no_lines c.args.verified.now.image (g.W.Output.taken c.args.out.now);
   sound = refl;
   routine_is = refl;
 }

@@ -18,4 +18,4 @@ returns-clause-bytes g c =
     let last = last_same c.case_steps.result (case_bound c.args.verified.now.image) c.run_steps.result (run_bound c.args.verified.now.image) c.args.depth c.case_steps.ensures.value c.run_steps.ensures in
     WritesAll-after c.write_last.result _ _ _ (routine_lines c.args.verified.now.image (length c.args.verified.now.image.lists.routines))
     (last_lines (case_bound c.args.verified.now.image) (run_bound c.args.verified.now.image) c.args.depth)
-    c.in_ok-write_routines.ensures.bytes (subst (λ (l : List ℕ). WritesAll c.write_last.result (g.W.Output.contents c.write_routines.new.out) (g.W.Output.contents c.write_last.new.out) l) last c.write_last.ensures.bytes)
+    c.in_ok-write_routines.ensures.bytes (subst (λ (l : List ℕ). WritesAll c.write_last.result (g.W.Output.taken c.write_routines.new.out) (g.W.Output.taken c.write_last.new.out) l) last c.write_last.ensures.bytes)

@@ -19,16 +19,16 @@ returns-clause-bytes g c =
     ap (λ (l : List ArrayLists). (line heading ++ blocks l c.cells.result.now) ++ line ending) arrays_are
     ∙ ap (λ (l : List (List Num)). (line heading ++ blocks c.args.program.now.lists.arrays l) ++ line ending) c.cells.ensures.cells in
     let all = Puts-then _ _ _ (line heading ++ middle) (line ending) (Puts-then _ _ _ (line heading) middle c.put_line.ensures c.put_blocks.ensures) c.put_line-2.ensures in
-    let start = g.W.Output.contents c.args.out.now in
+    let start = g.W.Output.taken c.args.out.now in
     let sound = g.W.Output.has_failed c.args.out.now in
     let none = Gathering-none start sound c.new-gatherer.result.waiting.items c.new-gatherer.result.gave_up c.new-gatherer.ensures.waiting c.new-gatherer.ensures.gave_up in
-    subst (λ (l : List ℕ). WritesAll c.finish.result start (g.W.Output.contents c.finish.new.out) l) e (c.finish.ensures start sound ((line heading ++ middle) ++ line ending) (all start sound _ none)).0
+    subst (λ (l : List ℕ). WritesAll c.finish.result start (g.W.Output.taken c.finish.new.out) l) e (c.finish.ensures start sound ((line heading ++ middle) ++ line ending) (all start sound _ none)).0
 
 pub returns-clause-failed : goal.returns-clause-failed
 returns-clause-failed g c =
     let middle = blocks (map array_lists c.deref.result.now) c.cells.result.now in
     let all = Puts-then _ _ _ (line heading ++ middle) (line ending) (Puts-then _ _ _ (line heading) middle c.put_line.ensures c.put_blocks.ensures) c.put_line-2.ensures in
-    let start = g.W.Output.contents c.args.out.now in
+    let start = g.W.Output.taken c.args.out.now in
     let sound = g.W.Output.has_failed c.args.out.now in
     let none = Gathering-none start sound c.new-gatherer.result.waiting.items c.new-gatherer.result.gave_up c.new-gatherer.ensures.waiting c.new-gatherer.ensures.gave_up in
     (c.finish.ensures start sound ((line heading ++ middle) ++ line ending) (all start sound _ none)).1

@@ -4,7 +4,7 @@ use Rattle.cse_lines.proofs.LaidLaws.{length-with_columns}
 use Rattle.cse_lines.specs.Bytes.{columns_by}
 use Rattle.cse_lines.specs.Field.{padded}
 use Rattle.cse_lines.specs.Run.{with_columns}
-use Rattle.cse_lines.proofs.BytesLaws.{over_ascii, over_beside, padded_wide, take-columns_by, taken_beside}
+use Rattle.cse_lines.proofs.BytesLaws.{over_ascii, padded_wide, take-columns_by}
 use Rattle.cse_lines.proofs.filled.put_over.Goals as goal
 
 -- what is written over the bytes
@@ -17,21 +17,28 @@ wrote at n text bytes new fits is =
 over_len : (at n : ℕ) (text old new : List ℕ) → n ≤ length text → new ≡ with_columns at (take n text) old → at + n ≤ length old → length new ≡ length old
 over_len at n text old new fits is room = ap length is ∙ length-with_columns at (take n text) old (omega (arith, length-take-le n text fits, room))
 
+pub put_over_beside-requires : goal.put_over_beside-requires
+put_over_beside-requires c =
+    let own = c.args.own.now in
+    let text = c.args.text.now in
+    let at = c.args.first in
+    let n = c.args.len in
+    let bytes = wrote at n text.bytes.items own.bytes.items c.put_between.new.bytes.items c.requires.there (c.put_between.ensures.bytes ∙ ap (λ l. with_columns at (padded (at + n - at) (take n l)) own.bytes.items) c.deref.ensures.value) in
+    let len = over_len at n text.bytes.items own.bytes.items c.put_between.new.bytes.items c.requires.there bytes c.requires.room in
+    record {
+      room = omega (arith, len, c.requires.room);
+      beside = omega (arith, len, c.requires.beside);
+      there = c.requires.there;
+    }
+
 pub returns-then-not-put_between-clause-columns : goal.returns-then-not-put_between-clause-columns
 returns-then-not-put_between-clause-columns c =
     let own = c.args.own.now in
     let text = c.args.text.now in
     let at = c.args.first in
     let n = c.args.len in
-    let t = take n text.bytes.items in
-    let piece = take n text.beside.items in
-    let t_len : length t ≡ n = length-take-le n text.bytes.items c.requires.there in
-    let piece_len : length piece ≡ n = length-take-le n text.beside.items (omega (arith, c.requires.there, c.requires.known)) in
     let bytes = wrote at n text.bytes.items own.bytes.items c.put_between.new.bytes.items c.requires.there (c.put_between.ensures.bytes ∙ ap (λ l. with_columns at (padded (at + n - at) (take n l)) own.bytes.items) c.deref.ensures.value) in
-    ap (λ l. columns_by l c.put_beside.new.beside.items) bytes
-    ∙ ap (columns_by (with_columns at t own.bytes.items)) (c.put_beside.ensures ∙ ap (λ l. with_columns at (take n l) own.beside.items) c.deref-then-not-put_between.ensures.value)
-    ∙ over_beside at t piece own.bytes.items own.beside.items (omega (arith, t_len, piece_len)) (omega (arith, t_len, c.requires.room)) c.requires.beside
-    ∙ ap (λ l. with_columns at l (columns_by own.bytes.items own.beside.items)) (taken_beside n text.bytes.items text.beside.items c.requires.there c.requires.known)
+    c.put_over_beside.ensures.columns own.bytes.items (sym (over_len at n text.bytes.items own.bytes.items c.put_between.new.bytes.items c.requires.there bytes c.requires.room)) bytes
 
 pub returns-else-not-put_between-clause-columns : goal.returns-else-not-put_between-clause-columns
 returns-else-not-put_between-clause-columns c =

@@ -4,9 +4,8 @@ use Rattle.cse_lines.proofs.ReadLaws.{HasRead}
 use Rattle.cse_lines.proofs.next.next_run.Given as goal
 
 abbrev pub invariant-reads : goal.invariant-reads
-invariant-reads g l = HasRead (g.R.Input.remaining l.fn.input) (g.R.Input.remaining l.input)
+invariant-reads g l = HasRead (g.R.Input.given l.fn.input) (g.R.Input.given l.input)
     (reader_of l.dictionary l.fn.run l.fn.buffer l.fn.ended l.fn.reads l.lines) l.run l.buffer l.ended l.reads
-    (g.R.Input.has_failed l.fn.input) (g.R.Input.has_failed l.input)
 
 abbrev pub decreases-reads : goal.decreases-reads
 decreases-reads g l = cond l.ended 0 1 + (2 ^ 40 - l.reads)

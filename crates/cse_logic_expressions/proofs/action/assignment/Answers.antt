@@ -1,6 +1,6 @@
 use Rattle.std.proofs.Common.{◌∙◌, map}
 use Rattle.std.specs.Global.{Vec}
-use Rattle.cse_syntax.specs.Tree.{written, expr, exprs}
+use Rattle.cse_syntax_tree.specs.Tree.{written, expr, exprs}
 use Rattle.cse_logic_tree.specs.declared.tree.Number as rust
 use Rattle.cse_logic_tree.specs.Typed.{number, numbers}
 use Rattle.cse_logic_names.specs.Scope.{meant}

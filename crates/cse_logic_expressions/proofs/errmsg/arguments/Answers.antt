@@ -1,6 +1,6 @@
 use Rattle.std.proofs.Common.{◌≡◌, ap, ◌∙◌, sym, subst, map, drop, ◌+◌, ◌<◌, ◌≤◌, length, get_or, List}
 use Rattle.std.specs.Prelude.{◌||◌, not}
-use Rattle.cse_syntax.specs.declared.tree.Expression.{Expression}
+use Rattle.cse_syntax_tree.specs.declared.tree.Expression.{Expression}
 use Rattle.cse_logic_tree.specs.Typed.{argument}
 use Rattle.cse_logic_names.specs.Walk.{is_there}
 use Rattle.cse_logic_names.proofs.Walks.{step_noted_made}

@@ -2,7 +2,7 @@ use Rattle.std.proofs.Common.{◌≡◌, map, drop}
 use Rattle.std.specs.Prelude.{◌||◌, not}
 use Rattle.cse_image_parts.specs.Pieces.{kinds_left}
 use Rattle.cse_image_parts.specs.Placeholders.{message_kinds}
-use Rattle.cse_syntax.specs.Tree.{expr, exprs}
+use Rattle.cse_syntax_tree.specs.Tree.{expr, exprs}
 use Rattle.cse_logic_tree.specs.Typed.{argument}
 use Rattle.cse_logic_expressions.specs.JudgeStatement.{judge_arguments}
 use Rattle.cse_logic_names.specs.Walk.{is_there, so_far}

@@ -1,10 +1,10 @@
 use Rattle.std.proofs.Common.{◌≡◌, ap, ◌∙◌, sym, subst, map, drop, ◌+◌, ◌<◌, ◌≤◌, length, get_or, List, arith}
 use Rattle.std.specs.Prelude.{◌||◌, not, false, Option, IfOk, option_map, ◌==◌}
 use Rattle.std.proofs.lemmas.Result.{on_ok_weaker}
-use Rattle.cse_syntax.specs.declared.tree.Expression.{Expression}
-use Rattle.cse_syntax.specs.declared.tree.Operation.{Operation}
-use Rattle.cse_syntax.specs.Tree as syntax
-use Rattle.cse_syntax.specs.Tree.{expr}
+use Rattle.cse_syntax_tree.specs.declared.tree.Expression.{Expression}
+use Rattle.cse_syntax_tree.specs.declared.tree.Operation.{Operation}
+use Rattle.cse_syntax_tree.specs.Tree as syntax
+use Rattle.cse_syntax_tree.specs.Tree.{expr}
 use Rattle.cse_logic_tree.specs.Typed as typed
 use Rattle.cse_logic_tree.specs.Typed.{Number, number}
 use Rattle.cse_logic_expressions.specs.Judge.{AsNumber, judged, compared, judge, as_number, judge_operation, judge_operations}

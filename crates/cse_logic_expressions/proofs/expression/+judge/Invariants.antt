@@ -1,7 +1,7 @@
 use Rattle.std.proofs.Common.{◌≡◌, ◌+◌, length, map, drop, Option}
 use Rattle.std.specs.Prelude.{◌||◌, not, false}
-use Rattle.cse_syntax.specs.Tree as syntax
-use Rattle.cse_syntax.specs.Tree.{expr}
+use Rattle.cse_syntax_tree.specs.Tree as syntax
+use Rattle.cse_syntax_tree.specs.Tree.{expr}
 use Rattle.cse_logic_tree.specs.Typed.{number, operation_tree}
 use Rattle.cse_logic_expressions.specs.Judge.{judge, judge_operation, as_number}
 use Rattle.cse_logic_names.specs.Walk.{is_there, walk, so_far}

@@ -1,12 +1,12 @@
 use Rattle.std.proofs.Common.{take}
 use Rattle.std.specs.List.{flat_map}
-use Rattle.cse_output.specs.Gathering.{going, Puts}
+use Rattle.cse_output.specs.Gathering.{behind, Puts}
 use Rattle.cse_report.specs.Frequency.{value_line}
 use Rattle.cse_report.proofs.counts.put_values.Given as goal
 
 -- the lines so far
 abbrev pub invariant-values : goal.invariant-values
 invariant-values g l =
-    Puts (going (g.W.Output.contents l.fn.out) (g.W.Output.has_failed l.fn.out) l.fn.gatherer.waiting.items l.fn.gatherer.gave_up)
-    (going (g.W.Output.contents l.out) (g.W.Output.has_failed l.out) l.gatherer.waiting.items l.gatherer.gave_up)
+    Puts (behind g.W.Output.taken g.W.Output.has_failed l.fn.out l.fn.gatherer)
+    (behind g.W.Output.taken g.W.Output.has_failed l.out l.gatherer)
     (flat_map value_line (take l.i l.counts))

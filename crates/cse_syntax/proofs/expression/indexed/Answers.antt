@@ -1,4 +1,4 @@
-use Rattle.cse_syntax.proofs.Rows.{indexed_is}
+use Rattle.cse_syntax_tree.proofs.Rows.{indexed_is}
 use Rattle.cse_syntax.proofs.expression.indexed.Goals as goal
 
 pub returns : goal.returns

@@ -3,7 +3,7 @@ use denote.Shadow.{shadow}
 use denote.Text.{Utf8}
 use Rattle.cse_syntax.specs.Text as spec
 use Rattle.cse_syntax.specs.Text.{piece}
-use Rattle.cse_syntax.specs.Word.{AreNumbered}
+use Rattle.cse_syntax_tree.specs.Word.{AreNumbered}
 use Rattle.cse_syntax.proofs.Loops.{Within}
 use Rattle.cse_syntax.proofs.lexer.tokens.Given as goal
 

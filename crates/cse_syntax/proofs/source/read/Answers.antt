@@ -1,8 +1,8 @@
 use Rattle.std.proofs.Common.{◌∙◌}
 use Rattle.std.proofs.lemmas.Result.{err_from_is_err_and}
 use Rattle.cse_syntax.specs.declared.source.TheConstants.{LIMIT}
-use Rattle.cse_syntax.specs.Word.{words}
-use Rattle.cse_syntax.specs.Tree.{tree}
+use Rattle.cse_syntax_tree.specs.Word.{words}
+use Rattle.cse_syntax_tree.specs.Tree.{tree}
 use Rattle.cse_syntax.proofs.SoundSource.{source_sound}
 use Rattle.cse_syntax.proofs.Whole.{tree_is}
 use Rattle.cse_syntax.proofs.source.read.Goals as goal

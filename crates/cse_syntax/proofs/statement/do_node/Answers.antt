@@ -1,4 +1,4 @@
-use Rattle.cse_syntax.proofs.Rows.{do_is}
+use Rattle.cse_syntax_tree.proofs.Rows.{do_is}
 use Rattle.cse_syntax.proofs.statement.do_node.Goals as goal
 
 pub returns : goal.returns

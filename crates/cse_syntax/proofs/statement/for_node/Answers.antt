@@ -1,4 +1,4 @@
-use Rattle.cse_syntax.proofs.Rows.{for_is}
+use Rattle.cse_syntax_tree.proofs.Rows.{for_is}
 use Rattle.cse_syntax.proofs.statement.for_node.Goals as goal
 
 pub returns : goal.returns

@@ -1,4 +1,4 @@
-use Rattle.cse_syntax.proofs.Rows.{if_is}
+use Rattle.cse_syntax_tree.proofs.Rows.{if_is}
 use Rattle.cse_syntax.proofs.statement.if_node.Goals as goal
 
 pub returns : goal.returns

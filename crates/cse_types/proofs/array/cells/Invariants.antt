@@ -1,8 +1,8 @@
 use Rattle.std.proofs.Common.{◌≡◌, map, drop, List}
 use Rattle.std.specs.Prelude.{◌||◌, not}
-use Rattle.cse_syntax.specs.declared.tree.Literal.{Literal}
+use Rattle.cse_syntax_tree.specs.declared.tree.Literal.{Literal}
 use Rattle.cse_logic_expressions.specs.JudgeStatement.{whole_judged}
-use Rattle.cse_syntax.specs.Tree as syntax
+use Rattle.cse_syntax_tree.specs.Tree as syntax
 use Rattle.cse_logic_tree.specs.Typed as typed
 use Rattle.cse_types.specs.JudgeTree as spec
 use Rattle.cse_logic_names.specs.Walk.{is_there, walk, so_far}

@@ -1,5 +1,5 @@
 use Rattle.std.proofs.Common.{◌≡◌, ◌+◌, ap, ◌∙◌, sym, subst, ◌<◌, ◌≤◌, length, get_or, map, List}
-use Rattle.cse_syntax.specs.declared.tree.Declaration.{Declaration}
+use Rattle.cse_syntax_tree.specs.declared.tree.Declaration.{Declaration}
 use Rattle.cse_types.proofs.ArrayLaws.{arrays_turn, arrays_end}
 use Rattle.cse_types.proofs.arrays.arrays.Goals as goal
 

@@ -1,6 +1,6 @@
 use Rattle.std.proofs.Common.{◌≡◌, ap, ◌∙◌, sym, subst, Some, None, true, false, option_map}
 use Rattle.std.specs.Prelude.{not}
-use Rattle.cse_syntax.specs.Tree as syntax
+use Rattle.cse_syntax_tree.specs.Tree as syntax
 use Rattle.cse_logic_tree.specs.Typed as typed
 use Rattle.cse_types.specs.Checked.{Checked}
 use Rattle.cse_types.specs.JudgeTree.{typed_of}
@@ -22,7 +22,7 @@ made_for-requires c =
     let m = c.args.messages.now in
     let x = syntax.tree c.args.source.now.tree in
     let is = sym (c.requires.found (ap is_there c.in-None.is)) ∙ ap (option_map typed.tree) c.in-Some-found.is in
-    checked_so d m c.args.order.now x _ (typed.tree c.in-Some-found.tree) (typed_right d m x (typed.tree c.in-Some-found.tree) is) c.args.source.now.is_source c.requires.order
+    checked_so d m c.args.order.now x _ (typed.tree c.in-Some-found.tree) (typed_right d m x (typed.tree c.in-Some-found.tree) is) c.args.source.now.is_source c.requires.order c.requires.utf8 c.requires.texts
 
 pub returns-in-Some-found-clause-sound : goal.returns-in-Some-found-clause-sound
 returns-in-Some-found-clause-sound c =

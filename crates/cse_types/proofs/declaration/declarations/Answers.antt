@@ -1,7 +1,7 @@
 use Rattle.std.proofs.Common.{◌≡◌, ap, ◌∙◌, sym, subst, ◌<◌, ◌≤◌, ◌+◌, ◌++◌, length, get_or, map, drop, List, refl}
 use Rattle.std.specs.Prelude.{◌||◌, not}
-use Rattle.cse_syntax.specs.declared.tree.Declaration.{Declaration}
-use Rattle.cse_syntax.specs.Tree as syntax
+use Rattle.cse_syntax_tree.specs.declared.tree.Declaration.{Declaration}
+use Rattle.cse_syntax_tree.specs.Tree as syntax
 use Rattle.cse_logic_tree.specs.Typed as typed
 use Rattle.cse_logic_names.specs.WellTyped.{declared_messages}
 use Rattle.cse_types.specs.JudgeTree as spec

@@ -1,7 +1,7 @@
 use Rattle.std.proofs.Common.{◌≡◌, map, drop, List}
 use Rattle.std.specs.Prelude.{◌||◌, not}
 use Rattle.cse_dict.specs.Keys.{kept_name}
-use Rattle.cse_syntax.specs.declared.tree.Parameter.{Parameter}
+use Rattle.cse_syntax_tree.specs.declared.tree.Parameter.{Parameter}
 use Rattle.cse_types.specs.Fresh.{all_after, no_names, with_fresh}
 use Rattle.cse_types.specs.JudgeTree.{is_new}
 use Rattle.cse_logic_names.specs.Walk.{is_there}

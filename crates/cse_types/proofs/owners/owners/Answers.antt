@@ -1,7 +1,7 @@
 use Rattle.std.proofs.Common.{◌≡◌, ◌+◌, drop, ap, ◌∙◌, sym, subst, ◌<◌, ◌≤◌, length, get_or, map, List, true}
 use Rattle.std.specs.Prelude.{◌||◌, not}
 use Rattle.cse_dict.specs.Keys.{kept_name}
-use Rattle.cse_syntax.specs.declared.tree.Procedure.{Procedure}
+use Rattle.cse_syntax_tree.specs.declared.tree.Procedure.{Procedure}
 use Rattle.cse_types.specs.declared.fresh.Fresh.{Fresh}
 use Rattle.cse_types.specs.Fresh.{all_after, no_names}
 use Rattle.cse_logic_names.specs.Walk.{is_there}

@@ -1,7 +1,7 @@
 use Rattle.std.proofs.Common.{◌≡◌, ap, ◌∙◌, sym, ◌++◌, length, map, List}
 use Rattle.std.specs.Prelude.{◌||◌, not}
-use Rattle.cse_syntax.specs.Tree as syntax
-use Rattle.cse_syntax.specs.declared.tree.Procedure.{Procedure}
+use Rattle.cse_syntax_tree.specs.Tree as syntax
+use Rattle.cse_syntax_tree.specs.declared.tree.Procedure.{Procedure}
 use Rattle.cse_types.specs.JudgeTree.{procedures_judged}
 use Rattle.cse_types.specs.Told.{told_of}
 use Rattle.cse_logic_names.specs.WellTyped.{procedure_messages}

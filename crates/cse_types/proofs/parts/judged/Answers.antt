@@ -1,7 +1,7 @@
 use Rattle.std.proofs.Common.{◌≡◌, ap, ◌∙◌, sym, map, List, Option, true, false}
 use Rattle.std.specs.Prelude.{◌||◌, not, option_map}
-use Rattle.cse_syntax.specs.Tree as syntax
-use Rattle.cse_syntax.specs.declared.tree.Procedure.{Procedure}
+use Rattle.cse_syntax_tree.specs.Tree as syntax
+use Rattle.cse_syntax_tree.specs.declared.tree.Procedure.{Procedure}
 use Rattle.cse_logic_tree.specs.Typed as typed
 use Rattle.cse_types.specs.declared.table.Table.{Table}
 use Rattle.cse_types.specs.Checked.{start_of, parts_judged, with_entries}

@@ -1,6 +1,6 @@
 use Rattle.std.proofs.Common.{◌≡◌, ◌∙◌, ap, sym, map, length, Option, ℕ, ◌+◌}
 use Rattle.std.specs.Prelude.{◌||◌, not, option_map}
-use Rattle.cse_syntax.specs.Tree as syntax
+use Rattle.cse_syntax_tree.specs.Tree as syntax
 use Rattle.cse_logic_tree.specs.Typed as typed
 use Rattle.cse_logic_names.specs.Scope.{Scope}
 use Rattle.cse_logic_names.specs.WellTyped.{messages_of}

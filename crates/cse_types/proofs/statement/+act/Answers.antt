@@ -1,10 +1,10 @@
 use Rattle.std.proofs.Common.{◌≡◌, ap, ◌∙◌, refl, sym, subst, map, drop, ◌+◌, ◌<◌, ◌≤◌, length, get_or, List}
 use Rattle.std.specs.Prelude.{◌||◌, ◌++◌, not, false, option_map}
-use Rattle.cse_syntax.specs.declared.tree.Statement as rusts
-use Rattle.cse_syntax.specs.declared.tree.Arm as rustarm
-use Rattle.cse_syntax.specs.Tree as syntax
-use Rattle.cse_syntax.specs.Tree.{written, stmt, arm_tree as parsed_arm}
-use Rattle.cse_syntax.proofs.Rows.{if_is, for_is, do_is}
+use Rattle.cse_syntax_tree.specs.declared.tree.Statement as rusts
+use Rattle.cse_syntax_tree.specs.declared.tree.Arm as rustarm
+use Rattle.cse_syntax_tree.specs.Tree as syntax
+use Rattle.cse_syntax_tree.specs.Tree.{written, stmt, arm_tree as parsed_arm}
+use Rattle.cse_syntax_tree.proofs.Rows.{if_is, for_is, do_is}
 use Rattle.cse_logic_tree.specs.Typed.{statement, statements, arm_tree, counting, Do, else_of}
 use Rattle.cse_logic_names.specs.WellTyped.{messages_in, messages_of}
 use Rattle.cse_logic_expressions.specs.Judge.{as_number, judge}

@@ -1,5 +1,5 @@
 use Rattle.std.proofs.Common.{◌≡◌, ◌+◌, drop, ap, ◌∙◌, sym, subst, ◌<◌, ◌≤◌, length, get_or, map, List}
-use Rattle.cse_syntax.specs.declared.tree.Lexeme.{Lexeme}
+use Rattle.cse_syntax_tree.specs.declared.tree.Lexeme.{Lexeme}
 use Rattle.cse_types.specs.Fresh.{all_after}
 use Rattle.cse_types.proofs.FreshLaws.{after_at, after_end}
 use Rattle.cse_types.proofs.TableLaws.{with_written, written_after}

@@ -1,6 +1,6 @@
 use Rattle.std.proofs.Common.{◌≡◌, ◌+◌, drop, ap, ◌∙◌, sym, subst, ◌<◌, ◌≤◌, length, get_or, map, List}
 use Rattle.std.specs.Prelude.{not}
-use Rattle.cse_syntax.specs.declared.tree.Declaration.{Declaration}
+use Rattle.cse_syntax_tree.specs.declared.tree.Declaration.{Declaration}
 use Rattle.cse_types.specs.declared.table.Table.{Table}
 use Rattle.cse_types.specs.Table.{no_table}
 use Rattle.cse_types.proofs.FreshLaws.{after_turn, after_end}

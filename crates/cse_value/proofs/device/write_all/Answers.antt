@@ -1,8 +1,7 @@
 use Rattle.std.proofs.Common.{rules, take-add}
-use Rattle.std.proofs.KnownBytes.{Appends-trans, Appends-kept}
 use Rattle.std.proofs.lemmas.List.{take_rest}
 use Rattle.std.proofs.lemmas.Result.{err_from_is_err_and}
-use Rattle.cse_value.proofs.WriteLaws.{AppendsFront-take}
+use Rattle.cse_value.proofs.WriteLaws.{Appends-trans, Appends-kept, AppendsFront-take}
 use Rattle.cse_value.proofs.device.write_all.Goals as goal
 
 pub loop-at-preserved : goal.loop-at-preserved

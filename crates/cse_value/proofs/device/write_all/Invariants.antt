@@ -1,11 +1,11 @@
 use Rattle.std.proofs.Common.{◌≡◌, ◌≤◌, ◌-◌, length, take}
-use Rattle.std.specs.Io.KnownBytes.{Appends}
+use Rattle.cse_value.specs.Device.{Appends}
 use Rattle.cse_value.proofs.device.write_all.Given as goal
 
 abbrev pub invariant-loop-at : goal.invariant-loop-at
 invariant-loop-at g l = record {
   in_range : l.at ≤ length l.bytes;
-  bytes : Appends (g.W.Output.contents l.fn.out) (g.W.Output.contents l.out) (take l.at l.bytes);
+  bytes : Appends (g.W.Output.taken l.fn.out) (g.W.Output.taken l.out) (take l.at l.bytes);
   sound : g.W.Output.has_failed l.out ≡ g.W.Output.has_failed l.fn.out;
 }
 

@@ -16,5 +16,5 @@ returns-in-Ok-clause-next g c = λ none.
     let v = c.self.inside in
     let sound = c.self.invariant.sound (ap (λ r. r.error) c.self.view_is ∙ none) in
     let next = rw c.in-Ok-Some.field-0-is at (c.in-Ok-Some.ensures.next sound) in
-    subst (λ (x : ReaderText). NextCase (g.R.Input.remaining c.args.input.now) (g.R.Input.remaining c.next.new.input) x (record c.next.new.self { error = v.error }) (Ok (Some c.in-Ok.case))) c.self.view_is
+    subst (λ (x : ReaderText). NextCase (g.R.Input.given c.args.input.now) (g.R.Input.given c.next.new.input) x (record c.next.new.self { error = v.error }) (Ok (Some c.in-Ok.case))) c.self.view_is
     (next_case _ _ v.runs c.next.new.self v.error v.error c.in-Ok-Some.run' c.in-Ok.case v.source next c.self.invariant.same c.in-Ok.ensures.made)

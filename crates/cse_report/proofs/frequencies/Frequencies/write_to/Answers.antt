@@ -17,10 +17,10 @@ returns-clause-bytes g c =
     let e : (first ++ middle) ++ last ≡ frequencies_text names c.args.self.now =
     ap (λ (l : List Table). (first ++ items_lines names l) ++ last) (c.deref.ensures.value ∙ c.self.view_is) in
     let all = Puts-then _ _ _ (first ++ middle) last (Puts-then _ _ _ first middle c.put_line.ensures c.put_items.ensures) c.put_line-2.ensures in
-    let start = g.W.Output.contents c.args.out.now in
+    let start = g.W.Output.taken c.args.out.now in
     let sound = g.W.Output.has_failed c.args.out.now in
     let none = Gathering-none start sound c.new-gatherer.result.waiting.items c.new-gatherer.result.gave_up c.new-gatherer.ensures.waiting c.new-gatherer.ensures.gave_up in
-    subst (λ (l : List ℕ). WritesAll c.finish.result start (g.W.Output.contents c.finish.new.out) l) e (c.finish.ensures start sound ((first ++ middle) ++ last) (all start sound _ none)).0
+    subst (λ (l : List ℕ). WritesAll c.finish.result start (g.W.Output.taken c.finish.new.out) l) e (c.finish.ensures start sound ((first ++ middle) ++ last) (all start sound _ none)).0
 
 pub returns-clause-failed : goal.returns-clause-failed
 returns-clause-failed g c =
@@ -28,7 +28,7 @@ returns-clause-failed g c =
     let last : List ℕ = line (codes "END") in
     let middle = items_lines (item_names c.args.dictionary.now) c.deref.result.now in
     let all = Puts-then _ _ _ (first ++ middle) last (Puts-then _ _ _ first middle c.put_line.ensures c.put_items.ensures) c.put_line-2.ensures in
-    let start = g.W.Output.contents c.args.out.now in
+    let start = g.W.Output.taken c.args.out.now in
     let sound = g.W.Output.has_failed c.args.out.now in
     let none = Gathering-none start sound c.new-gatherer.result.waiting.items c.new-gatherer.result.gave_up c.new-gatherer.ensures.waiting c.new-gatherer.ensures.gave_up in
     (c.finish.ensures start sound ((first ++ middle) ++ last) (all start sound _ none)).1

@@ -20,17 +20,17 @@ returns-clause-bytes g c =
     ∙ (ap (λ (ns : List ℕ). i.lines.items ++ counted i.messages.items ns) c.deref-3.ensures.value
     ∙ ap (λ (h : Held). ending h c.args.cases c.args.lines c.args.unseen) c.self.view_is)) in
     let all = Puts-then _ _ _ lines last c.put.ensures c.put_summary.ensures in
-    let start = g.W.Output.contents c.args.out.now in
+    let start = g.W.Output.taken c.args.out.now in
     let sound = g.W.Output.has_failed c.args.out.now in
     let none = Gathering-none start sound c.new-gatherer.result.waiting.items c.new-gatherer.result.gave_up c.new-gatherer.ensures.waiting c.new-gatherer.ensures.gave_up in
-    subst (λ (l : List ℕ). WritesAll c.finish.result start (g.W.Output.contents c.finish.new.out) l) e (c.finish.ensures start sound (lines ++ last) (all start sound _ none)).0
+    subst (λ (l : List ℕ). WritesAll c.finish.result start (g.W.Output.taken c.finish.new.out) l) e (c.finish.ensures start sound (lines ++ last) (all start sound _ none)).0
 
 pub returns-clause-failed : goal.returns-clause-failed
 returns-clause-failed g c =
     let lines = c.deref.result.now in
     let last = summary (map message_lists c.deref-2.result.now) c.deref-3.result.now c.args.cases c.args.lines c.args.unseen in
     let all = Puts-then _ _ _ lines last c.put.ensures c.put_summary.ensures in
-    let start = g.W.Output.contents c.args.out.now in
+    let start = g.W.Output.taken c.args.out.now in
     let sound = g.W.Output.has_failed c.args.out.now in
     let none = Gathering-none start sound c.new-gatherer.result.waiting.items c.new-gatherer.result.gave_up c.new-gatherer.ensures.waiting c.new-gatherer.ensures.gave_up in
     (c.finish.ensures start sound (lines ++ last) (all start sound _ none)).1

@@ -1,7 +1,7 @@
 use Rattle.std.proofs.Common.{arith, ap, sym, refl, ◌∙◌, ◌<◌, ◌≤◌, length, map}
 use Rattle.std.proofs.lemmas.List.{map_push}
-use Rattle.cse_syntax.specs.Word.{words}
-use Rattle.cse_syntax.specs.Tree.{expr, operation_tree, Compare}
+use Rattle.cse_syntax_tree.specs.Word.{words}
+use Rattle.cse_syntax_tree.specs.Tree.{expr, operation_tree, Compare}
 use Rattle.cse_syntax.specs.Reading as spec
 use Rattle.cse_syntax.specs.Reading.{closed, relation, related, sum}
 use Rattle.cse_syntax.proofs.Loops.{made_gives, one_operation, list_ends, awaits_first, awaits_next, awaits_last}

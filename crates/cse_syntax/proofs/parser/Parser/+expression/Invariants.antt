@@ -1,8 +1,8 @@
 use Rattle.std.proofs.Common.{◌≤◌, [], length, map, ℕ, ◌+◌, ◌*◌}
 use Rattle.cse_syntax.specs.declared.parser.Level.{Level}
 use Rattle.cse_syntax.specs.declared.parser.Level.TheVariants as level
-use Rattle.cse_syntax.specs.Word.{words}
-use Rattle.cse_syntax.specs.Tree.{expr, operation_tree}
+use Rattle.cse_syntax_tree.specs.Word.{words}
+use Rattle.cse_syntax_tree.specs.Tree.{expr, operation_tree}
 use Rattle.cse_syntax.specs.Reading as spec
 use Rattle.cse_syntax.proofs.Loops.{Within, Awaits}
 use Rattle.cse_syntax.proofs.parser.Parser.+expression.Given as goal

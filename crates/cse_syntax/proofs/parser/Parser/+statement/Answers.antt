@@ -1,9 +1,9 @@
 use Rattle.std.proofs.Common.{arith, ap, sym, refl, ◌∙◌, ◌≡◌, ◌<◌, true, length, map}
 use Rattle.std.proofs.lemmas.List.{map_push}
 use Rattle.std.proofs.lemmas.Result.{err_from_is_err_and}
-use Rattle.cse_syntax.specs.declared.token.Mark.TheVariants as m
-use Rattle.cse_syntax.specs.Word.{words}
-use Rattle.cse_syntax.specs.Tree.{stmt, arm_tree}
+use Rattle.cse_syntax_tree.specs.declared.token.Mark.TheVariants as m
+use Rattle.cse_syntax_tree.specs.Word.{words}
+use Rattle.cse_syntax_tree.specs.Tree.{stmt, arm_tree}
 use Rattle.cse_syntax.specs.Reading as spec
 use Rattle.cse_syntax.specs.ReadingStmt as rule
 use Rattle.cse_syntax.specs.ReadingStmt.{alternatives}

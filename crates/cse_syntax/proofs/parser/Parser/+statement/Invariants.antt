@@ -1,6 +1,6 @@
 use Rattle.std.proofs.Common.{◌≤◌, length, map, ◌+◌, ◌*◌}
-use Rattle.cse_syntax.specs.Word.{words}
-use Rattle.cse_syntax.specs.Tree.{stmt, arm_tree}
+use Rattle.cse_syntax_tree.specs.Word.{words}
+use Rattle.cse_syntax_tree.specs.Tree.{stmt, arm_tree}
 use Rattle.cse_syntax.specs.ReadingStmt as rule
 use Rattle.cse_syntax.proofs.Loops.{Within}
 use Rattle.cse_syntax.proofs.parser.Parser.+statement.Given as goal

@@ -1,7 +1,7 @@
 use Rattle.std.proofs.Common.{arith, ap, sym, ◌∙◌, map}
 use Rattle.std.proofs.lemmas.List.{map_push}
-use Rattle.cse_syntax.specs.Word.{words}
-use Rattle.cse_syntax.specs.Tree as tree
+use Rattle.cse_syntax_tree.specs.Word.{words}
+use Rattle.cse_syntax_tree.specs.Tree as tree
 use Rattle.cse_syntax.specs.ReadingSource as rule
 use Rattle.cse_syntax.proofs.Loops.{awaits_first, awaits_next, awaits_last}
 use Rattle.cse_syntax.proofs.parser.Parser.dimensions.Goals as goal

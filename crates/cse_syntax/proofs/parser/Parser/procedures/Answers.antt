@@ -1,8 +1,8 @@
 use Rattle.std.proofs.Common.{arith, ap, sym, ◌∙◌, ◌<◌, length, map}
 use Rattle.std.proofs.lemmas.List.{map_push}
-use Rattle.cse_syntax.specs.declared.token.Mark.TheVariants as m
-use Rattle.cse_syntax.specs.Tree as tree
-use Rattle.cse_syntax.specs.Tree.{written}
+use Rattle.cse_syntax_tree.specs.declared.token.Mark.TheVariants as m
+use Rattle.cse_syntax_tree.specs.Tree as tree
+use Rattle.cse_syntax_tree.specs.Tree.{written}
 use Rattle.cse_syntax.specs.Reading as spec
 use Rattle.cse_syntax.specs.ReadingSource as rule
 use Rattle.cse_syntax.proofs.Loops.{one_item}

@@ -1,6 +1,6 @@
 use Rattle.std.proofs.Common.{◌≤◌, length, map}
-use Rattle.cse_syntax.specs.Word.{words}
-use Rattle.cse_syntax.specs.Tree as tree
+use Rattle.cse_syntax_tree.specs.Word.{words}
+use Rattle.cse_syntax_tree.specs.Tree as tree
 use Rattle.cse_syntax.specs.ReadingSource as rule
 use Rattle.cse_syntax.specs.Reading as spec
 use Rattle.cse_syntax.proofs.Loops.{Awaits}

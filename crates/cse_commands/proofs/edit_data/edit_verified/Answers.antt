@@ -1,0 +1,15 @@
+use Rattle.std.proofs.Common.{◌∙◌, subst, ℕ, List, Option}
+use Rattle.cse_value.specs.contracts.device.ReadsInput.TheImpl as reads
+use Rattle.cse_value.specs.contracts.device.WritesOutput.TheImpl as writes
+use Rattle.cse_commands.specs.Edited.{EditsTexts}
+use Rattle.cse_commands.specs.Ran.{told_by}
+use Rattle.cse_commands.proofs.FileLaws.{decks_are}
+use Rattle.cse_commands.proofs.edit_data.edit_verified.Goals as goal
+
+pub returns-clause-edits : goal.returns-clause-edits
+returns-clause-edits g c =
+    let input = reads.ghosts g.row.R-File g.R.File.Read g.R.File.Read-dict in
+    let output = writes.ghosts g.row.R-File g.R.File.Write g.R.File.Write-dict in
+    let t = told_by input.given output.taken output.has_failed in
+    subst (λ (d : Option (List ℕ)). EditsTexts t c.args.text.now c.args.logic.now c.args.messages.now c.args.order.now d c.in_ok-ran.ran)
+    (c.bytes_of.ensures ∙ decks_are t c.in_ok-decks.decks _ c.in_ok-decks.ensures.whole) c.in_ok-ran.ensures.took

@@ -1,0 +1,5 @@
+pub mod Leaf
+pub mod Word
+pub mod Tree
+pub mod Grammar
+pub mod First
