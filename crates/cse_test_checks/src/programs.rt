@@ -1,14 +1,16 @@
-//! Programs that are typed: their events, orders and shapes, and what code costs that means harm.
+//! Tables of programs: for each instruction one that may run and one that may not; events, orders and shapes; and what code
+//! costs that means harm.
 
+use crate::opcodes::{NUMBER, RETURN, Row, rows};
 use crate::told::assert_count;
 use cse_code_typing::{NONE, Refusal, typed};
 use cse_image::{
     Ambient, EventCode, EventEntry, Gift, GlobalKind, GlobalVariable, Instr, Local, LocalKind, Op,
     Parts, Program,
 };
-use cse_test_fixtures::listing::add_listing;
-use cse_test_fixtures::outline::{self, ArrayOutline, MessageOutline, NOTHING, Outline};
-use cse_test_fixtures::pieces::{Head, PLAIN};
+use cse_image_parts::opcodes::op_named;
+use cse_test_fixtures::outline::{self, ArrayOutline, Line, MessageOutline, NOTHING, Outline};
+use cse_test_fixtures::pieces::{Head, PLAIN, add_lines};
 use cse_value::shape::{ID_OWNER, ItemKind, ItemShape, RecordShape, SetShape, Shape};
 use std::alloc::{AllocError, Global};
 
@@ -121,38 +123,49 @@ const OF_CASE: Head<'static> = Head {
     locals: &[],
 };
 
+/// The first two routines, and the last two.
+static TO_NUMBER: [Line; 2] = [NUMBER, RETURN];
+
+static TO_RETURN: [Line; 1] = [RETURN];
+
 /// A program of the tables.
 #[derive(Clone, Copy)]
-pub(crate) struct Plan<'a> {
-    pub(crate) ambient: Ambient,
+struct Plan<'a> {
+    ambient: Ambient,
     /// The code of routine 2.
-    pub(crate) code: &'a str,
-    pub(crate) events: &'a [EventEntry],
-    pub(crate) order: &'a [u32],
+    lines: &'a [Line],
+    events: &'a [EventEntry],
+    order: &'a [u32],
 }
 
 /// Two records, and no event.
-pub(crate) const PLAN: Plan<'static> = Plan {
+const PLAN: Plan<'static> = Plan {
     ambient: Ambient::Case,
-    code: "Return",
+    lines: &[RETURN],
     events: &[],
     order: &[1, 0],
 };
 
 /// Routine 0 takes a number and a text and gives a number; 1 takes an occurrence; 2 is the one that
 /// is looked at; 3 is one of the whole run, and 4 one of the case.
-fn add_routines(alloc: Global, parts: &mut Parts, plan: &Plan<'_>) -> Option<()> {
+fn add_routines(alloc: Global, parts: &mut Parts, plan: &Plan<'_>) -> Result<(), AllocError> {
     let looked_at = Head {
         ambient: plan.ambient,
         gives: Gift::Nothing,
         parameters: 1,
         locals: &[OCCURRENCE, NUMBER_LOCAL, TEXT_LOCAL],
     };
-    add_listing(alloc, parts, &GIVES, "Number; Return")?;
-    add_listing(alloc, parts, &OF_PERSON, "Return")?;
-    add_listing(alloc, parts, &looked_at, plan.code)?;
-    add_listing(alloc, parts, &PLAIN, "Return")?;
-    add_listing(alloc, parts, &OF_CASE, "Return")
+    let plans = [
+        (GIVES, TO_NUMBER.as_slice()),
+        (OF_PERSON, TO_RETURN.as_slice()),
+        (looked_at, plan.lines),
+        (PLAIN, TO_RETURN.as_slice()),
+        (OF_CASE, TO_RETURN.as_slice()),
+    ];
+    for (head, lines) in &plans {
+        add_lines(alloc, parts, head, lines)?;
+    }
+    Ok(())
 }
 
 /// Makes the parts those of the shape, with the order and the events of a plan.
@@ -196,23 +209,16 @@ const BESIDE: Outline<'static> = Outline {
     ..NOTHING
 };
 
-/// Makes the parts those of a plan.
-fn add_plan(alloc: Global, parts: &mut Parts, plan: &Plan<'_>) -> Option<()> {
-    add_shape(parts, plan).ok()?;
-    add_routines(alloc, parts, plan)
-}
-
 /// The parts of a plan.
-fn parts_of(alloc: Global, plan: &Plan<'_>) -> Option<Parts> {
-    let mut parts = outline::parts_of(alloc, &BESIDE).ok()?;
-    match add_plan(alloc, &mut parts, plan) {
-        Some(()) => Some(parts),
-        None => None,
-    }
+fn parts_of(alloc: Global, plan: &Plan<'_>) -> Result<Parts, AllocError> {
+    let mut parts = outline::parts_of(alloc, &BESIDE)?;
+    add_shape(&mut parts, plan)?;
+    add_routines(alloc, &mut parts, plan)?;
+    Ok(parts)
 }
 
 /// What is said of a program: zeros, or the number, the routine and the place.
-pub(crate) type Told = (u8, u32, u32);
+type Told = (u8, u32, u32);
 
 /// What is said where memory lacks.
 const NO_MEMORY: Told = (90, NONE, NONE);
@@ -240,11 +246,93 @@ fn told_of(alloc: Global, parts: Parts) -> Told {
 }
 
 /// What is said of a plan.
-pub(crate) fn told(alloc: Global, plan: &Plan<'_>) -> Told {
+fn told(alloc: Global, plan: &Plan<'_>) -> Told {
     match parts_of(alloc, plan) {
-        Some(parts) => told_of(alloc, parts),
-        None => NO_MEMORY,
+        Ok(parts) => told_of(alloc, parts),
+        Err(_) => NO_MEMORY,
     }
+}
+
+/// Whether some line has the instruction.
+fn has(lines: &[Line], op: Op) -> bool {
+    for line in lines {
+        if line.0 == op {
+            return true;
+        }
+    }
+    false
+}
+
+/// Whether an instruction has a row.
+fn has_row(rows: &[Row], op: Op) -> bool {
+    for row in rows {
+        if row.0 == op {
+            return true;
+        }
+    }
+    false
+}
+
+/// The first number of an instruction without a row; 46 where each has one.
+fn first_without_row(rows: &[Row]) -> Option<usize> {
+    for number in 1..46 {
+        let has_one = match op_named(number) {
+            Some(op) => has_row(rows, op),
+            None => false,
+        };
+        if !has_one {
+            return Some(usize::from(number));
+        }
+    }
+    Some(46)
+}
+
+#[test]
+fn each_instruction_has_a_row(rt: HostRuntime) {
+    assert_count(&rt, first_without_row(rows()), 46);
+}
+
+/// What is said of a program of the whole run whose first place that needs a case is this one.
+fn wanted_of_run(case_at: u32) -> Told {
+    if case_at == NONE {
+        (0, 0, 0)
+    } else {
+        (69, 2, case_at)
+    }
+}
+
+/// Whether the code of a row may run in a case, and in the whole run if it needs none, and the other may not.
+fn is_row(alloc: Global, row: &Row) -> bool {
+    let (op, lines, case_at, others, number, at) = *row;
+    let plan = Plan { lines, ..PLAN };
+    let of_run = Plan {
+        ambient: Ambient::Run,
+        lines,
+        ..PLAN
+    };
+    let other = Plan {
+        lines: others,
+        ..PLAN
+    };
+    has(lines, op)
+        && told(alloc, &plan) == (0, 0, 0)
+        && told(alloc, &of_run) == wanted_of_run(case_at)
+        && told(alloc, &other) == (number, 2, at)
+}
+
+/// The place of the first wrong row, or how many they are.
+fn first_wrong(alloc: Global, rows: &[Row]) -> Option<usize> {
+    for (i, row) in rows.iter().enumerate() {
+        if !is_row(alloc, row) {
+            return Some(i);
+        }
+    }
+    Some(rows.len())
+}
+
+#[test]
+fn each_instruction(rt: HostRuntime) {
+    assert_count(&rt, first_wrong(rt.alloc(), rows()), 48);
 }
 
 /// A program that refuses has no routine and no place to tell.
@@ -362,11 +450,11 @@ fn take_last(parts: &mut Parts, part: u32) {
 
 fn told_without(alloc: Global, part: u32) -> Told {
     match parts_of(alloc, &PLAN) {
-        Some(mut parts) => {
+        Ok(mut parts) => {
             take_last(&mut parts, part);
             told_of(alloc, parts)
         }
-        None => NO_MEMORY,
+        Err(_) => NO_MEMORY,
     }
 }
 
@@ -408,18 +496,16 @@ fn add_many(parts: &mut Parts, all: &[Many], instructions: u32) -> Result<(), Al
     push_many(&mut parts.code, &(Op::Return, 1, 0))
 }
 
-fn parts_of_many(alloc: Global, all: &[Many], instructions: u32) -> Option<Parts> {
+fn parts_of_many(alloc: Global, all: &[Many], instructions: u32) -> Result<Parts, AllocError> {
     let mut parts = parts_of(alloc, &PLAN)?;
-    match add_many(&mut parts, all, instructions) {
-        Ok(()) => Some(parts),
-        Err(_) => None,
-    }
+    add_many(&mut parts, all, instructions)?;
+    Ok(parts)
 }
 
 fn told_of_many(alloc: Global, all: &[Many], instructions: u32) -> Told {
     match parts_of_many(alloc, all, instructions) {
-        Some(parts) => told_of(alloc, parts),
-        None => NO_MEMORY,
+        Ok(parts) => told_of(alloc, parts),
+        Err(_) => NO_MEMORY,
     }
 }
 

@@ -2,136 +2,169 @@
 
 use crate::told::assert_count;
 use cse_syntax::parse;
-use cse_test_fixtures::rows::{cut, number};
 use std::alloc::{AllocError, Global};
 
-/// The number, line and column of the first fault of a text; zeros of a source.
-type Told = (u64, u64, u64);
-
-fn fault(alloc: Global, text: &str) -> Told {
+/// The number, line and column of the first fault; zeros of a source.
+fn fault(alloc: Global, text: &str) -> (u8, u32, u32) {
     match parse(alloc, text) {
         Ok(_) => (0, 0, 0),
-        Err(error) => (
-            u64::from(error.number),
-            u64::from(error.line),
-            u64::from(error.column),
-        ),
+        Err(error) => (error.number, error.line, error.column),
     }
 }
 
-/// The rows: the number, line and column of the first fault of a text, zeros of a source, and the text; behind each but the
-/// last a bar. What begins with slashes tells of the rows behind it.
-const ROWS: &str = "\
-// Characters that no token has, and places: a byte order mark is no column; a tab and a CR are one each; LF alone ends a line.|\
-30 1 16 PROC AGE AGE = #;|\
-30 1 10 PROC AGE }|\
-30 1 18 PROC AGE AGE = 2 ^ 3;|\
-30 1 16 PROC AGE AGE = .5;|\
-30 1 6 PROC _AGE|\
-30 1 8 PROC AG\u{c9}|\
-30 2 12 \u{feff}PROC AGE\r\n\tAGE = '\u{e9}' \u{e9};|\
-30 1 1 \u{feff}#|\
-30 1 10 PROC\rAGE\r#|\
-// Comments and texts.|\
-31 1 10 PROC AGE { a { b }|\
-31 1 7 { a } { b|\
-0 0 0 { a { b } ' // } PROC AGE|\
-0 0 0 PROC AGE // { ' \"\n; // end|\
-31 1 17 PROC AGE errmsg('abc|\
-31 1 17 PROC AGE errmsg('ab\nc');|\
-31 1 17 PROC AGE errmsg(\"a\tb\");|\
-// Tokens that cannot stand where they do; the first fault from the left counts.|\
-32 1 16 PROC AGE AGE = ;|\
-32 1 15 PROC AGE PROC GLOBAL|\
-32 1 13 PROC AGE if = 1;|\
-32 1 14 PROC AGE A() = 1;|\
-32 1 20 PROC AGE A = 1 < 2 < 3;|\
-32 1 16 PROC AGE A = - - 1;|\
-32 1 18 PROC AGE A = not not 1;|\
-32 1 33 PROC AGE do varying i = 1 until j > 2 enddo;|\
-32 1 6 PROC 99999999999999999999|\
-32 1 5 PROC|\
-32 1 10 PROC AGE = #|\
-32 1 10 PROC AGE ) while|\
-// Words that are left out.|\
-33 2 1 PROC AGE\nwhile AGE = 1 do enddo;|\
-33 1 6 PROC Skip|\
-33 1 18 PROC AGE A = 1 + STOP;|\
-33 1 10 PROC AGE while|\
-33 1 10 PROC AGE recode|\
-33 1 10 PROC AGE box|\
-33 1 10 PROC AGE endbox|\
-33 1 10 PROC AGE skip|\
-33 1 10 PROC AGE stop|\
-33 1 10 PROC AGE write|\
-33 1 10 PROC AGE noinput|\
-33 1 10 PROC AGE advance|\
-33 1 10 PROC AGE reenter|\
-33 1 10 PROC AGE denom|\
-33 1 10 PROC AGE stat|\
-33 1 10 PROC AGE insert|\
-33 1 10 PROC AGE delete|\
-33 1 10 PROC AGE sort|\
-33 1 10 PROC AGE file|\
-33 1 10 PROC AGE list|\
-33 1 10 PROC AGE onfocus|\
-33 1 10 PROC AGE killfocus|\
-33 1 10 PROC AGE onoccchange|\
-33 1 10 PROC AGE export|\
-// Ranges of numbers.|\
-35 1 20 PROC GLOBAL alpha (256) X;|\
-35 1 20 PROC GLOBAL alpha (0) X;|\
-0 0 0 PROC GLOBAL alpha (0255) X;|\
-35 1 22 PROC GLOBAL array X (65536);|\
-35 1 29 PROC GLOBAL array X (65535, 0);|\
-0 0 0 PROC AGE A = 9223372036854775807;|\
-35 1 14 PROC AGE A = 9223372036854775808;|\
-0 0 0 PROC AGE do varying i = -999999999 until i > 1 by 999 enddo;|\
-35 1 26 PROC AGE do varying i = -1000000000 until i > 1 enddo;|\
-35 1 42 PROC AGE do varying i = 1 until i > 2 by 0 enddo;|\
-35 1 42 PROC AGE do varying i = 1 until i > 2 by 1000 enddo;|\
-// Sources.|\
-0 0 0 |\
-0 0 0 proc global numeric i, n; ALPHA (10) t; array D (SEX_VS, REL_VS(+), 3) save = 1, -2; array C(2);\n        function F(numeric x, y); F = x + y; end; function G() end; function H(x) exit; end;|\
-0 0 0 PROC D preproc ; postproc break; next; exit; PROC Q preproc PROC P postproc PROC A|\
-0 0 0 PROC QUEST n = 0; for i in PERSON do if AGE(i) >= 15 then n = n + 1; endif; enddo; errmsg(\"adults %d of %d\", n, totocc(PERSON));|\
-0 0 0 PROC AGE if AGE = notappl then impute(AGE, getdeck(AGE_HD)); else putdeck(AGE_HD, AGE); endif;|\
-0 0 0 PROC AGE if AGE < 15 then errmsg('child'); elseif AGE < 65 then errmsg(7, AGE) summary; elseif AGE <= 200 then ; else F(1, 2)  ; endif;|\
-0 0 0 PROC AGE do varying i = totocc(P) until I > maxocc(P) by 4 A(i, 2) = int(-7 / 2) % 3; enddo; do varying i = 5 until i > 4 enddo;|\
-0 0 0 PROC AGE x = missing <> default; impute(A(1), curocc(P)); y = special(x) or invalueset(SEX) and not invalueset(SEX, SEX_VS); z = a > b; z = F();|\
-0 0 0 PROC AGE AGE = AGE;|\
-0 0 0 PROC AGE AGE = -5;|\
-0 0 0 PROC AGE AGE = missing;|\
-0 0 0 PROC GLOBAL array A (10) = 11,12,13,14,15,16,17,18,19,20; PROC AGE errmsg(\"%d %d %d %d\", A(0), A(1), A(10), A(11));|\
-0 0 0 PROC AGE if AGE < 15 then errmsg(\"child\"); elseif AGE < 65 then errmsg(\"adult %d\", AGE); elseif AGE < 200 then errmsg(\"old %03d\", AGE); else errmsg(\"odd %d\", AGE); endif;|\
-0 0 0 PROC GLOBAL numeric i; PROC AGE do varying i = 5 until i > 4 enddo; do varying i = 1 until i > 10 by 4 enddo;|\
-0 0 0 PROC GLOBAL array AGE_HD (SEX_VS, REL_VS(+)) save; PROC AGE if AGE = notappl then impute(AGE, getdeck(AGE_HD)); else putdeck(AGE_HD, AGE); endif;|\
-0 0 0 PROC GLOBAL numeric i, n; PROC QUEST n = 0; for i in PERSON do if AGE(i) >= 15 then n = n + 1; endif; enddo; errmsg(\"adults %d of %d\", n, totocc(PERSON));";
+/// A text, and the number, line and column of its first fault; zeros of a source.
+type Row = (&'static str, (u8, u32, u32));
 
-/// Whether a row is told as it says, or tells of others.
-fn is_right(alloc: Global, row: &str) -> bool {
-    let (fault_number, rest) = cut(row, ' ');
-    let (line, rest) = cut(rest, ' ');
-    let (column, text) = cut(rest, ' ');
-    let wanted = (number(fault_number), number(line), number(column));
-    fault_number == "//" || fault(alloc, text) == wanted
-}
+static ROWS: [Row; 79] = [
+    // Characters that no token has, and places: a byte order mark is no column; a tab and a CR are one each; LF alone ends a line.
+    ("PROC AGE AGE = #;", (30, 1, 16)),
+    ("PROC AGE }", (30, 1, 10)),
+    ("PROC AGE AGE = 2 ^ 3;", (30, 1, 18)),
+    ("PROC AGE AGE = .5;", (30, 1, 16)),
+    ("PROC _AGE", (30, 1, 6)),
+    ("PROC AG\u{c9}", (30, 1, 8)),
+    ("\u{feff}PROC AGE\r\n\tAGE = '\u{e9}' \u{e9};", (30, 2, 12)),
+    ("\u{feff}#", (30, 1, 1)),
+    ("PROC\rAGE\r#", (30, 1, 10)),
+    // Comments and texts.
+    ("PROC AGE { a { b }", (31, 1, 10)),
+    ("{ a } { b", (31, 1, 7)),
+    ("{ a { b } ' // } PROC AGE", (0, 0, 0)),
+    ("PROC AGE // { ' \"\n; // end", (0, 0, 0)),
+    ("PROC AGE errmsg('abc", (31, 1, 17)),
+    ("PROC AGE errmsg('ab\nc');", (31, 1, 17)),
+    ("PROC AGE errmsg(\"a\tb\");", (31, 1, 17)),
+    // Tokens that cannot stand where they do; the first fault from the left counts.
+    ("PROC AGE AGE = ;", (32, 1, 16)),
+    ("PROC AGE PROC GLOBAL", (32, 1, 15)),
+    ("PROC AGE if = 1;", (32, 1, 13)),
+    ("PROC AGE A() = 1;", (32, 1, 14)),
+    ("PROC AGE A = 1 < 2 < 3;", (32, 1, 20)),
+    ("PROC AGE A = - - 1;", (32, 1, 16)),
+    ("PROC AGE A = not not 1;", (32, 1, 18)),
+    ("PROC AGE do varying i = 1 until j > 2 enddo;", (32, 1, 33)),
+    ("PROC 99999999999999999999", (32, 1, 6)),
+    ("PROC", (32, 1, 5)),
+    ("PROC AGE = #", (32, 1, 10)),
+    ("PROC AGE ) while", (32, 1, 10)),
+    // Words that are left out.
+    ("PROC AGE\nwhile AGE = 1 do enddo;", (33, 2, 1)),
+    ("PROC Skip", (33, 1, 6)),
+    ("PROC AGE A = 1 + STOP;", (33, 1, 18)),
+    ("PROC AGE while", (33, 1, 10)),
+    ("PROC AGE recode", (33, 1, 10)),
+    ("PROC AGE box", (33, 1, 10)),
+    ("PROC AGE endbox", (33, 1, 10)),
+    ("PROC AGE skip", (33, 1, 10)),
+    ("PROC AGE stop", (33, 1, 10)),
+    ("PROC AGE write", (33, 1, 10)),
+    ("PROC AGE noinput", (33, 1, 10)),
+    ("PROC AGE advance", (33, 1, 10)),
+    ("PROC AGE reenter", (33, 1, 10)),
+    ("PROC AGE denom", (33, 1, 10)),
+    ("PROC AGE stat", (33, 1, 10)),
+    ("PROC AGE insert", (33, 1, 10)),
+    ("PROC AGE delete", (33, 1, 10)),
+    ("PROC AGE sort", (33, 1, 10)),
+    ("PROC AGE file", (33, 1, 10)),
+    ("PROC AGE list", (33, 1, 10)),
+    ("PROC AGE onfocus", (33, 1, 10)),
+    ("PROC AGE killfocus", (33, 1, 10)),
+    ("PROC AGE onoccchange", (33, 1, 10)),
+    ("PROC AGE export", (33, 1, 10)),
+    // Ranges of numbers.
+    ("PROC GLOBAL alpha (256) X;", (35, 1, 20)),
+    ("PROC GLOBAL alpha (0) X;", (35, 1, 20)),
+    ("PROC GLOBAL alpha (0255) X;", (0, 0, 0)),
+    ("PROC GLOBAL array X (65536);", (35, 1, 22)),
+    ("PROC GLOBAL array X (65535, 0);", (35, 1, 29)),
+    ("PROC AGE A = 9223372036854775807;", (0, 0, 0)),
+    ("PROC AGE A = 9223372036854775808;", (35, 1, 14)),
+    (
+        "PROC AGE do varying i = -999999999 until i > 1 by 999 enddo;",
+        (0, 0, 0),
+    ),
+    (
+        "PROC AGE do varying i = -1000000000 until i > 1 enddo;",
+        (35, 1, 26),
+    ),
+    (
+        "PROC AGE do varying i = 1 until i > 2 by 0 enddo;",
+        (35, 1, 42),
+    ),
+    (
+        "PROC AGE do varying i = 1 until i > 2 by 1000 enddo;",
+        (35, 1, 42),
+    ),
+    // Sources.
+    ("", (0, 0, 0)),
+    (
+        "proc global numeric i, n; ALPHA (10) t; array D (SEX_VS, REL_VS(+), 3) save = 1, -2; array C(2);
+        function F(numeric x, y); F = x + y; end; function G() end; function H(x) exit; end;",
+        (0, 0, 0),
+    ),
+    (
+        "PROC D preproc ; postproc break; next; exit; PROC Q preproc PROC P postproc PROC A",
+        (0, 0, 0),
+    ),
+    (
+        "PROC QUEST n = 0; for i in PERSON do if AGE(i) >= 15 then n = n + 1; endif; enddo; errmsg(\"adults %d of %d\", n, totocc(PERSON));",
+        (0, 0, 0),
+    ),
+    (
+        "PROC AGE if AGE = notappl then impute(AGE, getdeck(AGE_HD)); else putdeck(AGE_HD, AGE); endif;",
+        (0, 0, 0),
+    ),
+    (
+        "PROC AGE if AGE < 15 then errmsg('child'); elseif AGE < 65 then errmsg(7, AGE) summary; elseif AGE <= 200 then ; else F(1, 2)  ; endif;",
+        (0, 0, 0),
+    ),
+    (
+        "PROC AGE do varying i = totocc(P) until I > maxocc(P) by 4 A(i, 2) = int(-7 / 2) % 3; enddo; do varying i = 5 until i > 4 enddo;",
+        (0, 0, 0),
+    ),
+    (
+        "PROC AGE x = missing <> default; impute(A(1), curocc(P)); y = special(x) or invalueset(SEX) and not invalueset(SEX, SEX_VS); z = a > b; z = F();",
+        (0, 0, 0),
+    ),
+    ("PROC AGE AGE = AGE;", (0, 0, 0)),
+    ("PROC AGE AGE = -5;", (0, 0, 0)),
+    ("PROC AGE AGE = missing;", (0, 0, 0)),
+    (
+        "PROC GLOBAL array A (10) = 11,12,13,14,15,16,17,18,19,20; PROC AGE errmsg(\"%d %d %d %d\", A(0), A(1), A(10), A(11));",
+        (0, 0, 0),
+    ),
+    (
+        "PROC AGE if AGE < 15 then errmsg(\"child\"); elseif AGE < 65 then errmsg(\"adult %d\", AGE); elseif AGE < 200 then errmsg(\"old %03d\", AGE); else errmsg(\"odd %d\", AGE); endif;",
+        (0, 0, 0),
+    ),
+    (
+        "PROC GLOBAL numeric i; PROC AGE do varying i = 5 until i > 4 enddo; do varying i = 1 until i > 10 by 4 enddo;",
+        (0, 0, 0),
+    ),
+    (
+        "PROC GLOBAL array AGE_HD (SEX_VS, REL_VS(+)) save; PROC AGE if AGE = notappl then impute(AGE, getdeck(AGE_HD)); else putdeck(AGE_HD, AGE); endif;",
+        (0, 0, 0),
+    ),
+    (
+        "PROC GLOBAL numeric i, n; PROC QUEST n = 0; for i in PERSON do if AGE(i) >= 15 then n = n + 1; endif; enddo; errmsg(\"adults %d of %d\", n, totocc(PERSON));",
+        (0, 0, 0),
+    ),
+];
 
 /// The place of the first of these rows that is told otherwise, or how many they are.
-fn first_wrong(alloc: Global, rows: &str) -> Option<usize> {
-    let mut right = 0usize;
-    for row in rows.split('|') {
-        if !is_right(alloc, row) {
-            return Some(right);
+fn first_wrong(alloc: Global, rows: &[Row]) -> Option<usize> {
+    for (i, row) in rows.iter().enumerate() {
+        if fault(alloc, row.0) != row.1 {
+            return Some(i);
         }
-        right = right.saturating_add(1);
     }
-    Some(right)
+    Some(rows.len())
 }
 
 #[test]
 fn rows(rt: HostRuntime) {
-    assert_count(&rt, first_wrong(rt.alloc(), ROWS), 85);
+    assert_count(&rt, first_wrong(rt.alloc(), &ROWS), 79);
 }
 
 /// A text that is repeated, between two others, and a second one that is repeated behind them.
@@ -143,7 +176,7 @@ struct Long {
     middle: &'static str,
     end: &'static str,
     ends: usize,
-    fault: Told,
+    fault: (u8, u32, u32),
 }
 
 static LONG: [Long; 16] = [
@@ -309,7 +342,7 @@ fn push_long(text: &mut String, long: &Long) -> Result<(), AllocError> {
 }
 
 /// The first fault of a long text.
-fn fault_of_long(alloc: Global, long: &Long) -> Told {
+fn fault_of_long(alloc: Global, long: &Long) -> (u8, u32, u32) {
     let mut text = String::new(alloc);
     match push_long(&mut text, long) {
         Ok(()) => fault(alloc, text.as_str()),

@@ -1,7 +1,8 @@
 //! An image of 1,000,000 instructions and 19,999 events.
 
-use crate::dictionaries::put_largest;
+use crate::Came;
 use crate::running::runs;
+use crate::texts::put;
 use cse_batch::check_image;
 use cse_dict::Dictionary;
 use cse_image::{Code, Program, write_image};
@@ -86,69 +87,59 @@ fn add_events(parts: &mut Parts) -> Result<(), AllocError> {
     Ok(())
 }
 
-fn add_all(alloc: Global, parts: &mut Parts, dictionary: &Dictionary) -> Result<(), AllocError> {
+/// The parts of the program.
+fn parts_for(alloc: Global, dictionary: &Dictionary) -> Result<Parts, AllocError> {
+    let mut parts = no_parts(alloc);
     parts.globals.push(GlobalVariable {
         kind: GlobalKind::Number,
         length: 0,
     })?;
-    add_long(alloc, parts)?;
-    add_short(alloc, parts)?;
-    add_events(parts)?;
-    add_shape(parts, dictionary.shape())
-}
-
-/// The program.
-fn program_for(alloc: Global, dictionary: &Dictionary) -> Option<Program> {
-    let mut parts = no_parts(alloc);
-    match add_all(alloc, &mut parts, dictionary) {
-        Ok(()) => Program::from_parts(parts),
-        Err(_) => None,
-    }
+    add_long(alloc, &mut parts)?;
+    add_short(alloc, &mut parts)?;
+    add_events(&mut parts)?;
+    add_shape(&mut parts, dictionary.shape())?;
+    Ok(parts)
 }
 
 /// Whether the program is made, written, read, verified and run.
-pub(crate) fn largest_runs(alloc: Global) -> bool {
-    let mut text = Vec::new(alloc);
-    put_largest(&mut text).is_ok() && runs_over(alloc, &text)
-}
-
-fn runs_over(alloc: Global, dictionary: &[u8]) -> bool {
+pub(crate) fn largest_runs(alloc: Global, dictionary: &[u8]) -> Came {
     match Dictionary::read(alloc, dictionary) {
         Ok(dictionary) => runs_with(alloc, &dictionary),
-        Err(_) => false,
+        Err(_) => Ok(false),
     }
 }
 
-fn runs_with(alloc: Global, dictionary: &Dictionary) -> bool {
-    match program_for(alloc, dictionary) {
+fn runs_with(alloc: Global, dictionary: &Dictionary) -> Came {
+    let parts = parts_for(alloc, dictionary)?;
+    match Program::from_parts(parts) {
         Some(program) => is_written_and_runs(alloc, dictionary, &program),
-        None => false,
+        None => Ok(false),
     }
 }
 
-fn is_written_and_runs(alloc: Global, dictionary: &Dictionary, program: &Program) -> bool {
+fn is_written_and_runs(alloc: Global, dictionary: &Dictionary, program: &Program) -> Came {
     match write_image(alloc, program) {
         Ok(image) => is_accepted_and_runs(alloc, dictionary, &image),
-        Err(_) => false,
+        Err(_) => Ok(false),
     }
 }
 
-fn is_accepted_and_runs(alloc: Global, dictionary: &Dictionary, image: &[u8]) -> bool {
+fn is_accepted_and_runs(alloc: Global, dictionary: &Dictionary, image: &[u8]) -> Came {
     match check_image(alloc, dictionary, image) {
         Ok(verified) => is_bounded_and_runs(alloc, &verified),
-        Err(_) => false,
+        Err(_) => Ok(false),
     }
 }
 
 /// A case takes the steps of the first routine, and one before and behind each of 9,999 items.
-fn is_bounded_and_runs<C: Code>(alloc: Global, verified: &Verified<'_, C>) -> bool {
+fn is_bounded_and_runs<C: Code>(alloc: Global, verified: &Verified<'_, C>) -> Came {
     let is_bounded = verified.program().routines().len() == 2
         && verified.steps(0) == 999_999
         && verified.steps(1) == 1
         && verified.case_steps() == 1_019_997;
-    is_bounded && runs(alloc, verified, PERSON_LINE, PERSON_LINE, (1, 1, 0), SUMMARY)
+    let mut data = Vec::new(alloc);
+    put(&mut data, b"P0011\n")?;
+    Ok(is_bounded && runs(alloc, verified, &data, &data, (1, 1, 0), SUMMARY))
 }
-
-const PERSON_LINE: &[u8] = b"P0011\n";
 
 const SUMMARY: &[u8] = b"CSEB LISTING 1\nSUMMARY\ncases 1\nlines 1\nunseen 0\nEND\n";

@@ -17,8 +17,12 @@ mod logic;
 mod running;
 mod texts;
 
+use std::alloc::{AllocError, Global};
 use std::io;
 use std::process::ExitCode;
+
+/// What a row comes to: whether that is as it should be.
+type Came = Result<bool, AllocError>;
 
 fn main(rt: HostRuntime) -> ExitCode {
     match show_all(&rt) {
@@ -30,29 +34,53 @@ fn main(rt: HostRuntime) -> ExitCode {
 /// Shows what each row comes to.
 fn show_all<R: Print + AllocGlobal>(rt: &R) -> io::Result<()> {
     let alloc = rt.alloc();
-    show(
-        rt,
-        "10,000 items and 10,000 sets",
-        dictionaries::largest_is_read(alloc),
-    )?;
+    show(rt, "10,000 items and 10,000 sets", items_and_sets(alloc))?;
     show(
         rt,
         "1,000,000 instructions and 19,999 events",
-        images::largest_runs(alloc),
+        instructions(alloc),
     )?;
-    show(rt, "1,000,000 cells", decks::come_back(alloc))?;
-    show(rt, "10,000 lines in a run", data::longest_run(alloc))?;
-    show(rt, "65,536 columns in a line", data::widest_line(alloc))?;
-    show(rt, "60,000 tokens", logic::longest(alloc))?;
-    show(rt, "100,000 messages in a case", logic::loudest(alloc))
+    show(rt, "1,000,000 cells", cells(alloc))?;
+    show(rt, "10,000 lines in a run", lines(alloc))?;
+    show(rt, "65,536 columns in a line", columns(alloc))?;
+    show(rt, "60,000 tokens", tokens(alloc))?;
+    show(rt, "100,000 messages in a case", messages(alloc))
 }
 
-/// Shows a row, and whether it comes out as it should. Memory that lacks is otherwise.
-fn show<R: Print>(rt: &R, name: &str, comes_out: bool) -> io::Result<()> {
-    let told = if comes_out {
-        "as it should be"
-    } else {
-        "OTHERWISE"
-    };
-    println!(rt; "{name}: {told}")
+fn show<R: Print>(rt: &R, name: &str, came: Came) -> io::Result<()> {
+    match came {
+        Ok(true) => println!(rt; "{name}: as it should be"),
+        Ok(false) => println!(rt; "{name}: OTHERWISE"),
+        Err(_) => println!(rt; "{name}: no memory for the row"),
+    }
+}
+
+fn items_and_sets(alloc: Global) -> Came {
+    let text = dictionaries::largest(alloc)?;
+    Ok(dictionaries::is_read(alloc, &text))
+}
+
+fn instructions(alloc: Global) -> Came {
+    let text = dictionaries::largest(alloc)?;
+    images::largest_runs(alloc, &text)
+}
+
+fn cells(alloc: Global) -> Came {
+    decks::come_back(alloc)
+}
+
+fn lines(alloc: Global) -> Came {
+    data::longest_run(alloc)
+}
+
+fn columns(alloc: Global) -> Came {
+    data::widest_line(alloc)
+}
+
+fn tokens(alloc: Global) -> Came {
+    logic::longest(alloc)
+}
+
+fn messages(alloc: Global) -> Came {
+    logic::loudest(alloc)
 }
