@@ -1,9 +1,13 @@
 //! Files as runs of lines, as they are built: in pieces, cut off, and at their limits. What the runs of other files are is a law
 //! of cse_test_laws.
 
+ghost use Rattle.std.specs.Prelude.{◌≡◌, true};
+ghost use Rattle.std.specs.Coded.{→_prop, Coded-set, coded_bool};
+ghost use Rattle.cse_value.specs.Device.{IsAtEnd};
+
 use cse_dict::Dictionary;
-use cse_lines::{Columns, Run, RunReader};
-use cse_value::Reads;
+use cse_lines::{Columns, DataError, Run, RunReader};
+use cse_value::{Input, Reads};
 use std::alloc::{AllocError, Global};
 use std::io;
 
@@ -145,6 +149,33 @@ static ROWS: [Row; 14] = [
     },
 ];
 
+/// An input that gives its runs one by one.
+#[derive(Drop)]
+struct Source<'a, R: Input> {
+    input: R,
+    reader: RunReader<'a>,
+    ghost end: { reader.ended ≡ true → IsAtEnd (R.given input) } by { →_prop (Coded-set coded_bool (R.given input).ended true) },
+}
+
+impl<'a, R: Input> Source<'a, R> {
+    fn new(alloc: Global, dictionary: &'a Dictionary, input: R) -> Source<'a, R> {
+        Source {
+            input,
+            reader: RunReader::new(alloc, dictionary),
+        }
+    }
+
+    fn next(&mut self) -> Result<Option<Run>, DataError> {
+        self.reader.next(&mut self.input)
+    }
+
+    /// Whether more than a line is held, or more bytes than a line may have.
+    fn holds_much(&self) -> bool {
+        let kept = self.reader.kept();
+        kept.lines > 1 || kept.bytes > 65_536
+    }
+}
+
 /// What comes of a file, by at most so many runs, and how many reads gave bytes. 99 tells that much is held after a run.
 fn outcome(
     alloc: Global,
@@ -152,20 +183,23 @@ fn outcome(
     pieces: Pieces<'_>,
     most: u64,
 ) -> ((u8, u64), u64) {
-    let mut input = Reads::new(pieces);
-    let mut reader = RunReader::new(alloc, dictionary);
+    let mut source = Source::new(alloc, dictionary, Reads::new(pieces));
+    let told = told_of(&mut source, most);
+    (told, source.reader.reads())
+}
+
+fn told_of<R: Input>(source: &mut Source<'_, R>, most: u64) -> (u8, u64) {
     for runs in 0..most {
-        match reader.next(&mut input) {
+        match source.next() {
             Ok(Some(_)) => {}
-            Ok(None) => return ((0, runs), reader.reads()),
-            Err(error) => return ((error.number, error.line), reader.reads()),
+            Ok(None) => return (0, runs),
+            Err(error) => return (error.number, error.line),
         }
-        let kept = reader.kept();
-        if kept.lines > 1 || kept.bytes > 65_536 {
-            return ((99, runs), reader.reads());
+        if source.holds_much() {
+            return (99, runs);
         }
     }
-    ((0, most), reader.reads())
+    (0, most)
 }
 
 /// A file, and the columns of its lines: characters as they came, and blanks up to the width of the line.
@@ -227,15 +261,15 @@ fn place_behind(run: &Run, columns: &[&str], first: usize) -> Option<usize> {
 
 /// Whether the lines of a file have their columns.
 fn is_laid(alloc: Global, dictionary: &Dictionary, laid: &Laid) -> bool {
-    let mut input = Reads::new(Pieces {
+    let pieces = Pieces {
         bytes: laid.file,
         size: 3,
         breaks: usize::MAX,
-    });
-    let mut reader = RunReader::new(alloc, dictionary);
+    };
+    let mut source = Source::new(alloc, dictionary, Reads::new(pieces));
     let mut at = 0;
     for _ in 0..99 {
-        let Ok(given) = reader.next(&mut input) else {
+        let Ok(given) = source.next() else {
             return false;
         };
         let Some(run) = given else {
