@@ -76,5 +76,5 @@ fn first_wrong(alloc: Global, rows: &[Row]) -> Option<usize> {
 
 #[test]
 fn names_and_kinds(rt: HostRuntime) {
-    assert_count(&rt, first_wrong(rt.alloc(), &ROWS), 161);
+    assert_count(&rt, first_wrong(rt.alloc(), &ROWS), 193);
 }

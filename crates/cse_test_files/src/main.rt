@@ -22,7 +22,7 @@ mod sheet;
 mod table;
 
 use crate::row::{invalid, show};
-use crate::table::{Lines, is_sound, row_of};
+use crate::table::{Lines, has_words, is_row, row_of};
 use cse_commands::start::start;
 use std::process::ExitCode;
 use std::rt::Files;
@@ -68,23 +68,29 @@ fn show_all<R: Files + Print + AllocGlobal + Clone + Drop>(rt: &R) -> io::Result
     Ok(())
 }
 
-/// Shows the rows of a text.
+/// Shows the rows of a text, which begins with what all of them share.
 fn show_rows<R: Files + Print + AllocGlobal + Clone + Drop>(rt: &R, text: &str) -> io::Result<()> {
-    let mut all = "";
-    let mut part = "";
-    for block in text.split("\n\n") {
-        if !is_sound(block) {
+    let (all, _) = text.split_once("\n\n").ok_or(invalid())?;
+    for rows in text.split("\n\n#") {
+        show_part(rt, all, rows)?;
+    }
+    Ok(())
+}
+
+/// Shows the rows below a comment.
+fn show_part<R: Files + Print + AllocGlobal + Clone + Drop>(
+    rt: &R,
+    all: &str,
+    text: &str,
+) -> io::Result<()> {
+    let Some((part, rows)) = text.split_once("\n\n") else {
+        return Ok(());
+    };
+    for own in rows.split("\n\n") {
+        if !is_row(own) || !has_words(part) {
             return Err(invalid());
         }
-        if block.starts_with('#') {
-            if all.is_empty() {
-                all = block;
-            }
-            part = block;
-        } else {
-            let own = block;
-            show(rt, &row_of(&Lines { own, part, all })?)?;
-        }
+        show(rt, &row_of(&Lines { own, part, all })?)?;
     }
     Ok(())
 }

@@ -117,12 +117,17 @@ fn words_in(block: &str) -> usize {
 }
 
 /// Whether each line of a block, but for its first, is a comment or indented, or begins with a word of rows, which no other does.
-pub fn is_sound(block: &str) -> bool {
+pub fn has_words(block: &str) -> bool {
     let mut lines = 0usize;
     for line in block.lines().skip(1) {
         if !line.starts_with('#') && !line.starts_with("    ") {
             lines = lines.saturating_add(1);
         }
     }
-    !block.starts_with(['\n', ' ']) && lines == words_in(block)
+    lines == words_in(block)
+}
+
+/// Whether a block is a row: a name, and words.
+pub fn is_row(block: &str) -> bool {
+    !block.starts_with(['\n', ' ']) && has_words(block)
 }
