@@ -1,13 +1,14 @@
 #!/usr/bin/env python3
 """Prints what a crate's proof costs by function, the dearest first, in processor seconds.
 
-usage: docs/function-cost.py CRATE [--only PATH ..] [--shown N] [--to FILE] [--against FILE] [--modules]
+usage: docs/function-cost.py CRATE [--test] [--only PATH ..] [--shown N] [--to FILE] [--against FILE] [--modules]
        docs/function-cost.py --of FOLDER [--shown N] [--to FILE] [--against FILE] [--modules]
 
 It checks the crate from nothing, with one job, over the libraries in out/rlib of the crates below (`rt lib` builds them). The check
 writes a file for each module as it ends with it, so what the processor took between two files is of the second. A function has several modules:
 `paths` are the ways through it (its module Lts), `tie` what joins its loops and branches, `proof` its goals, `rest` its code and its
 statement. A file of specs/ or proofs/ is one module. The check's stages, by the clock, and its processor seconds stand below.
+--test checks the crate with its tests.
 --only PATH checks these functions and those that they call: less time for a trial, but not the same sums.
 --of FOLDER prints what an earlier check from nothing left in such a folder, as crates/NAME/out/incremental after `rt check --jobs 1`,
 by the clock.
@@ -125,11 +126,11 @@ def processor_seconds(pid):
     return time.clock_gettime(~pid << 3 | 2)
 
 
-def check(crate, paths):
+def check(crate, paths, tests):
     """Runs the check: its status, its last line with the stages, and each module with the processor's time when it was written."""
     with tempfile.TemporaryDirectory() as room, tempfile.NamedTemporaryFile("r") as stages, tempfile.TemporaryFile("w+") as said:
         words = [*words_of(crate), "--jobs", "1", "--incremental", room, "--stage-times", stages.name]
-        words += [it for path in paths for it in ("--only", path)]
+        words += [it for path in paths for it in ("--only", path)] + ["--test"] * tests
         words = [*shlex.split(os.environ.get("CHECK_WITH", "")), *words]
         written, last = Written(room), 0.0
         with subprocess.Popen(words, cwd=os.path.join(ROOT, "crates", crate), stdout=said, stderr=said, stdin=subprocess.DEVNULL) as ran:
@@ -188,6 +189,7 @@ def main():
     ask = argparse.ArgumentParser(usage=__doc__.split("usage: ")[1].split("\n\n")[0])
     ask.add_argument("crate", nargs="?")
     ask.add_argument("--of")
+    ask.add_argument("--test", action="store_true")
     ask.add_argument("--only", action="append", default=[])
     ask.add_argument("--shown", type=int, default=30)
     ask.add_argument("--to")
@@ -196,7 +198,7 @@ def main():
     told = ask.parse_args()
     if not told.crate and not told.of:
         ask.error("which crate?")
-    status, said, written = (0, "", kept_in(told.of)) if told.of else check(told.crate, told.only)
+    status, said, written = (0, "", kept_in(told.of)) if told.of else check(told.crate, told.only, told.test)
     costs = collections.defaultdict(lambda: dict.fromkeys(COLUMNS, 0.0))
     for module, seconds in steps(written):
         name, column = function_of(module)
