@@ -1,16 +1,14 @@
-//! Tables of programs: for each instruction one that may run and one that may not; events, orders and shapes; and what code
-//! costs that means harm.
+//! Programs that are typed: their events, orders and shapes, and what code costs that means harm.
 
-use crate::opcodes::{NUMBER, RETURN, Row, rows};
 use crate::told::assert_count;
 use cse_code_typing::{NONE, Refusal, typed};
 use cse_image::{
     Ambient, EventCode, EventEntry, Gift, GlobalKind, GlobalVariable, Instr, Local, LocalKind, Op,
     Parts, Program,
 };
-use cse_image_parts::opcodes::op_named;
-use cse_test_fixtures::outline::{self, ArrayOutline, Line, MessageOutline, NOTHING, Outline};
-use cse_test_fixtures::pieces::{Head, PLAIN, add_lines};
+use cse_test_fixtures::listing::add_listing;
+use cse_test_fixtures::outline::{self, ArrayOutline, MessageOutline, NOTHING, Outline};
+use cse_test_fixtures::pieces::{Head, PLAIN};
 use cse_value::shape::{ID_OWNER, ItemKind, ItemShape, RecordShape, SetShape, Shape};
 use std::alloc::{AllocError, Global};
 
@@ -123,49 +121,38 @@ const OF_CASE: Head<'static> = Head {
     locals: &[],
 };
 
-/// The first two routines, and the last two.
-static TO_NUMBER: [Line; 2] = [NUMBER, RETURN];
-
-static TO_RETURN: [Line; 1] = [RETURN];
-
 /// A program of the tables.
 #[derive(Clone, Copy)]
-struct Plan<'a> {
-    ambient: Ambient,
+pub(crate) struct Plan<'a> {
+    pub(crate) ambient: Ambient,
     /// The code of routine 2.
-    lines: &'a [Line],
-    events: &'a [EventEntry],
-    order: &'a [u32],
+    pub(crate) code: &'a str,
+    pub(crate) events: &'a [EventEntry],
+    pub(crate) order: &'a [u32],
 }
 
 /// Two records, and no event.
-const PLAN: Plan<'static> = Plan {
+pub(crate) const PLAN: Plan<'static> = Plan {
     ambient: Ambient::Case,
-    lines: &[RETURN],
+    code: "Return",
     events: &[],
     order: &[1, 0],
 };
 
 /// Routine 0 takes a number and a text and gives a number; 1 takes an occurrence; 2 is the one that
 /// is looked at; 3 is one of the whole run, and 4 one of the case.
-fn add_routines(alloc: Global, parts: &mut Parts, plan: &Plan<'_>) -> Result<(), AllocError> {
+fn add_routines(alloc: Global, parts: &mut Parts, plan: &Plan<'_>) -> Option<()> {
     let looked_at = Head {
         ambient: plan.ambient,
         gives: Gift::Nothing,
         parameters: 1,
         locals: &[OCCURRENCE, NUMBER_LOCAL, TEXT_LOCAL],
     };
-    let plans = [
-        (GIVES, TO_NUMBER.as_slice()),
-        (OF_PERSON, TO_RETURN.as_slice()),
-        (looked_at, plan.lines),
-        (PLAIN, TO_RETURN.as_slice()),
-        (OF_CASE, TO_RETURN.as_slice()),
-    ];
-    for (head, lines) in &plans {
-        add_lines(alloc, parts, head, lines)?;
-    }
-    Ok(())
+    add_listing(alloc, parts, &GIVES, "Number; Return")?;
+    add_listing(alloc, parts, &OF_PERSON, "Return")?;
+    add_listing(alloc, parts, &looked_at, plan.code)?;
+    add_listing(alloc, parts, &PLAIN, "Return")?;
+    add_listing(alloc, parts, &OF_CASE, "Return")
 }
 
 /// Makes the parts those of the shape, with the order and the events of a plan.
@@ -209,16 +196,23 @@ const BESIDE: Outline<'static> = Outline {
     ..NOTHING
 };
 
+/// Makes the parts those of a plan.
+fn add_plan(alloc: Global, parts: &mut Parts, plan: &Plan<'_>) -> Option<()> {
+    add_shape(parts, plan).ok()?;
+    add_routines(alloc, parts, plan)
+}
+
 /// The parts of a plan.
-fn parts_of(alloc: Global, plan: &Plan<'_>) -> Result<Parts, AllocError> {
-    let mut parts = outline::parts_of(alloc, &BESIDE)?;
-    add_shape(&mut parts, plan)?;
-    add_routines(alloc, &mut parts, plan)?;
-    Ok(parts)
+fn parts_of(alloc: Global, plan: &Plan<'_>) -> Option<Parts> {
+    let mut parts = outline::parts_of(alloc, &BESIDE).ok()?;
+    match add_plan(alloc, &mut parts, plan) {
+        Some(()) => Some(parts),
+        None => None,
+    }
 }
 
 /// What is said of a program: zeros, or the number, the routine and the place.
-type Told = (u8, u32, u32);
+pub(crate) type Told = (u8, u32, u32);
 
 /// What is said where memory lacks.
 const NO_MEMORY: Told = (90, NONE, NONE);
@@ -246,93 +240,11 @@ fn told_of(alloc: Global, parts: Parts) -> Told {
 }
 
 /// What is said of a plan.
-fn told(alloc: Global, plan: &Plan<'_>) -> Told {
+pub(crate) fn told(alloc: Global, plan: &Plan<'_>) -> Told {
     match parts_of(alloc, plan) {
-        Ok(parts) => told_of(alloc, parts),
-        Err(_) => NO_MEMORY,
+        Some(parts) => told_of(alloc, parts),
+        None => NO_MEMORY,
     }
-}
-
-/// Whether some line has the instruction.
-fn has(lines: &[Line], op: Op) -> bool {
-    for line in lines {
-        if line.0 == op {
-            return true;
-        }
-    }
-    false
-}
-
-/// Whether an instruction has a row.
-fn has_row(rows: &[Row], op: Op) -> bool {
-    for row in rows {
-        if row.0 == op {
-            return true;
-        }
-    }
-    false
-}
-
-/// The first number of an instruction without a row; 46 where each has one.
-fn first_without_row(rows: &[Row]) -> Option<usize> {
-    for number in 1..46 {
-        let has_one = match op_named(number) {
-            Some(op) => has_row(rows, op),
-            None => false,
-        };
-        if !has_one {
-            return Some(usize::from(number));
-        }
-    }
-    Some(46)
-}
-
-#[test]
-fn each_instruction_has_a_row(rt: HostRuntime) {
-    assert_count(&rt, first_without_row(rows()), 46);
-}
-
-/// What is said of a program of the whole run whose first place that needs a case is this one.
-fn wanted_of_run(case_at: u32) -> Told {
-    if case_at == NONE {
-        (0, 0, 0)
-    } else {
-        (69, 2, case_at)
-    }
-}
-
-/// Whether the code of a row may run in a case, and in the whole run if it needs none, and the other may not.
-fn is_row(alloc: Global, row: &Row) -> bool {
-    let (op, lines, case_at, others, number, at) = *row;
-    let plan = Plan { lines, ..PLAN };
-    let of_run = Plan {
-        ambient: Ambient::Run,
-        lines,
-        ..PLAN
-    };
-    let other = Plan {
-        lines: others,
-        ..PLAN
-    };
-    has(lines, op)
-        && told(alloc, &plan) == (0, 0, 0)
-        && told(alloc, &of_run) == wanted_of_run(case_at)
-        && told(alloc, &other) == (number, 2, at)
-}
-
-/// The place of the first wrong row, or how many they are.
-fn first_wrong(alloc: Global, rows: &[Row]) -> Option<usize> {
-    for (i, row) in rows.iter().enumerate() {
-        if !is_row(alloc, row) {
-            return Some(i);
-        }
-    }
-    Some(rows.len())
-}
-
-#[test]
-fn each_instruction(rt: HostRuntime) {
-    assert_count(&rt, first_wrong(rt.alloc(), rows()), 48);
 }
 
 /// A program that refuses has no routine and no place to tell.
@@ -450,11 +362,11 @@ fn take_last(parts: &mut Parts, part: u32) {
 
 fn told_without(alloc: Global, part: u32) -> Told {
     match parts_of(alloc, &PLAN) {
-        Ok(mut parts) => {
+        Some(mut parts) => {
             take_last(&mut parts, part);
             told_of(alloc, parts)
         }
-        Err(_) => NO_MEMORY,
+        None => NO_MEMORY,
     }
 }
 
@@ -496,16 +408,18 @@ fn add_many(parts: &mut Parts, all: &[Many], instructions: u32) -> Result<(), Al
     push_many(&mut parts.code, &(Op::Return, 1, 0))
 }
 
-fn parts_of_many(alloc: Global, all: &[Many], instructions: u32) -> Result<Parts, AllocError> {
+fn parts_of_many(alloc: Global, all: &[Many], instructions: u32) -> Option<Parts> {
     let mut parts = parts_of(alloc, &PLAN)?;
-    add_many(&mut parts, all, instructions)?;
-    Ok(parts)
+    match add_many(&mut parts, all, instructions) {
+        Ok(()) => Some(parts),
+        Err(_) => None,
+    }
 }
 
 fn told_of_many(alloc: Global, all: &[Many], instructions: u32) -> Told {
     match parts_of_many(alloc, all, instructions) {
-        Ok(parts) => told_of(alloc, parts),
-        Err(_) => NO_MEMORY,
+        Some(parts) => told_of(alloc, parts),
+        None => NO_MEMORY,
     }
 }
 

@@ -167,15 +167,20 @@ fn add_codes(
     Ok(())
 }
 
+/// Adds what an outline describes.
+fn add_outline(alloc: Global, parts: &mut Parts, outline: &Outline<'_>) -> Result<(), AllocError> {
+    add_values(parts, outline)?;
+    add_texts(alloc, &mut parts.texts, outline.texts)?;
+    add_arrays(alloc, &mut parts.arrays, outline.arrays)?;
+    add_messages(alloc, parts, outline.messages)?;
+    add_heads(alloc, &mut parts.routines, outline.routines)?;
+    add_codes(&mut parts.code, &mut parts.limits, outline.routines)
+}
+
 /// The parts that an outline describes, without a shape.
 pub fn parts_of(alloc: Global, outline: &Outline<'_>) -> Result<Parts, AllocError> {
     let mut parts = no_parts(alloc);
-    add_values(&mut parts, outline)?;
-    add_texts(alloc, &mut parts.texts, outline.texts)?;
-    add_arrays(alloc, &mut parts.arrays, outline.arrays)?;
-    add_messages(alloc, &mut parts, outline.messages)?;
-    add_heads(alloc, &mut parts.routines, outline.routines)?;
-    add_codes(&mut parts.code, &mut parts.limits, outline.routines)?;
+    add_outline(alloc, &mut parts, outline)?;
     Ok(parts)
 }
 

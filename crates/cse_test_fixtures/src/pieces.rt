@@ -94,7 +94,7 @@ pub fn add_event(
     Ok(())
 }
 
-fn add_head(
+pub(crate) fn add_head(
     alloc: Global,
     parts: &mut Parts,
     head: &Head<'_>,
