@@ -1,10 +1,8 @@
-//! What `read_image` of cse_image and `load` of cse_decks promise, said again of each call alone.
+//! What `Statement::each_occurrence` of cse_logic_tree promises, said again of the call alone.
 //! It is proved only while the call's own clauses say as much, so a body that is refused here is refused by the call's:
 //! the edits of `must-fail/` are such bodies, each for a check of a few lines.
 #![tactic(auto)]
 
-mod images;
-mod stores;
+mod loops;
 
-pub use images::read_image;
-pub use stores::load;
+pub use loops::each_occurrence;
