@@ -7,12 +7,15 @@
 //! - `edits`: the rows by one call, from their texts to the texts of a run.
 //! - `sample`: rows of the sample dictionary. `variants`: rows of it with a key more. `faults`: logic that is refused.
 //! - `values`: numbers, texts, conditions, loops, functions and messages. `town`: items, occurrences, hot decks and events.
+//! - `limits`: texts that are as large as they may be.
 #![tactic(auto)]
 
 #[cfg(test)]
 mod edits;
 #[cfg(test)]
 mod faults;
+#[cfg(test)]
+mod limits;
 #[cfg(test)]
 mod row;
 #[cfg(test)]

@@ -2,7 +2,7 @@
 
 use crate::edits::first_edited_otherwise;
 use crate::faults::REFUSED;
-use crate::row::{first_refused_otherwise, first_wrong};
+use crate::row::{Row, first_refused_otherwise, first_wrong};
 use crate::sample::{ROWS as OF_SAMPLE, SAMPLE};
 use crate::town::{ROWS as OF_TOWN, TOWN};
 use crate::values::ROWS as OF_VALUES;
@@ -14,9 +14,19 @@ fn assert_none(rt: &impl Abort, wrong: &str) {
     assert_eq!(rt; wrong, "");
 }
 
+/// The rows of the sample. A table is laid out in each function that names it, so this one alone does.
+fn of_sample() -> &'static [Row] {
+    &OF_SAMPLE
+}
+
+/// The rows of the town, likewise.
+fn of_town() -> &'static [Row] {
+    &OF_TOWN
+}
+
 #[test]
 fn sample(rt: HostRuntime) {
-    assert_none(&rt, first_wrong(rt.alloc(), SAMPLE, &OF_SAMPLE));
+    assert_none(&rt, first_wrong(rt.alloc(), SAMPLE, of_sample()));
 }
 
 #[test]
@@ -37,11 +47,11 @@ fn values(rt: HostRuntime) {
 
 #[test]
 fn town(rt: HostRuntime) {
-    assert_none(&rt, first_wrong(rt.alloc(), TOWN, &OF_TOWN));
+    assert_none(&rt, first_wrong(rt.alloc(), TOWN, of_town()));
 }
 
 #[test]
 fn edits(rt: HostRuntime) {
-    assert_none(&rt, first_edited_otherwise(rt.alloc(), SAMPLE, &OF_SAMPLE));
-    assert_none(&rt, first_edited_otherwise(rt.alloc(), TOWN, &OF_TOWN));
+    assert_none(&rt, first_edited_otherwise(rt.alloc(), SAMPLE, of_sample()));
+    assert_none(&rt, first_edited_otherwise(rt.alloc(), TOWN, of_town()));
 }

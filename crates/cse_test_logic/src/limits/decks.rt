@@ -2,8 +2,7 @@
 
 ghost use Rattle.cse_decks.specs.Store.{StoreFits};
 
-use crate::Came;
-use crate::texts::{put, repeat};
+use crate::limits::texts::{put, repeat};
 use cse_decks::{Store, load, save};
 use cse_image::{Code, Program};
 use cse_image_parts::entries::Parts;
@@ -11,35 +10,42 @@ use cse_test_fixtures::pieces::{add_array, no_parts};
 use cse_value::Writes;
 use std::alloc::{AllocError, Global};
 
-/// An array of 100 by 100 by 100 cells, which are 0 at first.
-fn parts(alloc: Global) -> Result<Parts, AllocError> {
+/// Parts with an array of 100 by 100 by 100 cells, which are 0 at first.
+fn parts(alloc: Global) -> Option<Parts> {
     let mut parts = no_parts(alloc);
-    add_array(alloc, &mut parts, true, "AGE_HD", &[100, 100, 100])?;
-    Ok(parts)
-}
-
-/// The text of the deck, whose cells are all this one.
-fn text_of(alloc: Global, cell: &[u8]) -> Result<Vec<u8>, AllocError> {
-    let mut text = Vec::new(alloc);
-    put(&mut text, b"CSEB DECKS 1\nARRAY AGE_HD 100 100 100\n")?;
-    repeat(&mut text, cell, 1_000_000)?;
-    put(&mut text, b"END\n")?;
-    Ok(text)
-}
-
-/// Whether a fresh store is saved as it should be, and what is loaded is saved as it was.
-pub(crate) fn come_back(alloc: Global) -> Came {
-    let parts = parts(alloc)?;
-    match Program::from_parts(parts) {
-        Some(program) => come_back_to(alloc, &program),
-        None => Ok(false),
+    match add_array(alloc, &mut parts, true, "AGE_HD", &[100, 100, 100]) {
+        Ok(()) => Some(parts),
+        Err(_) => None,
     }
 }
 
-fn come_back_to(alloc: Global, program: &Program) -> Came {
-    let zeros = text_of(alloc, b"0\n")?;
-    let ages = text_of(alloc, b"35\n")?;
-    Ok(fresh_is(alloc, program, &zeros) && loaded_is(alloc, program, &ages))
+/// Puts the text of the deck, whose cells are all this one.
+fn put_deck(text: &mut Vec<u8>, cell: &[u8]) -> Result<(), AllocError> {
+    put(text, b"CSEB DECKS 1\nARRAY AGE_HD 100 100 100\n")?;
+    repeat(text, cell, 1_000_000)?;
+    put(text, b"END\n")
+}
+
+/// A program with the array alone.
+fn program(alloc: Global) -> Option<Program> {
+    Program::from_parts(parts(alloc)?)
+}
+
+/// Whether a fresh store is saved as it should be, and what is loaded is saved as it was.
+pub(crate) fn come_back(alloc: Global) -> bool {
+    match program(alloc) {
+        Some(program) => come_back_to(alloc, &program),
+        None => false,
+    }
+}
+
+fn come_back_to(alloc: Global, program: &Program) -> bool {
+    let mut zeros = Vec::new(alloc);
+    let mut ages = Vec::new(alloc);
+    put_deck(&mut zeros, b"0\n").is_ok()
+        && put_deck(&mut ages, b"35\n").is_ok()
+        && fresh_is(alloc, program, &zeros)
+        && loaded_is(alloc, program, &ages)
 }
 
 fn fresh_is<C: Code>(alloc: Global, program: &Program<C>, wanted: &[u8]) -> bool {

@@ -1,6 +1,6 @@
 //! A dictionary of 10,000 items and 10,000 sets.
 
-use crate::texts::{put, put_number};
+use crate::limits::texts::{put, put_number};
 use cse_dict::Dictionary;
 use std::alloc::{AllocError, Global};
 
@@ -9,14 +9,13 @@ const HEAD: &[u8] = b"[Dictionary]\nName=WIDE_DICT\nRecordTypeStart=1\nRecordTyp
 [Level]\nName=QUEST\n[IdItems]\n[Item]\nName=HH\nStart=2\nLen=3\n[ValueSet]\nName=HH_VS\nValue=1:999;Households\n\
 [Record]\nName=PERSON\nRecordTypeValue='P'\nRecordLen=65535\nMaxRecords=1\n";
 
-/// A dictionary of `HEAD` and 9,999 items of one column, each with a set: 10,000 items and 10,000 sets.
-pub(crate) fn largest(alloc: Global) -> Result<Vec<u8>, AllocError> {
-    let mut text = Vec::new(alloc);
-    put(&mut text, HEAD)?;
+/// Puts a dictionary of `HEAD` and 9,999 items of one column, each with a set: 10,000 items and 10,000 sets.
+pub(crate) fn put_largest(text: &mut Vec<u8>) -> Result<(), AllocError> {
+    put(text, HEAD)?;
     for item in 0..9_999 {
-        put_item(&mut text, item)?;
+        put_item(text, item)?;
     }
-    Ok(text)
+    Ok(())
 }
 
 fn put_item(text: &mut Vec<u8>, item: u32) -> Result<(), AllocError> {
@@ -30,7 +29,12 @@ fn put_item(text: &mut Vec<u8>, item: u32) -> Result<(), AllocError> {
 }
 
 /// Whether the dictionary is read, with all its items and sets.
-pub(crate) fn is_read(alloc: Global, text: &[u8]) -> bool {
+pub(crate) fn largest_is_read(alloc: Global) -> bool {
+    let mut text = Vec::new(alloc);
+    put_largest(&mut text).is_ok() && is_read(alloc, &text)
+}
+
+fn is_read(alloc: Global, text: &[u8]) -> bool {
     match Dictionary::read(alloc, text) {
         Ok(dictionary) => is_whole(&dictionary),
         Err(_) => false,

@@ -1,8 +1,7 @@
 //! An image of 1,000,000 instructions and 19,999 events.
 
-use crate::Came;
-use crate::running::runs;
-use crate::texts::put;
+use crate::limits::dictionaries::put_largest;
+use crate::limits::running::runs;
 use cse_batch::check_image;
 use cse_dict::Dictionary;
 use cse_image::{Code, Program, write_image};
@@ -87,59 +86,77 @@ fn add_events(parts: &mut Parts) -> Result<(), AllocError> {
     Ok(())
 }
 
-/// The parts of the program.
-fn parts_for(alloc: Global, dictionary: &Dictionary) -> Result<Parts, AllocError> {
-    let mut parts = no_parts(alloc);
+fn add_all(alloc: Global, parts: &mut Parts, dictionary: &Dictionary) -> Result<(), AllocError> {
     parts.globals.push(GlobalVariable {
         kind: GlobalKind::Number,
         length: 0,
     })?;
-    add_long(alloc, &mut parts)?;
-    add_short(alloc, &mut parts)?;
-    add_events(&mut parts)?;
-    add_shape(&mut parts, dictionary.shape())?;
-    Ok(parts)
+    add_long(alloc, parts)?;
+    add_short(alloc, parts)?;
+    add_events(parts)?;
+    add_shape(parts, dictionary.shape())
+}
+
+/// The program.
+fn program_for(alloc: Global, dictionary: &Dictionary) -> Option<Program> {
+    let mut parts = no_parts(alloc);
+    match add_all(alloc, &mut parts, dictionary) {
+        Ok(()) => Program::from_parts(parts),
+        Err(_) => None,
+    }
 }
 
 /// Whether the program is made, written, read, verified and run.
-pub(crate) fn largest_runs(alloc: Global, dictionary: &[u8]) -> Came {
+pub(crate) fn largest_runs(alloc: Global) -> bool {
+    let mut text = Vec::new(alloc);
+    put_largest(&mut text).is_ok() && runs_over(alloc, &text)
+}
+
+fn runs_over(alloc: Global, dictionary: &[u8]) -> bool {
     match Dictionary::read(alloc, dictionary) {
         Ok(dictionary) => runs_with(alloc, &dictionary),
-        Err(_) => Ok(false),
+        Err(_) => false,
     }
 }
 
-fn runs_with(alloc: Global, dictionary: &Dictionary) -> Came {
-    let parts = parts_for(alloc, dictionary)?;
-    match Program::from_parts(parts) {
+fn runs_with(alloc: Global, dictionary: &Dictionary) -> bool {
+    match program_for(alloc, dictionary) {
         Some(program) => is_written_and_runs(alloc, dictionary, &program),
-        None => Ok(false),
+        None => false,
     }
 }
 
-fn is_written_and_runs(alloc: Global, dictionary: &Dictionary, program: &Program) -> Came {
+fn is_written_and_runs(alloc: Global, dictionary: &Dictionary, program: &Program) -> bool {
     match write_image(alloc, program) {
         Ok(image) => is_accepted_and_runs(alloc, dictionary, &image),
-        Err(_) => Ok(false),
+        Err(_) => false,
     }
 }
 
-fn is_accepted_and_runs(alloc: Global, dictionary: &Dictionary, image: &[u8]) -> Came {
+fn is_accepted_and_runs(alloc: Global, dictionary: &Dictionary, image: &[u8]) -> bool {
     match check_image(alloc, dictionary, image) {
         Ok(verified) => is_bounded_and_runs(alloc, &verified),
-        Err(_) => Ok(false),
+        Err(_) => false,
     }
 }
 
 /// A case takes the steps of the first routine, and one before and behind each of 9,999 items.
-fn is_bounded_and_runs<C: Code>(alloc: Global, verified: &Verified<'_, C>) -> Came {
+fn is_bounded_and_runs<C: Code>(alloc: Global, verified: &Verified<'_, C>) -> bool {
     let is_bounded = verified.program().routines().len() == 2
         && verified.steps(0) == 999_999
         && verified.steps(1) == 1
         && verified.case_steps() == 1_019_997;
-    let mut data = Vec::new(alloc);
-    put(&mut data, b"P0011\n")?;
-    Ok(is_bounded && runs(alloc, verified, &data, &data, (1, 1, 0), SUMMARY))
+    is_bounded
+        && runs(
+            alloc,
+            verified,
+            PERSON_LINE,
+            PERSON_LINE,
+            (1, 1, 0),
+            SUMMARY,
+        )
 }
+
+const PERSON_LINE: &[u8] = b"P0011\n";
 
 const SUMMARY: &[u8] = b"CSEB LISTING 1\nSUMMARY\ncases 1\nlines 1\nunseen 0\nEND\n";

@@ -2,7 +2,7 @@
 
 ghost use Rattle.cse_decks.specs.Store.{StoreFits};
 
-use cse_batch::{check_image, run};
+use cse_batch::{RunFault, Totals, check_image, run};
 use cse_build::build;
 use cse_decks::Store;
 use cse_dict::Dictionary;
@@ -29,6 +29,13 @@ pub(crate) fn runs<C: Code>(
     }
 }
 
+fn counts_of(ran: Result<Totals, RunFault>) -> Option<Counts> {
+    match ran {
+        Ok(totals) => Some((totals.cases, totals.lines, totals.unseen)),
+        Err(_) => None,
+    }
+}
+
 fn runs_on<C: Code>(
     alloc: Global,
     verified: &Verified<'_, C>,
@@ -44,7 +51,7 @@ fn runs_on<C: Code>(
     let mut told = Writes::new(Vec::new(alloc));
     let mut frequencies = Writes::new(Vec::new(alloc));
     let mut saved = Writes::new(Vec::new(alloc));
-    let ran = run(
+    let counted = counts_of(run(
         alloc,
         verified,
         store,
@@ -53,16 +60,12 @@ fn runs_on<C: Code>(
         &mut told,
         &mut frequencies,
         &mut saved,
-    );
-    let counted = match ran {
-        Ok(totals) => (totals.cases, totals.lines, totals.unseen) == counts,
-        Err(_) => false,
-    };
-    counted
-        && written.into_inner().as_slice() == out
-        && told.into_inner().as_slice() == listing
-        && !frequencies.into_inner().is_empty()
-        && !saved.into_inner().is_empty()
+    ));
+    let is_written = written.into_inner().as_slice() == out;
+    let is_told = told.into_inner().as_slice() == listing;
+    let has_frequencies = !frequencies.into_inner().is_empty();
+    let has_saved = !saved.into_inner().is_empty();
+    counted == Some(counts) && is_written && is_told && has_frequencies && has_saved
 }
 
 /// The same of logic, with the dictionary of a text.
