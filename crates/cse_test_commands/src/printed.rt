@@ -1,6 +1,6 @@
 //! Worked images and what `try` prints of them.
 
-use crate::told::{assert_bytes, assert_text};
+use crate::told::assert_count;
 use cse_commands::fault::{Fault, fault_line};
 use cse_commands::try_image::{TryFault, try_to};
 use cse_image::{
@@ -8,15 +8,15 @@ use cse_image::{
     Program, write_image,
 };
 use cse_test_fixtures::device::Slow;
+use cse_test_fixtures::listing::add_listing;
 use cse_test_fixtures::outline::{self, ArrayOutline, MessageOutline, NOTHING, Outline};
-use cse_test_fixtures::pieces::{Head, PLAIN, add_event, add_message, add_routine, no_parts};
+use cse_test_fixtures::pieces::{Head, PLAIN, add_event, add_message, no_parts};
 use cse_value::Writes;
 use cse_value::shape::{ItemKind, ItemShape};
 use std::alloc::{AllocError, Global};
-use std::test::Fail;
 
 /// Lists "Hi" in the application's preproc: one message, one routine of two instructions, one event.
-pub const HELLO: [u8; 94] = [
+pub(crate) static HELLO: [u8; 94] = [
     67, 83, 69, 66, 1, 0, 0, 0, // header
     0, 0, 0, 0, 0, 0, 0, 0, 0, 0, 0, 0, 0, 0, 0, 0, // records, items, sets, order
     0, 0, 0, 0, 0, 0, 0, 0, 0, 0, 0, 0, 0, 0, 0, 0, // constants, texts, globals, arrays
@@ -92,136 +92,156 @@ const LOCALS: &[Local] = &[
     },
 ];
 
-/// Parts of a program whose preproc is this code, with two locals, a limit of 1, and what stands in `BESIDE`.
-pub fn parts_of(alloc: Global, code: &[Instr]) -> Result<Parts, AllocError> {
-    parts_with(alloc, Ambient::Run, Gift::Nothing, 0, code)
-}
+/// A routine with these locals.
+pub(crate) const HEAD: Head<'static> = Head {
+    locals: LOCALS,
+    ..PLAIN
+};
 
-/// The same, where the code's routine is another one, or the event names another routine.
-fn parts_with(
-    alloc: Global,
-    ambient: Ambient,
-    gives: Gift,
-    routine: u32,
-    code: &[Instr],
-) -> Result<Parts, AllocError> {
-    let head = Head {
-        ambient,
-        gives,
-        parameters: 0,
-        locals: LOCALS,
-    };
-    let mut parts = outline::parts_of(alloc, &BESIDE)?;
+fn add_rest(parts: &mut Parts, routine: u32) -> Result<(), AllocError> {
     parts.limits.push(1)?;
-    add_routine(alloc, &mut parts, &head, code)?;
-    add_event(&mut parts, EventCode::ApplicationPreproc, 0, routine)?;
-    Ok(parts)
+    add_event(parts, EventCode::ApplicationPreproc, 0, routine)
 }
 
-pub fn instr(op: Op, a: u8, b: u16, c: u32) -> Instr {
+/// Parts of a program whose preproc is a routine that is still to come, with a limit of 1 and what stands in `BESIDE`.
+pub(crate) fn parts_of(alloc: Global, routine: u32) -> Option<Parts> {
+    let mut parts = outline::parts_of(alloc, &BESIDE).ok()?;
+    match add_rest(&mut parts, routine) {
+        Ok(()) => Some(parts),
+        Err(_) => None,
+    }
+}
+
+/// The same with the first routine, which has this code.
+pub(crate) fn made_of(alloc: Global, head: &Head<'_>, code: &str, routine: u32) -> Option<Parts> {
+    let mut parts = parts_of(alloc, routine)?;
+    match add_listing(alloc, &mut parts, head, code) {
+        Some(()) => Some(parts),
+        None => None,
+    }
+}
+
+pub(crate) fn instr(op: Op, a: u8, b: u16, c: u32) -> Instr {
     Instr { op, a, b, c }
 }
 
-fn image_of(alloc: Global, parts: Parts) -> Result<Vec<u8>, Fail> {
-    let program = Program::from_parts(parts).ok_or("no spelling")?;
-    Ok(write_image(alloc, &program)?)
+/// The image of a program.
+pub(crate) fn image_of(alloc: Global, parts: Parts) -> Option<Vec<u8>> {
+    let program = Program::from_parts(parts)?;
+    write_image(alloc, &program).ok()
 }
 
-/// What `try` prints of these parts, and a word for a fault.
-pub fn printed(alloc: Global, parts: Parts) -> Result<String, Fail> {
-    let image = image_of(alloc, parts)?;
-    printed_of(alloc, &image)
+/// Puts what `try` prints of an image, and the line of its fault.
+fn put_printed(alloc: Global, image: &[u8], out: &mut Writes<Vec<u8>>) {
+    if let Err(fault) = try_to(alloc, image, out) {
+        let _written = fault_line(&Fault::of_try(&fault), out);
+    }
+}
+
+/// Whether this is what `try` prints of an image.
+pub(crate) fn is_printed(alloc: Global, image: &[u8], wanted: &str) -> bool {
+    let mut out = Writes::new(Vec::new(alloc));
+    put_printed(alloc, image, &mut out);
+    out.into_inner().as_slice() == wanted.as_bytes()
+}
+
+/// The same of an image that is made of parts.
+pub(crate) fn are_printed(alloc: Global, parts: Option<Parts>, wanted: &str) -> bool {
+    let Some(parts) = parts else {
+        return false;
+    };
+    match image_of(alloc, parts) {
+        Some(image) => is_printed(alloc, &image, wanted),
+        None => false,
+    }
+}
+
+fn put_both(image: &mut Vec<u8>, front: &[u8], rest: &[u8]) -> Result<(), AllocError> {
+    image.extend_from_slice(front)?;
+    image.extend_from_slice(rest)
 }
 
 /// The same of two pieces of an image.
-fn printed_both(alloc: Global, front: &[u8], rest: &[u8]) -> Result<String, Fail> {
-    let mut image = Vec::from_slice(alloc, front)?;
-    image.extend_from_slice(rest)?;
-    printed_of(alloc, &image)
-}
-
-pub fn printed_of(alloc: Global, image: &[u8]) -> Result<String, Fail> {
-    let mut out = Writes::new(Vec::new(alloc));
-    let result = try_to(alloc, image, &mut out);
-    let mut bytes: Vec<u8> = out.into_inner();
-    if let Err(fault) = result {
-        let mut line = Writes::new(Vec::new(alloc));
-        fault_line(&Fault::of_try(&fault), &mut line).map_err(|_| "a write failed")?;
-        bytes.extend_from_slice(&line.into_inner())?;
-    }
-    Ok(String::from_utf8(bytes).map_err(|_| "no text")?)
+fn is_printed_of(alloc: Global, front: &[u8], rest: &[u8], wanted: &str) -> bool {
+    let mut image = Vec::new(alloc);
+    put_both(&mut image, front, rest).is_ok() && is_printed(alloc, &image, wanted)
 }
 
 #[test]
-fn says_hello(rt: HostRuntime) -> Result<(), Fail> {
-    let alloc = rt.alloc();
-    let pieces: [(&[u8], &[u8], &str); 4] = [
-        (&HELLO, &[], "Hi\n2 steps\n"),
-        (&HELLO[..93], &[], "refused 61 byte 93\n"),
-        (&HELLO, &[0], "refused 62 byte 94\n"),
-        (&HELLO[..8], &[0; 44], "0 steps\n"),
-    ];
-    for (front, rest, want) in &pieces {
-        let text = printed_both(alloc, front, rest)?;
-        assert_text(&rt, text.as_str(), *want);
-    }
-    Ok(())
+fn says_hello(rt: HostRuntime) {
+    let hello = HELLO.as_slice();
+    assert!(rt; is_printed(rt.alloc(), hello, "Hi\n2 steps\n"));
+    assert!(rt; is_printed(rt.alloc(), &hello[..93], "refused 61 byte 93\n"));
+    assert!(rt; is_printed_of(rt.alloc(), hello, &[0], "refused 62 byte 94\n"));
+    assert!(rt; is_printed_of(rt.alloc(), &hello[..8], &[0; 44], "0 steps\n"));
 }
 
-/// The parts of `HELLO`.
-fn hello_parts(alloc: Global) -> Result<Parts, AllocError> {
+fn add_hello(alloc: Global, parts: &mut Parts) -> Option<()> {
+    add_message(alloc, parts, 0, false, "Hi").ok()?;
+    add_event(parts, EventCode::ApplicationPreproc, 0, 0).ok()?;
+    add_listing(alloc, parts, &PLAIN, SAYS_YES)
+}
+
+/// The image of `HELLO`, as it is written.
+fn written_hello(alloc: Global) -> Option<Vec<u8>> {
     let mut parts = no_parts(alloc);
-    add_message(alloc, &mut parts, 0, false, "Hi")?;
-    add_routine(alloc, &mut parts, &PLAIN, &says_yes())?;
-    add_event(&mut parts, EventCode::ApplicationPreproc, 0, 0)?;
-    Ok(parts)
+    match add_hello(alloc, &mut parts) {
+        Some(()) => image_of(alloc, parts),
+        None => None,
+    }
 }
 
-/// `HELLO` in version 2 of the format, which has a table of limits.
-pub fn hello_in_version_2(alloc: Global) -> Result<Vec<u8>, AllocError> {
-    let mut image = Vec::from_slice(alloc, &[67, 83, 69, 66, 2, 0, 0, 0])?;
+/// Puts `HELLO` in version 2 of the format, which has a table of limits.
+pub(crate) fn put_hello(image: &mut Vec<u8>) -> Result<(), AllocError> {
+    image.extend_from_slice(&[67, 83, 69, 66, 2, 0, 0, 0])?;
     image.extend_from_slice(&[0; 36])?;
-    image.extend_from_slice(&HELLO[40..])?;
-    Ok(image)
+    image.extend_from_slice(&HELLO[40..])
+}
+
+/// Whether `HELLO` is written in version 2.
+fn is_hello_written(alloc: Global) -> bool {
+    let mut wanted = Vec::new(alloc);
+    put_hello(&mut wanted).is_ok()
+        && match written_hello(alloc) {
+            Some(image) => image.as_slice() == wanted.as_slice(),
+            None => false,
+        }
 }
 
 #[test]
-fn writes_hello(rt: HostRuntime) -> Result<(), Fail> {
-    let image = image_of(rt.alloc(), hello_parts(rt.alloc())?)?;
-    let wanted = hello_in_version_2(rt.alloc())?;
-    assert_bytes(&rt, image.as_slice(), wanted.as_slice());
-    Ok(())
+fn writes_hello(rt: HostRuntime) {
+    assert!(rt; is_hello_written(rt.alloc()));
 }
 
 /// The message `yes`, and a return.
-fn says_yes() -> [Instr; 2] {
-    [instr(Op::Message, 0, 0, 0), instr(Op::Return, 0, 0, 0)]
-}
+const SAYS_YES: &str = "Message; Return";
 
 /// Parts with an item.
-fn with_item(alloc: Global) -> Result<Parts, AllocError> {
-    let mut parts = parts_of(alloc, &says_yes())?;
-    parts.items.push(ItemShape {
+fn with_item(alloc: Global) -> Option<Parts> {
+    let mut parts = made_of(alloc, &HEAD, SAYS_YES, 0)?;
+    let item = ItemShape {
         owner: 255,
         kind: ItemKind::Number,
         len: 1,
         start: 1,
-    })?;
-    Ok(parts)
+    };
+    match parts.items.push(item) {
+        Ok(()) => Some(parts),
+        Err(_) => None,
+    }
 }
 
+// The second program ends without a return.
 #[test]
-fn refuses_programs(rt: HostRuntime) -> Result<(), Fail> {
-    let text = printed(rt.alloc(), with_item(rt.alloc())?)?;
-    assert_text(&rt, text.as_str(), "refused 68\n");
-    // The code ends without a return.
-    let text = printed(rt.alloc(), parts_of(rt.alloc(), &says_yes()[..1])?)?;
-    assert_text(&rt, text.as_str(), "refused 65 routine 0 place 0\n");
-    Ok(())
+fn refuses_programs(rt: HostRuntime) {
+    let alloc = rt.alloc();
+    assert!(rt; are_printed(alloc, with_item(alloc), "refused 68\n"));
+    let parts = made_of(alloc, &HEAD, "Message", 0);
+    assert!(rt; are_printed(alloc, parts, "refused 65 routine 0 place 0\n"));
 }
 
 /// Events whose routine isn't there, wants a case, or gives something that it doesn't have.
-const EVENTS: &[(Ambient, Gift, u32, &str)] = &[
+static EVENTS: [(Ambient, Gift, u32, &str); 3] = [
     (Ambient::Run, Gift::Nothing, 7, "refused 69\n"),
     (Ambient::Case, Gift::Nothing, 0, "refused 69\n"),
     (
@@ -232,39 +252,59 @@ const EVENTS: &[(Ambient, Gift, u32, &str)] = &[
     ),
 ];
 
-#[test]
-fn refuses_events(rt: HostRuntime) -> Result<(), Fail> {
-    let alloc = rt.alloc();
-    for (ambient, gives, routine, want) in EVENTS {
-        let parts = parts_with(alloc, *ambient, *gives, *routine, &says_yes())?;
-        let text = printed(alloc, parts)?;
-        assert_text(&rt, text.as_str(), *want);
-    }
-    Ok(())
-}
-
-/// What is told by a writer that takes at most so many bytes in a call, and fails at a call; and what it took.
-#[test]
-fn tells_failed_writes(rt: HostRuntime) -> Result<(), Fail> {
-    let alloc = rt.alloc();
-    let text = b"Hi\n2 steps\n".as_slice();
-    for most in 0..3 {
-        for fails_at in 0..20 {
-            let mut out = Writes::new(Slow::new(alloc, most, fails_at, 0));
-            let result = try_to(alloc, &HELLO, &mut out);
-            let writer: Slow = out.into_inner();
-            match result {
-                Ok(steps) => {
-                    assert!(rt; steps == 2);
-                    assert_bytes(&rt, writer.taken(), text);
-                }
-                Err(TryFault::Write) => {
-                    assert!(rt; most == 0 || fails_at > 0);
-                    assert!(rt; text.starts_with(writer.taken()));
-                }
-                Err(_) => assert!(rt; false),
-            }
+/// The place of the first event of which otherwise is printed, or how many they are.
+fn first_wrong_event(
+    alloc: Global,
+    events: &[(Ambient, Gift, u32, &'static str)],
+) -> Option<usize> {
+    for (i, (ambient, gives, routine, wanted)) in events.iter().enumerate() {
+        let head = Head {
+            ambient: *ambient,
+            gives: *gives,
+            ..HEAD
+        };
+        if !are_printed(alloc, made_of(alloc, &head, SAYS_YES, *routine), wanted) {
+            return Some(i);
         }
     }
-    Ok(())
+    Some(events.len())
+}
+
+#[test]
+fn refuses_events(rt: HostRuntime) {
+    assert_count(&rt, first_wrong_event(rt.alloc(), &EVENTS), 3);
+}
+
+/// Whether it is told right that a writer took these bytes, where it takes at most so many in a call and fails at a call.
+fn is_told(tried: Result<u64, TryFault>, taken: &[u8], most: usize, fails_at: u64) -> bool {
+    let text = b"Hi\n2 steps\n".as_slice();
+    match tried {
+        Ok(steps) => steps == 2 && taken == text,
+        Err(TryFault::Write) => (most == 0 || fails_at > 0) && text.starts_with(taken),
+        Err(_) => false,
+    }
+}
+
+/// Whether it is told right that such a writer fails, or doesn't.
+fn is_failure_told(alloc: Global, most: usize, fails_at: u64) -> bool {
+    let mut out = Writes::new(Slow::new(alloc, most, fails_at, 0));
+    let tried = try_to(alloc, &HELLO, &mut out);
+    is_told(tried, out.into_inner().taken(), most, fails_at)
+}
+
+/// How many of the first calls may fail, with this told right, where at most so many bytes are taken in a call.
+fn count_told(alloc: Global, most: usize) -> Option<usize> {
+    for fails_at in 0..20 {
+        if !is_failure_told(alloc, most, fails_at) {
+            return usize::try_from(fails_at).ok();
+        }
+    }
+    Some(20)
+}
+
+#[test]
+fn tells_failed_writes(rt: HostRuntime) {
+    for most in 0..3 {
+        assert_count(&rt, count_told(rt.alloc(), most), 20);
+    }
 }

@@ -1,13 +1,13 @@
 //! Images in which one bit was turned. Each byte with each other value: `examples/fuzz`.
 
-use crate::printed::{HELLO, hello_in_version_2};
+use crate::printed::{HELLO, put_hello};
+use crate::told::assert_count;
 use crate::verdicts::EMPTY;
 use cse_batch::check_image;
 use cse_commands::try_image::try_to;
 use cse_dict::Dictionary;
 use cse_value::Writes;
 use std::alloc::Global;
-use std::test::Fail;
 
 /// The steps that the program of an image may take, where it may run.
 fn most_steps(alloc: Global, dictionary: &Dictionary, image: &[u8]) -> Option<u64> {
@@ -32,29 +32,49 @@ fn keeps_to_its_steps(alloc: Global, dictionary: &Dictionary, image: &[u8]) -> b
     }
 }
 
-/// So do those in which one bit was turned.
-fn keep_to_their_steps(alloc: Global, image: &[u8]) -> Result<bool, Fail> {
-    let Ok(dictionary) = Dictionary::read(alloc, EMPTY) else {
-        return Err("no dictionary".into());
-    };
-    for at in 0..image.len() {
-        for bit in [1, 2, 4, 8, 16, 32, 64, 128] {
-            let mut bytes = Vec::from_slice(alloc, image)?;
-            if at < bytes.len() {
-                bytes[at] ^= bit;
-            }
-            if !keeps_to_its_steps(alloc, &dictionary, &bytes) {
-                return Ok(false);
-            }
+/// So does one in which a bit was turned.
+fn keeps_turned(alloc: Global, dictionary: &Dictionary, image: &[u8], at: usize, bit: u8) -> bool {
+    let mut bytes = Vec::new(alloc);
+    if bytes.extend_from_slice(image).is_ok() && at < bytes.len() {
+        bytes[at] ^= bit;
+        keeps_to_its_steps(alloc, dictionary, &bytes)
+    } else {
+        false
+    }
+}
+
+/// So do those in which a bit of one byte was turned.
+fn keep_turned(alloc: Global, dictionary: &Dictionary, image: &[u8], at: usize) -> bool {
+    for bit in [1, 2, 4, 8, 16, 32, 64, 128] {
+        if !keeps_turned(alloc, dictionary, image, at, bit) {
+            return false;
         }
     }
-    Ok(true)
+    true
+}
+
+/// The first byte of which a bit may not be turned, or how many bytes there are.
+fn first_turned(alloc: Global, image: &[u8]) -> Option<usize> {
+    let dictionary = Dictionary::read(alloc, EMPTY.as_bytes()).ok()?;
+    for at in 0..image.len() {
+        if !keep_turned(alloc, &dictionary, image, at) {
+            return Some(at);
+        }
+    }
+    Some(image.len())
+}
+
+/// The same of `HELLO` in version 2.
+fn first_turned_of_hello(alloc: Global) -> Option<usize> {
+    let mut image = Vec::new(alloc);
+    match put_hello(&mut image) {
+        Ok(()) => first_turned(alloc, &image),
+        Err(_) => None,
+    }
 }
 
 #[test]
-fn turned_bits(rt: HostRuntime) -> Result<(), Fail> {
-    assert!(rt; keep_to_their_steps(rt.alloc(), &HELLO)?);
-    let image = hello_in_version_2(rt.alloc())?;
-    assert!(rt; keep_to_their_steps(rt.alloc(), &image)?);
-    Ok(())
+fn turned_bits(rt: HostRuntime) {
+    assert_count(&rt, first_turned(rt.alloc(), &HELLO), 94);
+    assert_count(&rt, first_turned_of_hello(rt.alloc()), 98);
 }

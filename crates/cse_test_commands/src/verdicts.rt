@@ -1,33 +1,24 @@
 //! Worked images and what `verify` prints of them.
 
-use crate::told::assert_text;
+use crate::printed;
+use crate::told::assert_count;
 use cse_commands::fault::{Fault, fault_line};
 use cse_commands::verify_image::{VerifyFault, verify_to};
 use cse_dict::Dictionary;
-use cse_image::{Ambient, EventCode, Gift, Op, Parts, Program, write_image};
-use cse_test_fixtures::outline::{
-    self, ArrayOutline, Line, MessageOutline, NOTHING, Outline, add_shape,
-};
-use cse_test_fixtures::persons::{DECK_CODE, PERSON};
-use cse_test_fixtures::pieces::{Head, add_event, add_lines};
+use cse_image::Parts;
+use cse_test_fixtures::listing::event_of;
+use cse_test_fixtures::outline::{ArrayOutline, MessageOutline, NOTHING, Outline, parts_for};
+use cse_test_fixtures::persons::persons_text;
+use cse_test_fixtures::routines::add_routines;
+use cse_test_fixtures::rows::cut;
 use cse_value::Writes;
-use std::alloc::{AllocError, Global};
-use std::test::Fail;
+use std::alloc::Global;
 
 /// The dictionary with neither records nor items.
-pub const EMPTY: &[u8] = b"[Dictionary]\nName=T\n[Level]\nName=L\n";
+pub(crate) const EMPTY: &str = "[Dictionary]\nName=T\n[Level]\nName=L\n";
 
-/// A household with at most 30 persons; of each person sex, relation, age and a weight with a decimal.
-pub const SAMPLE: &[u8] = b"[Dictionary]\nName=SAMPLE_DICT\nRecordTypeStart=1\nRecordTypeLen=1\n\
-[Level]\nName=QUEST\n[IdItems]\n[Item]\nName=HH\nStart=2\nLen=3\nZeroFill=Yes\n\
-[Record]\nName=PERSON\nRecordTypeValue='P'\nRecordLen=12\nMaxRecords=30\n\
-[Item]\nName=SEX\nStart=5\nLen=1\n[ValueSet]\nName=SEX_VS\nValue=1;Male\nValue=2;Female\n\
-[Item]\nName=REL\nStart=6\nLen=1\n\
-[ValueSet]\nName=REL_VS\nValue=1;Head\nValue=2;Spouse\nValue=3:8;Other\n\
-[Item]\nName=AGE\nStart=7\nLen=3\n[Item]\nName=WEIGHT\nStart=10\nLen=3\nDecimal=1\n";
-
-/// The same, where an age has two columns.
-const SHORTER: &[u8] = b"[Dictionary]\nName=SAMPLE_DICT\nRecordTypeStart=1\nRecordTypeLen=1\n\
+/// The persons, where an age has two columns.
+const SHORTER: &str = "[Dictionary]\nName=SAMPLE_DICT\nRecordTypeStart=1\nRecordTypeLen=1\n\
 [Level]\nName=QUEST\n[IdItems]\n[Item]\nName=HH\nStart=2\nLen=3\nZeroFill=Yes\n\
 [Record]\nName=PERSON\nRecordTypeValue='P'\nRecordLen=12\nMaxRecords=30\n\
 [Item]\nName=SEX\nStart=5\nLen=1\n[ValueSet]\nName=SEX_VS\nValue=1;Male\nValue=2;Female\n\
@@ -36,208 +27,58 @@ const SHORTER: &[u8] = b"[Dictionary]\nName=SAMPLE_DICT\nRecordTypeStart=1\nReco
 [Item]\nName=AGE\nStart=7\nLen=2\n[Item]\nName=WEIGHT\nStart=10\nLen=3\nDecimal=1\n";
 
 /// A second level, in line 5.
-const TWO_LEVELS: &[u8] = b"[Dictionary]\nName=D\n[Level]\nName=A\n[Level]\nName=B\n";
+const TWO_LEVELS: &str = "[Dictionary]\nName=D\n[Level]\nName=A\n[Level]\nName=B\n";
 
-/// A routine: its ambient, its gift, whether it takes an occurrence of record 0, its code.
-pub type Part = (Ambient, Gift, bool, &'static [Line]);
+/// Code that has a name.
+const NAMED: &str = "\
+// A loop over persons in which a counted loop is left early where there are more than two.\n\
+loops=LoopOccurrences 0 0 9; Number; LoopCount 0 0 8; TotalOccurrences; Number 0 0 1; Compare 4; JumpUnless 0 0 8; Break 0 0 8; End 0 0 2; End; Return\n\
+// A function of a number, and a loop that calls a routine three times.\n\
+three=Number 0 0 2; Return\n\
+calls=Number 0 0 2; LoopCount 0 1 4; Call; Pop; End 0 0 1; Return\n\
+calls_itself=Number 0 0 2; LoopCount 0 1 4; Call 0 0 1; Pop; End 0 0 1; Return\n\
+// 10^15 steps in all, and one more.\n\
+greatest=Number 0 0 4; LoopCount 0 2 5; Number 0 0 4; LoopCount 0 3 4; End 0 0 3; End 0 0 1; Number 0 0 4; LoopCount 0 4 8; End 0 0 7; Return\n\
+too_many=Number 0 0 4; LoopCount 0 2 5; Number 0 0 4; LoopCount 0 3 4; End 0 0 3; End 0 0 1; Number 0 0 4; LoopCount 0 5 8; End 0 0 7; Return\n\
+// A routine that gives a text, and one that lists it.\n\
+you=Text; Return\n\
+greets=Call; Message; Return\n\
+// A sum of a number and a text.\n\
+sum=Number; Text; Add; Pop; Return\n\
+// Loops within loops of which none has a turn: at most 10^12 steps.\n\
+no_turns=Number 0 0 4; LoopCount 0 6 8; Number 0 0 4; LoopCount 0 7 7; Number 0 0 4; LoopCount 0 8 6; End 0 0 5; End 0 0 3; End 0 0 1; Number 0 0 4; LoopCount 0 9 14; Number 0 0 4; LoopCount 0 8 13; End 0 0 12; End 0 0 10; Number 0 0 4; LoopCount 0 10 17; End 0 0 16; Return\n\
+// Ways that meet with a text on the stack, and without one.\n\
+meet=Number 0 0 4; JumpUnless 0 0 3; Text; Return\n\
+// An index of size 5 for the array of four cells.\n\
+longer_index=Number 0 0 4; Index 0 5 4; LoadCell 0 0 1; Pop; Return\n\
+// The deck of ages of cse_test_fixtures.\n\
+deck=LoadLocal; ItemNumber 0 0 3; Special; Compare; JumpUnless 0 0 17; LoadLocal; LoadLocal; ItemNumber 0 0 1; Row 0 0 14; LoadLocal; ItemNumber 0 0 2; Row 1 1; LoadCell; Jump 0 0 15; Special 2; Impute 0 0 3; Jump 0 0 26; LoadLocal; ItemNumber 0 0 1; Row 0 0 26; LoadLocal; ItemNumber 0 0 2; Row 1 1; LoadLocal; ItemNumber 0 0 3; StoreCell; Return";
 
-/// An event: its code, its index, its routine.
-pub type When = (EventCode, u16, u32);
+/// An event of each case, and a routine for it.
+pub(crate) const LEVEL: &str = "LevelPreproc 0 0";
 
-/// A program with the constants 10, 2, 3, 1 and 0, a text and two arrays: its dictionary, its routines,
-/// its events, and what `verify` prints.
-pub type Made = (
-    &'static [u8],
-    &'static [Part],
-    &'static [When],
-    &'static str,
-);
+pub(crate) const LOOPS: &str = "case:loops";
 
-/// A loop over persons in which a counted loop is left early where there are more than two.
-const LOOPS: &[Line] = &[
-    (Op::LoopOccurrences, 0, 0, 9),
-    (Op::Number, 0, 0, 0),
-    (Op::LoopCount, 0, 0, 8),
-    (Op::TotalOccurrences, 0, 0, 0),
-    (Op::Number, 0, 0, 1),
-    (Op::Compare, 4, 0, 0),
-    (Op::JumpUnless, 0, 0, 8),
-    (Op::Break, 0, 0, 8),
-    (Op::End, 0, 0, 2),
-    (Op::End, 0, 0, 0),
-    (Op::Return, 0, 0, 0),
-];
-
-/// A function of a number, and a loop that calls a routine three times.
-pub const THREE: &[Line] = &[(Op::Number, 0, 0, 2), (Op::Return, 0, 0, 0)];
-
-pub const CALLS: &[Line] = &[
-    (Op::Number, 0, 0, 2),
-    (Op::LoopCount, 0, 1, 4),
-    (Op::Call, 0, 0, 0),
-    (Op::Pop, 0, 0, 0),
-    (Op::End, 0, 0, 1),
-    (Op::Return, 0, 0, 0),
-];
-
-pub const CALLS_ITSELF: &[Line] = &[
-    (Op::Number, 0, 0, 2),
-    (Op::LoopCount, 0, 1, 4),
-    (Op::Call, 0, 0, 1),
-    (Op::Pop, 0, 0, 0),
-    (Op::End, 0, 0, 1),
-    (Op::Return, 0, 0, 0),
-];
-
-/// 10^15 steps in all, and one more.
-pub const GREATEST: &[Line] = &[
-    (Op::Number, 0, 0, 4),
-    (Op::LoopCount, 0, 2, 5),
-    (Op::Number, 0, 0, 4),
-    (Op::LoopCount, 0, 3, 4),
-    (Op::End, 0, 0, 3),
-    (Op::End, 0, 0, 1),
-    (Op::Number, 0, 0, 4),
-    (Op::LoopCount, 0, 4, 8),
-    (Op::End, 0, 0, 7),
-    (Op::Return, 0, 0, 0),
-];
-
-const TOO_MANY: &[Line] = &[
-    (Op::Number, 0, 0, 4),
-    (Op::LoopCount, 0, 2, 5),
-    (Op::Number, 0, 0, 4),
-    (Op::LoopCount, 0, 3, 4),
-    (Op::End, 0, 0, 3),
-    (Op::End, 0, 0, 1),
-    (Op::Number, 0, 0, 4),
-    (Op::LoopCount, 0, 5, 8),
-    (Op::End, 0, 0, 7),
-    (Op::Return, 0, 0, 0),
-];
-
-/// A routine that gives a text, and one that lists it.
-pub const YOU: &[Line] = &[(Op::Text, 0, 0, 0), (Op::Return, 0, 0, 0)];
-
-pub const GREETS: &[Line] = &[
-    (Op::Call, 0, 0, 0),
-    (Op::Message, 0, 0, 0),
-    (Op::Return, 0, 0, 0),
-];
-
-/// A sum of a number and a text.
-pub const SUM: &[Line] = &[
-    (Op::Number, 0, 0, 0),
-    (Op::Text, 0, 0, 0),
-    (Op::Add, 0, 0, 0),
-    (Op::Pop, 0, 0, 0),
-    (Op::Return, 0, 0, 0),
-];
-
-pub const RUN: &[When] = &[(EventCode::ApplicationPreproc, 0, 0)];
-
-pub const RUN_SECOND: &[When] = &[(EventCode::ApplicationPreproc, 0, 1)];
-
-const LEVEL: &[When] = &[(EventCode::LevelPreproc, 0, 0)];
-
-const AGE: &[When] = &[(EventCode::ItemPostproc, 3, 0)];
-
-/// A program with a loop in a loop.
-pub const FIRST: Made = (
-    SAMPLE,
-    &[(Ambient::Case, Gift::Nothing, false, LOOPS)],
-    LEVEL,
-    "routine 0 1892 steps\ncase 1892 steps\nrun 0 steps\ndepth 2 0 0 2\naccepted\n",
-);
-
-/// What `verify` prints of each.
-const PROGRAMS: &[Made] = &[
-    FIRST,
-    (
-        EMPTY,
-        &[
-            (Ambient::Run, Gift::Number, false, THREE),
-            (Ambient::Run, Gift::Nothing, false, CALLS),
-        ],
-        RUN_SECOND,
-        "routine 0 2 steps\nroutine 1 18 steps\ncase 0 steps\nrun 18 steps\ndepth 1 0 0 1\naccepted\n",
-    ),
-    (
-        EMPTY,
-        &[
-            (Ambient::Run, Gift::Number, false, THREE),
-            (Ambient::Run, Gift::Nothing, false, CALLS_ITSELF),
-        ],
-        RUN_SECOND,
-        "refused 69 routine 1 place 2\n",
-    ),
-    (
-        SAMPLE,
-        &[(Ambient::Case, Gift::Nothing, true, DECK_CODE)],
-        AGE,
-        "routine 0 27 steps\ncase 810 steps\nrun 0 steps\ndepth 2 0 4 0\naccepted\n",
-    ),
-    (
-        EMPTY,
-        &[(Ambient::Run, Gift::Nothing, false, TOO_MANY)],
-        RUN,
-        "refused 67 routine 0 place 9\n",
-    ),
-    (
-        SAMPLE,
-        &[(Ambient::Case, Gift::Nothing, true, GREATEST)],
-        AGE,
-        "refused 67\n",
-    ),
-    (
-        EMPTY,
-        &[(Ambient::Run, Gift::Nothing, false, GREATEST)],
-        RUN,
-        "routine 0 1000000000000000 steps\ncase 0 steps\nrun 1000000000000000 steps\ndepth 1 0 0 2\naccepted\n",
-    ),
-    (
-        EMPTY,
-        &[
-            (Ambient::Run, Gift::Text, false, YOU),
-            (Ambient::Run, Gift::Nothing, false, GREETS),
-        ],
-        RUN_SECOND,
-        "routine 0 2 steps\nroutine 1 5 steps\ncase 0 steps\nrun 5 steps\ndepth 0 1 0 0\naccepted\n",
-    ),
-    (
-        EMPTY,
-        &[
-            (Ambient::Run, Gift::Number, false, YOU),
-            (Ambient::Run, Gift::Nothing, false, GREETS),
-        ],
-        RUN_SECOND,
-        "refused 66 routine 0 place 1\n",
-    ),
-    (
-        EMPTY,
-        &[(Ambient::Run, Gift::Nothing, false, SUM)],
-        RUN,
-        "refused 66 routine 0 place 2\n",
-    ),
-];
+/// The rows: the dictionary, that of the persons or the empty one; an event and the first routine that it runs; what
+/// `verify` prints; and the routines. Behind each but the last is a hash.
+const ROWS: &str = "\
+persons|LevelPreproc 0 0|routine 0 1892 steps\ncase 1892 steps\nrun 0 steps\ndepth 2 0 0 2\naccepted\n|case:loops#\
+empty|ApplicationPreproc 0 1|routine 0 2 steps\nroutine 1 18 steps\ncase 0 steps\nrun 18 steps\ndepth 1 0 0 1\naccepted\n|number:three|plain:calls#\
+empty|ApplicationPreproc 0 1|refused 69 routine 1 place 2\n|number:three|plain:calls_itself#\
+persons|ItemPostproc 3 0|routine 0 27 steps\ncase 810 steps\nrun 0 steps\ndepth 2 0 4 0\naccepted\n|person:deck#\
+empty|ApplicationPreproc 0 0|refused 67 routine 0 place 9\n|plain:too_many#\
+persons|ItemPostproc 3 0|refused 67\n|person:greatest#\
+empty|ApplicationPreproc 0 0|routine 0 1000000000000000 steps\ncase 0 steps\nrun 1000000000000000 steps\ndepth 1 0 0 2\naccepted\n|plain:greatest#\
+empty|ApplicationPreproc 0 1|routine 0 2 steps\nroutine 1 5 steps\ncase 0 steps\nrun 5 steps\ndepth 0 1 0 0\naccepted\n|text:you|plain:greets#\
+empty|ApplicationPreproc 0 1|refused 66 routine 0 place 1\n|number:you|plain:greets#\
+empty|ApplicationPreproc 0 0|refused 66 routine 0 place 2\n|plain:sum";
 
 /// The limits of counted loops.
-const LIMITS: [u32; 11] = [
+const LIMITS: &[u32] = &[
     10, 3, 999999, 999999997, 999999995, 999999996, 10000, 9999, 9997, 9996, 9993,
 ];
 
-fn add_part(alloc: Global, parts: &mut Parts, part: &Part) -> Result<(), AllocError> {
-    let (ambient, gives, takes, lines) = *part;
-    let head = Head {
-        ambient,
-        gives,
-        parameters: u8::from(takes),
-        locals: if takes { PERSON } else { &[] },
-    };
-    add_lines(alloc, parts, &head, lines)
-}
-
-/// A text, a deck by sex and relation and an array of four cells, a message.
+/// The constants 10, 2, 3, 1 and 0, a text, a deck by sex and relation and an array of four cells, a message.
 const BESIDE: Outline<'static> = Outline {
     constants: &[10, 2, 3, 1, 0],
     texts: &["you"],
@@ -263,91 +104,106 @@ const BESIDE: Outline<'static> = Outline {
     ..NOTHING
 };
 
-/// The parts of a program that was made for a dictionary.
-fn parts_of(alloc: Global, dict: &Dictionary, made: &Made) -> Result<Parts, AllocError> {
-    let (_, routines, events, _) = *made;
-    let mut parts = outline::parts_of(alloc, &BESIDE)?;
-    add_shape(&mut parts, dict.shape())?;
-    parts.limits.extend_from_slice(&LIMITS)?;
-    for part in routines {
-        add_part(alloc, &mut parts, part)?;
-    }
-    for (code, index, routine) in events {
-        add_event(&mut parts, *code, *index, *routine)?;
-    }
-    Ok(parts)
+fn add_rest(alloc: Global, parts: &mut Parts, event: &str, routines: &str) -> Option<()> {
+    parts.limits.extend_from_slice(LIMITS).ok()?;
+    parts.events.push(event_of(event)?).ok()?;
+    add_routines(alloc, parts, NAMED, routines)
 }
 
-pub fn image_of(alloc: Global, made: &Made) -> Result<Vec<u8>, Fail> {
-    match Dictionary::read(alloc, made.0) {
-        Ok(dict) => image_with(alloc, &dict, made),
-        Err(_) => Err("no dictionary".into()),
+/// The image of a program that was made for a dictionary.
+fn image_with(
+    alloc: Global,
+    dictionary: &Dictionary,
+    event: &str,
+    routines: &str,
+) -> Option<Vec<u8>> {
+    let mut parts = parts_for(alloc, &BESIDE, dictionary.shape()).ok()?;
+    match add_rest(alloc, &mut parts, event, routines) {
+        Some(()) => printed::image_of(alloc, parts),
+        None => None,
     }
 }
 
-fn image_with(alloc: Global, dict: &Dictionary, made: &Made) -> Result<Vec<u8>, Fail> {
-    let parts = parts_of(alloc, dict, made)?;
-    let program = Program::from_parts(parts).ok_or("no spelling")?;
-    Ok(write_image(alloc, &program)?)
+pub(crate) fn image_of(
+    alloc: Global,
+    dictionary: &[u8],
+    event: &str,
+    routines: &str,
+) -> Option<Vec<u8>> {
+    match Dictionary::read(alloc, dictionary) {
+        Ok(dictionary) => image_with(alloc, &dictionary, event, routines),
+        Err(_) => None,
+    }
 }
 
-/// What `verify` prints, and the line of its fault.
-fn told(alloc: Global, dict: &[u8], image: &[u8]) -> Result<String, Fail> {
+/// Puts what `verify` prints, and the line of its fault.
+fn put_told(alloc: Global, dictionary: &[u8], image: &[u8], out: &mut Writes<Vec<u8>>) {
+    if let Err(fault) = verify_to(alloc, dictionary, image, out) {
+        let _written = fault_line(&Fault::of_verify(&fault), out);
+    }
+}
+
+/// Whether `verify` prints this.
+fn is_told(alloc: Global, dictionary: &[u8], image: &[u8], wanted: &str) -> bool {
     let mut out = Writes::new(Vec::new(alloc));
-    let result = verify_to(alloc, dict, image, &mut out);
-    let mut bytes: Vec<u8> = out.into_inner();
-    if let Err(fault) = result {
-        let mut line = Writes::new(Vec::new(alloc));
-        fault_line(&Fault::of_verify(&fault), &mut line).map_err(|_| "a write failed")?;
-        bytes.extend_from_slice(&line.into_inner())?;
-    }
-    Ok(String::from_utf8(bytes).map_err(|_| "no text")?)
+    put_told(alloc, dictionary, image, &mut out);
+    out.into_inner().as_slice() == wanted.as_bytes()
 }
 
-/// What `verify` prints of a dictionary and the image of a program.
-fn told_of(alloc: Global, dict: &[u8], made: &Made) -> Result<String, Fail> {
-    let image = image_of(alloc, made)?;
-    told(alloc, dict, &image)
+fn is_right(alloc: Global, row: &str) -> bool {
+    let (name, rest) = cut(row, '|');
+    let (event, rest) = cut(rest, '|');
+    let (wanted, routines) = cut(rest, '|');
+    let dictionary = if name == "persons" {
+        persons_text()
+    } else {
+        EMPTY
+    };
+    match image_of(alloc, dictionary.as_bytes(), event, routines) {
+        Some(image) => is_told(alloc, dictionary.as_bytes(), &image, wanted),
+        None => false,
+    }
+}
+
+/// The place of the first row of which otherwise is told, or how many they are.
+fn first_wrong(alloc: Global, rows: &str) -> Option<usize> {
+    let mut right = 0usize;
+    for row in rows.split('#') {
+        if !is_right(alloc, row) {
+            return Some(right);
+        }
+        right = right.saturating_add(1);
+    }
+    Some(right)
 }
 
 #[test]
-fn tells_programs(rt: HostRuntime) -> Result<(), Fail> {
-    for made in PROGRAMS {
-        let (dict, _, _, want) = *made;
-        let text = told_of(rt.alloc(), dict, made)?;
-        assert_text(&rt, text.as_str(), want);
-    }
-    Ok(())
+fn tells_programs(rt: HostRuntime) {
+    assert_count(&rt, first_wrong(rt.alloc(), ROWS), 10);
 }
 
-/// Another dictionary for the first program: other shapes, and a text that is none.
-const OTHERS: &[(&[u8], &str)] = &[
-    (SHORTER, "refused 68\n"),
-    (EMPTY, "refused 68\n"),
-    (b"\xff", "refused 10\n"),
-];
-
-#[test]
-fn tells_other_dictionaries(rt: HostRuntime) -> Result<(), Fail> {
-    for (dict, want) in OTHERS {
-        let text = told_of(rt.alloc(), dict, &FIRST)?;
-        assert_text(&rt, text.as_str(), *want);
+/// Whether `verify` prints this of the image of the first row, and another dictionary.
+fn is_told_with(alloc: Global, dictionary: &[u8], wanted: &str) -> bool {
+    match image_of(alloc, persons_text().as_bytes(), LEVEL, LOOPS) {
+        Some(image) => is_told(alloc, dictionary, &image, wanted),
+        None => false,
     }
-    Ok(())
 }
 
-/// A faulty dictionary before a faulty image, and an image that ends too early.
-const CUT: &[(&[u8], &[u8], &str)] = &[
-    (TWO_LEVELS, b"CSEB", "refused 13 line 5\n"),
-    (SAMPLE, b"CSEB\x01", "refused 61 byte 5\n"),
-];
-
+// Other shapes, and a text that is none.
 #[test]
-fn tells_faults_in_order(rt: HostRuntime) -> Result<(), Fail> {
-    for (dict, image, want) in CUT {
-        let text = told(rt.alloc(), dict, image)?;
-        assert_text(&rt, text.as_str(), *want);
-    }
+fn tells_other_dictionaries(rt: HostRuntime) {
+    assert!(rt; is_told_with(rt.alloc(), SHORTER.as_bytes(), "refused 68\n"));
+    assert!(rt; is_told_with(rt.alloc(), EMPTY.as_bytes(), "refused 68\n"));
+    assert!(rt; is_told_with(rt.alloc(), b"\xff", "refused 10\n"));
+}
+
+// A faulty dictionary before a faulty image, and an image that ends too early.
+#[test]
+fn tells_faults_in_order(rt: HostRuntime) {
+    let levels = TWO_LEVELS.as_bytes();
+    assert!(rt; is_told(rt.alloc(), levels, b"CSEB", "refused 13 line 5\n"));
+    let sample = persons_text().as_bytes();
+    assert!(rt; is_told(rt.alloc(), sample, b"CSEB\x01", "refused 61 byte 5\n"));
     assert!(rt; Fault::of_verify(&VerifyFault::Write) == Fault::of_number(71));
-    Ok(())
 }
