@@ -4,7 +4,7 @@ ghost use Rattle.std.specs.Prelude.{◌<◌, IfOk};
 ghost use Rattle.cse_decks.specs.Store.{StoreFits};
 
 use crate::persons::{back, front};
-use crate::samples::{ROWS, Row};
+use crate::samples::{Row, rows};
 use cse_batch::{RunFault, Totals, run};
 use cse_decks::{Store, load};
 use cse_dict::Dictionary;
@@ -156,7 +156,7 @@ fn check(
 
 #[test]
 fn rows_come_out_however_they_are_cut(rt: HostRuntime) -> Result<(), Fail> {
-    for row in &ROWS {
+    for row in rows() {
         let dictionary = dictionary(rt.alloc(), row.most)?;
         let verified = verified(rt.alloc(), &dictionary, &row.program)?;
         for at_most in [1, 2, 3, 7, 100_000] {
@@ -212,7 +212,7 @@ fn fails_at_each(
 
 #[test]
 fn each_device_fails_at_each_call(rt: HostRuntime) -> Result<(), Fail> {
-    for row in &ROWS {
+    for row in rows() {
         for device in 0..5 {
             for takes_none in [false, true] {
                 fails_at_each(&rt, rt.alloc(), row, device, takes_none)?;

@@ -94,7 +94,7 @@ const ONE_SAVED: &str = "CSEB DECKS 1\nARRAY AGE_HD 2 4\n35\n0\n0\n0\n0\n0\n0\n0
 
 /// No data; no logic; lines of no known record, and a person too many; two decks, the second run from the
 /// first one's; messages around unseen lines; an id with a letter beyond ASCII.
-pub(crate) static ROWS: [Row; 8] = [
+static ROWS: [Row; 8] = [
     Row {
         program: NOTHING,
         most: "30",
@@ -232,3 +232,8 @@ pub(crate) static ROWS: [Row; 8] = [
         ],
     },
 ];
+
+/// The rows. A table is laid out in each function that names it, so this one alone does.
+pub(crate) fn rows() -> &'static [Row] {
+    &ROWS
+}
