@@ -1,1 +1,2 @@
 pub mod ClashLaws
+pub mod ReadLaws

@@ -37,6 +37,8 @@ impl ReadFault {
 }
 
 impl From<AllocError> for ReadFault {
+    ghost from_gives = { λ _ fault. fault ≡ reads.Memory };
+
     fn from(_refused: AllocError) -> ReadFault {
         ReadFault::Memory
     }
@@ -81,6 +83,8 @@ impl WriteFault {
 }
 
 impl From<AllocError> for WriteFault {
+    ghost from_gives = { λ _ fault. fault ≡ Memory };
+
     fn from(_refused: AllocError) -> WriteFault {
         WriteFault::Memory
     }

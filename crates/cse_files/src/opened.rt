@@ -1,7 +1,8 @@
 //! Files that were opened, each with the path that it was opened by.
 
-ghost use Rattle.std.specs.Prelude.{◌≡◌, false, IfOk, [], None, Ok};
+ghost use Rattle.std.specs.Prelude.{◌≡◌, ◌≢◌, false, IfErr, IfOk, [], None, Ok};
 ghost use Rattle.cse_value.specs.Sound.{are_given};
+ghost use Rattle.cse_files.specs.declared.fault.WriteFault.TheVariants.{NotOpened};
 
 use crate::fault::WriteFault;
 use cse_value::{Input, Output, Reads, Writes};
@@ -57,7 +58,8 @@ pub fn create_output<'a, R: Files>(
 impl<'a, F: io::Write + OpenFile> OpenedOutput<'a, F> {
     /// Sees that the disk has what it took, where that was asked.
     pub fn sync(&self) -> Result<(), WriteFault>
-        ensures { self.now.same ≡ None → result ≡ Ok tt }
+        ensures unsynced { self.now.same ≡ None → result ≡ Ok tt }
+        ensures unkept { IfErr result (λ fault. fault ≢ NotOpened) }
     {
         match &self.same {
             Some(file) => sync(file),
@@ -68,7 +70,9 @@ impl<'a, F: io::Write + OpenFile> OpenedOutput<'a, F> {
 
 /// Sees that the disk has what a regular file took, so that what a disk or a quota refuses late is told. What is no
 /// regular file has no such answer.
-pub(crate) fn sync<F: OpenFile>(file: &F) -> Result<(), WriteFault> {
+pub(crate) fn sync<F: OpenFile>(file: &F) -> Result<(), WriteFault>
+    ensures { IfErr result (λ fault. fault ≢ NotOpened) }
+{
     match file.metadata() {
         Ok(found) if found.is_file() => {}
         _ => return Ok(()),

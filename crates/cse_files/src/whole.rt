@@ -1,9 +1,9 @@
 //! Files that are read whole.
 
-ghost use Rattle.std.specs.Prelude.{◌≡◌, ◌≤◌, ◌⊎◌, ◌<◌, [], false, IfOk, IfSome, OnOk, length, take};
+ghost use Rattle.std.specs.Prelude.{◌≡◌, ◌≤◌, ◌⊎◌, ◌<◌, [], false, IfErr, IfOk, IfSome, OnOk, length, take};
 ghost use Rattle.cse_value.specs.Device.{Consumes, IsAtEnd, IsUnfailing};
 ghost use Rattle.cse_value.specs.Sound.{are_given};
-ghost use Rattle.cse_files.specs.Whole.{IsWhole};
+ghost use Rattle.cse_files.specs.Whole.{IsUnread, IsWhole, StopsReading};
 
 use crate::fault::ReadFault;
 use crate::opened::{OpenedInput, open_input};
@@ -39,6 +39,7 @@ pub fn read_whole<'a, R: Files + AllocGlobal>(
 ) -> Result<WholeFile<'a, R::File>, ReadFault>
     ensures path { IfOk result (λ f. f.input.path.now ≡ path.now) }
     ensures whole { IfOk result (λ f. IsWhole (⟦<Reads<R::File> as Input>⟧.given f.input.device) f.bytes.items most) }
+    ensures unread { IfErr result (IsUnread (⟦<Reads<R::File> as Input>⟧.given) path.now) }
 {
     match open_input(rt, path) {
         Ok(input) => read_opened(rt.alloc(), input, most),
@@ -54,6 +55,7 @@ pub fn read_where_there<'a, R: Files + AllocGlobal>(
 ) -> Result<Option<WholeFile<'a, R::File>>, ReadFault>
     ensures path { IfOk result (λ read. IfSome read (λ f. f.input.path.now ≡ path.now)) }
     ensures whole { IfOk result (λ read. IfSome read (λ f. IsWhole (⟦<Reads<R::File> as Input>⟧.given f.input.device) f.bytes.items most)) }
+    ensures unread { IfErr result (IsUnread (⟦<Reads<R::File> as Input>⟧.given) path.now) }
 {
     match open_input(rt, path) {
         Ok(input) => Ok(Some(read_opened(rt.alloc(), input, most)?)),
@@ -71,6 +73,7 @@ fn read_opened<'a, F: Read + Drop>(
     requires unread { ⟦<Reads<F> as Input>⟧.given input.device ≡ are_given [] false 0 }
     ensures path { IfOk result (λ f. f.input.path ≡ input.entry.path) }
     ensures whole { IfOk result (λ f. IsWhole (⟦<Reads<F> as Input>⟧.given f.input.device) f.bytes.items most) }
+    ensures unread { IfErr result (IsUnread (⟦<Reads<F> as Input>⟧.given) input.entry.path.now) }
 {
     let bytes = read_all(alloc, &mut input.device, most)?;
     Ok(WholeFile { input, bytes })
@@ -81,6 +84,7 @@ pub fn read_all<I: Input>(alloc: Global, input: &mut I, most: u64) -> Result<Vec
     ensures bytes { IfOk result (λ bytes. Consumes (I.given input.old) (I.given input.new) bytes.items) }
     ensures sound { OnOk result (IsUnfailing (I.given input.old) (I.given input.new)) }
     ensures end { IfOk result (λ bytes. IsAtEnd (I.given input.new) ⊎ (most < length bytes.items)) }
+    ensures stops { IfErr result (StopsReading (I.given input.old) (I.given input.new)) }
 {
     let mut bytes = Vec::new(alloc);
     let mut piece = [0u8; PIECE];
@@ -104,6 +108,7 @@ fn read_piece<I: Input>(
     ensures bytes { IfOk result (λ n. Consumes (I.given input.old) (I.given input.new) (take n piece.new)) }
     ensures sound { OnOk result (IsUnfailing (I.given input.old) (I.given input.new)) }
     ensures end { IfOk result (λ n. n ≡ 0 → IsAtEnd (I.given input.new)) }
+    ensures stops { IfErr result (StopsReading (I.given input.old) (I.given input.new)) }
 {
     let room = if more < PIECE as u64 {
         more as usize + 1
