@@ -1,7 +1,7 @@
 -- What files gave, by the bytes that were read of them.
-use Rattle.std.proofs.Common.{◌≡◌, ◌∙◌, ◌<◌, ap, arith, inl, inr, refl, sym, subst, ℕ, List, Option, None, Some, IfNone, IfSome, length, option_copied, option_map}
+use Rattle.std.proofs.Common.{◌≡◌, ◌∙◌, ◌<◌, ap, inl, inr, refl, sym, subst, ℕ, List, Option, None, Some, IfNone, IfSome, length, option_copied, option_map}
 use Rattle.std.specs.Borrow.{Bor}
-use Rattle.cse_value.specs.Device.{Given}
+use Rattle.cse_value.specs.Device.{Appends, Given}
 use Rattle.cse_files.specs.declared.whole.WholeFile.{WholeFile}
 use Rattle.cse_files.specs.Whole.{IsAll, IsWhole}
 use Rattle.cse_image_parts.specs.Image.{Image}
@@ -10,7 +10,8 @@ use Rattle.cse_decks.specs.Store.{Kept, first_kept}
 use Rattle.cse_commands.specs.Named.{text_or_none}
 use Rattle.cse_commands.specs.Edited.{EndsWhereNamed, text_given}
 use Rattle.cse_commands.specs.Ran.{IsStart, Told, decks_given}
-use Rattle.cse_commands.specs.Vetted.{Passes}
+use Rattle.cse_commands.specs.Tried.{Runs, text_of}
+use Rattle.cse_commands.specs.Vetted.{Passes, told}
 
 -- a text that is not longer than is allowed
 pub all_of : (now : Given) (bytes : List ℕ) (most : ℕ) → IsWhole now bytes most → (most < length bytes → ⊥) → IsAll now bytes
@@ -49,6 +50,13 @@ starts_from t x y decks most text store same are whole first loaded =
     subst (λ (z : Image). IsStart z (decks_given t decks) store) same
     (subst (λ (d : Option (List ℕ)). IsStart x d store) (are ∙ decks_are t decks most whole) (starts_of x text store first loaded))
 
--- the same dictionary and the same image
-pub passes_same : (text text' bytes bytes' : List ℕ) → text ≡ text' → bytes ≡ bytes' → Passes text bytes → Passes text' bytes'
-passes_same text text' bytes bytes' a b p = subst (λ (x : List ℕ). Passes x bytes') a (subst (λ (x : List ℕ). Passes text x) b p)
+-- the same dictionary and the same image, and what was printed of these
+pub prints_same : (text text' bytes bytes' old new : List ℕ) → text ≡ text' → bytes ≡ bytes' → ((p : Passes text bytes) × Appends old new (told p))
+    → ((p : Passes text' bytes') × Appends old new (told p))
+prints_same text text' bytes bytes' old new a b printed =
+    subst (λ (x : List ℕ). (p : Passes x bytes') × Appends old new (told p)) a
+    (subst (λ (x : List ℕ). (p : Passes text x) × Appends old new (told p)) b printed)
+
+pub trial_same : (bytes bytes' : List ℕ) (n : ℕ) (old new : List ℕ) → bytes ≡ bytes' → ((r : Runs bytes n) × Appends old new (text_of r))
+    → ((r : Runs bytes' n) × Appends old new (text_of r))
+trial_same bytes bytes' n old new a printed = subst (λ (x : List ℕ). (r : Runs x n) × Appends old new (text_of r)) a printed

@@ -1,9 +1,11 @@
-pub mod CompiledLaws
 pub mod ApartLaws
+pub mod CompiledLaws
+pub mod DoesLaws
 pub mod EditedLaws
 pub mod FaultLaws
 pub mod FaultyLaws
 pub mod FileLaws
+pub mod HaltLaws
 pub mod OutcomeLaws
 pub mod PrintLaws
 pub mod RanLaws

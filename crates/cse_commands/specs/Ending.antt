@@ -8,6 +8,8 @@ use Rattle.cse_files.specs.declared.fault.WriteFault.{WriteFault}
 use Rattle.cse_files.specs.declared.fault.WriteFault.TheVariants.{NotOpened, NotWritten, Memory}
 use Rattle.cse_batch.specs.declared.image.CheckFault.{CheckFault}
 use Rattle.cse_batch.specs.declared.image.CheckFault.TheVariants as checks
+use Rattle.cse_edit.specs.declared.fault.EditFault.{EditFault}
+use Rattle.cse_edit.specs.declared.fault.EditFault.TheVariants as edits
 use Rattle.cse_commands.specs.declared.fault.Fault.{Fault}
 use Rattle.cse_commands.specs.declared.outcome.Asked.{Asked}
 use Rattle.cse_commands.specs.declared.outcome.Asked.TheVariants.{Open, Read, Write}
@@ -98,3 +100,11 @@ abbrev pub fault_of_verify : VerifyFault → Fault
 fault_of_verify (verifies.Dict error) = fault_at error.number error.line
 fault_of_verify (verifies.Check fault) = fault_of_check fault
 fault_of_verify verifies.Write = plain_fault 71
+
+-- that of hot decks that an edit can't begin with
+abbrev pub fault_of_start : EditFault → Fault
+fault_of_start (edits.Dictionary error) = plain_fault 90
+fault_of_start (edits.Logic error) = plain_fault 90
+fault_of_start (edits.Decks error) = fault_at error.number error.line
+fault_of_start (edits.Run error) = plain_fault 90
+fault_of_start edits.Memory = plain_fault 90

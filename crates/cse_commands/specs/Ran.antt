@@ -5,8 +5,6 @@ use Rattle.cse_value.specs.Sound.{are_given}
 use Rattle.cse_value.specs.declared.device.Reads.{Reads}
 use Rattle.cse_value.specs.declared.device.Writes.{Writes}
 use Rattle.cse_memory.specs.declared.gathered.Gathered.{Gathered}
-use Rattle.cse_files.specs.declared.opened.OpenedInput.{OpenedInput}
-use Rattle.cse_files.specs.declared.opened.OpenedOutput.{OpenedOutput}
 use Rattle.cse_files.specs.declared.replacing.Replaced.{Replaced}
 use Rattle.cse_files.specs.declared.whole.WholeFile.{WholeFile}
 use Rattle.cse_image_parts.specs.Image.{Image}
@@ -24,7 +22,7 @@ use Rattle.cse_commands.specs.declared.ran.RanFrom.{RanFrom}
 use Rattle.cse_commands.specs.declared.ran.RanImage.{RanImage}
 use Rattle.cse_commands.specs.declared.ran.RanFiles.{RanFiles}
 use Rattle.cse_commands.specs.Named.{IsNamed}
-use Rattle.cse_commands.specs.Stops.{HasNumber, TellsRunFault}
+use Rattle.cse_commands.specs.Stops.{TellsRunFault, TellsUnwritten}
 use Rattle.cse_commands.specs.Vetted.{IsReadAs}
 
 -- ---- a run from a store
@@ -88,7 +86,7 @@ IsStart x (Some text) store = IsDeckText x text store
 -- the deck file took the deck text of a whole run, if it is named; there is none of a run that stopped, nor of outputs that were not synced
 abbrev pub KeepsText : {F : Type 0} → Told F → Option (List ℕ) → Result (Totals × Gathered) Stop → Result (Option (Replaced F)) Stop → Type 0
 KeepsText t path (Err stop) kept = kept ≡ Err stop
-KeepsText t path (Ok told) (Err stop) = HasNumber stop
+KeepsText t path (Ok told) (Err stop) = TellsUnwritten stop
 KeepsText t path (Ok told) (Ok None) = path ≡ None
 KeepsText t path (Ok told) (Ok (Some f)) = (path ≡ Some f.path.now) × (t.taken f.device ≡ told.1.bytes.items)
 

@@ -6,6 +6,7 @@ use Rattle.cse_dict.specs.Dictionary.{DictionaryText}
 use Rattle.cse_build.specs.declared.error.BuildFault.{BuildFault}
 use Rattle.cse_build.specs.Build.{IsFault, AreSound}
 use Rattle.cse_build.specs.Fault.{IsReason}
+use Rattle.cse_files.specs.declared.fault.WriteFault.{WriteFault}
 use Rattle.cse_verify.specs.Verified.{VerifiedProgram}
 use Rattle.cse_decks.specs.declared.error.DeckError.{DeckError}
 use Rattle.cse_decks.specs.Store.{Kept}
@@ -14,7 +15,7 @@ use Rattle.cse_batch.specs.declared.totals.RunFault.{RunFault}
 use Rattle.cse_batch.specs.RunClauses.{Contents, Failures, RunStops}
 use Rattle.cse_commands.specs.declared.outcome.Stop.{Stop}
 use Rattle.cse_commands.specs.declared.outcome.Stop.TheVariants.{Usage, OneFile, TooManySteps, Refused}
-use Rattle.cse_commands.specs.Ending.{fault_at, fault_in_text, plain_fault}
+use Rattle.cse_commands.specs.Ending.{fault_at, fault_in_text, number_of_write, plain_fault}
 
 -- a fault, by its number: neither words that are no command nor an image whose cases may take too many steps
 abbrev pub HasNumber : Stop → Type 0
@@ -30,6 +31,11 @@ IsMemory stop = stop ≡ Refused (plain_fault 90)
 -- a file that can't be opened, or want of memory
 abbrev pub IsNotOpened : Stop → Type 0
 IsNotOpened stop = (stop ≡ Refused (plain_fault 72)) ⊎ IsMemory stop
+
+-- 72 where a file can't be opened, 71 where it can't be written or kept, 90 for want of memory
+pub record TellsUnwritten (stop : Stop) : Type 0 where
+  pub fault : WriteFault
+  pub tells : stop ≡ Refused (plain_fault (number_of_write fault))
 
 -- an answer is this store, unless memory ran out
 abbrev pub IsStoreOf : Kept → Result Kept Stop → Type 0

@@ -1,7 +1,10 @@
 //! From the words of the command line to what is done.
 
-ghost use Rattle.std.specs.Prelude.{IfOk};
-ghost use Rattle.cse_commands.specs.Judged.{TriesFile, VerifiesFiles};
+ghost use Rattle.std.specs.Prelude.{◌≡◌, IfErr, IfOk};
+ghost use Rattle.cse_commands.specs.declared.printing.TheConstants.{VERSION};
+ghost use Rattle.cse_commands.specs.Does.{CarriesOut, Does, DoesCompile, DoesEdit, DoesRun, DoesUnlessMemory, Prints, PrintsTotals, PrintsTrial, PrintsVerdict, ended, printing};
+ghost use Rattle.cse_commands.specs.Halts.{StopsTry, StopsVerify};
+ghost use Rattle.cse_commands.specs.Printed.{version_line};
 ghost use Rattle.cse_commands.specs.Ran.{told_by};
 
 use crate::compile_image::compile_files;
@@ -10,7 +13,7 @@ use crate::edited::EditedFiles;
 use crate::fault::{Fault, NO_MEMORY, TOO_MANY, WRITE_FAILED};
 use crate::files::{MOST_IMAGE, file_bytes, file_text};
 use crate::judged::{TriedFile, VerifiedFiles};
-use crate::outcome::{Asked, Stop};
+use crate::outcome::Stop;
 use crate::plan::{Command, CompilePaths, EditPaths, PlanFault, RunPaths, plan};
 use crate::printing::{write_compiled, write_totals, write_version};
 use crate::ran::{RanFiles, RanImage};
@@ -18,13 +21,17 @@ use crate::run_image::run_files;
 use crate::try_image::try_to;
 use crate::verify_image::verify_to;
 use cse_batch::Totals;
-use cse_value::{Input, Output, Reads, Writes};
+use cse_value::{Failed, Input, Output, Reads, Writes};
 use std::env;
 use std::io::{self, BufWriter, ErrorKind, Write};
 use std::rt::{Env, Files};
 
 /// Does what the words ask for.
-pub fn carry_out<R: Env + Files + Print + AllocGlobal>(rt: &R) -> Result<(), Stop> {
+pub fn carry_out<R: Env + Files + Print + AllocGlobal>(rt: &R) -> Result<(), Stop>
+    // The words ask for no command, or memory lacks; else it is done.
+    ensures { CarriesOut (told_by (⟦<Reads<R::File> as Input>⟧.given)
+        (⟦<Writes<R::File> as Output>⟧.taken) (⟦<Writes<R::File> as Output>⟧.has_failed)) result }
+{
     let given = match words_given(rt) {
         Ok(given) => given,
         Err(error) if error.kind() == ErrorKind::OutOfMemory => {
@@ -36,32 +43,18 @@ pub fn carry_out<R: Env + Files + Print + AllocGlobal>(rt: &R) -> Result<(), Sto
         return Err(Stop::of_number(NO_MEMORY));
     };
     let words: Vec<&str> = words;
-    let planned = plan(rt.alloc(), &words);
-    do_planned(rt, planned)
+    do_asked(rt, &words)
 }
 
-/// Does what was planned.
-fn do_planned<R: Files + Print + AllocGlobal>(
-    rt: &R,
-    planned: Result<Command<'_>, PlanFault>,
-) -> Result<(), Stop> {
-    match planned {
-        Ok(Command::Try { image }) => done(try_file(rt, image)),
-        Ok(Command::Verify { dict, image }) => done(verify_files(rt, dict, image)),
-        Ok(Command::Compile(paths)) => compile_and_tell(rt, &paths),
-        Ok(Command::Run(paths)) => run_and_tell(rt, &paths),
-        Ok(Command::Edit(paths)) => edit_and_tell(rt, &paths),
-        Ok(Command::Version) => tell_version(rt),
+/// Does what these words ask for.
+fn do_asked<R: Files + Print + AllocGlobal>(rt: &R, words: &[&str]) -> Result<(), Stop>
+    ensures { CarriesOut (told_by (⟦<Reads<R::File> as Input>⟧.given)
+        (⟦<Writes<R::File> as Output>⟧.taken) (⟦<Writes<R::File> as Output>⟧.has_failed)) result }
+{
+    match plan(rt.alloc(), words) {
+        Ok(command) => do_and_flush(rt, command),
         Err(PlanFault::Usage) => Err(Stop::Usage),
         Err(PlanFault::Memory) => Err(Stop::of_number(NO_MEMORY)),
-    }
-}
-
-/// That a command has done its work, or why not. Its files are closed.
-fn done<T: Drop>(outcome: Result<T, Stop>) -> Result<(), Stop> {
-    match outcome {
-        Ok(_) => Ok(()),
-        Err(stop) => Err(stop),
     }
 }
 
@@ -74,106 +67,159 @@ fn words_given<R: Env + AllocGlobal>(rt: &R) -> io::Result<Vec<String>> {
     Ok(words)
 }
 
-/// `try`.
-pub fn try_file<'a, R: Files + Print + AllocGlobal>(
-    rt: &R,
-    path: &'a str,
-) -> Result<TriedFile<'a, R::File>, Stop>
-    // The file was opened by its path, and its preproc ran.
-    ensures { IfOk result (TriesFile (told_by (⟦<Reads<R::File> as Input>⟧.given)
-        (⟦<Writes<R::File> as Output>⟧.taken) (⟦<Writes<R::File> as Output>⟧.has_failed)) path.now) }
+/// Does a command, and sees that what it printed went out.
+fn do_and_flush<R: Files + Print + AllocGlobal>(rt: &R, command: Command<'_>) -> Result<(), Stop>
+    ensures { DoesUnlessMemory (told_by (⟦<Reads<R::File> as Input>⟧.given)
+        (⟦<Writes<R::File> as Output>⟧.taken) (⟦<Writes<R::File> as Output>⟧.has_failed)) command.entry result }
 {
-    let image = file_bytes(rt, path, MOST_IMAGE)?;
-    let buffer = match BufWriter::new(rt.alloc(), io::writer(rt)) {
-        Ok(buffer) => buffer,
-        Err(error) => return Err(Stop::of_failure(Asked::Write, error.kind())),
+    let Ok(buffer) = BufWriter::new(rt.alloc(), io::writer(rt)) else {
+        return Err(Stop::of_number(NO_MEMORY));
     };
     let mut out = Writes::new(buffer);
-    match try_to(rt.alloc(), image.bytes(), &mut out) {
-        Ok(_) => {}
-        Err(fault) => return Err(Stop::Refused(Fault::of_try(&fault))),
+    match do_command(rt, command, &mut out) {
+        Ok(()) => {}
+        Err(stop) => return Err(stop),
     }
     match out.into_inner().flush() {
-        Ok(()) => Ok(TriedFile { image }),
+        Ok(()) => Ok(()),
         Err(_) => Err(Stop::of_number(WRITE_FAILED)),
     }
 }
 
-/// `verify`. The dictionary is read before the image.
-pub fn verify_files<'a, R: Files + Print + AllocGlobal>(
+/// Does a command.
+fn do_command<R: Files + AllocGlobal, W: Output>(
+    rt: &R,
+    command: Command<'_>,
+    out: &mut W,
+) -> Result<(), Stop>
+    ensures { Does (told_by (⟦<Reads<R::File> as Input>⟧.given)
+        (⟦<Writes<R::File> as Output>⟧.taken) (⟦<Writes<R::File> as Output>⟧.has_failed)) command.entry result (W.taken out.old) (W.taken out.new) }
+{
+    match command {
+        Command::Try { image } => ended(try_file(rt, image, out)),
+        Command::Verify { dict, image } => ended(verify_files(rt, dict, image, out)),
+        Command::Compile(paths) => compile_and_tell(rt, &paths, out),
+        Command::Run(paths) => run_and_tell(rt, &paths, out),
+        Command::Edit(paths) => edit_and_tell(rt, &paths, out),
+        Command::Version => tell_version(out),
+    }
+}
+
+/// That a command has done its work, or why not. Its files are closed.
+fn ended<T: Drop>(outcome: Result<T, Stop>) -> Result<(), Stop>
+    ensures { result ≡ ended outcome }
+{
+    match outcome {
+        Ok(_) => Ok(()),
+        Err(stop) => Err(stop),
+    }
+}
+
+/// `try`. What is printed goes to this device.
+pub fn try_file<'a, R: Files + AllocGlobal, W: Output>(
+    rt: &R,
+    path: &'a str,
+    out: &mut W,
+) -> Result<TriedFile<'a, R::File>, Stop>
+    // The file was opened by its path, its preproc ran, and its messages were printed.
+    ensures tries { IfOk result (PrintsTrial (told_by (⟦<Reads<R::File> as Input>⟧.given)
+        (⟦<Writes<R::File> as Output>⟧.taken) (⟦<Writes<R::File> as Output>⟧.has_failed)) path.now (W.taken out.old) (W.taken out.new)) }
+    // Why not: the file was not read, or what it gave may not run.
+    ensures stops { IfErr result (StopsTry (⟦<Reads<R::File> as Input>⟧.given) path.now) }
+{
+    let image = file_bytes(rt, path, MOST_IMAGE)?;
+    match try_to(rt.alloc(), image.bytes(), out) {
+        Ok(_) => Ok(TriedFile { image }),
+        Err(fault) => Err(Stop::Refused(Fault::of_try(&fault))),
+    }
+}
+
+/// `verify`. The dictionary is read before the image. What is printed goes to this device.
+pub fn verify_files<'a, R: Files + AllocGlobal, W: Output>(
     rt: &R,
     dict: &'a str,
     image: &'a str,
+    out: &mut W,
 ) -> Result<VerifiedFiles<'a, R::File>, Stop>
-    // The files were opened by their paths, and the image may run.
-    ensures { IfOk result (VerifiesFiles (told_by (⟦<Reads<R::File> as Input>⟧.given)
-        (⟦<Writes<R::File> as Output>⟧.taken) (⟦<Writes<R::File> as Output>⟧.has_failed)) dict.now image.now) }
+    // The files were opened by their paths, the image may run, and what is known of it was printed.
+    ensures verifies { IfOk result (PrintsVerdict (told_by (⟦<Reads<R::File> as Input>⟧.given)
+        (⟦<Writes<R::File> as Output>⟧.taken) (⟦<Writes<R::File> as Output>⟧.has_failed)) dict.now image.now (W.taken out.old) (W.taken out.new)) }
+    // Why not: a file was not read, or what they gave may not run.
+    ensures stops { IfErr result (StopsVerify (⟦<Reads<R::File> as Input>⟧.given) dict.now image.now) }
 {
     let dict = file_text(rt, dict, TOO_MANY)?;
     let image = file_bytes(rt, image, MOST_IMAGE)?;
-    let buffer = match BufWriter::new(rt.alloc(), io::writer(rt)) {
-        Ok(buffer) => buffer,
-        Err(error) => return Err(Stop::of_failure(Asked::Write, error.kind())),
-    };
-    let mut out = Writes::new(buffer);
-    match verify_to(rt.alloc(), dict.bytes(), image.bytes(), &mut out) {
-        Ok(()) => {}
-        Err(fault) => return Err(Stop::Refused(Fault::of_verify(&fault))),
-    }
-    match out.into_inner().flush() {
+    match verify_to(rt.alloc(), dict.bytes(), image.bytes(), out) {
         Ok(()) => Ok(VerifiedFiles { dict, image }),
-        Err(_) => Err(Stop::of_number(WRITE_FAILED)),
+        Err(fault) => Err(Stop::Refused(Fault::of_verify(&fault))),
     }
 }
 
 /// `compile`, and how many bytes the image has.
-pub fn compile_and_tell<R: Files + Print + AllocGlobal>(
+pub fn compile_and_tell<R: Files + AllocGlobal, W: Output>(
     rt: &R,
     paths: &CompilePaths<'_>,
-) -> Result<(), Stop> {
+    out: &mut W,
+) -> Result<(), Stop>
+    ensures { DoesCompile (told_by (⟦<Reads<R::File> as Input>⟧.given)
+        (⟦<Writes<R::File> as Output>⟧.taken) (⟦<Writes<R::File> as Output>⟧.has_failed)) paths.now result (W.taken out.old) (W.taken out.new) }
+{
     let compiled = compile_files(rt, paths)?;
-    let mut out = Writes::new(io::writer(rt));
-    match write_compiled(compiled.len, &mut out) {
-        Ok(()) => Ok(()),
-        Err(_) => Err(Stop::of_number(WRITE_FAILED)),
-    }
+    printed(write_compiled(compiled.len, out))
 }
 
 /// `run`, and what it counted.
-pub fn run_and_tell<R: Files + Print + AllocGlobal>(
+pub fn run_and_tell<R: Files + AllocGlobal, W: Output>(
     rt: &R,
     paths: &RunPaths<'_>,
-) -> Result<(), Stop> {
+    out: &mut W,
+) -> Result<(), Stop>
+    ensures { DoesRun (told_by (⟦<Reads<R::File> as Input>⟧.given)
+        (⟦<Writes<R::File> as Output>⟧.taken) (⟦<Writes<R::File> as Output>⟧.has_failed)) paths.now result (W.taken out.old) (W.taken out.new) }
+{
     let ran = run_files(rt, paths)?;
     let RanFiles { program, .. } = ran;
     let RanImage { run, .. } = program;
-    tell_totals(rt, run.into_totals()?)
+    tell_totals(run.into_totals(), out)
 }
 
 /// `edit`, and what it counted.
-pub fn edit_and_tell<R: Files + Print + AllocGlobal>(
+pub fn edit_and_tell<R: Files + AllocGlobal, W: Output>(
     rt: &R,
     paths: &EditPaths<'_>,
-) -> Result<(), Stop> {
+    out: &mut W,
+) -> Result<(), Stop>
+    ensures { DoesEdit (told_by (⟦<Reads<R::File> as Input>⟧.given)
+        (⟦<Writes<R::File> as Output>⟧.taken) (⟦<Writes<R::File> as Output>⟧.has_failed)) paths.now result (W.taken out.old) (W.taken out.new) }
+{
     let edited = edit_files(rt, paths)?;
     let EditedFiles { run, .. } = edited;
-    tell_totals(rt, run.into_totals()?)
+    tell_totals(run.into_totals(), out)
 }
 
-/// Prints what a run counted.
-fn tell_totals<R: Print>(rt: &R, totals: Totals) -> Result<(), Stop> {
-    let mut out = Writes::new(io::writer(rt));
-    match write_totals(totals, &mut out) {
-        Ok(()) => Ok(()),
-        Err(_) => Err(Stop::of_number(WRITE_FAILED)),
+/// Prints what a run counted, if it did not stop.
+fn tell_totals<W: Output>(counted: Result<Totals, Stop>, out: &mut W) -> Result<(), Stop>
+    ensures { PrintsTotals counted result (W.taken out.old) (W.taken out.new) }
+{
+    match counted {
+        Ok(totals) => printed(write_totals(totals, out)),
+        Err(stop) => Err(stop),
     }
 }
 
 /// `--version`.
-fn tell_version<R: Print>(rt: &R) -> Result<(), Stop> {
-    let mut out = Writes::new(io::writer(rt));
-    match write_version(&mut out) {
+fn tell_version<W: Output>(out: &mut W) -> Result<(), Stop>
+    ensures { Prints (version_line VERSION.now) result (W.taken out.old) (W.taken out.new) }
+{
+    printed(write_version(out))
+}
+
+/// That a text was printed, or that the device failed.
+fn printed(written: Result<(), Failed>) -> Result<(), Stop>
+    ensures { result ≡ printing written }
+{
+    match written {
         Ok(()) => Ok(()),
-        Err(_) => Err(Stop::of_number(WRITE_FAILED)),
+        Err(Failed) => Err(Stop::of_number(WRITE_FAILED)),
     }
 }

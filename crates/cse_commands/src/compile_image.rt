@@ -4,6 +4,7 @@ ghost use Rattle.std.specs.Prelude.{IfOk, IfErr};
 ghost use Rattle.cse_build.specs.Build.{IsBuilt};
 ghost use Rattle.cse_build.specs.Meant.{MeansLogic};
 ghost use Rattle.cse_commands.specs.Compiled.{AreCompilePaths, CompilesFiles};
+ghost use Rattle.cse_commands.specs.Halts.{StopsCompile};
 ghost use Rattle.cse_commands.specs.Ran.{told_by};
 ghost use Rattle.cse_commands.specs.Stops.{TellsBuildFault};
 
@@ -34,6 +35,8 @@ pub fn compile_files<'a, R: Files + AllocGlobal>(
     // The image's file took the image that is built of what the files of the texts gave.
     ensures compiles { IfOk result (CompilesFiles (told_by (⟦<Reads<R::File> as Input>⟧.given)
         (⟦<Writes<R::File> as Output>⟧.taken) (⟦<Writes<R::File> as Output>⟧.has_failed))) }
+    // Why there is no image: two files are one; or, in order, the first file that was not read, not accepted or not written.
+    ensures stops { IfErr result (StopsCompile (⟦<Reads<R::File> as Input>⟧.given) paths.now) }
 {
     see_apart(rt, &uses_of_compile(rt.alloc(), paths)?)?;
     let dict = file_text(rt, paths.dict, TOO_MANY)?;

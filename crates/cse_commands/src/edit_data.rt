@@ -10,6 +10,7 @@ ghost use Rattle.cse_commands.specs.Edited.{AreEditPaths, EditsFiles, EditsFrom,
 ghost use Rattle.cse_commands.specs.Ran.{AreOpened, AreOpenedFrom, told_by};
 ghost use Rattle.cse_commands.specs.Allowed.{KeepsToSteps};
 ghost use Rattle.cse_commands.specs.Stops.{HasNumber, IsNotOpened};
+ghost use Rattle.cse_commands.specs.Halts.{StopsBuilt, StopsEdit, StopsFrom, StopsStart, StopsWithin};
 ghost use Rattle.cse_code_bounds.specs.EventBound.{case_bound};
 
 use crate::apart::{see_apart, uses_of_edit};
@@ -49,6 +50,8 @@ pub fn edit_files<'a, R: Files + AllocGlobal>(
     // The outputs took what the logic means over the data, by what the files of the texts gave.
     ensures edits { IfOk result (EditsFiles (told_by (⟦<Reads<R::File> as Input>⟧.given)
         (⟦<Writes<R::File> as Output>⟧.taken) (⟦<Writes<R::File> as Output>⟧.has_failed))) }
+    // Why there is no edit: two files are one; or, in order, the first file that was not opened, not read or not accepted.
+    ensures stops { IfErr result (StopsEdit (⟦<Reads<R::File> as Input>⟧.given) paths.now) }
 {
     see_apart(rt, &uses_of_edit(rt.alloc(), paths)?)?;
     let dict = file_text(rt, paths.run.dict, TOO_MANY)?;
@@ -92,6 +95,7 @@ fn edit_with<'a, R: Files + AllocGlobal>(
         (⟦<Writes<R::File> as Output>⟧.taken) (⟦<Writes<R::File> as Output>⟧.has_failed)) paths.now) }
     ensures edits { IfOk result (EditsFrom (told_by (⟦<Reads<R::File> as Input>⟧.given)
         (⟦<Writes<R::File> as Output>⟧.taken) (⟦<Writes<R::File> as Output>⟧.has_failed)) text.now logic.now messages.now order.now) }
+    ensures stops { IfErr result (StopsBuilt (⟦<Reads<R::File> as Input>⟧.given) paths.now dictionary.now logic.now messages.now order.now) }
 {
     let image = image_of(rt.alloc(), dictionary, logic, messages, order)?;
     match check_image(rt.alloc(), dictionary, &image) {
@@ -120,6 +124,8 @@ pub fn edit_within<'a, R: Files + AllocGlobal, C: Code>(
         (⟦<Writes<R::File> as Output>⟧.taken) (⟦<Writes<R::File> as Output>⟧.has_failed)) paths.now) }
     ensures edits { IfOk result (EditsFrom (told_by (⟦<Reads<R::File> as Input>⟧.given)
         (⟦<Writes<R::File> as Output>⟧.taken) (⟦<Writes<R::File> as Output>⟧.has_failed)) text.now logic.now messages.now order.now) }
+    // Why there is no edit.
+    ensures stops { IfErr result (StopsWithin (⟦<Reads<R::File> as Input>⟧.given) paths.now verified.now (StopsStart verified.now.image)) }
 {
     allow_steps(paths.case_steps, verified.case_steps())?;
     edit_verified(rt, verified, text, logic, messages, order, image, paths)
@@ -144,6 +150,7 @@ fn edit_verified<'a, R: Files + AllocGlobal, C: Code>(
     ensures edits { IfOk result (EditsFrom (told_by (⟦<Reads<R::File> as Input>⟧.given)
         (⟦<Writes<R::File> as Output>⟧.taken) (⟦<Writes<R::File> as Output>⟧.has_failed)) text.now logic.now messages.now order.now) }
     ensures fault { IfErr result HasNumber }
+    ensures stops { IfErr result (StopsFrom (⟦<Reads<R::File> as Input>⟧.given) paths.now (StopsStart verified.now.image)) }
 {
     let decks = bytes_where_there(rt, paths.decks, MOST_DECKS)?;
     let ran = edit_texts(
@@ -185,6 +192,8 @@ pub fn edit_texts<'a, R: Files + AllocGlobal, C: Code>(
         (⟦<Writes<R::File> as Output>⟧.taken) (⟦<Writes<R::File> as Output>⟧.has_failed)) text.now logic.now messages.now order.now (option_copied decks.entry)) }
     ensures fault { IfErr result HasNumber }
     ensures told { IfOk result (λ ran. IfErr ran.told HasNumber) }
+    // There is no store to begin with; or there is one, and a file can't be opened.
+    ensures stops { IfErr result (StopsStart verified.now.image (option_copied decks.entry)) }
 {
     match starting_store(rt.alloc(), verified.program(), decks) {
         Ok(store) => edit_over(

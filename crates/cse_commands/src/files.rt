@@ -3,8 +3,9 @@
 ghost use Rattle.std.specs.Prelude.{◌≡◌, [], false, None, IfErr, IfOk, IfSome, option_copied, option_map};
 ghost use Rattle.cse_value.specs.Sound.{are_given};
 ghost use Rattle.cse_files.specs.Whole.{IsAll, IsWhole};
-ghost use Rattle.cse_commands.specs.Stops.{HasNumber, IsNotOpened};
+ghost use Rattle.cse_commands.specs.Stops.{HasNumber, IsNotOpened, TellsUnwritten};
 ghost use Rattle.cse_commands.specs.Named.{IsNamed, text_or_none};
+ghost use Rattle.cse_commands.specs.Unread.{TellsNoText, TellsNoTextIfNamed, TellsUnread, TellsUnreadIfNamed};
 
 use crate::outcome::{Asked, Stop};
 use cse_files::{
@@ -61,6 +62,7 @@ pub fn file_bytes<'a, R: Files + AllocGlobal>(
     ensures path { IfOk result (λ f. f.input.path.now ≡ path.now) }
     ensures whole { IfOk result (λ f. IsWhole (⟦<Reads<R::File> as Input>⟧.given f.input.device) f.bytes.items most) }
     ensures fault { IfErr result HasNumber }
+    ensures unread { IfErr result (TellsUnread (⟦<Reads<R::File> as Input>⟧.given) path.now) }
 {
     match read_whole(rt, path, most) {
         Ok(file) => Ok(file),
@@ -78,6 +80,7 @@ pub fn file_text<'a, R: Files + AllocGlobal>(
     ensures path { IfOk result (λ f. f.input.path.now ≡ path.now) }
     ensures all { IfOk result (λ f. IsAll (⟦<Reads<R::File> as Input>⟧.given f.input.device) f.bytes.items) }
     ensures fault { IfErr result HasNumber }
+    ensures no_text { IfErr result (TellsNoText (⟦<Reads<R::File> as Input>⟧.given) path.now too_long) }
 {
     let text = file_bytes(rt, path, MOST_TEXT)?;
     if text.bytes().len() as u64 > MOST_TEXT {
@@ -95,6 +98,7 @@ pub fn text_where_named<'a, R: Files + AllocGlobal>(
     ensures path { IfOk result (λ text. option_map (λ f. f.input.path.now) text ≡ option_map (λ p. p.now) path.entry) }
     ensures all { IfOk result (λ text. IfSome text (λ f. IsAll (⟦<Reads<R::File> as Input>⟧.given f.input.device) f.bytes.items)) }
     ensures fault { IfErr result HasNumber }
+    ensures no_text { IfErr result (TellsNoTextIfNamed (⟦<Reads<R::File> as Input>⟧.given) (option_map (λ p. p.now) path.entry) too_long) }
 {
     match path {
         Some(path) => Ok(Some(file_text(rt, path, too_long)?)),
@@ -111,6 +115,7 @@ pub fn bytes_where_there<'a, R: Files + AllocGlobal>(
     ensures path { IfOk result (λ read. IsNamed (option_map (λ p. p.now) path.entry) (option_map (λ f. f.input.path.now) read)) }
     ensures whole { IfOk result (λ read. IfSome read (λ f. IsWhole (⟦<Reads<R::File> as Input>⟧.given f.input.device) f.bytes.items most)) }
     ensures fault { IfErr result HasNumber }
+    ensures unread { IfErr result (TellsUnreadIfNamed (⟦<Reads<R::File> as Input>⟧.given) (option_map (λ p. p.now) path.entry)) }
 {
     let Some(path) = path else {
         return Ok(None);
@@ -151,6 +156,7 @@ pub fn write_file<'a, R: Files + AllocGlobal>(
     ensures path { IfOk result (λ f. f.path.now ≡ path.now) }
     ensures taken { IfOk result (λ f. ⟦<Writes<R::File> as Output>⟧.taken f.device ≡ bytes.now) }
     ensures fault { IfErr result HasNumber }
+    ensures unwritten { IfErr result TellsUnwritten }
 {
     match replace(rt, path, bytes) {
         Ok(file) => Ok(file),

@@ -77,9 +77,11 @@ impl Stop {
 }
 
 impl From<AllocError> for Stop {
-    fn from(_refused: AllocError) -> Stop
-        ensures { result ≡ Stop.Refused (plain_fault 90) }
-    {
+    ghost use Rattle.cse_commands.specs.declared.outcome.Stop.TheVariants.{Refused};
+
+    ghost from_gives = { λ _ stop. stop ≡ Refused (plain_fault 90) };
+
+    fn from(_refused: AllocError) -> Stop {
         Stop::of_number(NO_MEMORY)
     }
 }

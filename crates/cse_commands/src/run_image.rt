@@ -5,7 +5,8 @@ ghost use Rattle.cse_code_bounds.specs.EventBound.{case_bound};
 ghost use Rattle.cse_decks.specs.Store.{Kept, StoreFits, first_kept};
 ghost use Rattle.cse_decks.specs.DeckText.{IsDeckText};
 ghost use Rattle.cse_batch.specs.RunClauses.{RunsWhole, contents, failures};
-ghost use Rattle.cse_commands.specs.Stops.{HasNumber, IsMemory, IsNotOpened, IsStoreOf, TellsDeckFault, TellsRunFault};
+ghost use Rattle.cse_commands.specs.Stops.{HasNumber, IsMemory, IsNotOpened, IsStoreOf, TellsDeckFault, TellsRunFault, TellsUnwritten};
+ghost use Rattle.cse_commands.specs.Halts.{StopsFrom, StopsImage, StopsRun, StopsStore, StopsWithin};
 ghost use Rattle.cse_commands.specs.Ran.{AreOpened, AreOpenedFrom, AreRunPaths, AreUnsynced, KeepsText, RunsFiles, RunsFrom, RunsImage, RunsStore, told_by};
 ghost use Rattle.cse_commands.specs.Allowed.{KeepsToSteps, steps_allowed};
 
@@ -50,6 +51,8 @@ pub fn run_files<'a, R: Files + AllocGlobal>(
     // What the files gave is a dictionary, an image and decks that go together; and the outputs took what comes of these and the data.
     ensures runs { IfOk result (RunsFiles (told_by (⟦<Reads<R::File> as Input>⟧.given)
         (⟦<Writes<R::File> as Output>⟧.taken) (⟦<Writes<R::File> as Output>⟧.has_failed))) }
+    // Why there is no run: two files are one; or, in order, the first file that was not opened, not read or not accepted.
+    ensures stops { IfErr result (StopsRun (⟦<Reads<R::File> as Input>⟧.given) paths.now) }
 {
     see_apart(rt, &uses_of_run(rt.alloc(), paths)?)?;
     let dict = file_text(rt, paths.dict, TOO_MANY)?;
@@ -71,6 +74,7 @@ fn run_with<'a, R: Files + AllocGlobal>(
         (⟦<Writes<R::File> as Output>⟧.taken) (⟦<Writes<R::File> as Output>⟧.has_failed)) paths.now ran.run) }
     ensures runs { IfOk result (RunsImage (told_by (⟦<Reads<R::File> as Input>⟧.given)
         (⟦<Writes<R::File> as Output>⟧.taken) (⟦<Writes<R::File> as Output>⟧.has_failed)) dictionary.now) }
+    ensures stops { IfErr result (StopsImage (⟦<Reads<R::File> as Input>⟧.given) paths.now dictionary.now) }
 {
     let image = file_bytes(rt, paths.image, MOST_IMAGE)?;
     let run = match check_image(rt.alloc(), dictionary, image.bytes()) {
@@ -92,6 +96,8 @@ pub fn run_within<'a, R: Files + AllocGlobal, C: Code>(
         (⟦<Writes<R::File> as Output>⟧.taken) (⟦<Writes<R::File> as Output>⟧.has_failed)) paths.now) }
     ensures runs { IfOk result (RunsFrom (told_by (⟦<Reads<R::File> as Input>⟧.given)
         (⟦<Writes<R::File> as Output>⟧.taken) (⟦<Writes<R::File> as Output>⟧.has_failed)) verified.now) }
+    // Why there is no run.
+    ensures stops { IfErr result (StopsWithin (⟦<Reads<R::File> as Input>⟧.given) paths.now verified.now (StopsStore verified.now.image)) }
 {
     allow_steps(paths.case_steps, verified.case_steps())?;
     run_verified(rt, verified, paths)
@@ -118,6 +124,7 @@ fn run_verified<'a, R: Files + AllocGlobal, C: Code>(
     ensures runs { IfOk result (RunsFrom (told_by (⟦<Reads<R::File> as Input>⟧.given)
         (⟦<Writes<R::File> as Output>⟧.taken) (⟦<Writes<R::File> as Output>⟧.has_failed)) verified.now) }
     ensures fault { IfErr result HasNumber }
+    ensures stops { IfErr result (StopsFrom (⟦<Reads<R::File> as Input>⟧.given) paths.now (StopsStore verified.now.image)) }
 {
     let decks = bytes_where_there(rt, paths.decks, MOST_DECKS)?;
     let store = store_of(rt.alloc(), verified.program(), bytes_of(&decks))?;
@@ -152,7 +159,7 @@ pub(crate) fn keep_decks<'a, R: Files + AllocGlobal>(
 
 /// Sees that the disk has what an output took, if that is asked: 71 where it has not.
 fn see_synced<F: Write + OpenFile>(output: &OpenedOutput<'_, F>) -> Result<(), Stop>
-    ensures fault { IfErr result HasNumber }
+    ensures fault { IfErr result TellsUnwritten }
     ensures unsynced { output.now.same ≡ None → result ≡ Ok tt }
 {
     match output.sync() {

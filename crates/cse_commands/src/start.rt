@@ -1,16 +1,19 @@
 //! The start of the program: a command is carried out, what it has not done is told, and its status answered.
 
-ghost use Rattle.std.specs.Prelude.{◌≡◌, false};
+ghost use Rattle.std.specs.Prelude.{◌≡◌, ℕ, Bool, List, [], false};
+ghost use Rattle.std.specs.Process.{exit_status as code_of};
 ghost use Rattle.cse_value.specs.Device.{Appends};
 ghost use Rattle.cse_value.specs.Writing.{AppendsFront, FailsAtErr, WritesAll};
 ghost use Rattle.cse_commands.specs.Ending.{exit_status};
 ghost use Rattle.cse_commands.specs.FaultLine.{outcome_text};
+ghost use Rattle.cse_commands.specs.Program.{EndsProgram};
+ghost use Rattle.cse_commands.specs.Ran.{told_by};
 ghost use Rattle.cse_commands.specs.declared.start.TheConstants.{USAGE};
 
 use crate::commands::carry_out;
 use crate::fault::{fault_line, write_one_file, write_steps_above};
 use crate::outcome::{Stop, exit_status};
-use cse_value::{Failed, Output, Writes, write_all};
+use cse_value::{Failed, Input, Output, Reads, Writes, write_all};
 use std::process::ExitCode;
 use std::rt::{Env, Files};
 
@@ -39,7 +42,12 @@ words are a command.
 ";
 
 /// The program: it does what its words ask for, and tells on standard error what it has not done.
-pub fn start(rt: HostRuntime) -> ExitCode {
+pub fn start(rt: HostRuntime) -> ExitCode
+    // The status is that of what the command came to, and standard error took what is told of it.
+    ensures { (failed : Bool) × ((new : List ℕ) × EndsProgram (told_by (⟦<Reads<<HostRuntime as Files>::File> as Input>⟧.given)
+        (⟦<Writes<<HostRuntime as Files>::File> as Output>⟧.taken) (⟦<Writes<<HostRuntime as Files>::File> as Output>⟧.has_failed))
+        USAGE.now (code_of result) failed [] new) }
+{
     let mut errors = Writes::new(rt.stderr());
     ExitCode::from(carry_out_and_tell(&rt, &mut errors))
 }
@@ -48,7 +56,12 @@ pub fn start(rt: HostRuntime) -> ExitCode {
 pub fn carry_out_and_tell<R: Env + Files + Print + AllocGlobal, W: Output>(
     rt: &R,
     errors: &mut W,
-) -> u8 {
+) -> u8
+    // What the words ask for came to something, whose status and whose text these are.
+    ensures { EndsProgram (told_by (⟦<Reads<R::File> as Input>⟧.given)
+        (⟦<Writes<R::File> as Output>⟧.taken) (⟦<Writes<R::File> as Output>⟧.has_failed))
+        USAGE.now result (W.has_failed errors.new) (W.taken errors.old) (W.taken errors.new) }
+{
     let outcome = carry_out(rt);
     tell(&outcome, errors)
 }

@@ -1,0 +1,23 @@
+use Rattle.std.proofs.Common.{Result, inl, inr, refl, subst}
+use Rattle.std.proofs.lemmas.Result.{err_from_is_err_and}
+use Rattle.cse_batch.specs.declared.totals.Totals.{Totals}
+use Rattle.cse_commands.specs.declared.outcome.Stop.{Stop}
+use Rattle.cse_commands.specs.Does.{PrintsTotals}
+use Rattle.cse_commands.proofs.commands.edit_and_tell.Goals as goal
+
+pub returns-in_err-edited : goal.returns-in_err-edited
+returns-in_err-edited g c =
+    let p = err_from_is_err_and c.from_residual.result c.from_residual.ensures.1 in
+    rw (p.1, p.2) (inl (c.in_err-edited.ensures.stops, refl))
+
+pub returns : goal.returns
+returns g c =
+    inr
+    (record {
+      ran = c.in_ok-edited.edited;
+      paths = c.in_ok-edited.ensures.paths;
+      edits = c.in_ok-edited.ensures.edits;
+      prints =
+          subst (λ (counted : Result Totals Stop). PrintsTotals counted c.tell_totals.result (g.W.Output.taken c.args.out.now) (g.W.Output.taken c.tell_totals.new.out))
+          c.into_totals.ensures c.tell_totals.ensures;
+    })
