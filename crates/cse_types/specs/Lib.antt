@@ -6,3 +6,4 @@ pub mod Entries
 pub mod Checked
 pub mod Parts
 pub mod Answer
+pub mod SourceFaults
