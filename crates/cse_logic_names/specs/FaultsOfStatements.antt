@@ -75,10 +75,14 @@ alone_faults c s token n _ = only 40 token
 
 -- ---- loops
 
--- the variable of a loop; that of one whose name means none is one that nothing names
-abbrev pub variable_or : Scope → Option Variable → Variable
-variable_or s None = v.Parameter (length s.parameters)
-variable_or s (Some x) = x
+-- a parameter that no function has
+abbrev pub nothing_named : Variable
+nothing_named = v.Parameter 18446744073709551615
+
+-- the variable of a loop, also where its name means none
+abbrev pub variable_or : Option Variable → Variable
+variable_or None = nothing_named
+variable_or (Some x) = x
 
 abbrev pub record_in : Option Meaning → Option ℕ
 record_in (Some (m.Record x)) = Some x
@@ -86,10 +90,10 @@ record_in _ = None
 
 -- the scope of the body of a `for`, and of a `do`, also where the head is at fault
 abbrev pub for_scope : Scope → Spelling → Spelling → Scope
-for_scope s variable record_name = within s (record_in (meant s record_name)) (variable_or s (loop_variable s variable))
+for_scope s variable record_name = within s (record_in (meant s record_name)) (variable_or (loop_variable s variable))
 
 abbrev pub do_scope : Scope → Spelling → Scope
-do_scope s variable = within s None (variable_or s (loop_variable s variable))
+do_scope s variable = within s None (variable_or (loop_variable s variable))
 
 abbrev pub digits_faults : Spelling → List Fault
 digits_faults digits = unless (is_there (value_of digits)) 44 digits.token

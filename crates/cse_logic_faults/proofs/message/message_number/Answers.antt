@@ -1,0 +1,9 @@
+use Rattle.std.proofs.Common.{◌∙◌}
+use Rattle.cse_logic_faults.proofs.Numbers.{no_number_is, number_is}
+use Rattle.cse_logic_faults.proofs.message.message_number.Goals as goal
+
+pub returns-in-None : goal.returns-in-None
+returns-in-None c = no_number_is c.args.digits.now c.in-None.ensures
+
+pub returns-in-Some : goal.returns-in-Some
+returns-in-Some c = c.in_range.ensures ∙ number_is c.args.digits.now c.in-Some.number c.in-Some.ensures.0 c.in-Some.ensures.1

@@ -1,0 +1,5 @@
+pub mod Listed
+pub mod Decks
+pub mod Operators
+pub mod Numbers
+pub mod Least
