@@ -5,9 +5,9 @@ use Rattle.cse_image_parts.specs.declared.placeholders.ArgumentKind.{ArgumentKin
 use Rattle.cse_syntax_tree.specs.declared.tree.Expression.{Expression}
 use Rattle.cse_syntax_tree.specs.Tree.{expr, exprs}
 use Rattle.cse_logic_names.specs.Scope.{Scope}
-use Rattle.cse_logic_names.specs.Faults.{Fault, Counts}
-use Rattle.cse_logic_names.specs.FaultsOfExpressions.{expr_faults}
-use Rattle.cse_logic_names.specs.FaultsOfStatements.{values_faults, arguments_faults}
+use Rattle.cse_logic_faults.specs.Faults.{Fault, Counts}
+use Rattle.cse_logic_faults.specs.FaultsOfExpressions.{expr_faults}
+use Rattle.cse_logic_faults.specs.FaultsOfStatements.{values_faults, arguments_faults}
 use Rattle.cse_logic_faults.specs.Operators.{argument_faults}
 use Rattle.cse_logic_names.proofs.Walks.{drop_is, past, append_none}
 

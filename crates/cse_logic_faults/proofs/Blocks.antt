@@ -10,9 +10,9 @@ use Rattle.cse_syntax_tree.specs.declared.tree.Arm as rustarm
 use Rattle.cse_syntax_tree.specs.Tree.{Expr, expr, Stmts, Arms, no_arm, else_of, arms, written, stmt, block, arm_tree, otherwise_tree, counting}
 use Rattle.cse_syntax_tree.proofs.Rows.{if_is, for_is, do_is}
 use Rattle.cse_logic_names.specs.Scope.{Scope}
-use Rattle.cse_logic_names.specs.Faults.{Fault, Counts}
-use Rattle.cse_logic_names.specs.FaultsOfExpressions.{number_faults}
-use Rattle.cse_logic_names.specs.FaultsOfStatements.{stmt_faults, stmts_faults, arms_faults, for_faults, for_scope, counting_faults, do_scope}
+use Rattle.cse_logic_faults.specs.Faults.{Fault, Counts}
+use Rattle.cse_logic_faults.specs.FaultsOfExpressions.{number_faults}
+use Rattle.cse_logic_faults.specs.FaultsOfStatements.{stmt_faults, stmts_faults, arms_faults, for_faults, for_scope, counting_faults, do_scope}
 use Rattle.cse_logic_faults.specs.Operators.{arm_faults}
 
 module _ (c : Counts) (s : Scope) where

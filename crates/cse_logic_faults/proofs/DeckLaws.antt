@@ -6,7 +6,7 @@ use Rattle.cse_logic_tree.specs.declared.tree.Dimension as rust
 use Rattle.cse_logic_tree.specs.declared.tree.Dimension.TheVariants as d
 use Rattle.cse_logic_tree.specs.Typed.{dimension}
 use Rattle.cse_logic_names.specs.Scope.{Scope}
-use Rattle.cse_logic_names.specs.FaultsOfExpressions.{is_deck, are_picked}
+use Rattle.cse_logic_faults.specs.FaultsOfExpressions.{is_deck, are_picked}
 use Rattle.cse_logic_faults.specs.Decks.{is_set, is_pick}
 
 pub deck_made : (xs : List rust.Dimension) → list_all (λ x. is_set (dimension x)) xs ≡ is_deck (map dimension xs)

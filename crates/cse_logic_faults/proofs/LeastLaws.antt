@@ -3,7 +3,7 @@ use Rattle.std.proofs.Common.{◌≡◌, ℕ, ◌≤◌, drop, Bool, true, false
 use Rattle.std.specs.Option.{option_map}
 use Rattle.std.proofs.lemmas.Bool.Decides.{nat_tests}
 use Rattle.cse_logic_names.specs.declared.faults.Fault as rust
-use Rattle.cse_logic_names.specs.Faults.{Fault, is_before, lesser, least_of}
+use Rattle.cse_logic_faults.specs.Faults.{Fault, is_before, lesser, least_of}
 use Rattle.cse_logic_faults.specs.Least.{lesser_so_far, both}
 use Rattle.cse_logic_faults.specs.Listed.{listed}
 use Rattle.cse_logic_names.proofs.Walks.{past}

@@ -1,6 +1,6 @@
 -- Faults that are found one list after the other.
 use Rattle.std.proofs.Common.{◌≡◌, ℕ, suc, ◌+◌, ◌<◌, ◌≤◌, get_or, drop, drop-cons, List, [], ◌∷◌, ◌++◌, length, ap, sym, ◌∙◌, append_assoc, arith}
-use Rattle.cse_logic_names.specs.Faults.{Fault}
+use Rattle.cse_logic_faults.specs.Faults.{Fault}
 use Rattle.cse_logic_names.proofs.Walks.{drop_is, past, append_none}
 
 -- two lists, one behind the other

@@ -14,9 +14,9 @@ use Rattle.cse_logic_names.specs.Scope.{Scope, meant}
 use Rattle.cse_syntax_tree.specs.First.{expr_token}
 use Rattle.cse_logic_names.specs.WellTyped.{may_divide}
 use Rattle.cse_logic_names.proofs.Walks.{drop_is, is_none, none_left, step_left}
-use Rattle.cse_logic_names.specs.Faults.{Fault, unless, Counts, ANumber, sort_of, indexed_sort}
+use Rattle.cse_logic_faults.specs.Faults.{Fault, unless, Counts, ANumber, sort_of, indexed_sort}
 use Rattle.cse_logic_faults.specs.Operators.{operation_faults}
-use Rattle.cse_logic_names.specs.FaultsOfExpressions.{expr_faults, numbers_faults, number_faults, operations_faults, indexed_faults, count_of, is_end}
+use Rattle.cse_logic_faults.specs.FaultsOfExpressions.{expr_faults, numbers_faults, number_faults, operations_faults, indexed_faults, count_of, is_end}
 
 pub count_is : (xs : List syntax.Expr) → count_of (exprs xs) ≡ length xs
 count_is [] = refl

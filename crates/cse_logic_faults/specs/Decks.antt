@@ -3,7 +3,7 @@ use Rattle.std.specs.Prelude.{Bool, true, false, slice_get}
 use Rattle.cse_logic_tree.specs.Typed.{Dimension, Sized, Rows}
 use Rattle.cse_logic_names.specs.Scope.{Scope}
 use Rattle.cse_logic_names.specs.WellTyped.{whole_set}
-use Rattle.cse_logic_names.specs.FaultsOfExpressions.{is_picked}
+use Rattle.cse_logic_faults.specs.FaultsOfExpressions.{is_picked}
 
 abbrev pub is_set : Dimension → Bool
 is_set (Sized digits size) = false

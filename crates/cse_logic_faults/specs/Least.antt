@@ -1,6 +1,6 @@
 -- The least of the faults so far, and of the others.
 use Rattle.std.specs.Prelude.{if◌then◌else◌, Option, Some, None}
-use Rattle.cse_logic_names.specs.Faults.{Fault, is_before, lesser}
+use Rattle.cse_logic_faults.specs.Faults.{Fault, is_before, lesser}
 
 abbrev pub lesser_so_far : Option Fault → Fault → Fault
 lesser_so_far None x = x

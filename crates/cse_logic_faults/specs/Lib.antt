@@ -1,3 +1,6 @@
+pub mod Faults
+pub mod FaultsOfExpressions
+pub mod FaultsOfStatements
 pub mod Listed
 pub mod Decks
 pub mod Operators

@@ -1,6 +1,6 @@
 -- Faults as values, and as the definitions have them.
 use Rattle.cse_logic_names.specs.declared.faults.Fault as rust
-use Rattle.cse_logic_names.specs.Faults.{Fault, fault, Sort, ANumber, AText, NoSort}
+use Rattle.cse_logic_faults.specs.Faults.{Fault, fault, Sort, ANumber, AText, NoSort}
 use Rattle.cse_logic_faults.specs.declared.kind.Kind.{Kind}
 use Rattle.cse_logic_faults.specs.declared.kind.Kind.TheVariants as k
 

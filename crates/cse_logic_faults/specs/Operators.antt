@@ -6,9 +6,9 @@ use Rattle.cse_syntax_tree.specs.First.{expr_token}
 use Rattle.cse_syntax_tree.specs.Tree.{Expr, Stmts}
 use Rattle.cse_logic_names.specs.Scope.{Scope}
 use Rattle.cse_logic_names.specs.WellTyped.{may_divide}
-use Rattle.cse_logic_names.specs.Faults.{Fault, unless, Counts, sort_of}
-use Rattle.cse_logic_names.specs.FaultsOfExpressions.{expr_faults, number_faults}
-use Rattle.cse_logic_names.specs.FaultsOfStatements.{is_of, stmts_faults}
+use Rattle.cse_logic_faults.specs.Faults.{Fault, unless, Counts, sort_of}
+use Rattle.cse_logic_faults.specs.FaultsOfExpressions.{expr_faults, number_faults}
+use Rattle.cse_logic_faults.specs.FaultsOfStatements.{is_of, stmts_faults}
 
 abbrev pub operation_faults : Counts → Scope → Bool → Operator × Expr → Bool → List Fault
 operation_faults c s top x last = unless (may_divide top x.0 last) 46 (expr_token x.1 - 1) ++ number_faults c s false x.1

@@ -1,7 +1,7 @@
 //! How many parameters and dimensions are declared.
 
 ghost use Rattle.std.specs.Prelude.{◌≡◌, [], slice_get};
-ghost use Rattle.cse_logic_names.specs.Faults as spec;
+ghost use Rattle.cse_logic_faults.specs.Faults as spec;
 
 use std::alloc::Global;
 use std::marker::Model;

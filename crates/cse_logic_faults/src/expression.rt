@@ -7,9 +7,9 @@ ghost use Rattle.cse_syntax_tree.specs.Tree.{written, expr, exprs, operations, o
 ghost use Rattle.cse_logic_names.specs.Scope as scopes;
 ghost use Rattle.cse_logic_names.specs.WellTyped.{may_divide, value_of};
 ghost use Rattle.cse_logic_names.specs.Walk.{is_there};
-ghost use Rattle.cse_logic_names.specs.Faults as faults;
-ghost use Rattle.cse_logic_names.specs.FaultsOfExpressions as spec;
-ghost use Rattle.cse_logic_names.specs.FaultsOfStatements.{digits_faults};
+ghost use Rattle.cse_logic_faults.specs.Faults as faults;
+ghost use Rattle.cse_logic_faults.specs.FaultsOfExpressions as spec;
+ghost use Rattle.cse_logic_faults.specs.FaultsOfStatements.{digits_faults};
 ghost use Rattle.cse_logic_faults.specs.Listed.{sort};
 ghost use Rattle.cse_logic_faults.specs.Operators.{operation_faults};
 
@@ -85,7 +85,7 @@ fn both_kinds(
 
 /// An expression. `top` tells whether it stands right inside `int`, where `/` may be its topmost operator.
 #[cycle(faults)]
-#[tactic(auto, unfolding(cse_logic_names::specs::FaultsOfExpressions::expr_faults), using(crate::proofs::Lists::behind))]
+#[tactic(auto, unfolding(crate::specs::FaultsOfExpressions::expr_faults), using(crate::proofs::Lists::behind))]
 pub fn expression(
     scope: &Scope<'_>,
     counts: &Counts,
@@ -140,7 +140,7 @@ pub fn number(
 
 /// `int` or `special`.
 #[cycle(faults)]
-#[tactic(auto, unfolding(cse_logic_names::specs::FaultsOfExpressions::expr_faults))]
+#[tactic(auto, unfolding(crate::specs::FaultsOfExpressions::expr_faults))]
 fn apply(
     scope: &Scope<'_>,
     counts: &Counts,

@@ -1,7 +1,7 @@
 //! The faults that were found.
 
 ghost use Rattle.std.specs.Prelude.{◌≡◌, ◌≤◌, ◌++◌, List, [], map, OnOk};
-ghost use Rattle.cse_logic_names.specs.Faults as spec;
+ghost use Rattle.cse_logic_faults.specs.Faults as spec;
 ghost use Rattle.cse_logic_faults.specs.Listed.{listed};
 
 use cse_logic_names::faults::Fault;
@@ -43,7 +43,7 @@ impl Found {
     }
 
     /// The same, unless the test holds.
-    #[tactic(auto, unfolding(cse_logic_names::specs::Faults::unless), using(cse_logic_names::proofs::Walks::append_none))]
+    #[tactic(auto, unfolding(crate::specs::Faults::unless), using(cse_logic_names::proofs::Walks::append_none))]
     pub fn unless(&mut self, holds: bool, number: u8, token: usize) -> Result<(), AllocError>
         requires least { 40 ≤ number }
         requires most { number ≤ 49 }

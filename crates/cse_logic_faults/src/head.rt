@@ -6,8 +6,8 @@ ghost use Rattle.cse_syntax_tree.specs.Tree as syntax;
 ghost use Rattle.cse_syntax_tree.specs.Tree.{written};
 ghost use Rattle.cse_logic_names.specs.Scope as scopes;
 ghost use Rattle.cse_logic_names.specs.WellTyped as well;
-ghost use Rattle.cse_logic_names.specs.Faults as faults;
-ghost use Rattle.cse_logic_names.specs.FaultsOfStatements as spec;
+ghost use Rattle.cse_logic_faults.specs.Faults as faults;
+ghost use Rattle.cse_logic_faults.specs.FaultsOfStatements as spec;
 
 use crate::expression::digits;
 use crate::found::Found;

@@ -4,7 +4,7 @@ ghost use Rattle.std.specs.Prelude.{◌≡◌, Some};
 ghost use Rattle.cse_syntax_tree.specs.Tree.{expr, written};
 ghost use Rattle.cse_logic_names.specs.declared.meaning.Meaning.TheVariants as m;
 ghost use Rattle.cse_logic_names.specs.Scope as scopes;
-ghost use Rattle.cse_logic_names.specs.Faults as spec;
+ghost use Rattle.cse_logic_faults.specs.Faults as spec;
 ghost use Rattle.cse_logic_faults.specs.Listed.{sort};
 
 use cse_dict::Dictionary;
@@ -106,7 +106,7 @@ fn indexed(scope: &Scope<'_>, name: Lexeme<'_>) -> Kind
 }
 
 /// What an expression is.
-#[tactic(auto, unfolding(cse_logic_names::specs::Faults::sort_of), using(crate::proofs::Nodes::indexed_sort_is, crate::proofs::Nodes::chain_sort_is))]
+#[tactic(auto, unfolding(crate::specs::Faults::sort_of), using(crate::proofs::Nodes::indexed_sort_is, crate::proofs::Nodes::chain_sort_is))]
 pub fn kind_of(scope: &Scope<'_>, x: &Expression<'_>) -> Kind
     ensures { sort result ≡ spec.sort_of scope.now (expr x.now) }
 {
@@ -128,7 +128,7 @@ pub fn kind_of(scope: &Scope<'_>, x: &Expression<'_>) -> Kind
 }
 
 /// Where a text stands: behind the parentheses around it.
-#[tactic(auto, unfolding(cse_logic_names::specs::Faults::text_token))]
+#[tactic(auto, unfolding(crate::specs::Faults::text_token))]
 pub fn text_token(x: &Expression<'_>) -> usize
     ensures { result ≡ spec.text_token (expr x.now) }
 {

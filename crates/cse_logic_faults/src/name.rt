@@ -4,7 +4,7 @@ ghost use Rattle.std.specs.Prelude.{◌≡◌, ◌++◌, Some, OnOk, slice_get};
 ghost use Rattle.std.specs.List.{list_any};
 ghost use Rattle.cse_syntax_tree.specs.Tree.{written};
 ghost use Rattle.cse_logic_names.specs.Scope as scopes;
-ghost use Rattle.cse_logic_names.specs.FaultsOfExpressions as spec;
+ghost use Rattle.cse_logic_faults.specs.FaultsOfExpressions as spec;
 ghost use Rattle.cse_logic_names.specs.Walk.{is_there};
 
 use crate::counts::{Counts, is_count};

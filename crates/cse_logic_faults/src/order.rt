@@ -2,7 +2,7 @@
 
 ghost use Rattle.std.specs.Prelude.{◌≡◌, map};
 ghost use Rattle.std.specs.Option.{option_map};
-ghost use Rattle.cse_logic_names.specs.Faults as spec;
+ghost use Rattle.cse_logic_faults.specs.Faults as spec;
 ghost use Rattle.cse_logic_faults.specs.Listed.{listed};
 ghost use Rattle.cse_logic_faults.specs.Least.{lesser_so_far};
 

@@ -4,9 +4,9 @@ ghost use Rattle.std.specs.Prelude.{◌≡◌, ◌++◌, ◌==◌, not, OnOk};
 ghost use Rattle.std.specs.List.{list_any};
 ghost use Rattle.cse_syntax_tree.specs.Tree.{written};
 ghost use Rattle.cse_logic_names.specs.Scope as scopes;
-ghost use Rattle.cse_logic_names.specs.Faults as faults;
-ghost use Rattle.cse_logic_names.specs.FaultsOfExpressions as expressions;
-ghost use Rattle.cse_logic_names.specs.FaultsOfStatements as spec;
+ghost use Rattle.cse_logic_faults.specs.Faults as faults;
+ghost use Rattle.cse_logic_faults.specs.FaultsOfExpressions as expressions;
+ghost use Rattle.cse_logic_faults.specs.FaultsOfStatements as spec;
 ghost use Rattle.cse_logic_faults.specs.Listed.{sort};
 
 use crate::counts::Counts;

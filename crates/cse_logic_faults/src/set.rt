@@ -7,7 +7,7 @@ ghost use Rattle.cse_syntax_tree.specs.Tree.{written};
 ghost use Rattle.cse_logic_tree.specs.Typed.{dimension};
 ghost use Rattle.cse_logic_names.specs.Scope as scopes;
 ghost use Rattle.cse_logic_names.specs.WellTyped as well;
-ghost use Rattle.cse_logic_names.specs.FaultsOfExpressions as spec;
+ghost use Rattle.cse_logic_faults.specs.FaultsOfExpressions as spec;
 ghost use Rattle.cse_logic_faults.specs.Decks as decks;
 
 use crate::found::Found;

@@ -4,7 +4,7 @@ ghost use Rattle.std.specs.Prelude.{◌≡◌, ◌++◌, false, map, drop, lengt
 ghost use Rattle.cse_syntax_tree.specs.Tree as syntax;
 ghost use Rattle.cse_syntax_tree.specs.Tree.{written, expr, exprs, stmt, arm_tree};
 ghost use Rattle.cse_logic_names.specs.Scope as scopes;
-ghost use Rattle.cse_logic_names.specs.FaultsOfStatements as spec;
+ghost use Rattle.cse_logic_faults.specs.FaultsOfStatements as spec;
 ghost use Rattle.cse_logic_faults.specs.Operators.{arm_faults};
 
 use crate::counts::Counts;
@@ -21,7 +21,7 @@ use cse_syntax_tree::{Arm, Expression, Lexeme, Place, Statement};
 use std::alloc::AllocError;
 
 /// An assignment.
-#[tactic(auto, unfolding(cse_logic_names::specs::FaultsOfStatements::stmt_faults), using(crate::proofs::Lists::behind, crate::proofs::Nodes::values_count))]
+#[tactic(auto, unfolding(crate::specs::FaultsOfStatements::stmt_faults), using(crate::proofs::Lists::behind, crate::proofs::Nodes::values_count))]
 fn assignment(
     scope: &Scope<'_>,
     counts: &Counts,
@@ -47,7 +47,7 @@ fn assignment(
 }
 
 /// An imputation.
-#[tactic(auto, unfolding(cse_logic_names::specs::FaultsOfStatements::stmt_faults), using(crate::proofs::Lists::behind, crate::proofs::Nodes::values_count))]
+#[tactic(auto, unfolding(crate::specs::FaultsOfStatements::stmt_faults), using(crate::proofs::Lists::behind, crate::proofs::Nodes::values_count))]
 fn imputation(
     scope: &Scope<'_>,
     counts: &Counts,
@@ -63,7 +63,7 @@ fn imputation(
 }
 
 /// A call that stands alone.
-#[tactic(auto, unfolding(cse_logic_names::specs::FaultsOfStatements::stmt_faults), using(crate::proofs::Lists::behind, crate::proofs::Nodes::values_count))]
+#[tactic(auto, unfolding(crate::specs::FaultsOfStatements::stmt_faults), using(crate::proofs::Lists::behind, crate::proofs::Nodes::values_count))]
 fn call(
     scope: &Scope<'_>,
     counts: &Counts,
@@ -78,7 +78,7 @@ fn call(
 }
 
 /// A value that is put into a hot deck.
-#[tactic(auto, unfolding(cse_logic_names::specs::FaultsOfStatements::stmt_faults), using(crate::proofs::Lists::behind))]
+#[tactic(auto, unfolding(crate::specs::FaultsOfStatements::stmt_faults), using(crate::proofs::Lists::behind))]
 fn put_deck(
     scope: &Scope<'_>,
     counts: &Counts,
@@ -94,7 +94,7 @@ fn put_deck(
 
 /// A statement.
 #[cycle(act)]
-#[tactic(auto, unfolding(cse_logic_names::specs::FaultsOfStatements::stmt_faults))]
+#[tactic(auto, unfolding(crate::specs::FaultsOfStatements::stmt_faults))]
 fn statement(
     scope: &mut Scope<'_>,
     counts: &Counts,

@@ -7,6 +7,3 @@ pub mod Uses
 pub mod WellTyped
 pub mod Walk
 pub mod Gather
-pub mod Faults
-pub mod FaultsOfExpressions
-pub mod FaultsOfStatements

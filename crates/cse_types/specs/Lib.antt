@@ -7,3 +7,4 @@ pub mod Checked
 pub mod Parts
 pub mod Answer
 pub mod SourceFaults
+pub mod CountsBehind

@@ -1,5 +1,5 @@
 -- The faults of whole sources: of their names, their declarations and their procedures.
-use Rattle.std.specs.Prelude.{ℕ, Bool, true, false, ◌&&◌, ◌||◌, not, ◌==◌, List, [], ◌∷◌, ◌++◌, length, map, slice_get, unwrap_or, Option, Some, None}
+use Rattle.std.specs.Prelude.{ℕ, Bool, true, false, ◌&&◌, ◌||◌, not, ◌==◌, if◌then◌else◌, List, [], ◌∷◌, ◌++◌, length, map, slice_get, unwrap_or, Option, Some, None}
 use Rattle.std.specs.List.{list_any}
 use Rattle.std.specs.Str.{bytes_eq}
 use Rattle.cse_value.specs.declared.shape.ItemKind.{ItemKind}
@@ -16,15 +16,23 @@ use Rattle.cse_logic_names.specs.MessageFile.{MessageText}
 use Rattle.cse_logic_names.specs.Scope.{Scope, meant, in_dictionary, kind_and_owner}
 use Rattle.cse_logic_names.specs.Walk.{is_there}
 use Rattle.cse_logic_names.specs.WellTyped.{size_of, rows_of, parameter_names, owner_meant, procedure_scope, all_declarations}
-use Rattle.cse_logic_names.specs.Faults.{Fault, only, unless, Counts}
-use Rattle.cse_logic_names.specs.FaultsOfExpressions.{set_faults}
-use Rattle.cse_logic_names.specs.FaultsOfStatements.{digits_faults, stmts_faults}
+use Rattle.cse_logic_faults.specs.Faults.{Fault, only, unless, Counts}
+use Rattle.cse_logic_faults.specs.FaultsOfExpressions.{set_faults}
+use Rattle.cse_logic_faults.specs.FaultsOfStatements.{digits_faults, stmts_faults}
 use Rattle.cse_types.specs.JudgeTree.{is_free, is_new, behind, behind_all, messages_past}
 use Rattle.cse_types.specs.Fresh.{body_scope, fresh_names}
 use Rattle.cse_types.specs.Table.{table_of}
 use Rattle.cse_types.specs.Checked.{start_of}
 
 -- ---- names
+
+-- one name more, unless it is there
+abbrev pub and_name : List (List ℕ) → List ℕ → List (List ℕ)
+and_name found x = if list_any (bytes_eq x) found then found else found ++ x ∷ []
+
+abbrev pub and_names : List (List ℕ) → List (List ℕ) → List (List ℕ)
+and_names found [] = found
+and_names found (x ∷ xs) = and_names (and_name found x) xs
 
 abbrev pub kept_names : List Spelling → List (List ℕ)
 kept_names xs = map (λ (x : Spelling). kept_name x.text) xs
@@ -39,22 +47,35 @@ name_faults d mine others x = unless (is_untaken d mine others (kept_name x.text
 -- names, each of which is one more of the first list
 abbrev pub new_names_faults : DictionaryText → List (List ℕ) → List (List ℕ) → List Spelling → List Fault
 new_names_faults d mine others [] = []
-new_names_faults d mine others (x ∷ xs) = name_faults d mine others x ++ new_names_faults d (mine ++ kept_name x.text ∷ []) others xs
+new_names_faults d mine others (x ∷ xs) = name_faults d mine others x ++ new_names_faults d (and_name mine (kept_name x.text)) others xs
 
 abbrev pub spelled : List syntax.Parameter → List Spelling
 spelled ps = map (λ (p : syntax.Parameter). p.name) ps
 
--- The names of declarations and of parameters. Of two that are one, the later is at fault; parameters of two functions may have one name.
--- Behind the names and the parameters that stand before them:
+-- The names of a declaration and of its parameters, behind such names and such parameters. Of two that are one, the later is at fault;
+-- parameters of two functions may have one name.
+abbrev pub declared_faults : DictionaryText → List (List ℕ) → List (List ℕ) → syntax.Declaration → List Fault
+declared_faults d names parameters (syntax.Numeric xs) = new_names_faults d names parameters xs
+declared_faults d names parameters (syntax.Alpha size xs) = new_names_faults d names parameters xs
+declared_faults d names parameters (syntax.Array' x) = name_faults d names parameters x.name
+declared_faults d names parameters (syntax.Function' name ps body) =
+    name_faults d names parameters name ++ new_names_faults d [] (and_name names (kept_name name.text)) (spelled ps)
+
+abbrev pub names_behind : List (List ℕ) → syntax.Declaration → List (List ℕ)
+names_behind names (syntax.Numeric xs) = and_names names (kept_names xs)
+names_behind names (syntax.Alpha size xs) = and_names names (kept_names xs)
+names_behind names (syntax.Array' x) = and_name names (kept_name x.name.text)
+names_behind names (syntax.Function' name ps body) = and_name names (kept_name name.text)
+
+abbrev pub parameters_behind : List (List ℕ) → syntax.Declaration → List (List ℕ)
+parameters_behind parameters (syntax.Numeric xs) = parameters
+parameters_behind parameters (syntax.Alpha size xs) = parameters
+parameters_behind parameters (syntax.Array' x) = parameters
+parameters_behind parameters (syntax.Function' name ps body) = and_names parameters (kept_names (spelled ps))
+
 abbrev pub names_faults : DictionaryText → List (List ℕ) → List (List ℕ) → List syntax.Declaration → List Fault
 names_faults d names parameters [] = []
-names_faults d names parameters (syntax.Numeric xs ∷ ds) = new_names_faults d names parameters xs ++ names_faults d (names ++ kept_names xs) parameters ds
-names_faults d names parameters (syntax.Alpha size xs ∷ ds) = new_names_faults d names parameters xs ++ names_faults d (names ++ kept_names xs) parameters ds
-names_faults d names parameters (syntax.Array' x ∷ ds) =
-    name_faults d names parameters x.name ++ names_faults d (names ++ kept_name x.name.text ∷ []) parameters ds
-names_faults d names parameters (syntax.Function' name ps body ∷ ds) =
-    let with_name = names ++ kept_name name.text ∷ [] in
-    name_faults d names parameters name ++ (new_names_faults d [] with_name (spelled ps) ++ names_faults d with_name (parameters ++ parameter_names ps) ds)
+names_faults d names parameters (x ∷ xs) = declared_faults d names parameters x ++ names_faults d (names_behind names x) (parameters_behind parameters x) xs
 
 -- ---- declarations
 
@@ -66,9 +87,12 @@ abbrev pub rows_faults : DictionaryText → ℕ → Option Meaning → List Faul
 rows_faults d token (Some (m.Set k)) = unless (is_there (rows_of (slice_get d.sets k))) 49 token
 rows_faults d token _ = []
 
+abbrev pub set_dimension_faults : Scope → Spelling → List Fault
+set_dimension_faults s name = set_faults s.dictionary name.token (meant s name) ++ rows_faults s.dictionary name.token (meant s name)
+
 abbrev pub dimension_faults : Scope → syntax.Dimension → List Fault
 dimension_faults s (syntax.Sized digits) = size_faults 65535 digits
-dimension_faults s (syntax.Rows name one_more) = set_faults s.dictionary name.token (meant s name) ++ rows_faults s.dictionary name.token (meant s name)
+dimension_faults s (syntax.Rows name one_more) = set_dimension_faults s name
 
 abbrev pub dimensions_faults : Scope → List syntax.Dimension → List Fault
 dimensions_faults s [] = []
@@ -78,6 +102,9 @@ abbrev pub cells_faults : List syntax.Literal → List Fault
 cells_faults [] = []
 cells_faults (x ∷ xs) = digits_faults x.digits ++ cells_faults xs
 
+abbrev pub array_faults : Scope → syntax.Array → List Fault
+array_faults s x = dimensions_faults s x.dimensions ++ cells_faults x.cells
+
 -- the scope of a function's body, with those of its parameters that are new
 abbrev pub parameters_scope : Scope → List syntax.Parameter → Scope
 parameters_scope s ps = body_scope s (fresh_names (is_new s.dictionary s.declared) (parameter_names ps)).names
@@ -86,7 +113,7 @@ parameters_scope s ps = body_scope s (fresh_names (is_new s.dictionary s.declare
 abbrev pub declaration_faults : Counts → Scope → syntax.Declaration → List Fault
 declaration_faults c s (syntax.Numeric names) = []
 declaration_faults c s (syntax.Alpha digits names) = size_faults 255 digits
-declaration_faults c s (syntax.Array' x) = dimensions_faults s x.dimensions ++ cells_faults x.cells
+declaration_faults c s (syntax.Array' x) = array_faults s x
 declaration_faults c s (syntax.Function' name ps body) = stmts_faults c (parameters_scope s ps) body
 
 -- declarations, in order; so many messages stand before them
@@ -136,7 +163,7 @@ procedure_faults c s before x =
 -- procedures, in order, behind those of these names
 abbrev pub procedures_faults : Counts → Scope → List (List ℕ) → List syntax.Procedure → List Fault
 procedures_faults c s before [] = []
-procedures_faults c s before (x ∷ xs) = procedure_faults c s before x ++ procedures_faults c s (before ++ kept_name x.name.text ∷ []) xs
+procedures_faults c s before (x ∷ xs) = procedure_faults c s before x ++ procedures_faults c s (and_name before (kept_name x.name.text)) xs
 
 -- ---- sources
 

@@ -4,7 +4,7 @@ use Rattle.cse_syntax_tree.specs.declared.tree.Expression.{Expression}
 use Rattle.cse_syntax_tree.specs.declared.tree.Operation.{Operation}
 use Rattle.cse_syntax_tree.specs.Tree.{written, expr, exprs, operations, operation_tree}
 use Rattle.cse_logic_names.specs.Scope.{meant}
-use Rattle.cse_logic_names.specs.FaultsOfExpressions.{expr_faults, number_faults, numbers_faults, operations_faults, indexed_faults}
+use Rattle.cse_logic_faults.specs.FaultsOfExpressions.{expr_faults, number_faults, numbers_faults, operations_faults, indexed_faults}
 use Rattle.cse_logic_faults.proofs.Lists.{behind, turn, end}
 use Rattle.cse_logic_faults.proofs.Nodes.{indexed_found, chain_found, numbers_more, numbers_none, operations_turn, operations_end}
 use Rattle.cse_logic_faults.proofs.expression.+faults.Goals as goal

@@ -1,6 +1,6 @@
 use Rattle.std.proofs.Common.{◌≡◌, ◌+◌, ◌++◌, length, map, drop}
 use Rattle.cse_syntax_tree.specs.Tree.{expr, exprs, operations, operation_tree}
-use Rattle.cse_logic_names.specs.FaultsOfExpressions.{numbers_faults, operations_faults}
+use Rattle.cse_logic_faults.specs.FaultsOfExpressions.{numbers_faults, operations_faults}
 use Rattle.cse_logic_faults.proofs.expression.+faults.Given as goal
 
 abbrev pub invariant-numbers-all : goal.invariant-numbers-all

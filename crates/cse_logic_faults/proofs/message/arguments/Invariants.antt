@@ -2,7 +2,7 @@ use Rattle.std.proofs.Common.{◌≡◌, ◌++◌, map, drop}
 use Rattle.cse_image_parts.specs.Pieces.{kinds_left}
 use Rattle.cse_image_parts.specs.Placeholders.{message_kinds}
 use Rattle.cse_syntax_tree.specs.Tree.{expr, exprs}
-use Rattle.cse_logic_names.specs.FaultsOfStatements.{arguments_faults}
+use Rattle.cse_logic_faults.specs.FaultsOfStatements.{arguments_faults}
 use Rattle.cse_logic_faults.proofs.message.arguments.Given as goal
 
 abbrev pub invariant-all : goal.invariant-all

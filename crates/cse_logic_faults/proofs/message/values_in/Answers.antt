@@ -2,8 +2,8 @@ use Rattle.std.proofs.Common.{◌≡◌, ◌<◌, ◌≤◌, length, get_or, map
 use Rattle.std.specs.Prelude.{false}
 use Rattle.cse_syntax_tree.specs.declared.tree.Expression.{Expression}
 use Rattle.cse_syntax_tree.specs.Tree.{expr, exprs}
-use Rattle.cse_logic_names.specs.FaultsOfExpressions.{expr_faults}
-use Rattle.cse_logic_names.specs.FaultsOfStatements.{values_faults}
+use Rattle.cse_logic_faults.specs.FaultsOfExpressions.{expr_faults}
+use Rattle.cse_logic_faults.specs.FaultsOfStatements.{values_faults}
 use Rattle.cse_logic_faults.proofs.Lists.{turn, end}
 use Rattle.cse_logic_faults.proofs.message.values_in.Goals as goal
 

@@ -1,6 +1,6 @@
 use Rattle.std.proofs.Common.{◌≡◌, map, drop}
 use Rattle.std.specs.Option.{option_map}
-use Rattle.cse_logic_names.specs.Faults.{least_of}
+use Rattle.cse_logic_faults.specs.Faults.{least_of}
 use Rattle.cse_logic_faults.specs.Least.{both}
 use Rattle.cse_logic_faults.specs.Listed.{listed}
 use Rattle.cse_logic_faults.proofs.order.least.Given as goal

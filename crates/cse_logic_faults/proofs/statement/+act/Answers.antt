@@ -4,7 +4,7 @@ use Rattle.cse_syntax_tree.specs.declared.tree.Arm.{Arm}
 use Rattle.cse_syntax_tree.specs.Tree as syntax
 use Rattle.cse_syntax_tree.specs.Tree.{written, stmt, block, arms, arm_tree, no_arm, otherwise_tree}
 use Rattle.cse_logic_names.proofs.Walks.{append_none}
-use Rattle.cse_logic_names.specs.FaultsOfStatements.{stmt_faults, stmts_faults, arms_faults, for_faults, for_scope, counting_faults, do_scope}
+use Rattle.cse_logic_faults.specs.FaultsOfStatements.{stmt_faults, stmts_faults, arms_faults, for_faults, for_scope, counting_faults, do_scope}
 use Rattle.cse_logic_faults.specs.Operators.{arm_faults}
 use Rattle.cse_logic_faults.proofs.Lists.{behind, turn, end}
 use Rattle.cse_logic_faults.proofs.Blocks.{block_more, block_none, arms_more, arms_none, choice_found, else_found, for_found, do_found}

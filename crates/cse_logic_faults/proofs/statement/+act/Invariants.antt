@@ -1,6 +1,6 @@
 use Rattle.std.proofs.Common.{◌≡◌, ◌++◌, map, drop}
 use Rattle.cse_syntax_tree.specs.Tree.{block, arms, arm_tree, no_arm}
-use Rattle.cse_logic_names.specs.FaultsOfStatements.{stmts_faults, arms_faults}
+use Rattle.cse_logic_faults.specs.FaultsOfStatements.{stmts_faults, arms_faults}
 use Rattle.cse_logic_faults.proofs.statement.+act.Given as goal
 
 abbrev pub invariant-block-all : goal.invariant-block-all

@@ -14,8 +14,8 @@ use Rattle.cse_logic_names.specs.declared.meaning.Meaning.TheVariants as m
 use Rattle.cse_logic_names.specs.Scope.{Scope, meant, own_result, loop_variable, has_case, kind_and_owner, found, is_free, within}
 use Rattle.cse_logic_names.specs.Walk.{is_there}
 use Rattle.cse_logic_names.specs.WellTyped.{kinds_of, value_of, may_jump}
-use Rattle.cse_logic_names.specs.Faults.{Fault, only, unless, Counts, Sort, is_text, is_number, sort_of, text_token}
-use Rattle.cse_logic_names.specs.FaultsOfExpressions.{cell_faults, call_faults, record_faults, deck_faults, text_faults, count_of, expr_faults, numbers_faults, number_faults}
+use Rattle.cse_logic_faults.specs.Faults.{Fault, only, unless, Counts, Sort, is_text, is_number, sort_of, text_token}
+use Rattle.cse_logic_faults.specs.FaultsOfExpressions.{cell_faults, call_faults, record_faults, deck_faults, text_faults, count_of, expr_faults, numbers_faults, number_faults}
 
 -- ---- what a value is put into
 

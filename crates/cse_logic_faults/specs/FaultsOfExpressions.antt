@@ -15,7 +15,7 @@ use Rattle.cse_logic_names.specs.declared.meaning.Meaning.TheVariants as m
 use Rattle.cse_logic_names.specs.Scope.{Scope, Facts, meant, own_result, has_case, kind_and_owner, found, are_free}
 use Rattle.cse_logic_names.specs.Walk.{is_there}
 use Rattle.cse_logic_names.specs.WellTyped.{kind_of, whole_set, set_meant, may_divide, value_of}
-use Rattle.cse_logic_names.specs.Faults.{Fault, only, unless, Counts, is_count, Sort, ANumber, AText, is_text, sort_of, text_token}
+use Rattle.cse_logic_faults.specs.Faults.{Fault, only, unless, Counts, is_count, Sort, ANumber, AText, is_text, sort_of, text_token}
 
 -- ---- items
 
