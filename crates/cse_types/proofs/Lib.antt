@@ -7,6 +7,7 @@ pub mod TreeRight
 pub mod TreeComplete
 pub mod Sizes
 pub mod FreshLaws
+pub mod FoundLaws
 pub mod FunctionLaws
 pub mod SetRows
 pub mod DeclarationLaws

@@ -62,7 +62,7 @@ fn of_function<'a>(x: Option<Function<'a>>) -> Option<Declaration<'a>>
 
 /// One declaration; behind a function stands what is known of it.
 #[tactic(auto, using(crate::proofs::DeclarationLaws::no_more))]
-fn declaration<'a>(
+pub fn declaration<'a>(
     alloc: Global,
     scope: &mut Scope<'_>,
     faults: &mut Faults,

@@ -51,7 +51,7 @@ fn parameter(
 
 /// The names of parameters: each is new.
 #[tactic(auto, using(crate::proofs::FreshLaws::parameter_turn, crate::proofs::FreshLaws::fresh_noted))]
-fn parameters(
+pub fn parameters(
     alloc: Global,
     scope: &Scope<'_>,
     faults: &mut Faults,

@@ -5,6 +5,7 @@
 //! - `fresh`, `table`, `owners`: names that are new, each once: of parameters, of declarations, of procedures.
 //! - `array`, `arrays`: arrays, and the dimensions of all of them.
 //! - `function`, `declaration`, `procedure`: functions, declarations and procedures, one after the other.
+//! - `new_names`, `declared`, `owned`, `collected`: all faults of a source that is refused.
 //! - `entries`: the messages of a source with their numbers and texts.
 //! - `counts`: how many parameters and dimensions are declared.
 //! - `reading`: what the types of tokens hold.
@@ -15,12 +16,16 @@
 mod array;
 mod arrays;
 mod checked;
+mod collected;
 mod counts;
 mod declaration;
+mod declared;
 mod entries;
 mod fresh;
 mod function;
 mod laws;
+mod new_names;
+mod owned;
 mod owners;
 mod parts;
 mod procedure;
@@ -31,6 +36,7 @@ mod told;
 mod typed;
 
 pub use checked::check;
+pub use collected::faults;
 pub use cse_logic_expressions::expressions_are_judged;
 pub use cse_logic_names::error::TypeError;
 pub use cse_logic_names::meaning::{Meaning, Routine};

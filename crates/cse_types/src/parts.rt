@@ -40,7 +40,7 @@ pub struct Parts<'a> {
 }
 
 /// The names of the declarations.
-fn declared_names(
+pub fn declared_names(
     alloc: Global,
     dictionary: &Dictionary,
     faults: &mut Faults,
@@ -94,7 +94,7 @@ fn all_arrays<'a>(
 }
 
 /// What is known before the first function ends.
-fn start<'a>(
+pub fn start<'a>(
     alloc: Global,
     dictionary: &'a Dictionary,
     messages: &'a Messages,
@@ -157,7 +157,7 @@ fn parts_of<'a>(
 }
 
 /// The procedures of a tree.
-fn procedures_in<'t, 'a>(tree: &'t Parsed<'a>) -> &'t [ParsedProcedure<'a>]
+pub fn procedures_in<'t, 'a>(tree: &'t Parsed<'a>) -> &'t [ParsedProcedure<'a>]
     ensures { result.now ≡ tree.now.procedures.items }
 {
     tree.procedures.as_slice()

@@ -51,7 +51,7 @@ fn item_owner(dictionary: &Dictionary, item: u16) -> Option<Owner>
 }
 
 /// What a procedure of a name belongs to.
-fn owner_meant(dictionary: &Dictionary, meaning: Option<Meaning>) -> Option<Owner>
+pub fn owner_meant(dictionary: &Dictionary, meaning: Option<Meaning>) -> Option<Owner>
     ensures { result ≡ well.owner_meant dictionary.now meaning }
 {
     match meaning {
@@ -79,7 +79,7 @@ fn owner_fault(dictionary: &Dictionary, meaning: Option<Meaning>) -> u8
 
 /// What a name means in the dictionary.
 #[tactic(auto, using(crate::proofs::FreshLaws::kept_there))]
-fn meant_by(
+pub fn meant_by(
     alloc: Global,
     dictionary: &Dictionary,
     name: Lexeme<'_>,

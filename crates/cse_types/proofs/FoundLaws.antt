@@ -1,0 +1,132 @@
+-- Faults of names, declarations and procedures that are found one after the other.
+use Rattle.std.proofs.Common.{◌≡◌, ℕ, ◌+◌, ◌<◌, ◌≤◌, get_or, List, [], ◌∷◌, ◌++◌, length, map, drop, refl, ap, sym, ◌∙◌, append_assoc}
+use Rattle.cse_dict.specs.Dictionary.{DictionaryText}
+use Rattle.cse_dict.specs.Keys.{kept_name}
+use Rattle.cse_syntax_tree.specs.Tree as syntax
+use Rattle.cse_syntax_tree.specs.Tree.{written}
+use Rattle.cse_syntax_tree.specs.declared.tree.Lexeme.{Lexeme}
+use Rattle.cse_syntax_tree.specs.declared.tree.Parameter.{Parameter}
+use Rattle.cse_syntax_tree.specs.declared.tree.Declaration.{Declaration}
+use Rattle.cse_syntax_tree.specs.declared.tree.Dimension.{Dimension}
+use Rattle.cse_syntax_tree.specs.declared.tree.Literal.{Literal}
+use Rattle.cse_syntax_tree.specs.declared.tree.Procedure.{Procedure}
+use Rattle.cse_logic_names.specs.Scope.{Scope}
+use Rattle.cse_logic_names.proofs.Walks.{past, append_none}
+use Rattle.cse_logic_faults.specs.Faults.{Fault, Counts}
+use Rattle.cse_logic_faults.proofs.Lists.{next_at, turn_with, state_turn}
+use Rattle.cse_types.specs.declared.told.Told.{Told}
+use Rattle.cse_types.specs.Told.{told_of}
+use Rattle.cse_types.specs.JudgeTree.{behind, messages_past, messages_with}
+use Rattle.cse_types.specs.SourceFaults.{and_name, and_names, kept_names, name_faults, new_names_faults, spelled, declared_faults, names_behind, parameters_behind, names_faults, declaration_faults, declarations_faults, procedure_faults, procedures_faults, dimension_faults, dimensions_faults, cells_faults, parameters_in, dimensions_in}
+use Rattle.cse_types.specs.CountsBehind.{count_behind, counts_after}
+use Rattle.cse_logic_faults.specs.FaultsOfStatements.{digits_faults}
+use Rattle.cse_types.proofs.DeclarationLaws.{told_past}
+
+abbrev pub pair : {A B : Type 0} → A → B → A × B
+pair a b = (a, b)
+
+pub pair_is : {A B : Type 0} (a a' : A) (b b' : B) → a ≡ a' → b ≡ b' → pair a b ≡ pair a' b'
+pair_is a a' b b' e f = ap (λ x. pair x b) e ∙ ap (λ y. pair a' y) f
+
+-- the next member of a list, where it is copied
+next_in : {A : Type 0} (copied items : List A) → copied ≡ items → (i : ℕ) (x : A) → i < length copied → drop i items ≡ get_or copied i x ∷ drop (i + 1) items
+next_in copied items same i x lt = sym (ap (drop i) same) ∙ next_at copied i x lt ∙ ap (λ ys. get_or copied i x ∷ drop (i + 1) ys) same
+
+-- nothing is left behind the last
+pub found_end : {A : Type 0} (k : List A → List Fault) → k [] ≡ [] → (items : List A) (i : ℕ) → length items ≤ i → (g total : List Fault) → g ++ k (drop i items) ≡ total → g ≡ total
+found_end k h items i le g total inv = sym (append_none g) ∙ ap (λ l. g ++ l) (sym (ap k (past items i le) ∙ h)) ∙ inv
+
+pub state_end : {S A : Type 0} (k : S → List A → S) → ((s : S) → k s [] ≡ s) → (items : List A) (i : ℕ) → length items ≤ i → (s total : S) → k s (drop i items) ≡ total → s ≡ total
+state_end k h items i le s total inv = sym (h s) ∙ ap (k s) (sym (past items i le)) ∙ inv
+
+-- ---- names
+
+pub names_turn : (d : DictionaryText) (others : List (List ℕ)) (copied items : List Lexeme) → copied ≡ items → (i : ℕ) (x : Lexeme) → i < length copied → (s s' : List (List ℕ)) (g g' total : List Fault)
+    → g ++ new_names_faults d s others (map written (drop i items)) ≡ total → s' ≡ and_name s (kept_name (get_or copied i x).text.now) → g' ≡ g ++ name_faults d s others (written (get_or copied i x))
+    → g' ++ new_names_faults d s' others (map written (drop (i + 1) items)) ≡ total
+names_turn d others copied items same i x lt = turn_with (λ s (y : Lexeme). and_name s (kept_name y.text.now)) (λ s (y : Lexeme). name_faults d s others (written y)) (λ s (ys : List Lexeme). new_names_faults d s others (map written ys)) (λ s y ys. refl)
+    _ _ (get_or copied i x) (next_in copied items same i x lt)
+
+pub known_turn : (copied items : List Lexeme) → copied ≡ items → (i : ℕ) (x : Lexeme) → i < length copied → (s s' total : List (List ℕ)) → and_names s (kept_names (map written (drop i items))) ≡ total
+    → s' ≡ and_name s (kept_name (get_or copied i x).text.now) → and_names s' (kept_names (map written (drop (i + 1) items))) ≡ total
+known_turn copied items same i x lt = state_turn (λ s (y : Lexeme). and_name s (kept_name y.text.now)) (λ s (ys : List Lexeme). and_names s (kept_names (map written ys))) (λ s y ys. refl) _ _ (get_or copied i x) (next_in copied items same i x lt)
+
+-- ---- parameters
+
+pub parameters_turn : (d : DictionaryText) (others : List (List ℕ)) (copied items : List Parameter) → copied ≡ items → (i : ℕ) (x : Parameter) → i < length copied → (s s' : List (List ℕ)) (g g' total : List Fault)
+    → g ++ new_names_faults d s others (spelled (map syntax.parameter (drop i items))) ≡ total → s' ≡ and_name s (kept_name (get_or copied i x).name.text.now) → g' ≡ g ++ name_faults d s others (written (get_or copied i x).name)
+    → g' ++ new_names_faults d s' others (spelled (map syntax.parameter (drop (i + 1) items))) ≡ total
+parameters_turn d others copied items same i x lt = turn_with (λ s (y : Parameter). and_name s (kept_name y.name.text.now)) (λ s (y : Parameter). name_faults d s others (written y.name)) (λ s (ys : List Parameter). new_names_faults d s others (spelled (map syntax.parameter ys))) (λ s y ys. refl)
+    _ _ (get_or copied i x) (next_in copied items same i x lt)
+
+pub added_turn : (copied items : List Parameter) → copied ≡ items → (i : ℕ) (x : Parameter) → i < length copied → (s s' total : List (List ℕ)) → and_names s (kept_names (spelled (map syntax.parameter (drop i items)))) ≡ total
+    → s' ≡ and_name s (kept_name (get_or copied i x).name.text.now) → and_names s' (kept_names (spelled (map syntax.parameter (drop (i + 1) items)))) ≡ total
+added_turn copied items same i x lt = state_turn (λ s (y : Parameter). and_name s (kept_name y.name.text.now)) (λ s (ys : List Parameter). and_names s (kept_names (spelled (map syntax.parameter ys)))) (λ s y ys. refl) _ _ (get_or copied i x) (next_in copied items same i x lt)
+
+-- ---- declarations
+
+abbrev pub Names : Type 0
+Names = List (List ℕ) × List (List ℕ)
+
+pub declared_turn : (d : DictionaryText) (here rest : List Declaration) (x : Declaration) → here ≡ x ∷ rest → (n n' p p' : List (List ℕ)) (g g' total : List Fault) → g ++ names_faults d n p (map syntax.declaration here) ≡ total
+    → n' ≡ names_behind n (syntax.declaration x) → p' ≡ parameters_behind p (syntax.declaration x) → g' ≡ g ++ declared_faults d n p (syntax.declaration x) → g' ++ names_faults d n' p' (map syntax.declaration rest) ≡ total
+declared_turn d here rest x next n n' p p' g g' total inv en ep found =
+    turn_with (λ (s : Names) (x : Declaration). (names_behind s.0 (syntax.declaration x), parameters_behind s.1 (syntax.declaration x))) (λ (s : Names) (x : Declaration). declared_faults d s.0 s.1 (syntax.declaration x))
+    (λ (s : Names) (xs : List Declaration). names_faults d s.0 s.1 (map syntax.declaration xs)) (λ s x xs. refl) here rest x next (n, p) (n', p') g g' total inv (pair_is n' _ p' _ en ep) found
+
+pub declarations_turn : (c : Counts) (here rest : List Declaration) (x : Declaration) → here ≡ x ∷ rest → (s s' : Scope) (ts ts' : List Told) (g g' total : List Fault) → g ++ declarations_faults c s (length ts) (map syntax.declaration here) ≡ total
+    → s' ≡ behind s (length ts) (syntax.declaration x) → map told_of ts' ≡ map told_of ts ++ messages_with (syntax.declaration x) → g' ≡ g ++ declaration_faults c s (syntax.declaration x)
+    → g' ++ declarations_faults c s' (length ts') (map syntax.declaration rest) ≡ total
+declarations_turn c here rest x next s s' ts ts' g g' total inv e told found =
+    turn_with (λ (p : Scope × ℕ) (x : Declaration). (behind p.0 p.1 (syntax.declaration x), messages_past p.1 (syntax.declaration x))) (λ (p : Scope × ℕ) (x : Declaration). declaration_faults c p.0 (syntax.declaration x))
+    (λ (p : Scope × ℕ) (xs : List Declaration). declarations_faults c p.0 p.1 (map syntax.declaration xs)) (λ p x xs. refl) here rest x next (s, length ts) (s', length ts') g g' total inv (pair_is s' _ (length ts') _ e (told_past ts ts' (syntax.declaration x) told)) found
+
+-- ---- procedures
+
+pub procedures_turn : (c : Counts) (s : Scope) (here rest : List Procedure) (x : Procedure) → here ≡ x ∷ rest → (b b' : List (List ℕ)) (g g' total : List Fault) → g ++ procedures_faults c s b (map syntax.procedure here) ≡ total
+    → b' ≡ and_name b (kept_name x.name.text.now) → g' ≡ g ++ procedure_faults c s b (syntax.procedure x) → g' ++ procedures_faults c s b' (map syntax.procedure rest) ≡ total
+procedures_turn c s = turn_with (λ b (x : Procedure). and_name b (kept_name x.name.text.now)) (λ b (x : Procedure). procedure_faults c s b (syntax.procedure x)) (λ b (xs : List Procedure). procedures_faults c s b (map syntax.procedure xs)) (λ b x xs. refl)
+
+-- ---- arrays
+
+pub dimensions_turn : (s : Scope) (copied items : List Dimension) → copied ≡ items → (i : ℕ) (x : Dimension) → i < length copied → (g g' total : List Fault) → g ++ dimensions_faults s (map syntax.dimension (drop i items)) ≡ total
+    → g' ≡ g ++ dimension_faults s (syntax.dimension (get_or copied i x)) → g' ++ dimensions_faults s (map syntax.dimension (drop (i + 1) items)) ≡ total
+dimensions_turn s copied items same i x lt g g' total inv e =
+    turn_with (λ (u : ℕ) (y : Dimension). u) (λ (u : ℕ) (y : Dimension). dimension_faults s (syntax.dimension y)) (λ (u : ℕ) (ys : List Dimension). dimensions_faults s (map syntax.dimension ys)) (λ u y ys. refl)
+    _ _ (get_or copied i x) (next_in copied items same i x lt) 0 0 g g' total inv refl e
+
+pub cells_turn : (copied items : List Literal) → copied ≡ items → (i : ℕ) (x : Literal) → i < length copied → (g g' total : List Fault) → g ++ cells_faults (map syntax.literal (drop i items)) ≡ total
+    → g' ≡ g ++ digits_faults (syntax.literal (get_or copied i x)).digits → g' ++ cells_faults (map syntax.literal (drop (i + 1) items)) ≡ total
+cells_turn copied items same i x lt g g' total inv e =
+    turn_with (λ (u : ℕ) (y : Literal). u) (λ (u : ℕ) (y : Literal). digits_faults (syntax.literal y).digits) (λ (u : ℕ) (ys : List Literal). cells_faults (map syntax.literal ys)) (λ u y ys. refl)
+    _ _ (get_or copied i x) (next_in copied items same i x lt) 0 0 g g' total inv refl e
+
+-- ---- counts
+
+more_parameters : (x : syntax.Declaration) (ds : List syntax.Declaration) → parameters_in (x ∷ ds) ≡ parameters_in (x ∷ []) ++ parameters_in ds
+more_parameters (syntax.Numeric names) ds = refl
+more_parameters (syntax.Alpha size names) ds = refl
+more_parameters (syntax.Array' x) ds = refl
+more_parameters (syntax.Function' name ps body) ds = refl
+
+more_dimensions : (x : syntax.Declaration) (ds : List syntax.Declaration) → dimensions_in (x ∷ ds) ≡ dimensions_in (x ∷ []) ++ dimensions_in ds
+more_dimensions (syntax.Numeric names) ds = refl
+more_dimensions (syntax.Alpha size names) ds = refl
+more_dimensions (syntax.Array' x) ds = refl
+more_dimensions (syntax.Function' name ps body) ds = refl
+
+more_counts : (c : Counts) (x : syntax.Declaration) (ds : List syntax.Declaration) → counts_after c (x ∷ ds) ≡ counts_after (count_behind c x) ds
+more_counts c x ds =
+    ap (λ ps. record { parameters = c.parameters ++ ps; dimensions = c.dimensions ++ dimensions_in (x ∷ ds) }) (more_parameters x ds)
+    ∙ ap (λ ps. record { parameters = ps; dimensions = c.dimensions ++ dimensions_in (x ∷ ds) }) (sym (append_assoc c.parameters (parameters_in (x ∷ [])) (parameters_in ds)))
+    ∙ ap (λ ns. record { parameters = (c.parameters ++ parameters_in (x ∷ [])) ++ parameters_in ds; dimensions = c.dimensions ++ ns }) (more_dimensions x ds)
+    ∙ ap (λ ns. record { parameters = (c.parameters ++ parameters_in (x ∷ [])) ++ parameters_in ds; dimensions = ns }) (sym (append_assoc c.dimensions (dimensions_in (x ∷ [])) (dimensions_in ds)))
+
+pub counts_turn : (here rest : List Declaration) (x : Declaration) → here ≡ x ∷ rest → (c c' total : Counts) → counts_after c (map syntax.declaration here) ≡ total → c' ≡ count_behind c (syntax.declaration x) → counts_after c' (map syntax.declaration rest) ≡ total
+counts_turn = state_turn (λ c (x : Declaration). count_behind c (syntax.declaration x)) (λ c (xs : List Declaration). counts_after c (map syntax.declaration xs)) (λ c x xs. more_counts c (syntax.declaration x) (map syntax.declaration xs))
+
+none_more : (c : Counts) → counts_after c [] ≡ c
+none_more c = ap (λ ps. record { parameters = ps; dimensions = c.dimensions ++ [] }) (append_none c.parameters) ∙ ap (λ ns. record { parameters = c.parameters; dimensions = ns }) (append_none c.dimensions)
+
+pub counts_end : (items : List Declaration) (i : ℕ) → length items ≤ i → (c total : Counts) → counts_after c (map syntax.declaration (drop i items)) ≡ total → c ≡ total
+counts_end = state_end (λ c (xs : List Declaration). counts_after c (map syntax.declaration xs)) none_more

@@ -1,0 +1,141 @@
+//! All faults of names and kinds of a source.
+
+ghost use Rattle.std.specs.Prelude.{◌≡◌, ◌++◌, [], map, drop, length, IfOk, OnOk};
+ghost use Rattle.cse_syntax_tree.specs.Tree as syntax;
+ghost use Rattle.cse_logic_names.specs.WellTyped as well;
+ghost use Rattle.cse_logic_faults.specs.Listed.{listed};
+ghost use Rattle.cse_types.specs.CountsBehind.{count_behind};
+ghost use Rattle.cse_types.specs.JudgeTree as judge;
+ghost use Rattle.cse_types.specs.SourceFaults as spec;
+
+use crate::declared::all_declarations;
+use crate::new_names::all_names;
+use crate::owned::all_procedures;
+use crate::parts::{declared_names, procedures_in, start};
+use crate::told::Told;
+use cse_dict::Dictionary;
+use cse_logic_faults::counts::Counts;
+use cse_logic_faults::found::Found;
+use cse_logic_names::faults::{Fault, Faults};
+use cse_logic_names::messages::Messages;
+use cse_logic_names::scope::Scope;
+use cse_syntax::{Declaration, Tree};
+use std::alloc::{AllocError, Global};
+
+/// What a declaration declares so many of.
+fn count(counts: &mut Counts, x: &Declaration<'_>) -> Result<(), AllocError>
+    ensures { OnOk result (counts.new ≡ count_behind counts.old (syntax.declaration x.now)) }
+{
+    match x {
+        Declaration::Numeric(_) => Ok(()),
+        Declaration::Alpha(_, _) => Ok(()),
+        Declaration::Array(array) => {
+            counts.dimensions.push(array.dimensions.len())?;
+            Ok(())
+        }
+        Declaration::Function(_, parameters, _) => {
+            counts.parameters.push(parameters.len())?;
+            Ok(())
+        }
+    }
+}
+
+/// How many parameters and dimensions these declarations have.
+fn counts_in(alloc: Global, all: &Vec<Declaration<'_>>) -> Result<Counts, AllocError>
+    ensures { IfOk result (λ c. c ≡ spec.counts_in (map syntax.declaration all.now.items)) }
+{
+    let mut counts = Counts::new(alloc);
+    'all: for x in all {
+        count(&mut counts, x)?;
+    }
+    Ok(counts)
+}
+
+/// Of a tree.
+fn counts_of(alloc: Global, tree: &Tree<'_>) -> Result<Counts, AllocError>
+    ensures { IfOk result (λ c. c ≡ spec.counts_in (well.all_declarations (syntax.tree tree.now).globals)) }
+{
+    match &tree.globals {
+        None => Ok(Counts::new(alloc)),
+        Some(all) => counts_in(alloc, all),
+    }
+}
+
+/// The names of the declarations, and the declarations.
+#[tactic(auto, using(cse_logic_faults::proofs::Lists::behind))]
+fn declared(
+    alloc: Global,
+    scope: &mut Scope<'_>,
+    counts: &Counts,
+    found: &mut Found,
+    all: &Vec<Declaration<'_>>,
+) -> Result<(), AllocError>
+    ensures found { OnOk result (found.new ≡ found.old ++ (spec.names_faults scope.old.dictionary [] [] (map syntax.declaration all.now.items) ++ spec.declarations_faults counts.now scope.old 0 (map syntax.declaration all.now.items))) }
+    ensures behind { OnOk result (scope.new ≡ judge.behind_all scope.old 0 (map syntax.declaration all.now.items)) }
+{
+    let mut told = Vec::new(alloc);
+    all_names(alloc, scope.dictionary, found, all)?;
+    all_declarations(alloc, scope, counts, found, &mut told, all)
+}
+
+/// The same, if there are any.
+fn globals(
+    alloc: Global,
+    scope: &mut Scope<'_>,
+    counts: &Counts,
+    found: &mut Found,
+    tree: &Tree<'_>,
+) -> Result<(), AllocError>
+    ensures found { OnOk result (found.new ≡ found.old ++ (spec.names_faults scope.old.dictionary [] [] (well.all_declarations (syntax.tree tree.now).globals) ++ spec.declarations_faults counts.now scope.old 0 (well.all_declarations (syntax.tree tree.now).globals))) }
+    ensures behind { OnOk result (scope.new ≡ judge.behind_all scope.old 0 (well.all_declarations (syntax.tree tree.now).globals)) }
+{
+    match &tree.globals {
+        None => found.none(),
+        Some(all) => declared(alloc, scope, counts, found, all),
+    }
+}
+
+/// What is known before the first function ends.
+fn known<'a>(
+    alloc: Global,
+    dictionary: &'a Dictionary,
+    messages: &'a Messages,
+    tree: &Tree<'a>,
+) -> Result<Scope<'a>, AllocError>
+    ensures { IfOk result (λ s. s ≡ spec.first_known dictionary.now messages.now (well.all_declarations (syntax.tree tree.now).globals)) }
+{
+    let mut told_elsewhere = Faults { worst: None };
+    let table = declared_names(alloc, dictionary, &mut told_elsewhere, tree)?;
+    start(alloc, dictionary, messages, table.names, tree)
+}
+
+/// All of them, in the order of the definition.
+#[tactic(auto, unfolding(crate::specs::SourceFaults::faults_of), using(cse_logic_faults::proofs::Lists::behind))]
+fn found_in<'a>(
+    alloc: Global,
+    dictionary: &'a Dictionary,
+    messages: &'a Messages,
+    tree: &Tree<'a>,
+) -> Result<Found, AllocError>
+    ensures { IfOk result (λ f. f ≡ spec.faults_of dictionary.now messages.now (syntax.tree tree.now)) }
+{
+    let counts = counts_of(alloc, tree)?;
+    let mut scope = known(alloc, dictionary, messages, tree)?;
+    let mut found = Found::new(alloc);
+    globals(alloc, &mut scope, &counts, &mut found, tree)?;
+    all_procedures(alloc, &mut scope, &counts, &mut found, procedures_in(tree))?;
+    Ok(found)
+}
+
+/// All faults of names and kinds of a source's tree, 40 to 49, for a dictionary and the messages of a message file.
+pub fn faults<'a>(
+    alloc: Global,
+    dictionary: &'a Dictionary,
+    messages: &'a Messages,
+    tree: &Tree<'a>,
+) -> Result<Vec<Fault>, AllocError>
+    ensures { IfOk result (λ v. map listed v.items ≡ spec.faults_of dictionary.now messages.now (syntax.tree tree.now)) }
+{
+    let found = found_in(alloc, dictionary, messages, tree)?;
+    Ok(found.list)
+}
