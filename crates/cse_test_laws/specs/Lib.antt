@@ -11,3 +11,4 @@ pub mod Images
 pub mod Decks
 pub mod Reports
 pub mod Runs
+pub mod LogicFaults

@@ -6,11 +6,13 @@
 mod dictionaries;
 mod files;
 mod images;
+mod logic;
 mod parts;
 mod values;
 
 pub use dictionaries::{worked_dictionaries, worked_dictionary_faults};
 pub use files::{worked_decks, worked_reports, worked_runs};
 pub use images::worked_images;
+pub use logic::worked_faults_of_logic;
 pub use parts::{worked_parts, worked_placeholders, worked_spellings};
 pub use values::{worked_fields, worked_numbers, worked_texts};
