@@ -18,4 +18,7 @@ pub mod ArrayLaws
 pub mod EntryLaws
 pub mod SaidLaws
 pub mod CheckLaws
+pub mod NamesTold
+pub mod DeclarationsTold
+pub mod SourcesTold
 mod Utf8

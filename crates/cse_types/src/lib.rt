@@ -42,5 +42,5 @@ pub use cse_logic_names::error::TypeError;
 pub use cse_logic_names::meaning::{Meaning, Routine};
 pub use cse_logic_names::messages::Messages;
 pub use cse_logic_names::order::Order;
-pub use laws::{sources_are_judged, statements_are_judged};
+pub use laws::{sources_are_judged, statements_are_judged, unsound_sources_have_faults};
 pub use typed::Typed;

@@ -1,0 +1,4 @@
+pub mod Truths
+pub mod Sorts
+pub mod Expressions
+pub mod Statements
