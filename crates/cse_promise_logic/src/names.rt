@@ -4,6 +4,7 @@ ghost use Rattle.std.specs.Prelude.{◌≡◌, ◌≤◌, ◌⊎◌, IfOk, IfErr
 ghost use Rattle.cse_syntax_tree.specs.Tree as syntax;
 ghost use Rattle.cse_logic_tree.specs.Typed as typed;
 ghost use Rattle.cse_types.specs.Answer.{IsAnswer, checked};
+ghost use Rattle.cse_types.specs.TheFault.{IsLeast};
 ghost use Rattle.cse_logic_names.specs.Fault.{out_of_memory};
 ghost use Rattle.cse_logic_names.specs.OrderFile.{IsOrderOf};
 ghost use Rattle.cse_logic_names.specs.WellTyped.{IsTypedAs};
@@ -26,6 +27,7 @@ pub fn check<'a>(
     ensures made_for { IfOk result (λ t. ((checked t).dictionary ≡ dictionary.now) × ((checked t).messages ≡ messages.now) × ((checked t).order ≡ order.now)) }
     ensures only { (t : typed.Tree) → IsTypedAs dictionary.now messages.now (syntax.tree source.now.tree) t → IsAnswer result t }
     ensures cause { IfErr result (λ e. ((40 ≤ e.number) × (e.number ≤ 49)) ⊎ (e ≡ out_of_memory)) }
+    ensures fault { IfErr result (IsLeast dictionary.now messages.now (syntax.tree source.now.tree) source.now.text.now source.now.tokens.items) }
 {
     cse_types::check(alloc, dictionary, source, messages, order)
 }

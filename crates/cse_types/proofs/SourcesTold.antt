@@ -222,3 +222,7 @@ module _ (d : DictionaryText) (messages : List MessageText) (x : syntax.Tree) wh
   -- a fault is told exactly where the tree is not sound
   pub least_told : is_there (least_of (faults_of d messages x)) ≡ not (is_there (typed_of d messages x))
   least_told = least_there (faults_of d messages x) ∙ ap not (sym source_told)
+
+  -- where a tree is not sound, a fault is told
+  pub never_none : is_there (typed_of d messages x) ≡ false → least_of (faults_of d messages x) ≡ None → ⊥
+  never_none unsound none = false≢true (sym (ap is_there none) ∙ least_told ∙ ap not unsound)

@@ -8,3 +8,4 @@ pub mod Parts
 pub mod Answer
 pub mod SourceFaults
 pub mod CountsBehind
+pub mod TheFault

@@ -12,13 +12,16 @@ ghost use Rattle.cse_logic_names.specs.Fault.{out_of_memory};
 ghost use Rattle.cse_logic_names.specs.OrderFile.{IsOrderOf};
 ghost use Rattle.cse_logic_names.specs.Texts.{AreTexts, AreUtf8};
 ghost use Rattle.cse_types.specs.JudgeTree.{typed_of};
+ghost use Rattle.cse_types.specs.TheFault.{IsLeast};
 ghost use Rattle.cse_logic_names.specs.WellTyped.{IsTypedAs};
 ghost use Rattle.cse_logic_names.specs.Walk.{is_there};
 
+use crate::collected::faults;
 use crate::parts::judged;
 use crate::reading::read_tokens;
 use crate::typed::Typed;
 use cse_dict::Dictionary;
+use cse_logic_faults::least;
 use cse_logic_names::error::TypeError;
 use cse_logic_names::faults::{Fault, Faults};
 use cse_logic_names::messages::Messages;
@@ -40,6 +43,7 @@ fn memory() -> TypeError
 
 /// A fault with its line and column.
 fn located(source: &Source<'_>, fault: Fault) -> TypeError
+    ensures number { result.number ≡ fault.number }
     ensures least { 40 ≤ result.number }
     ensures most { result.number ≤ 49 }
     ensures line { result.line ≡ place.cut (place.line_of source.now.text.now (place.start_of source.now.text.now source.now.tokens.items fault.token)) }
@@ -50,6 +54,26 @@ fn located(source: &Source<'_>, fault: Fault) -> TypeError
         number: fault.number,
         line: u64::from(at.line),
         column: u64::from(at.column),
+    }
+}
+
+/// The first of all faults, by place and then by number.
+fn told<'a>(
+    alloc: Global,
+    dictionary: &'a Dictionary,
+    source: &Source<'a>,
+    messages: &'a Messages,
+) -> TypeError
+    requires { is_there (typed_of dictionary.now messages.now (syntax.tree source.now.tree)) ≡ false }
+    ensures cause { ((40 ≤ result.number) × (result.number ≤ 49)) ⊎ (result ≡ out_of_memory) }
+    ensures fault { IsLeast dictionary.now messages.now (syntax.tree source.now.tree) source.now.text.now source.now.tokens.items result }
+{
+    match faults(alloc, dictionary, messages, &source.tree) {
+        Err(_) => memory(),
+        Ok(all) => match least(&all) {
+            None => unreachable!(),
+            Some(fault) => located(source, fault),
+        },
     }
 }
 
@@ -71,8 +95,9 @@ fn made_for<'a>(
     }
 }
 
-/// The answer, where this is the least fault, or there is none and the tree was found.
+/// The answer, where a fault was noted, or there is none and the tree was found.
 fn answer<'a>(
+    alloc: Global,
     dictionary: &'a Dictionary,
     source: &Source<'a>,
     messages: &'a Messages,
@@ -88,10 +113,11 @@ fn answer<'a>(
     ensures sound { IfOk result (λ t. IsTypedAs dictionary.now messages.now (syntax.tree source.now.tree) (checked t).tree) }
     ensures made_for { IfOk result (λ t. ((checked t).dictionary ≡ dictionary.now) × ((checked t).messages ≡ messages.now) × ((checked t).order ≡ order.now)) }
     ensures only { (t : typed.Tree) → IsTypedAs dictionary.now messages.now (syntax.tree source.now.tree) t → IsAnswer result t }
-    ensures cause { IfErr result (λ e. (40 ≤ e.number) × (e.number ≤ 49)) }
+    ensures cause { IfErr result (λ e. ((40 ≤ e.number) × (e.number ≤ 49)) ⊎ (e ≡ out_of_memory)) }
+    ensures fault { IfErr result (IsLeast dictionary.now messages.now (syntax.tree source.now.tree) source.now.text.now source.now.tokens.items) }
 {
     match worst {
-        Some(fault) => Err(located(source, fault)),
+        Some(_) => Err(told(alloc, dictionary, source, messages)),
         None => match found {
             Some(tree) => Ok(made_for(dictionary, messages, order, tree)),
             None => unreachable!(),
@@ -117,12 +143,22 @@ pub fn check<'a>(
     // Where there is such a tree, it is the answer, unless memory runs out.
     ensures only { (t : typed.Tree) → IsTypedAs dictionary.now messages.now (syntax.tree source.now.tree) t → IsAnswer result t }
     ensures cause { IfErr result (λ e. ((40 ≤ e.number) × (e.number ≤ 49)) ⊎ (e ≡ out_of_memory)) }
+    // Else the fault is the first of all, by place and then by number.
+    ensures fault { IfErr result (IsLeast dictionary.now messages.now (syntax.tree source.now.tree) source.now.text.now source.now.tokens.items) }
 {
     read_tokens(&source.tokens);
     messages.count();
-    let mut faults = Faults { worst: None };
-    match judged(alloc, dictionary, messages, &mut faults, &source.tree) {
+    let mut noted = Faults { worst: None };
+    match judged(alloc, dictionary, messages, &mut noted, &source.tree) {
         Err(_) => Err(memory()),
-        Ok(found) => answer(dictionary, source, messages, order, faults.worst, found),
+        Ok(found) => answer(
+            alloc,
+            dictionary,
+            source,
+            messages,
+            order,
+            noted.worst,
+            found,
+        ),
     }
 }
