@@ -15,7 +15,7 @@ use cse_image_parts::instruction::{Instr, Op};
 use cse_value::shape::{ID_OWNER, ItemKind, ItemShape, Shape};
 
 /// Kinds that a table lists, the topmost last.
-#[derive(Clone, Copy, Debug)]
+#[derive(Clone, Copy)]
 pub enum Listed {
     Nothing,
     /// An index for each dimension of an array.
@@ -27,7 +27,7 @@ pub enum Listed {
 }
 
 /// What is taken: two kinds that lie on top, and what is listed below them; and what is left.
-#[derive(Clone, Copy, Debug)]
+#[derive(Clone, Copy)]
 pub struct Need {
     pub first: Option<Kind>,
     pub second: Option<Kind>,

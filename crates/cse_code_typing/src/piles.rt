@@ -15,7 +15,7 @@ use std::alloc::{AllocError, Global};
 use std::marker::Model;
 
 /// A kind on the stack of a number.
-#[derive(Clone, Copy, Debug, PartialEq, Eq, PartialOrd, Ord)]
+#[derive(Clone, Copy, PartialEq, Eq, PartialOrd, Ord)]
 pub struct Entry {
     pub kind: Kind,
     pub below: usize,
@@ -23,7 +23,7 @@ pub struct Entry {
 
 /// What the places so far lead to, at one place: nothing, the stack of a number, or stacks that
 /// differ.
-#[derive(Clone, Copy, Debug)]
+#[derive(Clone, Copy)]
 pub enum Expected {
     Free,
     Is(usize),

@@ -24,7 +24,7 @@ use cse_image::Code;
 use std::alloc::{AllocError, Global};
 
 /// Why a routine isn't typed, with the place.
-#[derive(Clone, Copy, Debug)]
+#[derive(Clone, Copy)]
 pub enum Fault {
     /// The instruction may not stand in the routine.
     MayNotStand(u32),

@@ -23,7 +23,7 @@ use std::alloc::AllocError;
 pub const MOST_COLUMNS: usize = 65_536;
 
 /// Why a line isn't taken: want of memory, or a fault of this number.
-#[derive(Clone, Copy, Debug, PartialEq, Eq)]
+#[derive(Clone, Copy, PartialEq, Eq)]
 pub enum Stop {
     Memory,
     Fault(u8),
@@ -38,7 +38,7 @@ impl From<AllocError> for Stop {
 }
 
 /// How a line begins, beside the line before it.
-#[derive(Clone, Copy, Debug, PartialEq, Eq)]
+#[derive(Clone, Copy, PartialEq, Eq)]
 pub enum Beginning {
     /// As that line, up to the least width of a line.
     Alike,
@@ -49,7 +49,7 @@ pub enum Beginning {
 }
 
 /// What a line is beside its columns.
-#[derive(Clone, Copy, Debug, PartialEq, Eq)]
+#[derive(Clone, Copy, PartialEq, Eq)]
 pub struct Head {
     /// How many columns it has in the file.
     pub len: usize,
