@@ -109,7 +109,7 @@ pub(crate) fn run_cases<C: Code, M: Runs, R: Input, O: Output, L: Output>(
 }
 
 /// Runs the application's events around the runs of lines.
-fn run_events<C: Code, M: Runs, R: Input, O: Output, L: Output>(
+fn run_around_cases<C: Code, M: Runs, R: Input, O: Output, L: Output>(
     verified: &Verified<'_, C>,
     machine: &mut M,
     reader: &mut CaseReader<'_, R>,
@@ -179,7 +179,7 @@ fn run_reader<C: Code, M: Runs, R: Input, O: Output, L: Output, F: Output, D: Ou
 {
     let mut written = Gatherer::new();
     let mut listed = Gatherer::new();
-    let totals = match run_events(
+    let totals = match run_around_cases(
         verified,
         machine,
         reader,

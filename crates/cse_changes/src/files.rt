@@ -6,7 +6,7 @@ ghost use Rattle.cse_changes.specs.Changes.{count_in, first_apart, no_count, plu
 ghost use Rattle.cse_changes.specs.Files.{AreFew, IfApart, IsApartIn, IsCompared, Stops};
 
 use crate::count::Count;
-use crate::fault::Fault;
+use crate::fault::CompareFault;
 use crate::lines::RunLines;
 use crate::pair::first_apart;
 use crate::sums::add_run;
@@ -38,7 +38,7 @@ fn add_runs(
     after: Run,
     lines: u64,
     counts: &mut [Count],
-) -> Result<u64, Fault>
+) -> Result<u64, CompareFault>
     requires some { 0 < length before.lines }
     requires some_after { 0 < length after.lines }
     requires counts { length counts.old ≡ length items.now }
@@ -60,7 +60,7 @@ fn add_runs(
     let len = before.len() as u64;
     if let Some(place) = first_apart(items, &before, &after) {
         let line = lines + place as u64 + 1;
-        return Err(Fault::Apart { line });
+        return Err(CompareFault::Apart { line });
     }
     add_run(records, items, &before, &after, counts);
     Ok(len)
@@ -73,7 +73,7 @@ pub fn compare<R: Input, S: Input>(
     dictionary: &Dictionary,
     read: &mut R,
     written: &mut S,
-) -> Result<Vec<Count>, Fault>
+) -> Result<Vec<Count>, CompareFault>
     ensures ok { IfOk result (λ counts. IsCompared dictionary.now (R.given read.old) (R.given read.new) (S.given written.old) (S.given written.new) counts.items) }
     ensures stops { IfErr result (Stops dictionary.now (R.given read.old) (R.given read.new) (S.given written.old) (S.given written.new)) }
 {
@@ -84,20 +84,20 @@ pub fn compare<R: Input, S: Input>(
     let mut lines = 0u64;
     'runs: loop {
         match reader.next(read) {
-            Err(error) => return Err(Fault::Data(error)),
+            Err(error) => return Err(CompareFault::Data(error)),
             Ok(None) => match other.next(written) {
-                Err(error) => return Err(Fault::Out(error)),
+                Err(error) => return Err(CompareFault::Out(error)),
                 Ok(None) => return Ok(counts),
                 Ok(Some(_)) => {
                     let line = lines + 1;
-                    return Err(Fault::Apart { line });
+                    return Err(CompareFault::Apart { line });
                 }
             },
             Ok(Some(before)) => match other.next(written) {
-                Err(error) => return Err(Fault::Out(error)),
+                Err(error) => return Err(CompareFault::Out(error)),
                 Ok(None) => {
                     let line = lines + 1;
-                    return Err(Fault::Apart { line });
+                    return Err(CompareFault::Apart { line });
                 }
                 Ok(Some(after)) => {
                     let added = add_runs(

@@ -13,7 +13,7 @@ ghost use Rattle.cse_compile.specs.Room.{AreSmall, IsSmall};
 
 use crate::error::{BEYOND, CompileError, WANT_OF_MEMORY};
 use cse_compile_code::{Emitter, Setting, routine_size};
-use cse_compile_sections::{Handler, Outline, Sort};
+use cse_compile_sections::{Handler, Outline, RoutineSort};
 use cse_image_parts::entries::{Array, Routine};
 use cse_logic_tree::Statement;
 use cse_value::shape::RecordShape;
@@ -55,7 +55,7 @@ fn emit<'a>(
 }
 
 /// A routine with so many instructions.
-fn routine_of(alloc: Global, sort: Sort, instructions: u32) -> Result<Routine, CompileError>
+fn routine_of(alloc: Global, sort: RoutineSort, instructions: u32) -> Result<Routine, CompileError>
     ensures ok { IfOk result (λ r. routine_lists r ≡ outline_spec.routine_of sort instructions) }
     ensures err { IfErr result IsLimit }
     ensures room { IfErr result (λ e. e.number ≡ 64 → 256 ≤ outline_spec.parameters_of sort) }

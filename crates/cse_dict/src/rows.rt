@@ -10,7 +10,7 @@ use std::marker::Model;
 
 /// The numbers from one to another, and their row, counted from 0.
 #[derive(Clone, Copy, PartialEq, Eq)]
-pub struct Span {
+pub struct NumberSpan {
     pub low: i64,
     pub high: i64,
     pub row: u32,
@@ -19,7 +19,7 @@ pub struct Span {
 /// The pairs of numbers so far, how many rows there are (up to 65,535), and whether a piece was skipped.
 #[derive(Drop)]
 pub struct Rows {
-    pub spans: Vec<Span>,
+    pub spans: Vec<NumberSpan>,
     pub rows: u16,
     pub partial: bool,
 }
@@ -37,7 +37,7 @@ fn add_pair(rows: &mut Rows, pair: Pair) -> Result<(), AllocError>
     match pair {
         Pair::Range(low, high) => {
             let row = u32::from(rows.rows).min(65534);
-            rows.spans.push(Span { low, high, row })?;
+            rows.spans.push(NumberSpan { low, high, row })?;
             Ok(())
         }
         Pair::Skipped => {

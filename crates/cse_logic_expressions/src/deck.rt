@@ -10,7 +10,7 @@ ghost use Rattle.cse_logic_expressions.specs.Judge as spec;
 ghost use Rattle.cse_logic_names.specs.Walk.{is_there, IsNoted, IsNotedAfter};
 
 use crate::item::{needs_case, number_present};
-use crate::list::{both, keep};
+use crate::list::{both_hold, keep};
 use crate::set::{current, max_occ, record_of, tot_occ, whole_set};
 use cse_logic_names::faults::Faults;
 use cse_logic_names::meaning::Meaning;
@@ -90,7 +90,7 @@ fn all_picks(
     'all: for x in directions {
         let next = pick(scope, faults, tokens, x);
         let is_there = keep(&mut found, next)?;
-        is_sound = both(is_sound, is_there);
+        is_sound = both_hold(is_sound, is_there);
     }
     if is_sound { Ok(Some(found)) } else { Ok(None) }
 }

@@ -17,7 +17,7 @@ ghost use Rattle.cse_logic_names.specs.Walk.{is_there, IsNoted};
 use crate::assign::number_in;
 use crate::expression::{expression, written_number};
 use crate::judged::Judged;
-use crate::list::{both, keep};
+use crate::list::{both_hold, keep};
 use cse_image_parts::placeholders::{ArgumentKind, Kinds, count_placeholders};
 use cse_logic_names::faults::Faults;
 use cse_logic_names::messages::Messages;
@@ -165,7 +165,7 @@ fn arguments<'a>(
         let kind = kinds.next();
         let next = one_argument(alloc, scope, faults, kind, x)?;
         let is_there = keep(&mut found, next)?;
-        is_sound = both(is_sound, is_there);
+        is_sound = both_hold(is_sound, is_there);
     }
     if is_sound { Ok(Some(found)) } else { Ok(None) }
 }

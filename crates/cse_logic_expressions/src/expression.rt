@@ -19,7 +19,7 @@ use crate::call::{call, cell, has_dimensions, may_call};
 use crate::deck::queried;
 use crate::item::{item, item_at};
 use crate::judged::Judged;
-use crate::list::{both, keep, one_less};
+use crate::list::{both_hold, decremented, keep};
 use crate::operator::{chained, compared, grouped, int, is_special, minus, negated};
 use crate::set::member;
 use cse_logic_names::faults::Faults;
@@ -286,7 +286,7 @@ pub fn all_values<'a>(
     'all: for x in inner {
         let next = value(alloc, scope, faults, false, x)?;
         let is_there = keep(&mut found, next)?;
-        is_sound = both(is_sound, is_there);
+        is_sound = both_hold(is_sound, is_there);
     }
     if is_sound { Ok(Some(found)) } else { Ok(None) }
 }
@@ -382,10 +382,10 @@ fn all_operations<'a>(
     let mut is_sound = true;
     let mut left = others.len();
     'all: for x in others {
-        left = one_less(left);
+        left = decremented(left);
         let next = one_operation(alloc, scope, faults, top, x, left == 0)?;
         let is_there = keep(&mut found, next)?;
-        is_sound = both(is_sound, is_there);
+        is_sound = both_hold(is_sound, is_there);
     }
     if is_sound { Ok(Some(found)) } else { Ok(None) }
 }

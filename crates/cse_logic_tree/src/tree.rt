@@ -344,7 +344,7 @@ pub struct Procedure<'a> {
 /// A message of the source: its number, 0 for a text that stands in the source, its text, and whether it is only
 /// counted.
 #[derive(Clone, Copy)]
-pub struct Entry<'a> {
+pub struct MessageEntry<'a> {
     pub number: u32,
     pub text: &'a str,
     pub is_summary: bool,
@@ -354,7 +354,7 @@ pub struct Entry<'a> {
 pub struct Tree<'a> {
     pub globals: Option<Vec<Declaration<'a>>>,
     pub procedures: Vec<Procedure<'a>>,
-    pub messages: Vec<Entry<'a>>,
+    pub messages: Vec<MessageEntry<'a>>,
 }
 
 // Written out, so that a crate that owns a tree calls this drop and does not prove one for each part.

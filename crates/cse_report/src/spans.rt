@@ -2,7 +2,7 @@
 
 /// The place of a text's first byte, and the place after its last, from 0.
 #[derive(Clone, Copy, PartialEq, Eq)]
-pub struct Span {
+pub struct TextSpan {
     pub start: usize,
     pub end: usize,
 }

@@ -40,7 +40,7 @@ pub enum Cause {
 
 /// What is wrong, and the byte of the text at which it is.
 #[derive(Clone, Copy)]
-pub struct Fault {
+pub struct SourceFault {
     pub cause: Cause,
     pub place: usize,
 }
@@ -48,13 +48,13 @@ pub struct Fault {
 #[derive(Drop)]
 pub enum ReadError {
     Memory,
-    Found(Fault),
+    Found(SourceFault),
 }
 
-impl From<Fault> for ReadError {
+impl From<SourceFault> for ReadError {
     ghost from_gives = { λ f e. e ≡ Found f };
 
-    fn from(fault: Fault) -> ReadError {
+    fn from(fault: SourceFault) -> ReadError {
         ReadError::Found(fault)
     }
 }

@@ -6,7 +6,7 @@ ghost use Rattle.cse_syntax_tree.specs.Tree.{written};
 ghost use Rattle.cse_syntax.specs.Reading as spec;
 ghost use Rattle.cse_syntax.specs.Reading.{Reads, Leaves, IsFault, Takes};
 
-use crate::error::{Cause, Fault, ReadError};
+use crate::error::{Cause, ReadError, SourceFault};
 use cse_syntax_tree::{Kind, Lexeme, Mark, Operator, Relation, Token, is_within};
 use std::alloc::Global;
 
@@ -18,7 +18,7 @@ pub struct Parser<'t, 'a> {
     /// The place of the last token that was taken.
     pub last: usize,
     /// What is wrong where no token is left.
-    pub end: Fault,
+    pub end: SourceFault,
 }
 
 /// The fault of a token that can't stand where it does.
@@ -29,14 +29,14 @@ pub fn refused(token: &Token<'_>) -> ReadError
         Kind::LeftOut => Cause::LeftOut,
         _ => Cause::Unexpected,
     };
-    ReadError::Found(Fault {
+    ReadError::Found(SourceFault {
         cause,
         place: token.start,
     })
 }
 
 impl<'t, 'a> Parser<'t, 'a> {
-    pub fn new(alloc: Global, rest: &'t [Token<'a>], end: Fault) -> Parser<'t, 'a>
+    pub fn new(alloc: Global, rest: &'t [Token<'a>], end: SourceFault) -> Parser<'t, 'a>
         ensures { result.rest.now ≡ rest.now }
     {
         Parser {
@@ -74,7 +74,7 @@ impl<'t, 'a> Parser<'t, 'a> {
     pub fn too_deep(&self) -> ReadError
         ensures { IsFault result }
     {
-        ReadError::Found(Fault {
+        ReadError::Found(SourceFault {
             cause: Cause::TooDeep,
             place: self.last,
         })
@@ -84,7 +84,7 @@ impl<'t, 'a> Parser<'t, 'a> {
     pub fn out_of_range(&self) -> ReadError
         ensures { IsFault result }
     {
-        ReadError::Found(Fault {
+        ReadError::Found(SourceFault {
             cause: Cause::OutOfRange,
             place: self.last,
         })
