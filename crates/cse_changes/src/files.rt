@@ -47,7 +47,8 @@ fn add_runs(
     ensures len { length counts.new ≡ length counts.old }
     ensures lines { IfOk result (λ n. n ≡ length before.lines) }
     ensures pairs { OnOk result (first_apart items.now 0 before.lines after.lines ≡ None) }
-    ensures each { OnOk result ((n : ℕ) → n < length items.now → slice_index_or counts.new n no_count ≡ plus (slice_index_or counts.old n no_count) (count_in records.now (item_at items.now n) before.lines after.lines)) }
+    ensures each { OnOk result ((n : ℕ) → n < length items.now → slice_index_or counts.new n no_count
+        ≡ plus (slice_index_or counts.old n no_count) (count_in records.now (item_at items.now n) before.lines after.lines)) }
     ensures few { OnOk result (AreFew items.now counts.new (lines + length before.lines)) }
     ensures apart { IfErr result (IfApart (IsApartIn items.now before.lines after.lines lines)) }
 {
@@ -74,7 +75,8 @@ pub fn compare<R: Input, S: Input>(
     read: &mut R,
     written: &mut S,
 ) -> Result<Vec<Count>, CompareFault>
-    ensures ok { IfOk result (λ counts. IsCompared dictionary.now (R.given read.old) (R.given read.new) (S.given written.old) (S.given written.new) counts.items) }
+    ensures ok { IfOk result
+        (λ counts. IsCompared dictionary.now (R.given read.old) (R.given read.new) (S.given written.old) (S.given written.new) counts.items) }
     ensures stops { IfErr result (Stops dictionary.now (R.given read.old) (R.given read.new) (S.given written.old) (S.given written.new)) }
 {
     let shape = dictionary.shape();

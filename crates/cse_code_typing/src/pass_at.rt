@@ -66,7 +66,8 @@ fn edges_at(
 ) -> Result<Option<Exits>, AllocError>
     requires stack { stack ≤ length piles.old }
     requires few { length piles.old < 2 ^ 32 }
-    ensures rule { IfOk result (λ o. rule_by (scene_in around.entry) at.in_loop at.control at.place at.instr (stack_of piles.old stack) ≡ option_map (edges_of piles.new) o) }
+    ensures rule { IfOk result (λ o. rule_by (scene_in around.entry) at.in_loop at.control at.place at.instr (stack_of piles.old stack)
+        ≡ option_map (edges_of piles.new) o) }
     ensures within { IfOk result (λ o. IfSome o (ExitsWithin (length piles.new))) }
     ensures keeps { KeepsStacks piles.old piles.new }
     ensures one { length piles.new ≤ length piles.old + 1 }
@@ -101,7 +102,8 @@ fn follow(
     requires stack { stack ≤ length piles.old }
     requires few { length piles.old < 2 ^ 32 }
     requires within { AreWithin (length piles.old) known.old }
-    ensures pass_at { IfOk result (λ yes. option_and_then (λ es. merge at.place es (known_of piles.old known.old)) (rule_by (scene_in around.entry) at.in_loop at.control at.place at.instr (stack_of piles.old stack))
+    ensures pass_at { IfOk result (λ yes. option_and_then (λ es. merge at.place es (known_of piles.old known.old))
+        (rule_by (scene_in around.entry) at.in_loop at.control at.place at.instr (stack_of piles.old stack))
         ≡ (if yes then Some (known_of piles.new known.new) else None)) }
     ensures within { AreWithin (length piles.new) known.new }
     ensures one { length piles.new ≤ length piles.old + 1 }

@@ -60,8 +60,10 @@ pub fn judge<C: Code>(
     requires few { KeepFew smaller.now }
     requires locals { length around.routine.now.locals.items ≤ 255 }
     requires size { around.routine.now.instructions ≤ 1000000 }
-    ensures judges { IfOk result (λ v. Judges (scene_in around.entry) number (part start around.entry.routine.now.instructions (C.list code.now)) (fault_in v)) }
-    ensures depth { IfOk result (λ v. IfOk v (IsDepth (scene_in around.entry) smaller.now (part start around.entry.routine.now.instructions (C.list code.now)))) }
+    ensures judges { IfOk result
+        (λ v. Judges (scene_in around.entry) number (part start around.entry.routine.now.instructions (C.list code.now)) (fault_in v)) }
+    ensures depth { IfOk result
+        (λ v. IfOk v (IsDepth (scene_in around.entry) smaller.now (part start around.entry.routine.now.instructions (C.list code.now)))) }
     ensures few { IfOk result (λ v. IfOk v (IsAtMost (most_kept * (length smaller.now + 1)))) }
 {
     let mut known = nothing(alloc, around.routine.instructions)?;
@@ -87,8 +89,10 @@ fn walk<C: Code>(
     requires routines { length smaller.now < 2 ^ 32 }
     requires few { KeepFew smaller.now }
     requires known { known.old ≡ replicate around.routine.now.instructions Expected.Free }
-    ensures judges { IfOk result (λ v. Judges (scene_in around.entry) number (part start around.entry.routine.now.instructions (C.list code.now)) (fault_in v)) }
-    ensures depth { IfOk result (λ v. IfOk v (IsDepthBelow (scene_in around.entry) smaller.now (part start around.entry.routine.now.instructions (C.list code.now)) around.entry.routine.now.instructions)) }
+    ensures judges { IfOk result
+        (λ v. Judges (scene_in around.entry) number (part start around.entry.routine.now.instructions (C.list code.now)) (fault_in v)) }
+    ensures depth { IfOk result (λ v. IfOk v (IsDepthBelow (scene_in around.entry) smaller.now
+        (part start around.entry.routine.now.instructions (C.list code.now)) around.entry.routine.now.instructions)) }
     ensures few { IfOk result (λ v. IfOk v (IsAtMost (around.entry.routine.now.instructions + most_kept * length smaller.now))) }
 {
     let _fits = code.len();

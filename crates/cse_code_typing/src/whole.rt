@@ -40,7 +40,8 @@ pub fn check_routine<C: Code>(
     ensures sound { OnOk result (IsSound (scene_in around.entry) number (part start around.entry.routine.now.instructions (C.list code.now))) }
     ensures depth { IfOk result (IsDepth (scene_in around.entry) smaller.now (part start around.entry.routine.now.instructions (C.list code.now))) }
     ensures few { IfOk result (IsAtMost (most_kept * (length smaller.now + 1))) }
-    ensures fails { IfErr result (λ e. IsOutOfMemory e ⊎ Fails (scene_in around.entry) number (part start around.entry.routine.now.instructions (C.list code.now)) e) }
+    ensures fails { IfErr result
+        (λ e. IsOutOfMemory e ⊎ Fails (scene_in around.entry) number (part start around.entry.routine.now.instructions (C.list code.now)) e) }
 {
     let size = around.routine.instructions;
     let skeleton = RoutineCode::new(code, around.tables, start, size);

@@ -124,7 +124,8 @@ pub fn code_all<'a>(
     outlines: &[Outline<'_, 'a>],
 ) -> Result<Vec<Routine>, CompileError>
     ensures code { OnOk result (emitter.new ≡ emitter.old ++ spec.all_code records.now (map sizes_of arrays.now) (map outline_spec.outline outlines.now)) }
-    ensures entries { IfOk result (λ v. map routine_lists v.items ≡ map (spec.entry_of records.now (map sizes_of arrays.now)) (map outline_spec.outline outlines.now)) }
+    ensures entries { IfOk result (λ v. map routine_lists v.items
+        ≡ map (spec.entry_of records.now (map sizes_of arrays.now)) (map outline_spec.outline outlines.now)) }
     ensures err { IfErr result IsLimit }
     ensures room { IfErr result (λ e. e.number ≡ 64 → AreSmall emitter.old records.now (map sizes_of arrays.now) (map outline_spec.outline outlines.now) → ⊥) }
 {
@@ -150,7 +151,8 @@ pub fn with_handlers<'t, 'a>(
     functions: Vec<Outline<'t, 'a>>,
     handlers: &[Handler<'t, 'a>],
 ) -> Result<Vec<Outline<'t, 'a>>, AllocError>
-    ensures { IfOk result (λ v. map outline_spec.outline v.items ≡ map outline_spec.outline functions.entry.items ++ map (λ x. x.outline) (map outline_spec.handler handlers.now)) }
+    ensures { IfOk result (λ v. map outline_spec.outline v.items
+        ≡ map outline_spec.outline functions.entry.items ++ map (λ x. x.outline) (map outline_spec.handler handlers.now)) }
 {
     let mut outlines = functions;
     'all: for written in handlers {

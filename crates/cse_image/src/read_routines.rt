@@ -184,7 +184,8 @@ fn routines_in(
     count: u32,
     bytes: &[u8],
 ) -> Result<(Vec<Routine>, &[u8]), ReadStop>
-    ensures exact { Gives (λ x. (map routine_lists x.0.items, x.1.now)) result (many (λ before. routine_at version (instructions_in before)) [] count bytes.now) }
+    ensures exact { Gives (λ x. (map routine_lists x.0.items, x.1.now)) result
+        (many (λ before. routine_at version (instructions_in before)) [] count bytes.now) }
     ensures room { IfOk result (λ x. instructions_in (map routine_lists x.0.items) ≤ MOST_INSTRUCTIONS) }
 {
     let mut routines = Vec::new(alloc);
@@ -207,7 +208,8 @@ pub fn routines_of(
     version: Version,
     bytes: &[u8],
 ) -> Result<(Vec<Routine>, &[u8]), ReadStop>
-    ensures exact { Gives (λ x. (map routine_lists x.0.items, x.1.now)) result (counted MOST_ROUTINES (λ before. routine_at version (instructions_in before)) bytes.now) }
+    ensures exact { Gives (λ x. (map routine_lists x.0.items, x.1.now)) result
+        (counted MOST_ROUTINES (λ before. routine_at version (instructions_in before)) bytes.now) }
     ensures room { IfOk result (λ x. instructions_in (map routine_lists x.0.items) ≤ MOST_INSTRUCTIONS) }
 {
     let (count, rest) = count_at(MOST_ROUTINES, bytes)?;

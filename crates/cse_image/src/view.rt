@@ -211,7 +211,8 @@ fn view_code_of<'a>(
     bytes: &'a [u8],
 ) -> Result<(&'a [u8], &'a [u8]), FieldFault>
     requires { instructions_in (map routine_lists routines.now) ≤ MOST_INSTRUCTIONS }
-    ensures exact { GivesFault (λ x. (code_in version x.0.now, x.1.now)) result (each (instr_at version) (instructions_in (map routine_lists routines.now)) bytes.now) }
+    ensures exact { GivesFault (λ x. (code_in version x.0.now, x.1.now)) result
+        (each (instr_at version) (instructions_in (map routine_lists routines.now)) bytes.now) }
     ensures code { IfOk result (λ x. IsCodeOf version (code_in version x.0.now) x.0.now) }
 {
     let count = total_of(routines);
