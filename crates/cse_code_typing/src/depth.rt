@@ -14,6 +14,7 @@ pub struct Depth {
 }
 
 impl Depth {
+    /// No values, and no bracket.
     pub const NONE: Depth = Depth {
         numbers: 0,
         texts: 0,

@@ -37,6 +37,7 @@ pub fn deepest(picks: &[Pick]) -> usize
     }
 }
 
+/// How many instructions the indexes into a hot deck have; 1,000,001 stands for more too.
 pub fn picks_size(picks: &[Pick]) -> usize
     ensures { result ≡ min (spec.picks_size picks.now) 1000001 }
 {

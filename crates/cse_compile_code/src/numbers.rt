@@ -37,6 +37,7 @@ impl<'a> Emitter<'a> {
         Ok(place + (count + 3))
     }
 
+    /// Emits the code of a number, and tells the place behind it.
     #[cycle(emit)]
     #[tactic(auto, unfolding(crate::specs::Numbers::number_size, crate::specs::Numbers::number_code))]
     pub fn number(&mut self, s: &Setting, place: usize, x: &Number<'a>) -> Result<usize, AllocError>
@@ -93,6 +94,7 @@ impl<'a> Emitter<'a> {
         }
     }
 
+    /// Emits the code of a text, and tells the place behind it.
     #[cycle(emit)]
     #[tactic(auto, unfolding(crate::specs::Numbers::words_size, crate::specs::Numbers::words_code))]
     pub fn words(&mut self, s: &Setting, place: usize, x: &Words<'a>) -> Result<usize, AllocError>
@@ -261,6 +263,7 @@ impl<'a> Emitter<'a> {
         Ok(at)
     }
 
+    /// Emits the code of operations on what is on top, and tells the place behind it.
     #[cycle(emit)]
     #[tactic(auto, unfolding(crate::specs::Numbers::operations_size, crate::specs::Numbers::operations_code))]
     pub fn operations(

@@ -20,6 +20,7 @@ pub fn plus(a: usize, b: usize) -> usize
     (a + b).min(TOO_LONG)
 }
 
+/// How many instructions tell the occurrence that is found.
 pub fn here_size(found: Found) -> usize
     ensures { result ≡ spec.here_size found }
 {
@@ -29,6 +30,7 @@ pub fn here_size(found: Found) -> usize
     }
 }
 
+/// How many instructions tell an item that is there.
 pub fn present_size(item: Present) -> usize
     ensures { result ≡ spec.present_size item }
 {
@@ -46,6 +48,7 @@ pub fn behind(xs: &Vec<Number>) -> usize
     xs.len().saturating_sub(1).min(TOO_LONG)
 }
 
+/// How many instructions a number has; 1,000,001 stands for more too.
 #[cycle(size)]
 #[tactic(auto, unfolding(crate::specs::Numbers::number_size))]
 pub fn number_size(x: &Number) -> usize
@@ -74,6 +77,7 @@ pub fn number_size(x: &Number) -> usize
     }
 }
 
+/// How many instructions a text has; 1,000,001 stands for more too.
 #[cycle(size)]
 #[tactic(auto, unfolding(crate::specs::Numbers::words_size))]
 pub fn words_size(x: &Words) -> usize
@@ -113,6 +117,7 @@ pub fn indexes_size(xs: &Vec<Number>) -> usize
     size
 }
 
+/// How many instructions operations have; 1,000,001 stands for more too.
 #[cycle(size)]
 #[tactic(auto, unfolding(crate::specs::Numbers::operations_size))]
 pub fn operations_size(xs: &Vec<Operation>) -> usize

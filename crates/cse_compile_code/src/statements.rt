@@ -65,6 +65,7 @@ impl<'a> Emitter<'a> {
         }
     }
 
+    /// Emits the code of a statement, and tells the place behind it.
     #[cycle(emit_block)]
     #[tactic(auto, unfolding(crate::specs::Statements::statement_size, crate::specs::Statements::statement_code))]
     pub fn statement(

@@ -45,6 +45,7 @@ pub struct SourceFault {
     pub place: usize,
 }
 
+/// Why reading stopped: want of memory, or the first fault.
 #[derive(Drop)]
 pub enum ReadError {
     Memory,

@@ -276,6 +276,7 @@ impl<'t, 'a> Parser<'t, 'a> {
         compare(self.alloc, left, relation, right)
     }
 
+    /// Reads an expression, in which parentheses nest so deep at most.
     #[tactic(auto, unfolding(crate::specs::Reading::disjunction))]
     pub fn expression(&mut self, room: usize) -> Result<Expression<'a>, ReadError>
         ensures { Reads expr (spec.expr_at room) result self.old.rest.now self.new.rest.now }

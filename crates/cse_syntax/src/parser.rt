@@ -36,6 +36,7 @@ pub fn refused(token: &Token<'_>) -> ReadError
 }
 
 impl<'t, 'a> Parser<'t, 'a> {
+    /// A parser before these tokens; the fault is told where they end too early.
     pub fn new(alloc: Global, rest: &'t [Token<'a>], end: SourceFault) -> Parser<'t, 'a>
         ensures { result.rest.now ≡ rest.now }
     {
@@ -47,6 +48,7 @@ impl<'t, 'a> Parser<'t, 'a> {
         }
     }
 
+    /// Whether no token is left.
     pub fn is_at_end(&self) -> bool
         ensures { result ≡ (length (words self.now.rest.now) == 0) }
     {
@@ -90,6 +92,7 @@ impl<'t, 'a> Parser<'t, 'a> {
         })
     }
 
+    /// Whether this mark comes next.
     pub fn sees(&self, mark: Mark) -> bool
         ensures { result ≡ spec.sees mark (words self.now.rest.now) }
     {
@@ -130,6 +133,7 @@ impl<'t, 'a> Parser<'t, 'a> {
         found
     }
 
+    /// Reads this mark.
     pub fn expect(&mut self, mark: Mark) -> Result<(), ReadError>
         ensures value { Leaves result (spec.expect mark (words self.old.rest.now)) (words self.new.rest.now) }
         ensures shorter { length self.new.rest.now ≤ length self.old.rest.now }
@@ -175,6 +179,7 @@ impl<'t, 'a> Parser<'t, 'a> {
         Some(token)
     }
 
+    /// Reads a name.
     pub fn name(&mut self) -> Result<Lexeme<'a>, ReadError>
         ensures { Reads written spec.take_name result self.old.rest.now self.new.rest.now }
     {
