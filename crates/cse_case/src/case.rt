@@ -9,13 +9,11 @@ ghost use Rattle.cse_dict.specs.Sound.{IsSound};
 ghost use Rattle.cse_lines.specs.Run.{line_at, written_run};
 ghost use Rattle.cse_case.specs.Seen.{is_case};
 ghost use Rattle.cse_case.specs.Field.{IsItem, item_at};
-ghost use Rattle.cse_case.specs.ItemEntry.{IsFor, IsThere, entry_columns};
+ghost use Rattle.cse_case.specs.Entry.{IsFor, IsThere, entry_columns};
 ghost use Rattle.cse_lines.specs.Bytes.{columns_lent};
 ghost use Rattle.cse_case.specs.Own.{HoldsItems, IsSpanOf};
 
-use crate::field::{
-    ItemEntry, Part, columns_from, field_of, line_columns, whole_field, write_field,
-};
+use crate::field::{Entry, Part, columns_from, field_of, line_columns, whole_field, write_field};
 use crate::items::Items;
 use crate::number::{number_in, number_in_columns};
 use crate::seen::{Table, fill_table};
@@ -356,7 +354,7 @@ impl<'a> Case<'a> {
 
     /// Writes into an item of an occurrence of its record: the line has all its columns.
     #[inline(always)]
-    fn set(&mut self, number: u16, occurrence: u16, item: u16, entry: ItemEntry<'_>)
+    fn set(&mut self, number: u16, occurrence: u16, item: u16, entry: Entry<'_>)
         requires there { number < length (records_of self.old) }
         requires occurrence { IsOccurrence self.old number occurrence }
         requires item { item < length (items_of self.old) }
@@ -382,7 +380,7 @@ impl<'a> Case<'a> {
         ensures changed { self.new ≡ with_number self.old number occurrence item value }
         ensures fits { IsFit self.new }
     {
-        let entry = ItemEntry::Number {
+        let entry = Entry::Number {
             value,
             dictionary: self.items.dictionary(),
             item,
@@ -401,7 +399,7 @@ impl<'a> Case<'a> {
         ensures changed { self.new ≡ with_text self.old number occurrence item text.now.items }
         ensures fits { IsFit self.new }
     {
-        self.set(number, occurrence, item, ItemEntry::Words(text));
+        self.set(number, occurrence, item, Entry::Words(text));
         let _lines = self.lines();
     }
 

@@ -10,7 +10,7 @@ use std::alloc::{AllocError, Global};
 
 /// What a routine is made of.
 #[derive(Clone, Copy, PartialEq, Eq)]
-pub enum RoutineSort {
+pub enum Sort {
     /// A function: how many parameters it has, and whether it needs a case.
     Function(usize, bool),
     /// A procedure, by what it belongs to.
@@ -20,7 +20,7 @@ pub enum RoutineSort {
 /// A routine, without its code.
 #[derive(Clone, Copy)]
 pub struct Outline<'t, 'a> {
-    pub sort: RoutineSort,
+    pub sort: Sort,
     pub body: &'t Vec<Statement<'a>>,
 }
 
@@ -31,17 +31,16 @@ pub struct Handler<'t, 'a> {
     pub outline: Outline<'t, 'a>,
 }
 
-impl RoutineSort {
+impl Sort {
     /// Whether the routine may speak of a case: a procedure of the application may not, nor a function that speaks of
     /// none.
     pub fn ambient(self) -> Ambient
         ensures { result ≡ spec.ambient_of self }
     {
         match self {
-            RoutineSort::Function(_, true) => Ambient::Case,
-            RoutineSort::Function(_, false) | RoutineSort::Procedure(Owner::Application) =>
-                Ambient::Run,
-            RoutineSort::Procedure(_) => Ambient::Case,
+            Sort::Function(_, true) => Ambient::Case,
+            Sort::Function(_, false) | Sort::Procedure(Owner::Application) => Ambient::Run,
+            Sort::Procedure(_) => Ambient::Case,
         }
     }
 
@@ -50,8 +49,8 @@ impl RoutineSort {
         ensures { result ≡ spec.gives_of self }
     {
         match self {
-            RoutineSort::Function(_, _) => Gift::Number,
-            RoutineSort::Procedure(_) => Gift::Nothing,
+            Sort::Function(_, _) => Gift::Number,
+            Sort::Procedure(_) => Gift::Nothing,
         }
     }
 
@@ -60,9 +59,9 @@ impl RoutineSort {
         ensures { result ≡ spec.parameters_of self }
     {
         match self {
-            RoutineSort::Function(count, _) => count,
-            RoutineSort::Procedure(Owner::Item(_)) => 1,
-            RoutineSort::Procedure(_) => 0,
+            Sort::Function(count, _) => count,
+            Sort::Procedure(Owner::Item(_)) => 1,
+            Sort::Procedure(_) => 0,
         }
     }
 
@@ -71,8 +70,8 @@ impl RoutineSort {
         ensures { result ≡ spec.result_at self }
     {
         match self {
-            RoutineSort::Function(count, _) => Some(count),
-            RoutineSort::Procedure(_) => None,
+            Sort::Function(count, _) => Some(count),
+            Sort::Procedure(_) => None,
         }
     }
 
@@ -82,18 +81,18 @@ impl RoutineSort {
     {
         let mut locals = Vec::new(alloc);
         match self {
-            RoutineSort::Function(count, _) => {
+            Sort::Function(count, _) => {
                 add_numbers(&mut locals, count)?;
                 locals.push(NUMBER)?;
             }
-            RoutineSort::Procedure(Owner::Item(field)) => {
+            Sort::Procedure(Owner::Item(field)) => {
                 locals.push(Local {
                     kind: LocalKind::Occurrence,
                     owner: field.owner,
                     length: 0,
                 })?;
             }
-            RoutineSort::Procedure(_) => {}
+            Sort::Procedure(_) => {}
         }
         Ok(locals)
     }
@@ -127,7 +126,7 @@ fn add_function<'t, 'a>(
 {
     if let Declaration::Function(function) = written {
         outlines.push(Outline {
-            sort: RoutineSort::Function(function.parameters.len(), function.needs_case),
+            sort: Sort::Function(function.parameters.len(), function.needs_case),
             body: &function.body,
         })?;
     }
@@ -223,7 +222,7 @@ fn add_handler<'t, 'a>(
         handlers.push(Handler {
             event: event_of(owner, is_after),
             outline: Outline {
-                sort: RoutineSort::Procedure(owner),
+                sort: Sort::Procedure(owner),
                 body,
             },
         })?;

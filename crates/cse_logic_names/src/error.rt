@@ -36,23 +36,23 @@ pub struct TypeError {
 
 /// Why a line was not taken.
 #[derive(Clone, Copy)]
-pub enum FileStop {
+pub enum Stop {
     Memory,
     /// The number of the line's fault.
     Fault(u8),
 }
 
 /// The error at a line of this number.
-pub fn error_at(stop: FileStop, line: u64) -> TypeError
+pub fn error_at(stop: Stop, line: u64) -> TypeError
     ensures { result ≡ error_of stop line }
 {
     match stop {
-        FileStop::Memory => TypeError {
+        Stop::Memory => TypeError {
             number: 90,
             line: 0,
             column: 0,
         },
-        FileStop::Fault(number) => TypeError {
+        Stop::Fault(number) => TypeError {
             number,
             line,
             column: 1,

@@ -10,4 +10,3 @@ pub mod Ahead
 pub mod Small
 pub mod Quiet
 pub mod Sorts
-pub mod Clauses

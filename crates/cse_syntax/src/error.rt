@@ -40,22 +40,21 @@ pub enum Cause {
 
 /// What is wrong, and the byte of the text at which it is.
 #[derive(Clone, Copy)]
-pub struct SourceFault {
+pub struct Fault {
     pub cause: Cause,
     pub place: usize,
 }
 
-/// Why reading stopped: want of memory, or the first fault.
 #[derive(Drop)]
 pub enum ReadError {
     Memory,
-    Found(SourceFault),
+    Found(Fault),
 }
 
-impl From<SourceFault> for ReadError {
+impl From<Fault> for ReadError {
     ghost from_gives = { λ f e. e ≡ Found f };
 
-    fn from(fault: SourceFault) -> ReadError {
+    fn from(fault: Fault) -> ReadError {
         ReadError::Found(fault)
     }
 }

@@ -28,7 +28,6 @@ pub enum Operator {
     Remainder,
 }
 
-/// A relation of two values.
 #[derive(Clone, Copy, PartialEq, Eq)]
 pub enum Relation {
     Equal,
@@ -63,7 +62,6 @@ pub enum Query {
     CurOcc,
 }
 
-/// An expression, as it is written.
 #[cycle(expr)]
 pub enum Expression<'a> {
     Number(Lexeme<'a>),
@@ -173,7 +171,6 @@ pub struct Counting<'a> {
     pub by: Option<Lexeme<'a>>,
 }
 
-/// A statement that leaves a turn, a loop or a procedure.
 #[derive(Clone, Copy, PartialEq, Eq)]
 pub enum Jump {
     Break,
@@ -188,7 +185,6 @@ pub enum Message<'a> {
     Number(Lexeme<'a>),
 }
 
-/// A statement, as it is written.
 #[cycle(stmt)]
 pub enum Statement<'a> {
     Empty,
@@ -260,7 +256,6 @@ pub struct Parameter<'a> {
     pub name: Lexeme<'a>,
 }
 
-/// What is declared in `PROC GLOBAL`.
 #[derive(Drop)]
 pub enum Declaration<'a> {
     Numeric(Vec<Lexeme<'a>>),
@@ -270,7 +265,6 @@ pub enum Declaration<'a> {
     Function(Lexeme<'a>, Vec<Parameter<'a>>, Vec<Statement<'a>>),
 }
 
-/// An array that is declared, as it is written.
 #[derive(Drop)]
 pub struct Array<'a> {
     pub name: Lexeme<'a>,
@@ -289,7 +283,6 @@ pub enum Body<'a> {
     Postproc(Vec<Statement<'a>>),
 }
 
-/// A procedure, as it is written.
 #[derive(Drop)]
 pub struct Procedure<'a> {
     pub name: Lexeme<'a>,

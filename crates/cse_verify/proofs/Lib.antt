@@ -4,5 +4,6 @@ pub mod VerifiedLaws
 pub mod DepthLaws
 pub mod ChainLaws
 pub mod FirstLaws
+pub mod StartLaws
 pub mod MeaningLaws
 pub mod WalkLaws

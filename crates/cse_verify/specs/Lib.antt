@@ -3,4 +3,5 @@ pub mod Depths
 pub mod Verified
 pub mod Measured
 pub mod Chain
+pub mod Starts
 pub mod Meaning
