@@ -5,7 +5,7 @@ use Rattle.cse_image_parts.specs.Image.{MessageLists}
 use Rattle.cse_image_parts.specs.declared.entries.EventCode.{EventCode}
 use Rattle.cse_image_parts.specs.declared.entries.EventCode.TheVariants.{ApplicationPostproc}
 use Rattle.cse_lines.specs.Line.{FileLine}
-use Rattle.cse_lines.specs.Runs.{given, fault_in}
+use Rattle.cse_lines.specs.Runs.{given_runs, fault_in}
 use Rattle.cse_verify.specs.Verified.{VerifiedProgram}
 use Rattle.cse_decks.specs.Store.{Kept}
 use Rattle.cse_report.specs.Listing.{Report, first_line, lines_from}
@@ -85,32 +85,32 @@ unfolding batch
 fronts_stay v store bytes ended runs more e =
     let first = begun v store in
     let p = after_runs v first runs in
-    let is : after_runs v first (given v.dictionary true ended bytes) ≡ after_runs v p more = ap (after_runs v first) e ∙ runs_later v first runs more in
-    let g = front_at v (is_whole v.dictionary ended bytes) p (after_runs v first (given v.dictionary true ended bytes)) (totals_of v.dictionary (given v.dictionary true ended bytes))
+    let is : after_runs v first (given_runs v.dictionary true ended bytes) ≡ after_runs v p more = ap (after_runs v first) e ∙ runs_later v first runs more in
+    let g = front_at v (is_whole v.dictionary ended bytes) p (after_runs v first (given_runs v.dictionary true ended bytes)) (totals_of v.dictionary (given_runs v.dictionary true ended bytes))
     (subst (IsBefore p) (sym is) (before_runs v p more)) in
     record { out = g.out; listing = g.listing }
 
 -- ---- where it was stopped, and where it went to the end
 
-batch_is : (v : VerifiedProgram) (store : Kept) (bytes : List ℕ) (ended ends : Bool) (runs : List (List FileLine)) → is_whole v.dictionary ended bytes ≡ ends → given v.dictionary true ended bytes ≡ runs
+batch_is : (v : VerifiedProgram) (store : Kept) (bytes : List ℕ) (ended ends : Bool) (runs : List (List FileLine)) → is_whole v.dictionary ended bytes ≡ ends → given_runs v.dictionary true ended bytes ≡ runs
     → batch v store bytes ended ≡ told_after v ends (after_runs v (begun v store) runs) (totals_of v.dictionary runs)
 unfolding batch
 batch_is v store bytes ended ends runs e g =
-    ap (λ b. told_after v b (after_runs v (begun v store) (given v.dictionary true ended bytes)) (totals_of v.dictionary (given v.dictionary true ended bytes))) e
+    ap (λ b. told_after v b (after_runs v (begun v store) (given_runs v.dictionary true ended bytes)) (totals_of v.dictionary (given_runs v.dictionary true ended bytes))) e
     ∙ ap (λ rs. told_after v ends (after_runs v (begun v store) rs) (totals_of v.dictionary rs)) g
 
 not_whole : (ended : Bool) → ended && false ≡ false
 not_whole true = refl
 not_whole false = refl
 
-pub batch_faulty : (v : VerifiedProgram) (store : Kept) (bytes : List ℕ) (ended : Bool) (runs : List (List FileLine)) (f : ℕ × ℕ) → fault_in v.dictionary true ended bytes ≡ Some f → given v.dictionary true ended bytes ≡ runs
+pub batch_faulty : (v : VerifiedProgram) (store : Kept) (bytes : List ℕ) (ended : Bool) (runs : List (List FileLine)) (f : ℕ × ℕ) → fault_in v.dictionary true ended bytes ≡ Some f → given_runs v.dictionary true ended bytes ≡ runs
     → batch v store bytes ended ≡ stopped v (after_runs v (begun v store) runs) (totals_of v.dictionary runs)
 batch_faulty v store bytes ended runs f e g = batch_is v store bytes ended false runs (ap (λ (o : Option (ℕ × ℕ)). ended && not (is_some o)) e ∙ not_whole ended) g
 
-pub batch_broken : (v : VerifiedProgram) (store : Kept) (bytes : List ℕ) (ended : Bool) (runs : List (List FileLine)) → ended ≡ false → given v.dictionary true ended bytes ≡ runs
+pub batch_broken : (v : VerifiedProgram) (store : Kept) (bytes : List ℕ) (ended : Bool) (runs : List (List FileLine)) → ended ≡ false → given_runs v.dictionary true ended bytes ≡ runs
     → batch v store bytes ended ≡ stopped v (after_runs v (begun v store) runs) (totals_of v.dictionary runs)
 batch_broken v store bytes ended runs e g = batch_is v store bytes ended false runs (ap (λ b. b && not (is_some (fault_in v.dictionary true ended bytes))) e) g
 
-pub batch_whole : (v : VerifiedProgram) (store : Kept) (bytes : List ℕ) (runs : List (List FileLine)) → fault_in v.dictionary true true bytes ≡ None → given v.dictionary true true bytes ≡ runs
+pub batch_whole : (v : VerifiedProgram) (store : Kept) (bytes : List ℕ) (runs : List (List FileLine)) → fault_in v.dictionary true true bytes ≡ None → given_runs v.dictionary true true bytes ≡ runs
     → batch v store bytes true ≡ whole v (after_application v ApplicationPostproc (after_runs v (begun v store) runs)) (totals_of v.dictionary runs)
 batch_whole v store bytes runs e g = batch_is v store bytes true true runs (ap (λ (o : Option (ℕ × ℕ)). true && not (is_some o)) e) g

@@ -6,7 +6,7 @@ use Rattle.cse_image_parts.specs.declared.entries.EventCode.TheVariants as codes
 use Rattle.cse_dict.specs.Dictionary.{DictionaryText}
 use Rattle.cse_lines.specs.Line.{FileLine, lines_in}
 use Rattle.cse_lines.specs.Columns.{id_of}
-use Rattle.cse_lines.specs.Runs.{all_but_last, first_fault, given, given_before, given_of, onto_run, runs_of}
+use Rattle.cse_lines.specs.Runs.{all_but_last, first_fault, given_runs, given_before, given_of, onto_run, runs_of}
 use Rattle.cse_case.specs.Case.{CaseText, places_of, records_of, types_of}
 use Rattle.cse_case.specs.Seen.{is_case}
 use Rattle.cse_case.specs.Fit.{IsFit}
@@ -94,6 +94,6 @@ runs_end v law keeps p (run ∷ runs) some kept =
 
 pub batches_end : (v : VerifiedProgram) → EventsEnd v → CaseKeepsToBound v → BatchesEnd v
 batches_end v law keeps store bytes ended kept =
-    let runs = given v.dictionary true ended bytes in
+    let runs = given_runs v.dictionary true ended bytes in
     let all = runs_end v law keeps (begun v store) runs (some_given v.dictionary ended (lines_in true ended bytes)) (store_begun v law store kept) in
     record { cases = all.0; application = applications_end v law store (after_runs v (begun v store) runs).store kept all.1 }

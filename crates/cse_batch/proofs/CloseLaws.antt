@@ -10,7 +10,7 @@ use Rattle.cse_value.specs.Writing.{AppendsFront, FailsAtErr, WritesAll}
 use Rattle.cse_value.proofs.WriteLaws.{AppendsFront-after}
 use Rattle.cse_image_parts.specs.declared.entries.EventCode.TheVariants.{ApplicationPostproc}
 use Rattle.cse_dict.specs.Dictionary.{item_names}
-use Rattle.cse_lines.specs.Runs.{fault_in, given}
+use Rattle.cse_lines.specs.Runs.{fault_in, given_runs}
 use Rattle.cse_decks.specs.Store.{Kept}
 use Rattle.cse_decks.specs.Deck.{deck_text}
 use Rattle.cse_output.specs.Gathering.{Finishes, GaveUp, Gathered, Gathering, Going, Puts}
@@ -62,7 +62,7 @@ pub ran : (v : VerifiedProgram) (first : Kept) (before after : Given) (store sto
     → ((p : Progress) (start : List ℕ) (sound : Bool) → Keeps v p store old start sound list.going → Keeps v (after_application v ApplicationPostproc p) store' new start sound g)
     → Ran v first before after store' new out (record { start = list.start; sound = list.sound; going = g }) totals
 ran v first before after store store' old new out list g totals c step =
-    let runs = given v.dictionary true true c.bytes in
+    let runs = given_runs v.dictionary true true c.bytes in
     let p = after_runs v (begun v first) runs in
     let q = after_application v ApplicationPostproc p in
     let k = step p list.start list.sound c.keeps in
@@ -92,7 +92,7 @@ ran v first before after store store' old new out list g totals c step =
 pub halts_last : (v : VerifiedProgram) (first : Kept) (before after : Given) (store : Kept) (reports : Reports) (out list : Device) (g : Going) (totals : Totals) → CasesRan v first before after store reports out list totals
     → Puts list.going g [] → Halts v first before after out (record { start = list.start; sound = list.sound; going = g }) (record { number = 90; line = 0 })
 halts_last v first before after store reports out list g totals c idle =
-    let runs = given v.dictionary true true c.bytes in
+    let runs = given_runs v.dictionary true true c.bytes in
     let p = after_runs v (begun v first) runs in
     let front = fronts_stay v first c.bytes true runs [] (sym (append-nil runs)) in
     let text = unended v.image.lists.messages p.reports in
@@ -206,9 +206,9 @@ stops v first before after out list fault h r r' new new' failed failed' a b f d
 -- ---- an output that failed at the end
 
 -- the lines of a whole batch are those of its runs
-out_whole : (v : VerifiedProgram) (first : Kept) (bytes : List ℕ) → fault_in v.dictionary true true bytes ≡ None → (batch v first bytes true).out ≡ (after_runs v (begun v first) (given v.dictionary true true bytes)).out
+out_whole : (v : VerifiedProgram) (first : Kept) (bytes : List ℕ) → fault_in v.dictionary true true bytes ≡ None → (batch v first bytes true).out ≡ (after_runs v (begun v first) (given_runs v.dictionary true true bytes)).out
 out_whole v first bytes sound =
-    let runs = given v.dictionary true true bytes in
+    let runs = given_runs v.dictionary true true bytes in
     let p = after_runs v (begun v first) runs in
     (is_whole v (after_application v ApplicationPostproc p) (totals_of v.dictionary runs) (batch v first bytes true) (batch_whole v first bytes runs sound refl)).out ∙ application_out v p
 
@@ -225,9 +225,9 @@ stops_end v first before after store reports o l totals old new failed r fronts 
   out_whole = λ low. absurd (omega arith);
   listing_whole = λ low. absurd (omega arith);
   out_runs = λ works. record {
-    runs = given v.dictionary true true r.bytes;
+    runs = given_runs v.dictionary true true r.bytes;
     more = [];
-    given_are = sym (append-nil (given v.dictionary true true r.bytes));
+    given_are = sym (append-nil (given_runs v.dictionary true true r.bytes));
     appends = subst (λ (t : List ℕ). Appends old.out new.out t) (out_whole v first r.bytes r.sound) (wrote works);
   };
   unfailing = λ q. r.unfailing;

@@ -2,7 +2,7 @@
 use Rattle.std.proofs.Common.{◌≡◌, ℕ, List, [], ◌∷◌, ◌++◌, refl, sym, ap, ◌∙◌, append_assoc, append-nil}
 use Rattle.cse_image_parts.specs.Image.{MessageLists}
 use Rattle.cse_report.specs.Listing.{Report, heading_after, lines_from, lines_of, listing}
-use Rattle.cse_report.specs.Held.{Held, Flushes, Progress, Step, after_steps, begun, ending, flushed, given, reported, reports_in, stepped, unwritten}
+use Rattle.cse_report.specs.Held.{Held, Flushes, Progress, Step, after_steps, begun, ending, flushed, given_in_all, reported, reports_in, stepped, unwritten}
 use Rattle.cse_report.specs.Unended.{unended}
 use Rattle.cse_report.specs.AllReported.{all_reported, as_steps}
 use Rattle.cse_report.proofs.ListingLaws.{gives_the_listing}
@@ -36,5 +36,5 @@ listing_held m rs cases lines unseen =
     let h = all_reported (begun m) rs in
     let is : after_steps (unwritten m) (as_steps rs ++ Flushes ∷ []) ≡ record { written = h.lines; held = flushed h } =
     steps_later (unwritten m) (as_steps rs) (Flushes ∷ []) ∙ ap (λ (p : Progress). after_steps p (Flushes ∷ [])) (lists_all (unwritten m) rs) in
-    ap (λ (p : Progress). given p cases lines unseen) (sym is)
+    ap (λ (p : Progress). given_in_all p cases lines unseen) (sym is)
     ∙ (gives_the_listing m (as_steps rs ++ Flushes ∷ []) cases lines unseen ∙ ap (λ (l : List Report). listing m l cases lines unseen) (reports_flushed rs))

@@ -8,7 +8,7 @@ use Rattle.cse_image_parts.specs.declared.entries.EventCode.TheVariants.{Applica
 use Rattle.cse_lines.specs.declared.error.DataError.{DataError}
 use Rattle.cse_lines.specs.Line.{FileLine}
 use Rattle.cse_lines.specs.Run.{written_run}
-use Rattle.cse_lines.specs.Runs.{given}
+use Rattle.cse_lines.specs.Runs.{given_runs}
 use Rattle.cse_lines.specs.Reader.{ReaderText, held_of, is_front}
 use Rattle.cse_case.specs.Case.{CaseText, case_of, records_of, types_of, unseen_lines}
 use Rattle.cse_case.specs.Seen.{is_case}
@@ -130,7 +130,7 @@ module _ (v : VerifiedProgram) (first : Kept) (before now after : Given) (r r' :
   pub ran_all : NextCase now after r r' (Ok None) → IsUnfailing now after → IsAtEnd after → CasesRan v first before after store reports out listing totals
   ran_all n works end =
       let d = v.dictionary in
-      let is : given d true true run.text ≡ run.so_far.runs = given_all before now after d r r' run.text totals run.so_far n in
+      let is : given_runs d true true run.text ≡ run.so_far.runs = given_all before now after d r r' run.text totals run.so_far n in
       record {
         bytes = run.text;
         reads = reads_all before now after d r r' run.text totals run.so_far n;
@@ -163,7 +163,7 @@ module _ (v : VerifiedProgram) (first : Kept) (before now after : Given) (r r' :
     abbrev fault : RunFault
     fault = record { number = error.number; line = error.line }
 
-    none_given : given v.dictionary (is_front r) r'.ended (held_of r ++ n.taken) ≡ [] → given v.dictionary true r'.ended bytes ≡ run.so_far.runs
+    none_given : given_runs v.dictionary (is_front r) r'.ended (held_of r ++ n.taken) ≡ [] → given_runs v.dictionary true r'.ended bytes ≡ run.so_far.runs
     none_given e = given_more before now after v.dictionary r r' run.text totals run.so_far error n ∙ (ap (λ l. run.so_far.runs ++ l) e ∙ append-nil run.so_far.runs)
 
     is_stopped : error.number < 71 → all ≡ stopped v at (totals_of v.dictionary run.so_far.runs)
@@ -245,8 +245,8 @@ module _ (v : VerifiedProgram) (first : Kept) (before now after : Given) (r r' :
       let s = SoFar-case before now after d r r' run.text totals run.so_far c n works (is_case (records_of c) (types_of c.run.lines)) refl few in
       let bytes = (run.text ++ written_run c.run) ++ held_of r' in
       let lines = lines_of c n in
-      let rest = given d (is_front r') r'.ended (held_of r') in
-      let is : given d true r'.ended bytes ≡ run.so_far.runs ++ lines ∷ rest =
+      let rest = given_runs d (is_front r') r'.ended (held_of r') in
+      let is : given_runs d true r'.ended bytes ≡ run.so_far.runs ++ lines ∷ rest =
       given_so_far before after d r' (run.text ++ written_run c.run) _ s
       ∙ (ap (λ (rs : List (List FileLine)). rs ++ rest) (runs-case before now after d r r' run.text totals run.so_far c n works (is_case (records_of c) (types_of c.run.lines)) refl few)
       ∙ append_assoc run.so_far.runs (lines ∷ []) rest) in

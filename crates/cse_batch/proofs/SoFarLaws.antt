@@ -11,7 +11,7 @@ use Rattle.cse_lines.specs.declared.error.DataError.{DataError}
 use Rattle.cse_lines.specs.Line.{FileLine, lines_in}
 use Rattle.cse_lines.specs.Columns.{line_text}
 use Rattle.cse_lines.specs.Run.{RunText, written_run}
-use Rattle.cse_lines.specs.Runs.{given, given_of, fault_in, later_by, MayFollow}
+use Rattle.cse_lines.specs.Runs.{given_runs, given_of, fault_in, later_by, MayFollow}
 use Rattle.cse_lines.specs.Reader.{ReaderText, IsError, IsFaulty, NeedsMore, held_of, is_front}
 use mir.Val.{bool_byte}
 use Rattle.std.proofs.lemmas.Bool.{MatchBool-at_true}
@@ -38,7 +38,7 @@ pub record SoFar (before now : Given) (d : DictionaryText) (r : ReaderText) (tex
   pub few_cases : totals.cases ≤ totals.lines
   pub few_unseen : totals.unseen ≤ totals.lines
   pub few : r.lines ≤ 2 ^ 40 * 65536
-  pub goes_on : (later : Bool) (more : List ℕ) → MayFollow r.ended later more → given d true later ((text ++ held_of r) ++ more) ≡ runs ++ given d (is_front r) later (held_of r ++ more)
+  pub goes_on : (later : Bool) (more : List ℕ) → MayFollow r.ended later more → given_runs d true later ((text ++ held_of r) ++ more) ≡ runs ++ given_runs d (is_front r) later (held_of r ++ more)
   pub fault : (later : Bool) (more : List ℕ) → MayFollow r.ended later more → fault_in d true later ((text ++ held_of r) ++ more) ≡ later_by r.lines (fault_in d (is_front r) later (held_of r ++ more))
 
 later_by-none : (f : Option (ℕ × ℕ)) → later_by 0 f ≡ f
@@ -49,7 +49,7 @@ later_by-later_by : (a b : ℕ) (f : Option (ℕ × ℕ)) → later_by a (later_
 later_by-later_by a b None = refl
 later_by-later_by a b (Some f) = ap (λ n. Some (n, f.1)) (sym (add_assoc a b (f.0)))
 
-nothing_given : (d : DictionaryText) (front : Bool) → given d front true [] ≡ []
+nothing_given : (d : DictionaryText) (front : Bool) → given_runs d front true [] ≡ []
 unfolding given_of lines_in
 nothing_given d front = refl
 
@@ -73,7 +73,7 @@ SoFar-none now d r same none unended unread front =
       few_cases = omega arith;
       few_unseen = omega arith;
       few = omega arith;
-      goes_on = λ later more h. ap (λ f. given d f later (held_of r ++ more)) (sym first);
+      goes_on = λ later more h. ap (λ f. given_runs d f later (held_of r ++ more)) (sym first);
       fault = λ later more h. ap (λ f. fault_in d f later (held_of r ++ more)) (sym first) ∙ (sym (later_by-none (fault_in d (is_front r) later (held_of r ++ more))) ∙ ap (λ n. later_by n (fault_in d (is_front r) later (held_of r ++ more))) (sym front));
     }
 
@@ -105,9 +105,9 @@ at_most_one false = omega arith
 
 -- the runs that are given of all that was read
 pub given_so_far : (before now : Given) (d : DictionaryText) (r : ReaderText) (text : List ℕ) (totals : Totals) (s : SoFar before now d r text totals)
-    → given d true r.ended (text ++ held_of r) ≡ s.runs ++ given d (is_front r) r.ended (held_of r)
+    → given_runs d true r.ended (text ++ held_of r) ≡ s.runs ++ given_runs d (is_front r) r.ended (held_of r)
 given_so_far before now d r text totals s =
-    ap (given d true r.ended) (sym (append-nil (text ++ held_of r))) ∙ (s.goes_on r.ended [] (λ e. (e, refl)) ∙ ap (λ l. s.runs ++ given d (is_front r) r.ended l) (append-nil (held_of r)))
+    ap (given_runs d true r.ended) (sym (append-nil (text ++ held_of r))) ∙ (s.goes_on r.ended [] (λ e. (e, refl)) ∙ ap (λ l. s.runs ++ given_runs d (is_front r) r.ended l) (append-nil (held_of r)))
 
 -- what may follow what was read may follow what was held
 may_follow : (ended ended' later : Bool) (taken more : List ℕ) → (ended ≡ true → (taken ≡ []) × (ended' ≡ true)) → MayFollow ended' later more → MayFollow ended later (taken ++ more)
@@ -173,11 +173,11 @@ module _ (before now after : Given) (d : DictionaryText) (r r' : ReaderText) (te
           goes_on = λ later rest h.
               let before' = s.goes_on later (n.taken ++ rest) (may_follow r.ended r'.ended later n.taken rest n.stays h) in
               let first = gives.run.first later rest h in
-              ap (λ l. given d true later (l ++ rest)) (sym shift)
-              ∙ (ap (given d true later) (append_assoc (text ++ held_of r) n.taken rest)
-              ∙ (before' ∙ (ap (λ l. s.runs ++ given d (is_front r) later l) (sym (append_assoc (held_of r) n.taken rest))
-              ∙ (ap (λ l. s.runs ++ l) first ∙ (ap (λ f. s.runs ++ (gives.run.lines ∷ given d f later (held_of r' ++ rest))) (sym behind)
-              ∙ sym (append_assoc s.runs (gives.run.lines ∷ []) (given d (is_front r') later (held_of r' ++ rest))))))));
+              ap (λ l. given_runs d true later (l ++ rest)) (sym shift)
+              ∙ (ap (given_runs d true later) (append_assoc (text ++ held_of r) n.taken rest)
+              ∙ (before' ∙ (ap (λ l. s.runs ++ given_runs d (is_front r) later l) (sym (append_assoc (held_of r) n.taken rest))
+              ∙ (ap (λ l. s.runs ++ l) first ∙ (ap (λ f. s.runs ++ (gives.run.lines ∷ given_runs d f later (held_of r' ++ rest))) (sym behind)
+              ∙ sym (append_assoc s.runs (gives.run.lines ∷ []) (given_runs d (is_front r') later (held_of r' ++ rest))))))));
           fault = λ later rest h.
               let before' = s.fault later (n.taken ++ rest) (may_follow r.ended r'.ended later n.taken rest n.stays h) in
               let first = gives.run.fault later rest h in
@@ -198,11 +198,11 @@ module _ (before now after : Given) (d : DictionaryText) (r r' : ReaderText) (te
     all = append_assoc text (held_of r) n.taken ∙ (ap (λ l. text ++ l) n.answers.none ∙ append-nil text)
 
     -- no other run is given
-    pub given_all : given d true true text ≡ s.runs
+    pub given_all : given_runs d true true text ≡ s.runs
     given_all =
-        ap (given d true true) (sym all)
+        ap (given_runs d true true) (sym all)
         ∙ (s.goes_on true n.taken (λ e. (refl, (n.stays e).0))
-        ∙ (ap (λ l. s.runs ++ given d (is_front r) true l) n.answers.none
+        ∙ (ap (λ l. s.runs ++ given_runs d (is_front r) true l) n.answers.none
         ∙ (ap (λ l. s.runs ++ l) (nothing_given d (is_front r)) ∙ append-nil s.runs)))
 
     pub sound_all : fault_in d true true text ≡ None
@@ -234,8 +234,8 @@ module _ (before now after : Given) (d : DictionaryText) (r r' : ReaderText) (te
     }
 
     -- the runs that are given of all that was read
-    pub given_more : given d true r'.ended (text ++ (held_of r ++ n.taken)) ≡ s.runs ++ given d (is_front r) r'.ended (held_of r ++ n.taken)
-    given_more = ap (given d true r'.ended) (sym whole) ∙ s.goes_on r'.ended n.taken (λ e. ((n.stays e).1, (n.stays e).0))
+    pub given_more : given_runs d true r'.ended (text ++ (held_of r ++ n.taken)) ≡ s.runs ++ given_runs d (is_front r) r'.ended (held_of r ++ n.taken)
+    given_more = ap (given_runs d true r'.ended) (sym whole) ∙ s.goes_on r'.ended n.taken (λ e. ((n.stays e).1, (n.stays e).0))
 
     pub reads_more : Consumes before after (text ++ (held_of r ++ n.taken))
     reads_more = subst (Consumes before after) whole (Consumes-trans before now after (text ++ held_of r) n.taken s.reads n.consumes)

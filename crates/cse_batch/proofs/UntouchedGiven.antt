@@ -7,7 +7,7 @@ use Rattle.std.specs.Str.{bytes_eq}
 use Rattle.cse_dict.specs.Dictionary.{DictionaryText}
 use Rattle.cse_lines.specs.Line.{FileLine, counts, flagged, lines_in, pieces_of}
 use Rattle.cse_lines.specs.Columns.{id_of}
-use Rattle.cse_lines.specs.Runs.{AreSound, all_but_last, fault_in, fault_of, first_fault, given, given_before, given_of, line_fault, onto_run, or_later, place_after, runs_of}
+use Rattle.cse_lines.specs.Runs.{AreSound, all_but_last, fault_in, fault_of, first_fault, given_runs, given_before, given_of, line_fault, onto_run, or_later, place_after, runs_of}
 use Rattle.cse_lines.specs.Gathering.{StandsFrom, bytes_of}
 
 -- runs with lines, sound ones, of which the first stands at the front of the file or not
@@ -110,7 +110,7 @@ given_good d ended front lines s = by_fault (first_fault d [] 0 lines) refl ende
     by_fault None e true = runs_good d front lines (sound_without d [] 0 lines e) s
     by_fault None e false = but_last front (runs_of d lines) (runs_good d front lines (sound_without d [] 0 lines e) s)
 
-pub given_are_good : (d : DictionaryText) (ended : Bool) (bytes : List ℕ) → (front : Bool) × AreGood front (given d true ended bytes)
+pub given_are_good : (d : DictionaryText) (ended : Bool) (bytes : List ℕ) → (front : Bool) × AreGood front (given_runs d true ended bytes)
 unfolding lines_in
 given_are_good d ended bytes =
     let s = at_front (counts ended) true (pieces_of bytes) in
@@ -155,7 +155,7 @@ bytes_of_runs : (d : DictionaryText) (lines : List FileLine) → flat_map bytes_
 bytes_of_runs d [] = refl
 bytes_of_runs d (line ∷ lines) = bytes_of_onto_run d line (runs_of d lines) ∙ ap (λ l. line.1 ++ l) (bytes_of_runs d lines)
 
-pub all_given : (d : DictionaryText) (bytes : List ℕ) → fault_in d true true bytes ≡ None → flat_map bytes_of (given d true true bytes) ≡ bytes
+pub all_given : (d : DictionaryText) (bytes : List ℕ) → fault_in d true true bytes ≡ None → flat_map bytes_of (given_runs d true true bytes) ≡ bytes
 unfolding given_of fault_in lines_in
 all_given d bytes sound =
     let lines = filter (counts true) (flagged true (pieces_of bytes)) in

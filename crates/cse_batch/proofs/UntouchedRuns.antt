@@ -14,7 +14,7 @@ use Rattle.cse_lines.specs.Line.{FileLine}
 use Rattle.cse_lines.specs.Columns.{LineText, line_text, no_line}
 use Rattle.cse_lines.specs.Field.{field_at, ids_of, type_span}
 use Rattle.cse_lines.specs.Run.{begins_marked, line_at, run_text, written_run}
-use Rattle.cse_lines.specs.Runs.{AreSound, fault_in, given}
+use Rattle.cse_lines.specs.Runs.{AreSound, fault_in, given_runs}
 use Rattle.cse_lines.specs.Gathering.{StandsFrom, bytes_of}
 use Rattle.cse_lines.specs.Written.{mark_bytes, written_line}
 use Rattle.cse_case.specs.Case.{CaseText, case_of}
@@ -136,12 +136,12 @@ module _ (v : VerifiedProgram) (laws : StepLaws v) where
 
 -- ---- the batch
 
-out_is : (v : VerifiedProgram) (store : Kept) (bytes : List ℕ) (ended : Bool) → (batch v store bytes ended).out ≡ (after_runs v (begun v store) (given v.dictionary true ended bytes)).out
+out_is : (v : VerifiedProgram) (store : Kept) (bytes : List ℕ) (ended : Bool) → (batch v store bytes ended).out ≡ (after_runs v (begun v store) (given_runs v.dictionary true ended bytes)).out
 unfolding batch whole stopped after_application
 out_is v store bytes ended = by_end (is_whole v.dictionary ended bytes)
   where
-    by_end : (ends : Bool) → (told_after v ends (after_runs v (begun v store) (given v.dictionary true ended bytes)) (totals_of v.dictionary (given v.dictionary true ended bytes))).out
-        ≡ (after_runs v (begun v store) (given v.dictionary true ended bytes)).out
+    by_end : (ends : Bool) → (told_after v ends (after_runs v (begun v store) (given_runs v.dictionary true ended bytes)) (totals_of v.dictionary (given_runs v.dictionary true ended bytes))).out
+        ≡ (after_runs v (begun v store) (given_runs v.dictionary true ended bytes)).out
     by_end true = refl
     by_end false = refl
 
@@ -151,7 +151,7 @@ nothing_written v store = refl
 
 pub untouched_columns_stay : (v : VerifiedProgram) → StepLaws v → UntouchedColumnsStay v
 untouched_columns_stay v laws store bytes ended fits =
-    let runs = given v.dictionary true ended bytes in
+    let runs = given_runs v.dictionary true ended bytes in
     let good = given_are_good v.dictionary ended bytes in
     let w = writes v laws (good.0) (begun v store) runs (good.1) (begun_fits v laws store fits) in
     record {
@@ -161,9 +161,9 @@ untouched_columns_stay v laws store bytes ended fits =
       all = λ has_ended sound. all_read has_ended sound;
     }
   where
-    all_read : ended ≡ true → fault_in v.dictionary true ended bytes ≡ None → flat_map bytes_of (given v.dictionary true ended bytes) ≡ bytes
+    all_read : ended ≡ true → fault_in v.dictionary true ended bytes ≡ None → flat_map bytes_of (given_runs v.dictionary true ended bytes) ≡ bytes
     all_read e sound =
-        ap (λ b. flat_map bytes_of (given v.dictionary true b bytes)) e ∙ all_given v.dictionary bytes (ap (λ b. fault_in v.dictionary true b bytes) (sym e) ∙ sound)
+        ap (λ b. flat_map bytes_of (given_runs v.dictionary true b bytes)) e ∙ all_given v.dictionary bytes (ap (λ b. fault_in v.dictionary true b bytes) (sym e) ∙ sound)
 
 -- ---- checks alone
 
@@ -197,4 +197,4 @@ module _ (v : VerifiedProgram) (checks : OnlyChecks v) where
 pub checks_change_nothing : (v : VerifiedProgram) → UntouchedColumnsStay v → ChecksChangeNothing v
 checks_change_nothing v law store bytes checks fits sound =
     let o = law store bytes true fits in
-    o.out ∙ (runs_same v checks (begun v store) (given v.dictionary true true bytes) o.written o.runs ∙ o.all refl sound)
+    o.out ∙ (runs_same v checks (begun v store) (given_runs v.dictionary true true bytes) o.written o.runs ∙ o.all refl sound)

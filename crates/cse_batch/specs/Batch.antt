@@ -11,7 +11,7 @@ use Rattle.cse_image_parts.specs.declared.entries.EventCode.TheVariants.{Applica
 use Rattle.cse_dict.specs.Dictionary.{DictionaryText, item_names}
 use Rattle.cse_lines.specs.Line.{FileLine}
 use Rattle.cse_lines.specs.Run.{written_run}
-use Rattle.cse_lines.specs.Runs.{given, fault_in}
+use Rattle.cse_lines.specs.Runs.{given_runs, fault_in}
 use Rattle.cse_case.specs.Case.{CaseText, case_of, unseen_lines}
 use Rattle.cse_code_bounds.specs.CaseEvents.{moment}
 use Rattle.cse_verify.specs.Verified.{VerifiedProgram}
@@ -131,4 +131,4 @@ told_after v ends p n = if ends then whole v (after_application v ApplicationPos
 -- the batch over these bytes, after which the data ends or breaks off
 unfoldable pub batch : VerifiedProgram → Kept → List ℕ → Bool → Batch
 batch v store bytes ended =
-    told_after v (is_whole v.dictionary ended bytes) (after_runs v (begun v store) (given v.dictionary true ended bytes)) (totals_of v.dictionary (given v.dictionary true ended bytes))
+    told_after v (is_whole v.dictionary ended bytes) (after_runs v (begun v store) (given_runs v.dictionary true ended bytes)) (totals_of v.dictionary (given_runs v.dictionary true ended bytes))

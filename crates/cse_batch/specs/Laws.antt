@@ -1,7 +1,7 @@
 -- What is proved of batches.
 use Rattle.std.specs.Prelude.{◌≡◌, ℕ, ◌+◌, ◌≤◌, Bool, true, List, [], ◌∷◌, ◌++◌, Option}
 use Rattle.cse_lines.specs.Line.{FileLine}
-use Rattle.cse_lines.specs.Runs.{given}
+use Rattle.cse_lines.specs.Runs.{given_runs}
 use Rattle.cse_case.specs.Case.{CaseText}
 use Rattle.cse_case.specs.Fit.{IsFit}
 use Rattle.cse_image_parts.specs.declared.entries.EventCode.TheVariants.{ApplicationPreproc, ApplicationPostproc}
@@ -50,8 +50,8 @@ RunsEnd v p (run ∷ runs) = CaseEnds v p.store (next_case v p run) × RunsEnd v
 -- In a batch over any bytes all events run to their ends: those of each run of lines within the steps of a case, and those of the application within the
 -- steps of a run.
 pub record BatchEnds (v : VerifiedProgram) (store : Kept) (bytes : List ℕ) (ended : Bool) : Type 0 where
-  pub cases : RunsEnd v (begun v store) (given v.dictionary true ended bytes)
-  pub application : ApplicationEnds v store (after_runs v (begun v store) (given v.dictionary true ended bytes)).store
+  pub cases : RunsEnd v (begun v store) (given_runs v.dictionary true ended bytes)
+  pub application : ApplicationEnds v store (after_runs v (begun v store) (given_runs v.dictionary true ended bytes)).store
 
 abbrev pub BatchesEnd : VerifiedProgram → Type 0
 BatchesEnd v = (store : Kept) (bytes : List ℕ) (ended : Bool) → StoreFits v.image store → BatchEnds v store bytes ended
@@ -63,4 +63,4 @@ pub record HasFront (v : VerifiedProgram) (store : Kept) (runs : List (List File
 
 abbrev pub FrontsStay : Type 0
 FrontsStay = (v : VerifiedProgram) (store : Kept) (bytes : List ℕ) (ended : Bool) (runs more : List (List FileLine))
-    → given v.dictionary true ended bytes ≡ runs ++ more → HasFront v store runs (batch v store bytes ended)
+    → given_runs v.dictionary true ended bytes ≡ runs ++ more → HasFront v store runs (batch v store bytes ended)

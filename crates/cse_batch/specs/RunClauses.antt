@@ -3,7 +3,7 @@ use Rattle.std.specs.Prelude.{◌≡◌, ◌≢◌, ◌≤◌, ◌<◌, ◌^◌,
 use Rattle.cse_value.specs.Device.{Consumes, Appends, IsAtEnd, Given, FailsOnce, IsUnfailing}
 use Rattle.cse_value.specs.Writing.{AppendsFront}
 use Rattle.cse_lines.specs.Line.{FileLine}
-use Rattle.cse_lines.specs.Runs.{given, fault_in}
+use Rattle.cse_lines.specs.Runs.{given_runs, fault_in}
 use Rattle.cse_verify.specs.Verified.{VerifiedProgram}
 use Rattle.cse_decks.specs.Store.{Kept}
 use Rattle.cse_batch.specs.declared.totals.Totals.{Totals}
@@ -64,7 +64,7 @@ pub record RunsWhole (v : VerifiedProgram) (store : Kept) (before after : Given)
 pub record WritesRuns (v : VerifiedProgram) (store : Kept) (bytes : List ℕ) (ended : Bool) (old new : List ℕ) : Type 0 where
   pub runs : List (List FileLine)
   pub more : List (List FileLine)
-  pub given_are : given v.dictionary true ended bytes ≡ runs ++ more
+  pub given_are : given_runs v.dictionary true ended bytes ≡ runs ++ more
   pub appends : Appends old new (after_runs v (begun v store) runs).out
 
 -- Each output was given a front of its text in the batch over what was read. The mark says whether the end of the input was read. A fault below 70 is that

@@ -2,7 +2,7 @@
 use Rattle.std.specs.Prelude.{◌≡◌, ◌≢◌, ◌≤◌, ◌<◌, ◌^◌, ◌⊎◌, ℕ, Bool, true, false, List, [], ◌++◌, length, replicate, None}
 use Rattle.cse_value.specs.Device.{Consumes, IsAtEnd, Given, FailsOnce, IsUnfailing}
 use Rattle.cse_lines.specs.Line.{FileLine}
-use Rattle.cse_lines.specs.Runs.{given, fault_in}
+use Rattle.cse_lines.specs.Runs.{given_runs, fault_in}
 use Rattle.cse_lines.specs.Reader.{ReaderText, held_of}
 use Rattle.cse_dict.specs.Dictionary.{item_names}
 use Rattle.cse_decks.specs.Store.{Kept}
@@ -59,9 +59,9 @@ pub record CasesRan (v : VerifiedProgram) (first : Kept) (before after : Given) 
   pub unfailing : IsUnfailing before after
   pub end : IsAtEnd after
   pub sound : fault_in v.dictionary true true bytes ≡ None
-  pub totals_are : totals ≡ totals_of v.dictionary (given v.dictionary true true bytes)
-  pub keeps : Keeps v (after_runs v (begun v first) (given v.dictionary true true bytes)) store reports listing.start listing.sound listing.going
-  pub written : Has out (after_runs v (begun v first) (given v.dictionary true true bytes)).out
+  pub totals_are : totals ≡ totals_of v.dictionary (given_runs v.dictionary true true bytes)
+  pub keeps : Keeps v (after_runs v (begun v first) (given_runs v.dictionary true true bytes)) store reports listing.start listing.sound listing.going
+  pub written : Has out (after_runs v (begun v first) (given_runs v.dictionary true true bytes)).out
 
 -- It was stopped: the lines of some runs were put, and fronts of the texts of the batch over what was read, and all of them after a fault of the data, and after 70.
 pub record Halts (v : VerifiedProgram) (first : Kept) (before after : Given) (out listing : Device) (fault : RunFault) : Type 0 where
@@ -71,7 +71,7 @@ pub record Halts (v : VerifiedProgram) (first : Kept) (before after : Given) (ou
   pub end : ended ≡ true → IsAtEnd after
   pub runs : List (List FileLine)
   pub more : List (List FileLine)
-  pub given_are : given v.dictionary true ended bytes ≡ runs ++ more
+  pub given_are : given_runs v.dictionary true ended bytes ≡ runs ++ more
   pub written : List ℕ
   pub written_is : written ≡ (after_runs v (begun v first) runs).out
   pub listed : List ℕ

@@ -9,7 +9,7 @@ use Rattle.cse_lines.specs.Line.{FileLine, end_bytes, ending_of, is_marked}
 use Rattle.cse_lines.specs.Columns.{columns_of, id_of, line_text}
 use Rattle.cse_lines.specs.Field.{field_at, ids_of, type_span}
 use Rattle.cse_lines.specs.Written.{kept_columns, mark_bytes}
-use Rattle.cse_lines.specs.Runs.{fault_in, given}
+use Rattle.cse_lines.specs.Runs.{fault_in, given_runs}
 use Rattle.cse_lines.specs.Gathering.{bytes_of}
 use Rattle.cse_case.specs.Case.{CaseText, case_of, records_of, types_of}
 use Rattle.cse_case.specs.Seen.{is_case}
@@ -59,8 +59,8 @@ RunsStay v p (run ∷ runs) (lines ∷ written) = RunStays v p.store (p.lines + 
 pub record OutStays (v : VerifiedProgram) (store : Kept) (bytes : List ℕ) (ended : Bool) : Type 0 where
   pub written : List (List (List ℕ))
   pub out : (batch v store bytes ended).out ≡ flat_map (flat_map (λ line. line)) written
-  pub runs : RunsStay v (begun v store) (given v.dictionary true ended bytes) written
-  pub all : ended ≡ true → fault_in v.dictionary true ended bytes ≡ None → flat_map bytes_of (given v.dictionary true ended bytes) ≡ bytes
+  pub runs : RunsStay v (begun v store) (given_runs v.dictionary true ended bytes) written
+  pub all : ended ≡ true → fault_in v.dictionary true ended bytes ≡ None → flat_map bytes_of (given_runs v.dictionary true ended bytes) ≡ bytes
 
 -- The law, of whatever is read: sound lines or faulty ones, to the end or not.
 abbrev pub UntouchedColumnsStay : VerifiedProgram → Type 0

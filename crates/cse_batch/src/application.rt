@@ -55,7 +55,8 @@ pub(crate) fn apply<C: Code, M: Runs, L: Output>(
     requires store { StoreFits verified.now.image store.old }
     requires reports { ReportsFit verified.now.image reports.old }
     ensures same { M.program machine.new ≡ verified.now }
-    ensures keeps { OnOk result ((p : Progress) (start : List ℕ) (sound : Bool) → Keeps verified.now p store.old reports.old start sound (behind L.taken L.has_failed listing.old gatherer.old)
+    ensures keeps { OnOk result ((p : Progress) (start : List ℕ) (sound : Bool)
+        → Keeps verified.now p store.old reports.old start sound (behind L.taken L.has_failed listing.old gatherer.old)
         → Keeps verified.now (after_application verified.now code p) store.new reports.new start sound (behind L.taken L.has_failed listing.new gatherer.new)) }
     ensures err { OnErr result (Puts (behind L.taken L.has_failed listing.old gatherer.old) (behind L.taken L.has_failed listing.new gatherer.new) []) }
     ensures store_fits { OnOk result (StoreFits verified.now.image store.new) }

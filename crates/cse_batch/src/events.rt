@@ -37,7 +37,8 @@ fn run_event<C: Code, M: Runs>(
     requires there { IsThere verified.now.image (occurrences_in (Some case.old)) event.code event.index 0 }
     requires reports { ReportsFit verified.now.image reports.old }
     ensures same { M.program machine.new ≡ verified.now }
-    ensures scene { OnOk result (scene (Some case.new) store.new reports.new ≡ scene_after verified.now (scene (Some case.old) store.old reports.old) (moment event.code event.index 0)) }
+    ensures scene { OnOk result (scene (Some case.new) store.new reports.new
+        ≡ scene_after verified.now (scene (Some case.old) store.old reports.old) (moment event.code event.index 0)) }
     ensures goes_on { OnOk result (GoesOn verified.now case.old case.new store.new) }
     ensures reports_fit { ReportsFit verified.now.image reports.new }
 {
@@ -62,7 +63,8 @@ fn run_if_handled<C: Code, M: Runs>(
     requires there { IsThere verified.now.image (occurrences_in (Some case.old)) event.code event.index 0 }
     requires reports { ReportsFit verified.now.image reports.old }
     ensures same { M.program machine.new ≡ verified.now }
-    ensures scene { OnOk result (scene (Some case.new) store.new reports.new ≡ scene_after verified.now (scene (Some case.old) store.old reports.old) (moment event.code event.index 0)) }
+    ensures scene { OnOk result (scene (Some case.new) store.new reports.new
+        ≡ scene_after verified.now (scene (Some case.old) store.old reports.old) (moment event.code event.index 0)) }
     ensures goes_on { OnOk result (GoesOn verified.now case.old case.new store.new) }
     ensures reports_fit { ReportsFit verified.now.image reports.new }
 {
@@ -104,7 +106,8 @@ fn run_items<C: Code, M: Runs>(
     requires high { occurrence ≤ occurrences_in (Some case.old) handled.now.number }
     requires reports { ReportsFit verified.now.image reports.old }
     ensures same { M.program machine.new ≡ verified.now }
-    ensures scene { OnOk result (scene (Some case.new) store.new reports.new ≡ scene_after_all verified.now (scene (Some case.old) store.old reports.old) (item_events handled.now.number occurrence 0 verified.now.image.lists.items)) }
+    ensures scene { OnOk result (scene (Some case.new) store.new reports.new ≡ scene_after_all verified.now (scene (Some case.old) store.old reports.old)
+        (item_events handled.now.number occurrence 0 verified.now.image.lists.items)) }
     ensures goes_on { OnOk result (GoesOn verified.now case.old case.new store.new) }
     ensures reports_fit { ReportsFit verified.now.image reports.new }
 {
@@ -126,7 +129,8 @@ fn run_occurrences<C: Code, M: Runs>(
     requires goes_on { GoesOn verified.now case.old case.old store.old }
     requires reports { ReportsFit verified.now.image reports.old }
     ensures same { M.program machine.new ≡ verified.now }
-    ensures scene { OnOk result (scene (Some case.new) store.new reports.new ≡ scene_after_all verified.now (scene (Some case.old) store.old reports.old) (occurrence_events handled.now.number verified.now.image.lists.items 1 (occurrences_in (Some case.old) handled.now.number))) }
+    ensures scene { OnOk result (scene (Some case.new) store.new reports.new ≡ scene_after_all verified.now (scene (Some case.old) store.old reports.old)
+        (occurrence_events handled.now.number verified.now.image.lists.items 1 (occurrences_in (Some case.old) handled.now.number))) }
     ensures goes_on { OnOk result (GoesOn verified.now case.old case.new store.new) }
     ensures reports_fit { ReportsFit verified.now.image reports.new }
 {
@@ -154,7 +158,8 @@ fn run_record<C: Code, M: Runs>(
     requires goes_on { GoesOn verified.now case.old case.old store.old }
     requires reports { ReportsFit verified.now.image reports.old }
     ensures same { M.program machine.new ≡ verified.now }
-    ensures scene { OnOk result (scene (Some case.new) store.new reports.new ≡ scene_after_all verified.now (scene (Some case.old) store.old reports.old) (record_events verified.now.image.lists.items handled.now.number (occurrences_in (Some case.old) handled.now.number))) }
+    ensures scene { OnOk result (scene (Some case.new) store.new reports.new ≡ scene_after_all verified.now (scene (Some case.old) store.old reports.old)
+        (record_events verified.now.image.lists.items handled.now.number (occurrences_in (Some case.old) handled.now.number))) }
     ensures goes_on { OnOk result (GoesOn verified.now case.old case.new store.new) }
     ensures reports_fit { ReportsFit verified.now.image reports.new }
 {
@@ -196,7 +201,8 @@ fn run_records<C: Code, M: Runs>(
     requires goes_on { GoesOn verified.now case.old case.old store.old }
     requires reports { ReportsFit verified.now.image reports.old }
     ensures same { M.program machine.new ≡ verified.now }
-    ensures scene { OnOk result (scene (Some case.new) store.new reports.new ≡ scene_after_all verified.now (scene (Some case.old) store.old reports.old) (records_events verified.now.image.lists.items (occurrences_in (Some case.old)) verified.now.image.lists.order)) }
+    ensures scene { OnOk result (scene (Some case.new) store.new reports.new ≡ scene_after_all verified.now (scene (Some case.old) store.old reports.old)
+        (records_events verified.now.image.lists.items (occurrences_in (Some case.old)) verified.now.image.lists.order)) }
     ensures goes_on { OnOk result (GoesOn verified.now case.old case.new store.new) }
     ensures reports_fit { ReportsFit verified.now.image reports.new }
 {
@@ -220,7 +226,8 @@ pub(crate) fn run_case_events<C: Code, M: Runs>(
     requires goes_on { GoesOn verified.now case.old case.old store.old }
     requires reports { ReportsFit verified.now.image reports.old }
     ensures same { M.program machine.new ≡ verified.now }
-    ensures scene { OnOk result (scene (Some case.new) store.new reports.new ≡ scene_after_all verified.now (scene (Some case.old) store.old reports.old) (case_events verified.now.image (occurrences_in (Some case.old)))) }
+    ensures scene { OnOk result (scene (Some case.new) store.new reports.new
+        ≡ scene_after_all verified.now (scene (Some case.old) store.old reports.old) (case_events verified.now.image (occurrences_in (Some case.old)))) }
     ensures goes_on { OnOk result (GoesOn verified.now case.old case.new store.new) }
     ensures reports_fit { ReportsFit verified.now.image reports.new }
 {

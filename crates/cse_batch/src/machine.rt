@@ -38,8 +38,10 @@ pub trait Runs {
         requires fits { AllFitFirst (program self.old) (in_occurrence occurrence (events_of events.now)) (Some case.old) store.old }
         requires reports { ReportsFit (program self.old).image reports.old }
         ensures same { program self.new ≡ program self.old }
-        ensures ended { OnOk result (AllRunTo (program self.old) (in_occurrence occurrence (events_of events.now)) (Some case.old) store.old reports.old (Some case.new) store.new reports.new) }
-        ensures halted { OnErr result (HaltsAmong (program self.old) (in_occurrence occurrence (events_of events.now)) (Some case.old) store.old reports.old (Some case.new) store.new reports.new) }
+        ensures ended { OnOk result (AllRunTo (program self.old) (in_occurrence occurrence (events_of events.now)) (Some case.old) store.old reports.old
+            (Some case.new) store.new reports.new) }
+        ensures halted { OnErr result (HaltsAmong (program self.old) (in_occurrence occurrence (events_of events.now)) (Some case.old) store.old reports.old
+            (Some case.new) store.new reports.new) }
         ensures case_fits { IsFit case.new }
         ensures store_fits { StoreFits (program self.old).image store.new }
         ensures reports_fit { ReportsFit (program self.old).image reports.new };

@@ -109,7 +109,7 @@ pub(crate) fn run_cases<C: Code, M: Runs, R: Input, O: Output, L: Output>(
 }
 
 /// Runs the application's events around the runs of lines.
-fn run_events<C: Code, M: Runs, R: Input, O: Output, L: Output>(
+fn run_around_cases<C: Code, M: Runs, R: Input, O: Output, L: Output>(
     verified: &Verified<'_, C>,
     machine: &mut M,
     reader: &mut CaseReader<'_, R>,
@@ -172,14 +172,16 @@ fn run_reader<C: Code, M: Runs, R: Input, O: Output, L: Output, F: Output, D: Ou
     ensures same_reference { reader.new.input.ghost_name ≡ reader.old.input.ghost_name }
     ensures same { M.program machine.new ≡ verified.now }
     ensures ok { IfOk result (λ totals. RunsWhole verified.now store.old (R.given reader.old.input.now) (R.given reader.new.input.now)
-        (contents (O.taken out.old) (L.taken listing.old) (F.taken frequencies.old) (D.taken decks.old)) (contents (O.taken out.new) (L.taken listing.new) (F.taken frequencies.new) (D.taken decks.new)) totals) }
+        (contents (O.taken out.old) (L.taken listing.old) (F.taken frequencies.old) (D.taken decks.old))
+        (contents (O.taken out.new) (L.taken listing.new) (F.taken frequencies.new) (D.taken decks.new)) totals) }
     ensures err { IfErr result (λ fault. RunStops verified.now store.old (R.given reader.old.input.now) (R.given reader.new.input.now)
-        (contents (O.taken out.old) (L.taken listing.old) (F.taken frequencies.old) (D.taken decks.old)) (contents (O.taken out.new) (L.taken listing.new) (F.taken frequencies.new) (D.taken decks.new))
+        (contents (O.taken out.old) (L.taken listing.old) (F.taken frequencies.old) (D.taken decks.old))
+        (contents (O.taken out.new) (L.taken listing.new) (F.taken frequencies.new) (D.taken decks.new))
         (failures (O.has_failed out.new) (L.has_failed listing.new) (F.has_failed frequencies.new) (D.has_failed decks.new)) fault) }
 {
     let mut written = Gatherer::new();
     let mut listed = Gatherer::new();
-    let totals = match run_events(
+    let totals = match run_around_cases(
         verified,
         machine,
         reader,
@@ -245,9 +247,11 @@ pub fn run_by<C: Code, M: Runs, R: Input, O: Output, L: Output, F: Output, D: Ou
     // The machine still runs this program, so it may be lent to another run.
     ensures same { M.program machine.new ≡ verified.now }
     ensures ok { IfOk result (λ totals. RunsWhole verified.now store (R.given input.old) (R.given input.new)
-        (contents (O.taken out.old) (L.taken listing.old) (F.taken frequencies.old) (D.taken decks.old)) (contents (O.taken out.new) (L.taken listing.new) (F.taken frequencies.new) (D.taken decks.new)) totals) }
+        (contents (O.taken out.old) (L.taken listing.old) (F.taken frequencies.old) (D.taken decks.old))
+        (contents (O.taken out.new) (L.taken listing.new) (F.taken frequencies.new) (D.taken decks.new)) totals) }
     ensures err { IfErr result (λ fault. RunStops verified.now store (R.given input.old) (R.given input.new)
-        (contents (O.taken out.old) (L.taken listing.old) (F.taken frequencies.old) (D.taken decks.old)) (contents (O.taken out.new) (L.taken listing.new) (F.taken frequencies.new) (D.taken decks.new))
+        (contents (O.taken out.old) (L.taken listing.old) (F.taken frequencies.old) (D.taken decks.old))
+        (contents (O.taken out.new) (L.taken listing.new) (F.taken frequencies.new) (D.taken decks.new))
         (failures (O.has_failed out.new) (L.has_failed listing.new) (F.has_failed frequencies.new) (D.has_failed decks.new)) fault) }
 {
     let Ok(mut reports) = Reports::new(alloc, verified.program()) else {
@@ -295,9 +299,11 @@ pub fn run<C: Code, R: Input, O: Output, L: Output, F: Output, D: Output>(
 ) -> Result<Totals, RunFault>
     requires fits { StoreFits verified.now.image store }
     ensures ok { IfOk result (λ totals. RunsWhole verified.now store (R.given input.old) (R.given input.new)
-        (contents (O.taken out.old) (L.taken listing.old) (F.taken frequencies.old) (D.taken decks.old)) (contents (O.taken out.new) (L.taken listing.new) (F.taken frequencies.new) (D.taken decks.new)) totals) }
+        (contents (O.taken out.old) (L.taken listing.old) (F.taken frequencies.old) (D.taken decks.old))
+        (contents (O.taken out.new) (L.taken listing.new) (F.taken frequencies.new) (D.taken decks.new)) totals) }
     ensures err { IfErr result (λ fault. RunStops verified.now store (R.given input.old) (R.given input.new)
-        (contents (O.taken out.old) (L.taken listing.old) (F.taken frequencies.old) (D.taken decks.old)) (contents (O.taken out.new) (L.taken listing.new) (F.taken frequencies.new) (D.taken decks.new))
+        (contents (O.taken out.old) (L.taken listing.old) (F.taken frequencies.old) (D.taken decks.old))
+        (contents (O.taken out.new) (L.taken listing.new) (F.taken frequencies.new) (D.taken decks.new))
         (failures (O.has_failed out.new) (L.has_failed listing.new) (F.has_failed frequencies.new) (D.has_failed decks.new)) fault) }
 {
     let Ok(mut machine) = Machine::new(alloc, verified) else {

@@ -3,7 +3,7 @@
 use thiserror::Error;
 
 /// What a run counts.
-#[derive(Clone, Copy, Debug, PartialEq, Eq)]
+#[derive(Clone, Copy, PartialEq, Eq)]
 pub struct Totals {
     /// The runs of lines that have a line of a known record.
     pub cases: u64,

@@ -59,7 +59,8 @@ fn of_source<'a>(
     order: &'a Order,
 ) -> Result<Vec<u8>, BuildFault>
     requires order { IsOrderOf dictionary.now order.now }
-    ensures image { IfOk result (λ v. (t : typed_spec.Tree) × (x : Image) × IsTypedAs dictionary.now messages.now (syntax.tree source.now.tree) t × IsImage dictionary.now order.now t x v.items) }
+    ensures image { IfOk result (λ v. (t : typed_spec.Tree) × (x : Image) × IsTypedAs dictionary.now messages.now (syntax.tree source.now.tree) t
+        × IsImage dictionary.now order.now t x v.items) }
     ensures fault { IfErr result (λ e. (e ≡ out_of_memory) ⊎ IsSourceFault dictionary.now messages.now (syntax.tree source.now.tree) e) }
 {
     match check(alloc, dictionary, source, messages, order) {
@@ -77,7 +78,8 @@ fn of_text<'a>(
     order: &'a Order,
 ) -> Result<Vec<u8>, BuildFault>
     requires order { IsOrderOf dictionary.now order.now }
-    ensures image { IfOk result (λ v. (source : syntax.Tree) × (t : typed_spec.Tree) × (x : Image) × IsSourceText 64 text.now source × IsTypedAs dictionary.now messages.now source t × IsImage dictionary.now order.now t x v.items) }
+    ensures image { IfOk result (λ v. (source : syntax.Tree) × (t : typed_spec.Tree) × (x : Image) × IsSourceText 64 text.now source
+        × IsTypedAs dictionary.now messages.now source t × IsImage dictionary.now order.now t x v.items) }
     ensures fault { IfErr result (λ e. (e ≡ out_of_memory) ⊎ IsLogicFault dictionary.now messages.now text.now e) }
 {
     match parse(alloc, text) {
@@ -95,7 +97,8 @@ fn of_logic(
     order: &Order,
 ) -> Result<Vec<u8>, BuildFault>
     requires order { IsOrderOf dictionary.now order.now }
-    ensures image { IfOk result (λ v. (source : syntax.Tree) × (t : typed_spec.Tree) × (x : Image) × IsLogic dictionary.now messages.now logic.now source t × IsImage dictionary.now order.now t x v.items) }
+    ensures image { IfOk result (λ v. (source : syntax.Tree) × (t : typed_spec.Tree) × (x : Image) × IsLogic dictionary.now messages.now logic.now source t
+        × IsImage dictionary.now order.now t x v.items) }
     ensures fault { IfErr result (λ e. (e ≡ out_of_memory) ⊎ IsLogicFault dictionary.now messages.now logic.now e) }
 {
     match str::from_utf8(logic) {
@@ -112,7 +115,8 @@ fn with_messages(
     messages: &Messages,
     order: &[u8],
 ) -> Result<Vec<u8>, BuildFault>
-    ensures image { IfOk result (λ v. (named : List ℕ) × (source : syntax.Tree) × (t : typed_spec.Tree) × (x : Image) × AreNamed dictionary.now order.now named × IsLogic dictionary.now messages.now logic.now source t × IsImage dictionary.now named t x v.items) }
+    ensures image { IfOk result (λ v. (named : List ℕ) × (source : syntax.Tree) × (t : typed_spec.Tree) × (x : Image)
+        × AreNamed dictionary.now order.now named × IsLogic dictionary.now messages.now logic.now source t × IsImage dictionary.now named t x v.items) }
     ensures fault { IfErr result (λ e. (e ≡ out_of_memory) ⊎ IsFaultBehind dictionary.now messages.now logic.now order.now e) }
 {
     match Order::read(alloc, dictionary, order) {

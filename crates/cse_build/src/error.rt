@@ -35,6 +35,7 @@ pub const NO_TEXT: BuildFault = BuildFault {
     column: 0,
 };
 
+/// Want of memory, which tells no place.
 pub const WANT_OF_MEMORY: BuildFault = BuildFault {
     number: 90,
     line: 0,

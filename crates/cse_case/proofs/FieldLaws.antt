@@ -4,18 +4,18 @@ use Rattle.std.proofs.lemmas.Bool.{cases_lt}
 use Rattle.std.proofs.lemmas.List.{drop-drop, drop-take, length-drop, length-replicate, length-take, take_all, take_min, drop_min}
 use Rattle.cse_value.specs.declared.shape.ItemShape.{ItemShape}
 use Rattle.cse_value.proofs.WidthLaws.{length-put, length-put_text}
-use Rattle.cse_lines.specs.declared.layout.Span.{Span}
+use Rattle.cse_lines.specs.declared.layout.ColumnSpan.{ColumnSpan}
 use Rattle.cse_lines.specs.Field.{field_at}
 use Rattle.cse_lines.specs.Run.{with_columns}
 use Rattle.cse_lines.proofs.BytesLaws.{take_with}
 use Rattle.cse_lines.proofs.LaidLaws.{behind}
 use Rattle.cse_value.specs.Field.{put_text}
 use Rattle.cse_dict.specs.Dictionary.{code_at, zero_fill_at}
-use Rattle.cse_case.specs.declared.field.Entry.{Entry}
-use Rattle.cse_case.specs.declared.field.Entry.TheVariants.{Number, Words}
+use Rattle.cse_case.specs.declared.field.ItemEntry.{ItemEntry}
+use Rattle.cse_case.specs.declared.field.ItemEntry.TheVariants.{Number, Words}
 use Rattle.cse_value.specs.declared.shape.ItemKind.{ItemKind}
 use Rattle.cse_value.specs.declared.shape.ItemKind.TheVariants.{Number as ANumber}
-use Rattle.cse_case.specs.Entry.{IsFor, IsShort, entry_columns}
+use Rattle.cse_case.specs.ItemEntry.{IsFor, IsShort, entry_columns}
 use Rattle.cse_case.specs.Field.{field_of}
 
 take_take : (n m : ℕ) (xs : List ℕ) → n ≤ m → take n (take m xs) ≡ take n xs
@@ -32,7 +32,7 @@ field_here item columns s n e f =
     ap (λ k. take k (drop s columns)) (f ∙ ap (min item.len) (sym (length-drop s columns))) ∙ (take_min item.len (drop s columns) ∙ ap (take item.len) rest)
 
 -- the columns of a place that are there
-pub place_here : (span : Span) (columns : List ℕ) (s n : ℕ) → s ≡ min (span.start - 1) (length columns) → n ≡ min span.len (length columns - s) → take n (drop s columns) ≡ field_at span columns
+pub place_here : (span : ColumnSpan) (columns : List ℕ) (s n : ℕ) → s ≡ min (span.start - 1) (length columns) → n ≡ min span.len (length columns - s) → take n (drop s columns) ≡ field_at span columns
 place_here span columns s n e f =
     let rest : drop s columns ≡ drop (span.start - 1) columns = ap (λ k. drop k columns) e ∙ drop_min (span.start - 1) columns in
     ap (λ k. take k (drop s columns)) (f ∙ ap (min span.len) (sym (length-drop s columns))) ∙ (take_min span.len (drop s columns) ∙ ap (take span.len) rest)
@@ -58,7 +58,7 @@ unfolding field_of
 short_field item columns = omega (arith, length-take item.len (drop (item.start - 1) columns))
 
 -- an entry has as many columns as are asked for
-pub entry_wide : (entry : Entry) (n : ℕ) → length (entry_columns entry n) ≡ n
+pub entry_wide : (entry : ItemEntry) (n : ℕ) → length (entry_columns entry n) ≡ n
 entry_wide (Number value dictionary item) n = length-put n value (zero_fill_at dictionary.now item) (code_at dictionary.now item)
 entry_wide (Words text) n = length-put_text n text.now.items
 
@@ -68,7 +68,7 @@ unfolding field_of
 whole_behind item columns first = ap (take item.len) (sym (drop-drop (item.start - 1) first columns))
 
 -- an entry into an item of its kind is short
-pub entry_short : (entry : Entry) (kind : ItemKind) (n : ℕ) → IsFor entry kind → (kind ≡ ANumber → n ≤ 15) → IsShort entry n
+pub entry_short : (entry : ItemEntry) (kind : ItemKind) (n : ℕ) → IsFor entry kind → (kind ≡ ANumber → n ≤ 15) → IsShort entry n
 entry_short (Number value dictionary item) kind n own number = number own
 entry_short (Words words) kind n own number = tt
 

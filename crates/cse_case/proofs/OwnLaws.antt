@@ -11,7 +11,7 @@ use Rattle.cse_lines.specs.declared.line.Ending.TheVariants.{FileEnd}
 use Rattle.cse_lines.specs.Laid.{IsLaid, laid_line, laid_lines}
 use Rattle.cse_lines.specs.Run.{line_at}
 use Rattle.cse_lines.proofs.LaidLaws.{laid_within, line_in}
-use Rattle.cse_case.specs.declared.seen.Span.{Span}
+use Rattle.cse_case.specs.declared.seen.OccurrenceSpan.{OccurrenceSpan}
 use Rattle.cse_case.specs.declared.seen.Table.{Table}
 use Rattle.cse_case.specs.Seen.{occurrence_places}
 use Rattle.cse_case.specs.Table.{IsTable, first_at, types_in}
@@ -31,7 +31,7 @@ abbrev pub case_in : DictionaryText → List ℕ → List ℕ → List Line → 
 case_in d ids columns lines marked first_line = record { dictionary = d; ids = ids; run = record { lines = laid_lines columns lines; marked = marked; first_line = first_line } }
 
 -- what is read of a table that is the same
-pub span_in : (a b : Table) → a ≡ b → (n : ℕ) (s : Span) → s ≡ get_or a.spans.items n s → s ≡ get_or b.spans.items n s
+pub span_in : (a b : Table) → a ≡ b → (n : ℕ) (s : OccurrenceSpan) → s ≡ get_or a.spans.items n s → s ≡ get_or b.spans.items n s
 span_in a b e n s is = is ∙ ap (λ (t : Table). get_or t.spans.items n s) e
 
 pub first_in : (a b : Table) → a ≡ b → (n first : ℕ) → first ≡ get_or a.firsts.items n first → first ≡ get_or b.firsts.items n first
@@ -47,7 +47,7 @@ pub record OwnLine (c : CaseText) (columns : List ℕ) (lines : List Line) (r o 
   pub within : line.first + line.width ≤ length columns
 
 -- a span holds the occurrence
-pub holds_occurrence : (d : DictionaryText) (ids columns : List ℕ) (lines : List Line) (marked : Bool) (first_line : ℕ) (firsts : List ℕ) (spans : List Span) (r o : ℕ) (span : Span)
+pub holds_occurrence : (d : DictionaryText) (ids columns : List ℕ) (lines : List Line) (marked : Bool) (first_line : ℕ) (firsts : List ℕ) (spans : List OccurrenceSpan) (r o : ℕ) (span : OccurrenceSpan)
     → IsTable (shape_of d).records lines firsts spans → r < length spans → span ≡ get_or spans r span → IsOccurrence (case_in d ids columns lines marked first_line) r o → o ≤ span.count
 unfolding places_of
 holds_occurrence d ids columns lines marked first_line firsts spans r o span t low e is =
@@ -57,7 +57,7 @@ holds_occurrence d ids columns lines marked first_line firsts spans r o span t l
 no_place : Line
 no_place = record { first = 0; width = 0; len = 0; ending = FileEnd; record_number = None }
 
-pub own_line : (d : DictionaryText) (ids columns : List ℕ) (lines : List Line) (marked : Bool) (first_line : ℕ) (firsts : List ℕ) (spans : List Span) (r o first : ℕ) (span : Span)
+pub own_line : (d : DictionaryText) (ids columns : List ℕ) (lines : List Line) (marked : Bool) (first_line : ℕ) (firsts : List ℕ) (spans : List OccurrenceSpan) (r o first : ℕ) (span : OccurrenceSpan)
     → IsTable (shape_of d).records lines firsts spans → IsLaid 0 columns lines → r < length spans → span ≡ get_or spans r span
     → IsOccurrence (case_in d ids columns lines marked first_line) r o → first ≡ get_or firsts (span.start + o - 1) 0
     → OwnLine (case_in d ids columns lines marked first_line) columns lines r o first
@@ -91,8 +91,8 @@ pub record OwnItem (c : CaseText) (columns : List ℕ) (lines : List Line) (r o 
   pub whole : (item_at (items_of c) n).start - 1 + (item_at (items_of c) n).len ≤ own.line.width
 
 -- the occurrence stands in the table
-pub first_within : (c : CaseText) (d : DictionaryText) (ids columns : List ℕ) (lines : List Line) (bytes : List ℕ) (is_set marked : Bool) (first_line : ℕ) (firsts : List ℕ) (spans : List Span)
-    (unseen : List (ℕ × Unseen)) (r o : ℕ) (span : Span) → case_in d ids columns lines marked first_line ≡ c → IsKept d columns lines bytes is_set first_line firsts spans unseen
+pub first_within : (c : CaseText) (d : DictionaryText) (ids columns : List ℕ) (lines : List Line) (bytes : List ℕ) (is_set marked : Bool) (first_line : ℕ) (firsts : List ℕ) (spans : List OccurrenceSpan)
+    (unseen : List (ℕ × Unseen)) (r o : ℕ) (span : OccurrenceSpan) → case_in d ids columns lines marked first_line ≡ c → IsKept d columns lines bytes is_set first_line firsts spans unseen
     → r < length (records_of c) → span ≡ get_or spans r span → IsOccurrence c r o → span.start + o ≤ length firsts
 first_within c d ids columns lines bytes is_set marked first_line firsts spans unseen r o span view kept there e is =
     let low : r < length spans = omega (arith, kept.table.size, ap (λ (x : CaseText). length (records_of x)) view) in
@@ -100,16 +100,16 @@ first_within c d ids columns lines bytes is_set marked first_line firsts spans u
     omega (arith, holds_occurrence d ids columns lines marked first_line firsts spans r o span kept.table low e (subst (λ (x : CaseText). IsOccurrence x r o) (sym view) is))
 
 -- its line
-pub line_of : (c : CaseText) (d : DictionaryText) (ids columns : List ℕ) (lines : List Line) (bytes : List ℕ) (is_set marked : Bool) (first_line : ℕ) (firsts : List ℕ) (spans : List Span)
-    (unseen : List (ℕ × Unseen)) (r o first : ℕ) (span : Span) → case_in d ids columns lines marked first_line ≡ c → IsKept d columns lines bytes is_set first_line firsts spans unseen
+pub line_of : (c : CaseText) (d : DictionaryText) (ids columns : List ℕ) (lines : List Line) (bytes : List ℕ) (is_set marked : Bool) (first_line : ℕ) (firsts : List ℕ) (spans : List OccurrenceSpan)
+    (unseen : List (ℕ × Unseen)) (r o first : ℕ) (span : OccurrenceSpan) → case_in d ids columns lines marked first_line ≡ c → IsKept d columns lines bytes is_set first_line firsts spans unseen
     → r < length (records_of c) → span ≡ get_or spans r span → IsOccurrence c r o → first ≡ get_or firsts (span.start + o - 1) 0 → OwnLine c columns lines r o first
 line_of c d ids columns lines bytes is_set marked first_line firsts spans unseen r o first span view kept there e is begins =
     let within : r < length spans = omega (arith, kept.table.size, ap (λ (x : CaseText). length (records_of x)) view) in
     subst (λ (x : CaseText). OwnLine x columns lines r o first) view
     (own_line d ids columns lines marked first_line firsts spans r o first span kept.table kept.laid within e (subst (λ (x : CaseText). IsOccurrence x r o) (sym view) is) begins)
 
-pub own_item : (c : CaseText) (d : DictionaryText) (ids columns : List ℕ) (lines : List Line) (bytes : List ℕ) (is_set marked : Bool) (first_line : ℕ) (firsts : List ℕ) (spans : List Span)
-    (unseen : List (ℕ × Unseen)) (r o first n : ℕ) (span : Span) → case_in d ids columns lines marked first_line ≡ c → IsKept d columns lines bytes is_set first_line firsts spans unseen
+pub own_item : (c : CaseText) (d : DictionaryText) (ids columns : List ℕ) (lines : List Line) (bytes : List ℕ) (is_set marked : Bool) (first_line : ℕ) (firsts : List ℕ) (spans : List OccurrenceSpan)
+    (unseen : List (ℕ × Unseen)) (r o first n : ℕ) (span : OccurrenceSpan) → case_in d ids columns lines marked first_line ≡ c → IsKept d columns lines bytes is_set first_line firsts spans unseen
     → IsSound c.dictionary → r < length (records_of c) → span ≡ get_or spans r span → IsOccurrence c r o → n < length (items_of c) → (item_at (items_of c) n).owner ≡ r
     → first ≡ get_or firsts (span.start + o - 1) 0 → OwnItem c columns lines r o first n
 own_item c d ids columns lines bytes is_set marked first_line firsts spans unseen r o first n span view kept sound there e is low owns begins =

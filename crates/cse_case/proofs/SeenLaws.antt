@@ -12,7 +12,7 @@ use Rattle.std.proofs.lemmas.Bool.{cases_eq, cases_lt, ne_eqb, eq-eqb, lt-ltb, l
 use Rattle.std.specs.Option.{option_map_or}
 use Rattle.cse_value.specs.declared.shape.RecordShape.{RecordShape}
 use Rattle.cse_dict.specs.declared.lookup.Unseen.TheVariants.{Extra}
-use Rattle.cse_case.specs.declared.seen.Span.{Span}
+use Rattle.cse_case.specs.declared.seen.OccurrenceSpan.{OccurrenceSpan}
 use Rattle.cse_value.specs.Occurrences.{most_occurrences}
 use Rattle.cse_case.specs.Seen.{is_of, places_from, occurrence_places, unseen_after, unseen_from, onto_unseen}
 use Rattle.cse_case.specs.Table.{AreCounts, AreSpans, IsTable, first_at, type_at, types_in}
@@ -180,7 +180,7 @@ counts_there records lines counts are r h =
     omega (arith, length-places_from 0 r lines)
 
 -- spans of what was counted are the table
-pub IsTable-spans : (records : List RecordShape) (lines : List Line) (counts firsts : List ℕ) (spans : List Span) → AreCounts records (types_in lines) counts → length spans ≡ length counts
+pub IsTable-spans : (records : List RecordShape) (lines : List Line) (counts firsts : List ℕ) (spans : List OccurrenceSpan) → AreCounts records (types_in lines) counts → length spans ≡ length counts
     → AreSpans lines counts firsts spans → IsTable records lines firsts spans
 unfolding occurrence_places
 IsTable-spans records lines counts firsts spans are size here = record {
@@ -195,7 +195,7 @@ IsTable-spans records lines counts firsts spans are size here = record {
 }
 
 -- how many occurrences a record has
-pub count_is : (records : List RecordShape) (lines : List Line) (firsts : List ℕ) (spans : List Span) (r : ℕ) (span : Span) → IsTable records lines firsts spans → r < length spans
+pub count_is : (records : List RecordShape) (lines : List Line) (firsts : List ℕ) (spans : List OccurrenceSpan) (r : ℕ) (span : OccurrenceSpan) → IsTable records lines firsts spans → r < length spans
     → span ≡ get_or spans r span → span.count ≡ length (occurrence_places records r (types_in lines))
 count_is records lines firsts spans r span t h e =
     let fits = t.fits r span h e in
@@ -203,7 +203,7 @@ count_is records lines firsts spans r span t h e =
     sym len ∙ (ap length (t.firsts_are r span h e) ∙ length-map (occurrence_places records r (types_in lines)) (first_at lines))
 
 -- where an occurrence begins
-pub first_is : (records : List RecordShape) (lines : List Line) (firsts : List ℕ) (spans : List Span) (r o : ℕ) (span : Span) → IsTable records lines firsts spans → r < length spans
+pub first_is : (records : List RecordShape) (lines : List Line) (firsts : List ℕ) (spans : List OccurrenceSpan) (r o : ℕ) (span : OccurrenceSpan) → IsTable records lines firsts spans → r < length spans
     → span ≡ get_or spans r span → o < span.count → get_or firsts (span.start + o) 0 ≡ first_at lines (slice_index (occurrence_places records r (types_in lines)) o)
 first_is records lines firsts spans r o span t h e below =
     let places = occurrence_places records r (types_in lines) in

@@ -9,7 +9,7 @@ use Rattle.cse_value.specs.Occurrences.{most_occurrences}
 use Rattle.cse_dict.specs.declared.lookup.Unseen.TheVariants.{Extra}
 use Rattle.cse_lines.specs.declared.line.Line.{Line}
 use Rattle.cse_lines.specs.declared.line.Ending.TheVariants.{FileEnd}
-use Rattle.cse_case.specs.declared.seen.Span.{Span}
+use Rattle.cse_case.specs.declared.seen.OccurrenceSpan.{OccurrenceSpan}
 use Rattle.cse_case.specs.Seen.{is_of, onto_unseen, places_from, unseen_after, unseen_from}
 use Rattle.cse_case.specs.Table.{AreCounts, AreSeen, IsSpan, IsTable, first_at, type_at, types_in}
 use Rattle.cse_case.specs.Found.{AreFound, IsLonger}
@@ -19,21 +19,21 @@ use Rattle.cse_case.proofs.SightLaws.{place_there}
 no_line_at : Line
 no_line_at = record { first = 0; width = 0; len = 0; ending = FileEnd; record_number = None }
 
-abbrev counts_in : List Span → List ℕ
+abbrev counts_in : List OccurrenceSpan → List ℕ
 counts_in spans = map (λ s. s.count) spans
 
 -- the count of a span
-pub count_at : (spans : List Span) (r : ℕ) (span : Span) → r < length spans → span ≡ get_or spans r span → get_or (map (λ s. s.count) spans) r 0 ≡ span.count
-count_at spans r span h e = get_or-map (λ s. s.count) spans r span 0 h ∙ ap (λ (s : Span). s.count) (sym e)
+pub count_at : (spans : List OccurrenceSpan) (r : ℕ) (span : OccurrenceSpan) → r < length spans → span ≡ get_or spans r span → get_or (map (λ s. s.count) spans) r 0 ≡ span.count
+count_at spans r span h e = get_or-map (λ s. s.count) spans r span 0 h ∙ ap (λ (s : OccurrenceSpan). s.count) (sym e)
 
 -- a span that is read twice is one
-pub span_same : (spans : List Span) (r : ℕ) (a b : Span) → r < length spans → a ≡ get_or spans r a → b ≡ get_or spans r b → a ≡ b
+pub span_same : (spans : List OccurrenceSpan) (r : ℕ) (a b : OccurrenceSpan) → r < length spans → a ≡ get_or spans r a → b ≡ get_or spans r b → a ≡ b
 span_same [] r a b h e f = absurd (omega arith)
 span_same (s ∷ ss) zero a b h e f = e ∙ sym f
 span_same (s ∷ ss) (suc r) a b h e f = span_same ss r a b (omega arith) e f
 
 -- a span holds what it held after another line was added
-IsSpan-more : (lines : List Line) (firsts : List ℕ) (r first : ℕ) (span : Span) → IsSpan lines firsts r span → IsSpan lines (firsts ++ first ∷ []) r span
+IsSpan-more : (lines : List Line) (firsts : List ℕ) (r first : ℕ) (span : OccurrenceSpan) → IsSpan lines firsts r span → IsSpan lines (firsts ++ first ∷ []) r span
 IsSpan-more lines firsts r first span is =
     let rest = drop span.start firsts in
     let cut : drop span.start (firsts ++ first ∷ []) ≡ rest ++ first ∷ [] = drop-append-le span.start firsts (first ∷ []) (omega (arith, is.fits)) in
@@ -43,7 +43,7 @@ IsSpan-more lines firsts r first span is =
     }
 
 -- what a span at the end of the list holds
-held : (lines : List Line) (firsts : List ℕ) (r : ℕ) (span longer : Span) → IsSpan lines firsts r span → longer.start + span.count ≡ length firsts → (0 < span.count → longer.start ≡ span.start)
+held : (lines : List Line) (firsts : List ℕ) (r : ℕ) (span longer : OccurrenceSpan) → IsSpan lines firsts r span → longer.start + span.count ≡ length firsts → (0 < span.count → longer.start ≡ span.start)
     → drop longer.start firsts ≡ map (first_at lines) (take span.count (places_from 0 r (types_in lines)))
 held lines firsts r span longer is end same =
     let len : length (drop longer.start firsts) ≡ span.count = omega (arith, length-drop longer.start firsts) in
@@ -60,7 +60,7 @@ pub first_here : (lines : List Line) (place : ℕ) (d : Line) → place < length
 first_here lines place d h = get_or-map (λ l. l.first) lines place d 0 h
 
 -- and what the longer span holds
-longer_holds : (lines : List Line) (firsts new : List ℕ) (r place : ℕ) (span longer : Span) → place < length lines → type_at lines place ≡ Some r
+longer_holds : (lines : List Line) (firsts new : List ℕ) (r place : ℕ) (span longer : OccurrenceSpan) → place < length lines → type_at lines place ≡ Some r
     → span.count ≡ count_by (is_of r) (take place (types_in lines)) → IsSpan lines firsts r span → IsLonger span (first_at lines place) firsts new longer → IsSpan lines new r longer
 longer_holds lines firsts new r place span longer h own count is more =
     let types = types_in lines in
@@ -82,7 +82,7 @@ longer_holds lines firsts new r place span longer h own count is more =
     }
 
 -- a line that is an occurrence, and is added
-pub AreSeen-occurrence : (records : List RecordShape) (lines : List Line) (place : ℕ) (firsts new : List ℕ) (spans : List Span) (r : ℕ) (span longer : Span) → place < length lines
+pub AreSeen-occurrence : (records : List RecordShape) (lines : List Line) (place : ℕ) (firsts new : List ℕ) (spans : List OccurrenceSpan) (r : ℕ) (span longer : OccurrenceSpan) → place < length lines
     → AreSeen records lines place firsts spans → type_at lines place ≡ Some r → r < length records → r < length spans → span ≡ get_or spans r span → span.count < most_occurrences records r
     → IsLonger span (first_at lines place) firsts new longer → AreSeen records lines (place + 1) new (set spans r longer)
 AreSeen-occurrence records lines place firsts new spans r span longer h are own there low e room more =
@@ -98,7 +98,7 @@ AreSeen-occurrence records lines place firsts new spans r span longer h are own 
       spans_are = λ q other within is. elim (cases_eq q r) [
         | inl same ↦
             let longer_is : other ≡ longer = is ∙ (ap (λ k. get_or (set spans r longer) k other) same ∙ get_or-set_same spans r longer other low) in
-            subst (λ k. IsSpan lines new k other) (sym same) (subst (λ (s : Span). IsSpan lines new r s) (sym longer_is)
+            subst (λ k. IsSpan lines new k other) (sym same) (subst (λ (s : OccurrenceSpan). IsSpan lines new r s) (sym longer_is)
             (longer_holds lines firsts new r place span longer h own (omega arith) (are.spans_are r span low e) more))
         | inr differs ↦
             let within' : q < length spans = omega (arith, length-set spans r longer) in
@@ -108,7 +108,7 @@ AreSeen-occurrence records lines place firsts new spans r span longer h are own 
     }
 
 -- a line of no record
-pub AreSeen-unknown : (records : List RecordShape) (lines : List Line) (place : ℕ) (firsts : List ℕ) (spans : List Span) → place < length lines → AreSeen records lines place firsts spans
+pub AreSeen-unknown : (records : List RecordShape) (lines : List Line) (place : ℕ) (firsts : List ℕ) (spans : List OccurrenceSpan) → place < length lines → AreSeen records lines place firsts spans
     → type_at lines place ≡ None → AreSeen records lines (place + 1) firsts spans
 AreSeen-unknown records lines place firsts spans h are own =
     let types : take (place + 1) (types_in lines) ≡ take place (types_in lines) ++ None ∷ [] = take-more lines place h ∙ ap (λ t. take place (types_in lines) ++ t ∷ []) own in
@@ -118,7 +118,7 @@ AreSeen-unknown records lines place firsts spans h are own =
     }
 
 -- a line past the most of its record
-pub AreSeen-extra : (records : List RecordShape) (lines : List Line) (place : ℕ) (firsts : List ℕ) (spans : List Span) (r : ℕ) → place < length lines → AreSeen records lines place firsts spans
+pub AreSeen-extra : (records : List RecordShape) (lines : List Line) (place : ℕ) (firsts : List ℕ) (spans : List OccurrenceSpan) (r : ℕ) → place < length lines → AreSeen records lines place firsts spans
     → type_at lines place ≡ Some r → (r < length records → most_occurrences records r ≤ get_or (map (λ s. s.count) spans) r 0) → AreSeen records lines (place + 1) firsts spans
 AreSeen-extra records lines place firsts spans r h are own full =
     let types : take (place + 1) (types_in lines) ≡ take place (types_in lines) ++ Some r ∷ [] = take-more lines place h ∙ ap (λ t. take place (types_in lines) ++ t ∷ []) own in
@@ -127,14 +127,14 @@ AreSeen-extra records lines place firsts spans r h are own full =
       spans_are = are.spans_are;
     }
 
-pub seen_here : (records : List RecordShape) (lines : List Line) (place : ℕ) (firsts : List ℕ) (spans : List Span) (r : ℕ) (span : Span) → AreSeen records lines place firsts spans
+pub seen_here : (records : List RecordShape) (lines : List Line) (place : ℕ) (firsts : List ℕ) (spans : List OccurrenceSpan) (r : ℕ) (span : OccurrenceSpan) → AreSeen records lines place firsts spans
     → type_at lines place ≡ Some r → r < length records → r < length spans → span ≡ get_or spans r span → span.count < most_occurrences records r
     → unseen_after records (take place (types_in lines)) (type_at lines place) ≡ None
 seen_here records lines place firsts spans r span are own there low e room =
     let count : get_or (counts_in spans) r 0 ≡ span.count = count_at spans r span low e in
     ap (unseen_after records (take place (types_in lines))) own ∙ seen_if_room records (take place (types_in lines)) (counts_in spans) r are.counts there (omega arith)
 
-pub extra_here : (records : List RecordShape) (lines : List Line) (place : ℕ) (firsts : List ℕ) (spans : List Span) (r : ℕ) → AreSeen records lines place firsts spans
+pub extra_here : (records : List RecordShape) (lines : List Line) (place : ℕ) (firsts : List ℕ) (spans : List OccurrenceSpan) (r : ℕ) → AreSeen records lines place firsts spans
     → type_at lines place ≡ Some r → (r < length records → most_occurrences records r ≤ get_or (map (λ s. s.count) spans) r 0)
     → unseen_after records (take place (types_in lines)) (type_at lines place) ≡ Some Extra
 extra_here records lines place firsts spans r are own full =
@@ -143,13 +143,13 @@ extra_here records lines place firsts spans r are own full =
 -- ---- lines of a record that follow one another
 
 -- a span that is put in place twice
-set_again : (spans : List Span) (r : ℕ) (a b : Span) → set (set spans r a) r b ≡ set spans r b
+set_again : (spans : List OccurrenceSpan) (r : ℕ) (a b : OccurrenceSpan) → set (set spans r a) r b ≡ set spans r b
 set_again [] r a b = refl
 set_again (s ∷ ss) zero a b = refl
 set_again (s ∷ ss) (suc r) a b = ap (λ l. s ∷ l) (set_again ss r a b)
 
 -- no line
-pub AreFound-none : (records : List RecordShape) (lines : List Line) (place : ℕ) (firsts : List ℕ) (spans : List Span) → AreSeen records lines place firsts spans → AreFound records lines place place firsts spans
+pub AreFound-none : (records : List RecordShape) (lines : List Line) (place : ℕ) (firsts : List ℕ) (spans : List OccurrenceSpan) → AreSeen records lines place firsts spans → AreFound records lines place place firsts spans
 AreFound-none records lines place firsts spans are = record { far = omega arith; seen = are; none = λ n. refl }
 
 -- an occurrence is no unseen line
@@ -161,7 +161,7 @@ passed records lines place n h seen =
     ∙ ap (λ o. onto_unseen (n + place) o rest) (ap (unseen_after records (take place (types_in lines))) (sym (type_is lines place no_line_at h)) ∙ seen)
 
 -- an occurrence more
-pub AreFound-one : (records : List RecordShape) (lines : List Line) (from place : ℕ) (firsts new : List ℕ) (spans : List Span) (r : ℕ) (span longer : Span) → place < length lines
+pub AreFound-one : (records : List RecordShape) (lines : List Line) (from place : ℕ) (firsts new : List ℕ) (spans : List OccurrenceSpan) (r : ℕ) (span longer : OccurrenceSpan) → place < length lines
     → AreFound records lines from place firsts spans → type_at lines place ≡ Some r → r < length records → r < length spans → span ≡ get_or spans r span → span.count < most_occurrences records r
     → IsLonger span (first_at lines place) firsts new longer → AreFound records lines from (place + 1) new (set spans r longer)
 AreFound-one records lines from place firsts new spans r span longer h found own there low e room more = record {
@@ -171,7 +171,7 @@ AreFound-one records lines from place firsts new spans r span longer h found own
 }
 
 -- the same where the span was put in place before
-pub AreFound-further : (records : List RecordShape) (lines : List Line) (from place : ℕ) (firsts new : List ℕ) (spans : List Span) (r : ℕ) (span longer : Span) → place < length lines
+pub AreFound-further : (records : List RecordShape) (lines : List Line) (from place : ℕ) (firsts new : List ℕ) (spans : List OccurrenceSpan) (r : ℕ) (span longer : OccurrenceSpan) → place < length lines
     → AreFound records lines from place firsts (slice_set spans r span) → type_at lines place ≡ Some r → r < length records → r < length spans → span.count < most_occurrences records r
     → IsLonger span (first_at lines place) firsts new longer → AreFound records lines from (place + 1) new (slice_set spans r longer)
 AreFound-further records lines from place firsts new spans r span longer h found own there low room more =
@@ -179,27 +179,27 @@ AreFound-further records lines from place firsts new spans r span longer h found
     (AreFound-one records lines from place firsts new (set spans r span) r span longer h found own there (omega (arith, length-set spans r span)) (sym (get_or-set_same spans r span span low)) room more)
 
 -- lines that follow others
-pub AreFound-then : (records : List RecordShape) (lines : List Line) (from place next : ℕ) (firsts new : List ℕ) (spans later : List Span) → AreFound records lines from place firsts spans
+pub AreFound-then : (records : List RecordShape) (lines : List Line) (from place next : ℕ) (firsts new : List ℕ) (spans later : List OccurrenceSpan) → AreFound records lines from place firsts spans
     → AreFound records lines place next new later → AreFound records lines from next new later
 AreFound-then records lines from place next firsts new spans later a b = record { far = omega (arith, a.far, b.far); seen = b.seen; none = λ n. a.none n ∙ b.none n }
 
 -- before the first line
 pub AreSeen-none : (records : List RecordShape) (lines : List Line) (n : ℕ) → n ≡ length records → AreSeen records lines 0 [] (replicate n (record { start = 0; count = 0 }))
 AreSeen-none records lines n e =
-    let none : Span = record { start = 0; count = 0 } in
+    let none : OccurrenceSpan = record { start = 0; count = 0 } in
     record {
       counts = subst (AreCounts records []) (sym (map-replicate n)) (AreCounts-none records n e);
       spans_are = λ r span h is.
           let empty : span ≡ none = is ∙ get_or-replicate n r none span (omega (arith, length-replicate n none)) in
-          subst (λ (s : Span). IsSpan lines [] r s) (sym empty) (record { firsts_are = refl; fits = omega arith });
+          subst (λ (s : OccurrenceSpan). IsSpan lines [] r s) (sym empty) (record { firsts_are = refl; fits = omega arith });
     }
   where
-    map-replicate : (n : ℕ) → map (λ (s : Span). s.count) (replicate n (record { start = 0; count = 0 })) ≡ replicate n 0
+    map-replicate : (n : ℕ) → map (λ (s : OccurrenceSpan). s.count) (replicate n (record { start = 0; count = 0 })) ≡ replicate n 0
     map-replicate zero = refl
     map-replicate (suc n) = ap (λ l. 0 ∷ l) (map-replicate n)
 
 -- behind the last line
-pub IsTable-seen : (records : List RecordShape) (lines : List Line) (firsts : List ℕ) (spans : List Span) (n : ℕ) → length lines ≤ n → AreSeen records lines n firsts spans → IsTable records lines firsts spans
+pub IsTable-seen : (records : List RecordShape) (lines : List Line) (firsts : List ℕ) (spans : List OccurrenceSpan) (n : ℕ) → length lines ≤ n → AreSeen records lines n firsts spans → IsTable records lines firsts spans
 IsTable-seen records lines firsts spans n end are =
     let all : take n (types_in lines) ≡ types_in lines = take_all n (types_in lines) (omega (arith, length-map lines (λ l. l.record_number))) in
     IsTable-spans records lines (map (λ s. s.count) spans) firsts spans (subst (λ ts. AreCounts records ts (map (λ s. s.count) spans)) all are.counts) (sym (length-map spans (λ s. s.count)))

@@ -8,7 +8,7 @@ use Rattle.cse_lines.specs.declared.line.Line.{Line}
 use Rattle.cse_lines.specs.Field.{least_width, record_len}
 use Rattle.cse_lines.specs.Laid.{IsLaid, laid_lines}
 use Rattle.cse_lines.specs.Written.{written_line}
-use Rattle.cse_case.specs.declared.seen.Span.{Span}
+use Rattle.cse_case.specs.declared.seen.OccurrenceSpan.{OccurrenceSpan}
 use Rattle.cse_case.specs.Seen.{unseen_of}
 use Rattle.cse_case.specs.Table.{IsTable}
 
@@ -16,7 +16,7 @@ use Rattle.cse_case.specs.Table.{IsTable}
 abbrev pub AreWide : DictionaryText → List Line → Type 0
 AreWide d lines = (place : ℕ) (line : Line) → place < length lines → line ≡ slice_index_or lines place line → line.width ≡ max line.len (max (least_width d) (record_len d line.record_number))
 
-pub record IsKept (d : DictionaryText) (columns : List ℕ) (lines : List Line) (bytes : List ℕ) (is_set : Bool) (first_line : ℕ) (firsts : List ℕ) (spans : List Span) (unseen : List (ℕ × Unseen)) : Type 0 where
+pub record IsKept (d : DictionaryText) (columns : List ℕ) (lines : List Line) (bytes : List ℕ) (is_set : Bool) (first_line : ℕ) (firsts : List ℕ) (spans : List OccurrenceSpan) (unseen : List (ℕ × Unseen)) : Type 0 where
   pub some : 0 < length lines
   pub wide : AreWide d lines
   pub laid : IsLaid 0 columns lines

@@ -3,7 +3,7 @@ pub mod Table
 pub mod Found
 pub mod Field
 pub mod Limits
-pub mod Entry
+pub mod ItemEntry
 pub mod Kept
 pub mod Case
 pub mod Fit

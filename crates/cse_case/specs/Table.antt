@@ -4,7 +4,7 @@ use Rattle.std.specs.Prelude.{◌≡◌, ◌<◌, ◌≤◌, ℕ, ◌+◌, min, 
 use Rattle.std.specs.List.{slice_index_or}
 use Rattle.cse_value.specs.declared.shape.RecordShape.{RecordShape}
 use Rattle.cse_lines.specs.declared.line.Line.{Line}
-use Rattle.cse_case.specs.declared.seen.Span.{Span}
+use Rattle.cse_case.specs.declared.seen.OccurrenceSpan.{OccurrenceSpan}
 use Rattle.cse_value.specs.Occurrences.{most_occurrences}
 use Rattle.cse_case.specs.Seen.{is_of, occurrence_places, places_from}
 
@@ -25,21 +25,21 @@ pub record AreCounts (records : List RecordShape) (lines : List (Option ℕ)) (c
   pub each : (r : ℕ) → r < length records → slice_index counts r ≡ min (count_by (is_of r) lines) (most_occurrences records r)
 
 -- the span holds where so many lines of a record begin
-pub record IsSpan (lines : List Line) (firsts : List ℕ) (r : ℕ) (span : Span) : Type 0 where
+pub record IsSpan (lines : List Line) (firsts : List ℕ) (r : ℕ) (span : OccurrenceSpan) : Type 0 where
   pub firsts_are : take span.count (drop span.start firsts) ≡ map (first_at lines) (take span.count (places_from 0 r (types_in lines)))
   pub fits : span.start + span.count ≤ length firsts
 
 -- the spans of the records, in order
-abbrev pub AreSpans : List Line → List ℕ → List ℕ → List Span → Type 0
-AreSpans lines counts firsts spans = (r : ℕ) (span : Span) → r < length spans → span ≡ slice_index_or spans r span → IsSpan lines firsts r span × (span.count ≡ slice_index counts r)
+abbrev pub AreSpans : List Line → List ℕ → List ℕ → List OccurrenceSpan → Type 0
+AreSpans lines counts firsts spans = (r : ℕ) (span : OccurrenceSpan) → r < length spans → span ≡ slice_index_or spans r span → IsSpan lines firsts r span × (span.count ≡ slice_index counts r)
 
 -- the spans of the occurrences among the lines before a place
-pub record AreSeen (records : List RecordShape) (lines : List Line) (before : ℕ) (firsts : List ℕ) (spans : List Span) : Type 0 where
+pub record AreSeen (records : List RecordShape) (lines : List Line) (before : ℕ) (firsts : List ℕ) (spans : List OccurrenceSpan) : Type 0 where
   pub counts : AreCounts records (take before (types_in lines)) (map (λ s. s.count) spans)
-  pub spans_are : (r : ℕ) (span : Span) → r < length spans → span ≡ slice_index_or spans r span → IsSpan lines firsts r span
+  pub spans_are : (r : ℕ) (span : OccurrenceSpan) → r < length spans → span ≡ slice_index_or spans r span → IsSpan lines firsts r span
 
 -- the occurrences of each record
-pub record IsTable (records : List RecordShape) (lines : List Line) (firsts : List ℕ) (spans : List Span) : Type 0 where
+pub record IsTable (records : List RecordShape) (lines : List Line) (firsts : List ℕ) (spans : List OccurrenceSpan) : Type 0 where
   pub size : length spans ≡ length records
-  pub firsts_are : (r : ℕ) (span : Span) → r < length spans → span ≡ slice_index_or spans r span → take span.count (drop span.start firsts) ≡ map (first_at lines) (occurrence_places records r (types_in lines))
-  pub fits : (r : ℕ) (span : Span) → r < length spans → span ≡ slice_index_or spans r span → span.start + span.count ≤ length firsts
+  pub firsts_are : (r : ℕ) (span : OccurrenceSpan) → r < length spans → span ≡ slice_index_or spans r span → take span.count (drop span.start firsts) ≡ map (first_at lines) (occurrence_places records r (types_in lines))
+  pub fits : (r : ℕ) (span : OccurrenceSpan) → r < length spans → span ≡ slice_index_or spans r span → span.start + span.count ≤ length firsts

@@ -9,11 +9,13 @@ ghost use Rattle.cse_dict.specs.Sound.{IsSound};
 ghost use Rattle.cse_lines.specs.Run.{line_at, written_run};
 ghost use Rattle.cse_case.specs.Seen.{is_case};
 ghost use Rattle.cse_case.specs.Field.{IsItem, item_at};
-ghost use Rattle.cse_case.specs.Entry.{IsFor, IsThere, entry_columns};
+ghost use Rattle.cse_case.specs.ItemEntry.{IsFor, IsThere, entry_columns};
 ghost use Rattle.cse_lines.specs.Bytes.{columns_lent};
 ghost use Rattle.cse_case.specs.Own.{HoldsItems, IsSpanOf};
 
-use crate::field::{Entry, Part, columns_from, field_of, line_columns, whole_field, write_field};
+use crate::field::{
+    ItemEntry, Part, columns_from, field_of, line_columns, whole_field, write_field,
+};
 use crate::items::Items;
 use crate::number::{number_in, number_in_columns};
 use crate::seen::{Table, fill_table};
@@ -354,7 +356,7 @@ impl<'a> Case<'a> {
 
     /// Writes into an item of an occurrence of its record: the line has all its columns.
     #[inline(always)]
-    fn set(&mut self, number: u16, occurrence: u16, item: u16, entry: Entry<'_>)
+    fn set(&mut self, number: u16, occurrence: u16, item: u16, entry: ItemEntry<'_>)
         requires there { number < length (records_of self.old) }
         requires occurrence { IsOccurrence self.old number occurrence }
         requires item { item < length (items_of self.old) }
@@ -380,7 +382,7 @@ impl<'a> Case<'a> {
         ensures changed { self.new ≡ with_number self.old number occurrence item value }
         ensures fits { IsFit self.new }
     {
-        let entry = Entry::Number {
+        let entry = ItemEntry::Number {
             value,
             dictionary: self.items.dictionary(),
             item,
@@ -399,7 +401,7 @@ impl<'a> Case<'a> {
         ensures changed { self.new ≡ with_text self.old number occurrence item text.now.items }
         ensures fits { IsFit self.new }
     {
-        self.set(number, occurrence, item, Entry::Words(text));
+        self.set(number, occurrence, item, ItemEntry::Words(text));
         let _lines = self.lines();
     }
 

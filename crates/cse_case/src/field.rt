@@ -6,7 +6,7 @@ ghost use Rattle.cse_dict.specs.Dictionary.{code_at, zero_fill_at};
 ghost use Rattle.cse_lines.specs.Bytes.{columns_lent};
 ghost use Rattle.cse_lines.specs.Run.{with_columns};
 ghost use Rattle.cse_case.specs.Field.{field_of, rewritten};
-ghost use Rattle.cse_case.specs.Entry.{IsShort, IsThere, entry_columns};
+ghost use Rattle.cse_case.specs.ItemEntry.{IsShort, IsThere, entry_columns};
 
 use cse_dict::Dictionary;
 use cse_lines::{Columns, Filled, Line};
@@ -55,7 +55,7 @@ pub fn whole_field<'a>(item: &ItemShape, columns: Columns<'a>, first: usize) -> 
 }
 
 /// What is written into an item: a number, with the zeros and the code of an item of a dictionary, or a text.
-pub enum Entry<'t> {
+pub enum ItemEntry<'t> {
     Number {
         value: Num,
         dictionary: &'t Dictionary,
@@ -143,7 +143,7 @@ fn write_text(columns: &mut Filled, start: usize, len: usize, text: &Text)
 /// Writes into an item of a line that has all its columns, among the columns of its run, of which the
 /// line's begin at this place.
 #[inline(always)]
-pub fn write_field(columns: &mut Filled, first: usize, item: &ItemShape, entry: Entry<'_>)
+pub fn write_field(columns: &mut Filled, first: usize, item: &ItemShape, entry: ItemEntry<'_>)
     requires start { 1 ≤ item.now.start }
     requires whole { first + (item.now.start - 1) + item.now.len ≤ length columns.old }
     requires there { IsThere entry }
@@ -154,12 +154,12 @@ pub fn write_field(columns: &mut Filled, first: usize, item: &ItemShape, entry: 
     let start = first + (item.start as usize - 1);
     let len = item.len as usize;
     match entry {
-        Entry::Number {
+        ItemEntry::Number {
             value,
             dictionary,
             item,
         } => write_number(columns, start, len, value, dictionary, item),
-        Entry::Words(text) => write_text(columns, start, len, text),
+        ItemEntry::Words(text) => write_text(columns, start, len, text),
     }
 }
 

@@ -59,10 +59,12 @@ impl<'a, R: Input> CaseReader<'a, R> {
     #[inline(always)]
     pub fn next(&mut self) -> Result<Option<Case<'a>>, DataError>
         ensures same_reference { self.new.input.ghost_name ≡ self.old.input.ghost_name }
-        ensures next { self.old.stream.error ≡ None → NextCase (R.given self.old.input.now) (R.given self.new.input.now) self.old.stream self.new.stream result }
+        ensures next { self.old.stream.error
+            ≡ None → NextCase (R.given self.old.input.now) (R.given self.new.input.now) self.old.stream self.new.stream result }
         ensures ok { OnOk result (self.new.stream.error ≡ None) }
         ensures err { IfErr result (λ error. self.new.stream.error ≡ Some error) }
-        ensures again { IfSome self.old.stream.error (λ error. (result ≡ Err error) × (self.new.stream ≡ self.old.stream) × (self.new.input.now ≡ self.old.input.now)) }
+        ensures again { IfSome self.old.stream.error (λ error. (result ≡ Err error) × (self.new.stream ≡ self.old.stream) × (self.new.input.now
+            ≡ self.old.input.now)) }
         ensures failed { self.old.stream.error ≡ None
             → IfErr result (λ error. error.number ≡ 70
             → FailsOnce (R.given self.old.input.now) (R.given self.new.input.now) ⊎ (self.new.stream.reads ≡ 2 ^ 40)) }

@@ -21,8 +21,8 @@ fn emptied<T: Drop>(mut room: Vec<T>) -> Vec<T>
 }
 
 /// The occurrences of a record: where they begin in the table, and how many there are.
-#[derive(Clone, Copy, Debug, PartialEq, Eq)]
-pub struct Span {
+#[derive(Clone, Copy, PartialEq, Eq)]
+pub struct OccurrenceSpan {
     pub start: usize,
     pub count: u16,
 }
@@ -103,11 +103,11 @@ fn place_record(
 
 /// Where the occurrences of each record begin, in this room.
 fn place_lines(
-    span_room: Vec<Span>,
+    span_room: Vec<OccurrenceSpan>,
     first_room: Vec<usize>,
     lines: &[Line],
     counts: &[u16],
-) -> Result<(Vec<Span>, Vec<usize>), AllocError>
+) -> Result<(Vec<OccurrenceSpan>, Vec<usize>), AllocError>
     requires { (r : ℕ) → r < length counts.now → slice_index counts.now r ≤ length (places_from 0 r (types_in lines.now)) }
     ensures size { IfOk result (λ p. length p.0.items ≡ length counts.now) }
     ensures spans { IfOk result (λ p. AreSpans lines.now counts.now p.1.items p.0.items) }
@@ -117,7 +117,7 @@ fn place_lines(
     'records: for (number, count) in counts.iter().enumerate() {
         let start = firsts.len();
         place_record(&mut firsts, lines, number, *count)?;
-        spans.push(Span {
+        spans.push(OccurrenceSpan {
             start,
             count: *count,
         })?;
@@ -138,7 +138,7 @@ pub enum Found {
 /// Adds an occurrence, which begins at this column, to the span of its record, where that stands at the end
 /// of the list. Tells whether it does.
 fn add_occurrence(
-    span: &mut Span,
+    span: &mut OccurrenceSpan,
     firsts: &mut Vec<usize>,
     first: usize,
 ) -> Result<bool, AllocError>
@@ -160,7 +160,7 @@ fn add_occurrence(
 /// Adds the lines from a place on that are of this record, as long as there may be more of it, to its span,
 /// which stands at the end of the list. Tells where they end.
 fn add_following(
-    span: &mut Span,
+    span: &mut OccurrenceSpan,
     firsts: &mut Vec<usize>,
     lines: &[Line],
     place: usize,
@@ -186,7 +186,7 @@ fn add_following(
 
 /// Adds a line to the occurrences of its record, if it is one and follows them, with those behind it.
 fn see_line(
-    spans: &mut Vec<Span>,
+    spans: &mut Vec<OccurrenceSpan>,
     firsts: &mut Vec<usize>,
     records: &[RecordShape],
     lines: &[Line],
@@ -217,15 +217,15 @@ fn see_line(
 }
 
 /// No occurrences of each record.
-fn clear_spans(spans: &mut Vec<Span>, count: usize) -> Result<(), AllocError>
+fn clear_spans(spans: &mut Vec<OccurrenceSpan>, count: usize) -> Result<(), AllocError>
     ensures { OnOk result (spans.new.items ≡ replicate count (record { start = 0; count = 0 })) }
 {
     if spans.len() != count {
         spans.clear();
-        return spans.resize(count, Span { start: 0, count: 0 });
+        return spans.resize(count, OccurrenceSpan { start: 0, count: 0 });
     }
     'spans: for i in 0..spans.len() {
-        spans[i] = Span { start: 0, count: 0 };
+        spans[i] = OccurrenceSpan { start: 0, count: 0 };
     }
     Ok(())
 }
@@ -233,7 +233,7 @@ fn clear_spans(spans: &mut Vec<Span>, count: usize) -> Result<(), AllocError>
 /// Fills the table of a run whose lines follow one another record by record, and tells whether they do. The
 /// first line has this number.
 fn see_lines(
-    spans: &mut Vec<Span>,
+    spans: &mut Vec<OccurrenceSpan>,
     firsts: &mut Vec<usize>,
     unseen: &mut Vec<(u64, Unseen)>,
     records: &[RecordShape],
@@ -266,7 +266,7 @@ fn see_lines(
 /// them.
 #[derive(Drop)]
 pub struct Table {
-    pub spans: Vec<Span>,
+    pub spans: Vec<OccurrenceSpan>,
     pub firsts: Vec<usize>,
     pub unseen: Vec<(u64, Unseen)>,
     pub ids: Vec<char>,

@@ -11,7 +11,7 @@ use crate::items::Items;
 use crate::seen::Table;
 use cse_dict::Dictionary;
 use cse_lines::columns::{piece, put_bytes};
-use cse_lines::layout::{Span, id_blocks};
+use cse_lines::layout::{ColumnSpan, id_blocks};
 use cse_lines::{Columns, Run, put_columns};
 use std::alloc::{AllocError, Global};
 use std::marker::Model;
@@ -21,7 +21,7 @@ use std::marker::Model;
 pub struct Source<'a> {
     items: Items<'a>,
     /// The places of its id items, those that lie side by side as one.
-    id_blocks: Vec<Span>,
+    id_blocks: Vec<ColumnSpan>,
     is_known: bool,
     counts: Vec<u16>,
     table: Option<Box<Table>>,
@@ -40,7 +40,7 @@ impl<'a> Model for Source<'a> {
 }
 
 /// Where a place begins among the columns of a line, from 0; at most their number.
-fn start_of(span: Span, width: usize) -> usize
+fn start_of(span: ColumnSpan, width: usize) -> usize
     ensures { result ≡ min (span.start - 1) width }
 {
     (span.start as usize).saturating_sub(1).min(width)
@@ -74,7 +74,7 @@ fn put_part(characters: &mut [char], columns: Columns<'_>, first: usize)
 fn put_at(
     fields: &mut Vec<char>,
     at: usize,
-    span: Span,
+    span: ColumnSpan,
     columns: Columns<'_>,
 ) -> Result<usize, AllocError>
     requires { at ≤ length fields.old.items }
@@ -90,7 +90,11 @@ fn put_at(
 
 /// Writes what stands at these places, one after the other, over others.
 #[inline(never)]
-fn put_each(fields: &mut Vec<char>, spans: &[Span], columns: Columns<'_>) -> Result<(), AllocError>
+fn put_each(
+    fields: &mut Vec<char>,
+    spans: &[ColumnSpan],
+    columns: Columns<'_>,
+) -> Result<(), AllocError>
     ensures { OnOk result (fields.new.items ≡ fields_at spans.now (columns_lent columns.entry)) }
 {
     let mut at = 0;
@@ -104,7 +108,7 @@ fn put_each(fields: &mut Vec<char>, spans: &[Span], columns: Columns<'_>) -> Res
 /// Writes what stands at a place over as many characters, and tells whether it did: where the line reaches so far, and it is
 /// ASCII.
 #[inline(always)]
-fn put_alone(fields: &mut Vec<char>, span: Span, columns: Columns<'_>) -> bool
+fn put_alone(fields: &mut Vec<char>, span: ColumnSpan, columns: Columns<'_>) -> bool
     ensures { result ≡ true → fields.new.items ≡ field_at span (columns_lent columns.entry) }
 {
     let start = (span.start as usize).saturating_sub(1);
@@ -119,7 +123,7 @@ fn put_alone(fields: &mut Vec<char>, span: Span, columns: Columns<'_>) -> bool
 #[inline(always)]
 fn put_fields(
     fields: &mut Vec<char>,
-    spans: &[Span],
+    spans: &[ColumnSpan],
     columns: Columns<'_>,
 ) -> Result<(), AllocError>
     ensures { OnOk result (fields.new.items ≡ fields_at spans.now (columns_lent columns.entry)) }

@@ -4,14 +4,14 @@ use Rattle.cse_value.specs.Device.{FailsOnce, Given, IsAtEnd, IsUnfailing}
 use Rattle.std.proofs.lemmas.List.Sums.{sum_by-append}
 use Rattle.cse_value.specs.declared.shape.ItemShape.{ItemShape}
 use Rattle.cse_value.specs.declared.shape.RecordShape.{RecordShape}
-use Rattle.cse_changes.specs.declared.fault.Fault.{Fault}
-use Rattle.cse_changes.specs.declared.fault.Fault.TheVariants.{Apart, Data, Memory, Out}
+use Rattle.cse_changes.specs.declared.fault.CompareFault.{CompareFault}
+use Rattle.cse_changes.specs.declared.fault.CompareFault.TheVariants.{Apart, Data, Memory, Out}
 use Rattle.cse_dict.specs.Dictionary.{DictionaryText, shape_of}
 use Rattle.cse_lines.specs.declared.error.DataError.{DataError}
 use Rattle.cse_lines.specs.Line.{FileLine}
 use Rattle.cse_lines.specs.Columns.{LineText}
 use Rattle.cse_lines.specs.Run.{RunText}
-use Rattle.cse_lines.specs.Runs.{given}
+use Rattle.cse_lines.specs.Runs.{given_runs}
 use Rattle.cse_lines.specs.Reader.{Next, ReaderText, held_of, is_front}
 use Rattle.cse_case.specs.Field.{item_at}
 use Rattle.cse_changes.specs.declared.count.Count.{Count}
@@ -67,7 +67,7 @@ pub record IsAdded (records : List RecordShape) (items : List ItemShape) (before
   pub few : AreFew items new (lines + length before)
 
 -- what a fault says follows
-pub if_apart : (d : DictionaryText) (before after before' after' : Given) (P : ℕ → Type 0) (fault : Fault) → ((line : ℕ) → P line → IsApart d before after before' after' line) → IfApart P fault
+pub if_apart : (d : DictionaryText) (before after before' after' : Given) (P : ℕ → Type 0) (fault : CompareFault) → ((line : ℕ) → P line → IsApart d before after before' after' line) → IfApart P fault
     → Stops d before after before' after' fault
 if_apart d before after before' after' P (Data e) h p = absurd p
 if_apart d before after before' after' P (Out e) h p = absurd p
@@ -169,11 +169,11 @@ module _ (d : DictionaryText) (before now after before' now' after' : Given) (r 
     apart_here works works' end end' line apart = record {
       pairs = c.pairs;
       are_pairs = c.are_pairs;
-      more = first ∷ given d (is_front s) s.ended (held_of s);
-      more' = second ∷ given d (is_front s') s'.ended (held_of s');
-      read = subst (IsReadSoFar d before after) (append_assoc (befores c.pairs) (first ∷ []) (given d (is_front s) s.ended (held_of s)))
+      more = first ∷ given_runs d (is_front s) s.ended (held_of s);
+      more' = second ∷ given_runs d (is_front s') s'.ended (held_of s');
+      read = subst (IsReadSoFar d before after) (append_assoc (befores c.pairs) (first ∷ []) (given_runs d (is_front s) s.ended (held_of s)))
           (so_far before after d s _ (befores c.pairs ++ first ∷ []) (SoFar-run before now after d r s c.text (befores c.pairs) c.read run n works) end);
-      written = subst (IsReadSoFar d before' after') (append_assoc (afters c.pairs) (second ∷ []) (given d (is_front s') s'.ended (held_of s')))
+      written = subst (IsReadSoFar d before' after') (append_assoc (afters c.pairs) (second ∷ []) (given_runs d (is_front s') s'.ended (held_of s')))
           (so_far before' after' d s' _ (afters c.pairs ++ second ∷ []) (SoFar-run before' now' after' d r' s' c.text' (afters c.pairs) c.written run' n' works') end');
       read_ended = λ e. absurd (omega (arith, ap length e));
       written_ended = λ e. absurd (omega (arith, ap length e));
@@ -187,7 +187,7 @@ module _ (d : DictionaryText) (before now after before' now' after' : Given) (r 
   ended_first run n n' works works' end' =
       let all = is_read before now after d r s c.text (befores c.pairs) c.read n works in
       let next = (gives before' now' after' d r' s' c.text' (afters c.pairs) c.written run n').lines in
-      let later = given d (is_front s') s'.ended (held_of s') in
+      let later = given_runs d (is_front s') s'.ended (held_of s') in
       record {
         pairs = c.pairs;
         are_pairs = c.are_pairs;
@@ -208,7 +208,7 @@ module _ (d : DictionaryText) (before now after before' now' after' : Given) (r 
   ended_second run n n' works works' end =
       let all = is_read before' now' after' d r' s' c.text' (afters c.pairs) c.written n' works' in
       let next = (gives before now after d r s c.text (befores c.pairs) c.read run n).lines in
-      let later = given d (is_front s) s.ended (held_of s) in
+      let later = given_runs d (is_front s) s.ended (held_of s) in
       record {
         pairs = c.pairs;
         are_pairs = c.are_pairs;
@@ -230,7 +230,7 @@ module _ (d : DictionaryText) (before now after before' now' after' : Given) (r 
   stops_read error n end reading sound end' = record {
     pairs = c.pairs;
     are_pairs = c.are_pairs;
-    more = given d (is_front r') r'.ended (held_of r');
+    more = given_runs d (is_front r') r'.ended (held_of r');
     read = has_fault before now after d r s c.text (befores c.pairs) c.read error n end reading sound;
     written = so_far before' now' d r' c.text' (afters c.pairs) c.written end';
   }
@@ -252,7 +252,7 @@ module _ (d : DictionaryText) (before now after before' now' after' : Given) (r 
       → (error.number ≢ 70 → IsUnfailing now' after') → HasWrittenFault d before after before' after' error
   stops_written run error n n' works end end' reading sound =
       let next = (gives before now after d r s c.text (befores c.pairs) c.read run n).lines in
-      let later = given d (is_front s) s.ended (held_of s) in
+      let later = given_runs d (is_front s) s.ended (held_of s) in
       record {
         pairs = c.pairs;
         are_pairs = c.are_pairs;

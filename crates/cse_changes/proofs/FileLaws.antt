@@ -8,7 +8,7 @@ use Rattle.cse_lines.specs.declared.error.DataError.{DataError}
 use Rattle.cse_lines.specs.Line.{FileLine, lines_in}
 use Rattle.cse_lines.specs.Columns.{line_text}
 use Rattle.cse_lines.specs.Run.{RunText, written_run}
-use Rattle.cse_lines.specs.Runs.{given, given_of, fault_in, later_by, MayFollow}
+use Rattle.cse_lines.specs.Runs.{given_runs, given_of, fault_in, later_by, MayFollow}
 use Rattle.cse_lines.specs.Reader.{GivesRun, IsError, Next, ReaderText, held_of, is_front}
 use Rattle.cse_changes.specs.Files.{HasFault, IsRead, IsReadSoFar, lines_of}
 
@@ -18,7 +18,7 @@ pub record SoFar (before now : Given) (d : DictionaryText) (r : ReaderText) (tex
   pub reads : Consumes before now (text ++ held_of r)
   pub unfailing : IsUnfailing before now
   pub counted : r.reads ≤ length (text ++ held_of r)
-  pub goes_on : (later : Bool) (more : List ℕ) → MayFollow r.ended later more → given d true later ((text ++ held_of r) ++ more) ≡ runs ++ given d (is_front r) later (held_of r ++ more)
+  pub goes_on : (later : Bool) (more : List ℕ) → MayFollow r.ended later more → given_runs d true later ((text ++ held_of r) ++ more) ≡ runs ++ given_runs d (is_front r) later (held_of r ++ more)
   pub fault : (later : Bool) (more : List ℕ) → MayFollow r.ended later more → fault_in d true later ((text ++ held_of r) ++ more) ≡ later_by r.lines (fault_in d (is_front r) later (held_of r ++ more))
 
 later_by-none : (f : Option (ℕ × ℕ)) → later_by 0 f ≡ f
@@ -29,7 +29,7 @@ later_by-later_by : (a b : ℕ) (f : Option (ℕ × ℕ)) → later_by a (later_
 later_by-later_by a b None = refl
 later_by-later_by a b (Some f) = ap (λ n. Some (n, f.1)) (sym (add_assoc a b (f.0)))
 
-nothing_given : (d : DictionaryText) (front : Bool) → given d front true [] ≡ []
+nothing_given : (d : DictionaryText) (front : Bool) → given_runs d front true [] ≡ []
 unfolding given_of lines_in
 nothing_given d front = refl
 
@@ -46,7 +46,7 @@ SoFar-none now d r same none unread front =
       reads = rw none (Consumes-nil now);
       unfailing = refl;
       counted = omega arith;
-      goes_on = λ later more h. ap (λ f. given d f later (held_of r ++ more)) (sym first);
+      goes_on = λ later more h. ap (λ f. given_runs d f later (held_of r ++ more)) (sym first);
       fault = λ later more h. ap (λ f. fault_in d f later (held_of r ++ more)) (sym first) ∙ (sym (later_by-none (fault_in d (is_front r) later (held_of r ++ more))) ∙ ap (λ n. later_by n (fault_in d (is_front r) later (held_of r ++ more))) (sym front));
     }
 
@@ -59,14 +59,14 @@ may_follow ended ended' later taken more stays h = λ e.
 
 -- what was read so far, and the runs that are given of it
 pub so_far : (before now : Given) (d : DictionaryText) (r : ReaderText) (text : List ℕ) (runs : List (List FileLine)) → SoFar before now d r text runs → (r.ended ≡ true → IsAtEnd now)
-    → IsReadSoFar d before now (runs ++ given d (is_front r) r.ended (held_of r))
+    → IsReadSoFar d before now (runs ++ given_runs d (is_front r) r.ended (held_of r))
 so_far before now d r text runs s end = record {
   bytes = text ++ held_of r;
   ended = r.ended;
   reads = s.reads;
   end = end;
   unfailing = s.unfailing;
-  runs_are = ap (given d true r.ended) (sym (append-nil (text ++ held_of r))) ∙ (s.goes_on r.ended [] (λ e. (e, refl)) ∙ ap (λ l. runs ++ given d (is_front r) r.ended l) (append-nil (held_of r)));
+  runs_are = ap (given_runs d true r.ended) (sym (append-nil (text ++ held_of r))) ∙ (s.goes_on r.ended [] (λ e. (e, refl)) ∙ ap (λ l. runs ++ given_runs d (is_front r) r.ended l) (append-nil (held_of r)));
 }
 
 module _ (before now after : Given) (d : DictionaryText) (r r' : ReaderText) (text : List ℕ) (runs : List (List FileLine)) (s : SoFar before now d r text runs) where
@@ -100,11 +100,11 @@ module _ (before now after : Given) (d : DictionaryText) (r r' : ReaderText) (te
       goes_on = λ later rest h.
           let before' = s.goes_on later (n.taken ++ rest) (may_follow r.ended r'.ended later n.taken rest n.stays h) in
           let first = gives.first later rest h in
-          ap (λ l. given d true later (l ++ rest)) (sym shift)
-          ∙ (ap (given d true later) (append_assoc (text ++ held_of r) n.taken rest)
-          ∙ (before' ∙ (ap (λ l. runs ++ given d (is_front r) later l) (sym (append_assoc (held_of r) n.taken rest))
-          ∙ (ap (λ l. runs ++ l) first ∙ (ap (λ f. runs ++ (gives.lines ∷ given d f later (held_of r' ++ rest))) (sym behind)
-          ∙ sym (append_assoc runs (gives.lines ∷ []) (given d (is_front r') later (held_of r' ++ rest))))))));
+          ap (λ l. given_runs d true later (l ++ rest)) (sym shift)
+          ∙ (ap (given_runs d true later) (append_assoc (text ++ held_of r) n.taken rest)
+          ∙ (before' ∙ (ap (λ l. runs ++ given_runs d (is_front r) later l) (sym (append_assoc (held_of r) n.taken rest))
+          ∙ (ap (λ l. runs ++ l) first ∙ (ap (λ f. runs ++ (gives.lines ∷ given_runs d f later (held_of r' ++ rest))) (sym behind)
+          ∙ sym (append_assoc runs (gives.lines ∷ []) (given_runs d (is_front r') later (held_of r' ++ rest))))))));
       fault = λ later rest h.
           let before' = s.fault later (n.taken ++ rest) (may_follow r.ended r'.ended later n.taken rest n.stays h) in
           let first = gives.fault later rest h in
@@ -128,9 +128,9 @@ module _ (before now after : Given) (d : DictionaryText) (r r' : ReaderText) (te
       unfailing = works ∙ s.unfailing;
       sound = ap (fault_in d true true) (sym all)
           ∙ (s.fault true n.taken (λ e. (refl, (n.stays e).0)) ∙ (ap (λ l. later_by r.lines (fault_in d (is_front r) true l)) n.answers.none ∙ ap (later_by r.lines) (nothing_faulty d (is_front r))));
-      runs_are = ap (given d true true) (sym all)
+      runs_are = ap (given_runs d true true) (sym all)
           ∙ (s.goes_on true n.taken (λ e. (refl, (n.stays e).0))
-          ∙ (ap (λ l. runs ++ given d (is_front r) true l) n.answers.none
+          ∙ (ap (λ l. runs ++ given_runs d (is_front r) true l) n.answers.none
           ∙ (ap (λ l. runs ++ l) (nothing_given d (is_front r)) ∙ append-nil runs)));
     }
 
@@ -141,15 +141,15 @@ module _ (before now after : Given) (d : DictionaryText) (r r' : ReaderText) (te
     joined : (text ++ held_of r) ++ n.taken ≡ text ++ (held_of r ++ n.taken)
     joined = append_assoc text (held_of r) n.taken
 
-    none_given : given d (is_front r) r'.ended (held_of r ++ n.taken) ≡ [] → given d true r'.ended (text ++ (held_of r ++ n.taken)) ≡ runs
+    none_given : given_runs d (is_front r) r'.ended (held_of r ++ n.taken) ≡ [] → given_runs d true r'.ended (text ++ (held_of r ++ n.taken)) ≡ runs
     none_given none =
-        ap (given d true r'.ended) (sym joined) ∙ (s.goes_on r'.ended n.taken (λ e. ((n.stays e).1, (n.stays e).0)) ∙ (ap (λ l. runs ++ l) none ∙ append-nil runs))
+        ap (given_runs d true r'.ended) (sym joined) ∙ (s.goes_on r'.ended n.taken (λ e. ((n.stays e).1, (n.stays e).0)) ∙ (ap (λ l. runs ++ l) none ∙ append-nil runs))
 
     few_reads : FailsOnce now after ⊎ (r'.reads ≡ 2 ^ 40) → FailsOnce before after ⊎ (2 ^ 40 ≤ length (text ++ (held_of r ++ n.taken)))
     few_reads (inl f) = inl (Fails-after before now after s.unfailing f)
     few_reads (inr f) = inr (omega (arith, s.counted, n.counted, ap length joined, length-append (text ++ held_of r) n.taken))
 
-    both_none : (error.number < 70) ⊎ (error.number ≡ 70) → given d (is_front r) r'.ended (held_of r ++ n.taken) ≡ []
+    both_none : (error.number < 70) ⊎ (error.number ≡ 70) → given_runs d (is_front r) r'.ended (held_of r ++ n.taken) ≡ []
     both_none (inl low) = (is_error.faulty low).none
     both_none (inr e) = (is_error.needed e).none
 

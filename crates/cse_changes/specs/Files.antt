@@ -7,11 +7,11 @@ use Rattle.cse_dict.specs.Dictionary.{DictionaryText, shape_of}
 use Rattle.cse_lines.specs.declared.error.DataError.{DataError}
 use Rattle.cse_lines.specs.Line.{FileLine}
 use Rattle.cse_lines.specs.Columns.{LineText, line_text}
-use Rattle.cse_lines.specs.Runs.{fault_in, given}
+use Rattle.cse_lines.specs.Runs.{fault_in, given_runs}
 use Rattle.cse_case.specs.Field.{item_at}
 use Rattle.cse_changes.specs.declared.count.Count.{Count}
-use Rattle.cse_changes.specs.declared.fault.Fault.{Fault}
-use Rattle.cse_changes.specs.declared.fault.Fault.TheVariants.{Data, Out, Apart, Memory}
+use Rattle.cse_changes.specs.declared.fault.CompareFault.{CompareFault}
+use Rattle.cse_changes.specs.declared.fault.CompareFault.TheVariants.{Data, Out, Apart, Memory}
 use Rattle.cse_changes.specs.Changes.{count_in, first_apart, no_count, plus}
 
 -- a run that was read, and the one that was written in its place
@@ -54,7 +54,7 @@ pub record IsRead (d : DictionaryText) (before after : Given) (runs : List (List
   pub end : IsAtEnd after
   pub unfailing : IsUnfailing before after
   pub sound : fault_in d true true bytes ≡ None
-  pub runs_are : given d true true bytes ≡ runs
+  pub runs_are : given_runs d true true bytes ≡ runs
 
 -- So far a file was read, no read failed, and these are the runs of it that are given.
 pub record IsReadSoFar (d : DictionaryText) (before after : Given) (runs : List (List FileLine)) : Type 0 where
@@ -63,7 +63,7 @@ pub record IsReadSoFar (d : DictionaryText) (before after : Given) (runs : List 
   pub reads : Consumes before after bytes
   pub end : ended ≡ true → IsAtEnd after
   pub unfailing : IsUnfailing before after
-  pub runs_are : given d true ended bytes ≡ runs
+  pub runs_are : given_runs d true ended bytes ≡ runs
 
 -- Both were read to their ends, all lines pair up, and the counts are those of all runs.
 pub record IsCompared (d : DictionaryText) (before after before' after' : Given) (counts : List Count) : Type 0 where
@@ -109,7 +109,7 @@ pub record HasFault (d : DictionaryText) (before after : Given) (runs : List (Li
   pub end : ended ≡ true → IsAtEnd after
   pub faulty : error.number < 70 → (place : ℕ) × ((fault_in d true ended bytes ≡ Some (place, error.number)) × (error.line ≡ place + 1))
   pub needed : error.number ≡ 70 → (ended ≡ false) × (fault_in d true ended bytes ≡ None)
-  pub runs_are : (error.number < 70) ⊎ (error.number ≡ 70) → given d true ended bytes ≡ runs
+  pub runs_are : (error.number < 70) ⊎ (error.number ≡ 70) → given_runs d true ended bytes ≡ runs
   pub reading : error.number ≡ 70 → FailsOnce before after ⊎ (2 ^ 40 ≤ length bytes)
   pub unfailing : error.number ≢ 70 → IsUnfailing before after
   pub other : 70 ≤ error.number → (error.number ≡ 70) ⊎ (error.number ≡ 90)
@@ -132,14 +132,14 @@ pub record HasWrittenFault (d : DictionaryText) (before after before' after' : G
   pub written : HasFault d before' after' (afters pairs) error
 
 -- why a comparison stopped
-abbrev pub Stops : DictionaryText → Given → Given → Given → Given → Fault → Type 0
+abbrev pub Stops : DictionaryText → Given → Given → Given → Given → CompareFault → Type 0
 Stops d before after before' after' (Data error) = HasReadFault d before after before' after' error
 Stops d before after before' after' (Out error) = HasWrittenFault d before after before' after' error
 Stops d before after before' after' (Apart line) = IsApart d before after before' after' line
 Stops d before after before' after' Memory = Unit {0}
 
 -- of two runs: no fault but one of a line that is apart
-abbrev pub IfApart : (ℕ → Type 0) → Fault → Type 0
+abbrev pub IfApart : (ℕ → Type 0) → CompareFault → Type 0
 IfApart P (Data error) = ⊥
 IfApart P (Out error) = ⊥
 IfApart P (Apart line) = P line

@@ -1,7 +1,7 @@
 //! Why a comparison stops.
 
 ghost use Rattle.std.specs.Prelude.{◌≡◌};
-ghost use Rattle.cse_changes.specs.declared.fault.Fault.TheVariants.{Memory};
+ghost use Rattle.cse_changes.specs.declared.fault.CompareFault.TheVariants.{Memory};
 
 use cse_lines::DataError;
 use std::alloc::AllocError;
@@ -9,7 +9,7 @@ use thiserror::Error;
 
 /// Why a comparison stops.
 #[derive(Clone, Copy, Debug, PartialEq, Eq, Error)]
-pub enum Fault {
+pub enum CompareFault {
     /// The file that was read has a fault.
     #[error("data: {0}")]
     Data(DataError),
@@ -24,10 +24,10 @@ pub enum Fault {
     Memory,
 }
 
-impl From<AllocError> for Fault {
+impl From<AllocError> for CompareFault {
     ghost from_gives = { λ _ e. e ≡ Memory };
 
-    fn from(_refused: AllocError) -> Fault {
-        Fault::Memory
+    fn from(_refused: AllocError) -> CompareFault {
+        CompareFault::Memory
     }
 }

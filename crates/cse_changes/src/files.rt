@@ -6,7 +6,7 @@ ghost use Rattle.cse_changes.specs.Changes.{count_in, first_apart, no_count, plu
 ghost use Rattle.cse_changes.specs.Files.{AreFew, IfApart, IsApartIn, IsCompared, Stops};
 
 use crate::count::Count;
-use crate::fault::Fault;
+use crate::fault::CompareFault;
 use crate::lines::RunLines;
 use crate::pair::first_apart;
 use crate::sums::add_run;
@@ -38,7 +38,7 @@ fn add_runs(
     after: Run,
     lines: u64,
     counts: &mut [Count],
-) -> Result<u64, Fault>
+) -> Result<u64, CompareFault>
     requires some { 0 < length before.lines }
     requires some_after { 0 < length after.lines }
     requires counts { length counts.old ≡ length items.now }
@@ -47,7 +47,8 @@ fn add_runs(
     ensures len { length counts.new ≡ length counts.old }
     ensures lines { IfOk result (λ n. n ≡ length before.lines) }
     ensures pairs { OnOk result (first_apart items.now 0 before.lines after.lines ≡ None) }
-    ensures each { OnOk result ((n : ℕ) → n < length items.now → slice_index_or counts.new n no_count ≡ plus (slice_index_or counts.old n no_count) (count_in records.now (item_at items.now n) before.lines after.lines)) }
+    ensures each { OnOk result ((n : ℕ) → n < length items.now → slice_index_or counts.new n no_count
+        ≡ plus (slice_index_or counts.old n no_count) (count_in records.now (item_at items.now n) before.lines after.lines)) }
     ensures few { OnOk result (AreFew items.now counts.new (lines + length before.lines)) }
     ensures apart { IfErr result (IfApart (IsApartIn items.now before.lines after.lines lines)) }
 {
@@ -60,7 +61,7 @@ fn add_runs(
     let len = before.len() as u64;
     if let Some(place) = first_apart(items, &before, &after) {
         let line = lines + place as u64 + 1;
-        return Err(Fault::Apart { line });
+        return Err(CompareFault::Apart { line });
     }
     add_run(records, items, &before, &after, counts);
     Ok(len)
@@ -73,8 +74,9 @@ pub fn compare<R: Input, S: Input>(
     dictionary: &Dictionary,
     read: &mut R,
     written: &mut S,
-) -> Result<Vec<Count>, Fault>
-    ensures ok { IfOk result (λ counts. IsCompared dictionary.now (R.given read.old) (R.given read.new) (S.given written.old) (S.given written.new) counts.items) }
+) -> Result<Vec<Count>, CompareFault>
+    ensures ok { IfOk result
+        (λ counts. IsCompared dictionary.now (R.given read.old) (R.given read.new) (S.given written.old) (S.given written.new) counts.items) }
     ensures stops { IfErr result (Stops dictionary.now (R.given read.old) (R.given read.new) (S.given written.old) (S.given written.new)) }
 {
     let shape = dictionary.shape();
@@ -84,20 +86,20 @@ pub fn compare<R: Input, S: Input>(
     let mut lines = 0u64;
     'runs: loop {
         match reader.next(read) {
-            Err(error) => return Err(Fault::Data(error)),
+            Err(error) => return Err(CompareFault::Data(error)),
             Ok(None) => match other.next(written) {
-                Err(error) => return Err(Fault::Out(error)),
+                Err(error) => return Err(CompareFault::Out(error)),
                 Ok(None) => return Ok(counts),
                 Ok(Some(_)) => {
                     let line = lines + 1;
-                    return Err(Fault::Apart { line });
+                    return Err(CompareFault::Apart { line });
                 }
             },
             Ok(Some(before)) => match other.next(written) {
-                Err(error) => return Err(Fault::Out(error)),
+                Err(error) => return Err(CompareFault::Out(error)),
                 Ok(None) => {
                     let line = lines + 1;
-                    return Err(Fault::Apart { line });
+                    return Err(CompareFault::Apart { line });
                 }
                 Ok(Some(after)) => {
                     let added = add_runs(

@@ -18,5 +18,5 @@ mod pair;
 mod sums;
 
 pub use count::Count;
-pub use fault::Fault;
+pub use fault::CompareFault;
 pub use files::compare;

@@ -34,9 +34,12 @@ pub fn add_run(
     requires occurs { (n : ℕ) → n < length items.now → (slice_index_or counts.old n no_count).occurrences + length before.now < 2 ^ 64 }
     requires few { (n : ℕ) → n < length items.now → (slice_index_or counts.old n no_count).changed + length before.now < 2 ^ 64 }
     ensures len { length counts.new ≡ length counts.old }
-    ensures each { (n : ℕ) → n < length items.now → slice_index_or counts.new n no_count ≡ plus (slice_index_or counts.old n no_count) (count_in records.now (item_at items.now n) before.now after.now) }
-    ensures occurs { (n : ℕ) → n < length items.now → (slice_index_or counts.new n no_count).occurrences ≤ (slice_index_or counts.old n no_count).occurrences + length before.now }
-    ensures few { (n : ℕ) → n < length items.now → (slice_index_or counts.new n no_count).changed ≤ (slice_index_or counts.old n no_count).changed + length before.now }
+    ensures each { (n : ℕ) → n < length items.now → slice_index_or counts.new n no_count
+        ≡ plus (slice_index_or counts.old n no_count) (count_in records.now (item_at items.now n) before.now after.now) }
+    ensures occurs { (n : ℕ) → n < length items.now
+        → (slice_index_or counts.new n no_count).occurrences ≤ (slice_index_or counts.old n no_count).occurrences + length before.now }
+    ensures few { (n : ℕ) → n < length items.now
+        → (slice_index_or counts.new n no_count).changed ≤ (slice_index_or counts.old n no_count).changed + length before.now }
 {
     'items: for n in 0..items.len() {
         let found = count_item(records, &items[n], before, after);

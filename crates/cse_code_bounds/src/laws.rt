@@ -32,7 +32,8 @@ pub fn walks_keep_to_bound<C: Code>(program: &Program<C>)
 /// and `listed` of any events of which none comes more often than it may in a case.
 pub fn events_keep_to_bound<C: Code>(program: &Program<C>)
     requires { NamesEachOnce (length program.now.lists.records) program.now.lists.order }
-    ensures case { (occurrences : ℕ → ℕ) → KeepsMost program.now occurrences → events_bound program.now (case_events program.now occurrences) ≤ case_bound program.now }
+    ensures case { (occurrences : ℕ → ℕ) → KeepsMost program.now occurrences
+        → events_bound program.now (case_events program.now occurrences) ≤ case_bound program.now }
     ensures listed { (events : List Moment) → KeepsTimes program.now events → events_bound program.now events ≤ case_bound program.now }
 {
     let _ = program;

@@ -8,7 +8,7 @@ use Rattle.cse_image_parts.specs.declared.instruction.Instr.{Instr}
 use Rattle.cse_code_typing.specs.declared.kind.Kind.{Kind}
 use Rattle.cse_code_typing.specs.declared.depth.Depth.{Depth}
 use Rattle.cse_code_typing.specs.Kinds.{local_kind}
-use Rattle.cse_code_typing.specs.declared.piles.Entry.{Entry}
+use Rattle.cse_code_typing.specs.declared.piles.PileEntry.{PileEntry}
 use Rattle.cse_code_typing.specs.declared.piles.Expected.{Expected}
 use Rattle.cse_code_typing.specs.declared.piles.Expected.TheVariants as numbered
 use Rattle.cse_code_typing.specs.Signature.{Scene}
@@ -64,7 +64,7 @@ locals_more locals n x k one total next at kind is so went =
 
 -- ---- the places so far
 
-stack_expected : (table : List Entry) (there : Expected) (s : List Kind) → expected_stack (expects table there) ≡ Some s → stack_at table there ≡ s
+stack_expected : (table : List PileEntry) (there : Expected) (s : List Kind) → expected_stack (expects table there) ≡ Some s → stack_at table there ≡ s
 stack_expected table numbered.Free s h = cc
 stack_expected table (numbered.Is n) s h = cc
 stack_expected table numbered.Clash s h = cc
@@ -73,7 +73,7 @@ module _ (s : Scene) (depths : List Depth) (code : List Instr) where
   pub deep_start : (d : Depth) → d ≡ no_depth → IsDepthBelow s depths code 0 d
   deep_start d none m t le typing = none
 
-  pub deep_more : (r p : ℕ) (i : Instr) (openers : List ℕ) (piles : List Entry) (known : List Expected) (there : Expected) (most kept next : Depth) → IsPassed s r code openers piles known p
+  pub deep_more : (r p : ℕ) (i : Instr) (openers : List ℕ) (piles : List PileEntry) (known : List Expected) (there : Expected) (most kept next : Depth) → IsPassed s r code openers piles known p
       → slice_get code p ≡ Some i → there ≡ expected_in known p → kept ≡ place_depth s.lists.routines depths (Some i) (stack_at piles there) → next ≡ greater most kept
       → IsDepthBelow s depths code p most → IsDepthBelow s depths code (p + 1) next
   deep_more r p i openers piles known there most kept next so at is here went before m t le typing =

@@ -7,7 +7,7 @@ use Rattle.std.proofs.lemmas.Option.{same_Some, slice_get_within}
 use Rattle.cse_code_typing.specs.declared.kind.Kind.{Kind}
 use Rattle.cse_code_typing.specs.declared.kind.Kind.TheVariants.{Number, Text, Index, Occurrence}
 use Rattle.cse_code_typing.specs.declared.depth.Depth.{Depth}
-use Rattle.cse_code_typing.specs.declared.piles.Entry.{Entry}
+use Rattle.cse_code_typing.specs.declared.piles.PileEntry.{PileEntry}
 use Rattle.cse_code_typing.specs.Piles.{stack_of}
 use Rattle.cse_code_typing.specs.Depth.{no_depth, ◌⊕◌, greater, one_of, count_of, or_none, depth_at, most_kept, IsAtMost, KeepFew}
 use Rattle.cse_code_typing.proofs.PileLaws.{newest}
@@ -41,7 +41,7 @@ count_few (k ∷ kinds) =
 
 -- ---- stacks by number
 
-other_stack : (e : Entry) (older : List Entry) (n : ℕ) → (n ≡ length older + 1 → ⊥) → stack_of (e ∷ older) n ≡ stack_of older n
+other_stack : (e : PileEntry) (older : List PileEntry) (n : ℕ) → (n ≡ length older + 1 → ⊥) → stack_of (e ∷ older) n ≡ stack_of older n
 unfolding stack_of
 other_stack e older n ne = cond-false (eqb n (length older + 1)) _ _ (ne_eqb n (length older + 1) ne)
 
@@ -49,7 +49,7 @@ no_stack : (n : ℕ) → stack_of [] n ≡ []
 unfolding stack_of
 no_stack n = refl
 
-stack_short : (table : List Entry) (n : ℕ) → length (stack_of table n) ≤ length table
+stack_short : (table : List PileEntry) (n : ℕ) → length (stack_of table n) ≤ length table
 stack_short [] n = let is = ap (λ (l : List Kind). length l) (no_stack n) in omega arith
 stack_short (e ∷ older) n =
     ⊎_elim
@@ -63,7 +63,7 @@ stack_short (e ∷ older) n =
     omega arith)
     (cases_eq n (length older + 1))
 
-pub pile_few : (table : List Entry) (n : ℕ) (d : Depth) → d ≡ count_of (stack_of table n) → IsAtMost (length table) d
+pub pile_few : (table : List PileEntry) (n : ℕ) (d : Depth) → d ≡ count_of (stack_of table n) → IsAtMost (length table) d
 pile_few table n d is =
     subst (IsAtMost (length table)) (sym is)
     (more_few (count_of (stack_of table n)) (length (stack_of table n)) (length table) (stack_short table n) (count_few (stack_of table n)))

@@ -6,7 +6,7 @@ use Rattle.std.proofs.lemmas.Option.{same_Some, slice_get-get_or}
 use Rattle.std.proofs.lemmas.List.{get_or-reverse, length-reverse, length-append, reverse-append}
 use Rattle.cse_code_typing.specs.declared.kind.Kind.{Kind}
 use Rattle.cse_code_typing.specs.declared.depth.Depth.{Depth}
-use Rattle.cse_code_typing.specs.declared.piles.Entry.{Entry}
+use Rattle.cse_code_typing.specs.declared.piles.PileEntry.{PileEntry}
 use Rattle.cse_code_typing.specs.Piles.{stack_of, entry_of, same_entry, IsGrown}
 use Rattle.cse_code_typing.specs.EntryOrder.{number_of}
 use Rattle.cse_code_typing.specs.Depth.{count_of}
@@ -16,11 +16,11 @@ use Rattle.cse_code_typing.specs.Kinds.{same_kind}
 use Rattle.cse_code_typing.proofs.Merges.{same_kind-eq, same_kind-refl, same_kinds-eq, same_kinds-refl}
 use Rattle.cse_code_typing.proofs.PileLaws.{kept_below, newest, zero_empty}
 
-entry_kept : (e : Entry) (older : List Entry) (n : ℕ) → (n ≡ length older + 1 → ⊥) → entry_of (e ∷ older) n ≡ entry_of older n
+entry_kept : (e : PileEntry) (older : List PileEntry) (n : ℕ) → (n ≡ length older + 1 → ⊥) → entry_of (e ∷ older) n ≡ entry_of older n
 unfolding entry_of
 entry_kept e older n ne = cond-false (eqb n (length older + 1)) _ _ (ne_eqb n (length older + 1) ne)
 
-entry_newest : (e : Entry) (older : List Entry) (n : ℕ) → n ≡ length older + 1 → entry_of (e ∷ older) n ≡ Some e
+entry_newest : (e : PileEntry) (older : List PileEntry) (n : ℕ) → n ≡ length older + 1 → entry_of (e ∷ older) n ≡ Some e
 unfolding entry_of
 entry_newest e older n is = cond-true (eqb n (length older + 1)) _ _ (eq-eqb n (length older + 1) is)
 
@@ -28,7 +28,7 @@ no_entry : (n : ℕ) → entry_of [] n ≡ None
 unfolding entry_of
 no_entry n = refl
 
-pub entry_within : (table : List Entry) (n : ℕ) (e : Entry) → entry_of table n ≡ Some e → (0 < n) × (n ≤ length table)
+pub entry_within : (table : List PileEntry) (n : ℕ) (e : PileEntry) → entry_of table n ≡ Some e → (0 < n) × (n ≤ length table)
 entry_within [] n e h = let none = no_entry n in cc
 entry_within (x ∷ older) n e h =
     ⊎_elim
@@ -37,13 +37,13 @@ entry_within (x ∷ older) n e h =
     (cases_eq n (length older + 1))
 
 -- the entry of a number, and its stack
-record HasEntry (table : List Entry) (n : ℕ) : Type 0 where
-  entry : Entry
+record HasEntry (table : List PileEntry) (n : ℕ) : Type 0 where
+  entry : PileEntry
   at : entry_of table n ≡ Some entry
   stack : stack_of table n ≡ entry.kind ∷ stack_of table entry.below
   below : entry.below < n
 
-entry_there : (table : List Entry) (n : ℕ) → IsGrown table → 0 < n → n ≤ length table → HasEntry table n
+entry_there : (table : List PileEntry) (n : ℕ) → IsGrown table → 0 < n → n ≤ length table → HasEntry table n
 entry_there [] n g some le = absurd (omega arith)
 entry_there (x ∷ older) n g some le =
     ⊎_elim
@@ -64,15 +64,15 @@ entry_there (x ∷ older) n g some le =
     })
     (cases_eq n (length older + 1))
 
-same_kind_and_below : (a b : Entry) → a.kind ≡ b.kind → a.below ≡ b.below → a ≡ b
+same_kind_and_below : (a b : PileEntry) → a.kind ≡ b.kind → a.below ≡ b.below → a ≡ b
 same_kind_and_below a b p q = λ i. record { kind = p i; below = q i }
 
-pub same_entry-eq : (a b : Entry) → same_entry a b ≡ true → a ≡ b
+pub same_entry-eq : (a b : PileEntry) → same_entry a b ≡ true → a ≡ b
 same_entry-eq a b h =
     let p = and_parts (same_kind a.kind b.kind) (eqb a.below b.below) h in
     same_kind_and_below a b (same_kind-eq a.kind b.kind p.0) (eqb-true a.below b.below p.1)
 
-pub same_entry-refl : (a : Entry) → same_entry a a ≡ true
+pub same_entry-refl : (a : PileEntry) → same_entry a a ≡ true
 same_entry-refl a = and_from _ _ (same_kind-refl a.kind) (eq-eqb a.below a.below refl)
 
 heads : (k j : Kind) (a b : List Kind) → k ∷ a ≡ j ∷ b → (k ≡ j) × (a ≡ b)
@@ -84,7 +84,7 @@ no_cons k a h = cc
 no_none : {X : Type 0} (o : Option X) (x : X) → o ≡ None → o ≡ Some x → ⊥
 no_none o x h k = cc
 
-module _ (table : List Entry) (depths : List Depth) (numbers : List (Entry × ℕ)) (so : IsShared table depths numbers) where
+module _ (table : List PileEntry) (depths : List Depth) (numbers : List (PileEntry × ℕ)) (so : IsShared table depths numbers) where
   empty_is : (n : ℕ) → n ≤ length table → stack_of table n ≡ [] → n ≡ 0
   empty_is n le h =
       ⊎_elim
@@ -126,21 +126,21 @@ module _ (table : List Entry) (depths : List Depth) (numbers : List (Entry × �
       (cases_eq a b)
 
   -- an entry that has a number makes the stack of that number
-  pub known_stack : (e : Entry) (n : ℕ) → number_of numbers e ≡ Some n → (stack_of table n ≡ e.kind ∷ stack_of table e.below) × (n ≤ length table)
+  pub known_stack : (e : PileEntry) (n : ℕ) → number_of numbers e ≡ Some n → (stack_of table n ≡ e.kind ∷ stack_of table e.below) × (n ≤ length table)
   known_stack e n h =
       let at = so.known n e h in
       let w = entry_within table n e at in
       let x = entry_there table n so.grown w.0 w.1 in
       let one = same_Some x.entry e (sym x.at ∙ at) in
-      (x.stack ∙ ap (λ (y : Entry). y.kind ∷ stack_of table y.below) one, w.1)
+      (x.stack ∙ ap (λ (y : PileEntry). y.kind ∷ stack_of table y.below) one, w.1)
 
-  pub is_new : (e : Entry) → number_of numbers e ≡ None → (n : ℕ) → entry_of table n ≡ Some e → ⊥
+  pub is_new : (e : PileEntry) → number_of numbers e ≡ None → (n : ℕ) → entry_of table n ≡ Some e → ⊥
   is_new e none n at = no_none (number_of numbers e) n none (so.found n e at)
 
   -- one more entry
-  pub shared_more : (e : Entry) (n : ℕ) (d : Depth) (more : List (Entry × ℕ)) → e.below ≤ length table → ((m : ℕ) → entry_of table m ≡ Some e → ⊥) → n ≡ length table + 1
+  pub shared_more : (e : PileEntry) (n : ℕ) (d : Depth) (more : List (PileEntry × ℕ)) → e.below ≤ length table → ((m : ℕ) → entry_of table m ≡ Some e → ⊥) → n ≡ length table + 1
       → d ≡ count_of (e.kind ∷ stack_of table e.below)
-      → ((x : Entry) → number_of more x ≡ (if same_entry e x then Some n else number_of numbers x)) → IsShared (e ∷ table) (d ∷ depths) more
+      → ((x : PileEntry) → number_of more x ≡ (if same_entry e x then Some n else number_of numbers x)) → IsShared (e ∷ table) (d ∷ depths) more
   shared_more e n d more le new next deep puts = record {
     grown = (le, so.grown);
     found = λ m x at.
@@ -171,17 +171,17 @@ module _ (table : List Entry) (depths : List Depth) (numbers : List (Entry × �
 
 -- ---- how many values a stack has
 
-depth_there : (table : List Entry) (j n : ℕ) → j + n ≡ length table → 0 < n → slice_get (depths_of table) j ≡ Some (count_of (stack_of table n))
+depth_there : (table : List PileEntry) (j n : ℕ) → j + n ≡ length table → 0 < n → slice_get (depths_of table) j ≡ Some (count_of (stack_of table n))
 depth_there [] j n count some = absurd (omega arith)
 depth_there (x ∷ older) zero n count some = ap (λ l. Some (count_of l)) (sym (newest x older n (omega arith)))
 depth_there (x ∷ older) (suc j) n count some =
     depth_there older j n (omega arith) some ∙ ap (λ l. Some (count_of l)) (sym (kept_below x older n (omega arith)))
 
-pub length-depths_of : (table : List Entry) → length (depths_of table) ≡ length table
+pub length-depths_of : (table : List PileEntry) → length (depths_of table) ≡ length table
 length-depths_of [] = refl
 length-depths_of (x ∷ older) = let ih = length-depths_of older in omega arith
 
-pub depth_read : (depths : List Depth) (table : List Entry) (n : ℕ) (d : Depth) → reverse depths ≡ depths_of table → 0 < n → n ≤ length table → d ≡ get_or depths (n - 1) d → d ≡ count_of (stack_of table n)
+pub depth_read : (depths : List Depth) (table : List PileEntry) (n : ℕ) (d : Depth) → reverse depths ≡ depths_of table → 0 < n → n ≤ length table → d ≡ get_or depths (n - 1) d → d ≡ count_of (stack_of table n)
 depth_read depths table n d is some le read =
     let count : length depths ≡ length table = sym (length-reverse depths) ∙ ap length is ∙ length-depths_of table in
     let j : ℕ = length depths - n in
@@ -191,9 +191,9 @@ depth_read depths table n d is some le read =
 
 -- ---- no entries
 
-pub shared_none : (table : List Entry) (depths : List Depth) (numbers : List (Entry × ℕ)) → table ≡ [] → depths ≡ [] → ((e : Entry) → number_of numbers e ≡ None) → IsShared table depths numbers
+pub shared_none : (table : List PileEntry) (depths : List Depth) (numbers : List (PileEntry × ℕ)) → table ≡ [] → depths ≡ [] → ((e : PileEntry) → number_of numbers e ≡ None) → IsShared table depths numbers
 shared_none table depths numbers t d none =
-    subst (λ (l : List Entry). IsShared l depths numbers) (sym t)
+    subst (λ (l : List PileEntry). IsShared l depths numbers) (sym t)
     (subst (λ (l : List Depth). IsShared [] l numbers) (sym d)
     (record {
       grown = tt;
@@ -203,18 +203,18 @@ shared_none table depths numbers t d none =
     }))
 
 -- one more entry, in the lists of the code, whose newest one is last
-pub shared_push : (items longer : List Entry) (table : List Entry) (depths more : List Depth) (numbers next : List (Entry × ℕ)) (e : Entry) (d : Depth) (n : ℕ)
+pub shared_push : (items longer : List PileEntry) (table : List PileEntry) (depths more : List Depth) (numbers next : List (PileEntry × ℕ)) (e : PileEntry) (d : Depth) (n : ℕ)
     → reverse items ≡ table → IsShared (reverse items) (reverse depths) numbers
     → e.below ≤ length table → ((m : ℕ) → entry_of table m ≡ Some e → ⊥) → d ≡ count_of (e.kind ∷ stack_of table e.below)
     → longer ≡ items ++ e ∷ [] → more ≡ depths ++ d ∷ [] → n ≡ length longer
-    → ((x : Entry) → number_of next x ≡ (if same_entry e x then Some n else number_of numbers x)) → IsShared (reverse longer) (reverse more) next
+    → ((x : PileEntry) → number_of next x ≡ (if same_entry e x then Some n else number_of numbers x)) → IsShared (reverse longer) (reverse more) next
 shared_push items longer table depths more numbers next e d n is so le new deep grew counted at puts =
     let size : n ≡ length table + 1 = omega (arith, at, ap length grew, length-append items (e ∷ []), ap length is, length-reverse items) in
-    let here = subst (λ (t : List Entry). IsShared t (reverse depths) numbers) is so in
+    let here = subst (λ (t : List PileEntry). IsShared t (reverse depths) numbers) is so in
     let went = shared_more table (reverse depths) numbers here e n d next le new size deep puts in
     let back : reverse longer ≡ e ∷ table = ap reverse grew ∙ reverse-append items (e ∷ []) ∙ ap (λ l. e ∷ l) is in
     let again : reverse more ≡ d ∷ reverse depths = ap reverse counted ∙ reverse-append depths (d ∷ []) in
-    subst (λ (l : List Depth). IsShared (reverse longer) l next) (sym again) (subst (λ (t : List Entry). IsShared t (d ∷ reverse depths) next) (sym back) went)
+    subst (λ (l : List Depth). IsShared (reverse longer) l next) (sym again) (subst (λ (t : List PileEntry). IsShared t (d ∷ reverse depths) next) (sym back) went)
 
 pub ok_told : {X E : Type 0} (r : Result X E) (P : Type 0) → is_err r ≡ false → OnOk r P → P
 ok_told (Ok x) P h p = p

@@ -9,7 +9,7 @@ use Rattle.cse_image_parts.specs.declared.instruction.Instr.{Instr}
 use Rattle.cse_code_typing.specs.declared.kind.Kind.{Kind}
 use Rattle.cse_code_typing.specs.Rule.{Edge, Rule}
 use Rattle.cse_code_typing.specs.Typing.{Stacks, AgreesBelow, LeadsTo, IsTypingBelow, HasTypingBelow, HasNoStackAt}
-use Rattle.cse_code_typing.specs.Pass.{Expects, Free, Is, Clash, Known, entry, expected_stack, merge, turn}
+use Rattle.cse_code_typing.specs.Pass.{Expects, Free, Is, Clash, Known, entry, expected_stack, merge, pass_at}
 use Rattle.cse_code_typing.proofs.Merges.{found, found_is, Allows, Takes, takes_expected, AllTook, merge_length, merge_before, merge_takes, merge_took, merge_led, merge_allows, merge_goes}
 
 -- the stacks that were found
@@ -45,7 +45,7 @@ some_then : {X Y : Type 0} (f : X → Option Y) (o : Option X) (y : Y) → optio
 some_then f None y h = cc
 some_then f (Some x) y h = (x, refl, h)
 
--- the parts of a turn
+-- the parts of the pass at a place
 pub record Turned (rule : Rule) (q : ℕ) (i : Instr) (known after : Known) : Type 0 where
   pub stack : List Kind
   pub edges : List Edge
@@ -53,7 +53,7 @@ pub record Turned (rule : Rule) (q : ℕ) (i : Instr) (known after : Known) : Ty
   pub ruled : rule q i stack ≡ Some edges
   pub merged : merge q edges known ≡ Some after
 
-pub turned : (rule : Rule) (q : ℕ) (i : Instr) (known after : Known) → turn rule q i known ≡ Some after → Turned rule q i known after
+pub turned : (rule : Rule) (q : ℕ) (i : Instr) (known after : Known) → pass_at rule q i known ≡ Some after → Turned rule q i known after
 turned rule q i known after h =
     let s = some_then (λ (stack : List Kind). option_and_then (λ (es : List Edge). merge q es known) (rule q i stack)) (expected_stack (entry known q)) after h in
     let u = some_then (λ (es : List Edge). merge q es known) (rule q i s.0) after s.2 in
@@ -102,7 +102,7 @@ module _ (rule : Rule) (code : List Instr) where
     next_took q known after es fs stack merged expected all.1,
   )
 
-  pub next_known : (q : ℕ) (i : Instr) (known after : Known) → slice_get code q ≡ Some i → IsKnown rule code q known → turn rule q i known ≡ Some after → IsKnown rule code (q + 1) after
+  pub next_known : (q : ℕ) (i : Instr) (known after : Known) → slice_get code q ≡ Some i → IsKnown rule code q known → pass_at rule q i known ≡ Some after → IsKnown rule code (q + 1) after
   next_known q i known after there so h =
       let u = turned rule q i known after h in
       let within : q < length code = slice_get_within code q i there in
@@ -163,8 +163,8 @@ module _ (rule : Rule) (code : List Instr) where
   some_none : {X : Type 0} (o : Option X) (x : X) → o ≡ None → o ≡ Some x → ⊥
   some_none o x h k = cc
 
-  -- where the turn fails no typing goes on
-  pub no_stack : (q : ℕ) (i : Instr) (known : Known) → slice_get code q ≡ Some i → IsKnown rule code q known → turn rule q i known ≡ None → HasNoStackAt rule code q
+  -- where the pass fails no typing goes on
+  pub no_stack : (q : ℕ) (i : Instr) (known : Known) → slice_get code q ≡ Some i → IsKnown rule code q known → pass_at rule q i known ≡ None → HasNoStackAt rule code q
   no_stack q i known there so h =
       let within : q < length code = slice_get_within code q i there in
       record {
@@ -177,7 +177,7 @@ module _ (rule : Rule) (code : List Instr) where
             let m = merge_goes (q + 1) q t f.edges known (omega arith) f.agrees
             (λ k le. ⊎_elim (λ (l : k < q). so.same (q + 1) t (omega arith) typed.1 k l)
             (λ (l : q ≤ k). let e : q ≡ k = omega arith in subst (λ n. expected_stack (entry known n) ≡ Some (t n)) e here) (cases_lt k q)) in
-            some_none (turn rule q i known) m.0 h
+            some_none (pass_at rule q i known) m.0 h
             (ap (option_and_then (λ (stack : List Kind). option_and_then (λ (es : List Edge). merge q es known) (rule q i stack))) here
             ∙ ap (option_and_then (λ (es : List Edge). merge q es known)) f.ruled ∙ m.1);
       }

@@ -3,12 +3,12 @@ use Rattle.std.specs.Prelude.{ℕ, List, Option}
 use Rattle.std.specs.Map.{lookup}
 use Rattle.std.specs.BTreeMap.{is_at}
 use Rattle.std.specs.declared.cmp.Ordering.{Ordering}
-use Rattle.cse_code_typing.specs.declared.piles.Entry.{Entry}
-use Rattle.cse_code_typing.specs.contracts.piles.EntryOrd.TheImpl as entry_ord
+use Rattle.cse_code_typing.specs.declared.piles.PileEntry.{PileEntry}
+use Rattle.cse_code_typing.specs.contracts.piles.PileEntryOrd.TheImpl as entry_ord
 
-abbrev pub entry_cmp : Entry → Entry → Ordering
+abbrev pub entry_cmp : PileEntry → PileEntry → Ordering
 entry_cmp = (entry_ord.ghosts).cmp
 
 -- the number of an entry among those that have one
-abbrev pub number_of : List (Entry × ℕ) → Entry → Option ℕ
+abbrev pub number_of : List (PileEntry × ℕ) → PileEntry → Option ℕ
 number_of numbers e = lookup (is_at (entry_cmp e)) numbers

@@ -55,6 +55,6 @@ merge q (e ∷ es) known =
     else merge q es (slice_set known e.0 (met (entry known e.0) e.1))
 
 -- what is known after the instruction at place q
-abbrev pub turn : Rule → ℕ → Instr → Known → Option Known
-turn rule q i known =
+abbrev pub pass_at : Rule → ℕ → Instr → Known → Option Known
+pass_at rule q i known =
     option_and_then (λ (stack : List Kind). option_and_then (λ (es : List Edge). merge q es known) (rule q i stack)) (expected_stack (entry known q))

@@ -1,6 +1,6 @@
 -- Numbers of stacks that are in a table.
 use Rattle.std.specs.Prelude.{◌≡◌, ◌≤◌, ℕ, List, length, Option, None, Some, slice_get}
-use Rattle.cse_code_typing.specs.declared.piles.Entry.{Entry}
+use Rattle.cse_code_typing.specs.declared.piles.PileEntry.{PileEntry}
 use Rattle.cse_code_typing.specs.declared.piles.Expected.{Expected}
 use Rattle.cse_code_typing.specs.declared.piles.Expected.TheVariants.{Free, Is, Clash}
 use Rattle.cse_code_typing.specs.declared.exits.Exits.{Exits}
@@ -30,6 +30,6 @@ ExitsWithin n (One e) = e.stack ≤ n
 ExitsWithin n (Two e f) = (e.stack ≤ n) × (f.stack ≤ n)
 
 -- a table to which entries were added: the stacks that were there stay
-pub record KeepsStacks (old new : List Entry) : Type 0 where
+pub record KeepsStacks (old new : List PileEntry) : Type 0 where
   pub longer : length old ≤ length new
   pub same : (n : ℕ) → n ≤ length old → stack_of new n ≡ stack_of old n

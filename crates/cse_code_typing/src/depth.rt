@@ -6,7 +6,7 @@ ghost use Rattle.cse_code_typing.specs.Depth.{◌⊕◌, greater, one_of};
 use crate::kind::Kind;
 
 /// So many numbers, texts and ordinals, which are indexes and occurrences.
-#[derive(Clone, Copy, Debug, PartialEq, Eq)]
+#[derive(Clone, Copy, PartialEq, Eq)]
 pub struct Depth {
     pub numbers: u64,
     pub texts: u64,
@@ -14,6 +14,7 @@ pub struct Depth {
 }
 
 impl Depth {
+    /// No values, and no bracket.
     pub const NONE: Depth = Depth {
         numbers: 0,
         texts: 0,

@@ -10,14 +10,14 @@ use crate::control::Control;
 use crate::piles::Piles;
 
 /// A place, and the number of the stack that stands there.
-#[derive(Clone, Copy, Debug)]
+#[derive(Clone, Copy)]
 pub struct Edge {
     pub to: usize,
     pub stack: usize,
 }
 
 /// Where an instruction leads.
-#[derive(Clone, Copy, Debug)]
+#[derive(Clone, Copy)]
 pub enum Exits {
     Nowhere,
     One(Edge),

@@ -23,7 +23,7 @@ fn begins_bracket<C: Code>(code: &RoutineCode<'_, C>, place: u32) -> bool
 }
 
 /// What a table says of a place.
-fn told(table: &[Option<u32>], place: u32) -> Option<u32>
+fn opener_in(table: &[Option<u32>], place: u32) -> Option<u32>
     ensures { (o : Option ℕ) → slice_get table.now place ≡ Some o → result ≡ o }
 {
     match table.get(place as usize).copied() {
@@ -49,7 +49,7 @@ fn still_around<C: Code>(
         if is_around(code, found, place) {
             return Some(found);
         }
-        opener = told(table, found);
+        opener = opener_in(table, found);
     }
     None
 }
@@ -113,7 +113,7 @@ pub fn is_told_jump<C: Code>(
     if to <= from || to >= code.len() {
         return false;
     }
-    is_same(told(table, to), told(table, from))
+    is_same(opener_in(table, to), opener_in(table, from))
 }
 
 /// Whether the innermost bracket, if there is one, is around a later place too.

@@ -7,7 +7,7 @@ use cse_image_parts::entries::{GlobalKind, Local, LocalKind};
 use cse_image_parts::placeholders::ArgumentKind;
 
 /// The kind of a value on the stack.
-#[derive(Clone, Copy, Debug, PartialEq, Eq, PartialOrd, Ord)]
+#[derive(Clone, Copy, PartialEq, Eq, PartialOrd, Ord)]
 pub enum Kind {
     Number,
     Text,

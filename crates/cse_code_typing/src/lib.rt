@@ -20,13 +20,13 @@ mod need;
 mod nest;
 mod numbers;
 mod order;
+mod pass_at;
 mod piles;
 mod place_depth;
 mod refusal;
 mod routine_code;
 mod shape;
 mod stand;
-mod turn;
 mod walk;
 mod whole;
 
@@ -38,10 +38,10 @@ pub use kind::{Kind, is_same_kind, kind_of_argument, kind_of_global, kind_of_loc
 pub use laws::{edges_lead_inside, events_run_handlers, growth_is_told, typing_is_one};
 pub use nest::Nest;
 pub use order::{all_events_fit, fits_event, names_each_once};
+pub use pass_at::Surroundings;
 pub use refusal::{NONE, Refusal};
 pub use routine_code::RoutineCode;
 pub use shape::same_shape;
 pub use stand::may_stand;
-pub use turn::Surroundings;
-pub use walk::{Fault, judge};
+pub use walk::{WalkFault, judge};
 pub use whole::{check_events, check_routine, typed};

@@ -6,7 +6,7 @@ ghost use Rattle.cse_value.specs.Shape.{shape_lists};
 ghost use Rattle.cse_image_parts.specs.Image.{Lists, lists_of, routine_lists};
 ghost use Rattle.cse_image_parts.specs.Turns.{limit_of};
 ghost use Rattle.cse_code_typing.specs.Kinds.{gift_kinds};
-ghost use Rattle.cse_code_typing.specs.Signature.{id_number, id_text, number_item, text_item, is_record, is_numeric, rows_of, global_at, local_at, storable, stored_at, given, dropped, indexes_of, arguments_of, parameters_of, ◌⇒◌, signature_by};
+ghost use Rattle.cse_code_typing.specs.Signature.{id_number, id_text, number_item, text_item, is_record, is_numeric, rows_of, global_at, local_at, storable, stored_at, provided, dropped, indexes_of, arguments_of, parameters_of, ◌⇒◌, signature_by};
 ghost use Rattle.cse_code_typing.specs.Needs.{signature_of};
 
 use crate::kind::{Kind, kind_of_global, kind_of_local};
@@ -15,7 +15,7 @@ use cse_image_parts::instruction::{Instr, Op};
 use cse_value::shape::{ID_OWNER, ItemKind, ItemShape, Shape};
 
 /// Kinds that a table lists, the topmost last.
-#[derive(Clone, Copy, Debug)]
+#[derive(Clone, Copy)]
 pub enum Listed {
     Nothing,
     /// An index for each dimension of an array.
@@ -27,7 +27,7 @@ pub enum Listed {
 }
 
 /// What is taken: two kinds that lie on top, and what is listed below them; and what is left.
-#[derive(Clone, Copy, Debug)]
+#[derive(Clone, Copy)]
 pub struct Need {
     pub first: Option<Kind>,
     pub second: Option<Kind>,
@@ -262,7 +262,7 @@ fn of_loop(tables: &Tables, place: u16) -> Option<Need>
 
 /// A need, where a condition holds.
 fn when(holds: bool, need: Option<Need>) -> Option<Need>
-    ensures { result ≡ given holds need }
+    ensures { result ≡ provided holds need }
 {
     if holds { need } else { None }
 }

@@ -10,20 +10,20 @@ ghost use Rattle.cse_code_typing.specs.Pass.{same_kinds};
 
 use crate::depth::Depth;
 use crate::kind::Kind;
-use crate::numbers::Numbers;
+use crate::numbers::EntryNumbers;
 use std::alloc::{AllocError, Global};
 use std::marker::Model;
 
 /// A kind on the stack of a number.
-#[derive(Clone, Copy, Debug, PartialEq, Eq, PartialOrd, Ord)]
-pub struct Entry {
+#[derive(Clone, Copy, PartialEq, Eq, PartialOrd, Ord)]
+pub struct PileEntry {
     pub kind: Kind,
     pub below: usize,
 }
 
 /// What the places so far lead to, at one place: nothing, the stack of a number, or stacks that
 /// differ.
-#[derive(Clone, Copy, Debug)]
+#[derive(Clone, Copy)]
 pub enum Expected {
     Free,
     Is(usize),
@@ -33,17 +33,17 @@ pub enum Expected {
 /// Stacks by number: 0 is the empty one. Contracts see the entries, the newest first.
 #[derive(Drop)]
 pub struct Piles {
-    entries: Vec<Entry>,
+    entries: Vec<PileEntry>,
     /// How many values each stack but the empty one has.
     depths: Vec<Depth>,
-    numbers: Numbers,
+    numbers: EntryNumbers,
 }
 
 impl Model for Piles {
     ghost use Rattle.std.specs.Prelude.{List, reverse};
-    ghost use Rattle.cse_code_typing.specs.declared.piles.Entry.{Entry};
+    ghost use Rattle.cse_code_typing.specs.declared.piles.PileEntry.{PileEntry};
 
-    ghost Value = { List Entry };
+    ghost Value = { List PileEntry };
 
     ghost use Rattle.cse_code_typing.specs.Shared.{IsShared};
 
@@ -60,7 +60,7 @@ impl Piles {
         Piles {
             entries: Vec::new(alloc),
             depths: Vec::new(alloc),
-            numbers: Numbers::new(alloc),
+            numbers: EntryNumbers::new(alloc),
         }
     }
 
@@ -74,7 +74,7 @@ impl Piles {
         ensures keeps { KeepsStacks self.old self.new }
         ensures one { length self.new ≤ length self.old + 1 }
     {
-        let entry = Entry { kind, below };
+        let entry = PileEntry { kind, below };
         if let Some(number) = self.numbers.find(entry) {
             return Ok(number);
         }
@@ -84,7 +84,7 @@ impl Piles {
     }
 
     /// A new entry, with how many values its stack has; nothing changes where memory runs out.
-    fn add(&mut self, entry: Entry, depth: Depth) -> Result<(), AllocError>
+    fn add(&mut self, entry: PileEntry, depth: Depth) -> Result<(), AllocError>
         requires new { (n : ℕ) → entry_of self.old n ≡ Some entry → ⊥ }
         requires below { entry.below ≤ length self.old }
         requires depth { depth ≡ count_of (entry.kind ∷ stack_of self.old entry.below) }

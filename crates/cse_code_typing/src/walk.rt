@@ -15,17 +15,17 @@ use crate::depth::Depth;
 use crate::in_loop::is_in_loop;
 use crate::known::expected_at;
 use crate::nest::Nest;
+use crate::pass_at::{Standing, Surroundings, pass_at};
 use crate::piles::{Expected, Piles};
 use crate::place_depth::{locals_depth, place_depth};
 use crate::routine_code::RoutineCode;
 use crate::stand::may_stand;
-use crate::turn::{Standing, Surroundings, turn};
 use cse_image::Code;
 use std::alloc::{AllocError, Global};
 
 /// Why a routine isn't typed, with the place.
-#[derive(Clone, Copy, Debug)]
-pub enum Fault {
+#[derive(Clone, Copy)]
+pub enum WalkFault {
     /// The instruction may not stand in the routine.
     MayNotStand(u32),
     /// No stack fits the place.
@@ -53,15 +53,17 @@ pub fn judge<C: Code>(
     start: usize,
     number: u32,
     smaller: &[Depth],
-) -> Result<Result<Depth, Fault>, AllocError>
+) -> Result<Result<Depth, WalkFault>, AllocError>
     requires within { start + around.routine.now.instructions ≤ length (C.list code.now) }
     requires brackets { KeepsRules (skeleton (lists_of around.tables.now) (part start around.routine.now.instructions (C.list code.now))) }
     requires routines { length smaller.now < 2 ^ 32 }
     requires few { KeepFew smaller.now }
     requires locals { length around.routine.now.locals.items ≤ 255 }
     requires size { around.routine.now.instructions ≤ 1000000 }
-    ensures judges { IfOk result (λ v. Judges (scene_in around.entry) number (part start around.entry.routine.now.instructions (C.list code.now)) (fault_in v)) }
-    ensures depth { IfOk result (λ v. IfOk v (IsDepth (scene_in around.entry) smaller.now (part start around.entry.routine.now.instructions (C.list code.now)))) }
+    ensures judges { IfOk result
+        (λ v. Judges (scene_in around.entry) number (part start around.entry.routine.now.instructions (C.list code.now)) (fault_in v)) }
+    ensures depth { IfOk result
+        (λ v. IfOk v (IsDepth (scene_in around.entry) smaller.now (part start around.entry.routine.now.instructions (C.list code.now)))) }
     ensures few { IfOk result (λ v. IfOk v (IsAtMost (most_kept * (length smaller.now + 1)))) }
 {
     let mut known = nothing(alloc, around.routine.instructions)?;
@@ -81,14 +83,16 @@ fn walk<C: Code>(
     number: u32,
     smaller: &[Depth],
     known: &mut [Expected],
-) -> Result<Result<Depth, Fault>, AllocError>
+) -> Result<Result<Depth, WalkFault>, AllocError>
     requires within { start + around.routine.now.instructions ≤ length (C.list code.now) }
     requires brackets { KeepsRules (skeleton (lists_of around.tables.now) (part start around.routine.now.instructions (C.list code.now))) }
     requires routines { length smaller.now < 2 ^ 32 }
     requires few { KeepFew smaller.now }
     requires known { known.old ≡ replicate around.routine.now.instructions Expected.Free }
-    ensures judges { IfOk result (λ v. Judges (scene_in around.entry) number (part start around.entry.routine.now.instructions (C.list code.now)) (fault_in v)) }
-    ensures depth { IfOk result (λ v. IfOk v (IsDepthBelow (scene_in around.entry) smaller.now (part start around.entry.routine.now.instructions (C.list code.now)) around.entry.routine.now.instructions)) }
+    ensures judges { IfOk result
+        (λ v. Judges (scene_in around.entry) number (part start around.entry.routine.now.instructions (C.list code.now)) (fault_in v)) }
+    ensures depth { IfOk result (λ v. IfOk v (IsDepthBelow (scene_in around.entry) smaller.now
+        (part start around.entry.routine.now.instructions (C.list code.now)) around.entry.routine.now.instructions)) }
     ensures few { IfOk result (λ v. IfOk v (IsAtMost (around.entry.routine.now.instructions + most_kept * length smaller.now))) }
 {
     let _fits = code.len();
@@ -100,7 +104,7 @@ fn walk<C: Code>(
     'places: for place in 0..size {
         let instr = code.at(start + place as usize);
         if !may_stand(around.tables, number, around.routine.ambient, instr) {
-            return Ok(Err(Fault::MayNotStand(place)));
+            return Ok(Err(WalkFault::MayNotStand(place)));
         }
         let control = control_of(around.tables, instr);
         let in_loop = is_in_loop(code, start, size, &openers, instr.a);
@@ -112,8 +116,8 @@ fn walk<C: Code>(
         };
         let there = expected_at(known, place as usize);
         let kept = place_depth(around.tables, smaller, &piles, there, instr);
-        if !turn(around, at, &mut piles, known)? {
-            return Ok(Err(Fault::NoStack(place)));
+        if !pass_at(around, at, &mut piles, known)? {
+            return Ok(Err(WalkFault::NoStack(place)));
         }
         most = most.greater(kept);
         pass(&skeleton, place, control, &mut openers);

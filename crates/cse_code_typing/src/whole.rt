@@ -12,11 +12,11 @@ ghost use Rattle.cse_code_typing.specs.Typed.{AreTypedBelow, IsTyped, HasUnfitEv
 use crate::brackets::first_break;
 use crate::depth::Depth;
 use crate::order::{all_events_fit, names_each_once};
+use crate::pass_at::Surroundings;
 use crate::refusal::{Refusal, nowhere};
 use crate::routine_code::RoutineCode;
 use crate::shape::same_shape;
-use crate::turn::Surroundings;
-use crate::walk::{Fault, judge};
+use crate::walk::{WalkFault, judge};
 use cse_image::{Code, Program};
 use cse_value::shape::Shape;
 use std::alloc::Global;
@@ -40,7 +40,8 @@ pub fn check_routine<C: Code>(
     ensures sound { OnOk result (IsSound (scene_in around.entry) number (part start around.entry.routine.now.instructions (C.list code.now))) }
     ensures depth { IfOk result (IsDepth (scene_in around.entry) smaller.now (part start around.entry.routine.now.instructions (C.list code.now))) }
     ensures few { IfOk result (IsAtMost (most_kept * (length smaller.now + 1))) }
-    ensures fails { IfErr result (λ e. IsOutOfMemory e ⊎ Fails (scene_in around.entry) number (part start around.entry.routine.now.instructions (C.list code.now)) e) }
+    ensures fails { IfErr result
+        (λ e. IsOutOfMemory e ⊎ Fails (scene_in around.entry) number (part start around.entry.routine.now.instructions (C.list code.now)) e) }
 {
     let size = around.routine.instructions;
     let skeleton = RoutineCode::new(code, around.tables, start, size);
@@ -53,12 +54,12 @@ pub fn check_routine<C: Code>(
     }
     match judge(alloc, around, code, start, number, smaller)? {
         Ok(depth) => Ok(depth),
-        Err(Fault::MayNotStand(at)) => Err(Refusal {
+        Err(WalkFault::MayNotStand(at)) => Err(Refusal {
             number: 69,
             routine: number,
             at,
         }),
-        Err(Fault::NoStack(at)) => Err(Refusal {
+        Err(WalkFault::NoStack(at)) => Err(Refusal {
             number: 66,
             routine: number,
             at,

@@ -9,7 +9,7 @@ use Rattle.cse_logic_tree.specs.Typed.{Tree}
 use Rattle.cse_compile_sections.specs.Tables.{globals_in, arrays_in, message_of}
 use Rattle.cse_compile_sections.specs.Order.{edit_order}
 use Rattle.cse_compile_code.specs.Setting.{sizes_of}
-use Rattle.cse_compile.specs.declared.parts.Said.{Said}
+use Rattle.cse_compile.specs.declared.parts.DeclaredLists.{DeclaredLists}
 use Rattle.cse_compile.specs.declared.routes.Routes.{Routes}
 use Rattle.cse_compile.specs.Stands.{AllStand}
 use Rattle.cse_compile.specs.Pooled.{pools_in}
@@ -27,7 +27,7 @@ sizes_are t xs e = sizes_of_lists xs ∙ ap (map (λ (x : ArrayLists). x.dimensi
 
 -- what the lists of a source are
 -- (the code was made for the arrays that were seen)
-pub record AreListsOf (d : DictionaryText) (named : List ℕ) (t : Tree) (said : Said) (arrays : Vec Array) (seen : List Array) (routes : Routes) : Type 0 where
+pub record AreListsOf (d : DictionaryText) (named : List ℕ) (t : Tree) (said : DeclaredLists) (arrays : Vec Array) (seen : List Array) (routes : Routes) : Type 0 where
   pub same_arrays : seen ≡ arrays.items
   pub shape : shape_lists said.shape ≡ shape_of d
   pub order : said.order.items ≡ edit_order (length (shape_of d).records) named
@@ -38,7 +38,7 @@ pub record AreListsOf (d : DictionaryText) (named : List ℕ) (t : Tree) (said :
   pub events : routes.events.items ≡ events d t
   pub code : AllStand (pools_in routes.code) routes.code.instructions.items (all_code (shape_of d).records (map sizes_of seen) (outlines t))
 
-pub program_is : (d : DictionaryText) (named : List ℕ) (t : Tree) (said : Said) (arrays : Vec Array) (seen : List Array) (routes : Routes) (x : Image) → x ≡ image_from said arrays routes → AreListsOf d named t said arrays seen routes → IsProgramOf d named t x
+pub program_is : (d : DictionaryText) (named : List ℕ) (t : Tree) (said : DeclaredLists) (arrays : Vec Array) (seen : List Array) (routes : Routes) (x : Image) → x ≡ image_from said arrays routes → AreListsOf d named t said arrays seen routes → IsProgramOf d named t x
 program_is d named t said arrays seen routes x e h =
     let same : map sizes_of seen ≡ sizes t = ap (map sizes_of) h.same_arrays ∙ sizes_are t arrays.items h.array_lists in
     subst (IsProgramOf d named t) (sym e)

@@ -4,10 +4,10 @@ use Rattle.std.specs.String.{string_bytes}
 use Rattle.std.specs.Global.{Vec}
 use Rattle.cse_image_parts.specs.declared.entries.Array.{Array}
 use Rattle.cse_image_parts.specs.Image.{Image, array_lists, message_lists, routine_lists}
-use Rattle.cse_compile.specs.declared.parts.Said.{Said}
+use Rattle.cse_compile.specs.declared.parts.DeclaredLists.{DeclaredLists}
 use Rattle.cse_compile.specs.declared.routes.Routes.{Routes}
 
-abbrev pub image_from : Said → Vec Array → Routes → Image
+abbrev pub image_from : DeclaredLists → Vec Array → Routes → Image
 image_from said arrays routes = record {
   lists = record {
     records = said.shape.records.items;

@@ -13,7 +13,7 @@ ghost use Rattle.cse_compile.specs.Room.{AreSmall, IsSmall};
 
 use crate::error::{BEYOND, CompileError, WANT_OF_MEMORY};
 use cse_compile_code::{Emitter, Setting, routine_size};
-use cse_compile_sections::{Handler, Outline, Sort};
+use cse_compile_sections::{Handler, Outline, RoutineSort};
 use cse_image_parts::entries::{Array, Routine};
 use cse_logic_tree::Statement;
 use cse_value::shape::RecordShape;
@@ -55,7 +55,7 @@ fn emit<'a>(
 }
 
 /// A routine with so many instructions.
-fn routine_of(alloc: Global, sort: Sort, instructions: u32) -> Result<Routine, CompileError>
+fn routine_of(alloc: Global, sort: RoutineSort, instructions: u32) -> Result<Routine, CompileError>
     ensures ok { IfOk result (λ r. routine_lists r ≡ outline_spec.routine_of sort instructions) }
     ensures err { IfErr result IsLimit }
     ensures room { IfErr result (λ e. e.number ≡ 64 → 256 ≤ outline_spec.parameters_of sort) }
@@ -124,7 +124,8 @@ pub fn code_all<'a>(
     outlines: &[Outline<'_, 'a>],
 ) -> Result<Vec<Routine>, CompileError>
     ensures code { OnOk result (emitter.new ≡ emitter.old ++ spec.all_code records.now (map sizes_of arrays.now) (map outline_spec.outline outlines.now)) }
-    ensures entries { IfOk result (λ v. map routine_lists v.items ≡ map (spec.entry_of records.now (map sizes_of arrays.now)) (map outline_spec.outline outlines.now)) }
+    ensures entries { IfOk result (λ v. map routine_lists v.items
+        ≡ map (spec.entry_of records.now (map sizes_of arrays.now)) (map outline_spec.outline outlines.now)) }
     ensures err { IfErr result IsLimit }
     ensures room { IfErr result (λ e. e.number ≡ 64 → AreSmall emitter.old records.now (map sizes_of arrays.now) (map outline_spec.outline outlines.now) → ⊥) }
 {
@@ -150,7 +151,8 @@ pub fn with_handlers<'t, 'a>(
     functions: Vec<Outline<'t, 'a>>,
     handlers: &[Handler<'t, 'a>],
 ) -> Result<Vec<Outline<'t, 'a>>, AllocError>
-    ensures { IfOk result (λ v. map outline_spec.outline v.items ≡ map outline_spec.outline functions.entry.items ++ map (λ x. x.outline) (map outline_spec.handler handlers.now)) }
+    ensures { IfOk result (λ v. map outline_spec.outline v.items
+        ≡ map outline_spec.outline functions.entry.items ++ map (λ x. x.outline) (map outline_spec.handler handlers.now)) }
 {
     let mut outlines = functions;
     'all: for written in handlers {

@@ -71,7 +71,8 @@ pub fn program_of<'t, 'a>(
     ensures tables { IfOk result (IsProgramOf dictionary.now order.now (tree_view tree.now)) }
     ensures room { IfErr result (λ e. e.number ≡ 64 → HasNoRoom dictionary.now order.now (tree_view tree.now)) }
     ensures others { IsSound dictionary.now order.now (tree_view tree.now) → IfErr result IsReason }
-    ensures cost { IsSound dictionary.now order.now (tree_view tree.now) → IfErr result (λ e. e.number ≡ 67 → MayTakeLong dictionary.now order.now (tree_view tree.now)) }
+    ensures cost { IsSound dictionary.now order.now (tree_view tree.now) → IfErr result (λ e. e.number
+        ≡ 67 → MayTakeLong dictionary.now order.now (tree_view tree.now)) }
 {
     match parts_of(alloc, tree, dictionary, order) {
         Ok(parts) => spelled(alloc, dictionary, parts),

@@ -19,8 +19,10 @@ pub struct CompileError {
     pub number: u8,
 }
 
+/// More than an image can hold.
 pub const BEYOND: CompileError = CompileError { number: 64 };
 
+/// Want of memory.
 pub const WANT_OF_MEMORY: CompileError = CompileError { number: 90 };
 
 impl From<AllocError> for CompileError {

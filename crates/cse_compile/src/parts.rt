@@ -25,7 +25,7 @@ use std::alloc::{AllocError, Global};
 
 /// The lists that the dictionary, the declarations, the messages and the order file say.
 #[derive(Drop)]
-pub struct Said {
+pub struct DeclaredLists {
     pub shape: Shape,
     pub order: Vec<u32>,
     pub globals: Vec<GlobalVariable>,
@@ -51,7 +51,7 @@ fn said_in<'t, 'a>(
     tree: &'t Tree<'a>,
     dictionary: &Dictionary,
     named: &[u16],
-) -> Result<Said, AllocError>
+) -> Result<DeclaredLists, AllocError>
     ensures shape { IfOk result (λ x. shape_lists x.shape ≡ shape_of dictionary.now) }
     ensures order { IfOk result (λ x. x.order.items ≡ order_spec.edit_order (length (shape_of dictionary.now).records) named.now) }
     ensures globals { IfOk result (λ x. x.globals.items ≡ tables_spec.globals_in (spec.declarations (tree_view tree.now))) }
@@ -61,7 +61,7 @@ fn said_in<'t, 'a>(
     let order = edit_order(alloc, dictionary.shape().records.len() as u16, named)?;
     let globals = globals_of(alloc, declarations_of(tree))?;
     let messages = messages_of(alloc, &tree.messages)?;
-    Ok(Said {
+    Ok(DeclaredLists {
         shape,
         order,
         globals,
@@ -70,10 +70,10 @@ fn said_in<'t, 'a>(
 }
 
 /// The sections from their lists.
-fn joined(said: Said, arrays: Vec<Array>, routes: Routes) -> Parts
+fn joined(said: DeclaredLists, arrays: Vec<Array>, routes: Routes) -> Parts
     ensures { image_of result ≡ image_from said arrays routes }
 {
-    let Said {
+    let DeclaredLists {
         shape,
         order,
         globals,

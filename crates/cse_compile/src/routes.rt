@@ -54,9 +54,11 @@ fn routed(
     outlines: &[Outline],
     events: Vec<EventEntry>,
 ) -> Result<Routes, CompileError>
-    ensures routines { IfOk result (λ x. map routine_lists x.routines.items ≡ map (spec.entry_of records.now (map sizes_of arrays.now)) (map outline_spec.outline outlines.now)) }
+    ensures routines { IfOk result (λ x. map routine_lists x.routines.items
+        ≡ map (spec.entry_of records.now (map sizes_of arrays.now)) (map outline_spec.outline outlines.now)) }
     ensures events { IfOk result (λ x. x.events.items ≡ events.items) }
-    ensures code { IfOk result (λ x. AllStand (pools_in x.code) x.code.instructions.items (spec.all_code records.now (map sizes_of arrays.now) (map outline_spec.outline outlines.now))) }
+    ensures code { IfOk result (λ x. AllStand (pools_in x.code) x.code.instructions.items
+        (spec.all_code records.now (map sizes_of arrays.now) (map outline_spec.outline outlines.now))) }
     ensures fit { IfOk result (λ x. PoolsFit (pools_in x.code)) }
     ensures err { IfErr result IsLimit }
     ensures room { IfErr result (λ e. e.number ≡ 64 → NoCodeFits records.now (map sizes_of arrays.now) (map outline_spec.outline outlines.now)) }
@@ -83,7 +85,8 @@ fn outlines_of<'t, 'a>(
     tree: &'t Tree<'a>,
     handlers: &[Handler<'t, 'a>],
 ) -> Result<(Vec<Outline<'t, 'a>>, usize), AllocError>
-    ensures outlines { IfOk result (λ r. map outline_spec.outline r.0.items ≡ functions_in (spec.declarations (tree_view tree.now)) ++ map (λ x. x.outline) (map outline_spec.handler handlers.now)) }
+    ensures outlines { IfOk result (λ r. map outline_spec.outline r.0.items
+        ≡ functions_in (spec.declarations (tree_view tree.now)) ++ map (λ x. x.outline) (map outline_spec.handler handlers.now)) }
     ensures functions { IfOk result (λ r. r.1 ≡ length (functions_in (spec.declarations (tree_view tree.now)))) }
 {
     let functions = function_outlines(alloc, declarations_of(tree))?;
@@ -99,7 +102,8 @@ fn events_of(
     functions: usize,
     handlers: &[Handler],
 ) -> Result<Vec<EventEntry>, CompileError>
-    ensures ok { IfOk result (λ v. v.items ≡ events_spec.entries_in (events_spec.table_from [] functions (map outline_spec.handler handlers.now)) (length (shape_of dictionary.now).records) (length (shape_of dictionary.now).items)) }
+    ensures ok { IfOk result (λ v. v.items ≡ events_spec.entries_in (events_spec.table_from [] functions (map outline_spec.handler handlers.now))
+        (length (shape_of dictionary.now).records) (length (shape_of dictionary.now).items)) }
     ensures err { IfErr result IsLimit }
     ensures room { IfErr result (λ e. e.number ≡ 64 → functions ≤ most_routines → length handlers.now ≤ most_routines → ⊥) }
 {
@@ -124,12 +128,15 @@ pub fn routes_of<'t, 'a>(
     dictionary: &Dictionary,
     arrays: &[Array],
 ) -> Result<Routes, CompileError>
-    ensures routines { IfOk result (λ x. map routine_lists x.routines.items ≡ map (spec.entry_of (shape_of dictionary.now).records (map sizes_of arrays.now)) (spec.outlines (tree_view tree.now))) }
+    ensures routines { IfOk result (λ x. map routine_lists x.routines.items
+        ≡ map (spec.entry_of (shape_of dictionary.now).records (map sizes_of arrays.now)) (spec.outlines (tree_view tree.now))) }
     ensures events { IfOk result (λ x. x.events.items ≡ spec.events dictionary.now (tree_view tree.now)) }
-    ensures code { IfOk result (λ x. AllStand (pools_in x.code) x.code.instructions.items (spec.all_code (shape_of dictionary.now).records (map sizes_of arrays.now) (spec.outlines (tree_view tree.now)))) }
+    ensures code { IfOk result (λ x. AllStand (pools_in x.code) x.code.instructions.items
+        (spec.all_code (shape_of dictionary.now).records (map sizes_of arrays.now) (spec.outlines (tree_view tree.now)))) }
     ensures fit { IfOk result (λ x. PoolsFit (pools_in x.code)) }
     ensures err { IfErr result IsLimit }
-    ensures room { IfErr result (λ e. e.number ≡ 64 → NoCodeFits (shape_of dictionary.now).records (map sizes_of arrays.now) (spec.outlines (tree_view tree.now))) }
+    ensures room { IfErr result (λ e. e.number
+        ≡ 64 → NoCodeFits (shape_of dictionary.now).records (map sizes_of arrays.now) (spec.outlines (tree_view tree.now))) }
 {
     let handlers = match handlers_of(alloc, &tree.procedures) {
         Ok(handlers) => handlers,

@@ -3,3 +3,4 @@ pub mod Setting
 pub mod Numbers
 pub mod Statements
 pub mod Routines
+pub mod Clauses

@@ -28,6 +28,7 @@ pub fn drops_size(count: usize) -> usize
     jump_size(count) + count
 }
 
+/// How many instructions tell which occurrence is meant; 1,000,001 stands for more too.
 pub fn which_size(x: &Which) -> usize
     ensures { result ≡ min (spec.which_size (which x.now)) 1000001 }
 {
@@ -38,6 +39,7 @@ pub fn which_size(x: &Which) -> usize
     }
 }
 
+/// How many instructions an argument has; 1,000,001 stands for more too.
 pub fn argument_size(x: &Argument) -> usize
     ensures { result ≡ min (spec.argument_size (argument x.now)) 1000001 }
 {
@@ -47,6 +49,7 @@ pub fn argument_size(x: &Argument) -> usize
     }
 }
 
+/// How many instructions arguments have together; 1,000,001 stands for more too.
 #[tactic(auto, unfolding(crate::specs::Statements::arguments_size))]
 pub fn arguments_size(xs: &Vec<Argument>) -> usize
     ensures { result ≡ min (spec.arguments_size (map argument xs.now.items)) 1000001 }
@@ -79,6 +82,7 @@ pub fn head_size(s: &Setting, x: &Counting) -> usize
     }
 }
 
+/// How many instructions `exit` has.
 pub fn exit_size(s: &Setting) -> usize
     ensures { result ≡ spec.exit_size (setting s.now) }
 {
@@ -88,6 +92,7 @@ pub fn exit_size(s: &Setting) -> usize
     }
 }
 
+/// How many instructions a jump has.
 pub fn jump_code_size(s: &Setting, jump: Jump) -> usize
     ensures { result ≡ spec.jump_code_size (setting s.now) jump }
 {
@@ -107,6 +112,7 @@ pub fn guard_size(condition: usize, body: usize, others: usize) -> usize
     (condition + 1 + body + jump_size(others) + others).min(TOO_LONG)
 }
 
+/// How many instructions a statement has; 1,000,001 stands for more too.
 #[cycle(block_size)]
 #[tactic(auto, unfolding(crate::specs::Statements::statement_size))]
 pub fn statement_size(s: &Setting, x: &Statement) -> usize
@@ -153,6 +159,7 @@ pub fn statement_size(s: &Setting, x: &Statement) -> usize
     }
 }
 
+/// How many instructions statements have together; 1,000,001 stands for more too.
 #[cycle(block_size)]
 #[tactic(auto, unfolding(crate::specs::Statements::block_size))]
 pub fn block_size(s: &Setting, xs: &Vec<Statement>) -> usize

@@ -37,6 +37,7 @@ pub fn deepest(picks: &[Pick]) -> usize
     }
 }
 
+/// How many instructions the indexes into a hot deck have; 1,000,001 stands for more too.
 pub fn picks_size(picks: &[Pick]) -> usize
     ensures { result ≡ min (spec.picks_size picks.now) 1000001 }
 {
@@ -112,7 +113,8 @@ impl Emitter<'_> {
         picks: &[Pick],
     ) -> Result<usize, AllocError>
         requires room { place + (spec.picks_size picks.now + spec.deck_size picks.now) ≤ 1000000 }
-        ensures code { OnOk result (self.new ≡ self.old ++ (spec.picks_code (place + spec.picks_size picks.now + 2) place picks.now ++ spec.deck_code array (place + spec.picks_size picks.now) picks.now)) }
+        ensures code { OnOk result (self.new ≡ self.old ++
+            (spec.picks_code (place + spec.picks_size picks.now + 2) place picks.now ++ spec.deck_code array (place + spec.picks_size picks.now) picks.now)) }
         ensures behind { IfOk result (λ n. n ≡ place + (spec.picks_size picks.now + spec.deck_size picks.now)) }
     {
         let at = self.picks(place + picks_size(picks) + 2, place, picks)?;

@@ -22,6 +22,7 @@ impl<'a> Model for Emitter<'a> {
 }
 
 impl<'a> Emitter<'a> {
+    /// No code yet.
     pub fn new(alloc: Global) -> Emitter<'a>
         ensures { result ≡ [] }
     {
@@ -62,18 +63,21 @@ impl<'a> Emitter<'a> {
         self.put(Wide::Plain(op, 0, 0, 0))
     }
 
+    /// Appends an instruction that has the field a alone.
     pub fn with_a(&mut self, op: Op, a: u8) -> Result<(), AllocError>
         ensures { OnOk result (self.new ≡ self.old ++ spec.with_a op a ∷ []) }
     {
         self.put(Wide::Plain(op, a, 0, 0))
     }
 
+    /// Appends an instruction that has the field b alone.
     pub fn with_b(&mut self, op: Op, b: u16) -> Result<(), AllocError>
         ensures { OnOk result (self.new ≡ self.old ++ spec.with_b op b ∷ []) }
     {
         self.put(Wide::Plain(op, 0, b, 0))
     }
 
+    /// Appends an instruction that has the field c alone.
     pub fn with_c(&mut self, op: Op, c: usize) -> Result<(), AllocError>
         ensures { OnOk result (self.new ≡ self.old ++ spec.with_c op c ∷ []) }
     {

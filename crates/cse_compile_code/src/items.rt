@@ -17,6 +17,7 @@ use std::alloc::AllocError;
 /// The special value `default`.
 pub const UNDEFINED: Wide<'static> = Wide::Plain(Op::Special, 2, 0, 0);
 
+/// The number of a special value in the image.
 pub fn special_number(value: Special) -> u8
     ensures { result ≡ spec.special_number value }
 {
@@ -27,6 +28,7 @@ pub fn special_number(value: Special) -> u8
     }
 }
 
+/// The number of a relation in the image.
 pub fn relation_number(relation: Relation) -> u8
     ensures { result ≡ spec.relation_number relation }
 {
@@ -40,6 +42,7 @@ pub fn relation_number(relation: Relation) -> u8
     }
 }
 
+/// The instruction of an operator.
 pub fn operation_of(operator: Operator) -> Op
     ensures { result ≡ spec.operation_of operator }
 {
@@ -142,6 +145,7 @@ impl<'a> Emitter<'a> {
         }
     }
 
+    /// Emits the number of an item that is there.
     pub fn number_of_item(&mut self, place: usize, item: Present) -> Result<usize, AllocError>
         requires room { place + spec.present_size item ≤ 1000000 }
         ensures code { OnOk result (self.new ≡ self.old ++ spec.number_of_item place item) }
@@ -175,6 +179,7 @@ impl<'a> Emitter<'a> {
         Ok(at + 1)
     }
 
+    /// Emits the text of an item that is there.
     pub fn text_of_item(&mut self, place: usize, item: Present) -> Result<usize, AllocError>
         requires room { place + spec.present_size item ≤ 1000000 }
         ensures code { OnOk result (self.new ≡ self.old ++ spec.text_of_item place item) }

@@ -3,9 +3,10 @@
 ghost use Rattle.std.specs.Prelude.{◌≡◌, ◌+◌, ◌≤◌, [], ◌∷◌, ◌++◌, map, OnOk, IfOk};
 ghost use Rattle.cse_image_parts.specs.declared.instruction.Op.TheVariants as ops;
 ghost use Rattle.cse_logic_tree.specs.Typed.{number, words, numbers, operations, operation_tree};
-ghost use Rattle.cse_compile_code.specs.Wide.{wide, with_a, with_c, jump, pops, undefined};
+ghost use Rattle.cse_compile_code.specs.Wide.{wide, with_a, with_c, pops};
 ghost use Rattle.cse_compile_code.specs.Setting.{setting};
 ghost use Rattle.cse_compile_code.specs.Numbers as spec;
+ghost use Rattle.cse_compile_code.specs.Clauses.{all_numbers, cell_code, cell_end, cell_tail, guarded_code};
 
 use crate::emitter::Emitter;
 use crate::items::{UNDEFINED, operation_of, relation_number, special_number};
@@ -24,9 +25,9 @@ impl<'a> Emitter<'a> {
         array: usize,
         subscripts: &Vec<Number>,
     ) -> Result<usize, AllocError>
-        requires room { place + (spec.behind (numbers (map number subscripts.now.items)) + 3) ≤ 1000000 }
-        ensures code { OnOk result (self.new ≡ self.old ++ (with_c ops.LoadCell array ∷ jump (place + (spec.behind (numbers (map number subscripts.now.items)) + 3)) ∷ (pops (spec.behind (numbers (map number subscripts.now.items))) ++ undefined ∷ []))) }
-        ensures behind { IfOk result (λ n. n ≡ place + (spec.behind (numbers (map number subscripts.now.items)) + 3)) }
+        requires room { place + (spec.behind (all_numbers subscripts.now.items) + 3) ≤ 1000000 }
+        ensures code { OnOk result (self.new ≡ self.old ++ cell_tail array place (all_numbers subscripts.now.items)) }
+        ensures behind { IfOk result (λ n. n ≡ place + (spec.behind (all_numbers subscripts.now.items) + 3)) }
     {
         let count = behind(subscripts);
         self.with_c(Op::LoadCell, array)?;
@@ -36,6 +37,7 @@ impl<'a> Emitter<'a> {
         Ok(place + (count + 3))
     }
 
+    /// Emits the code of a number, and tells the place behind it.
     #[cycle(emit)]
     #[tactic(auto, unfolding(crate::specs::Numbers::number_size, crate::specs::Numbers::number_code))]
     pub fn number(&mut self, s: &Setting, place: usize, x: &Number<'a>) -> Result<usize, AllocError>
@@ -92,6 +94,7 @@ impl<'a> Emitter<'a> {
         }
     }
 
+    /// Emits the code of a text, and tells the place behind it.
     #[cycle(emit)]
     #[tactic(auto, unfolding(crate::specs::Numbers::words_size, crate::specs::Numbers::words_code))]
     pub fn words(&mut self, s: &Setting, place: usize, x: &Words<'a>) -> Result<usize, AllocError>
@@ -163,7 +166,7 @@ impl<'a> Emitter<'a> {
         of: u8,
     ) -> Result<usize, AllocError>
         requires room { place + (spec.number_size (number subscript.now) + 4) ≤ 1000000 }
-        ensures code { OnOk result (self.new ≡ self.old ++ (spec.number_code (setting s.now) place (number subscript.now) ++ spec.guarded (wide taken.entry) (wide none.entry) of (place + spec.number_size (number subscript.now)))) }
+        ensures code { OnOk result (self.new ≡ self.old ++ guarded_code (setting s.now) place (number subscript.now) (wide taken.entry) (wide none.entry) of) }
         ensures behind { IfOk result (λ n. n ≡ place + (spec.number_size (number subscript.now) + 4)) }
     {
         let at = self.number(s, place, subscript)?;
@@ -180,9 +183,9 @@ impl<'a> Emitter<'a> {
         array: usize,
         subscripts: &Vec<Number<'a>>,
     ) -> Result<usize, AllocError>
-        requires room { place + (spec.indexes_size (numbers (map number subscripts.now.items)) + (spec.behind (numbers (map number subscripts.now.items)) + 3)) ≤ 1000000 }
-        ensures code { OnOk result (self.new ≡ self.old ++ (spec.indexes_code (setting s.now) array (place + spec.indexes_size (numbers (map number subscripts.now.items)) + 2) 0 place (numbers (map number subscripts.now.items)) ++ (with_c ops.LoadCell array ∷ jump (place + spec.indexes_size (numbers (map number subscripts.now.items)) + (spec.behind (numbers (map number subscripts.now.items)) + 3)) ∷ (pops (spec.behind (numbers (map number subscripts.now.items))) ++ undefined ∷ [])))) }
-        ensures behind { IfOk result (λ n. n ≡ place + (spec.indexes_size (numbers (map number subscripts.now.items)) + (spec.behind (numbers (map number subscripts.now.items)) + 3))) }
+        requires room { cell_end place (all_numbers subscripts.now.items) ≤ 1000000 }
+        ensures code { OnOk result (self.new ≡ self.old ++ cell_code (setting s.now) array place (all_numbers subscripts.now.items)) }
+        ensures behind { IfOk result (λ n. n ≡ cell_end place (all_numbers subscripts.now.items)) }
     {
         let at = self.indexes(s, place, array, 2, subscripts)?;
         let last = self.cell(at, array, subscripts)?;
@@ -198,9 +201,10 @@ impl<'a> Emitter<'a> {
         function: usize,
         arguments: &Vec<Number<'a>>,
     ) -> Result<usize, AllocError>
-        requires room { place + (spec.numbers_size (numbers (map number arguments.now.items)) + 1) ≤ 1000000 }
-        ensures code { OnOk result (self.new ≡ self.old ++ (spec.numbers_code (setting s.now) place (numbers (map number arguments.now.items)) ++ with_c ops.Call function ∷ [])) }
-        ensures behind { IfOk result (λ n. n ≡ place + (spec.numbers_size (numbers (map number arguments.now.items)) + 1)) }
+        requires room { place + (spec.numbers_size (all_numbers arguments.now.items) + 1) ≤ 1000000 }
+        ensures code { OnOk result (self.new
+            ≡ self.old ++ (spec.numbers_code (setting s.now) place (all_numbers arguments.now.items) ++ with_c ops.Call function ∷ [])) }
+        ensures behind { IfOk result (λ n. n ≡ place + (spec.numbers_size (all_numbers arguments.now.items) + 1)) }
     {
         let at = self.numbers(s, place, arguments)?;
         self.with_c(Op::Call, function)?;
@@ -216,9 +220,9 @@ impl<'a> Emitter<'a> {
         place: usize,
         xs: &Vec<Number<'a>>,
     ) -> Result<usize, AllocError>
-        requires room { place + spec.numbers_size (numbers (map number xs.now.items)) ≤ 1000000 }
-        ensures code { OnOk result (self.new ≡ self.old ++ spec.numbers_code (setting s.now) place (numbers (map number xs.now.items))) }
-        ensures behind { IfOk result (λ n. n ≡ place + spec.numbers_size (numbers (map number xs.now.items))) }
+        requires room { place + spec.numbers_size (all_numbers xs.now.items) ≤ 1000000 }
+        ensures code { OnOk result (self.new ≡ self.old ++ spec.numbers_code (setting s.now) place (all_numbers xs.now.items)) }
+        ensures behind { IfOk result (λ n. n ≡ place + spec.numbers_size (all_numbers xs.now.items)) }
     {
         let mut at = place;
         'all: for x in xs {
@@ -238,10 +242,11 @@ impl<'a> Emitter<'a> {
         behind: usize,
         xs: &Vec<Number<'a>>,
     ) -> Result<usize, AllocError>
-        requires room { place + spec.indexes_size (numbers (map number xs.now.items)) ≤ 1000000 }
+        requires room { place + spec.indexes_size (all_numbers xs.now.items) ≤ 1000000 }
         requires within { behind ≤ 1000000 }
-        ensures code { OnOk result (self.new ≡ self.old ++ spec.indexes_code (setting s.now) array (place + spec.indexes_size (numbers (map number xs.now.items)) + behind) 0 place (numbers (map number xs.now.items))) }
-        ensures behind { IfOk result (λ n. n ≡ place + spec.indexes_size (numbers (map number xs.now.items))) }
+        ensures code { OnOk result (self.new ≡ self.old ++ spec.indexes_code (setting s.now) array
+            (place + spec.indexes_size (all_numbers xs.now.items) + behind) 0 place (all_numbers xs.now.items)) }
+        ensures behind { IfOk result (λ n. n ≡ place + spec.indexes_size (all_numbers xs.now.items)) }
     {
         let drops = place + indexes_size(xs) + behind;
         let mut fail = drops + xs.len();
@@ -258,6 +263,7 @@ impl<'a> Emitter<'a> {
         Ok(at)
     }
 
+    /// Emits the code of operations on what is on top, and tells the place behind it.
     #[cycle(emit)]
     #[tactic(auto, unfolding(crate::specs::Numbers::operations_size, crate::specs::Numbers::operations_code))]
     pub fn operations(

@@ -5,9 +5,9 @@ ghost use Rattle.cse_image_parts.specs.declared.instruction.Op.TheVariants as op
 ghost use Rattle.cse_logic_tree.specs.Typed.{number, words, numbers, which, argument};
 ghost use Rattle.cse_compile_code.specs.Wide.{with_a, with_c};
 ghost use Rattle.cse_compile_code.specs.Setting.{setting};
-ghost use Rattle.cse_compile_code.specs.Numbers.{store, behind, deepest, number_size, number_code, words_size, words_code, numbers_size, numbers_code, indexes_size, indexes_code, picks_size as size_of_picks, picks_code};
-ghost use Rattle.cse_compile_code.specs.Wide.{jump_size as size_of_jump};
+ghost use Rattle.cse_compile_code.specs.Numbers.{store, behind, deepest, number_size, number_code, words_size, words_code, numbers_size, numbers_code, indexes_size, picks_size as size_of_picks};
 ghost use Rattle.cse_compile_code.specs.Statements as spec;
+ghost use Rattle.cse_compile_code.specs.Clauses.{all_numbers, cell_kept_code, cell_kept_end, deck_kept_code, number_put_code, words_put_code};
 
 use crate::block_sizes::{drops_size, jump_size, which_size as size_of_which};
 use crate::decks::{deepest as deepest_of, picks_size};
@@ -115,7 +115,7 @@ impl<'a> Emitter<'a> {
         value: &Number<'a>,
     ) -> Result<usize, AllocError>
         requires room { place + (spec.which_size (which at.now) + (number_size (number value.now) + 1)) ≤ 1000000 }
-        ensures code { OnOk result (self.new ≡ self.old ++ (spec.which_code (setting s.now) field.owner (place + (spec.which_size (which at.now) + (number_size (number value.now) + 1))) place (which at.now) ++ (number_code (setting s.now) (place + spec.which_size (which at.now)) (number value.now) ++ with_c op field.item ∷ []))) }
+        ensures code { OnOk result (self.new ≡ self.old ++ number_put_code (setting s.now) field op place (which at.now) (number value.now)) }
         ensures behind { IfOk result (λ n. n ≡ place + (spec.which_size (which at.now) + (number_size (number value.now) + 1))) }
     {
         let end = place + size_of_which(at) + size_of_number(value) + 1;
@@ -135,7 +135,7 @@ impl<'a> Emitter<'a> {
         value: &Words<'a>,
     ) -> Result<usize, AllocError>
         requires room { place + (spec.which_size (which at.now) + (words_size (words value.now) + 1)) ≤ 1000000 }
-        ensures code { OnOk result (self.new ≡ self.old ++ (spec.which_code (setting s.now) field.owner (place + (spec.which_size (which at.now) + (words_size (words value.now) + 1))) place (which at.now) ++ (words_code (setting s.now) (place + spec.which_size (which at.now)) (words value.now) ++ with_c ops.StoreText field.item ∷ []))) }
+        ensures code { OnOk result (self.new ≡ self.old ++ words_put_code (setting s.now) field place (which at.now) (words value.now)) }
         ensures behind { IfOk result (λ n. n ≡ place + (spec.which_size (which at.now) + (words_size (words value.now) + 1))) }
     {
         let end = place + size_of_which(at) + size_of_words(value) + 1;
@@ -154,9 +154,9 @@ impl<'a> Emitter<'a> {
         subscripts: &Vec<Number<'a>>,
         value: &Number<'a>,
     ) -> Result<usize, AllocError>
-        requires room { place + (indexes_size (numbers (map number subscripts.now.items)) + (number_size (number value.now) + (spec.drops_size (behind (numbers (map number subscripts.now.items))) + 1))) ≤ 1000000 }
-        ensures code { OnOk result (self.new ≡ self.old ++ (indexes_code (setting s.now) array (place + indexes_size (numbers (map number subscripts.now.items)) + number_size (number value.now) + 1 + size_of_jump (behind (numbers (map number subscripts.now.items)))) 0 place (numbers (map number subscripts.now.items)) ++ (number_code (setting s.now) (place + indexes_size (numbers (map number subscripts.now.items))) (number value.now) ++ (with_c ops.StoreCell array ∷ spec.drops_code (place + indexes_size (numbers (map number subscripts.now.items)) + number_size (number value.now) + 1) (behind (numbers (map number subscripts.now.items))))))) }
-        ensures behind { IfOk result (λ n. n ≡ place + (indexes_size (numbers (map number subscripts.now.items)) + (number_size (number value.now) + (spec.drops_size (behind (numbers (map number subscripts.now.items))) + 1)))) }
+        requires room { cell_kept_end place (all_numbers subscripts.now.items) (number value.now) ≤ 1000000 }
+        ensures code { OnOk result (self.new ≡ self.old ++ cell_kept_code (setting s.now) array place (all_numbers subscripts.now.items) (number value.now)) }
+        ensures behind { IfOk result (λ n. n ≡ cell_kept_end place (all_numbers subscripts.now.items) (number value.now)) }
     {
         let count = behind_of(subscripts);
         let after = size_of_number(value) + 1 + jump_size(count);
@@ -177,8 +177,9 @@ impl<'a> Emitter<'a> {
         value: &Number<'a>,
     ) -> Result<usize, AllocError>
         requires room { place + (size_of_picks picks.now + (number_size (number value.now) + (spec.drops_size (deepest picks.now) + 1))) ≤ 1000000 }
-        ensures code { OnOk result (self.new ≡ self.old ++ (picks_code (place + size_of_picks picks.now + number_size (number value.now) + 1 + size_of_jump (deepest picks.now)) place picks.now ++ (number_code (setting s.now) (place + size_of_picks picks.now) (number value.now) ++ (with_c ops.StoreCell array ∷ spec.drops_code (place + size_of_picks picks.now + number_size (number value.now) + 1) (deepest picks.now))))) }
-        ensures behind { IfOk result (λ n. n ≡ place + (size_of_picks picks.now + (number_size (number value.now) + (spec.drops_size (deepest picks.now) + 1)))) }
+        ensures code { OnOk result (self.new ≡ self.old ++ deck_kept_code (setting s.now) array place picks.now (number value.now)) }
+        ensures behind { IfOk result (λ n. n
+            ≡ place + (size_of_picks picks.now + (number_size (number value.now) + (spec.drops_size (deepest picks.now) + 1)))) }
     {
         let count = deepest_of(picks);
         let drops = place + picks_size(picks) + size_of_number(value) + 1 + jump_size(count);
@@ -197,9 +198,10 @@ impl<'a> Emitter<'a> {
         function: usize,
         arguments: &Vec<Number<'a>>,
     ) -> Result<usize, AllocError>
-        requires room { place + (numbers_size (numbers (map number arguments.now.items)) + 2) ≤ 1000000 }
-        ensures code { OnOk result (self.new ≡ self.old ++ (numbers_code (setting s.now) place (numbers (map number arguments.now.items)) ++ (with_c ops.Call function ∷ with_a ops.Pop 0 ∷ []))) }
-        ensures behind { IfOk result (λ n. n ≡ place + (numbers_size (numbers (map number arguments.now.items)) + 2)) }
+        requires room { place + (numbers_size (all_numbers arguments.now.items) + 2) ≤ 1000000 }
+        ensures code { OnOk result (self.new
+            ≡ self.old ++ (numbers_code (setting s.now) place (all_numbers arguments.now.items) ++ (with_c ops.Call function ∷ with_a ops.Pop 0 ∷ []))) }
+        ensures behind { IfOk result (λ n. n ≡ place + (numbers_size (all_numbers arguments.now.items) + 2)) }
     {
         let at = self.numbers(s, place, arguments)?;
         self.with_c(Op::Call, function)?;
@@ -216,7 +218,8 @@ impl<'a> Emitter<'a> {
         values: &Vec<Argument<'a>>,
     ) -> Result<usize, AllocError>
         requires room { place + (spec.arguments_size (map argument values.now.items) + 1) ≤ 1000000 }
-        ensures code { OnOk result (self.new ≡ self.old ++ (spec.arguments_code (setting s.now) place (map argument values.now.items) ++ with_c ops.Message index ∷ [])) }
+        ensures code { OnOk result (self.new
+            ≡ self.old ++ (spec.arguments_code (setting s.now) place (map argument values.now.items) ++ with_c ops.Message index ∷ [])) }
         ensures behind { IfOk result (λ n. n ≡ place + (spec.arguments_size (map argument values.now.items) + 1)) }
     {
         let at = self.arguments(s, place, values)?;

@@ -1,8 +1,9 @@
 //! How many instructions expressions have. What is above a million is told as a million and one.
 
 ghost use Rattle.std.specs.Prelude.{◌≡◌, ◌+◌, ◌≤◌, min, map, length};
-ghost use Rattle.cse_logic_tree.specs.Typed.{number, words, numbers, operations, operation_tree};
+ghost use Rattle.cse_logic_tree.specs.Typed.{number, words, operations, operation_tree};
 ghost use Rattle.cse_compile_code.specs.Numbers as spec;
+ghost use Rattle.cse_compile_code.specs.Clauses.{all_numbers};
 
 use crate::decks::{deck_size, picks_size};
 use cse_logic_tree::{Found, Number, Operation, Present, Words};
@@ -19,6 +20,7 @@ pub fn plus(a: usize, b: usize) -> usize
     (a + b).min(TOO_LONG)
 }
 
+/// How many instructions tell the occurrence that is found.
 pub fn here_size(found: Found) -> usize
     ensures { result ≡ spec.here_size found }
 {
@@ -28,6 +30,7 @@ pub fn here_size(found: Found) -> usize
     }
 }
 
+/// How many instructions tell an item that is there.
 pub fn present_size(item: Present) -> usize
     ensures { result ≡ spec.present_size item }
 {
@@ -40,11 +43,12 @@ pub fn present_size(item: Present) -> usize
 /// All subscripts but the first.
 #[tactic(auto, using(crate::proofs::Lists::behind_is))]
 pub fn behind(xs: &Vec<Number>) -> usize
-    ensures { result ≡ min (spec.behind (numbers (map number xs.now.items))) 1000001 }
+    ensures { result ≡ min (spec.behind (all_numbers xs.now.items)) 1000001 }
 {
     xs.len().saturating_sub(1).min(TOO_LONG)
 }
 
+/// How many instructions a number has; 1,000,001 stands for more too.
 #[cycle(size)]
 #[tactic(auto, unfolding(crate::specs::Numbers::number_size))]
 pub fn number_size(x: &Number) -> usize
@@ -73,6 +77,7 @@ pub fn number_size(x: &Number) -> usize
     }
 }
 
+/// How many instructions a text has; 1,000,001 stands for more too.
 #[cycle(size)]
 #[tactic(auto, unfolding(crate::specs::Numbers::words_size))]
 pub fn words_size(x: &Words) -> usize
@@ -90,7 +95,7 @@ pub fn words_size(x: &Words) -> usize
 #[cycle(size)]
 #[tactic(auto, unfolding(crate::specs::Numbers::numbers_size))]
 pub fn numbers_size(xs: &Vec<Number>) -> usize
-    ensures { result ≡ min (spec.numbers_size (numbers (map number xs.now.items))) 1000001 }
+    ensures { result ≡ min (spec.numbers_size (all_numbers xs.now.items)) 1000001 }
 {
     let mut size = 0usize;
     'all: for x in xs {
@@ -103,7 +108,7 @@ pub fn numbers_size(xs: &Vec<Number>) -> usize
 #[cycle(size)]
 #[tactic(auto, unfolding(crate::specs::Numbers::indexes_size))]
 pub fn indexes_size(xs: &Vec<Number>) -> usize
-    ensures { result ≡ min (spec.indexes_size (numbers (map number xs.now.items))) 1000001 }
+    ensures { result ≡ min (spec.indexes_size (all_numbers xs.now.items)) 1000001 }
 {
     let mut size = 0usize;
     'all: for x in xs {
@@ -112,6 +117,7 @@ pub fn indexes_size(xs: &Vec<Number>) -> usize
     size
 }
 
+/// How many instructions operations have; 1,000,001 stands for more too.
 #[cycle(size)]
 #[tactic(auto, unfolding(crate::specs::Numbers::operations_size))]
 pub fn operations_size(xs: &Vec<Operation>) -> usize

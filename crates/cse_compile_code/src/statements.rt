@@ -4,6 +4,7 @@ ghost use Rattle.std.specs.Prelude.{◌≡◌, ◌+◌, ◌≤◌, ◌==◌, if�
 ghost use Rattle.cse_logic_tree.specs.Typed.{statement, block, arm_tree, counting};
 ghost use Rattle.cse_compile_code.specs.Setting.{setting};
 ghost use Rattle.cse_compile_code.specs.Statements as spec;
+ghost use Rattle.cse_compile_code.specs.Clauses.{do_code, do_end, for_code};
 
 use crate::block_sizes::{
     arms_size, block_size, head_size, jump_size, otherwise_size, statement_size,
@@ -64,6 +65,7 @@ impl<'a> Emitter<'a> {
         }
     }
 
+    /// Emits the code of a statement, and tells the place behind it.
     #[cycle(emit_block)]
     #[tactic(auto, unfolding(crate::specs::Statements::statement_size, crate::specs::Statements::statement_code))]
     pub fn statement(
@@ -156,7 +158,7 @@ impl<'a> Emitter<'a> {
         body: &Vec<Statement<'a>>,
     ) -> Result<usize, AllocError>
         requires room { place + (spec.block_size (setting s.now) (block body.now.items) + 5) ≤ 1000000 }
-        ensures code { OnOk result (self.new ≡ self.old ++ spec.over_code (setting s.now) place variable of (spec.block_size (setting s.now) (block body.now.items)) (spec.block_code (setting s.now) (spec.loop_to (place + 4 + spec.block_size (setting s.now) (block body.now.items)) (place + 4 + spec.block_size (setting s.now) (block body.now.items))) (place + 4) (block body.now.items))) }
+        ensures code { OnOk result (self.new ≡ self.old ++ for_code (setting s.now) place variable of (block body.now.items)) }
         ensures behind { IfOk result (λ n. n ≡ place + (spec.block_size (setting s.now) (block body.now.items) + 5)) }
     {
         let end = place + 4 + block_size(s, body);
@@ -178,9 +180,10 @@ impl<'a> Emitter<'a> {
         head: &Counting<'a>,
         body: &Vec<Statement<'a>>,
     ) -> Result<usize, AllocError>
-        requires room { place + (spec.head_size (setting s.now).records (counting head.now) + (spec.block_size (setting s.now) (block body.now.items) + 6)) ≤ 1000000 }
-        ensures code { OnOk result (self.new ≡ self.old ++ spec.counted_code (setting s.now) place (counting head.now) (spec.block_size (setting s.now) (block body.now.items)) (spec.block_code (setting s.now) (spec.loop_to (spec.turn_end_at (setting s.now) place (counting head.now) (spec.block_size (setting s.now) (block body.now.items))) (spec.turn_end_at (setting s.now) place (counting head.now) (spec.block_size (setting s.now) (block body.now.items)) + 4)) (spec.opener_at (setting s.now) place (counting head.now) + 1) (block body.now.items))) }
-        ensures behind { IfOk result (λ n. n ≡ place + (spec.head_size (setting s.now).records (counting head.now) + (spec.block_size (setting s.now) (block body.now.items) + 6))) }
+        requires room { place +
+            (spec.head_size (setting s.now).records (counting head.now) + (spec.block_size (setting s.now) (block body.now.items) + 6)) ≤ 1000000 }
+        ensures code { OnOk result (self.new ≡ self.old ++ do_code (setting s.now) place (counting head.now) (block body.now.items)) }
+        ensures behind { IfOk result (λ n. n ≡ do_end (setting s.now) place (counting head.now) (block body.now.items)) }
     {
         let opener = place + head_size(s, head);
         let turn_end = opener + 1 + block_size(s, body);

@@ -13,8 +13,8 @@ use Rattle.cse_image_parts.specs.Image.{RoutineLists}
 use Rattle.cse_logic_tree.specs.declared.tree.Owner.{Owner}
 use Rattle.cse_logic_tree.specs.declared.tree.Owner.TheVariants as owners
 use Rattle.cse_logic_tree.specs.Typed.{Statement, Statements, Empty, no_statement, statement_and, block, Function, Declaration, Numeric, Alpha, Array', Function', Body, Plain, Preproc, Both, Postproc, Procedure}
-use Rattle.cse_compile_sections.specs.declared.outlines.Sort.{Sort}
-use Rattle.cse_compile_sections.specs.declared.outlines.Sort.TheVariants as sorts
+use Rattle.cse_compile_sections.specs.declared.outlines.RoutineSort.{RoutineSort}
+use Rattle.cse_compile_sections.specs.declared.outlines.RoutineSort.TheVariants as sorts
 use Rattle.cse_compile_sections.specs.declared.outlines.Outline as rust
 use Rattle.cse_compile_sections.specs.declared.outlines.Handler as rusthandler
 
@@ -22,7 +22,7 @@ use Rattle.cse_compile_sections.specs.declared.outlines.Handler as rusthandler
 
 -- a routine, without its code
 pub record Outline : Type 0 where
-  pub sort : Sort
+  pub sort : RoutineSort
   pub body : Statements
 
 -- a procedure's routine, and the event that runs it
@@ -37,7 +37,7 @@ abbrev pub handler : rusthandler.Handler → Handler
 handler x = record { event = x.event; outline = outline x.outline }
 
 -- the application's procedures have no case, and a function has one if it needs it
-abbrev pub ambient_of : Sort → Ambient
+abbrev pub ambient_of : RoutineSort → Ambient
 ambient_of (sorts.Function count true) = ambients.Case
 ambient_of (sorts.Function count false) = ambients.Run
 ambient_of (sorts.Procedure owners.Application) = ambients.Run
@@ -45,12 +45,12 @@ ambient_of (sorts.Procedure owners.Level) = ambients.Case
 ambient_of (sorts.Procedure (owners.Record x)) = ambients.Case
 ambient_of (sorts.Procedure (owners.Item f)) = ambients.Case
 
-abbrev pub gives_of : Sort → Gift
+abbrev pub gives_of : RoutineSort → Gift
 gives_of (sorts.Function count needs) = gifts.Number
 gives_of (sorts.Procedure owner) = gifts.Nothing
 
 -- an item's procedure has an occurrence of its record
-abbrev pub parameters_of : Sort → ℕ
+abbrev pub parameters_of : RoutineSort → ℕ
 parameters_of (sorts.Function count needs) = count
 parameters_of (sorts.Procedure owners.Application) = 0
 parameters_of (sorts.Procedure owners.Level) = 0
@@ -58,7 +58,7 @@ parameters_of (sorts.Procedure (owners.Record x)) = 0
 parameters_of (sorts.Procedure (owners.Item f)) = 1
 
 -- the local of a function's result stands behind its parameters
-abbrev pub result_at : Sort → Option ℕ
+abbrev pub result_at : RoutineSort → Option ℕ
 result_at (sorts.Function count needs) = Some count
 result_at (sorts.Procedure owner) = None
 
@@ -71,7 +71,7 @@ occurrence_local of = record { kind = kinds.Occurrence; owner = of; length = 0 }
 abbrev pub numbers : ℕ → List Local
 numbers count = replicate count number_local
 
-abbrev pub locals_of : Sort → List Local
+abbrev pub locals_of : RoutineSort → List Local
 locals_of (sorts.Function count needs) = numbers count ++ number_local ∷ []
 locals_of (sorts.Procedure owners.Application) = []
 locals_of (sorts.Procedure owners.Level) = []
@@ -79,7 +79,7 @@ locals_of (sorts.Procedure (owners.Record x)) = []
 locals_of (sorts.Procedure (owners.Item f)) = occurrence_local f.owner ∷ []
 
 -- with so many instructions
-abbrev pub routine_of : Sort → ℕ → RoutineLists
+abbrev pub routine_of : RoutineSort → ℕ → RoutineLists
 routine_of sort instructions = record { ambient = ambient_of sort; gives = gives_of sort; parameters = parameters_of sort; locals = locals_of sort; instructions = instructions }
 
 -- ---- functions

@@ -5,7 +5,7 @@ use Rattle.cse_dict.specs.Keys.{kept_name}
 use Rattle.cse_image_parts.specs.declared.entries.GlobalKind.TheVariants as kinds
 use Rattle.cse_image_parts.specs.declared.entries.GlobalVariable.{GlobalVariable}
 use Rattle.cse_image_parts.specs.Image.{ArrayLists, MessageLists}
-use Rattle.cse_logic_tree.specs.Typed.{Whole, Dimension, Sized, Rows, Array, Function, Declaration, Numeric, Alpha, Array', Function', Entry}
+use Rattle.cse_logic_tree.specs.Typed.{Whole, Dimension, Sized, Rows, Array, Function, Declaration, Numeric, Alpha, Array', Function', MessageEntry}
 
 -- ---- globals, in order of the source
 
@@ -47,7 +47,7 @@ arrays_in ds = flat_map arrays_of ds
 
 -- ---- messages
 
-abbrev pub message_of : Entry → MessageLists
+abbrev pub message_of : MessageEntry → MessageLists
 message_of x = record { number = x.number; summary = x.summary; text = x.text }
 
 -- ---- functions

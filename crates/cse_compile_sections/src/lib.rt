@@ -18,4 +18,4 @@ pub use events::{EventTable, event_table};
 pub use globals::globals_of;
 pub use messages::messages_of;
 pub use order::edit_order;
-pub use outlines::{Handler, Outline, Sort, function_outlines, handlers_of};
+pub use outlines::{Handler, Outline, RoutineSort, function_outlines, handlers_of};

@@ -10,7 +10,7 @@ use std::alloc::{AllocError, Global};
 
 /// What a routine is made of.
 #[derive(Clone, Copy, PartialEq, Eq)]
-pub enum Sort {
+pub enum RoutineSort {
     /// A function: how many parameters it has, and whether it needs a case.
     Function(usize, bool),
     /// A procedure, by what it belongs to.
@@ -20,7 +20,7 @@ pub enum Sort {
 /// A routine, without its code.
 #[derive(Clone, Copy)]
 pub struct Outline<'t, 'a> {
-    pub sort: Sort,
+    pub sort: RoutineSort,
     pub body: &'t Vec<Statement<'a>>,
 }
 
@@ -31,16 +31,17 @@ pub struct Handler<'t, 'a> {
     pub outline: Outline<'t, 'a>,
 }
 
-impl Sort {
+impl RoutineSort {
     /// Whether the routine may speak of a case: a procedure of the application may not, nor a function that speaks of
     /// none.
     pub fn ambient(self) -> Ambient
         ensures { result ≡ spec.ambient_of self }
     {
         match self {
-            Sort::Function(_, true) => Ambient::Case,
-            Sort::Function(_, false) | Sort::Procedure(Owner::Application) => Ambient::Run,
-            Sort::Procedure(_) => Ambient::Case,
+            RoutineSort::Function(_, true) => Ambient::Case,
+            RoutineSort::Function(_, false) | RoutineSort::Procedure(Owner::Application) =>
+                Ambient::Run,
+            RoutineSort::Procedure(_) => Ambient::Case,
         }
     }
 
@@ -49,8 +50,8 @@ impl Sort {
         ensures { result ≡ spec.gives_of self }
     {
         match self {
-            Sort::Function(_, _) => Gift::Number,
-            Sort::Procedure(_) => Gift::Nothing,
+            RoutineSort::Function(_, _) => Gift::Number,
+            RoutineSort::Procedure(_) => Gift::Nothing,
         }
     }
 
@@ -59,9 +60,9 @@ impl Sort {
         ensures { result ≡ spec.parameters_of self }
     {
         match self {
-            Sort::Function(count, _) => count,
-            Sort::Procedure(Owner::Item(_)) => 1,
-            Sort::Procedure(_) => 0,
+            RoutineSort::Function(count, _) => count,
+            RoutineSort::Procedure(Owner::Item(_)) => 1,
+            RoutineSort::Procedure(_) => 0,
         }
     }
 
@@ -70,8 +71,8 @@ impl Sort {
         ensures { result ≡ spec.result_at self }
     {
         match self {
-            Sort::Function(count, _) => Some(count),
-            Sort::Procedure(_) => None,
+            RoutineSort::Function(count, _) => Some(count),
+            RoutineSort::Procedure(_) => None,
         }
     }
 
@@ -81,18 +82,18 @@ impl Sort {
     {
         let mut locals = Vec::new(alloc);
         match self {
-            Sort::Function(count, _) => {
+            RoutineSort::Function(count, _) => {
                 add_numbers(&mut locals, count)?;
                 locals.push(NUMBER)?;
             }
-            Sort::Procedure(Owner::Item(field)) => {
+            RoutineSort::Procedure(Owner::Item(field)) => {
                 locals.push(Local {
                     kind: LocalKind::Occurrence,
                     owner: field.owner,
                     length: 0,
                 })?;
             }
-            Sort::Procedure(_) => {}
+            RoutineSort::Procedure(_) => {}
         }
         Ok(locals)
     }
@@ -126,7 +127,7 @@ fn add_function<'t, 'a>(
 {
     if let Declaration::Function(function) = written {
         outlines.push(Outline {
-            sort: Sort::Function(function.parameters.len(), function.needs_case),
+            sort: RoutineSort::Function(function.parameters.len(), function.needs_case),
             body: &function.body,
         })?;
     }
@@ -222,7 +223,7 @@ fn add_handler<'t, 'a>(
         handlers.push(Handler {
             event: event_of(owner, is_after),
             outline: Outline {
-                sort: Sort::Procedure(owner),
+                sort: RoutineSort::Procedure(owner),
                 body,
             },
         })?;

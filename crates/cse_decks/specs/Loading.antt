@@ -12,8 +12,8 @@ use Rattle.cse_image_parts.specs.Image.{Image, ArrayLists}
 use Rattle.cse_decks.specs.declared.due.Due.{Due}
 use Rattle.cse_decks.specs.declared.due.Due.TheVariants.{Heading, Opening, Cell, Nothing}
 use Rattle.cse_decks.specs.declared.error.DeckError.{DeckError}
-use Rattle.cse_decks.specs.declared.error.Stop.{Stop}
-use Rattle.cse_decks.specs.declared.error.Stop.TheVariants as stops
+use Rattle.cse_decks.specs.declared.error.DeckStop.{DeckStop}
+use Rattle.cse_decks.specs.declared.error.DeckStop.TheVariants as stops
 use Rattle.cse_decks.specs.Store.{Kept, first_kept}
 use Rattle.cse_decks.specs.Deck.{heading, ending, array_line}
 
@@ -204,18 +204,18 @@ loaded x text = with_arrays x (read_text x.lists.arrays (unread x) 1 text)
 abbrev pub out_of_memory : DeckError
 out_of_memory = record { number = 90; line = 0 }
 
-abbrev pub error_of : Stop → ℕ → DeckError
+abbrev pub error_of : DeckStop → ℕ → DeckError
 error_of stops.Memory n = out_of_memory
 error_of (stops.Fault number) n = fault number n
 
 -- what a call answered about a line, unless memory ran out
-abbrev pub Tells : {A : Type 0} → Result A Stop → Result A ℕ → Type 0
+abbrev pub Tells : {A : Type 0} → Result A DeckStop → Result A ℕ → Type 0
 Tells (Ok x) answer = answer ≡ Ok x
 Tells (Err stops.Memory) answer = Unit {0}
 Tells (Err (stops.Fault number)) answer = answer ≡ Err number
 
 -- what reading a line made of a reading, unless memory ran out
-abbrev pub Reads : Result (Unit {0}) Stop → Result Reading ℕ → Reading → Type 0
+abbrev pub Reads : Result (Unit {0}) DeckStop → Result Reading ℕ → Reading → Type 0
 Reads (Ok x) answer new = answer ≡ Ok new
 Reads (Err stops.Memory) answer new = Unit {0}
 Reads (Err (stops.Fault number)) answer new = answer ≡ Err number

@@ -20,21 +20,21 @@ pub struct DeckError {
 
 /// Why a line was not read.
 #[derive(Clone, Copy)]
-pub enum Stop {
+pub enum DeckStop {
     Memory,
     /// The number of the line's fault.
     Fault(u8),
 }
 
 /// The error at a line of this number.
-pub fn error_at(stop: Stop, line: u64) -> DeckError
+pub fn error_at(stop: DeckStop, line: u64) -> DeckError
     ensures { result ≡ error_of stop line }
 {
     match stop {
-        Stop::Memory => DeckError {
+        DeckStop::Memory => DeckError {
             number: 90,
             line: 0,
         },
-        Stop::Fault(number) => DeckError { number, line },
+        DeckStop::Fault(number) => DeckError { number, line },
     }
 }

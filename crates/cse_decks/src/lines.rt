@@ -17,7 +17,8 @@ const NUMBER_LEN: usize = 20;
 
 /// Where the first LF stands.
 pub fn line_end(text: &[u8]) -> Option<usize>
-    ensures { MatchOption result (cut text.now ≡ record { lines = []; rest = text.now }) (λ i. (i < length text.now) × (cut text.now ≡ record { lines = take i text.now ∷ (cut (drop (i + 1) text.now)).lines; rest = (cut (drop (i + 1) text.now)).rest })) }
+    ensures { MatchOption result (cut text.now ≡ record { lines = []; rest = text.now }) (λ i. (i < length text.now) × (cut text.now
+        ≡ record { lines = take i text.now ∷ (cut (drop (i + 1) text.now)).lines; rest = (cut (drop (i + 1) text.now)).rest })) }
 {
     memchr(b'\n', text)
 }

@@ -9,7 +9,7 @@ ghost use Rattle.cse_decks.specs.Loading.{Answers, read_text, loaded};
 
 use crate::cells::ArrayCells;
 use crate::due::Due;
-use crate::error::{DeckError, Stop, error_at};
+use crate::error::{DeckError, DeckStop, error_at};
 use crate::lines::line_end;
 use crate::progress::Progress;
 use crate::store::Store;
@@ -45,12 +45,12 @@ fn load_with<C: Code>(
 {
     let first = match Store::new(alloc, program) {
         Ok(first) => first,
-        Err(_) => return Err(error_at(Stop::Memory, 0)),
+        Err(_) => return Err(error_at(DeckStop::Memory, 0)),
     };
     let (globals, arrays) = first.into_parts();
     let came = match vec![in alloc; false; arrays.len()] {
         Ok(came) => came,
-        Err(_) => return Err(error_at(Stop::Memory, 0)),
+        Err(_) => return Err(error_at(DeckStop::Memory, 0)),
     };
     let due = Due::Heading;
     match read_text(alloc, declared, Progress { due, arrays, came }, text) {
@@ -79,7 +79,7 @@ fn read_text(
         line += 1;
     }
     if !rest.is_empty() || !progress.is_done() {
-        return Err(error_at(Stop::Fault(progress.lacking()), line));
+        return Err(error_at(DeckStop::Fault(progress.lacking()), line));
     }
     Ok(progress.into_arrays())
 }

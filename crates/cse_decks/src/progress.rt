@@ -13,7 +13,7 @@ ghost use Rattle.std.specs.String.{string_bytes};
 
 use crate::cells::ArrayCells;
 use crate::due::Due;
-use crate::error::Stop;
+use crate::error::DeckStop;
 use crate::lines::{cell_of, is_array_line, word};
 use crate::store::put_cell;
 use cse_image::Array;
@@ -97,7 +97,7 @@ fn place_named(arrays: &[Array], name: &[u8]) -> Option<usize>
 
 impl Progress {
     /// Reads a line of an array.
-    fn open(&mut self, alloc: Global, i: usize, array: &Array, line: &[u8]) -> Result<(), Stop>
+    fn open(&mut self, alloc: Global, i: usize, array: &Array, line: &[u8]) -> Result<(), DeckStop>
         ensures { Reads result (opened self.old i line.now (array_lists array.now)) self.new }
     {
         let due = match opening(alloc, &self.arrays, &self.came, i, array, line) {
@@ -111,26 +111,26 @@ impl Progress {
 
     /// Reads the line of an array that it names.
     #[tactic(auto, unfolding(crate::specs::Loading::array_read))]
-    fn read_array(&mut self, alloc: Global, arrays: &[Array], line: &[u8]) -> Result<(), Stop>
+    fn read_array(&mut self, alloc: Global, arrays: &[Array], line: &[u8]) -> Result<(), DeckStop>
         requires { 6 ≤ length line.now }
         ensures { Reads result (array_read (map array_lists arrays.now) self.old line.now) self.new }
     {
         let Some(i) = array_named(arrays, word(&line[6..])) else {
-            return Err(Stop::Fault(53));
+            return Err(DeckStop::Fault(53));
         };
         let Some(array) = arrays.get(i) else {
-            return Err(Stop::Fault(53));
+            return Err(DeckStop::Fault(53));
         };
         self.open(alloc, i, array, line)
     }
 
     /// Reads the line of a cell.
-    fn read_cell(&mut self, array: usize, place: usize, line: &[u8]) -> Result<(), Stop>
+    fn read_cell(&mut self, array: usize, place: usize, line: &[u8]) -> Result<(), DeckStop>
         requires { place < length (slice_index_or self.old.arrays array []) }
         ensures { Reads result (cell_read self.old array place (value_of line.now)) self.new }
     {
         let Some(value) = cell_of(line) else {
-            return Err(Stop::Fault(51));
+            return Err(DeckStop::Fault(51));
         };
         let count = self.arrays[array].len();
         put_cell(&mut self.arrays, array, place, value);
@@ -139,18 +139,18 @@ impl Progress {
     }
 
     /// Reads the heading.
-    fn read_heading(&mut self, line: &[u8]) -> Result<(), Stop>
+    fn read_heading(&mut self, line: &[u8]) -> Result<(), DeckStop>
         ensures { Reads result (heading_read self.old line.now) self.new }
     {
         if line != b"CSEB DECKS 1".as_slice() {
-            return Err(Stop::Fault(50));
+            return Err(DeckStop::Fault(50));
         }
         self.due = Due::Opening;
         Ok(())
     }
 
     /// Reads the line of an array, or the end.
-    fn read_opening(&mut self, alloc: Global, arrays: &[Array], line: &[u8]) -> Result<(), Stop>
+    fn read_opening(&mut self, alloc: Global, arrays: &[Array], line: &[u8]) -> Result<(), DeckStop>
         ensures { Reads result (opening_read (map array_lists arrays.now) self.old line.now) self.new }
     {
         if line == b"END".as_slice() {
@@ -158,21 +158,26 @@ impl Progress {
             return Ok(());
         }
         if !is_array_line(line) {
-            return Err(Stop::Fault(50));
+            return Err(DeckStop::Fault(50));
         }
         self.read_array(alloc, arrays, line)
     }
 
     /// Reads a line.
     #[tactic(auto, unfolding(crate::specs::Loading::line_read))]
-    pub fn read_line(&mut self, alloc: Global, arrays: &[Array], line: &[u8]) -> Result<(), Stop>
+    pub fn read_line(
+        &mut self,
+        alloc: Global,
+        arrays: &[Array],
+        line: &[u8],
+    ) -> Result<(), DeckStop>
         ensures { Reads result (line_read (map array_lists arrays.now) self.old line.now) self.new }
     {
         match self.due {
             Due::Cell(array, place) => self.read_cell(array, place, line),
             Due::Heading => self.read_heading(line),
             Due::Opening => self.read_opening(alloc, arrays, line),
-            Due::Nothing => Err(Stop::Fault(50)),
+            Due::Nothing => Err(DeckStop::Fault(50)),
         }
     }
 
@@ -227,7 +232,7 @@ fn opening(
     i: usize,
     array: &Array,
     line: &[u8],
-) -> Result<Due, Stop>
+) -> Result<Due, DeckStop>
     requires { length came.now ≡ length arrays.now }
     ensures value { Tells result (opening arrays.now came.now i line.now (array_lists array.now)) }
     ensures there { OnOk result (i < length came.now) }
@@ -235,16 +240,16 @@ fn opening(
 {
     let own = match own_line(alloc, array) {
         Ok(own) => own,
-        Err(_) => return Err(Stop::Memory),
+        Err(_) => return Err(DeckStop::Memory),
     };
     if line != own.as_slice() {
-        return Err(Stop::Fault(52));
+        return Err(DeckStop::Fault(52));
     }
     if !array.saved {
-        return Err(Stop::Fault(53));
+        return Err(DeckStop::Fault(53));
     }
     if !is_open(came, i) {
-        return Err(Stop::Fault(53));
+        return Err(DeckStop::Fault(53));
     }
     Ok(first_due(arrays, i))
 }

@@ -10,13 +10,13 @@ use Rattle.cse_dict.specs.Dictionary.{contains, row_in}
 use Rattle.cse_dict.specs.declared.keys.DataType.{DataType}
 use Rattle.cse_dict.specs.declared.pairs.Pair.{Pair}
 use Rattle.cse_dict.specs.declared.pairs.Pair.TheVariants.{Nothing, Range, NoNumber, Skipped}
-use Rattle.cse_dict.specs.declared.rows.Span.{Span}
+use Rattle.cse_dict.specs.declared.rows.NumberSpan.{NumberSpan}
 
-below_push : (n : ℕ) (xs : List Span) (y : Span) → RowsBelow n xs → y.row < n → RowsBelow n (xs ++ y ∷ [])
+below_push : (n : ℕ) (xs : List NumberSpan) (y : NumberSpan) → RowsBelow n xs → y.row < n → RowsBelow n (xs ++ y ∷ [])
 below_push n [] y h lt = (lt, tt)
 below_push n (x ∷ xs) y h lt = (h.0, below_push n xs y h.1 lt)
 
-below_more : (m n : ℕ) (xs : List Span) → m ≤ n → RowsBelow m xs → RowsBelow n xs
+below_more : (m n : ℕ) (xs : List NumberSpan) → m ≤ n → RowsBelow m xs → RowsBelow n xs
 below_more m n [] le h = tt
 below_more m n (x ∷ xs) le h = let here = h.0 in (omega arith, below_more m n xs le h.1)
 
@@ -70,7 +70,7 @@ module _ (data_type : DataType) where
   unfolding rows_of
   rows_of-below section = values_below section.entries no_rows (omega arith) tt
 
-found_below : (n : ℕ) (p : Span → Bool) (spans : List Span) → RowsBelow n spans → IfSome (option_map (λ s. s.row) (find p spans)) (λ r. r < n)
+found_below : (n : ℕ) (p : NumberSpan → Bool) (spans : List NumberSpan) → RowsBelow n spans → IfSome (option_map (λ s. s.row) (find p spans)) (λ r. r < n)
 found_below n p [] h = tt
 found_below n p (s ∷ ss) h = by (found_below n p ss h.1) (p s)
   where
@@ -79,7 +79,7 @@ found_below n p (s ∷ ss) h = by (found_below n p ss h.1) (p s)
     by rest false = rest
 
 -- a row that is found is one of the set
-pub row_in-below : (n : ℕ) (number : Num) (spans : List Span) → RowsBelow n spans → IfSome (row_in number spans) (λ r. r < n)
+pub row_in-below : (n : ℕ) (number : Num) (spans : List NumberSpan) → RowsBelow n spans → IfSome (row_in number spans) (λ r. r < n)
 row_in-below n (Whole z) spans h = found_below n (contains z) spans h
 row_in-below n NotAppl spans h = tt
 row_in-below n Missing spans h = tt

@@ -5,7 +5,7 @@ use Rattle.std.proofs.lemmas.Int.{ints}
 use Rattle.std.proofs.lemmas.List.{take-append-drop}
 use Rattle.std.proofs.Math.Seq.{drop-cons}
 use Rattle.cse_dict.specs.Dictionary.{ascends, contains, starts_above}
-use Rattle.cse_dict.specs.declared.rows.Span.{Span}
+use Rattle.cse_dict.specs.declared.rows.NumberSpan.{NumberSpan}
 
 le_fact : (a b : ℤ) → int_le a b ≡ true → a ≤ℤ b
 le_fact a b h = grind (arith, ints)
@@ -24,12 +24,12 @@ both true b h = (refl, h)
 both false b h = cc
 
 -- what a pair that ascends says
-pub record Ascent (s : Span) (ss : List Span) : Type 0 where
+pub record Ascent (s : NumberSpan) (ss : List NumberSpan) : Type 0 where
   pub ordered : s.low ≤ℤ s.high
   pub above : starts_above s.high ss ≡ true
   pub rest : ascends ss ≡ true
 
-ascent : (s : Span) (ss : List Span) → ascends (s ∷ ss) ≡ true → Ascent s ss
+ascent : (s : NumberSpan) (ss : List NumberSpan) → ascends (s ∷ ss) ≡ true → Ascent s ss
 ascent s ss h =
     let outer = both (int_le s.low s.high && starts_above s.high ss) (ascends ss) h in
     let inner = both (int_le s.low s.high) (starts_above s.high ss) outer.0 in
@@ -37,24 +37,24 @@ ascent s ss h =
 
 module _ (z : ℤ) where
   -- a pair above or below the number
-  above_test : (s : Span) → z <ℤ s.low → contains z s ≡ false
+  above_test : (s : NumberSpan) → z <ℤ s.low → contains z s ≡ false
   above_test s h = ap (λ v. v && int_le z s.high) (not_le s.low z h)
 
-  below_test : (s : Span) → s.high <ℤ z → contains z s ≡ false
+  below_test : (s : NumberSpan) → s.high <ℤ z → contains z s ≡ false
   below_test s h = by (int_le s.low z) (int_le z s.high) (not_le z s.high h)
     where
       by : (v w : Bool) → w ≡ false → v && w ≡ false
       by true w e = e
       by false w e = refl
 
-  find_past : (s : Span) (ss : List Span) → contains z s ≡ false → find (contains z) (s ∷ ss) ≡ find (contains z) ss
+  find_past : (s : NumberSpan) (ss : List NumberSpan) → contains z s ≡ false → find (contains z) (s ∷ ss) ≡ find (contains z) ss
   find_past s ss e = ap (λ v. cond v (Some s) (find (contains z) ss)) e
 
-  find_here : (s : Span) (ss : List Span) → contains z s ≡ true → find (contains z) (s ∷ ss) ≡ Some s
+  find_here : (s : NumberSpan) (ss : List NumberSpan) → contains z s ≡ true → find (contains z) (s ∷ ss) ≡ Some s
   find_here s ss e = ap (λ v. cond v (Some s) (find (contains z) ss)) e
 
   -- no pair from one above the number on contains it
-  none_above : (back : List Span) (m : Span) → ascends (m ∷ back) ≡ true → z <ℤ m.low → find (contains z) (m ∷ back) ≡ None
+  none_above : (back : List NumberSpan) (m : NumberSpan) → ascends (m ∷ back) ≡ true → z <ℤ m.low → find (contains z) (m ∷ back) ≡ None
   none_above [] m h lt = find_past m [] (above_test m lt)
   none_above (t ∷ ts) m h lt =
       let here = ascent m (t ∷ ts) h in
@@ -63,7 +63,7 @@ module _ (z : ℤ) where
       find_past m (t ∷ ts) (above_test m lt) ∙ none_above ts t here.rest (omega (arith, ints))
 
   -- the pairs before another one end below it
-  ends_below : (front : List Span) (x m : Span) (back : List Span) → ascends (x ∷ (front ++ m ∷ back)) ≡ true → x.high <ℤ m.low
+  ends_below : (front : List NumberSpan) (x m : NumberSpan) (back : List NumberSpan) → ascends (x ∷ (front ++ m ∷ back)) ≡ true → x.high <ℤ m.low
   ends_below [] x m back h = lt_fact x.high m.low (ascent x (m ∷ back) h).above
   ends_below (y ∷ ys) x m back h =
       let here = ascent x (y ∷ (ys ++ m ∷ back)) h in
@@ -73,7 +73,7 @@ module _ (z : ℤ) where
       omega (arith, ints)
 
   -- no pair before one that starts at or below the number contains it
-  none_below : (front : List Span) (m : Span) (back : List Span) → ascends (front ++ m ∷ back) ≡ true → m.low ≤ℤ z
+  none_below : (front : List NumberSpan) (m : NumberSpan) (back : List NumberSpan) → ascends (front ++ m ∷ back) ≡ true → m.low ≤ℤ z
       → find (contains z) (front ++ m ∷ back) ≡ find (contains z) (m ∷ back)
   none_below [] m back h le = refl
   none_below (x ∷ xs) m back h le =
@@ -81,13 +81,13 @@ module _ (z : ℤ) where
       find_past x (xs ++ m ∷ back) (below_test x (omega (arith, ints))) ∙ none_below xs m back (ascent x (xs ++ m ∷ back) h).rest le
 
   -- a number below a pair is sought before it
-  find_front : (front : List Span) (m : Span) (back : List Span) → ascends (front ++ m ∷ back) ≡ true → z <ℤ m.low
+  find_front : (front : List NumberSpan) (m : NumberSpan) (back : List NumberSpan) → ascends (front ++ m ∷ back) ≡ true → z <ℤ m.low
       → find (contains z) (front ++ m ∷ back) ≡ find (contains z) front
   find_front [] m back h lt = none_above back m h lt
   find_front (x ∷ xs) m back h lt = ap (λ r. cond (contains z x) (Some x) r) (find_front xs m back (ascent x (xs ++ m ∷ back) h).rest lt)
 
 -- a part of pairs that ascend ascends
-ascends_front : (front : List Span) (m : Span) (back : List Span) → ascends (front ++ m ∷ back) ≡ true → ascends front ≡ true
+ascends_front : (front : List NumberSpan) (m : NumberSpan) (back : List NumberSpan) → ascends (front ++ m ∷ back) ≡ true → ascends front ≡ true
 ascends_front [] m back h = refl
 ascends_front (x ∷ []) m back h =
     let here = ascent x (m ∷ back) h in rw (le_test x.low x.high here.ordered) refl
@@ -95,16 +95,16 @@ ascends_front (x ∷ y ∷ ys) m back h =
     let here = ascent x (y ∷ (ys ++ m ∷ back)) h in
     rw (le_test x.low x.high here.ordered, here.above) (ascends_front (y ∷ ys) m back here.rest)
 
-ascends_back : (front : List Span) (m : Span) (back : List Span) → ascends (front ++ m ∷ back) ≡ true → ascends (m ∷ back) ≡ true
+ascends_back : (front : List NumberSpan) (m : NumberSpan) (back : List NumberSpan) → ascends (front ++ m ∷ back) ≡ true → ascends (m ∷ back) ≡ true
 ascends_back [] m back h = h
 ascends_back (x ∷ xs) m back h = ascends_back xs m back (ascent x (xs ++ m ∷ back) h).rest
 
 -- what is left to be sought
-pub record Sought (z : ℤ) (part whole : List Span) : Type 0 where
+pub record Sought (z : ℤ) (part whole : List NumberSpan) : Type 0 where
   pub ascending : ascends part ≡ true
   pub same : find (contains z) part ≡ find (contains z) whole
 
-module _ (z : ℤ) (xs whole front : List Span) (m : Span) (back : List Span) (split : xs ≡ front ++ m ∷ back) (so_far : Sought z xs whole) where
+module _ (z : ℤ) (xs whole front : List NumberSpan) (m : NumberSpan) (back : List NumberSpan) (split : xs ≡ front ++ m ∷ back) (so_far : Sought z xs whole) where
   ascending_parts : ascends (front ++ m ∷ back) ≡ true
   ascending_parts = ap ascends (sym split) ∙ so_far.ascending
 
@@ -131,5 +131,5 @@ module _ (z : ℤ) (xs whole front : List Span) (m : Span) (back : List Span) (s
       ∙ find_here z m back (ap (λ v. v && int_le z m.high) (le_test m.low z low) ∙ le_test z m.high high)) ∙ found_parts
 
 -- a list by one of its places
-pub split_at_place : (xs : List Span) (i : ℕ) (d : Span) → i < length xs → xs ≡ take i xs ++ get_or xs i d ∷ drop (suc i) xs
+pub split_at_place : (xs : List NumberSpan) (i : ℕ) (d : NumberSpan) → i < length xs → xs ≡ take i xs ++ get_or xs i d ∷ drop (suc i) xs
 split_at_place xs i d inside = sym (take-append-drop i xs) ∙ ap (λ r. take i xs ++ r) (drop-cons xs i d inside)

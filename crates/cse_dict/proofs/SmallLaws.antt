@@ -3,7 +3,7 @@ use Rattle.std.proofs.Common.{◌≡◌, ℕ, zero, suc, ◌<◌, List, [], ◌�
 use Rattle.std.specs.Prelude.{slice_get, ◌⊎◌}
 use Rattle.std.proofs.lemmas.List.{length_push}
 use Rattle.cse_value.specs.declared.number.Num.TheVariants.{Whole}
-use Rattle.cse_dict.specs.declared.rows.Span.{Span}
+use Rattle.cse_dict.specs.declared.rows.NumberSpan.{NumberSpan}
 use Rattle.cse_dict.specs.Dictionary.{row_in}
 use Rattle.cse_dict.specs.Small.{TellsRows}
 
@@ -19,11 +19,11 @@ at_last (x ∷ xs) y zero e = absurd (omega arith)
 at_last (x ∷ xs) y (suc i) e = at_last xs y i (omega arith)
 
 -- an empty table
-pub tells_none : (spans : List Span) → TellsRows [] spans
+pub tells_none : (spans : List NumberSpan) → TellsRows [] spans
 tells_none spans number lt = absurd (omega (arith, lt))
 
 -- the row of one number more
-pub tells_more : (rows : List (Option ℕ)) (spans : List Span) (row : Option ℕ) → TellsRows rows spans → row ≡ row_in (Whole (pos (length rows))) spans → TellsRows (rows ++ row ∷ []) spans
+pub tells_more : (rows : List (Option ℕ)) (spans : List NumberSpan) (row : Option ℕ) → TellsRows rows spans → row ≡ row_in (Whole (pos (length rows))) spans → TellsRows (rows ++ row ∷ []) spans
 tells_more rows spans row before is number lt =
     ⊎_elim
     (λ (front : number < length rows). at_front rows row number front ∙ before number front)

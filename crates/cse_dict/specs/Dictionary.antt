@@ -23,7 +23,7 @@ use Rattle.cse_dict.specs.declared.keys.Kind.TheVariants.{Dictionary, Level, IdI
 use Rattle.cse_dict.specs.declared.keys.DataType.TheVariants.{Neither}
 use Rattle.cse_dict.specs.declared.field.Columns.{Columns}
 use Rattle.cse_dict.specs.declared.field.Field.{Field}
-use Rattle.cse_dict.specs.declared.rows.Span.{Span}
+use Rattle.cse_dict.specs.declared.rows.NumberSpan.{NumberSpan}
 use Rattle.cse_dict.specs.declared.context.Context.{Context}
 use Rattle.cse_dict.specs.declared.context.Owner.{Owner}
 use Rattle.cse_dict.specs.declared.context.Owner.TheVariants.{Nobody, Ids, OfRecord}
@@ -45,7 +45,7 @@ pub record ItemText : Type 0 where
 pub record SetText : Type 0 where
   pub name : List ℕ
   pub shape : SetShape
-  pub spans : List Span
+  pub spans : List NumberSpan
 
 -- a dictionary: names in upper case; the columns of the record type, 0 and 0 where there are none; records, items and sets in order
 pub record DictionaryText : Type 0 where
@@ -195,26 +195,26 @@ abbrev pub number_of_type : List ℕ → DictionaryText → Option ℕ
 number_of_type columns d = position (λ r. bytes_eq r.record_type columns) d.records
 
 -- the pair contains the number
-abbrev pub contains : ℤ → Span → Bool
+abbrev pub contains : ℤ → NumberSpan → Bool
 contains z s = int_le s.low z && int_le z s.high
 
 -- the row of the first pair that contains the number; special values have none
-abbrev pub row_in : Num → List Span → Option ℕ
+abbrev pub row_in : Num → List NumberSpan → Option ℕ
 row_in (Whole z) spans = option_map (λ s. s.row) (find (contains z) spans)
 row_in NotAppl spans = None
 row_in Missing spans = None
 row_in Undef spans = None
 
 -- each pair ends before the next one starts
-abbrev pub starts_above : ℤ → List Span → Bool
+abbrev pub starts_above : ℤ → List NumberSpan → Bool
 starts_above high [] = true
 starts_above high (s ∷ ss) = int_lt high s.low
 
-abbrev pub ascends : List Span → Bool
+abbrev pub ascends : List NumberSpan → Bool
 ascends [] = true
 ascends (s ∷ ss) = int_le s.low s.high && starts_above s.high ss && ascends ss
 
-abbrev pub spans_at : DictionaryText → ℕ → List Span
+abbrev pub spans_at : DictionaryText → ℕ → List NumberSpan
 spans_at d n = option_map_or (λ s. s.spans) (slice_get d.sets n) []
 
 -- how many rows a set has

@@ -8,7 +8,7 @@ use Rattle.cse_dict.specs.declared.keys.DataType.{DataType}
 use Rattle.cse_dict.specs.declared.keys.DataType.TheVariants.{Numeric, Alpha, Neither}
 use Rattle.cse_dict.specs.declared.pairs.Pair.{Pair}
 use Rattle.cse_dict.specs.declared.pairs.Pair.TheVariants.{Nothing, Range, NoNumber, Skipped}
-use Rattle.cse_dict.specs.declared.rows.Span.{Span}
+use Rattle.cse_dict.specs.declared.rows.NumberSpan.{NumberSpan}
 
 -- one more, counted up to one past a limit
 abbrev pub one_more : ℕ → ℕ → ℕ
@@ -84,7 +84,7 @@ is_value e = is_same e.key (codes "Value")
 
 -- the rows of a value set: its pairs of numbers in order, each with its row, counted from 0 (up to the limit of rows)
 pub record RowsText : Type 0 where
-  pub spans : List Span
+  pub spans : List NumberSpan
   pub rows : ℕ
   pub partial : Bool
 
@@ -114,6 +114,6 @@ unfoldable pub rows_of : DataType → SectionText → RowsText
 rows_of data_type section = fold (with_value data_type) no_rows section.entries
 
 -- all pairs stand in the first rows
-abbrev pub RowsBelow : ℕ → List Span → Type 0
+abbrev pub RowsBelow : ℕ → List NumberSpan → Type 0
 RowsBelow n [] = Unit {0}
 RowsBelow n (s ∷ ss) = (s.row < n) × RowsBelow n ss

@@ -53,7 +53,8 @@ fn check_record(
     found: &mut Option<DictError>,
 ) -> Result<(), AllocError>
     ensures found { OnOk result (found.new ≡ note_all found.old (record_faults len seen.old section.now)) }
-    ensures seen { OnOk result (seen.new ≡ record seen.old { names = names_after seen.old.names section.now; types = types_after seen.old.types len section.now }) }
+    ensures seen { OnOk result (seen.new
+        ≡ record seen.old { names = names_after seen.old.names section.now; types = types_after seen.old.types len section.now }) }
 {
     check_record_head(alloc, section, seen, found)?;
     check_type(alloc, len, section, found)?;

@@ -9,14 +9,14 @@ use cse_sections::sections::Section;
 use cse_value::shape::ItemKind;
 
 /// A range of columns: the first, counted from 1, and how many.
-#[derive(Clone, Copy, Debug, PartialEq, Eq)]
+#[derive(Clone, Copy, PartialEq, Eq)]
 pub struct Columns {
     pub start: u32,
     pub len: u32,
 }
 
 /// An item whose numbers are all readable.
-#[derive(Clone, Copy, Debug, PartialEq, Eq)]
+#[derive(Clone, Copy, PartialEq, Eq)]
 pub struct Field {
     pub columns: Columns,
     pub occurrences: u32,

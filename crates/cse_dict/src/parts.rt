@@ -12,7 +12,7 @@ use crate::context::{Context, Owner, context_after, is_in_record, no_context};
 use crate::field::{Columns, Field, field_of, is_number, item_kind};
 use crate::keys::{DataType, Kind, entry_of, kind_of, number_in, number_or, says_yes};
 use crate::record_type::type_of;
-use crate::rows::{Span, rows_of};
+use crate::rows::{NumberSpan, rows_of};
 use crate::search::ascends;
 use crate::small::small_rows;
 use cse_sections::number::whole_of;
@@ -56,7 +56,7 @@ impl Model for Item {
 pub struct Set {
     pub name: String,
     pub shape: SetShape,
-    pub spans: Vec<Span>,
+    pub spans: Vec<NumberSpan>,
     /// Each pair ends before the next one starts, so that a number can be searched for by halves.
     pub is_ascending: bool,
     /// The rows of the numbers from 0 on.

@@ -9,8 +9,8 @@ use std::alloc::{AllocError, Global};
 use std::marker::Model;
 
 /// The numbers from one to another, and their row, counted from 0.
-#[derive(Clone, Copy, Debug, PartialEq, Eq)]
-pub struct Span {
+#[derive(Clone, Copy, PartialEq, Eq)]
+pub struct NumberSpan {
     pub low: i64,
     pub high: i64,
     pub row: u32,
@@ -19,7 +19,7 @@ pub struct Span {
 /// The pairs of numbers so far, how many rows there are (up to 65,535), and whether a piece was skipped.
 #[derive(Drop)]
 pub struct Rows {
-    pub spans: Vec<Span>,
+    pub spans: Vec<NumberSpan>,
     pub rows: u16,
     pub partial: bool,
 }
@@ -37,7 +37,7 @@ fn add_pair(rows: &mut Rows, pair: Pair) -> Result<(), AllocError>
     match pair {
         Pair::Range(low, high) => {
             let row = u32::from(rows.rows).min(65534);
-            rows.spans.push(Span { low, high, row })?;
+            rows.spans.push(NumberSpan { low, high, row })?;
             Ok(())
         }
         Pair::Skipped => {

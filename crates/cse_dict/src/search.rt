@@ -3,10 +3,10 @@ ghost use Rattle.std.specs.Prelude.{◌≡◌, ◌<◌, ◌∷◌, ◌++◌, len
 ghost use Rattle.std.specs.Option.{option_copied};
 ghost use Rattle.cse_dict.specs.Dictionary.{ascends, contains, starts_above};
 
-use crate::rows::Span;
+use crate::rows::NumberSpan;
 
 /// Whether the first pair starts above a number.
-fn starts_above(high: i64, spans: &[Span]) -> bool
+fn starts_above(high: i64, spans: &[NumberSpan]) -> bool
     ensures { result ≡ starts_above high spans.now }
 {
     match spans {
@@ -16,7 +16,7 @@ fn starts_above(high: i64, spans: &[Span]) -> bool
 }
 
 /// Whether each pair ends before the next one starts.
-pub fn ascends(spans: &[Span]) -> bool
+pub fn ascends(spans: &[NumberSpan]) -> bool
     ensures { result ≡ ascends spans.now }
 {
     let mut rest = spans;
@@ -33,21 +33,21 @@ pub fn ascends(spans: &[Span]) -> bool
 }
 
 /// Whether the pair contains the number.
-fn contains(number: i64, span: Span) -> bool
+fn contains(number: i64, span: NumberSpan) -> bool
     ensures { result ≡ contains number span }
 {
     span.low <= number && number <= span.high
 }
 
 /// The first pair that contains the number, by going over them in order.
-fn scan(spans: &[Span], number: i64) -> Option<&Span>
+fn scan(spans: &[NumberSpan], number: i64) -> Option<&NumberSpan>
     ensures { option_copied result ≡ find (contains number) spans.now }
 {
     spans.iter().find(|span| contains(number, **span))
 }
 
 /// The pairs before the middle one, the middle one, and those behind it.
-fn halves(spans: &[Span]) -> (&[Span], &Span, &[Span])
+fn halves(spans: &[NumberSpan]) -> (&[NumberSpan], &NumberSpan, &[NumberSpan])
     requires { 0 < length spans.now }
     ensures parts { spans.now ≡ result.0.now ++ result.1.now ∷ result.2.now }
     ensures front { length result.0.now < length spans.now }
@@ -58,7 +58,7 @@ fn halves(spans: &[Span]) -> (&[Span], &Span, &[Span])
 }
 
 /// The pair that contains the number, by halves.
-fn search(spans: &[Span], number: i64) -> Option<&Span>
+fn search(spans: &[NumberSpan], number: i64) -> Option<&NumberSpan>
     requires { ascends spans.now ≡ true }
     ensures { option_copied result ≡ find (contains number) spans.now }
 {
@@ -79,7 +79,7 @@ fn search(spans: &[Span], number: i64) -> Option<&Span>
 }
 
 /// The first pair that contains the number.
-pub fn span_of(spans: &[Span], is_ascending: bool, number: i64) -> Option<&Span>
+pub fn span_of(spans: &[NumberSpan], is_ascending: bool, number: i64) -> Option<&NumberSpan>
     requires { is_ascending ≡ ascends spans.now }
     ensures { option_copied result ≡ find (contains number) spans.now }
 {

@@ -5,7 +5,7 @@ ghost use Rattle.cse_value.specs.declared.number.Num.TheVariants.{Whole};
 ghost use Rattle.cse_dict.specs.Dictionary.{ascends, row_in};
 ghost use Rattle.cse_dict.specs.Small.{TellsRows};
 
-use crate::rows::Span;
+use crate::rows::NumberSpan;
 use crate::search::span_of;
 use std::alloc::{AllocError, Global};
 
@@ -14,7 +14,7 @@ const MOST: i64 = 128;
 
 /// The row of a number, by the pairs. It is kept out of the functions that look small numbers up.
 #[inline(never)]
-pub fn row_by_pairs(spans: &[Span], is_ascending: bool, number: i64) -> Option<u32>
+pub fn row_by_pairs(spans: &[NumberSpan], is_ascending: bool, number: i64) -> Option<u32>
     requires { is_ascending ≡ ascends spans.now }
     ensures { result ≡ row_in (Whole number) spans.now }
 {
@@ -23,7 +23,7 @@ pub fn row_by_pairs(spans: &[Span], is_ascending: bool, number: i64) -> Option<u
 }
 
 /// How many numbers from 0 on get a table: those up to the greatest one of the pairs, and `MOST` at most.
-fn table_len(spans: &[Span]) -> u32 {
+fn table_len(spans: &[NumberSpan]) -> u32 {
     let mut len = 0u32;
     'spans: for span in spans {
         if i64::from(len) <= span.high {
@@ -36,7 +36,7 @@ fn table_len(spans: &[Span]) -> u32 {
 /// The rows of the numbers from 0 on.
 pub fn small_rows(
     alloc: Global,
-    spans: &[Span],
+    spans: &[NumberSpan],
     is_ascending: bool,
 ) -> Result<Vec<Option<u32>>, AllocError>
     requires { is_ascending ≡ ascends spans.now }
@@ -53,7 +53,7 @@ pub fn small_rows(
 /// The row of a number, by the table, or else by the pairs.
 pub fn row_of_whole(
     small: &[Option<u32>],
-    spans: &[Span],
+    spans: &[NumberSpan],
     is_ascending: bool,
     number: i64,
 ) -> Option<u32>

@@ -11,7 +11,7 @@ use Rattle.cse_output.specs.Gathering.{line}
 use Rattle.cse_dict.specs.Dictionary.{DictionaryText, item_names, shape_of}
 use Rattle.cse_dict.specs.Sound.{IsSound}
 use Rattle.cse_lines.specs.Line.{FileLine, lines_in}
-use Rattle.cse_lines.specs.Runs.{given}
+use Rattle.cse_lines.specs.Runs.{given_runs}
 use Rattle.cse_case.specs.Case.{CaseText, case_of, places_of, records_of, types_of}
 use Rattle.cse_case.specs.Seen.{is_case}
 use Rattle.cse_case.specs.Fit.{IsFit}
@@ -153,7 +153,7 @@ module _ (v : VerifiedProgram) (t : Tree) (named : List ℕ) (means : Means v t)
   batch_is : (store : Kept) (bytes : List ℕ) (ended : Bool) → StoreFits v.image store → batch v store bytes ended ≡ batch_meant d t named store bytes ended
   unfolding batch batch_meant
   batch_is store bytes ended kept =
-      let runs = given d true ended bytes in
+      let runs = given_runs d true ended bytes in
       let n = totals_of d runs in
       let some = some_given d ended (lines_in true ended bytes) in
       let first = store_begun v law store kept in
@@ -169,7 +169,7 @@ module _ (v : VerifiedProgram) (t : Tree) (named : List ℕ) (means : Means v t)
 
   -- ---- fewer runs, and the cells of a deck text
 
-  runs_given : (store : Kept) (bytes : List ℕ) (ended : Bool) (runs more : List (List FileLine)) → StoreFits v.image store → given d true ended bytes ≡ runs ++ more
+  runs_given : (store : Kept) (bytes : List ℕ) (ended : Bool) (runs more : List (List FileLine)) → StoreFits v.image store → given_runs d true ended bytes ≡ runs ++ more
       → after_runs v (begun v store) runs ≡ after_runs_meant d t named (begun_meant d t store) runs
   runs_given store bytes ended runs more kept given_are =
       let some = some_front runs more (subst (λ rs. AllSome rs) given_are (some_given d ended (lines_in true ended bytes))) in

@@ -5,7 +5,7 @@ use Rattle.cse_sections.specs.Sections.{sections_of}
 use Rattle.cse_dict.specs.Dictionary.{DictionaryText, dictionary_of}
 use Rattle.cse_dict.specs.Reading.{text_faults, IsAnswer}
 use Rattle.cse_lines.specs.Line.{FileLine}
-use Rattle.cse_lines.specs.Runs.{given, fault_in}
+use Rattle.cse_lines.specs.Runs.{given_runs, fault_in}
 use Rattle.cse_image_parts.specs.Image.{Image}
 use Rattle.cse_logic_tree.specs.Typed.{Tree}
 use Rattle.cse_build.specs.Build.{AreSound, IsFault}
@@ -87,7 +87,7 @@ pub record EditsWhole (text logic messages order : List ℕ) (decks : Option (Li
 pub record WritesRunsBy (d : DictionaryText) (written : List (List FileLine) → List ℕ) (bytes : List ℕ) (ended : Bool) (old new : List ℕ) : Type 0 where
   pub runs : List (List FileLine)
   pub more : List (List FileLine)
-  pub given_are : given d true ended bytes ≡ runs ++ more
+  pub given_are : given_runs d true ended bytes ≡ runs ++ more
   pub appends : Appends old new (written runs)
 
 -- Each output was given a front of its text in this batch over what was read. The mark says whether the end of the input was read. A fault

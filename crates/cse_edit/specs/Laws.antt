@@ -2,7 +2,7 @@
 use Rattle.std.specs.Prelude.{◌≡◌, ℕ, Bool, true, List, ◌++◌}
 use Rattle.cse_image.specs.Spelling.{StandFor}
 use Rattle.cse_lines.specs.Line.{FileLine}
-use Rattle.cse_lines.specs.Runs.{given}
+use Rattle.cse_lines.specs.Runs.{given_runs}
 use Rattle.cse_logic_tree.specs.Typed.{Tree}
 use Rattle.cse_verify.specs.Verified.{VerifiedProgram}
 use Rattle.cse_decks.specs.Loading.{loaded}
@@ -17,7 +17,7 @@ use Rattle.cse_edit.specs.Logic.{after_runs_meant, batch_meant, begun_meant, fir
 pub record IsMeant (v : VerifiedProgram) (t : Tree) (named : List ℕ) : Type 0 where
   pub batch_is : (store : Kept) (bytes : List ℕ) (ended : Bool) → StoreFits v.image store → batch v store bytes ended ≡ batch_meant v.dictionary t named store bytes ended
   pub runs_are : (store : Kept) (bytes : List ℕ) (ended : Bool) (runs more : List (List FileLine)) → StoreFits v.image store
-      → given v.dictionary true ended bytes ≡ runs ++ more
+      → given_runs v.dictionary true ended bytes ≡ runs ++ more
       → after_runs v (begun v store) runs ≡ after_runs_meant v.dictionary t named (begun_meant v.dictionary t store) runs
   pub first_is : first_kept v.image ≡ first_meant t
   pub loaded_is : (text : List ℕ) → loaded v.image text ≡ loaded_meant t text

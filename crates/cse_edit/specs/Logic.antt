@@ -11,7 +11,7 @@ use Rattle.cse_image_parts.specs.declared.entries.EventCode.TheVariants.{Applica
 use Rattle.cse_output.specs.Gathering.{line}
 use Rattle.cse_dict.specs.Dictionary.{DictionaryText, item_names, shape_of}
 use Rattle.cse_lines.specs.Line.{FileLine}
-use Rattle.cse_lines.specs.Runs.{given}
+use Rattle.cse_lines.specs.Runs.{given_runs}
 use Rattle.cse_case.specs.Case.{CaseText, case_of, places_of, records_of, types_of}
 use Rattle.cse_case.specs.Seen.{is_case}
 use Rattle.cse_code_bounds.specs.CaseEvents.{Moment, moment, records_events}
@@ -87,7 +87,7 @@ told_meant d t ends p n = if ends then whole_meant d t (application_meant d t Ap
 -- the batch over these bytes, after which the data ends or breaks off
 unfoldable pub batch_meant : DictionaryText → Tree → List ℕ → Kept → List ℕ → Bool → Batch
 batch_meant d t named store bytes ended =
-    told_meant d t (is_whole d ended bytes) (after_runs_meant d t named (begun_meant d t store) (given d true ended bytes)) (totals_of d (given d true ended bytes))
+    told_meant d t (is_whole d ended bytes) (after_runs_meant d t named (begun_meant d t store) (given_runs d true ended bytes)) (totals_of d (given_runs d true ended bytes))
 
 -- ---- what a run starts with
 

@@ -9,7 +9,7 @@ use Rattle.cse_logic_tree.specs.declared.tree.Owner.TheVariants as owners
 use Rattle.cse_logic_tree.specs.declared.tree.Variable.TheVariants as v
 use Rattle.cse_logic_tree.specs.Typed.{Array', Body, Both, Declaration, Do, Fixed, Minus, Number, Numeric, Plain, Postproc, Preproc, Procedure, Sized, Statement, Tree, Variable', statements}
 use Rattle.cse_decks.specs.Store.{Kept}
-use Rattle.cse_meaning.specs.Worked.{adults, age, ages, at, becomes, eight, imputing, item, missing, name, persons, signed, source, sums, told, whole}
+use Rattle.cse_meaning.specs.Worked.{adults, age, ages, at, becomes, eight, errmsg, imputing, item, missing, name, persons, signed, source, sums, whole}
 use Rattle.cse_batch.specs.Batch.{Batch}
 use Rattle.cse_edit.specs.Logic.{batch_meant, first_meant, loaded_meant}
 
@@ -36,7 +36,7 @@ abbrev pub tens : Declaration
 tens = Array' (record { name = name; dimensions = Sized name 10 ∷ []; saved = false; cells = map signed (pos 11 ∷ pos 12 ∷ pos 13 ∷ pos 14 ∷ pos 15 ∷ pos 16 ∷ pos 17 ∷ pos 18 ∷ pos 19 ∷ pos 20 ∷ []) })
 
 abbrev pub cells_told : Tree
-cells_told = source (tens ∷ []) owners.Application (told 0 (at (pos 0) ∷ at (pos 1) ∷ at (pos 10) ∷ at (pos 11) ∷ []) ∷ [])
+cells_told = source (tens ∷ []) owners.Application (errmsg 0 (at (pos 0) ∷ at (pos 1) ∷ at (pos 10) ∷ at (pos 11) ∷ []) ∷ [])
 
 abbrev pub counter : Number
 counter = Variable' name (v.Global 0)
@@ -46,7 +46,7 @@ turning a b k = Do (record { name = name; variable = v.Global 0; start = Fixed (
 
 abbrev pub two_loops : Tree
 two_loops =
-    source (Numeric (name ∷ []) ∷ []) owners.Application (turning (pos 5) (pos 4) (pos 1) ∷ told 0 (counter ∷ []) ∷ turning (pos 1) (pos 10) (pos 4) ∷ told 0 (counter ∷ []) ∷ [])
+    source (Numeric (name ∷ []) ∷ []) owners.Application (turning (pos 5) (pos 4) (pos 1) ∷ errmsg 0 (counter ∷ []) ∷ turning (pos 1) (pos 10) (pos 4) ∷ errmsg 0 (counter ∷ []) ∷ [])
 
 abbrev pub kept_deck : Declaration
 kept_deck = Array' (record { name = record name { text = codes "AGE_HD" }; dimensions = Sized name 2 ∷ Sized name 4 ∷ []; saved = true; cells = [] })

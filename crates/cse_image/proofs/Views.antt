@@ -3,7 +3,7 @@ use Rattle.std.proofs.Common.{◌≡◌, ℕ, zero, suc, ◌+◌, ◌-◌, ◌*�
 use Rattle.std.specs.List.{flat_map, AllByRecursion, slice_get}
 use Rattle.std.proofs.lemmas.List.{append-nil, take_at, length-append, length-map, drop-drop}
 use Rattle.std.proofs.lemmas.List.Concat.{flat_map-cons}
-use Rattle.cse_image_codec.specs.declared.fault.Fault.{Fault}
+use Rattle.cse_image_codec.specs.declared.fault.FieldFault.{FieldFault}
 use Rattle.cse_image_parts.specs.declared.instruction.Instr.{Instr}
 use Rattle.cse_image_parts.specs.declared.version.Version.{Version}
 use Rattle.cse_image_parts.specs.declared.version.Version.TheVariants as versions
@@ -59,10 +59,10 @@ many_snoc {A} item before zero bytes xs rest a after e f =
     subst (λ (p : List A × List ℕ). and_then (item p.0 p.1) (λ a rest. Ok (p.0 ++ a ∷ [], rest)) ≡ Ok (xs ++ a ∷ [], after)) (sym same) (rw f refl)
 many_snoc {A} item before (suc n) bytes xs rest a after e f =
     let p = and_then_ok (item before bytes) (λ b rest. many item (before ++ b ∷ []) n rest) (xs, rest) e in
-    ap (λ (r : Result (A × List ℕ) Fault). and_then r (λ b rest. many item (before ++ b ∷ []) (suc n) rest)) p.1 ∙ many_snoc item (before ++ p.0.0 ∷ []) n p.0.1 xs rest a after p.2 f
+    ap (λ (r : Result (A × List ℕ) FieldFault). and_then r (λ b rest. many item (before ++ b ∷ []) (suc n) rest)) p.1 ∙ many_snoc item (before ++ p.0.0 ∷ []) n p.0.1 xs rest a after p.2 f
 
 -- the next one is not there
-pub many_stop : {A : Type 0} (item : List A → Reader A) (before : List A) (n m : ℕ) (bytes : List ℕ) (xs : List A) (rest : List ℕ) (f : Fault)
+pub many_stop : {A : Type 0} (item : List A → Reader A) (before : List A) (n m : ℕ) (bytes : List ℕ) (xs : List A) (rest : List ℕ) (f : FieldFault)
     → n < m → many item before n bytes ≡ Ok (xs, rest) → item xs rest ≡ Err f → many item before m bytes ≡ Err f
 unfolding many
 many_stop item before n zero bytes xs rest f lt e g = absurd (omega arith)
@@ -71,7 +71,7 @@ many_stop {A} item before zero (suc m) bytes xs rest f lt e g =
     subst (λ (p : List A × List ℕ). and_then (item p.0 p.1) (λ a rest. many item (p.0 ++ a ∷ []) m rest) ≡ Err f) (sym same) (rw g refl)
 many_stop {A} item before (suc n) (suc m) bytes xs rest f lt e g =
     let p = and_then_ok (item before bytes) (λ b rest. many item (before ++ b ∷ []) n rest) (xs, rest) e in
-    ap (λ (r : Result (A × List ℕ) Fault). and_then r (λ b rest. many item (before ++ b ∷ []) m rest)) p.1 ∙ many_stop item (before ++ p.0.0 ∷ []) n m p.0.1 xs rest f (omega arith) p.2 g
+    ap (λ (r : Result (A × List ℕ) FieldFault). and_then r (λ b rest. many item (before ++ b ∷ []) m rest)) p.1 ∙ many_stop item (before ++ p.0.0 ∷ []) n m p.0.1 xs rest f (omega arith) p.2 g
 
 -- the bytes that were read are their spelling
 pub was_code : (version : Version) (n : ℕ) (bytes : List ℕ) (xs : List Instr) (rest : List ℕ) → IsBytes bytes → each (instr_at version) n bytes ≡ Ok (xs, rest) → IsCodeOf version xs (take (length bytes - length rest) bytes)
@@ -81,12 +81,12 @@ was_code version n bytes xs rest fits e =
     let k : length bytes - length rest ≡ length text = omega (arith, ap length t.0.parts, length-append text rest) in
     record { fit = t.1.0; bytes_are = rw k (ap (take (length text)) t.0.parts ∙ take_at text rest (length text) refl) }
 
-pub read_same : {A : Type 0} (read : Result A Fault) (x y : A) → read ≡ Ok x → read ≡ Ok y → x ≡ y
+pub read_same : {A : Type 0} (read : Result A FieldFault) (x y : A) → read ≡ Ok x → read ≡ Ok y → x ≡ y
 read_same (Ok z) x y e f = cc
 read_same (Err g) x y e f = absurd cc
 
 -- where reading gives a value, there is no fault
-pub read_unless : {A : Type 0} (read : Result A Fault) (x : A) (f : Fault) → read ≡ Ok x → read ≡ Err f → ⊥
+pub read_unless : {A : Type 0} (read : Result A FieldFault) (x : A) (f : FieldFault) → read ≡ Ok x → read ≡ Err f → ⊥
 read_unless (Ok z) x f e h = absurd cc
 read_unless (Err g) x f e h = absurd cc
 

@@ -2,10 +2,10 @@
 use Rattle.std.proofs.Common.{◌≡◌, ℕ, Bool, true, false, cond, eqb, List, [], ◌++◌, length, Result, Ok, Err, refl, sym, ap, ◌∙◌, inl}
 use Rattle.std.proofs.lemmas.Bool.{eqb-true}
 use Rattle.std.proofs.lemmas.List.{append-nil, nil_from_length}
-use Rattle.cse_image_codec.specs.declared.fault.Fault.{Fault}
+use Rattle.cse_image_codec.specs.declared.fault.FieldFault.{FieldFault}
 use Rattle.cse_image_codec.specs.declared.fault.Rule.TheVariants.{LeftOver}
-use Rattle.cse_image_codec.specs.declared.fault.Stop.{Stop}
-use Rattle.cse_image_codec.specs.declared.fault.Stop.TheVariants as stops
+use Rattle.cse_image_codec.specs.declared.fault.ReadStop.{ReadStop}
+use Rattle.cse_image_codec.specs.declared.fault.ReadStop.TheVariants as stops
 use Rattle.cse_image.specs.declared.error.ImageError.{ImageError}
 use Rattle.cse_image.specs.Place.{error_of, Answers}
 use Rattle.cse_image_parts.specs.Image.{Image}
@@ -16,18 +16,18 @@ use Rattle.cse_image.specs.Spelling.{spelling_in, SpellsIn, program_in, StandFor
 use Rattle.cse_image_codec.specs.Reader.{IsBytes}
 use Rattle.cse_image.proofs.ImageLaws.{edition_laws}
 
-ended_ok : {A : Type 0} (b : Bool) (f : Fault) (x y : A) → cond b (Ok x) (Err f) ≡ Ok y → (b ≡ true) × (x ≡ y)
+ended_ok : {A : Type 0} (b : Bool) (f : FieldFault) (x y : A) → cond b (Ok x) (Err f) ≡ Ok y → (b ≡ true) × (x ≡ y)
 ended_ok true f x y e = (refl, cc)
 ended_ok false f x y e = absurd cc
 
-all_ok : {A : Type 0} (r : Result (A × List ℕ) Fault) (a : A) → without_rest r ≡ Ok a → r ≡ Ok (a, [])
+all_ok : {A : Type 0} (r : Result (A × List ℕ) FieldFault) (a : A) → without_rest r ≡ Ok a → r ≡ Ok (a, [])
 all_ok (Ok x) a e =
     let p = ended_ok (eqb (length x.1) 0) (fault LeftOver x.1) x.0 a e in
     let nothing : x.1 ≡ [] = nil_from_length x.1 (eqb-true (length x.1) 0 p.0) in
     rw (← p.1, ← nothing) refl
 all_ok (Err f) a e = absurd cc
 
-not_both : {Y : Type 0} (read : Result Y Fault) (f : Fault) (x : Y) → read ≡ Err f → read ≡ Ok x → ⊥
+not_both : {Y : Type 0} (read : Result Y FieldFault) (f : FieldFault) (x : Y) → read ≡ Err f → read ≡ Ok x → ⊥
 not_both (Ok y) f x p q = absurd cc
 not_both (Err g) f x p q = absurd cc
 
@@ -44,7 +44,7 @@ edition_only bytes version x spells =
     let e : bytes ≡ spelling_in version x ++ [] = spells.bytes_are ∙ sym (append-nil (spelling_in version x)) in
     rw (e, one) refl
 
-programs_ok : (r : Result Edition Fault) (x : Image) → programs r ≡ Ok x → (e : Edition) × (r ≡ Ok e) × (x ≡ program_in e.version e.image)
+programs_ok : (r : Result Edition FieldFault) (x : Image) → programs r ≡ Ok x → (e : Edition) × (r ≡ Ok e) × (x ≡ program_in e.version e.image)
 programs_ok (Ok e) x h = (e, refl, cc)
 programs_ok (Err f) x h = absurd cc
 
@@ -59,7 +59,7 @@ unfolding reading
 reading_only bytes x stands = ap programs (edition_only bytes stands.version stands.image stands.spells) ∙ ap (λ (y : Image). Ok y) (sym stands.stands)
 
 -- where reading gives a value, a function that stopped ran out of memory
-pub stopped_only : {X Y : Type 0} (view : X → Y) (stop : Stop) (len : ℕ) (e : ImageError) (read : Result Y Fault) (x : Y)
+pub stopped_only : {X Y : Type 0} (view : X → Y) (stop : ReadStop) (len : ℕ) (e : ImageError) (read : Result Y FieldFault) (x : Y)
     → Fails stop read → read ≡ Ok x → e ≡ error_of stop len → Answers view (Err e) (Ok x)
 stopped_only view stops.Memory len e read x fails reads same = inl same
 stopped_only view (stops.Fault f) len e read x fails reads same = absurd (not_both read f x fails reads)
@@ -67,7 +67,7 @@ stopped_only view (stops.Fault f) len e read x fails reads same = absurd (not_bo
 pub spelled_once : (version : Version) (x : Image) (a b : List ℕ) → SpellsIn version x a → SpellsIn version x b → a ≡ b
 spelled_once version x a b p q = p.bytes_are ∙ sym q.bytes_are
 
-ok_parts : {A B : Type 0} (x y : A) (r s : B) → ◌≡◌ {A = Result (A × B) Fault} (Ok (x, r)) (Ok (y, s)) → (x ≡ y) × (r ≡ s)
+ok_parts : {A B : Type 0} (x y : A) (r s : B) → ◌≡◌ {A = Result (A × B) FieldFault} (Ok (x, r)) (Ok (y, s)) → (x ≡ y) × (r ≡ s)
 ok_parts {A} {B} x y r s e = let both : ◌≡◌ {A = A × B} (x, r) (y, s) = cc in (ap (λ (p : A × B). p.0) both, ap (λ (p : A × B). p.1) both)
 
 pub begins_none : (v w : Version) (x y : Image) (a b rest : List ℕ) → SpellsIn v x a → SpellsIn w y b → a ++ rest ≡ b → (v ≡ w) × (x ≡ y) × (rest ≡ [])

@@ -2,9 +2,9 @@
 use Rattle.std.specs.Prelude.{◌≡◌, ◌-◌, ◌⊎◌, ℕ, Result, Ok, Err}
 use Rattle.cse_image_codec.specs.declared.fault.Rule.{Rule}
 use Rattle.cse_image_codec.specs.declared.fault.Rule.TheVariants as rules
-use Rattle.cse_image_codec.specs.declared.fault.Fault.{Fault}
-use Rattle.cse_image_codec.specs.declared.fault.Stop.{Stop}
-use Rattle.cse_image_codec.specs.declared.fault.Stop.TheVariants as stops
+use Rattle.cse_image_codec.specs.declared.fault.FieldFault.{FieldFault}
+use Rattle.cse_image_codec.specs.declared.fault.ReadStop.{ReadStop}
+use Rattle.cse_image_codec.specs.declared.fault.ReadStop.TheVariants as stops
 use Rattle.cse_image.specs.declared.error.ImageError.{ImageError}
 
 abbrev pub number_of : Rule → ℕ
@@ -18,15 +18,15 @@ abbrev pub out_of_memory : ImageError
 out_of_memory = record { number = 90; at = 0 }
 
 -- in bytes of this length
-abbrev pub error_in : ℕ → Fault → ImageError
+abbrev pub error_in : ℕ → FieldFault → ImageError
 error_in len f = record { number = number_of f.rule; at = len - f.left }
 
-abbrev pub error_of : Stop → ℕ → ImageError
+abbrev pub error_of : ReadStop → ℕ → ImageError
 error_of stops.Memory len = out_of_memory
 error_of (stops.Fault f) len = error_in len f
 
 -- what reading gives, each fault with its place in bytes of this length
-abbrev pub placed : {A : Type 0} → ℕ → Result A Fault → Result A ImageError
+abbrev pub placed : {A : Type 0} → ℕ → Result A FieldFault → Result A ImageError
 placed len (Ok x) = Ok x
 placed len (Err f) = Err (error_in len f)
 

@@ -20,7 +20,7 @@ use Rattle.cse_image_parts.specs.Fields.{fits_global_length, fits_local_length, 
 use Rattle.cse_image_parts.specs.Opcodes.{op_of, fits_a, fits_b, fits_c}
 use Rattle.cse_image_parts.specs.Placeholders.{has_few_placeholders}
 use Rattle.cse_image_codec.specs.declared.fault.Rule.TheVariants.{Header, Form, Limit}
-use Rattle.cse_image_codec.specs.declared.fault.Fault.{Fault}
+use Rattle.cse_image_codec.specs.declared.fault.FieldFault.{FieldFault}
 use Rattle.cse_image_codec.specs.Reader.{Reader, ◌>>=◌, done, some_bytes, number, signed, checked, decoded, many, each, counted, whole, without_rest}
 use Rattle.cse_image.specs.Spelling.{magic, program_in}
 
@@ -187,13 +187,13 @@ edition_at = do
   done (edition version (record { lists = lists; code = code }))
 
 -- the image that all of the bytes are, or the first fault
-unfoldable pub whole_edition : List ℕ → Result Edition Fault
+unfoldable pub whole_edition : List ℕ → Result Edition FieldFault
 whole_edition bytes = without_rest (edition_at bytes)
 
-abbrev pub programs : Result Edition Fault → Result Image Fault
+abbrev pub programs : Result Edition FieldFault → Result Image FieldFault
 programs (Ok x) = Ok (program_in x.version x.image)
 programs (Err f) = Err f
 
 -- the program that all of the bytes stand for, or the first fault
-unfoldable pub reading : List ℕ → Result Image Fault
+unfoldable pub reading : List ℕ → Result Image FieldFault
 reading bytes = programs (whole_edition bytes)

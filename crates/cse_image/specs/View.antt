@@ -1,7 +1,7 @@
 -- Instructions that lie in bytes, eight bytes each.
 use Rattle.std.specs.Prelude.{◌≡◌, ◌/◌, ℕ, List, [], map, length, Result, Ok, Err}
 use Rattle.std.specs.List.{flat_map, AllByRecursion}
-use Rattle.cse_image_codec.specs.declared.fault.Fault.{Fault}
+use Rattle.cse_image_codec.specs.declared.fault.FieldFault.{FieldFault}
 use Rattle.cse_image_codec.specs.Reader.{each}
 use Rattle.cse_image_parts.specs.declared.instruction.Instr.{Instr}
 use Rattle.cse_image_parts.specs.declared.version.Version.{Version}
@@ -10,7 +10,7 @@ use Rattle.cse_image_parts.specs.Upgrade.{upgrade_instr}
 use Rattle.cse_image.specs.Reading.{instr_at}
 use Rattle.cse_image.specs.Spelling.{instr, InstrFits}
 
-abbrev pub value_of : Result (List Instr × List ℕ) Fault → List Instr
+abbrev pub value_of : Result (List Instr × List ℕ) FieldFault → List Instr
 value_of (Ok x) = x.0
 value_of (Err f) = []
 

@@ -20,7 +20,7 @@ pub trait Code {
 }
 
 /// Instructions in memory.
-#[derive(Debug, Drop)]
+#[derive(Drop)]
 pub struct Owned {
     pub(crate) instructions: Vec<Instr>,
 }

@@ -3,7 +3,7 @@
 ghost use Rattle.std.specs.Prelude.{◌≡◌};
 ghost use Rattle.cse_image.specs.Place.{number_of, error_of};
 
-use cse_image_codec::{Rule, Stop};
+use cse_image_codec::{ReadStop, Rule};
 use std::error::Error;
 use std::fmt;
 
@@ -28,12 +28,12 @@ impl fmt::Display for ImageError {
 impl Error for ImageError {}
 
 /// The error, in bytes of this length.
-pub fn error_within(stop: Stop, len: usize) -> ImageError
+pub fn error_within(stop: ReadStop, len: usize) -> ImageError
     ensures { result ≡ error_of stop len }
 {
     match stop {
-        Stop::Memory => ImageError { number: 90, at: 0 },
-        Stop::Fault(fault) => ImageError {
+        ReadStop::Memory => ImageError { number: 90, at: 0 },
+        ReadStop::Fault(fault) => ImageError {
             number: rule_number(fault.rule),
             at: len.saturating_sub(fault.left),
         },

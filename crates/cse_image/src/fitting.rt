@@ -185,7 +185,9 @@ fn events_fit(events: &[EventEntry]) -> bool
 
 /// Do the sections from the records to the order fit?
 fn shape_fits(tables: &Tables) -> bool
-    ensures { Decides result (SectionFits MOST_RECORDS (λ _. RecordFits) tables.now.records.items × SectionFits MOST_ITEMS (λ _. ItemFits) tables.now.items.items × SectionFits MOST_SETS (λ _. SetFits) tables.now.sets.items × SectionFits MOST_ORDER (λ _. OrderFits) tables.now.order.items) }
+    ensures { Decides result (SectionFits MOST_RECORDS (λ _. RecordFits) tables.now.records.items
+        × SectionFits MOST_ITEMS (λ _. ItemFits) tables.now.items.items × SectionFits MOST_SETS (λ _. SetFits) tables.now.sets.items
+        × SectionFits MOST_ORDER (λ _. OrderFits) tables.now.order.items) }
 {
     records_fit(&tables.records)
         && items_fit(&tables.items)
@@ -195,7 +197,9 @@ fn shape_fits(tables: &Tables) -> bool
 
 /// Do the sections from the constants to the globals fit?
 fn values_fit(tables: &Tables) -> bool
-    ensures { Decides result (SectionFits MOST_CONSTANTS (λ _. FitsSigned w64) tables.now.constants.items × SectionFits MOST_LIMITS (λ _. LimitFits) tables.now.limits.items × SectionFits MOST_TEXTS (λ _. TextFits) (map string_bytes tables.now.texts.items) × SectionFits MOST_GLOBALS (λ _. GlobalFits) tables.now.globals.items) }
+    ensures { Decides result (SectionFits MOST_CONSTANTS (λ _. FitsSigned w64) tables.now.constants.items
+        × SectionFits MOST_LIMITS (λ _. LimitFits) tables.now.limits.items × SectionFits MOST_TEXTS (λ _. TextFits) (map string_bytes tables.now.texts.items)
+        × SectionFits MOST_GLOBALS (λ _. GlobalFits) tables.now.globals.items) }
 {
     constants_fit(&tables.constants)
         && limits_fit(&tables.limits)
@@ -205,14 +209,16 @@ fn values_fit(tables: &Tables) -> bool
 
 /// Do the arrays and the messages fit?
 fn contents_fit(tables: &Tables) -> bool
-    ensures { Decides result (SectionFits MOST_ARRAYS ArrayFits (map array_lists tables.now.arrays.items) × SectionFits MOST_MESSAGES (λ _. MessageFits) (map message_lists tables.now.messages.items)) }
+    ensures { Decides result (SectionFits MOST_ARRAYS ArrayFits (map array_lists tables.now.arrays.items)
+        × SectionFits MOST_MESSAGES (λ _. MessageFits) (map message_lists tables.now.messages.items)) }
 {
     arrays_fit(&tables.arrays) && messages_fit(&tables.messages)
 }
 
 /// Do the routines and the events fit?
 fn routes_fit(tables: &Tables) -> bool
-    ensures { Decides result (SectionFits MOST_ROUTINES (λ before. RoutineFits versions.Two (instructions_in before)) (map routine_lists tables.now.routines.items) × SectionFits MOST_EVENTS (λ before. EventFits (last_event before)) tables.now.events.items) }
+    ensures { Decides result (SectionFits MOST_ROUTINES (λ before. RoutineFits versions.Two (instructions_in before))
+        (map routine_lists tables.now.routines.items) × SectionFits MOST_EVENTS (λ before. EventFits (last_event before)) tables.now.events.items) }
 {
     if !routines_fit(&tables.routines) {
         return false;

@@ -10,7 +10,8 @@ ghost use Rattle.cse_image.specs.Reading.{has_room_at_last, dimension_at, name_a
 
 use crate::read_shape::flag_of;
 use cse_image_codec::{
-    Fault, Rule, Stop, broken, bytes_at, count_at, i64s_at, u8_at, u16_at, u32_at, zero_u8_at,
+    FieldFault, ReadStop, Rule, broken, bytes_at, count_at, i64s_at, u8_at, u16_at, u32_at,
+    zero_u8_at,
 };
 use cse_image_parts::entries::Array;
 use cse_image_parts::limits::{MOST_ARRAYS, MOST_CELLS, MOST_DIMENSIONS};
@@ -22,7 +23,7 @@ use std::alloc::Global;
 
 /// How many dimensions an array has.
 #[tactic(auto, unfolding(cse_image_codec::specs::Reader::checked))]
-fn rank_of(bytes: &[u8]) -> Result<(u8, &[u8]), Fault>
+fn rank_of(bytes: &[u8]) -> Result<(u8, &[u8]), FieldFault>
     ensures exact { GivesFault (λ x. (x.0, x.1.now)) result (checked Limit is_dimension_count (number 1) bytes.now) }
     ensures some { IfOk result (λ x. 0 < x.0) }
     ensures few { IfOk result (λ x. x.0 ≤ MOST_DIMENSIONS) }
@@ -64,7 +65,7 @@ fn dimension_of<'a>(
     rank: u8,
     before: &[u16],
     bytes: &'a [u8],
-) -> Result<(u16, &'a [u8]), Fault>
+) -> Result<(u16, &'a [u8]), FieldFault>
     requires few { length before.now < MOST_DIMENSIONS }
     requires small { cells ≤ MOST_CELLS }
     ensures exact { GivesFault (λ x. (x.0, x.1.now)) result (dimension_at cells rank before.now bytes.now) }
@@ -86,7 +87,7 @@ fn dimensions_in(
     cells: u64,
     rank: u8,
     bytes: &[u8],
-) -> Result<(Vec<u16>, &[u8]), Stop>
+) -> Result<(Vec<u16>, &[u8]), ReadStop>
     requires few { rank ≤ MOST_DIMENSIONS }
     requires small { cells ≤ MOST_CELLS }
     ensures exact { Gives (λ x. (x.0.items, x.1.now)) result (many (dimension_at cells rank) [] rank bytes.now) }
@@ -109,21 +110,21 @@ fn name_of<'a>(
     before: &[Array],
     len: u8,
     bytes: &'a [u8],
-) -> Result<(String, &'a [u8]), Stop>
+) -> Result<(String, &'a [u8]), ReadStop>
     ensures { Gives (λ x. (string_bytes x.0, x.1.now)) result (name_at (map array_lists before.now) len bytes.now) }
 {
     let (name, rest) = bytes_at(len as usize, bytes)?;
     let Some(text) = array_name(name) else {
-        return Err(Stop::from(broken(Rule::Form, bytes)));
+        return Err(ReadStop::from(broken(Rule::Form, bytes)));
     };
     if !is_new_name(before, name) {
-        return Err(Stop::from(broken(Rule::Form, bytes)));
+        return Err(ReadStop::from(broken(Rule::Form, bytes)));
     }
     Ok((String::from_str(alloc, text)?, rest))
 }
 
 #[tactic(auto, unfolding(cse_image_codec::specs::Reader::checked))]
-fn cell_count_of<'a>(dimensions: &[u16], bytes: &'a [u8]) -> Result<(u32, &'a [u8]), Fault>
+fn cell_count_of<'a>(dimensions: &[u16], bytes: &'a [u8]) -> Result<(u32, &'a [u8]), FieldFault>
     requires { length dimensions.now ≤ MOST_DIMENSIONS }
     ensures { GivesFault (λ x. (x.0, x.1.now)) result (checked Limit (fits_cells dimensions.now) (number 4) bytes.now) }
 {
@@ -141,7 +142,7 @@ fn array_of<'a>(
     before: &[Array],
     cells: u64,
     bytes: &'a [u8],
-) -> Result<(Array, &'a [u8]), Stop>
+) -> Result<(Array, &'a [u8]), ReadStop>
     requires cells { cells ≡ cells_in (map array_lists before.now) }
     requires small { cells ≤ MOST_CELLS }
     ensures exact { Gives (λ x. (array_lists x.0, x.1.now)) result (array_at (map array_lists before.now) bytes.now) }
@@ -168,7 +169,7 @@ fn array_of<'a>(
 }
 
 #[tactic(auto, using(cse_image_codec::proofs::Loop::many_done))]
-fn arrays_in(alloc: Global, count: u32, bytes: &[u8]) -> Result<(Vec<Array>, &[u8]), Stop>
+fn arrays_in(alloc: Global, count: u32, bytes: &[u8]) -> Result<(Vec<Array>, &[u8]), ReadStop>
     ensures { Gives (λ x. (map array_lists x.0.items, x.1.now)) result (many array_at [] count bytes.now) }
 {
     let mut arrays = Vec::new(alloc);
@@ -185,7 +186,7 @@ fn arrays_in(alloc: Global, count: u32, bytes: &[u8]) -> Result<(Vec<Array>, &[u
 
 /// The table of arrays: their count, then each; and the bytes after it.
 #[tactic(auto, unfolding(cse_image_codec::specs::Reader::then_at, cse_image_codec::specs::Reader::counted))]
-pub fn arrays_of(alloc: Global, bytes: &[u8]) -> Result<(Vec<Array>, &[u8]), Stop>
+pub fn arrays_of(alloc: Global, bytes: &[u8]) -> Result<(Vec<Array>, &[u8]), ReadStop>
     ensures { Gives (λ x. (map array_lists x.0.items, x.1.now)) result (counted MOST_ARRAYS array_at bytes.now) }
 {
     let (count, rest) = count_at(MOST_ARRAYS, bytes)?;

@@ -9,7 +9,9 @@ ghost use Rattle.cse_image_parts.specs.Image.{routine_lists};
 ghost use Rattle.cse_image_parts.specs.Fields.{fits_kind, fits_owner, fits_local_length, are_locals, instructions_in, is_room_for_code, last_event, is_after};
 ghost use Rattle.cse_image.specs.Reading.{local_at, routine_at, event_at};
 
-use cse_image_codec::{Fault, Rule, Stop, broken, count_at, u8_at, u16_at, u32_at, zero_u8_at};
+use cse_image_codec::{
+    FieldFault, ReadStop, Rule, broken, count_at, u8_at, u16_at, u32_at, zero_u8_at,
+};
 use cse_image_parts::codes::{ambient_named, event_code_named, gift_named, local_kind_named};
 use cse_image_parts::entries::{Ambient, EventCode, EventEntry, Gift, Local, LocalKind, Routine};
 use cse_image_parts::limits::{MOST_EVENTS, MOST_INSTRUCTIONS, MOST_ROUTINES};
@@ -22,7 +24,7 @@ use std::alloc::Global;
 
 /// The kind of the local at this place, from 0, beside so many parameters.
 #[tactic(auto, unfolding(cse_image_codec::specs::Reader::checked, cse_image_codec::specs::Reader::decoded))]
-fn local_kind_of(parameters: u8, index: u8, bytes: &[u8]) -> Result<(LocalKind, &[u8]), Fault>
+fn local_kind_of(parameters: u8, index: u8, bytes: &[u8]) -> Result<(LocalKind, &[u8]), FieldFault>
     ensures { GivesFault (λ x. (x.0, x.1.now)) result (checked Form (fits_kind parameters index) (decoded Form spec_local_kind_of (number 1)) bytes.now) }
 {
     let (code, rest) = u8_at(bytes)?;
@@ -36,7 +38,7 @@ fn local_kind_of(parameters: u8, index: u8, bytes: &[u8]) -> Result<(LocalKind, 
 }
 
 #[tactic(auto, unfolding(cse_image_codec::specs::Reader::checked))]
-fn owner_of(kind: LocalKind, bytes: &[u8]) -> Result<(u8, &[u8]), Fault>
+fn owner_of(kind: LocalKind, bytes: &[u8]) -> Result<(u8, &[u8]), FieldFault>
     ensures { GivesFault (λ x. (x.0, x.1.now)) result (checked Form (fits_owner kind) (number 1) bytes.now) }
 {
     let (owner, rest) = u8_at(bytes)?;
@@ -47,7 +49,7 @@ fn owner_of(kind: LocalKind, bytes: &[u8]) -> Result<(u8, &[u8]), Fault>
 }
 
 #[tactic(auto, unfolding(cse_image_codec::specs::Reader::checked))]
-fn local_length_of(kind: LocalKind, bytes: &[u8]) -> Result<(u16, &[u8]), Fault>
+fn local_length_of(kind: LocalKind, bytes: &[u8]) -> Result<(u16, &[u8]), FieldFault>
     ensures { GivesFault (λ x. (x.0, x.1.now)) result (checked Form (fits_local_length kind) (number 2) bytes.now) }
 {
     let (length, rest) = u16_at(bytes)?;
@@ -58,7 +60,7 @@ fn local_length_of(kind: LocalKind, bytes: &[u8]) -> Result<(u16, &[u8]), Fault>
 }
 
 #[tactic(auto, unfolding(cse_image_codec::specs::Reader::then_at, cse_image_codec::specs::Reader::done, crate::specs::Reading::local_at))]
-fn local_of(parameters: u8, index: u8, bytes: &[u8]) -> Result<(Local, &[u8]), Fault>
+fn local_of(parameters: u8, index: u8, bytes: &[u8]) -> Result<(Local, &[u8]), FieldFault>
     ensures { GivesFault (λ x. (x.0, x.1.now)) result (local_at parameters index bytes.now) }
 {
     let (kind, rest) = local_kind_of(parameters, index, bytes)?;
@@ -80,7 +82,7 @@ fn locals_in(
     parameters: u8,
     count: u8,
     bytes: &[u8],
-) -> Result<(Vec<Local>, &[u8]), Stop>
+) -> Result<(Vec<Local>, &[u8]), ReadStop>
     ensures { Gives (λ x. (x.0.items, x.1.now)) result (many (λ before. local_at parameters (length before)) [] count bytes.now) }
 {
     let mut locals = Vec::new(alloc);
@@ -94,7 +96,7 @@ fn locals_in(
 }
 
 #[tactic(auto, unfolding(cse_image_codec::specs::Reader::decoded))]
-fn ambient_of(bytes: &[u8]) -> Result<(Ambient, &[u8]), Fault>
+fn ambient_of(bytes: &[u8]) -> Result<(Ambient, &[u8]), FieldFault>
     ensures { GivesFault (λ x. (x.0, x.1.now)) result (decoded Form spec_ambient_of (number 1) bytes.now) }
 {
     let (code, rest) = u8_at(bytes)?;
@@ -106,7 +108,7 @@ fn ambient_of(bytes: &[u8]) -> Result<(Ambient, &[u8]), Fault>
 
 /// What a routine gives: a text from version 2 on.
 #[tactic(auto, unfolding(cse_image_codec::specs::Reader::checked, cse_image_codec::specs::Reader::decoded))]
-fn gift_of(version: Version, bytes: &[u8]) -> Result<(Gift, &[u8]), Fault>
+fn gift_of(version: Version, bytes: &[u8]) -> Result<(Gift, &[u8]), FieldFault>
     ensures { GivesFault (λ x. (x.0, x.1.now)) result (checked Form (spec_may_give version) (decoded Form spec_gift_of (number 1)) bytes.now) }
 {
     let (code, rest) = u8_at(bytes)?;
@@ -121,7 +123,7 @@ fn gift_of(version: Version, bytes: &[u8]) -> Result<(Gift, &[u8]), Fault>
 
 /// The count of the locals, among which are so many parameters.
 #[tactic(auto, unfolding(cse_image_codec::specs::Reader::checked))]
-fn local_count_of(parameters: u8, bytes: &[u8]) -> Result<(u8, &[u8]), Fault>
+fn local_count_of(parameters: u8, bytes: &[u8]) -> Result<(u8, &[u8]), FieldFault>
     ensures { GivesFault (λ x. (x.0, x.1.now)) result (checked Form (are_locals parameters) (number 1) bytes.now) }
 {
     let (count, rest) = u8_at(bytes)?;
@@ -133,7 +135,7 @@ fn local_count_of(parameters: u8, bytes: &[u8]) -> Result<(u8, &[u8]), Fault>
 
 /// The count of a routine's instructions, after routines of so many together.
 #[tactic(auto, unfolding(cse_image_codec::specs::Reader::checked))]
-fn instruction_count_of(before: u32, bytes: &[u8]) -> Result<(u32, &[u8]), Fault>
+fn instruction_count_of(before: u32, bytes: &[u8]) -> Result<(u32, &[u8]), FieldFault>
     requires { before ≤ MOST_INSTRUCTIONS }
     ensures exact { GivesFault (λ x. (x.0, x.1.now)) result (checked Limit (is_room_for_code before) (number 4) bytes.now) }
     ensures room { IfOk result (λ x. before + x.0 ≤ MOST_INSTRUCTIONS) }
@@ -152,7 +154,7 @@ fn routine_of(
     version: Version,
     before: u32,
     bytes: &[u8],
-) -> Result<(Routine, &[u8]), Stop>
+) -> Result<(Routine, &[u8]), ReadStop>
     requires { before ≤ MOST_INSTRUCTIONS }
     ensures exact { Gives (λ x. (routine_lists x.0, x.1.now)) result (routine_at version before bytes.now) }
     ensures room { IfOk result (λ x. before + x.0.instructions ≤ MOST_INSTRUCTIONS) }
@@ -181,8 +183,9 @@ fn routines_in(
     version: Version,
     count: u32,
     bytes: &[u8],
-) -> Result<(Vec<Routine>, &[u8]), Stop>
-    ensures exact { Gives (λ x. (map routine_lists x.0.items, x.1.now)) result (many (λ before. routine_at version (instructions_in before)) [] count bytes.now) }
+) -> Result<(Vec<Routine>, &[u8]), ReadStop>
+    ensures exact { Gives (λ x. (map routine_lists x.0.items, x.1.now)) result
+        (many (λ before. routine_at version (instructions_in before)) [] count bytes.now) }
     ensures room { IfOk result (λ x. instructions_in (map routine_lists x.0.items) ≤ MOST_INSTRUCTIONS) }
 {
     let mut routines = Vec::new(alloc);
@@ -204,8 +207,9 @@ pub fn routines_of(
     alloc: Global,
     version: Version,
     bytes: &[u8],
-) -> Result<(Vec<Routine>, &[u8]), Stop>
-    ensures exact { Gives (λ x. (map routine_lists x.0.items, x.1.now)) result (counted MOST_ROUTINES (λ before. routine_at version (instructions_in before)) bytes.now) }
+) -> Result<(Vec<Routine>, &[u8]), ReadStop>
+    ensures exact { Gives (λ x. (map routine_lists x.0.items, x.1.now)) result
+        (counted MOST_ROUTINES (λ before. routine_at version (instructions_in before)) bytes.now) }
     ensures room { IfOk result (λ x. instructions_in (map routine_lists x.0.items) ≤ MOST_INSTRUCTIONS) }
 {
     let (count, rest) = count_at(MOST_ROUTINES, bytes)?;
@@ -213,7 +217,7 @@ pub fn routines_of(
 }
 
 #[tactic(auto, unfolding(cse_image_codec::specs::Reader::decoded))]
-fn event_code_of(bytes: &[u8]) -> Result<(EventCode, &[u8]), Fault>
+fn event_code_of(bytes: &[u8]) -> Result<(EventCode, &[u8]), FieldFault>
     ensures { GivesFault (λ x. (x.0, x.1.now)) result (decoded Form spec_event_code_of (number 1) bytes.now) }
 {
     let (number, rest) = u8_at(bytes)?;
@@ -229,7 +233,7 @@ fn event_index_of(
     last: Option<EventEntry>,
     code: EventCode,
     bytes: &[u8],
-) -> Result<(u16, &[u8]), Fault>
+) -> Result<(u16, &[u8]), FieldFault>
     ensures { GivesFault (λ x. (x.0, x.1.now)) result (checked Form (is_after last code) (number 2) bytes.now) }
 {
     let (index, rest) = u16_at(bytes)?;
@@ -241,7 +245,7 @@ fn event_index_of(
 
 /// An event, after the event that was last.
 #[tactic(auto, unfolding(cse_image_codec::specs::Reader::then_at, cse_image_codec::specs::Reader::done, crate::specs::Reading::zero_at, crate::specs::Reading::event_at))]
-fn event_of(last: Option<EventEntry>, bytes: &[u8]) -> Result<(EventEntry, &[u8]), Fault>
+fn event_of(last: Option<EventEntry>, bytes: &[u8]) -> Result<(EventEntry, &[u8]), FieldFault>
     ensures { GivesFault (λ x. (x.0, x.1.now)) result (event_at last bytes.now) }
 {
     let (code, rest) = event_code_of(bytes)?;
@@ -259,7 +263,7 @@ fn event_of(last: Option<EventEntry>, bytes: &[u8]) -> Result<(EventEntry, &[u8]
 }
 
 #[tactic(auto, using(cse_image_codec::proofs::Loop::many_done))]
-fn events_in(alloc: Global, count: u32, bytes: &[u8]) -> Result<(Vec<EventEntry>, &[u8]), Stop>
+fn events_in(alloc: Global, count: u32, bytes: &[u8]) -> Result<(Vec<EventEntry>, &[u8]), ReadStop>
     ensures { Gives (λ x. (x.0.items, x.1.now)) result (many (λ before. event_at (last_event before)) [] count bytes.now) }
 {
     let mut events = Vec::new(alloc);
@@ -274,7 +278,7 @@ fn events_in(alloc: Global, count: u32, bytes: &[u8]) -> Result<(Vec<EventEntry>
 
 /// The table of events: their count, then each, behind the one before it in order; and the bytes after it.
 #[tactic(auto, unfolding(cse_image_codec::specs::Reader::then_at, cse_image_codec::specs::Reader::counted))]
-pub fn events_of(alloc: Global, bytes: &[u8]) -> Result<(Vec<EventEntry>, &[u8]), Stop>
+pub fn events_of(alloc: Global, bytes: &[u8]) -> Result<(Vec<EventEntry>, &[u8]), ReadStop>
     ensures { Gives (λ x. (x.0.items, x.1.now)) result (counted MOST_EVENTS (λ before. event_at (last_event before)) bytes.now) }
 {
     let (count, rest) = count_at(MOST_EVENTS, bytes)?;

@@ -7,8 +7,8 @@ ghost use Rattle.cse_image_parts.specs.Codes.{item_kind_of as kind_of};
 ghost use Rattle.cse_image.specs.Reading.{flag_at, header_at, record_at, item_at, set_at};
 
 use cse_image_codec::{
-    Fault, Rule, Stop, broken, bytes_at, count_at, ended, u8_at, u16_at, u32_at, zero_u16_at,
-    zero_u24_at,
+    FieldFault, ReadStop, Rule, broken, bytes_at, count_at, ended, u8_at, u16_at, u32_at,
+    zero_u16_at, zero_u24_at,
 };
 use cse_image_parts::codes::{flag_named, item_kind_named};
 use cse_image_parts::limits::{MOST_ITEMS, MOST_RECORDS, MOST_SETS};
@@ -18,7 +18,7 @@ use std::alloc::Global;
 
 /// A byte that is 0 or 1.
 #[tactic(auto, unfolding(cse_image_codec::specs::Reader::decoded, crate::specs::Reading::flag_at))]
-pub fn flag_of(bytes: &[u8]) -> Result<(bool, &[u8]), Fault>
+pub fn flag_of(bytes: &[u8]) -> Result<(bool, &[u8]), FieldFault>
     ensures { GivesFault (λ x. (x.0, x.1.now)) result (flag_at bytes.now) }
 {
     let (code, rest) = u8_at(bytes)?;
@@ -30,7 +30,7 @@ pub fn flag_of(bytes: &[u8]) -> Result<(bool, &[u8]), Fault>
 
 /// The version.
 #[tactic(auto, unfolding(cse_image_codec::specs::Reader::checked, cse_image_codec::specs::Reader::decoded, cse_image_codec::specs::Reader::then_at, cse_image_codec::specs::Reader::done, cse_image_codec::specs::Reader::whole, crate::specs::Reading::zero_at, crate::specs::Reading::header_at))]
-pub fn header_of(bytes: &[u8]) -> Result<(Version, &[u8]), Fault>
+pub fn header_of(bytes: &[u8]) -> Result<(Version, &[u8]), FieldFault>
     ensures { GivesFault (λ x. (x.0, x.1.now)) result (header_at bytes.now) }
 {
     if bytes.len() < 8 {
@@ -49,7 +49,7 @@ pub fn header_of(bytes: &[u8]) -> Result<(Version, &[u8]), Fault>
 }
 
 #[tactic(auto, unfolding(cse_image_codec::specs::Reader::then_at, cse_image_codec::specs::Reader::done, crate::specs::Reading::zero_at, crate::specs::Reading::record_at))]
-fn record_of(bytes: &[u8]) -> Result<(RecordShape, &[u8]), Fault>
+fn record_of(bytes: &[u8]) -> Result<(RecordShape, &[u8]), FieldFault>
     ensures { GivesFault (λ x. (x.0, x.1.now)) result (record_at bytes.now) }
 {
     let (max_records, rest) = u16_at(bytes)?;
@@ -65,7 +65,11 @@ fn record_of(bytes: &[u8]) -> Result<(RecordShape, &[u8]), Fault>
 }
 
 #[tactic(auto, using(cse_image_codec::proofs::Loop::many_step, cse_image_codec::proofs::Loop::many_done))]
-fn records_in(alloc: Global, count: u32, bytes: &[u8]) -> Result<(Vec<RecordShape>, &[u8]), Stop>
+fn records_in(
+    alloc: Global,
+    count: u32,
+    bytes: &[u8],
+) -> Result<(Vec<RecordShape>, &[u8]), ReadStop>
     ensures { Gives (λ x. (x.0.items, x.1.now)) result (many (λ _. record_at) [] count bytes.now) }
 {
     let mut records = Vec::new(alloc);
@@ -80,7 +84,7 @@ fn records_in(alloc: Global, count: u32, bytes: &[u8]) -> Result<(Vec<RecordShap
 
 /// The table of records: their count, then each; and the bytes after it.
 #[tactic(auto, unfolding(cse_image_codec::specs::Reader::then_at, cse_image_codec::specs::Reader::counted))]
-pub fn records_of(alloc: Global, bytes: &[u8]) -> Result<(Vec<RecordShape>, &[u8]), Stop>
+pub fn records_of(alloc: Global, bytes: &[u8]) -> Result<(Vec<RecordShape>, &[u8]), ReadStop>
     ensures { Gives (λ x. (x.0.items, x.1.now)) result (counted MOST_RECORDS (λ _. record_at) bytes.now) }
 {
     let (count, rest) = count_at(MOST_RECORDS, bytes)?;
@@ -88,7 +92,7 @@ pub fn records_of(alloc: Global, bytes: &[u8]) -> Result<(Vec<RecordShape>, &[u8
 }
 
 #[tactic(auto, unfolding(cse_image_codec::specs::Reader::decoded))]
-fn item_kind_of(bytes: &[u8]) -> Result<(ItemKind, &[u8]), Fault>
+fn item_kind_of(bytes: &[u8]) -> Result<(ItemKind, &[u8]), FieldFault>
     ensures { GivesFault (λ x. (x.0, x.1.now)) result (decoded Form kind_of (number 1) bytes.now) }
 {
     let (code, rest) = u8_at(bytes)?;
@@ -99,7 +103,7 @@ fn item_kind_of(bytes: &[u8]) -> Result<(ItemKind, &[u8]), Fault>
 }
 
 #[tactic(auto, unfolding(cse_image_codec::specs::Reader::then_at, cse_image_codec::specs::Reader::done, crate::specs::Reading::item_at))]
-fn item_of(bytes: &[u8]) -> Result<(ItemShape, &[u8]), Fault>
+fn item_of(bytes: &[u8]) -> Result<(ItemShape, &[u8]), FieldFault>
     ensures { GivesFault (λ x. (x.0, x.1.now)) result (item_at bytes.now) }
 {
     let (owner, rest) = u8_at(bytes)?;
@@ -118,7 +122,7 @@ fn item_of(bytes: &[u8]) -> Result<(ItemShape, &[u8]), Fault>
 }
 
 #[tactic(auto, using(cse_image_codec::proofs::Loop::many_step, cse_image_codec::proofs::Loop::many_done))]
-fn items_in(alloc: Global, count: u32, bytes: &[u8]) -> Result<(Vec<ItemShape>, &[u8]), Stop>
+fn items_in(alloc: Global, count: u32, bytes: &[u8]) -> Result<(Vec<ItemShape>, &[u8]), ReadStop>
     ensures { Gives (λ x. (x.0.items, x.1.now)) result (many (λ _. item_at) [] count bytes.now) }
 {
     let mut items = Vec::new(alloc);
@@ -133,7 +137,7 @@ fn items_in(alloc: Global, count: u32, bytes: &[u8]) -> Result<(Vec<ItemShape>, 
 
 /// The table of items: their count, then each; and the bytes after it.
 #[tactic(auto, unfolding(cse_image_codec::specs::Reader::then_at, cse_image_codec::specs::Reader::counted))]
-pub fn items_of(alloc: Global, bytes: &[u8]) -> Result<(Vec<ItemShape>, &[u8]), Stop>
+pub fn items_of(alloc: Global, bytes: &[u8]) -> Result<(Vec<ItemShape>, &[u8]), ReadStop>
     ensures { Gives (λ x. (x.0.items, x.1.now)) result (counted MOST_ITEMS (λ _. item_at) bytes.now) }
 {
     let (count, rest) = count_at(MOST_ITEMS, bytes)?;
@@ -141,7 +145,7 @@ pub fn items_of(alloc: Global, bytes: &[u8]) -> Result<(Vec<ItemShape>, &[u8]), 
 }
 
 #[tactic(auto, unfolding(cse_image_codec::specs::Reader::then_at, cse_image_codec::specs::Reader::done, crate::specs::Reading::zero_at, crate::specs::Reading::set_at))]
-fn set_of(bytes: &[u8]) -> Result<(SetShape, &[u8]), Fault>
+fn set_of(bytes: &[u8]) -> Result<(SetShape, &[u8]), FieldFault>
     ensures { GivesFault (λ x. (x.0, x.1.now)) result (set_at bytes.now) }
 {
     let (item, rest) = u16_at(bytes)?;
@@ -159,7 +163,7 @@ fn set_of(bytes: &[u8]) -> Result<(SetShape, &[u8]), Fault>
 }
 
 #[tactic(auto, using(cse_image_codec::proofs::Loop::many_step, cse_image_codec::proofs::Loop::many_done))]
-fn sets_in(alloc: Global, count: u32, bytes: &[u8]) -> Result<(Vec<SetShape>, &[u8]), Stop>
+fn sets_in(alloc: Global, count: u32, bytes: &[u8]) -> Result<(Vec<SetShape>, &[u8]), ReadStop>
     ensures { Gives (λ x. (x.0.items, x.1.now)) result (many (λ _. set_at) [] count bytes.now) }
 {
     let mut sets = Vec::new(alloc);
@@ -174,7 +178,7 @@ fn sets_in(alloc: Global, count: u32, bytes: &[u8]) -> Result<(Vec<SetShape>, &[
 
 /// The table of value sets: their count, then each; and the bytes after it.
 #[tactic(auto, unfolding(cse_image_codec::specs::Reader::then_at, cse_image_codec::specs::Reader::counted))]
-pub fn sets_of(alloc: Global, bytes: &[u8]) -> Result<(Vec<SetShape>, &[u8]), Stop>
+pub fn sets_of(alloc: Global, bytes: &[u8]) -> Result<(Vec<SetShape>, &[u8]), ReadStop>
     ensures { Gives (λ x. (x.0.items, x.1.now)) result (counted MOST_SETS (λ _. set_at) bytes.now) }
 {
     let (count, rest) = count_at(MOST_SETS, bytes)?;

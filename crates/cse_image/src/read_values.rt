@@ -11,8 +11,8 @@ ghost use Rattle.cse_image.specs.Reading.{limit_at, limits_at, characters_at, te
 
 use crate::read_shape::flag_of;
 use cse_image_codec::{
-    Fault, Rule, Stop, broken, bytes_at, count_at, i64s_at, u8_at, u16_at, u32_at, u32s_at,
-    zero_u8_at,
+    FieldFault, ReadStop, Rule, broken, bytes_at, count_at, i64s_at, u8_at, u16_at, u32_at,
+    u32s_at, zero_u8_at,
 };
 use cse_image_parts::codes::global_kind_named;
 use cse_image_parts::entries::{GlobalKind, GlobalVariable, Message};
@@ -27,7 +27,7 @@ use std::alloc::Global;
 
 /// The table of the edit order: how many records, then the place of each; and the bytes after it.
 #[tactic(auto, unfolding(cse_image_codec::specs::Reader::then_at, cse_image_codec::specs::Reader::counted))]
-pub fn order_of(alloc: Global, bytes: &[u8]) -> Result<(Vec<u32>, &[u8]), Stop>
+pub fn order_of(alloc: Global, bytes: &[u8]) -> Result<(Vec<u32>, &[u8]), ReadStop>
     ensures { Gives (λ x. (x.0.items, x.1.now)) result (counted MOST_ORDER (λ _. number 4) bytes.now) }
 {
     let (count, rest) = count_at(MOST_ORDER, bytes)?;
@@ -36,7 +36,7 @@ pub fn order_of(alloc: Global, bytes: &[u8]) -> Result<(Vec<u32>, &[u8]), Stop>
 
 /// The table of constants: their count, then each; and the bytes after it.
 #[tactic(auto, unfolding(cse_image_codec::specs::Reader::then_at, cse_image_codec::specs::Reader::counted))]
-pub fn constants_of(alloc: Global, bytes: &[u8]) -> Result<(Vec<i64>, &[u8]), Stop>
+pub fn constants_of(alloc: Global, bytes: &[u8]) -> Result<(Vec<i64>, &[u8]), ReadStop>
     ensures { Gives (λ x. (x.0.items, x.1.now)) result (counted MOST_CONSTANTS (λ _. signed) bytes.now) }
 {
     let (count, rest) = count_at(MOST_CONSTANTS, bytes)?;
@@ -45,7 +45,7 @@ pub fn constants_of(alloc: Global, bytes: &[u8]) -> Result<(Vec<i64>, &[u8]), St
 
 /// A limit of a counting loop.
 #[tactic(auto, unfolding(cse_image_codec::specs::Reader::checked, crate::specs::Reading::limit_at))]
-fn limit_of(bytes: &[u8]) -> Result<(u32, &[u8]), Fault>
+fn limit_of(bytes: &[u8]) -> Result<(u32, &[u8]), FieldFault>
     ensures { GivesFault (λ x. (x.0, x.1.now)) result (limit_at bytes.now) }
 {
     let (limit, rest) = u32_at(bytes)?;
@@ -56,7 +56,7 @@ fn limit_of(bytes: &[u8]) -> Result<(u32, &[u8]), Fault>
 }
 
 #[tactic(auto, using(cse_image_codec::proofs::Loop::many_step, cse_image_codec::proofs::Loop::many_done))]
-fn limits_in(alloc: Global, count: u32, bytes: &[u8]) -> Result<(Vec<u32>, &[u8]), Stop>
+fn limits_in(alloc: Global, count: u32, bytes: &[u8]) -> Result<(Vec<u32>, &[u8]), ReadStop>
     ensures { Gives (λ x. (x.0.items, x.1.now)) result (many (λ _. limit_at) [] count bytes.now) }
 {
     let mut limits = Vec::new(alloc);
@@ -71,7 +71,11 @@ fn limits_in(alloc: Global, count: u32, bytes: &[u8]) -> Result<(Vec<u32>, &[u8]
 
 /// The table of limits, which version 1 has not.
 #[tactic(auto, unfolding(cse_image_codec::specs::Reader::then_at, cse_image_codec::specs::Reader::done, cse_image_codec::specs::Reader::counted, crate::specs::Reading::limits_at))]
-pub fn limits_of(alloc: Global, version: Version, bytes: &[u8]) -> Result<(Vec<u32>, &[u8]), Stop>
+pub fn limits_of(
+    alloc: Global,
+    version: Version,
+    bytes: &[u8],
+) -> Result<(Vec<u32>, &[u8]), ReadStop>
     ensures { Gives (λ x. (x.0.items, x.1.now)) result (limits_at version bytes.now) }
 {
     match version {
@@ -85,7 +89,7 @@ pub fn limits_of(alloc: Global, version: Version, bytes: &[u8]) -> Result<(Vec<u
 
 /// The characters of a text.
 #[tactic(auto, unfolding(cse_image_codec::specs::Reader::checked, crate::specs::Reading::characters_at))]
-fn characters_of(len: u16, bytes: &[u8]) -> Result<(&str, &[u8]), Fault>
+fn characters_of(len: u16, bytes: &[u8]) -> Result<(&str, &[u8]), FieldFault>
     ensures { GivesFault (λ x. (x.0.now, x.1.now)) result (characters_at len bytes.now) }
 {
     let (text, rest) = bytes_at(len as usize, bytes)?;
@@ -99,7 +103,7 @@ fn characters_of(len: u16, bytes: &[u8]) -> Result<(&str, &[u8]), Fault>
 }
 
 #[tactic(auto, unfolding(cse_image_codec::specs::Reader::then_at, cse_image_codec::specs::Reader::done, crate::specs::Reading::text_at))]
-fn text_of(alloc: Global, bytes: &[u8]) -> Result<(String, &[u8]), Stop>
+fn text_of(alloc: Global, bytes: &[u8]) -> Result<(String, &[u8]), ReadStop>
     ensures { Gives (λ x. (string_bytes x.0, x.1.now)) result (text_at bytes.now) }
 {
     let (len, rest) = u16_at(bytes)?;
@@ -108,7 +112,7 @@ fn text_of(alloc: Global, bytes: &[u8]) -> Result<(String, &[u8]), Stop>
 }
 
 #[tactic(auto, using(cse_image_codec::proofs::Loop::many_done))]
-fn texts_in(alloc: Global, count: u32, bytes: &[u8]) -> Result<(Vec<String>, &[u8]), Stop>
+fn texts_in(alloc: Global, count: u32, bytes: &[u8]) -> Result<(Vec<String>, &[u8]), ReadStop>
     ensures { Gives (λ x. (map string_bytes x.0.items, x.1.now)) result (many (λ _. text_at) [] count bytes.now) }
 {
     let mut texts = Vec::new(alloc);
@@ -123,7 +127,7 @@ fn texts_in(alloc: Global, count: u32, bytes: &[u8]) -> Result<(Vec<String>, &[u
 
 /// The table of texts: their count, then each; and the bytes after it.
 #[tactic(auto, unfolding(cse_image_codec::specs::Reader::then_at, cse_image_codec::specs::Reader::counted))]
-pub fn texts_of(alloc: Global, bytes: &[u8]) -> Result<(Vec<String>, &[u8]), Stop>
+pub fn texts_of(alloc: Global, bytes: &[u8]) -> Result<(Vec<String>, &[u8]), ReadStop>
     ensures { Gives (λ x. (map string_bytes x.0.items, x.1.now)) result (counted MOST_TEXTS (λ _. text_at) bytes.now) }
 {
     let (count, rest) = count_at(MOST_TEXTS, bytes)?;
@@ -131,7 +135,7 @@ pub fn texts_of(alloc: Global, bytes: &[u8]) -> Result<(Vec<String>, &[u8]), Sto
 }
 
 #[tactic(auto, unfolding(cse_image_codec::specs::Reader::decoded))]
-fn global_kind_of(bytes: &[u8]) -> Result<(GlobalKind, &[u8]), Fault>
+fn global_kind_of(bytes: &[u8]) -> Result<(GlobalKind, &[u8]), FieldFault>
     ensures { GivesFault (λ x. (x.0, x.1.now)) result (decoded Form kind_of (number 1) bytes.now) }
 {
     let (code, rest) = u8_at(bytes)?;
@@ -142,7 +146,7 @@ fn global_kind_of(bytes: &[u8]) -> Result<(GlobalKind, &[u8]), Fault>
 }
 
 #[tactic(auto, unfolding(cse_image_codec::specs::Reader::checked))]
-fn global_length_of(kind: GlobalKind, bytes: &[u8]) -> Result<(u16, &[u8]), Fault>
+fn global_length_of(kind: GlobalKind, bytes: &[u8]) -> Result<(u16, &[u8]), FieldFault>
     ensures { GivesFault (λ x. (x.0, x.1.now)) result (checked Form (fits_global_length kind) (number 2) bytes.now) }
 {
     let (length, rest) = u16_at(bytes)?;
@@ -153,7 +157,7 @@ fn global_length_of(kind: GlobalKind, bytes: &[u8]) -> Result<(u16, &[u8]), Faul
 }
 
 #[tactic(auto, unfolding(cse_image_codec::specs::Reader::then_at, cse_image_codec::specs::Reader::done, crate::specs::Reading::zero_at, crate::specs::Reading::global_at))]
-fn global_of(bytes: &[u8]) -> Result<(GlobalVariable, &[u8]), Fault>
+fn global_of(bytes: &[u8]) -> Result<(GlobalVariable, &[u8]), FieldFault>
     ensures { GivesFault (λ x. (x.0, x.1.now)) result (global_at bytes.now) }
 {
     let (kind, rest) = global_kind_of(bytes)?;
@@ -163,7 +167,11 @@ fn global_of(bytes: &[u8]) -> Result<(GlobalVariable, &[u8]), Fault>
 }
 
 #[tactic(auto, using(cse_image_codec::proofs::Loop::many_step, cse_image_codec::proofs::Loop::many_done))]
-fn globals_in(alloc: Global, count: u32, bytes: &[u8]) -> Result<(Vec<GlobalVariable>, &[u8]), Stop>
+fn globals_in(
+    alloc: Global,
+    count: u32,
+    bytes: &[u8],
+) -> Result<(Vec<GlobalVariable>, &[u8]), ReadStop>
     ensures { Gives (λ x. (x.0.items, x.1.now)) result (many (λ _. global_at) [] count bytes.now) }
 {
     let mut globals = Vec::new(alloc);
@@ -178,7 +186,7 @@ fn globals_in(alloc: Global, count: u32, bytes: &[u8]) -> Result<(Vec<GlobalVari
 
 /// The table of globals: their count, then each; and the bytes after it.
 #[tactic(auto, unfolding(cse_image_codec::specs::Reader::then_at, cse_image_codec::specs::Reader::counted))]
-pub fn globals_of(alloc: Global, bytes: &[u8]) -> Result<(Vec<GlobalVariable>, &[u8]), Stop>
+pub fn globals_of(alloc: Global, bytes: &[u8]) -> Result<(Vec<GlobalVariable>, &[u8]), ReadStop>
     ensures { Gives (λ x. (x.0.items, x.1.now)) result (counted MOST_GLOBALS (λ _. global_at) bytes.now) }
 {
     let (count, rest) = count_at(MOST_GLOBALS, bytes)?;
@@ -186,7 +194,7 @@ pub fn globals_of(alloc: Global, bytes: &[u8]) -> Result<(Vec<GlobalVariable>, &
 }
 
 #[tactic(auto, unfolding(cse_image_codec::specs::Reader::then_at, cse_image_codec::specs::Reader::done, cse_image_codec::specs::Reader::checked, crate::specs::Reading::zero_at, crate::specs::Reading::message_at))]
-fn message_of(alloc: Global, bytes: &[u8]) -> Result<(Message, &[u8]), Stop>
+fn message_of(alloc: Global, bytes: &[u8]) -> Result<(Message, &[u8]), ReadStop>
     ensures { Gives (λ x. (message_lists x.0, x.1.now)) result (message_at bytes.now) }
 {
     let (number, rest) = u32_at(bytes)?;
@@ -195,7 +203,7 @@ fn message_of(alloc: Global, bytes: &[u8]) -> Result<(Message, &[u8]), Stop>
     let (len, rest) = u16_at(rest)?;
     let (text, after) = characters_of(len, rest)?;
     if !are_few_placeholders(text.as_bytes()) {
-        return Err(Stop::from(broken(Rule::Limit, rest)));
+        return Err(ReadStop::from(broken(Rule::Limit, rest)));
     }
     Ok((
         Message {
@@ -208,7 +216,7 @@ fn message_of(alloc: Global, bytes: &[u8]) -> Result<(Message, &[u8]), Stop>
 }
 
 #[tactic(auto, using(cse_image_codec::proofs::Loop::many_done))]
-fn messages_in(alloc: Global, count: u32, bytes: &[u8]) -> Result<(Vec<Message>, &[u8]), Stop>
+fn messages_in(alloc: Global, count: u32, bytes: &[u8]) -> Result<(Vec<Message>, &[u8]), ReadStop>
     ensures { Gives (λ x. (map message_lists x.0.items, x.1.now)) result (many (λ _. message_at) [] count bytes.now) }
 {
     let mut messages = Vec::new(alloc);
@@ -223,7 +231,7 @@ fn messages_in(alloc: Global, count: u32, bytes: &[u8]) -> Result<(Vec<Message>,
 
 /// The table of messages: their count, then each; and the bytes after it.
 #[tactic(auto, unfolding(cse_image_codec::specs::Reader::then_at, cse_image_codec::specs::Reader::counted))]
-pub fn messages_of(alloc: Global, bytes: &[u8]) -> Result<(Vec<Message>, &[u8]), Stop>
+pub fn messages_of(alloc: Global, bytes: &[u8]) -> Result<(Vec<Message>, &[u8]), ReadStop>
     ensures { Gives (λ x. (map message_lists x.0.items, x.1.now)) result (counted MOST_MESSAGES (λ _. message_at) bytes.now) }
 {
     let (count, rest) = count_at(MOST_MESSAGES, bytes)?;

@@ -10,7 +10,7 @@ use crate::read_arrays::arrays_of;
 use crate::read_routines::{events_of, routines_of};
 use crate::read_shape::{items_of, records_of, sets_of};
 use crate::read_values::{constants_of, globals_of, limits_of, messages_of, order_of, texts_of};
-use cse_image_codec::Stop;
+use cse_image_codec::ReadStop;
 use cse_image_parts::entries::{Routine, Tables};
 use cse_image_parts::limits::MOST_INSTRUCTIONS;
 use cse_image_parts::version::Version;
@@ -18,7 +18,7 @@ use std::alloc::Global;
 
 /// All tables behind the header, in the order of the format, and the bytes of the code after them.
 #[tactic(auto, unfolding(cse_image_codec::specs::Reader::then_at, cse_image_codec::specs::Reader::done, crate::specs::Reading::lists_at))]
-pub fn tables_of(alloc: Global, version: Version, bytes: &[u8]) -> Result<(Tables, &[u8]), Stop>
+pub fn tables_of(alloc: Global, version: Version, bytes: &[u8]) -> Result<(Tables, &[u8]), ReadStop>
     ensures exact { Gives (λ x. (lists_of x.0, x.1.now)) result (lists_at version bytes.now) }
     ensures room { IfOk result (λ x. instructions_in (map routine_lists x.0.routines.items) ≤ MOST_INSTRUCTIONS) }
 {

@@ -219,7 +219,9 @@ fn section_of_events(out: &mut Vec<u8>, events: &[EventEntry]) -> Result<(), All
 /// Writes the sections from the records to the limits.
 fn put_early(out: &mut Vec<u8>, tables: &Tables) -> Result<(), AllocError>
     requires { ListsFit versions.Two (lists_of tables.now) }
-    ensures { OnOk result (out.new.items ≡ out.old.items ++ (section record_shape tables.now.records.items ⧺ section item_shape tables.now.items.items ⧺ section set_shape tables.now.sets.items ⧺ section u32_spelling tables.now.order.items ⧺ section i64_spelling tables.now.constants.items ⧺ section u32_spelling tables.now.limits.items)) }
+    ensures { OnOk result (out.new.items ≡ out.old.items ++ (section record_shape tables.now.records.items ⧺ section item_shape tables.now.items.items
+        ⧺ section set_shape tables.now.sets.items ⧺ section u32_spelling tables.now.order.items ⧺ section i64_spelling tables.now.constants.items
+        ⧺ section u32_spelling tables.now.limits.items)) }
 {
     section_of_records(out, &tables.records)?;
     section_of_items(out, &tables.items)?;
@@ -232,7 +234,10 @@ fn put_early(out: &mut Vec<u8>, tables: &Tables) -> Result<(), AllocError>
 /// Writes the sections from the texts to the events.
 fn put_late(out: &mut Vec<u8>, tables: &Tables) -> Result<(), AllocError>
     requires { ListsFit versions.Two (lists_of tables.now) }
-    ensures { OnOk result (out.new.items ≡ out.old.items ++ (section text_spelling (map string_bytes tables.now.texts.items) ⧺ section global_spelling tables.now.globals.items ⧺ section array_spelling (map array_lists tables.now.arrays.items) ⧺ section message_spelling (map message_lists tables.now.messages.items) ⧺ section routine_spelling (map routine_lists tables.now.routines.items) ⧺ section event_spelling tables.now.events.items)) }
+    ensures { OnOk result (out.new.items ≡ out.old.items ++ (section text_spelling (map string_bytes tables.now.texts.items)
+        ⧺ section global_spelling tables.now.globals.items ⧺ section array_spelling (map array_lists tables.now.arrays.items)
+        ⧺ section message_spelling (map message_lists tables.now.messages.items) ⧺ section routine_spelling (map routine_lists tables.now.routines.items)
+        ⧺ section event_spelling tables.now.events.items)) }
 {
     section_of_texts(out, &tables.texts)?;
     section_of_globals(out, &tables.globals)?;

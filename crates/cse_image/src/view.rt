@@ -19,7 +19,7 @@ use crate::program::Program;
 use crate::read_code::instr_of;
 use crate::read_shape::header_of;
 use crate::reading::{tables_of, total_of};
-use cse_image_codec::{Fault, Rule, Stop, broken};
+use cse_image_codec::{FieldFault, ReadStop, Rule, broken};
 use cse_image_parts::entries::{Routine, Tables};
 use cse_image_parts::instruction::Instr;
 use cse_image_parts::limits::MOST_INSTRUCTIONS;
@@ -193,7 +193,7 @@ fn bytes_before<'a>(bytes: &'a [u8], rest: &[u8]) -> &'a [u8]
 }
 
 /// So many instructions, read and not kept, and what follows them.
-fn view_code(version: Version, count: u32, bytes: &[u8]) -> Result<(&[u8], &[u8]), Fault>
+fn view_code(version: Version, count: u32, bytes: &[u8]) -> Result<(&[u8], &[u8]), FieldFault>
     ensures exact { GivesFault (λ x. (code_in version x.0.now, x.1.now)) result (each (instr_at version) count bytes.now) }
     ensures code { IfOk result (λ x. IsCodeOf version (code_in version x.0.now) x.0.now) }
 {
@@ -209,9 +209,10 @@ fn view_code_of<'a>(
     version: Version,
     routines: &[Routine],
     bytes: &'a [u8],
-) -> Result<(&'a [u8], &'a [u8]), Fault>
+) -> Result<(&'a [u8], &'a [u8]), FieldFault>
     requires { instructions_in (map routine_lists routines.now) ≤ MOST_INSTRUCTIONS }
-    ensures exact { GivesFault (λ x. (code_in version x.0.now, x.1.now)) result (each (instr_at version) (instructions_in (map routine_lists routines.now)) bytes.now) }
+    ensures exact { GivesFault (λ x. (code_in version x.0.now, x.1.now)) result
+        (each (instr_at version) (instructions_in (map routine_lists routines.now)) bytes.now) }
     ensures code { IfOk result (λ x. IsCodeOf version (code_in version x.0.now) x.0.now) }
 {
     let count = total_of(routines);
@@ -220,7 +221,7 @@ fn view_code_of<'a>(
 
 /// The version, the tables and the code that the bytes begin with, and what follows them.
 #[tactic(auto, unfolding(cse_image_codec::specs::Reader::then_at, cse_image_codec::specs::Reader::done, crate::specs::Reading::edition_at))]
-fn parts_of(alloc: Global, bytes: &[u8]) -> Result<((Version, Tables, &[u8]), &[u8]), Stop>
+fn parts_of(alloc: Global, bytes: &[u8]) -> Result<((Version, Tables, &[u8]), &[u8]), ReadStop>
     ensures exact { Gives (λ x. (edition x.0.0 (image_with x.0.1 (code_in x.0.0 x.0.2.now)), x.1.now)) result (edition_at bytes.now) }
     ensures code { IfOk result (λ x. IsCodeOf x.0.0 (code_in x.0.0 x.0.2.now) x.0.2.now) }
 {
@@ -232,13 +233,13 @@ fn parts_of(alloc: Global, bytes: &[u8]) -> Result<((Version, Tables, &[u8]), &[
 
 /// All of the bytes are one image.
 #[tactic(auto, unfolding(crate::specs::Reading::whole_edition))]
-fn whole_edition(alloc: Global, bytes: &[u8]) -> Result<(Version, Tables, &[u8]), Stop>
+fn whole_edition(alloc: Global, bytes: &[u8]) -> Result<(Version, Tables, &[u8]), ReadStop>
     ensures exact { Gives (λ x. edition x.0 (image_with x.1 (code_in x.0 x.2.now))) result (spec_whole_edition bytes.now) }
     ensures code { IfOk result (λ x. IsCodeOf x.0 (code_in x.0 x.2.now) x.2.now) }
 {
     let (parts, rest) = parts_of(alloc, bytes)?;
     if !rest.is_empty() {
-        return Err(Stop::from(broken(Rule::LeftOver, rest)));
+        return Err(ReadStop::from(broken(Rule::LeftOver, rest)));
     }
     Ok(parts)
 }
@@ -264,7 +265,7 @@ fn as_view<'a>(
 }
 
 #[tactic(auto, unfolding(crate::specs::Reading::reading))]
-fn whole_view(alloc: Global, bytes: &[u8]) -> Result<(Tables, CodeView), Stop>
+fn whole_view(alloc: Global, bytes: &[u8]) -> Result<(Tables, CodeView), ReadStop>
     ensures { Gives (λ x. image_with x.0 x.1) result (reading bytes.now) }
 {
     let (version, tables, code) = whole_edition(alloc, bytes)?;

@@ -14,7 +14,7 @@ use Rattle.std.specs.Int.{w64, byte_at, bytes_low_first, cast_signed, cast_unsig
 use Rattle.byteorder.specs.Endian.{little_number, little_bytes}
 use Rattle.byteorder.specs.Numbers.{little_from-cons, little_from-lt, little_number-reads_back, length-bytes_low_first}
 use Rattle.cse_image_codec.specs.declared.fault.Rule.{Rule}
-use Rattle.cse_image_codec.specs.declared.fault.Fault.{Fault}
+use Rattle.cse_image_codec.specs.declared.fault.FieldFault.{FieldFault}
 use Rattle.cse_image_codec.specs.Reader.{Reader, IsBytes, fault, ended, and_then, then_at, done, some_bytes, number, signed, each, counted, whole, checked, kept, decoded, many, AllAfter}
 
 IsBytes-drop : (n : ℕ) (bytes : List ℕ) → IsBytes bytes → IsBytes (drop n bytes)
@@ -43,14 +43,14 @@ pub record Laws {A : Type 0} (read : Reader A) (write : A → List ℕ) (Fits : 
   pub takes : (bytes : List ℕ) (x : A × List ℕ) → IsBytes bytes → read bytes ≡ Ok x → Takes bytes (write x.0) x.1 × Fits x.0
   pub again : (a : A) (rest : List ℕ) → Fits a → read (write a ++ rest) ≡ Ok (a, rest)
 
-abbrev ok : {A : Type 0} → A → Result A Fault
+abbrev ok : {A : Type 0} → A → Result A FieldFault
 ok x = Ok x
 
 ok_is : {A : Type 0} (x y : A) → ok x ≡ ok y → x ≡ y
 ok_is x y e = cc
 
 -- the value of a step that did not fail
-pub and_then_ok : {A B : Type 0} (r : Result (A × List ℕ) Fault) (k : A → Reader B) (y : B × List ℕ) → and_then r k ≡ Ok y → (x : A × List ℕ) × (r ≡ Ok x) × (k x.0 x.1 ≡ Ok y)
+pub and_then_ok : {A B : Type 0} (r : Result (A × List ℕ) FieldFault) (k : A → Reader B) (y : B × List ℕ) → and_then r k ≡ Ok y → (x : A × List ℕ) × (r ≡ Ok x) × (k x.0 x.1 ≡ Ok y)
 and_then_ok (Ok x) k y e = (x, refl, e)
 and_then_ok (Err d) k y e = absurd cc
 
@@ -123,7 +123,7 @@ respell {A} {r} {w} {F} v laws same = record {
   again = λ a rest h. subst (λ (y : List ℕ). r (y ++ rest) ≡ Ok (a, rest)) (same a h) (laws.again a rest h);
 }
 
-test_ok : {A : Type 0} (b : Bool) (d : Fault) (x y : A) → cond b (ok x) (Err d) ≡ Ok y → (b ≡ true) × (x ≡ y)
+test_ok : {A : Type 0} (b : Bool) (d : FieldFault) (x y : A) → cond b (ok x) (Err d) ≡ Ok y → (b ≡ true) × (x ≡ y)
 test_ok true d x y e = (refl, cc)
 test_ok false d x y e = absurd cc
 
@@ -138,7 +138,7 @@ checked_laws {A} {r} {w} {F} rule test laws = record {
   again = λ a rest h. rw (laws.again a rest h.0, h.1) refl;
 }
 
-kept_ok : {A B : Type 0} (o : Option A) (rest : B) (d : Fault) (x : A × B) → kept o rest d ≡ Ok x → (o ≡ Some x.0) × (rest ≡ x.1)
+kept_ok : {A B : Type 0} (o : Option A) (rest : B) (d : FieldFault) (x : A × B) → kept o rest d ≡ Ok x → (o ≡ Some x.0) × (rest ≡ x.1)
 kept_ok None rest d x e = absurd cc
 kept_ok (Some a) rest d x e = let same : (a, rest) ≡ x = ok_is (a, rest) x e in (ap (λ (y : _ × _). Some y.0) same, ap (λ (y : _ × _). y.1) same)
 
@@ -190,7 +190,7 @@ many_laws {A} {item} {w} {P} n laws = record {
   again = λ xs rest h. subst (λ (k : ℕ). many item [] k (flat_map w xs ++ rest) ≡ Ok (xs, rest)) h.1 (many_again item w P laws xs [] rest h.0);
 }
 
-bytes_test : {A : Type 0} (b : Bool) (d : Fault) (x y : A) → cond b (Err d) (ok x) ≡ Ok y → (b ≡ false) × (x ≡ y)
+bytes_test : {A : Type 0} (b : Bool) (d : FieldFault) (x y : A) → cond b (Err d) (ok x) ≡ Ok y → (b ≡ false) × (x ≡ y)
 bytes_test true d x y e = absurd cc
 bytes_test false d x y e = (refl, cc)
 
@@ -218,7 +218,7 @@ little_from-spelled (x ∷ xs) fits =
     let high : (x + 256 * n) / 256 ≡ n = omega (arith, fits 0) in
     rw (whole, low, bytes_low_first-up 0 (length xs) (x + 256 * n), high) (ap (λ (r : List ℕ). x ∷ r) ih)
 
-number_ok : {A B : Type 0} (r : Result (A × List ℕ) Fault) (make : A → B) (x : B × List ℕ) → and_then r (λ a rest. Ok (make a, rest)) ≡ Ok x → (p : A × List ℕ) × (r ≡ Ok p) × ((make p.0, p.1) ≡ x)
+number_ok : {A B : Type 0} (r : Result (A × List ℕ) FieldFault) (make : A → B) (x : B × List ℕ) → and_then r (λ a rest. Ok (make a, rest)) ≡ Ok x → (p : A × List ℕ) × (r ≡ Ok p) × ((make p.0, p.1) ≡ x)
 number_ok (Ok p) make x e = (p, refl, ok_is (make p.0, p.1) x e)
 number_ok (Err d) make x e = absurd cc
 
@@ -240,7 +240,7 @@ number_laws k = record {
 
 number_is : (k : ℕ) (bytes : List ℕ) (p : List ℕ × List ℕ) → some_bytes k bytes ≡ Ok p → number k bytes ≡ Ok (little_number k p.0, p.1)
 unfolding number
-number_is k bytes p e = ap (λ (r : Result (List ℕ × List ℕ) Fault). and_then r (λ front rest. Ok (little_number k front, rest))) e
+number_is k bytes p e = ap (λ (r : Result (List ℕ × List ℕ) FieldFault). and_then r (λ front rest. Ok (little_number k front, rest))) e
 
 bits_fit : (z : ℤ) → FitsSigned w64 z → cast_unsigned w64 z < 256 ^ 8
 bits_fit (pos n) fits = let h = fits.sfits in omega arith
@@ -287,7 +287,7 @@ counted_laws {A} {item} {w} {P} limit lt laws =
     (λ xs g. (record { count = subst (λ (k : ℕ). leb k limit ≡ true) (sym g.1) h.1; each = g.0 }, g.1))
     (λ xs g. (g.0.each, g.1)))
 
-whole_ok : {A : Type 0} (b : Bool) (r : Result A Fault) (x : A) → cond b (Err ended) r ≡ Ok x → r ≡ Ok x
+whole_ok : {A : Type 0} (b : Bool) (r : Result A FieldFault) (x : A) → cond b (Err ended) r ≡ Ok x → r ≡ Ok x
 whole_ok true r x e = absurd cc
 whole_ok false r x e = e
 

@@ -5,19 +5,19 @@ use Rattle.std.specs.Int.{w64, cast_signed}
 use Rattle.byteorder.specs.Endian.{little_number}
 use Rattle.cse_image_codec.specs.declared.fault.Rule.{Rule}
 use Rattle.cse_image_codec.specs.declared.fault.Rule.TheVariants.{Ended, LeftOver, Limit}
-use Rattle.cse_image_codec.specs.declared.fault.Fault.{Fault}
-use Rattle.cse_image_codec.specs.declared.fault.Stop.{Stop}
-use Rattle.cse_image_codec.specs.declared.fault.Stop.TheVariants as stops
+use Rattle.cse_image_codec.specs.declared.fault.FieldFault.{FieldFault}
+use Rattle.cse_image_codec.specs.declared.fault.ReadStop.{ReadStop}
+use Rattle.cse_image_codec.specs.declared.fault.ReadStop.TheVariants as stops
 
 abbrev pub Reader : Type 0 → Type 0
-Reader A = List ℕ → Result (A × List ℕ) Fault
+Reader A = List ℕ → Result (A × List ℕ) FieldFault
 
 -- The field at the front of these bytes breaks the rule. Its place is told by the bytes from there to the end.
-abbrev pub fault : Rule → List ℕ → Fault
+abbrev pub fault : Rule → List ℕ → FieldFault
 fault rule field = record { rule = rule; left = length field }
 
 -- A field is not whole: the place is the end.
-abbrev pub ended : Fault
+abbrev pub ended : FieldFault
 ended = record { rule = Ended; left = 0 }
 
 -- Each is a byte.
@@ -25,21 +25,21 @@ abbrev pub IsBytes : List ℕ → Type 0
 IsBytes bytes = (i : ℕ) → slice_index bytes i < 256
 
 -- Why a function stopped is what reading gives, unless memory ran out.
-abbrev pub Fails : {Y : Type 0} → Stop → Result Y Fault → Type 0
+abbrev pub Fails : {Y : Type 0} → ReadStop → Result Y FieldFault → Type 0
 Fails stops.Memory read = Unit {0}
 Fails (stops.Fault f) read = read ≡ Err f
 
 -- What a function returned, seen by view, is what reading gives, unless memory ran out.
-abbrev pub Gives : {X Y : Type 0} → (X → Y) → Result X Stop → Result Y Fault → Type 0
+abbrev pub Gives : {X Y : Type 0} → (X → Y) → Result X ReadStop → Result Y FieldFault → Type 0
 Gives view (Ok x) read = read ≡ Ok (view x)
 Gives view (Err e) read = Fails e read
 
 -- The same of a function that takes no memory.
-abbrev pub GivesFault : {X Y : Type 0} → (X → Y) → Result X Fault → Result Y Fault → Type 0
+abbrev pub GivesFault : {X Y : Type 0} → (X → Y) → Result X FieldFault → Result Y FieldFault → Type 0
 GivesFault view (Ok x) read = read ≡ Ok (view x)
 GivesFault view (Err f) read = read ≡ Err f
 
-abbrev pub and_then : {A B : Type 0} → Result (A × List ℕ) Fault → (A → Reader B) → Result (B × List ℕ) Fault
+abbrev pub and_then : {A B : Type 0} → Result (A × List ℕ) FieldFault → (A → Reader B) → Result (B × List ℕ) FieldFault
 and_then (Ok x) k = k x.0 x.1
 and_then (Err e) k = Err e
 
@@ -68,7 +68,7 @@ signed bytes = and_then (some_bytes 8 bytes) (λ front rest. Ok (cast_signed w64
 unfoldable pub checked : {A : Type 0} → Rule → (A → Bool) → Reader A → Reader A
 checked rule ok r bytes = and_then (r bytes) (λ a rest. if ok a then Ok (a, rest) else Err (fault rule bytes))
 
-abbrev pub kept : {A B : Type 0} → Option A → B → Fault → Result (A × B) Fault
+abbrev pub kept : {A B : Type 0} → Option A → B → FieldFault → Result (A × B) FieldFault
 kept None rest f = Err f
 kept (Some a) rest f = Ok (a, rest)
 
@@ -101,6 +101,6 @@ unfoldable pub whole : {A : Type 0} → ℕ → Reader A → Reader A
 whole n r bytes = if nat_lt (length bytes) n then Err ended else r bytes
 
 -- all of the bytes
-abbrev pub without_rest : {A : Type 0} → Result (A × List ℕ) Fault → Result A Fault
+abbrev pub without_rest : {A : Type 0} → Result (A × List ℕ) FieldFault → Result A FieldFault
 without_rest (Ok x) = if length x.1 == 0 then Ok x.0 else Err (fault LeftOver x.1)
 without_rest (Err e) = Err e

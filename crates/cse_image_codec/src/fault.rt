@@ -1,12 +1,12 @@
 //! Why bytes have no meaning in a format.
 
 ghost use Rattle.std.specs.Prelude.{◌≡◌, ◌-◌};
-ghost use Rattle.cse_image_codec.specs.declared.fault.Stop.TheVariants as stops;
+ghost use Rattle.cse_image_codec.specs.declared.fault.ReadStop.TheVariants as stops;
 
 use std::alloc::{AllocError, AllocFailed};
 
 /// The rule that a field breaks, with its number.
-#[derive(Clone, Copy, Debug, PartialEq, Eq)]
+#[derive(Clone, Copy, PartialEq, Eq)]
 pub enum Rule {
     /// The magic bytes or the version.
     Header = 60,
@@ -21,39 +21,39 @@ pub enum Rule {
 }
 
 /// The first rule that is broken, and how many bytes stand from the field that breaks it to the end.
-#[derive(Clone, Copy, Debug, PartialEq, Eq)]
-pub struct Fault {
+#[derive(Clone, Copy, PartialEq, Eq)]
+pub struct FieldFault {
     pub rule: Rule,
     pub left: usize,
 }
 
 /// Why reading stopped: memory ran out, or the bytes are at fault.
-#[derive(Clone, Copy, Debug, PartialEq, Eq)]
-pub enum Stop {
+#[derive(Clone, Copy, PartialEq, Eq)]
+pub enum ReadStop {
     Memory,
-    Fault(Fault),
+    Fault(FieldFault),
 }
 
-impl From<Fault> for Stop {
+impl From<FieldFault> for ReadStop {
     ghost from_gives = { λ f e. e ≡ stops.Fault f };
 
-    fn from(fault: Fault) -> Stop {
-        Stop::Fault(fault)
+    fn from(fault: FieldFault) -> ReadStop {
+        ReadStop::Fault(fault)
     }
 }
 
-impl From<AllocError> for Stop {
+impl From<AllocError> for ReadStop {
     ghost from_gives = { λ _ e. e ≡ stops.Memory };
 
-    fn from(_e: AllocError) -> Stop {
-        Stop::Memory
+    fn from(_e: AllocError) -> ReadStop {
+        ReadStop::Memory
     }
 }
 
-impl<T: Drop> From<AllocFailed<T>> for Stop {
+impl<T: Drop> From<AllocFailed<T>> for ReadStop {
     ghost from_gives = { λ _ e. e ≡ stops.Memory };
 
-    fn from(_e: AllocFailed<T>) -> Stop {
-        Stop::Memory
+    fn from(_e: AllocFailed<T>) -> ReadStop {
+        ReadStop::Memory
     }
 }

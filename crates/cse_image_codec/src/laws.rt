@@ -28,5 +28,6 @@ pub fn signed_read_again()
 
 /// What holds of each number after those before it holds at each place.
 pub fn number_after_others()
-    ensures { (test : List ℕ → ℕ → Bool) (xs : List ℕ) (i : ℕ) → AllAfter (λ before x. IsTrue (test before x)) [] xs → i < length xs → IsTrue (test (take i xs) (slice_index xs i)) }
+    ensures { (test : List ℕ → ℕ → Bool) (xs : List ℕ) (i : ℕ) → AllAfter (λ before x. IsTrue (test before x)) [] xs → i < length xs
+        → IsTrue (test (take i xs) (slice_index xs i)) }
 {}

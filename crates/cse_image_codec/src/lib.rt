@@ -8,7 +8,7 @@ mod laws;
 mod lists;
 mod writing;
 
-pub use fault::{Fault, Rule, Stop};
+pub use fault::{FieldFault, ReadStop, Rule};
 pub use fields::{
     broken, bytes_at, count_at, ended, i64_at, u8_at, u16_at, u32_at, zero_u8_at, zero_u16_at,
     zero_u24_at,

@@ -3,13 +3,13 @@
 ghost use Rattle.std.specs.Prelude.{◌≡◌, FitsSigned};
 ghost use Rattle.cse_image_codec.specs.Reader.{Gives, number, signed, each};
 
-use crate::fault::Stop;
+use crate::fault::ReadStop;
 use crate::fields::{i64_at, u32_at};
 use std::alloc::Global;
 
 /// So many numbers of 64 bits.
 #[tactic(auto, using(crate::proofs::Loop::many_step, crate::proofs::Loop::many_faults, crate::proofs::Loop::many_done))]
-pub fn i64s_at(alloc: Global, count: u32, bytes: &[u8]) -> Result<(Vec<i64>, &[u8]), Stop>
+pub fn i64s_at(alloc: Global, count: u32, bytes: &[u8]) -> Result<(Vec<i64>, &[u8]), ReadStop>
     ensures { Gives (λ x. (x.0.items, x.1.now)) result (each signed count bytes.now) }
 {
     let mut numbers = Vec::new(alloc);
@@ -24,7 +24,7 @@ pub fn i64s_at(alloc: Global, count: u32, bytes: &[u8]) -> Result<(Vec<i64>, &[u
 
 /// So many numbers of 32 bits.
 #[tactic(auto, using(crate::proofs::Loop::many_step, crate::proofs::Loop::many_faults, crate::proofs::Loop::many_done))]
-pub fn u32s_at(alloc: Global, count: u32, bytes: &[u8]) -> Result<(Vec<u32>, &[u8]), Stop>
+pub fn u32s_at(alloc: Global, count: u32, bytes: &[u8]) -> Result<(Vec<u32>, &[u8]), ReadStop>
     ensures { Gives (λ x. (x.0.items, x.1.now)) result (each (number 4) count bytes.now) }
 {
     let mut numbers = Vec::new(alloc);

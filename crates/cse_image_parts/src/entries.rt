@@ -4,14 +4,14 @@ use crate::instruction::Instr;
 use cse_value::shape::{ItemShape, RecordShape, SetShape};
 
 /// The kind of a global's value.
-#[derive(Clone, Copy, Debug, PartialEq, Eq)]
+#[derive(Clone, Copy, PartialEq, Eq)]
 pub enum GlobalKind {
     Number = 1,
     Text = 2,
 }
 
 /// A variable that keeps its value over the whole run.
-#[derive(Clone, Copy, Debug, PartialEq, Eq)]
+#[derive(Clone, Copy, PartialEq, Eq)]
 pub struct GlobalVariable {
     pub kind: GlobalKind,
     /// The declared length of a text, in characters from 1 to 255; 0 for a number.
@@ -19,7 +19,7 @@ pub struct GlobalVariable {
 }
 
 /// The kind of a local's value.
-#[derive(Clone, Copy, Debug, PartialEq, Eq)]
+#[derive(Clone, Copy, PartialEq, Eq)]
 pub enum LocalKind {
     Number = 1,
     Text = 2,
@@ -28,7 +28,7 @@ pub enum LocalKind {
 }
 
 /// A variable of one call.
-#[derive(Clone, Copy, Debug, PartialEq, Eq)]
+#[derive(Clone, Copy, PartialEq, Eq)]
 pub struct Local {
     pub kind: LocalKind,
     /// The record of an occurrence; 0 for another kind.
@@ -38,7 +38,7 @@ pub struct Local {
 }
 
 /// An array of numbers, the last index fastest.
-#[derive(Debug, Drop)]
+#[derive(Drop)]
 pub struct Array {
     /// Its cells are kept from one run to the next.
     pub saved: bool,
@@ -50,7 +50,7 @@ pub struct Array {
 }
 
 /// A message that code may list.
-#[derive(Debug, Drop)]
+#[derive(Drop)]
 pub struct Message {
     /// The number in the message file, or 0.
     pub number: u32,
@@ -60,7 +60,7 @@ pub struct Message {
 }
 
 /// What code of a routine may ask for.
-#[derive(Clone, Copy, Debug, PartialEq, Eq)]
+#[derive(Clone, Copy, PartialEq, Eq)]
 pub enum Ambient {
     /// What stays over the whole run.
     Run = 0,
@@ -69,7 +69,7 @@ pub enum Ambient {
 }
 
 /// What a call of a routine leaves.
-#[derive(Clone, Copy, Debug, PartialEq, Eq)]
+#[derive(Clone, Copy, PartialEq, Eq)]
 pub enum Gift {
     Nothing = 0,
     Number = 1,
@@ -78,7 +78,7 @@ pub enum Gift {
 }
 
 /// A routine, without its code.
-#[derive(Debug, Drop)]
+#[derive(Drop)]
 pub struct Routine {
     pub ambient: Ambient,
     pub gives: Gift,
@@ -90,7 +90,7 @@ pub struct Routine {
 }
 
 /// The moments at which a batch runs a routine.
-#[derive(Clone, Copy, Debug, PartialEq, Eq)]
+#[derive(Clone, Copy, PartialEq, Eq)]
 pub enum EventCode {
     ApplicationPreproc = 0,
     ApplicationPostproc = 1,
@@ -103,7 +103,7 @@ pub enum EventCode {
 }
 
 /// A moment of a batch: of the application, the level, a record or an item.
-#[derive(Clone, Copy, Debug, PartialEq, Eq)]
+#[derive(Clone, Copy, PartialEq, Eq)]
 pub struct Event {
     pub code: EventCode,
     /// The number of the record or item, else 0.
@@ -111,7 +111,7 @@ pub struct Event {
 }
 
 /// An event, and the routine that it runs.
-#[derive(Clone, Copy, Debug, PartialEq, Eq)]
+#[derive(Clone, Copy, PartialEq, Eq)]
 pub struct EventEntry {
     pub code: EventCode,
     /// The number of the record or item, else 0.
@@ -120,7 +120,7 @@ pub struct EventEntry {
 }
 
 /// All sections of an image after its header, one list each.
-#[derive(Debug, Drop)]
+#[derive(Drop)]
 pub struct Parts {
     pub records: Vec<RecordShape>,
     pub items: Vec<ItemShape>,
@@ -141,7 +141,6 @@ pub struct Parts {
 }
 
 /// All sections but the code.
-#[derive(Debug)]
 pub struct Tables {
     pub records: Vec<RecordShape>,
     pub items: Vec<ItemShape>,

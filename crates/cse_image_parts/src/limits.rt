@@ -3,29 +3,39 @@
 ghost use Rattle.std.specs.Prelude.{◌≡◌};
 ghost use Rattle.cse_image_parts.specs.Limits.{most_records, most_items, most_sets, most_order, most_constants, most_limits, most_texts, most_globals, most_arrays, most_messages, most_routines, most_events, most_dimensions, most_cells, most_instructions, most_characters, most_name_bytes, most_placeholders};
 
+/// The most records.
 pub const MOST_RECORDS: usize = 200;
 
+/// The most items.
 pub const MOST_ITEMS: usize = 10_000;
 
+/// The most value sets.
 pub const MOST_SETS: usize = 10_000;
 /// Entries of the records' edit order.
 pub const MOST_ORDER: usize = 200;
 
+/// The most constants.
 pub const MOST_CONSTANTS: usize = 65_536;
 
 /// Entries of the table of limits.
 pub const MOST_LIMITS: usize = 65_536;
 
+/// The most texts.
 pub const MOST_TEXTS: usize = 65_536;
 
+/// The most global variables.
 pub const MOST_GLOBALS: usize = 65_536;
 
+/// The most arrays.
 pub const MOST_ARRAYS: usize = 4_096;
 
+/// The most messages.
 pub const MOST_MESSAGES: usize = 65_536;
 
+/// The most routines.
 pub const MOST_ROUTINES: usize = 4_096;
 
+/// The most events that have a routine.
 pub const MOST_EVENTS: usize = 50_000;
 /// Dimensions of one array.
 pub const MOST_DIMENSIONS: usize = 3;

@@ -72,8 +72,8 @@ pub fn op_number(op: Op) -> u8
 }
 
 /// The numbers from low to high.
-#[derive(Clone, Copy, Debug, PartialEq, Eq)]
-pub struct Numbers {
+#[derive(Clone, Copy, PartialEq, Eq)]
+pub struct FieldRange {
     low: u32,
     high: u32,
 }
@@ -81,43 +81,43 @@ pub struct Numbers {
 /// What the fields of an opcode may hold; `c_else` is for c where a is not 0.
 #[derive(Drop)]
 struct Fields {
-    a: Numbers,
-    b: Numbers,
-    c: Numbers,
-    c_else: Numbers,
+    a: FieldRange,
+    b: FieldRange,
+    c: FieldRange,
+    c_else: FieldRange,
 }
 
 /// 0 alone: the opcode has no such field.
-const NONE: Numbers = Numbers { low: 0, high: 0 };
+const NONE: FieldRange = FieldRange { low: 0, high: 0 };
 
 /// A number in a table of the image, or a place: any.
-const ANY: Numbers = Numbers {
+const ANY: FieldRange = FieldRange {
     low: 0,
     high: 4294967295,
 };
 
 /// The number of a record.
-const RECORD: Numbers = Numbers { low: 0, high: 255 };
+const RECORD: FieldRange = FieldRange { low: 0, high: 255 };
 
 /// The number of a value set.
-const SET: Numbers = Numbers {
+const SET: FieldRange = FieldRange {
     low: 0,
     high: 65535,
 };
 
 /// The place of a limit.
-const LIMIT: Numbers = Numbers {
+const LIMIT: FieldRange = FieldRange {
     low: 0,
     high: 65535,
 };
 
 /// The limit of an index: from 1.
-const POSITIVE: Numbers = Numbers {
+const POSITIVE: FieldRange = FieldRange {
     low: 1,
     high: 65535,
 };
 
-impl Numbers {
+impl FieldRange {
     fn have(&self, n: u32) -> bool
         ensures { result ≡ lies_in (range self.now) n }
     {
@@ -125,10 +125,10 @@ impl Numbers {
     }
 }
 
-fn up_to(high: u32) -> Numbers
+fn up_to(high: u32) -> FieldRange
     ensures { range result ≡ spec_up_to high }
 {
-    Numbers { low: 0, high }
+    FieldRange { low: 0, high }
 }
 
 /// The table, a line for the opcodes with the same fields.

@@ -15,14 +15,14 @@ ghost use Rattle.cse_image_parts.specs.Written.{written, IsWritable, BeginsNoPie
 use crate::limits::MOST_PLACEHOLDERS;
 
 /// The kind of an argument of a message.
-#[derive(Clone, Copy, Debug, PartialEq, Eq)]
+#[derive(Clone, Copy, PartialEq, Eq)]
 pub enum ArgumentKind {
     Number,
     Text,
 }
 
 /// A piece of a message's text.
-#[derive(Clone, Copy, Debug, PartialEq, Eq)]
+#[derive(Clone, Copy, PartialEq, Eq)]
 pub enum Piece {
     /// A byte that stands for itself.
     Plain(u8),
@@ -144,7 +144,7 @@ fn first_piece(text: &[u8]) -> Option<(Piece, &[u8])>
 }
 
 /// The pieces of a text, the bytes of its UTF-8, from the front.
-#[derive(Clone, Copy, Debug)]
+#[derive(Clone, Copy)]
 pub struct Pieces<'a> {
     rest: &'a [u8],
 }
@@ -173,7 +173,7 @@ impl<'a> Iterator for Pieces<'a> {
 }
 
 /// The kinds of the arguments that a text takes, in order.
-#[derive(Clone, Copy, Debug)]
+#[derive(Clone, Copy)]
 pub struct Kinds<'a> {
     pieces: Pieces<'a>,
 }

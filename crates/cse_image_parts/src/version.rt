@@ -12,7 +12,7 @@ use crate::entries::Gift;
 use crate::instruction::Op;
 
 /// A version of the image format.
-#[derive(Clone, Copy, Debug, PartialEq, Eq)]
+#[derive(Clone, Copy, PartialEq, Eq)]
 pub enum Version {
     One = 1,
     Two = 2,
@@ -73,5 +73,6 @@ pub fn holds_limit(version: Version, op: Op) -> bool
 /// Law: a counting loop of an upgraded program may take as many turns as it might before.
 #[tactic(auto, using(crate::proofs::UpgradeLaws::turns_kept))]
 pub fn upgrade_keeps_turns()
-    ensures { (code : List AnInstr) (i : ℕ) (x : AnInstr) → slice_get code i ≡ Some x → is_counting x.op ≡ true → 1 ≤ x.b → x.b < 65536 → limit_of (one_to (greatest_limit code)) (upgrade_instr x).b ≡ limit_of (zero_below 65536) x.b }
+    ensures { (code : List AnInstr) (i : ℕ) (x : AnInstr) → slice_get code i ≡ Some x → is_counting x.op
+        ≡ true → 1 ≤ x.b → x.b < 65536 → limit_of (one_to (greatest_limit code)) (upgrade_instr x).b ≡ limit_of (zero_below 65536) x.b }
 {}

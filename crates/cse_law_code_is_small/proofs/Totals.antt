@@ -13,7 +13,7 @@ use Rattle.cse_law_code_is_small.specs.Entries.{Table, entries}
 use Rattle.cse_law_code_is_small.specs.Measure.{tokens}
 use Rattle.cse_law_code_is_small.proofs.Sizes.{routine_short}
 use Rattle.cse_law_code_is_small.proofs.Entries.{both, routine_entries}
-use Rattle.cse_compile_sections.specs.declared.outlines.Sort.TheVariants as sorts
+use Rattle.cse_compile_sections.specs.declared.outlines.RoutineSort.TheVariants as sorts
 use Rattle.cse_compile_sections.specs.Outline.{Outline, Handler, event_of, function_of, functions_in, is_idle, handler_of, handlers_of_body, handlers_of, handlers_in}
 use Rattle.cse_law_code_is_small.specs.Totals.{declarations_in, outlines, tokens_of, all_code, AreFew, AllCodeIsShort, AllEntriesAreFew}
 

@@ -14,7 +14,7 @@ use Rattle.cse_code_typing.specs.declared.control.Control.TheVariants as c
 use Rattle.cse_code_typing.specs.Bracket.{IsBracket, IsFine, around}
 use Rattle.cse_code_typing.specs.Kinds.{gift_kinds}
 use Rattle.cse_code_typing.specs.Skeleton.{control_by}
-use Rattle.cse_code_typing.specs.Signature.{◌⇒◌, given, signature_by, loops_by, is_record}
+use Rattle.cse_code_typing.specs.Signature.{◌⇒◌, provided, signature_by, loops_by, is_record}
 use Rattle.cse_logic_tree.specs.Typed.{Limit, Fixed, Counted, Counting}
 use Rattle.cse_compile_code.specs.Wide as w
 use Rattle.cse_compile_code.specs.Wide.{Wide, bare, with_a, with_c, jump, jump_size, jump_over, value}
@@ -146,7 +146,7 @@ module _ (s : Spot) (ws : List Wide) (all : List Stack) (bounds : List ℕ) wher
 
   pub each_rule : (q of e : ℕ) → is_record s.scene.shape of ≡ true → wide_rule s.scene ws q (w.Plain ops.LoopOccurrences of 0 e) [] ≡ Some ((q + 1, []) ∷ (e + 1, []) ∷ [])
   unfolding signature_by control_by
-  each_rule q of e h = ruled s ws q (w.Plain ops.LoopOccurrences of 0 e) [] [] [] [] (ap (λ b. given b ([] ⇒ [])) h) refl
+  each_rule q of e h = ruled s ws q (w.Plain ops.LoopOccurrences of 0 e) [] [] [] [] (ap (λ b. provided b ([] ⇒ [])) h) refl
 
   -- ---- the head of a `do`
 

@@ -11,7 +11,7 @@ use Rattle.cse_code_typing.specs.declared.kind.Kind.TheVariants as k
 use Rattle.cse_code_typing.specs.declared.control.Control.TheVariants as c
 use Rattle.cse_code_typing.specs.Kinds.{same_kind, below, top_of, gift_kinds}
 use Rattle.cse_code_typing.specs.Skeleton.{control_by}
-use Rattle.cse_code_typing.specs.Signature.{Scene, Signature, ◌⇒◌, given, signature_by, is_record, rows_of, id_number, id_text, number_item, text_item, global_at, local_at, storable, indexes_of, parameters_of, arguments_of}
+use Rattle.cse_code_typing.specs.Signature.{Scene, Signature, ◌⇒◌, provided, signature_by, is_record, rows_of, id_number, id_text, number_item, text_item, global_at, local_at, storable, indexes_of, parameters_of, arguments_of}
 use Rattle.cse_code_typing.specs.Rule.{Edge, exits}
 use Rattle.cse_logic_tree.specs.declared.tree.Variable.{Variable}
 use Rattle.cse_logic_tree.specs.declared.tree.Variable.TheVariants as v
@@ -93,19 +93,19 @@ module _ (s : Spot) (ws : List Wide) where
 
   pub occurrence_rule : (q of fail : ℕ) (st : Stack) → is_record sc.shape of ≡ true → rule q (occurrence of fail) (k.Number ∷ st) ≡ Some ((fail, st) ∷ (q + 1, k.Occurrence of ∷ st) ∷ [])
   unfolding signature_by control_by
-  occurrence_rule q of fail st h = ruled q (occurrence of fail) (k.Number ∷ st) (k.Number ∷ []) (k.Occurrence of ∷ []) st (ap (λ b. given b (k.Number ∷ [] ⇒ k.Occurrence of ∷ [])) h) refl
+  occurrence_rule q of fail st h = ruled q (occurrence of fail) (k.Number ∷ st) (k.Number ∷ []) (k.Occurrence of ∷ []) st (ap (λ b. provided b (k.Number ∷ [] ⇒ k.Occurrence of ∷ [])) h) refl
 
   pub current_rule : (q of : ℕ) (st : Stack) → is_record sc.shape of ≡ true → wide_in_loop sc.lists ws q of ≡ true → rule q (with_a ops.CurrentOccurrence of) st ≡ Some ((q + 1, k.Occurrence of ∷ st) ∷ [])
   unfolding signature_by control_by
-  current_rule q of st h l = ruled q (with_a ops.CurrentOccurrence of) st [] (k.Occurrence of ∷ []) st (ap (λ b. given b ([] ⇒ k.Occurrence of ∷ [])) (and_from _ _ h l)) refl
+  current_rule q of st h l = ruled q (with_a ops.CurrentOccurrence of) st [] (k.Occurrence of ∷ []) st (ap (λ b. provided b ([] ⇒ k.Occurrence of ∷ [])) (and_from _ _ h l)) refl
 
   pub number_rule : (q of : ℕ) (st : Stack) → is_record sc.shape of ≡ true → rule q (with_a ops.OccurrenceNumber of) (k.Occurrence of ∷ st) ≡ Some ((q + 1, k.Number ∷ st) ∷ [])
   unfolding signature_by control_by
-  number_rule q of st h = ruled q (with_a ops.OccurrenceNumber of) (k.Occurrence of ∷ st) (k.Occurrence of ∷ []) (k.Number ∷ []) st (ap (λ b. given b (k.Occurrence of ∷ [] ⇒ k.Number ∷ [])) h) (below_one (k.Occurrence of) [] st)
+  number_rule q of st h = ruled q (with_a ops.OccurrenceNumber of) (k.Occurrence of ∷ st) (k.Occurrence of ∷ []) (k.Number ∷ []) st (ap (λ b. provided b (k.Occurrence of ∷ [] ⇒ k.Number ∷ [])) h) (below_one (k.Occurrence of) [] st)
 
   pub total_rule : (q of : ℕ) (st : Stack) → is_record sc.shape of ≡ true → rule q (with_a ops.TotalOccurrences of) st ≡ Some ((q + 1, k.Number ∷ st) ∷ [])
   unfolding signature_by control_by
-  total_rule q of st h = ruled q (with_a ops.TotalOccurrences of) st [] (k.Number ∷ []) st (ap (λ b. given b ([] ⇒ k.Number ∷ [])) h) refl
+  total_rule q of st h = ruled q (with_a ops.TotalOccurrences of) st [] (k.Number ∷ []) st (ap (λ b. provided b ([] ⇒ k.Number ∷ [])) h) refl
 
   pub id_number_rule : (q item : ℕ) (x : ItemShape) (st : Stack) → id_number sc.shape item ≡ Some x → rule q (with_c ops.IdNumber item) st ≡ Some ((q + 1, k.Number ∷ st) ∷ [])
   unfolding signature_by control_by

@@ -15,7 +15,7 @@ use Rattle.cse_code_typing.specs.declared.control.Control.TheVariants as c
 use Rattle.cse_code_typing.specs.Bracket.{around, KeepsRules}
 use Rattle.cse_code_typing.specs.Kinds.{below, top_of}
 use Rattle.cse_code_typing.specs.Skeleton.{control_by, control, skeleton}
-use Rattle.cse_code_typing.specs.Signature.{Scene, Signature, ◌⇒◌, given, signature_by, loops_by, loops_over, is_in_loop}
+use Rattle.cse_code_typing.specs.Signature.{Scene, Signature, ◌⇒◌, provided, signature_by, loops_by, loops_over, is_in_loop}
 use Rattle.cse_code_typing.specs.Rule.{exits, rule}
 use Rattle.cse_code_typing.specs.Typing.{AgreesBelow, FollowsRule, IsLedTo, IsTypedCode}
 use Rattle.cse_compile_code.specs.Wide as w
@@ -106,10 +106,10 @@ module _ (s : Scene) (code : List Instr) (ws : List Wide) (h : AllStand s.lists 
   unfolding signature_by
   signature_stands q top i (w.Constant z) f =
       ap (λ o. signature_by s (is_in_loop s.lists code q i.a) top o i.a i.b i.c) f.0
-      ∙ ap (λ b. given b ([] ⇒ k.Number ∷ [])) (lt-ltb i.c (length s.lists.constants) (slice_get_within s.lists.constants i.c z f.1))
+      ∙ ap (λ b. provided b ([] ⇒ k.Number ∷ [])) (lt-ltb i.c (length s.lists.constants) (slice_get_within s.lists.constants i.c z f.1))
   signature_stands q top i (w.Chars text) f =
       ap (λ o. signature_by s (is_in_loop s.lists code q i.a) top o i.a i.b i.c) f.0
-      ∙ ap (λ b. given b ([] ⇒ k.Text ∷ [])) (lt-ltb i.c (length s.lists.texts) (slice_get_within s.lists.texts i.c text f.1))
+      ∙ ap (λ b. provided b ([] ⇒ k.Text ∷ [])) (lt-ltb i.c (length s.lists.texts) (slice_get_within s.lists.texts i.c text f.1))
   signature_stands q top i (w.Turns limit end) f =
       ap (λ o. signature_by s (is_in_loop s.lists code q i.a) top o i.a i.b i.c) f.0 ∙ ap (option_and_then (λ n. k.Number ∷ [] ⇒ [])) f.1
   signature_stands q top i (w.Plain op a b d) f =

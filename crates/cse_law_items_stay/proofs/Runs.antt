@@ -13,7 +13,7 @@ use Rattle.cse_lines.specs.Line.{FileLine}
 use Rattle.cse_lines.specs.Columns.{LineText, line_text, no_line}
 use Rattle.cse_lines.specs.Field.{field_at, ids_of, type_span}
 use Rattle.cse_lines.specs.Run.{line_at, run_text, written_run}
-use Rattle.cse_lines.specs.Runs.{AreSound as AreSoundLines, fault_in, given}
+use Rattle.cse_lines.specs.Runs.{AreSound as AreSoundLines, fault_in, given_runs}
 use Rattle.cse_lines.specs.Gathering.{StandsFrom, bytes_of}
 use Rattle.cse_lines.specs.Written.{mark_bytes, written_line}
 use Rattle.cse_case.specs.Case.{CaseText, case_of}
@@ -163,12 +163,12 @@ module _ (d : DictionaryText) (t : Tree) (named : List ℕ) (sound : IsSound d) 
 
   -- ---- the batch
 
-  out_is : (store : Kept) (bytes : List ℕ) (ended : Bool) → (batch_meant d t named store bytes ended).out ≡ (after_runs_meant d t named (begun_meant d t store) (given d true ended bytes)).out
+  out_is : (store : Kept) (bytes : List ℕ) (ended : Bool) → (batch_meant d t named store bytes ended).out ≡ (after_runs_meant d t named (begun_meant d t store) (given_runs d true ended bytes)).out
   unfolding batch_meant
   out_is store bytes ended = by (is_whole d ended bytes)
     where
-      by : (ends : Bool) → (told_meant d t ends (after_runs_meant d t named (begun_meant d t store) (given d true ended bytes)) (totals_of d (given d true ended bytes))).out
-          ≡ (after_runs_meant d t named (begun_meant d t store) (given d true ended bytes)).out
+      by : (ends : Bool) → (told_meant d t ends (after_runs_meant d t named (begun_meant d t store) (given_runs d true ended bytes)) (totals_of d (given_runs d true ended bytes))).out
+          ≡ (after_runs_meant d t named (begun_meant d t store) (given_runs d true ended bytes)).out
       by true = refl
       by false = refl
 
@@ -178,14 +178,14 @@ module _ (d : DictionaryText) (t : Tree) (named : List ℕ) (sound : IsSound d) 
 
   items_stay : (store : Kept) (bytes : List ℕ) (ended : Bool) → ItemsStay d t named store bytes ended
   items_stay store bytes ended =
-      let runs = given d true ended bytes in
+      let runs = given_runs d true ended bytes in
       let good = given_are_good d ended bytes in
       let w = writes good.0 (begun_meant d t store) runs good.1 in
       record {
         written = w.written;
         out = out_is store bytes ended ∙ w.out;
         lines = w.stays;
-        all = λ has_ended no_fault. bytes_are runs ∙ (ap (λ b. flat_map bytes_of (given d true b bytes)) has_ended ∙ all_given d bytes (ap (λ b. fault_in d true b bytes) (sym has_ended) ∙ no_fault));
+        all = λ has_ended no_fault. bytes_are runs ∙ (ap (λ b. flat_map bytes_of (given_runs d true b bytes)) has_ended ∙ all_given d bytes (ap (λ b. fault_in d true b bytes) (sym has_ended) ∙ no_fault));
       }
 
 -- ---- the laws

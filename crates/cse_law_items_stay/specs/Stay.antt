@@ -5,7 +5,7 @@ use Rattle.cse_dict.specs.Dictionary.{DictionaryText, shape_of}
 use Rattle.cse_dict.specs.Sound.{IsSound}
 use Rattle.cse_lines.specs.Line.{FileLine}
 use Rattle.cse_lines.specs.Columns.{line_text}
-use Rattle.cse_lines.specs.Runs.{fault_in, given}
+use Rattle.cse_lines.specs.Runs.{fault_in, given_runs}
 use Rattle.cse_case.specs.Field.{HasColumn, item_at}
 use Rattle.cse_logic_tree.specs.Typed.{Tree}
 use Rattle.cse_written_items.specs.Items.{items_written}
@@ -35,7 +35,7 @@ AllStay d t (read ∷ reads) (line ∷ written) = LineStays d (MayChange d t rea
 
 -- the lines that a batch over these bytes edits
 abbrev pub lines_read : DictionaryText → List ℕ → Bool → List FileLine
-lines_read d bytes ended = flat_map (λ run. run) (given d true ended bytes)
+lines_read d bytes ended = flat_map (λ run. run) (given_runs d true ended bytes)
 
 -- OUT is what is written in place of the lines that were read, and nothing else; of sound data that has ended these are all.
 pub record ItemsStay (d : DictionaryText) (t : Tree) (named : List ℕ) (store : Kept) (bytes : List ℕ) (ended : Bool) : Type 0 where

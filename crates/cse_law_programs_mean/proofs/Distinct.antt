@@ -19,7 +19,7 @@ use Rattle.cse_logic_tree.specs.declared.tree.Owner.{Owner}
 use Rattle.cse_logic_tree.specs.declared.tree.Owner.TheVariants as owners
 use Rattle.cse_logic_tree.specs.Erase.{erase_body}
 use Rattle.cse_logic_tree.specs.Typed.{Statements, Body, Plain, Preproc, Both, Postproc, Procedure}
-use Rattle.cse_compile_sections.specs.declared.outlines.Sort.TheVariants as sorts
+use Rattle.cse_compile_sections.specs.declared.outlines.RoutineSort.TheVariants as sorts
 use Rattle.cse_compile_sections.specs.Outline.{Handler, is_idle, event_of, handler_of, handlers_of_body, handlers_in}
 use Rattle.cse_compile_sections.specs.Events.{is_key}
 use Rattle.cse_logic_names.specs.declared.meaning.Meaning.{Meaning}

@@ -14,7 +14,7 @@ use Rattle.cse_verify.specs.Verified.{VerifiedProgram}
 use Rattle.cse_logic_tree.specs.declared.tree.Owner.{Owner}
 use Rattle.cse_logic_tree.specs.Typed.{Statements, Function, Declaration, Numeric, Alpha, Array', Function', Body, Plain, Preproc, Both, Postproc, Procedure, Tree}
 use Rattle.cse_logic_names.specs.MessageFile.{MessageText}
-use Rattle.cse_compile_sections.specs.declared.outlines.Sort.TheVariants as sorts
+use Rattle.cse_compile_sections.specs.declared.outlines.RoutineSort.TheVariants as sorts
 use Rattle.cse_compile_sections.specs.Tables as tables
 use Rattle.cse_compile_sections.specs.Tables.{arrays_in}
 use Rattle.cse_compile_sections.specs.Outline as outline

@@ -15,8 +15,8 @@ use Rattle.cse_syntax_tree.specs.Grammar.{Each, AreStmts, IsDeclaration, IsProce
 use Rattle.cse_logic_tree.specs.declared.tree.Owner.{Owner}
 use Rattle.cse_logic_tree.specs.Typed.{Statements, Function, Declaration, Numeric, Alpha, Array', Function', Body, Plain, Preproc, Both, Postproc, Procedure, Tree}
 use Rattle.cse_logic_tree.specs.Erase.{erase_block, erase_body, erase_declaration, erase_procedure, erase_tree}
-use Rattle.cse_compile_sections.specs.declared.outlines.Sort.{Sort}
-use Rattle.cse_compile_sections.specs.declared.outlines.Sort.TheVariants as sorts
+use Rattle.cse_compile_sections.specs.declared.outlines.RoutineSort.{RoutineSort}
+use Rattle.cse_compile_sections.specs.declared.outlines.RoutineSort.TheVariants as sorts
 use Rattle.cse_compile_sections.specs.Outline.{Outline, Handler, outline_of, functions_in, is_idle, event_of, handler_of, handlers_of_body, handlers_in}
 use Rattle.cse_logic_names.specs.MessageFile.{MessageText}
 use Rattle.cse_logic_names.specs.Scope.{Scope}
@@ -29,7 +29,7 @@ use Rattle.cse_law_programs_mean.proofs.Loops.{most_few, block_holds}
 use Rattle.cse_law_programs_mean.proofs.Own.{OwnMeanings, declared_own, block_own}
 
 -- how many parameters a routine may name
-abbrev pub named_by : Sort → ℕ
+abbrev pub named_by : RoutineSort → ℕ
 named_by (sorts.Function count needs) = count
 named_by (sorts.Procedure owner) = 0
 

@@ -25,7 +25,7 @@ use Rattle.cse_logic_tree.specs.declared.tree.Owner.TheVariants as owners
 use Rattle.cse_logic_tree.specs.Typed.{Tree}
 use Rattle.cse_logic_names.specs.MessageFile.{MessageText}
 use Rattle.cse_logic_names.specs.WellTyped.{with_functions, first_scope, typed_declarations}
-use Rattle.cse_compile_sections.specs.declared.outlines.Sort.TheVariants as sorts
+use Rattle.cse_compile_sections.specs.declared.outlines.RoutineSort.TheVariants as sorts
 use Rattle.cse_compile_sections.specs.Outline as outline
 use Rattle.cse_compile_sections.specs.Outline.{Outline, Handler, event_of}
 use Rattle.cse_compile_sections.specs.Events.{Table, is_key, table_from, routine_at}

@@ -10,7 +10,7 @@ use Rattle.cse_dict.specs.Dictionary.{SetText as ValueSet, shape_of}
 use Rattle.cse_syntax_tree.specs.Grammar.{Each, IsSome, IsDeclaration}
 use Rattle.cse_logic_tree.specs.Typed.{Dimension, Sized, Rows, Declaration, Numeric, Alpha, Array', Function'}
 use Rattle.cse_logic_tree.specs.Erase.{erase_dimension, erase_declaration, erase_block}
-use Rattle.cse_compile_sections.specs.declared.outlines.Sort.TheVariants as sorts
+use Rattle.cse_compile_sections.specs.declared.outlines.RoutineSort.TheVariants as sorts
 use Rattle.cse_compile_sections.specs.Tables.{size_of, arrays_in}
 use Rattle.cse_compile_sections.specs.Outline.{Outline}
 use Rattle.cse_logic_names.specs.Scope.{Scope, Facts}

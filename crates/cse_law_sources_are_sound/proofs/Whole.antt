@@ -13,8 +13,8 @@ use Rattle.cse_code_typing.specs.Typed.{IsTypedRoutine}
 use Rattle.cse_code_typing.specs.Code.{code_of}
 use Rattle.cse_logic_tree.specs.Typed.{Tree}
 use Rattle.cse_logic_names.specs.MessageFile.{MessageText}
-use Rattle.cse_compile_sections.specs.declared.outlines.Sort.{Sort}
-use Rattle.cse_compile_sections.specs.declared.outlines.Sort.TheVariants as sorts
+use Rattle.cse_compile_sections.specs.declared.outlines.RoutineSort.{RoutineSort}
+use Rattle.cse_compile_sections.specs.declared.outlines.RoutineSort.TheVariants as sorts
 use Rattle.cse_compile_sections.specs.Outline.{Outline, gives_of, locals_of, result_at}
 use Rattle.cse_compile.specs.Program.{outlines, sizes, setting_for, entry_of}
 use Rattle.cse_law_code_is_typed.specs.Fit.{Spot, IsExit}
@@ -24,7 +24,7 @@ use Rattle.cse_law_sources_are_sound.specs.Checked.{IsCompiled, spot_for, Statem
 use Rattle.cse_law_sources_are_sound.proofs.Routines.{result_there, statements_fit}
 use Rattle.cse_law_sources_are_sound.proofs.Parts.{routine_stands}
 
-exit_there : (s : Spot) (sort : Sort) → s.scene.routine.gives ≡ gives_of sort → s.scene.routine.locals ≡ locals_of sort → IsExit s (result_at sort)
+exit_there : (s : Spot) (sort : RoutineSort) → s.scene.routine.gives ≡ gives_of sort → s.scene.routine.locals ≡ locals_of sort → IsExit s (result_at sort)
 exit_there s (sorts.Function n needs) e f = (e, ap (λ l. option_map local_kind (slice_get l n)) f ∙ ap (option_map local_kind) (result_there n))
 exit_there s (sorts.Procedure owner) e f = e
 

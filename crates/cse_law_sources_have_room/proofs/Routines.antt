@@ -22,8 +22,8 @@ use Rattle.cse_logic_tree.specs.declared.tree.Owner.{Owner}
 use Rattle.cse_logic_tree.specs.declared.tree.Owner.TheVariants as owners
 use Rattle.cse_logic_tree.specs.Typed.{Statements, Declaration, Numeric, Alpha, Array', Function', Body, Plain, Preproc, Both, Postproc, Procedure}
 use Rattle.cse_logic_tree.specs.Erase.{erase_body}
-use Rattle.cse_compile_sections.specs.declared.outlines.Sort.{Sort}
-use Rattle.cse_compile_sections.specs.declared.outlines.Sort.TheVariants as sorts
+use Rattle.cse_compile_sections.specs.declared.outlines.RoutineSort.{RoutineSort}
+use Rattle.cse_compile_sections.specs.declared.outlines.RoutineSort.TheVariants as sorts
 use Rattle.cse_compile_sections.specs.Tables as tables
 use Rattle.cse_compile_sections.specs.Outline.{Outline, Handler, parameters_of, number_local, numbers, locals_of, functions_in, is_idle, event_of, handler_of, handlers_of_body, handlers_in}
 use Rattle.cse_logic_names.specs.declared.meaning.Meaning.{Meaning}
@@ -83,7 +83,7 @@ module _ (d : DictionaryText) (items : AllByRecursion ItemFits (shape_of d).item
 -- ---- sorts
 
 -- a function has at most 254 parameters
-abbrev pub SortFits : Sort → Type 0
+abbrev pub SortFits : RoutineSort → Type 0
 SortFits (sorts.Function count needs) = count ≤ 254
 SortFits (sorts.Procedure owner) = OwnerFits owner
 
@@ -130,7 +130,7 @@ numbers_after : (P : List Local → Local → Type 0) (x : Local) → ((before :
 numbers_after P x h before zero = (h before, tt)
 numbers_after P x h before (suc n) = (h before, numbers_after P x h (before ++ x ∷ []) n)
 
-locals_fit : (sort : Sort) → SortFits sort → LocalsFit (parameters_of sort) (locals_of sort)
+locals_fit : (sort : RoutineSort) → SortFits sort → LocalsFit (parameters_of sort) (locals_of sort)
 locals_fit (sorts.Function count needs) h =
     let a = length-append (numbers count) (number_local ∷ []) in
     let b = length-replicate count number_local in
@@ -144,14 +144,14 @@ locals_fit (sorts.Procedure owners.Level) h = record { count = omega arith; amon
 locals_fit (sorts.Procedure (owners.Record r)) h = record { count = omega arith; among = refl; each = tt }
 locals_fit (sorts.Procedure (owners.Item f)) h = record { count = omega arith; among = refl; each = (record { kind = refl; owner_size = omega (arith, h); owner = refl; length_size = omega arith; length = refl }, tt) }
 
-pub few_parameters : (sort : Sort) → SortFits sort → parameters_of sort < 256
+pub few_parameters : (sort : RoutineSort) → SortFits sort → parameters_of sort < 256
 few_parameters (sorts.Function count needs) h = omega (arith, h)
 few_parameters (sorts.Procedure owners.Application) h = omega arith
 few_parameters (sorts.Procedure owners.Level) h = omega arith
 few_parameters (sorts.Procedure (owners.Record r)) h = omega arith
 few_parameters (sorts.Procedure (owners.Item f)) h = omega arith
 
-pub few_locals : (sort : Sort) → SortFits sort → length (locals_of sort) ≤ 256
+pub few_locals : (sort : RoutineSort) → SortFits sort → length (locals_of sort) ≤ 256
 few_locals sort h = let f = (locals_fit sort h).count in omega (arith, f)
 
 -- ---- routines

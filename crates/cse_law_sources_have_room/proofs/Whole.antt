@@ -21,13 +21,13 @@ use Rattle.cse_dict.specs.Sound.{IsSound as IsSoundDictionary}
 use Rattle.cse_syntax_tree.specs.Tree as syntax
 use Rattle.cse_syntax_tree.specs.Word.{Word}
 use Rattle.cse_syntax_tree.specs.Grammar.{IsSource, spell_tree}
-use Rattle.cse_logic_tree.specs.Typed.{Declaration, Entry, Tree}
+use Rattle.cse_logic_tree.specs.Typed.{Declaration, MessageEntry, Tree}
 use Rattle.cse_logic_tree.specs.Erase.{erase_declaration, erase_tree}
 use Rattle.cse_logic_tree.specs.Tokens.{all_tokens, declaration_tokens, globals_tokens}
 use Rattle.cse_code_typing.specs.Order.{NamesEachOnce, is_handled_by, fits_event, all_events_fit}
 use Rattle.cse_code_typing.specs.Typed.{scene_of}
-use Rattle.cse_compile_sections.specs.declared.outlines.Sort.{Sort}
-use Rattle.cse_compile_sections.specs.declared.outlines.Sort.TheVariants as sorts
+use Rattle.cse_compile_sections.specs.declared.outlines.RoutineSort.{RoutineSort}
+use Rattle.cse_compile_sections.specs.declared.outlines.RoutineSort.TheVariants as sorts
 use Rattle.cse_compile_sections.specs.Events as event
 use Rattle.cse_compile_sections.specs.Events.{table_from}
 use Rattle.cse_compile_sections.specs.Order.{edit_order}
@@ -82,7 +82,7 @@ few_declared (Some ds) = omega arith
 
 -- ---- small parts
 
-result_small : (sort : Sort) (r : ℕ) → SortFits sort → result_at sort ≡ Some r → r < 2 ^ 32
+result_small : (sort : RoutineSort) (r : ℕ) → SortFits sort → result_at sort ≡ Some r → r < 2 ^ 32
 result_small (sorts.Function count needs) r h e = let same = same_Some count r e in omega (arith, h, same)
 result_small (sorts.Procedure owner) r h e = absurd (none-some r e)
 
@@ -193,7 +193,7 @@ module _ (d : DictionaryText) (messages : List MessageText) (named : List ℕ) (
   few_messages : length (map message_of t.messages) ≤ 60000
   few_messages =
       let a = length-map t.messages message_of in
-      let b = ap (λ (l : List Entry). length l) typed.well.messages_are in
+      let b = ap (λ (l : List MessageEntry). length l) typed.well.messages_are in
       let c = length-map (tree_messages (erase_tree t)) (said messages) in
       let e = messages_few (erase_tree t) in
       let f = within.tokens in
@@ -285,7 +285,7 @@ module _ (d : DictionaryText) (messages : List MessageText) (named : List ℕ) (
 
   all_messages : AllByRecursion MessageFits (map message_of t.messages)
   all_messages =
-      subst (λ (es : List Entry). AllByRecursion MessageFits (map message_of es)) (sym typed.well.messages_are)
+      subst (λ (es : List MessageEntry). AllByRecursion MessageFits (map message_of es)) (sym typed.well.messages_are)
       (messages_fit messages (tree_messages (erase_tree t)) texts held.messages (subst (AllByRecursion IsMessageWithin) typed.well.messages_are within.messages))
 
   orders_small : AllByRecursion OrderFits (edit_order (length records) named)

@@ -6,7 +6,7 @@ use Rattle.cse_image_parts.specs.Image.{ArrayLists}
 use Rattle.cse_image_parts.specs.Limits.{most_arrays, most_cells, most_dimensions, most_routines}
 use Rattle.cse_image_parts.specs.Placeholders.{has_few_placeholders}
 use Rattle.cse_image_parts.specs.Texts.{is_short}
-use Rattle.cse_logic_tree.specs.Typed.{Function, Entry, Tree}
+use Rattle.cse_logic_tree.specs.Typed.{Function, MessageEntry, Tree}
 use Rattle.cse_compile_sections.specs.Tables.{arrays_in, functions_in}
 use Rattle.cse_compile.specs.Program.{declarations, outlines}
 use Rattle.cse_law_code_is_small.specs.Totals.{tokens_of}
@@ -39,7 +39,7 @@ abbrev pub IsFunctionWithin : Function → Type 0
 IsFunctionWithin f = length f.parameters ≤ most_parameters
 
 -- at most 255 characters, and 16 placeholders
-pub record IsMessageWithin (x : Entry) : Type 0 where
+pub record IsMessageWithin (x : MessageEntry) : Type 0 where
   pub short : IsTrue (is_short x.text)
   pub few : IsTrue (has_few_placeholders x.text)
 

@@ -8,15 +8,15 @@ use Rattle.std.proofs.lemmas.Nat.{le_or_l, le_or_r}
 use Rattle.std.proofs.lemmas.Bool.{cases_lt, lt-ltb, ltb-true}
 use Rattle.cse_dict.specs.Dictionary.{DictionaryText, number_of_type}
 use Rattle.cse_dict.specs.Sound.{IsSound}
-use Rattle.cse_lines.specs.declared.layout.Span.{Span}
+use Rattle.cse_lines.specs.declared.layout.ColumnSpan.{ColumnSpan}
 use Rattle.cse_lines.specs.declared.line.Ending.{Ending}
 use Rattle.cse_lines.specs.Line.{FileLine, ending_of, text_of}
 use Rattle.cse_lines.specs.Field.{field_at, id_spans, last_column, least_width, padded, record_len, record_of, type_span, width_of}
 use Rattle.cse_lines.specs.Columns.{LineText, columns_of, line_text}
 use Rattle.cse_lines.specs.Run.{with_columns}
 use Rattle.cse_lines.specs.Runs.{line_fault}
-use Rattle.cse_lines.specs.declared.decode.Stop.{Stop}
-use Rattle.cse_lines.specs.declared.decode.Stop.TheVariants.{Memory, Fault}
+use Rattle.cse_lines.specs.declared.decode.LineStop.{LineStop}
+use Rattle.cse_lines.specs.declared.decode.LineStop.TheVariants.{Memory, Fault}
 use Rattle.cse_lines.specs.Decoding.{Holds, IfFault}
 
 not_true : (b : Bool) → (b ≡ true → ⊥) → b ≡ false
@@ -59,7 +59,7 @@ padded-wider wide least text h =
     ap (λ k. text ++ replicate k 32) same ∙ sym (padded-padded wide least text)
 
 -- a field within the least width is the same however far the text is padded
-pub field_past : (s : Span) (wide least : ℕ) (text : List ℕ) → s.start - 1 + s.len ≤ least → least ≤ wide → field_at s (padded wide text) ≡ field_at s (padded least text)
+pub field_past : (s : ColumnSpan) (wide least : ℕ) (text : List ℕ) → s.start - 1 + s.len ≤ least → least ≤ wide → field_at s (padded wide text) ≡ field_at s (padded least text)
 field_past s wide least text fits h =
     let p = padded least text in
     let len : length p ≡ max (length text) least = length-padded least text in
@@ -162,7 +162,7 @@ unfolding line_text
 line_text-is d line columns len ending number e n r c = rw (e, n, r, c) refl
 
 -- what holds of the number of a fault
-pub IfFault-more : (P Q : ℕ → Type 0) (stop : Stop) → ((number : ℕ) → P number → Q number) → IfFault P stop → IfFault Q stop
+pub IfFault-more : (P Q : ℕ → Type 0) (stop : LineStop) → ((number : ℕ) → P number → Q number) → IfFault P stop → IfFault Q stop
 IfFault-more P Q Memory h f = tt
 IfFault-more P Q (Fault number) h f = h number f
 

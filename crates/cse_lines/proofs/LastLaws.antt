@@ -3,7 +3,7 @@ use Rattle.std.proofs.Common.{◌≡◌, ℕ, suc, ◌+◌, ◌-◌, ◌<◌, �
 use Rattle.std.specs.Prelude.{IfNone, IfSome}
 use Rattle.std.proofs.lemmas.List.{drop-take, length-take, take-append-le, take-take}
 use Rattle.cse_dict.specs.Dictionary.{DictionaryText, number_of_type}
-use Rattle.cse_lines.specs.declared.layout.Span.{Span}
+use Rattle.cse_lines.specs.declared.layout.ColumnSpan.{ColumnSpan}
 use Rattle.cse_lines.specs.declared.decode.Beginning.{Beginning}
 use Rattle.cse_lines.specs.declared.decode.Beginning.TheVariants.{Alike, Apart, Unknown}
 use Rattle.cse_lines.specs.Decoding.{BeginsAs, IsTyped}
@@ -23,13 +23,13 @@ IfSome-more P Q None f h = tt
 IfSome-more P Q (Some a) f h = f a h
 
 -- the fields within a front
-field_at-take : (s : Span) (n : ℕ) (columns : List ℕ) → s.start - 1 + s.len ≤ n → field_at s (take n columns) ≡ field_at s columns
+field_at-take : (s : ColumnSpan) (n : ℕ) (columns : List ℕ) → s.start - 1 + s.len ≤ n → field_at s (take n columns) ≡ field_at s columns
 field_at-take s n columns h =
     let k = s.start - 1 in
     let e : n ≡ k + (n - k) = omega arith in
     ap (λ m. take s.len (drop k (take m columns))) e ∙ ap (take s.len) (drop-take k (n - k) columns) ∙ take-take s.len (n - k) (drop k columns) (omega arith)
 
-fields_at-take : (ss : List Span) (n : ℕ) (columns : List ℕ) → last_column ss ≤ n → fields_at ss (take n columns) ≡ fields_at ss columns
+fields_at-take : (ss : List ColumnSpan) (n : ℕ) (columns : List ℕ) → last_column ss ≤ n → fields_at ss (take n columns) ≡ fields_at ss columns
 fields_at-take [] n columns h = refl
 fields_at-take (s ∷ ss) n columns h =
     ap (λ l. l ++ fields_at ss (take n columns)) (field_at-take s n columns (omega arith)) ∙ ap (λ l. field_at s columns ++ l) (fields_at-take ss n columns (omega arith))

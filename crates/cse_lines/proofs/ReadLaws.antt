@@ -11,7 +11,7 @@ use Rattle.cse_lines.specs.Columns.{line_text}
 use Rattle.cse_lines.specs.Cutting.{HasNoFeed}
 use Rattle.cse_lines.specs.Reading.{ReadsMore}
 use Rattle.cse_lines.specs.Run.{RunText, run_text, written_run}
-use Rattle.cse_lines.specs.Runs.{MayFollow, fault_in, first_fault, given, given_of, later_by}
+use Rattle.cse_lines.specs.Runs.{MayFollow, fault_in, first_fault, given_runs, given_of, later_by}
 use Rattle.cse_lines.specs.Reader.{GivesRun, IsError, NeedsMore, Next, ReaderText, given_lines, held_of, is_front}
 use Rattle.cse_lines.specs.Gathering.{Gathered, IsRunOf, bytes_of, first_id, front_after}
 use Rattle.cse_lines.specs.Resting.{GivesRest, HasNoRest, IsResting, TakesRest, reader_of}
@@ -167,7 +167,7 @@ module _ (before now : Given) (old : ReaderText) (run : RunText) (uncut : List �
       place = length new.lines;
       fault = ap (fault_in old.dictionary (is_front old) ended) (sym h.held) ∙ f.fault;
       line = line;
-      none = ap (given old.dictionary (is_front old) ended) (sym h.held) ∙ f.none;
+      none = ap (given_runs old.dictionary (is_front old) ended) (sym h.held) ∙ f.none;
     };
     needed = λ e. absurd (omega (arith, f.low));
     number = λ high. absurd (omega (arith, f.low));

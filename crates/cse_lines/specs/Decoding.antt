@@ -1,8 +1,8 @@
 -- A line that was read as columns.
 use Rattle.std.specs.Prelude.{◌≡◌, ◌≤◌, ℕ, List, length, take, Option, None}
 use Rattle.cse_dict.specs.Dictionary.{DictionaryText, number_of_type}
-use Rattle.cse_lines.specs.declared.decode.Stop.{Stop}
-use Rattle.cse_lines.specs.declared.decode.Stop.TheVariants.{Memory, Fault}
+use Rattle.cse_lines.specs.declared.decode.LineStop.{LineStop}
+use Rattle.cse_lines.specs.declared.decode.LineStop.TheVariants.{Memory, Fault}
 use Rattle.cse_lines.specs.declared.decode.Beginning.{Beginning}
 use Rattle.cse_lines.specs.declared.decode.Beginning.TheVariants.{Alike, Apart, Unknown}
 use Rattle.cse_lines.specs.declared.decode.Head.{Head}
@@ -12,7 +12,7 @@ use Rattle.cse_lines.specs.Columns.{LineText, line_text}
 use Rattle.cse_lines.specs.Runs.{line_fault}
 
 -- what holds of the number of a fault
-abbrev pub IfFault : (ℕ → Type 0) → Stop → Type 0
+abbrev pub IfFault : (ℕ → Type 0) → LineStop → Type 0
 IfFault P Memory = Unit {0}
 IfFault P (Fault number) = P number
 

@@ -4,29 +4,29 @@ use Rattle.std.specs.Prelude.{◌≡◌, Bool, true, ℕ, ◌+◌, ◌-◌, ◌=
 use Rattle.std.specs.Option.{option_map_or}
 use Rattle.cse_dict.specs.Dictionary.{DictionaryText, number_of_type, shape_of}
 use Rattle.cse_value.specs.declared.shape.ItemShape.{ItemShape}
-use Rattle.cse_lines.specs.declared.layout.Span.{Span}
+use Rattle.cse_lines.specs.declared.layout.ColumnSpan.{ColumnSpan}
 
 -- columns padded with blanks to a width
 abbrev pub padded : ℕ → List ℕ → List ℕ
 padded width columns = columns ++ replicate (width - length columns) 32
 
 -- so many columns from a first one
-abbrev pub field_at : Span → List ℕ → List ℕ
+abbrev pub field_at : ColumnSpan → List ℕ → List ℕ
 field_at span columns = take span.len (drop (span.start - 1) columns)
 
 -- the columns of an item
-abbrev pub span_of : ItemShape → Span
+abbrev pub span_of : ItemShape → ColumnSpan
 span_of item = record { start = item.start; len = item.len }
 
 -- the columns of the id items, in the order of the dictionary, and those of the record type
-abbrev pub id_spans : DictionaryText → List Span
+abbrev pub id_spans : DictionaryText → List ColumnSpan
 id_spans d = map span_of (filter (λ item. item.owner == 255) (shape_of d).items)
 
-abbrev pub type_span : DictionaryText → Span
+abbrev pub type_span : DictionaryText → ColumnSpan
 type_span d = record { start = d.type_columns.start; len = d.type_columns.len }
 
 -- what stands at these places, one after the other
-abbrev pub fields_at : List Span → List ℕ → List ℕ
+abbrev pub fields_at : List ColumnSpan → List ℕ → List ℕ
 fields_at [] columns = []
 fields_at (s ∷ ss) columns = field_at s columns ++ fields_at ss columns
 
@@ -35,25 +35,25 @@ unfoldable pub ids_of : DictionaryText → List ℕ → List ℕ
 ids_of d columns = fields_at (id_spans d) columns
 
 -- the last column of these places
-abbrev pub last_column : List Span → ℕ
+abbrev pub last_column : List ColumnSpan → ℕ
 last_column [] = 0
 last_column (s ∷ ss) = max (s.start - 1 + s.len) (last_column ss)
 
 -- at these places stands what stands at others, one after the other, and they end in the same column
-pub record HaveSame (spans others : List Span) : Type 0 where
+pub record HaveSame (spans others : List ColumnSpan) : Type 0 where
   pub fields : (columns : List ℕ) → fields_at spans columns ≡ fields_at others columns
   pub last : last_column spans ≡ last_column others
 
 -- two places are all columns up to a width, one behind the other
-abbrev pub AreFront : Span → Span → ℕ → Type 0
+abbrev pub AreFront : ColumnSpan → ColumnSpan → ℕ → Type 0
 AreFront first second width = (columns : List ℕ) → take width columns ≡ field_at first columns ++ field_at second columns
 
 -- columns with the same record type and the same ids begin alike, up to a width
-abbrev pub TellApart : Span → List Span → ℕ → Type 0
+abbrev pub TellApart : ColumnSpan → List ColumnSpan → ℕ → Type 0
 TellApart record_type ids width = (a b : List ℕ) → field_at record_type a ≡ field_at record_type b → fields_at ids a ≡ fields_at ids b → take width a ≡ take width b
 
 -- what is kept of a layout: the places of the id items joined, and whether lines of the same record type are told apart by their ids
-pub record IsLaidOut (blocks ids : List Span) (record_type : Span) (least_width : ℕ) (is_filled : Bool) : Type 0 where
+pub record IsLaidOut (blocks ids : List ColumnSpan) (record_type : ColumnSpan) (least_width : ℕ) (is_filled : Bool) : Type 0 where
   pub same : HaveSame blocks ids
   pub apart : is_filled ≡ true → TellApart record_type ids least_width
 
@@ -63,8 +63,8 @@ least_width d = last_column (type_span d ∷ id_spans d)
 
 -- what a dictionary names on each line
 pub record LayoutText : Type 0 where
-  pub ids : List Span
-  pub record_type : Span
+  pub ids : List ColumnSpan
+  pub record_type : ColumnSpan
   pub least_width : ℕ
 
 abbrev pub layout_of : DictionaryText → LayoutText

@@ -7,7 +7,7 @@ use Rattle.cse_lines.specs.declared.error.DataError.{DataError}
 use Rattle.cse_lines.specs.Line.{FileLine}
 use Rattle.cse_lines.specs.Columns.{LineText}
 use Rattle.cse_lines.specs.Run.{RunText, run_text, written_run}
-use Rattle.cse_lines.specs.Runs.{AreSound, given, fault_in, later_by, MayFollow}
+use Rattle.cse_lines.specs.Runs.{AreSound, given_runs, fault_in, later_by, MayFollow}
 
 -- what a reader holds: its dictionary, the lines that are cut and not yet given, the bytes behind them that aren't cut, whether the end was read,
 -- how many reads gave bytes, how many lines were given, and the error that it answers from now on
@@ -43,7 +43,7 @@ pub record GivesRun (d : DictionaryText) (bytes held : List ℕ) (front ended : 
   pub is : run ≡ run_text d number lines
   pub written : written_run run ≡ flat_map (λ line. line.1) lines
   pub whole : bytes ≡ written_run run ++ held
-  pub first : (later : Bool) (more : List ℕ) → MayFollow ended later more → given d front later (bytes ++ more) ≡ lines ∷ given d false later (held ++ more)
+  pub first : (later : Bool) (more : List ℕ) → MayFollow ended later more → given_runs d front later (bytes ++ more) ≡ lines ∷ given_runs d false later (held ++ more)
   pub fault : (later : Bool) (more : List ℕ) → MayFollow ended later more
       → fault_in d front later (bytes ++ more) ≡ later_by (length lines) (fault_in d false later (held ++ more))
 
@@ -59,12 +59,12 @@ pub record IsFaulty (d : DictionaryText) (bytes : List ℕ) (front ended : Bool)
   pub place : ℕ
   pub fault : fault_in d front ended bytes ≡ Some (place, error.number)
   pub line : error.line ≡ before + place + 1
-  pub none : given d front ended bytes ≡ []
+  pub none : given_runs d front ended bytes ≡ []
 
 -- the bytes have no answer yet, so that a read is needed: the end wasn't read, no run is given of them, and none of their lines is faulty
 pub record NeedsMore (d : DictionaryText) (bytes : List ℕ) (front ended : Bool) : Type 0 where
   pub unended : ended ≡ false
-  pub none : given d front ended bytes ≡ []
+  pub none : given_runs d front ended bytes ≡ []
   pub sound : fault_in d front ended bytes ≡ None
 
 -- an error: the fault of a line, or 70 or 90 without a line. 70 comes only where a read is needed, however the device stood before the call.

@@ -72,8 +72,8 @@ unfoldable pub given_of : DictionaryText → Bool → List FileLine → List (Li
 given_of d ended lines = given_before d (first_fault d [] 0 lines) ended lines
 
 -- the runs that are given of bytes, at the front of the file or not, after which the file has ended or breaks off
-abbrev pub given : DictionaryText → Bool → Bool → List ℕ → List (List FileLine)
-given d front ended bytes = given_of d ended (lines_in front ended bytes)
+abbrev pub given_runs : DictionaryText → Bool → Bool → List ℕ → List (List FileLine)
+given_runs d front ended bytes = given_of d ended (lines_in front ended bytes)
 
 -- the first faulty line of these bytes: how many lines stand before it, and its fault
 unfoldable pub fault_in : DictionaryText → Bool → Bool → List ℕ → Option (ℕ × ℕ)

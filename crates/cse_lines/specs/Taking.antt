@@ -8,7 +8,7 @@ use Rattle.cse_lines.specs.Line.{FileLine, is_marked, lines_in}
 use Rattle.cse_lines.specs.Field.{ids_of}
 use Rattle.cse_lines.specs.Columns.{id_of, line_text}
 use Rattle.cse_lines.specs.Run.{IsLastLine, RunText, line_at, run_text, with_line, written_run}
-use Rattle.cse_lines.specs.Runs.{fault_in, fault_of, given, line_fault, place_after}
+use Rattle.cse_lines.specs.Runs.{fault_in, fault_of, given_runs, line_fault, place_after}
 use Rattle.cse_lines.specs.Reader.{GivesRun}
 use Rattle.cse_lines.specs.Cutting.{HasNoFeed}
 use Rattle.cse_lines.specs.Gathering.{Gathered, front_after}
@@ -92,6 +92,6 @@ Cuts d front ended old uncut new rest (Some run) = GivesFirst d front ended old 
 -- a faulty line: so many lines stand before it, and no run is given
 pub record RefusesAt (d : DictionaryText) (front ended : Bool) (old : RunText) (uncut : List ℕ) (new : RunText) (number : ℕ) : Type 0 where
   pub fault : fault_in d front ended (written_run old ++ uncut) ≡ Some (length new.lines, number)
-  pub none : given d front ended (written_run old ++ uncut) ≡ []
+  pub none : given_runs d front ended (written_run old ++ uncut) ≡ []
   pub few : length new.lines ≤ length old.lines + length uncut
   pub low : number < 70

@@ -95,7 +95,8 @@ pub fn push_lines(
     requires last { IsLastOf lines.old.items last }
     ensures fits { result ≤ length bytes.now }
     ensures laid { IsLaid 0 columns.new lines.new.items }
-    ensures written { flat_map written_line (laid_lines columns.new lines.new.items) ≡ flat_map written_line (laid_lines columns.old lines.old.items) ++ take result bytes.now }
+    ensures written { flat_map written_line (laid_lines columns.new lines.new.items)
+        ≡ flat_map written_line (laid_lines columns.old lines.old.items) ++ take result bytes.now }
     ensures more { GathersOn width columns.old lines.old.items bytes.now columns.new lines.new.items (drop result bytes.now) }
     ensures keeps_columns { take (length columns.old) columns.new ≡ columns.old }
     ensures keeps_lines { take (length lines.old.items) lines.new.items ≡ lines.old.items }

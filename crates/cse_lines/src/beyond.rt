@@ -10,7 +10,7 @@ ghost use Rattle.cse_lines.specs.Run.{with_columns};
 
 use crate::columns::{piece, put_at};
 use crate::copy::put_piece;
-use crate::decode::Stop;
+use crate::decode::LineStop;
 use crate::fill::put_blanks;
 use std::simd::prelude::*;
 
@@ -236,7 +236,7 @@ fn put_short_beyond(bytes: &mut [u8], beside: &mut [char], text: &[u8]) -> Optio
 /// The characters of a text over as many of the columns, and blanks over the others, whatever its characters
 /// are.
 #[inline(never)]
-fn put_any(bytes: &mut [u8], beside: &mut [char], text: &[u8]) -> Result<usize, Stop>
+fn put_any(bytes: &mut [u8], beside: &mut [char], text: &[u8]) -> Result<usize, LineStop>
     requires bytes { length text.now ≤ length bytes.old }
     requires beside { length bytes.old ≤ length beside.old }
     ensures len { length bytes.new ≡ length bytes.old }
@@ -247,13 +247,13 @@ fn put_any(bytes: &mut [u8], beside: &mut [char], text: &[u8]) -> Result<usize, 
 {
     match str::from_utf8(text) {
         Ok(text) => Ok(put_text(bytes, beside, text)),
-        Err(_) => Err(Stop::Fault(20)),
+        Err(_) => Err(LineStop::Fault(20)),
     }
 }
 
 /// The characters of a text over columns whose bytes are its own. Tells how many characters there are.
 #[inline(always)]
-pub fn put_beyond(bytes: &mut [u8], beside: &mut [char], text: &[u8]) -> Result<usize, Stop>
+pub fn put_beyond(bytes: &mut [u8], beside: &mut [char], text: &[u8]) -> Result<usize, LineStop>
     requires over { bytes.old ≡ padded (length bytes.old) text.now }
     requires fits { length text.now ≤ length bytes.old }
     requires beside { length bytes.old ≤ length beside.old }

@@ -4,7 +4,7 @@ ghost use Rattle.std.specs.Prelude.{◌≡◌, ◌<◌, ◌≤◌, ◌-◌, ◌+
 ghost use Rattle.cse_dict.specs.Dictionary.{number_of_type};
 ghost use Rattle.std.specs.Str.{chars, is_utf8};
 ghost use Rattle.cse_lines.specs.declared.decode.Beginning.TheVariants.{Alike, Apart};
-ghost use Rattle.cse_lines.specs.declared.decode.Stop.TheVariants.{Memory};
+ghost use Rattle.cse_lines.specs.declared.decode.LineStop.TheVariants.{Memory};
 ghost use Rattle.cse_lines.specs.Field.{TellApart, field_at, last_column, layout_of, least_width, padded, record_len, record_of, type_span, width_of};
 ghost use Rattle.cse_lines.specs.Runs.{line_fault};
 ghost use Rattle.cse_lines.specs.Bytes.{columns_lent};
@@ -13,7 +13,7 @@ ghost use Rattle.cse_lines.specs.Decoding.{BeginsAs, Holds, IfFault, IsDecoded, 
 use crate::columns::{Columns, put_columns};
 use crate::cut::{MOST_BYTES, split_end, split_mark};
 use crate::filled::Filled;
-use crate::layout::{Layout, Span, field_at, is_same_at};
+use crate::layout::{ColumnSpan, Layout, field_at, is_same_at};
 use crate::line::Ending;
 use crate::same::is_same;
 use cse_dict::Dictionary;
@@ -23,22 +23,22 @@ use std::alloc::AllocError;
 pub const MOST_COLUMNS: usize = 65_536;
 
 /// Why a line isn't taken: want of memory, or a fault of this number.
-#[derive(Clone, Copy, Debug, PartialEq, Eq)]
-pub enum Stop {
+#[derive(Clone, Copy, PartialEq, Eq)]
+pub enum LineStop {
     Memory,
     Fault(u8),
 }
 
-impl From<AllocError> for Stop {
+impl From<AllocError> for LineStop {
     ghost from_gives = { λ _ e. e ≡ Memory };
 
-    fn from(_refused: AllocError) -> Stop {
-        Stop::Memory
+    fn from(_refused: AllocError) -> LineStop {
+        LineStop::Memory
     }
 }
 
 /// How a line begins, beside the line before it.
-#[derive(Clone, Copy, Debug, PartialEq, Eq)]
+#[derive(Clone, Copy, PartialEq, Eq)]
 pub enum Beginning {
     /// As that line, up to the least width of a line.
     Alike,
@@ -49,7 +49,7 @@ pub enum Beginning {
 }
 
 /// What a line is beside its columns.
-#[derive(Clone, Copy, Debug, PartialEq, Eq)]
+#[derive(Clone, Copy, PartialEq, Eq)]
 pub struct Head {
     /// How many columns it has in the file.
     pub len: usize,
@@ -91,7 +91,7 @@ fn record_of_any(dictionary: &Dictionary, columns: Columns<'_>) -> Option<u16>
 
 /// The number of the record whose type stands at a place, which has at most 16 columns, and mostly one.
 #[inline(always)]
-fn record_of(dictionary: &Dictionary, columns: Columns<'_>, span: Span) -> Option<u16>
+fn record_of(dictionary: &Dictionary, columns: Columns<'_>, span: ColumnSpan) -> Option<u16>
     requires few { span.len ≤ 16 }
     requires there { last_column (span ∷ []) ≤ length (columns_lent columns) }
     ensures { result ≡ number_of_type (field_at span (columns_lent columns.entry)) dictionary.now }
@@ -176,7 +176,7 @@ pub fn decode(
     front: bool,
     last: Option<(Columns<'_>, Option<u16>)>,
     columns: &mut Filled,
-) -> Result<Head, Stop>
+) -> Result<Head, LineStop>
     requires layout { layout.now ≡ layout_of dictionary.now }
     requires last { IfSome last (λ l. IsTyped dictionary.now (columns_lent l.0) l.1) }
     ensures ok { IfOk result (λ head. IsDecoded dictionary.now (front, line.now) columns.new head) }
@@ -187,11 +187,11 @@ pub fn decode(
     let (bytes, ending) = split_end(line);
     let (marked, text) = split_mark(bytes, front);
     if text.len() > MOST_BYTES {
-        return Err(Stop::Fault(21));
+        return Err(LineStop::Fault(21));
     }
     let len = columns.read(text)?;
     if len > MOST_COLUMNS {
-        return Err(Stop::Fault(21));
+        return Err(LineStop::Fault(21));
     }
     let (record_number, beginning) = widen(dictionary, layout, columns, len, last)?;
     Ok(Head {

@@ -13,7 +13,7 @@ ghost use Rattle.cse_lines.specs.Run.{with_columns};
 use crate::beyond::put_beyond;
 use crate::columns::{Columns, OwnColumns};
 use crate::copy::put_beside;
-use crate::decode::Stop;
+use crate::decode::LineStop;
 use crate::few::put_small;
 use crate::fill::{put_blanks, put_line};
 use std::alloc::{AllocError, Global};
@@ -56,7 +56,7 @@ fn put_beyond_in(
     beside: &mut [char],
     len: usize,
     text: &[u8],
-) -> Result<usize, Stop>
+) -> Result<usize, LineStop>
     requires room { len ≤ length bytes.old.items }
     requires beside { length bytes.old.items ≤ length beside.old }
     requires over { take len bytes.old.items ≡ padded len text.now }
@@ -233,7 +233,7 @@ impl Filled {
 
     /// The characters of a text in place of the columns, and blanks in place of those that are left. Tells how many
     /// characters there are.
-    pub(crate) fn read(&mut self, text: &[u8]) -> Result<usize, Stop>
+    pub(crate) fn read(&mut self, text: &[u8]) -> Result<usize, LineStop>
         ensures columns { IfOk result (λ len. Holds self.new (chars text.now) len) }
         ensures utf8 { OnOk result (is_utf8 text.now ≡ true) }
         ensures err { IfErr result (IfFault (λ number. (number ≡ 20) × (is_utf8 text.now ≡ false))) }

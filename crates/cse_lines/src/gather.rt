@@ -9,7 +9,7 @@ ghost use Rattle.cse_lines.specs.Taking.{Cuts, RefusesAt};
 
 use crate::buffer::Buffer;
 use crate::cut::first_line;
-use crate::decode::Stop;
+use crate::decode::LineStop;
 use crate::layout::Layout;
 use crate::run::{Lines, Run};
 use crate::take::{end_run, take_line};
@@ -45,7 +45,7 @@ pub fn gather(
     buffer: &mut Buffer,
     first: bool,
     ended: bool,
-) -> Result<Option<Run>, Stop>
+) -> Result<Option<Run>, LineStop>
     requires layout { layout.now ≡ layout_of dictionary.now }
     requires gathered { Gathered dictionary.now first ended run.old.first_line run.old buffer.old }
     requires number { run.old.first_line + (length run.old.lines + length buffer.old) < 2 ^ 64 }

@@ -13,8 +13,8 @@ use std::alloc::{AllocError, Global};
 use std::marker::Model;
 
 /// Columns of a line: the first of them, counted from 1, and how many.
-#[derive(Clone, Copy, Debug, PartialEq, Eq)]
-pub struct Span {
+#[derive(Clone, Copy, PartialEq, Eq)]
+pub struct ColumnSpan {
     pub start: u32,
     pub len: u32,
 }
@@ -23,10 +23,10 @@ pub struct Span {
 /// column of all these.
 #[derive(Drop)]
 pub struct Layout {
-    ids: Vec<Span>,
+    ids: Vec<ColumnSpan>,
     /// The same columns, those that lie side by side as one place.
-    blocks: Vec<Span>,
-    record_type: Span,
+    blocks: Vec<ColumnSpan>,
+    record_type: ColumnSpan,
     least_width: usize,
     /// Whether the record type and the id items are known to fill each line up to the least width.
     is_filled: bool,
@@ -45,17 +45,17 @@ impl Model for Layout {
 }
 
 /// The columns of an item.
-fn span_of(item: &ItemShape) -> Span
+fn span_of(item: &ItemShape) -> ColumnSpan
     ensures { result ≡ span_of item.now }
 {
-    Span {
+    ColumnSpan {
         start: item.start,
         len: u32::from(item.len),
     }
 }
 
 /// The columns of the id items among items, in their order.
-fn id_spans(alloc: Global, items: &[ItemShape]) -> Result<Vec<Span>, AllocError>
+fn id_spans(alloc: Global, items: &[ItemShape]) -> Result<Vec<ColumnSpan>, AllocError>
     ensures { IfOk result (λ v. v.items ≡ map span_of (filter (λ item. item.owner == 255) items.now)) }
 {
     items
@@ -66,14 +66,14 @@ fn id_spans(alloc: Global, items: &[ItemShape]) -> Result<Vec<Span>, AllocError>
 }
 
 /// The last column of a place.
-fn last_of(span: Span) -> usize
+fn last_of(span: ColumnSpan) -> usize
     ensures { result ≡ span.start - 1 + span.len }
 {
     (span.start as usize).saturating_sub(1) + span.len as usize
 }
 
 /// The last column of these places.
-fn last_column(spans: &[Span]) -> usize
+fn last_column(spans: &[ColumnSpan]) -> usize
     ensures { result ≡ last_column spans.now }
 {
     let mut last = 0usize;
@@ -84,7 +84,7 @@ fn last_column(spans: &[Span]) -> usize
 }
 
 /// Two places as one, if the second one lies behind the first.
-fn join(first: Span, second: Span) -> Option<Span>
+fn join(first: ColumnSpan, second: ColumnSpan) -> Option<ColumnSpan>
     ensures { IfSome result (λ both. HaveSame (both ∷ []) (first ∷ second ∷ [])) }
 {
     let end = first.start.checked_add(first.len)?;
@@ -92,14 +92,14 @@ fn join(first: Span, second: Span) -> Option<Span>
         return None;
     }
     let len = first.len.checked_add(second.len)?;
-    Some(Span {
+    Some(ColumnSpan {
         start: first.start,
         len,
     })
 }
 
 /// Adds a place behind others: as one with the last of them, where the two lie side by side.
-fn add_block(blocks: &mut Vec<Span>, span: Span) -> Result<(), AllocError>
+fn add_block(blocks: &mut Vec<ColumnSpan>, span: ColumnSpan) -> Result<(), AllocError>
     ensures { OnOk result (HaveSame blocks.new.items (blocks.old.items ++ span ∷ [])) }
 {
     if let Some(last) = blocks.pop() {
@@ -114,7 +114,7 @@ fn add_block(blocks: &mut Vec<Span>, span: Span) -> Result<(), AllocError>
 }
 
 /// The same columns, those that lie side by side as one place.
-fn blocks_of(alloc: Global, spans: &[Span]) -> Result<Vec<Span>, AllocError>
+fn blocks_of(alloc: Global, spans: &[ColumnSpan]) -> Result<Vec<ColumnSpan>, AllocError>
     ensures { IfOk result (λ blocks. HaveSame blocks.items spans.now) }
 {
     let mut blocks = Vec::new(alloc);
@@ -125,7 +125,7 @@ fn blocks_of(alloc: Global, spans: &[Span]) -> Result<Vec<Span>, AllocError>
 }
 
 /// The columns of the id items of a dictionary, those that lie side by side as one place.
-pub fn id_blocks(alloc: Global, dictionary: &Dictionary) -> Result<Vec<Span>, AllocError>
+pub fn id_blocks(alloc: Global, dictionary: &Dictionary) -> Result<Vec<ColumnSpan>, AllocError>
     ensures { IfOk result (λ blocks. HaveSame blocks.items (id_spans dictionary.now)) }
 {
     let ids = id_spans(alloc, &dictionary.shape().items)?;
@@ -133,7 +133,7 @@ pub fn id_blocks(alloc: Global, dictionary: &Dictionary) -> Result<Vec<Span>, Al
 }
 
 /// Whether two places are all columns up to a width: the one from the first column on, the other behind it.
-fn are_front(first: Span, second: Span, width: usize) -> bool
+fn are_front(first: ColumnSpan, second: ColumnSpan, width: usize) -> bool
     ensures { result ≡ true → AreFront first second width }
 {
     match join(first, second) {
@@ -143,7 +143,7 @@ fn are_front(first: Span, second: Span, width: usize) -> bool
 }
 
 /// Whether the record type and the id items, of which these are the places, fill a line up to a width.
-fn is_filled(record_type: Span, blocks: &[Span], width: usize) -> bool
+fn is_filled(record_type: ColumnSpan, blocks: &[ColumnSpan], width: usize) -> bool
     ensures { result ≡ true → TellApart record_type blocks.now width }
 {
     match blocks {
@@ -153,7 +153,7 @@ fn is_filled(record_type: Span, blocks: &[Span], width: usize) -> bool
 }
 
 /// What stands at a place.
-pub fn field_at(columns: Columns<'_>, span: Span) -> Columns<'_>
+pub fn field_at(columns: Columns<'_>, span: ColumnSpan) -> Columns<'_>
     requires { last_column (span ∷ []) ≤ length (columns_lent columns) }
     ensures { columns_lent result ≡ field_at span (columns_lent columns.entry) }
 {
@@ -163,7 +163,7 @@ pub fn field_at(columns: Columns<'_>, span: Span) -> Columns<'_>
 
 /// Whether the same stands at a place.
 #[inline(always)]
-pub(crate) fn is_same_at(a: Columns<'_>, b: Columns<'_>, span: Span) -> bool
+pub(crate) fn is_same_at(a: Columns<'_>, b: Columns<'_>, span: ColumnSpan) -> bool
     requires left { last_column (span ∷ []) ≤ length (columns_lent a) }
     requires right { last_column (span ∷ []) ≤ length (columns_lent b) }
     ensures { result ≡ bytes_eq (field_at span (columns_lent a.entry)) (field_at span (columns_lent b.entry)) }
@@ -173,7 +173,7 @@ pub(crate) fn is_same_at(a: Columns<'_>, b: Columns<'_>, span: Span) -> bool
 }
 
 /// Whether the same stands at these places.
-fn are_equal(spans: &[Span], a: Columns<'_>, b: Columns<'_>) -> bool
+fn are_equal(spans: &[ColumnSpan], a: Columns<'_>, b: Columns<'_>) -> bool
     requires left { last_column spans.now ≤ length (columns_lent a) }
     requires right { last_column spans.now ≤ length (columns_lent b) }
     ensures { result ≡ bytes_eq (fields_at spans.now (columns_lent a.entry)) (fields_at spans.now (columns_lent b.entry)) }
@@ -193,7 +193,7 @@ impl Layout {
     {
         let ids = id_spans(alloc, &dictionary.shape().items)?;
         let (start, len) = dictionary.type_columns();
-        let record_type = Span { start, len };
+        let record_type = ColumnSpan { start, len };
         let least_width = last_of(record_type).max(last_column(&ids));
         let blocks = blocks_of(alloc, &ids)?;
         let is_filled = is_filled(record_type, &blocks, least_width);
@@ -214,7 +214,7 @@ impl Layout {
     }
 
     /// The columns of the record type.
-    pub fn record_type(&self) -> Span
+    pub fn record_type(&self) -> ColumnSpan
         ensures { result ≡ self.now.record_type }
     {
         self.record_type

@@ -7,7 +7,7 @@ ghost use Rattle.cse_lines.specs.Reader.{Next, given_lines};
 ghost use Rattle.cse_lines.specs.Resting.{IsLayoutOf, IsResting, TakesRest, reader_of};
 
 use crate::buffer::{Buffer, ReadFault};
-use crate::decode::Stop;
+use crate::decode::LineStop;
 use crate::error::DataError;
 use crate::gather::gather;
 use crate::layout::Layout;
@@ -83,8 +83,8 @@ fn next_run<R: Input>(
             Ok(Some(given)) => return Ok(Some(given)),
             Ok(None) if *ended => return Ok(take_rest(alloc, run)),
             Ok(None) => {}
-            Err(Stop::Memory) => return Err(error(90)),
-            Err(Stop::Fault(number)) => return Err(DataError {
+            Err(LineStop::Memory) => return Err(error(90)),
+            Err(LineStop::Fault(number)) => return Err(DataError {
                 number,
                 line: lines + run.len() as u64 + 1,
             }),

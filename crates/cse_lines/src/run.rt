@@ -183,7 +183,9 @@ impl Lines {
         requires whole { IsWhole self.old.columns self.old.lines.items self.old.bytes }
         ensures whole { IsWhole self.new.columns self.new.lines.items self.new.bytes }
         ensures fits { IfOk result (λ n. n ≤ length bytes.now) }
-        ensures more { IfOk result (λ n. (marked : Bool) (first_line : ℕ) → GoesOnFrom width (laid_run self.old.columns self.old.lines.items marked first_line) bytes.now (laid_run self.new.columns self.new.lines.items marked first_line) (drop n bytes.now)) }
+        ensures more { IfOk result (λ n. (marked : Bool) (first_line : ℕ)
+            → GoesOnFrom width (laid_run self.old.columns self.old.lines.items marked first_line) bytes.now
+            (laid_run self.new.columns self.new.lines.items marked first_line) (drop n bytes.now)) }
     {
         let count = self.lines.len();
         if count == 0 || !self.is_ascii {

@@ -9,7 +9,7 @@ ghost use Rattle.cse_lines.specs.Taking.{BeginsAsLast, LastIsLike, Refuses, Take
 ghost use Rattle.cse_lines.specs.Written.{mark_bytes, written_line};
 
 use crate::columns::Columns;
-use crate::decode::{Beginning, Head, Stop, decode};
+use crate::decode::{Beginning, Head, LineStop, decode};
 use crate::filled::Filled;
 use crate::layout::Layout;
 use crate::run::{Lines, Run, new_lines};
@@ -53,7 +53,7 @@ pub fn take_line(
     columns: &mut Filled,
     line: &[u8],
     front: bool,
-) -> Result<Option<Head>, Stop>
+) -> Result<Option<Head>, LineStop>
     requires layout { layout.now ≡ layout_of dictionary.now }
     requires width { 0 < length run.old.lines → least_width dictionary.now ≤ length (line_at run.old 0).columns }
     requires last { LastIsLike dictionary.now run.old }
@@ -68,7 +68,7 @@ pub fn take_line(
         return Ok(Some(head));
     }
     if len == MOST_LINES {
-        return Err(Stop::Fault(22));
+        return Err(LineStop::Fault(22));
     }
     run.push(columns, head, line)?;
     Ok(None)

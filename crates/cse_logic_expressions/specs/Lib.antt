@@ -1,2 +1,3 @@
 pub mod Judge
 pub mod JudgeStatement
+pub mod Clauses

@@ -1,15 +1,15 @@
 //! Statements that hold no others.
 
-ghost use Rattle.std.specs.Prelude.{◌≡◌, ◌||◌, not, false, map, Some, IfOk, OnOk};
+ghost use Rattle.std.specs.Prelude.{◌≡◌, ◌||◌, not, false, Some, IfOk, OnOk};
 ghost use Rattle.std.specs.Option.{option_map};
-ghost use Rattle.cse_syntax_tree.specs.Tree.{written, expr, exprs};
+ghost use Rattle.cse_syntax_tree.specs.Tree.{expr};
 ghost use Rattle.cse_logic_tree.specs.Typed as typed;
 ghost use Rattle.cse_logic_tree.specs.Typed.{statement};
-ghost use Rattle.cse_logic_names.specs.Scope.{meant};
 ghost use Rattle.cse_logic_names.specs.WellTyped as well;
-ghost use Rattle.cse_logic_expressions.specs.Judge.{as_number, expr_count, judge, judge_all};
+ghost use Rattle.cse_logic_expressions.specs.Judge.{as_number, judge};
 ghost use Rattle.cse_logic_expressions.specs.JudgeStatement as spec;
 ghost use Rattle.cse_logic_names.specs.Walk.{is_there, only_if, IsNoted};
+ghost use Rattle.cse_logic_expressions.specs.Clauses.{by_name, by_name_with, by_place};
 
 use crate::assign::{assign, call_of, impute, put_deck};
 use crate::expression::{all_values, expression, text_token, value};
@@ -27,8 +27,8 @@ pub fn assignment<'a>(
     place: &Place<'a>,
     x: &Expression<'a>,
 ) -> Result<Option<Statement<'a>>, AllocError>
-    ensures value { IfOk result (λ r. option_map statement r ≡ spec.assign scope.now (written place.now.name) (meant scope.now (written place.now.name)) (expr_count (exprs (map expr place.now.subscripts.items))) (judge_all scope.now (exprs (map expr place.now.subscripts.items))) (judge scope.now false (expr x.now))) }
-    ensures noted { OnOk result (IsNoted faults.old faults.new (is_there (spec.assign scope.now (written place.now.name) (meant scope.now (written place.now.name)) (expr_count (exprs (map expr place.now.subscripts.items))) (judge_all scope.now (exprs (map expr place.now.subscripts.items))) (judge scope.now false (expr x.now))))) }
+    ensures value { IfOk result (λ r. option_map statement r ≡ by_place spec.assign scope.now place.now (judge scope.now false (expr x.now))) }
+    ensures noted { OnOk result (IsNoted faults.old faults.new (is_there (by_place spec.assign scope.now place.now (judge scope.now false (expr x.now))))) }
 {
     let count = place.subscripts.len();
     let subscripts = all_values(alloc, scope, faults, &place.subscripts)?;
@@ -52,8 +52,9 @@ pub fn imputation<'a>(
     place: &Place<'a>,
     x: &Expression<'a>,
 ) -> Result<Option<Statement<'a>>, AllocError>
-    ensures value { IfOk result (λ r. option_map statement r ≡ spec.impute scope.now (written place.now.name) (meant scope.now (written place.now.name)) (expr_count (exprs (map expr place.now.subscripts.items))) (judge_all scope.now (exprs (map expr place.now.subscripts.items))) (as_number (judge scope.now false (expr x.now)))) }
-    ensures noted { OnOk result (IsNoted faults.old faults.new (is_there (spec.impute scope.now (written place.now.name) (meant scope.now (written place.now.name)) (expr_count (exprs (map expr place.now.subscripts.items))) (judge_all scope.now (exprs (map expr place.now.subscripts.items))) (as_number (judge scope.now false (expr x.now)))))) }
+    ensures value { IfOk result (λ r. option_map statement r ≡ by_place spec.impute scope.now place.now (as_number (judge scope.now false (expr x.now)))) }
+    ensures noted { OnOk result
+        (IsNoted faults.old faults.new (is_there (by_place spec.impute scope.now place.now (as_number (judge scope.now false (expr x.now)))))) }
 {
     let count = place.subscripts.len();
     let subscripts = all_values(alloc, scope, faults, &place.subscripts)?;
@@ -69,8 +70,8 @@ pub fn alone<'a>(
     name: Lexeme<'a>,
     arguments: &Vec<Expression<'a>>,
 ) -> Result<Option<Statement<'a>>, AllocError>
-    ensures value { IfOk result (λ r. option_map statement r ≡ spec.call_of scope.now (written name.entry) (meant scope.now (written name.entry)) (expr_count (exprs (map expr arguments.now.items))) (judge_all scope.now (exprs (map expr arguments.now.items)))) }
-    ensures noted { OnOk result (IsNoted faults.old faults.new (is_there (spec.call_of scope.now (written name.entry) (meant scope.now (written name.entry)) (expr_count (exprs (map expr arguments.now.items))) (judge_all scope.now (exprs (map expr arguments.now.items)))))) }
+    ensures value { IfOk result (λ r. option_map statement r ≡ by_name_with spec.call_of scope.now name.entry arguments.now.items) }
+    ensures noted { OnOk result (IsNoted faults.old faults.new (is_there (by_name_with spec.call_of scope.now name.entry arguments.now.items))) }
 {
     let found = all_values(alloc, scope, faults, arguments)?;
     Ok(call_of(scope, faults, name, arguments.len(), found))
@@ -84,8 +85,9 @@ pub fn deck_value<'a>(
     deck: Lexeme<'a>,
     x: &Expression<'a>,
 ) -> Result<Option<Statement<'a>>, AllocError>
-    ensures value { IfOk result (λ r. option_map statement r ≡ spec.put_deck scope.now (written deck.entry) (meant scope.now (written deck.entry)) (as_number (judge scope.now false (expr x.now)))) }
-    ensures noted { OnOk result (IsNoted faults.old faults.new (is_there (spec.put_deck scope.now (written deck.entry) (meant scope.now (written deck.entry)) (as_number (judge scope.now false (expr x.now)))))) }
+    ensures value { IfOk result (λ r. option_map statement r ≡ by_name spec.put_deck scope.now deck.entry (as_number (judge scope.now false (expr x.now)))) }
+    ensures noted { OnOk result
+        (IsNoted faults.old faults.new (is_there (by_name spec.put_deck scope.now deck.entry (as_number (judge scope.now false (expr x.now)))))) }
 {
     let found = value(alloc, scope, faults, false, x)?;
     put_deck(alloc, scope, faults, deck, found)

@@ -1,10 +1,10 @@
 //! Assignments, imputations, values put into hot decks, and calls that stand alone.
 
-ghost use Rattle.std.specs.Prelude.{◌≡◌, ◌==◌, ◌||◌, not, true, false, map, slice_get, Some, None, IfOk, OnOk};
+ghost use Rattle.std.specs.Prelude.{◌≡◌, ◌==◌, true, false, slice_get, Some, None, IfOk, OnOk};
 ghost use Rattle.std.specs.Option.{option_map};
 ghost use Rattle.cse_syntax_tree.specs.Tree.{written};
 ghost use Rattle.cse_logic_tree.specs.Typed as typed;
-ghost use Rattle.cse_logic_tree.specs.Typed.{number, numbers, words, statement};
+ghost use Rattle.cse_logic_tree.specs.Typed.{number, words, statement};
 ghost use Rattle.cse_logic_names.specs.Scope.{meant, kind_and_owner, found};
 ghost use Rattle.cse_logic_names.specs.WellTyped.{dimensions_of, may_call};
 ghost use Rattle.cse_logic_expressions.specs.Judge as judge;
@@ -12,6 +12,7 @@ ghost use Rattle.cse_logic_expressions.specs.Judge.{judged, as_number, is_sound}
 ghost use Rattle.cse_logic_expressions.specs.JudgeStatement as spec;
 ghost use Rattle.cse_logic_expressions.specs.JudgeStatement.{as_words, placed};
 ghost use Rattle.cse_logic_names.specs.Walk.{is_there, joined, only_if, IsNoted, IsNotedAfter};
+ghost use Rattle.cse_logic_expressions.specs.Clauses.{IsNotedAfterBoth, by_name, numbers_made};
 
 use crate::call::{has_dimensions, is_free, may_call};
 use crate::deck::picks;
@@ -106,7 +107,8 @@ fn assign_variable<'a>(
     token: usize,
 ) -> Option<Statement<'a>>
     ensures value { option_map statement result ≡ spec.assign_variable scope.now (written name.entry) variable count (judged value.entry) }
-    ensures noted { IsNotedAfter (is_sound (judged value.entry)) faults.old faults.new (is_there (spec.assign_variable scope.now (written name.entry) variable count (judged value.entry))) }
+    ensures noted { IsNotedAfter (is_sound (judged value.entry)) faults.old faults.new
+        (is_there (spec.assign_variable scope.now (written name.entry) variable count (judged value.entry))) }
 {
     if count != 0 {
         faults.note(44, name.token);
@@ -128,7 +130,8 @@ fn assign_result<'a>(
     token: usize,
 ) -> Option<Statement<'a>>
     ensures value { option_map statement result ≡ spec.assign_variable scope.now (written name.entry) own count (judged value.entry) }
-    ensures noted { IsNotedAfter (is_sound (judged value.entry)) faults.old faults.new (is_there (spec.assign_variable scope.now (written name.entry) own count (judged value.entry))) }
+    ensures noted { IsNotedAfter (is_sound (judged value.entry)) faults.old faults.new
+        (is_there (spec.assign_variable scope.now (written name.entry) own count (judged value.entry))) }
 {
     if count != 0 {
         faults.note(40, name.token);
@@ -154,8 +157,10 @@ fn assign_text<'a>(
     count: usize,
     value: Judged<'a>,
 ) -> Option<Statement<'a>>
-    ensures value { option_map statement result ≡ only_if (count == 0) (option_map (typed.SetText (written name.entry) global) (as_words (judged value.entry))) }
-    ensures noted { IsNotedAfter (is_sound (judged value.entry)) faults.old faults.new (is_there (only_if (count == 0) (option_map (typed.SetText (written name.entry) global) (as_words (judged value.entry))))) }
+    ensures value { option_map statement result
+        ≡ only_if (count == 0) (option_map (typed.SetText (written name.entry) global) (as_words (judged value.entry))) }
+    ensures noted { IsNotedAfter (is_sound (judged value.entry)) faults.old faults.new
+        (is_there (only_if (count == 0) (option_map (typed.SetText (written name.entry) global) (as_words (judged value.entry))))) }
 {
     if count != 0 {
         faults.note(44, name.token);
@@ -171,7 +176,7 @@ fn set_cell<'a>(
     subscripts: Option<Vec<Number<'a>>>,
     value: Option<Number<'a>>,
 ) -> Option<Statement<'a>>
-    ensures { option_map statement result ≡ joined (typed.SetCell (written name.entry) array) (option_map (λ v. numbers (map number v.items)) subscripts.entry) (option_map number value.entry) }
+    ensures { option_map statement result ≡ joined (typed.SetCell (written name.entry) array) (numbers_made subscripts.entry) (option_map number value.entry) }
 {
     match subscripts.zip(value) {
         None => None,
@@ -224,7 +229,8 @@ fn put<'a>(
     picks: Option<Vec<Pick>>,
     value: Option<Number<'a>>,
 ) -> Option<Statement<'a>>
-    ensures { option_map statement result ≡ joined (typed.PutDeck (written name.entry) array) (option_map (λ v. v.items) picks) (option_map number value.entry) }
+    ensures { option_map statement result
+        ≡ joined (typed.PutDeck (written name.entry) array) (option_map (λ v. v.items) picks) (option_map number value.entry) }
 {
     match picks.zip(value) {
         None => None,
@@ -237,7 +243,7 @@ fn call<'a>(
     function: usize,
     arguments: Option<Vec<Number<'a>>>,
 ) -> Option<Statement<'a>>
-    ensures { option_map statement result ≡ option_map (typed.CallOf (written name.entry) function) (option_map (λ v. numbers (map number v.items)) arguments.entry) }
+    ensures { option_map statement result ≡ option_map (typed.CallOf (written name.entry) function) (numbers_made arguments.entry) }
 {
     match arguments {
         None => None,
@@ -253,8 +259,9 @@ pub fn call_of<'a>(
     count: usize,
     arguments: Option<Vec<Number<'a>>>,
 ) -> Option<Statement<'a>>
-    ensures value { option_map statement result ≡ spec.call_of scope.now (written name.entry) (meant scope.now (written name.entry)) count (option_map (λ v. numbers (map number v.items)) arguments.entry) }
-    ensures noted { IsNotedAfter (is_there arguments.entry) faults.old faults.new (is_there (spec.call_of scope.now (written name.entry) (meant scope.now (written name.entry)) count (option_map (λ v. numbers (map number v.items)) arguments.entry))) }
+    ensures value { option_map statement result ≡ by_name spec.call_of scope.now name.entry count (numbers_made arguments.entry) }
+    ensures noted { IsNotedAfter (is_there arguments.entry) faults.old faults.new
+        (is_there (by_name spec.call_of scope.now name.entry count (numbers_made arguments.entry))) }
 {
     match scope.meant(name) {
         Some(Meaning::Function(function)) => {
@@ -282,8 +289,10 @@ fn assign_item<'a>(
     value: Judged<'a>,
     token: usize,
 ) -> Option<Statement<'a>>
-    ensures value { option_map statement result ≡ spec.assign_item scope.now (written name.entry) count number (kind_and_owner scope.now.dictionary number) (option_map (λ v. numbers (map typed.number v.items)) subscripts.entry) (judged value.entry) }
-    ensures noted { (is_there faults.old.worst || (not (is_there subscripts.entry) || not (is_sound (judged value.entry)))) ≡ is_there faults.old.worst → IsNoted faults.old faults.new (is_there (spec.assign_item scope.now (written name.entry) count number (kind_and_owner scope.now.dictionary number) (option_map (λ v. numbers (map typed.number v.items)) subscripts.entry) (judged value.entry))) }
+    ensures value { option_map statement result ≡ spec.assign_item scope.now (written name.entry) count number (kind_and_owner scope.now.dictionary number)
+        (numbers_made subscripts.entry) (judged value.entry) }
+    ensures noted { IsNotedAfterBoth (is_there subscripts.entry) (is_sound (judged value.entry)) faults.old faults.new (is_there (spec.assign_item scope.now
+        (written name.entry) count number (kind_and_owner scope.now.dictionary number) (numbers_made subscripts.entry) (judged value.entry))) }
 {
     match kind_and_owner(scope.dictionary, number) {
         None => {
@@ -321,8 +330,11 @@ fn assign_cell<'a>(
     value: Judged<'a>,
     token: usize,
 ) -> Option<Statement<'a>>
-    ensures value { option_map statement result ≡ only_if (judge.is_count count (dimensions_of scope.now array)) (joined (typed.SetCell (written name.entry) array) (option_map (λ v. numbers (map number v.items)) subscripts.entry) (as_number (judged value.entry))) }
-    ensures noted { (is_there faults.old.worst || (not (is_there subscripts.entry) || not (is_sound (judged value.entry)))) ≡ is_there faults.old.worst → IsNoted faults.old faults.new (is_there (only_if (judge.is_count count (dimensions_of scope.now array)) (joined (typed.SetCell (written name.entry) array) (option_map (λ v. numbers (map number v.items)) subscripts.entry) (as_number (judged value.entry))))) }
+    ensures value { option_map statement result ≡ only_if (judge.is_count count (dimensions_of scope.now array))
+        (joined (typed.SetCell (written name.entry) array) (numbers_made subscripts.entry) (as_number (judged value.entry))) }
+    ensures noted { IsNotedAfterBoth (is_there subscripts.entry) (is_sound (judged value.entry)) faults.old faults.new
+        (is_there (only_if (judge.is_count count (dimensions_of scope.now array))
+        (joined (typed.SetCell (written name.entry) array) (numbers_made subscripts.entry) (as_number (judged value.entry))))) }
 {
     if !has_dimensions(scope, faults, name.token, count, array) {
         // The array may be declared behind the value.
@@ -344,8 +356,9 @@ pub fn assign<'a>(
     value: Judged<'a>,
     token: usize,
 ) -> Option<Statement<'a>>
-    ensures value { option_map statement result ≡ spec.assign scope.now (written name.entry) (meant scope.now (written name.entry)) count (option_map (λ v. numbers (map number v.items)) subscripts.entry) (judged value.entry) }
-    ensures noted { (is_there faults.old.worst || (not (is_there subscripts.entry) || not (is_sound (judged value.entry)))) ≡ is_there faults.old.worst → IsNoted faults.old faults.new (is_there (spec.assign scope.now (written name.entry) (meant scope.now (written name.entry)) count (option_map (λ v. numbers (map number v.items)) subscripts.entry) (judged value.entry))) }
+    ensures value { option_map statement result ≡ by_name spec.assign scope.now name.entry count (numbers_made subscripts.entry) (judged value.entry) }
+    ensures noted { IsNotedAfterBoth (is_there subscripts.entry) (is_sound (judged value.entry)) faults.old faults.new
+        (is_there (by_name spec.assign scope.now name.entry count (numbers_made subscripts.entry) (judged value.entry))) }
 {
     match scope.meant(name) {
         Some(Meaning::Variable(variable)) => {
@@ -379,8 +392,10 @@ fn impute_number<'a>(
     subscripts: Option<Vec<Number<'a>>>,
     value: Option<Number<'a>>,
 ) -> Option<Statement<'a>>
-    ensures value { option_map statement result ≡ spec.impute_number scope.now (written name.entry) count item (kind_and_owner scope.now.dictionary item) (option_map (λ v. numbers (map number v.items)) subscripts.entry) (option_map number value.entry) }
-    ensures noted { (is_there faults.old.worst || (not (is_there subscripts.entry) || not (is_there value.entry))) ≡ is_there faults.old.worst → IsNoted faults.old faults.new (is_there (spec.impute_number scope.now (written name.entry) count item (kind_and_owner scope.now.dictionary item) (option_map (λ v. numbers (map number v.items)) subscripts.entry) (option_map number value.entry))) }
+    ensures value { option_map statement result ≡ spec.impute_number scope.now (written name.entry) count item (kind_and_owner scope.now.dictionary item)
+        (numbers_made subscripts.entry) (option_map number value.entry) }
+    ensures noted { IsNotedAfterBoth (is_there subscripts.entry) (is_there value.entry) faults.old faults.new (is_there (spec.impute_number scope.now
+        (written name.entry) count item (kind_and_owner scope.now.dictionary item) (numbers_made subscripts.entry) (option_map number value.entry))) }
 {
     match kind_and_owner(scope.dictionary, item) {
         None => {
@@ -415,8 +430,10 @@ pub fn impute<'a>(
     subscripts: Option<Vec<Number<'a>>>,
     value: Option<Number<'a>>,
 ) -> Option<Statement<'a>>
-    ensures value { option_map statement result ≡ spec.impute scope.now (written name.entry) (meant scope.now (written name.entry)) count (option_map (λ v. numbers (map number v.items)) subscripts.entry) (option_map number value.entry) }
-    ensures noted { (is_there faults.old.worst || (not (is_there subscripts.entry) || not (is_there value.entry))) ≡ is_there faults.old.worst → IsNoted faults.old faults.new (is_there (spec.impute scope.now (written name.entry) (meant scope.now (written name.entry)) count (option_map (λ v. numbers (map number v.items)) subscripts.entry) (option_map number value.entry))) }
+    ensures value { option_map statement result
+        ≡ by_name spec.impute scope.now name.entry count (numbers_made subscripts.entry) (option_map number value.entry) }
+    ensures noted { IsNotedAfterBoth (is_there subscripts.entry) (is_there value.entry) faults.old faults.new
+        (is_there (by_name spec.impute scope.now name.entry count (numbers_made subscripts.entry) (option_map number value.entry))) }
 {
     match scope.meant(name) {
         Some(Meaning::Item(item)) => {
@@ -437,8 +454,9 @@ pub fn put_deck<'a>(
     name: Lexeme<'a>,
     value: Option<Number<'a>>,
 ) -> Result<Option<Statement<'a>>, AllocError>
-    ensures value { IfOk result (λ r. option_map statement r ≡ spec.put_deck scope.now (written name.entry) (meant scope.now (written name.entry)) (option_map number value.entry)) }
-    ensures noted { OnOk result (IsNotedAfter (is_there value.entry) faults.old faults.new (is_there (spec.put_deck scope.now (written name.entry) (meant scope.now (written name.entry)) (option_map number value.entry)))) }
+    ensures value { IfOk result (λ r. option_map statement r ≡ by_name spec.put_deck scope.now name.entry (option_map number value.entry)) }
+    ensures noted { OnOk result
+        (IsNotedAfter (is_there value.entry) faults.old faults.new (is_there (by_name spec.put_deck scope.now name.entry (option_map number value.entry)))) }
 {
     let word = name.token.saturating_sub(2);
     match scope.meant(name) {

@@ -1,15 +1,16 @@
 //! Calls of functions and cells of arrays.
 
-ghost use Rattle.std.specs.Prelude.{◌≡◌, map, length, slice_get, Some, None};
+ghost use Rattle.std.specs.Prelude.{◌≡◌, length, slice_get, Some, None};
 ghost use Rattle.std.specs.Option.{option_map};
 ghost use Rattle.std.specs.List.{list_any, list_all};
 ghost use Rattle.cse_syntax_tree.specs.Tree.{written};
 ghost use Rattle.cse_logic_tree.specs.Typed as typed;
-ghost use Rattle.cse_logic_tree.specs.Typed.{number, numbers};
+ghost use Rattle.cse_logic_tree.specs.Typed.{number};
 ghost use Rattle.cse_logic_names.specs.Scope as scope_of;
 ghost use Rattle.cse_logic_names.specs.WellTyped as well;
 ghost use Rattle.cse_logic_expressions.specs.Judge as spec;
 ghost use Rattle.cse_logic_names.specs.Walk.{is_there, only_if, IsNoted, IsNotedAfter};
+ghost use Rattle.cse_logic_expressions.specs.Clauses.{numbers_made};
 
 use cse_logic_names::faults::Faults;
 use cse_logic_names::names::Globals;
@@ -109,7 +110,7 @@ pub fn cell<'a>(
     array: usize,
     subscripts: Option<Vec<Number<'a>>>,
 ) -> Option<Number<'a>>
-    ensures { option_map number result ≡ option_map (typed.Cell (written name.entry) array) (option_map (λ v. numbers (map number v.items)) subscripts.entry) }
+    ensures { option_map number result ≡ option_map (typed.Cell (written name.entry) array) (numbers_made subscripts.entry) }
 {
     match subscripts {
         None => None,
@@ -123,7 +124,7 @@ pub fn call<'a>(
     function: usize,
     arguments: Option<Vec<Number<'a>>>,
 ) -> Option<Number<'a>>
-    ensures { option_map number result ≡ option_map (typed.Call (written name.entry) function) (option_map (λ v. numbers (map number v.items)) arguments.entry) }
+    ensures { option_map number result ≡ option_map (typed.Call (written name.entry) function) (numbers_made arguments.entry) }
 {
     match arguments {
         None => None,

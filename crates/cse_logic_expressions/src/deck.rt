@@ -8,9 +8,10 @@ ghost use Rattle.cse_logic_tree.specs.Typed.{number, dimension};
 ghost use Rattle.cse_logic_names.specs.Scope.{meant};
 ghost use Rattle.cse_logic_expressions.specs.Judge as spec;
 ghost use Rattle.cse_logic_names.specs.Walk.{is_there, IsNoted, IsNotedAfter};
+ghost use Rattle.cse_logic_expressions.specs.Clauses.{by_name};
 
 use crate::item::{needs_case, number_present};
-use crate::list::{both, keep};
+use crate::list::{both_hold, keep};
 use crate::set::{current, max_occ, record_of, tot_occ, whole_set};
 use cse_logic_names::faults::Faults;
 use cse_logic_names::meaning::Meaning;
@@ -90,7 +91,7 @@ fn all_picks(
     'all: for x in directions {
         let next = pick(scope, faults, tokens, x);
         let is_there = keep(&mut found, next)?;
-        is_sound = both(is_sound, is_there);
+        is_sound = both_hold(is_sound, is_there);
     }
     if is_sound { Ok(Some(found)) } else { Ok(None) }
 }
@@ -149,8 +150,8 @@ fn deck_of<'a>(
     name: Lexeme<'a>,
     token: usize,
 ) -> Result<Option<Number<'a>>, AllocError>
-    ensures value { IfOk result (λ r. option_map number r ≡ spec.deck_of scope.now (written name.entry) (meant scope.now (written name.entry))) }
-    ensures noted { OnOk result (IsNoted faults.old faults.new (is_there (spec.deck_of scope.now (written name.entry) (meant scope.now (written name.entry))))) }
+    ensures value { IfOk result (λ r. option_map number r ≡ by_name spec.deck_of scope.now name.entry) }
+    ensures noted { OnOk result (IsNoted faults.old faults.new (is_there (by_name spec.deck_of scope.now name.entry))) }
 {
     match scope.meant(name) {
         Some(Meaning::Array(array)) => {
@@ -175,7 +176,8 @@ pub fn queried<'a>(
     name: Lexeme<'a>,
 ) -> Result<Option<Number<'a>>, AllocError>
     ensures value { IfOk result (λ r. option_map number r ≡ spec.queried scope.now query (written name.entry) (meant scope.now (written name.entry))) }
-    ensures noted { OnOk result (IsNoted faults.old faults.new (is_there (spec.queried scope.now query (written name.entry) (meant scope.now (written name.entry))))) }
+    ensures noted { OnOk result
+        (IsNoted faults.old faults.new (is_there (spec.queried scope.now query (written name.entry) (meant scope.now (written name.entry))))) }
 {
     let word = name.token.saturating_sub(2);
     match query {

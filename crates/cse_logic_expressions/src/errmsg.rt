@@ -17,7 +17,7 @@ ghost use Rattle.cse_logic_names.specs.Walk.{is_there, IsNoted};
 use crate::assign::number_in;
 use crate::expression::{expression, written_number};
 use crate::judged::Judged;
-use crate::list::{both, keep};
+use crate::list::{both_hold, keep};
 use cse_image_parts::placeholders::{ArgumentKind, Kinds, count_placeholders};
 use cse_logic_names::faults::Faults;
 use cse_logic_names::messages::Messages;
@@ -155,8 +155,10 @@ fn arguments<'a>(
     text: &[u8],
     values: &Vec<Expression<'a>>,
 ) -> Result<Option<Vec<Argument<'a>>>, AllocError>
-    ensures value { IfOk result (λ r. option_map (λ v. map argument v.items) r ≡ judge_arguments scope.now (message_kinds text.now) (exprs (map expr values.now.items))) }
-    ensures noted { OnOk result (IsNoted faults.old faults.new (is_there (judge_arguments scope.now (message_kinds text.now) (exprs (map expr values.now.items))))) }
+    ensures value { IfOk result (λ r. option_map (λ v. map argument v.items) r
+        ≡ judge_arguments scope.now (message_kinds text.now) (exprs (map expr values.now.items))) }
+    ensures noted { OnOk result
+        (IsNoted faults.old faults.new (is_there (judge_arguments scope.now (message_kinds text.now) (exprs (map expr values.now.items))))) }
 {
     let mut kinds = Kinds::new(text);
     let mut found = Vec::new(alloc);
@@ -165,7 +167,7 @@ fn arguments<'a>(
         let kind = kinds.next();
         let next = one_argument(alloc, scope, faults, kind, x)?;
         let is_there = keep(&mut found, next)?;
-        is_sound = both(is_sound, is_there);
+        is_sound = both_hold(is_sound, is_there);
     }
     if is_sound { Ok(Some(found)) } else { Ok(None) }
 }
@@ -176,7 +178,8 @@ fn message_of<'a>(
     is_summary: bool,
     values: Option<Vec<Argument<'a>>>,
 ) -> Option<Statement<'a>>
-    ensures { option_map statement result ≡ option_map (spec.message_of (message said.entry) index is_summary) (option_map (λ v. map argument v.items) values.entry) }
+    ensures { option_map statement result
+        ≡ option_map (spec.message_of (message said.entry) index is_summary) (option_map (λ v. map argument v.items) values.entry) }
 {
     match values {
         None => None,
@@ -203,8 +206,10 @@ fn filled<'a>(
     is_summary: bool,
     values: &Vec<Expression<'a>>,
 ) -> Result<Option<Statement<'a>>, AllocError>
-    ensures value { IfOk result (λ r. option_map statement r ≡ spec.err_msg scope.now (Some (message_kinds text.now)) (message said.entry) index is_summary (exprs (map expr values.now.items))) }
-    ensures noted { OnOk result (IsNoted faults.old faults.new (is_there (spec.err_msg scope.now (Some (message_kinds text.now)) (message said.entry) index is_summary (exprs (map expr values.now.items))))) }
+    ensures value { IfOk result (λ r. option_map statement r
+        ≡ spec.err_msg scope.now (Some (message_kinds text.now)) (message said.entry) index is_summary (exprs (map expr values.now.items))) }
+    ensures noted { OnOk result (IsNoted faults.old faults.new
+        (is_there (spec.err_msg scope.now (Some (message_kinds text.now)) (message said.entry) index is_summary (exprs (map expr values.now.items))))) }
 {
     if !has_values(text, values) {
         faults.note(48, said.token());
@@ -225,8 +230,10 @@ pub fn err_msg<'a>(
     is_summary: bool,
     values: &Vec<Expression<'a>>,
 ) -> Result<Option<Statement<'a>>, AllocError>
-    ensures value { IfOk result (λ r. option_map statement r ≡ spec.err_msg scope.now (kinds_of scope.now.messages (message said.entry)) (message said.entry) index is_summary (exprs (map expr values.now.items))) }
-    ensures noted { OnOk result (IsNoted faults.old faults.new (is_there (spec.err_msg scope.now (kinds_of scope.now.messages (message said.entry)) (message said.entry) index is_summary (exprs (map expr values.now.items))))) }
+    ensures value { IfOk result (λ r. option_map statement r ≡ spec.err_msg scope.now (kinds_of scope.now.messages (message said.entry))
+        (message said.entry) index is_summary (exprs (map expr values.now.items))) }
+    ensures noted { OnOk result (IsNoted faults.old faults.new (is_there (spec.err_msg scope.now (kinds_of scope.now.messages (message said.entry))
+        (message said.entry) index is_summary (exprs (map expr values.now.items))))) }
 {
     match text_meant(scope.messages, said) {
         None => {

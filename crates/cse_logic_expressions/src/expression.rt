@@ -5,21 +5,22 @@ ghost use Rattle.std.specs.Option.{option_map};
 ghost use Rattle.cse_syntax_tree.specs.Leaf as leaf;
 ghost use Rattle.cse_syntax_tree.specs.Leaf.{is_within, MOST};
 ghost use Rattle.cse_syntax_tree.specs.Tree as syntax;
-ghost use Rattle.cse_syntax_tree.specs.Tree.{written, expr, exprs, operations as operations_of, operation_tree as parsed};
+ghost use Rattle.cse_syntax_tree.specs.Tree.{written, expr, operations as operations_of, operation_tree as parsed};
 ghost use Rattle.cse_logic_tree.specs.Typed as typed;
-ghost use Rattle.cse_logic_tree.specs.Typed.{number, numbers, words, operations, operation_tree};
+ghost use Rattle.cse_logic_tree.specs.Typed.{number, words, operations, operation_tree};
 ghost use Rattle.cse_logic_names.specs.Scope.{meant};
 ghost use Rattle.cse_logic_names.specs.WellTyped.{may_call, value_of, may_divide};
 ghost use Rattle.cse_logic_expressions.specs.Judge as spec;
-ghost use Rattle.cse_logic_expressions.specs.Judge.{judged, judge, judge_all, judge_operations, as_number, is_sound, indexed, queried, bare, compared};
+ghost use Rattle.cse_logic_expressions.specs.Judge.{judged, judge, judge_operations, as_number, is_sound, indexed, queried, bare, compared};
 ghost use Rattle.cse_logic_names.specs.Walk.{is_there, joined, only_if, found_more, IsNoted, IsNotedAfter};
+ghost use Rattle.cse_logic_expressions.specs.Clauses.{all_judged, by_name, numbers_made};
 
 use crate::assign::number_in;
 use crate::call::{call, cell, has_dimensions, may_call};
 use crate::deck::queried;
 use crate::item::{item, item_at};
 use crate::judged::Judged;
-use crate::list::{both, keep, one_less};
+use crate::list::{both_hold, decremented, keep};
 use crate::operator::{chained, compared, grouped, int, is_special, minus, negated};
 use crate::set::member;
 use cse_logic_names::faults::Faults;
@@ -31,8 +32,8 @@ use std::alloc::{AllocError, Global};
 
 /// What a name without parentheses is.
 fn bare<'a>(scope: &Scope<'_>, faults: &mut Faults, name: Lexeme<'a>) -> Judged<'a>
-    ensures value { judged result ≡ bare scope.now (written name.entry) (meant scope.now (written name.entry)) }
-    ensures noted { IsNoted faults.old faults.new (is_sound (bare scope.now (written name.entry) (meant scope.now (written name.entry)))) }
+    ensures value { judged result ≡ by_name bare scope.now name.entry }
+    ensures noted { IsNoted faults.old faults.new (is_sound (by_name bare scope.now name.entry)) }
 {
     match scope.meant(name) {
         None => unknown(faults, name.token),
@@ -112,8 +113,9 @@ fn named_with<'a>(
     count: usize,
     arguments: Option<Vec<Number<'a>>>,
 ) -> Result<Judged<'a>, AllocError>
-    ensures value { IfOk result (λ r. judged r ≡ indexed scope.now (written name.entry) (meant scope.now (written name.entry)) count (option_map (λ v. numbers (map number v.items)) arguments.entry)) }
-    ensures noted { OnOk result (IsNotedAfter (is_there arguments.entry) faults.old faults.new (is_sound (indexed scope.now (written name.entry) (meant scope.now (written name.entry)) count (option_map (λ v. numbers (map number v.items)) arguments.entry)))) }
+    ensures value { IfOk result (λ r. judged r ≡ by_name indexed scope.now name.entry count (numbers_made arguments.entry)) }
+    ensures noted { OnOk result (IsNotedAfter (is_there arguments.entry) faults.old faults.new
+        (is_sound (by_name indexed scope.now name.entry count (numbers_made arguments.entry)))) }
 {
     match scope.meant(name) {
         None => Ok(unknown(faults, name.token)),
@@ -263,8 +265,9 @@ fn indexed<'a>(
     name: Lexeme<'a>,
     arguments: &Vec<Expression<'a>>,
 ) -> Result<Judged<'a>, AllocError>
-    ensures value { IfOk result (λ r. judged r ≡ indexed scope.now (written name.entry) (meant scope.now (written name.entry)) (length arguments.now.items) (judge_all scope.now (exprs (map expr arguments.now.items)))) }
-    ensures noted { OnOk result (IsNoted faults.old faults.new (is_sound (indexed scope.now (written name.entry) (meant scope.now (written name.entry)) (length arguments.now.items) (judge_all scope.now (exprs (map expr arguments.now.items)))))) }
+    ensures value { IfOk result (λ r. judged r ≡ by_name indexed scope.now name.entry (length arguments.now.items) (all_judged scope.now arguments.now.items)) }
+    ensures noted { OnOk result (IsNoted faults.old faults.new
+        (is_sound (by_name indexed scope.now name.entry (length arguments.now.items) (all_judged scope.now arguments.now.items)))) }
 {
     let found = all_values(alloc, scope, faults, arguments)?;
     named_with(alloc, scope, faults, name, arguments.len(), found)
@@ -278,15 +281,15 @@ pub fn all_values<'a>(
     faults: &mut Faults,
     inner: &Vec<Expression<'a>>,
 ) -> Result<Option<Vec<Number<'a>>>, AllocError>
-    ensures value { IfOk result (λ r. option_map (λ v. numbers (map number v.items)) r ≡ judge_all scope.now (exprs (map expr inner.now.items))) }
-    ensures noted { OnOk result (IsNoted faults.old faults.new (is_there (judge_all scope.now (exprs (map expr inner.now.items))))) }
+    ensures value { IfOk result (λ r. numbers_made r ≡ all_judged scope.now inner.now.items) }
+    ensures noted { OnOk result (IsNoted faults.old faults.new (is_there (all_judged scope.now inner.now.items))) }
 {
     let mut found = Vec::new(alloc);
     let mut is_sound = true;
     'all: for x in inner {
         let next = value(alloc, scope, faults, false, x)?;
         let is_there = keep(&mut found, next)?;
-        is_sound = both(is_sound, is_there);
+        is_sound = both_hold(is_sound, is_there);
     }
     if is_sound { Ok(Some(found)) } else { Ok(None) }
 }
@@ -301,8 +304,10 @@ fn chain<'a>(
     first: Option<Number<'a>>,
     others: &Vec<Parsed<'a>>,
 ) -> Result<Judged<'a>, AllocError>
-    ensures value { IfOk result (λ r. judged r ≡ spec.AsNumber (joined typed.Chain (option_map number first.entry) (judge_operations scope.now top (operations_of (map parsed others.now.items))))) }
-    ensures noted { OnOk result (IsNotedAfter (is_there first.entry) faults.old faults.new (is_there (joined typed.Chain (option_map number first.entry) (judge_operations scope.now top (operations_of (map parsed others.now.items)))))) }
+    ensures value { IfOk result (λ r. judged r
+        ≡ spec.AsNumber (joined typed.Chain (option_map number first.entry) (judge_operations scope.now top (operations_of (map parsed others.now.items))))) }
+    ensures noted { OnOk result (IsNotedAfter (is_there first.entry) faults.old faults.new
+        (is_there (joined typed.Chain (option_map number first.entry) (judge_operations scope.now top (operations_of (map parsed others.now.items)))))) }
 {
     let others = all_operations(alloc, scope, faults, top, others)?;
     chained(alloc, first, others)
@@ -375,17 +380,18 @@ fn all_operations<'a>(
     top: bool,
     others: &Vec<Parsed<'a>>,
 ) -> Result<Option<Vec<Operation<'a>>>, AllocError>
-    ensures value { IfOk result (λ r. option_map (λ v. operations (map operation_tree v.items)) r ≡ judge_operations scope.now top (operations_of (map parsed others.now.items))) }
+    ensures value { IfOk result (λ r. option_map (λ v. operations (map operation_tree v.items)) r
+        ≡ judge_operations scope.now top (operations_of (map parsed others.now.items))) }
     ensures noted { OnOk result (IsNoted faults.old faults.new (is_there (judge_operations scope.now top (operations_of (map parsed others.now.items))))) }
 {
     let mut found = Vec::new(alloc);
     let mut is_sound = true;
     let mut left = others.len();
     'all: for x in others {
-        left = one_less(left);
+        left = decremented(left);
         let next = one_operation(alloc, scope, faults, top, x, left == 0)?;
         let is_there = keep(&mut found, next)?;
-        is_sound = both(is_sound, is_there);
+        is_sound = both_hold(is_sound, is_there);
     }
     if is_sound { Ok(Some(found)) } else { Ok(None) }
 }

@@ -113,8 +113,10 @@ fn limits<'a>(
     faults: &mut Faults,
     x: Parsed<'a>,
 ) -> Option<(Limit<'a>, Limit<'a>)>
-    ensures value { option_map limits_of result ≡ joined limit_pair (spec.limit_judged scope.now (syntax.limit x.entry.from)) (spec.limit_judged scope.now (syntax.limit x.entry.to)) }
-    ensures noted { IsNoted faults.old faults.new (is_there (joined limit_pair (spec.limit_judged scope.now (syntax.limit x.entry.from)) (spec.limit_judged scope.now (syntax.limit x.entry.to)))) }
+    ensures value { option_map limits_of result
+        ≡ joined limit_pair (spec.limit_judged scope.now (syntax.limit x.entry.from)) (spec.limit_judged scope.now (syntax.limit x.entry.to)) }
+    ensures noted { IsNoted faults.old faults.new
+        (is_there (joined limit_pair (spec.limit_judged scope.now (syntax.limit x.entry.from)) (spec.limit_judged scope.now (syntax.limit x.entry.to)))) }
 {
     let from = limit(scope, faults, x.from);
     let to = limit(scope, faults, x.to);
@@ -157,8 +159,10 @@ fn variable_and_step(
     faults: &mut Faults,
     x: Parsed<'_>,
 ) -> Option<(Variable, i64)>
-    ensures value { result ≡ joined with_step (spec.free_variable scope.now.loops (scope_of.loop_variable scope.now (written x.entry.variable))) (step_of (option_map written x.entry.by)) }
-    ensures noted { IsNoted faults.old faults.new (is_there (joined with_step (spec.free_variable scope.now.loops (scope_of.loop_variable scope.now (written x.entry.variable))) (step_of (option_map written x.entry.by)))) }
+    ensures value { result ≡ joined with_step (spec.free_variable scope.now.loops (scope_of.loop_variable scope.now (written x.entry.variable)))
+        (step_of (option_map written x.entry.by)) }
+    ensures noted { IsNoted faults.old faults.new (is_there (joined with_step
+        (spec.free_variable scope.now.loops (scope_of.loop_variable scope.now (written x.entry.variable))) (step_of (option_map written x.entry.by)))) }
 {
     let found = loop_variable(scope, x.variable);
     let free = free_variable(scope, faults, x.variable.token, found);

@@ -10,6 +10,7 @@ ghost use Rattle.cse_logic_names.specs.WellTyped.{set_kind, set_meant};
 ghost use Rattle.cse_logic_expressions.specs.Judge as spec;
 ghost use Rattle.cse_logic_expressions.specs.Judge.{judged, is_sound, number_present};
 ghost use Rattle.cse_logic_names.specs.Walk.{is_there, joined, IsNoted, IsNotedAfter};
+ghost use Rattle.cse_logic_expressions.specs.Clauses.{numbers_made};
 
 use crate::judged::Judged;
 use cse_logic_names::faults::Faults;
@@ -172,8 +173,8 @@ pub fn sole<'a>(
     count: usize,
     subscripts: Option<Vec<Number<'a>>>,
 ) -> Option<Number<'a>>
-    ensures value { option_map number result ≡ spec.sole (option_map (λ v. numbers (map number v.items)) subscripts.entry) }
-    ensures noted { IsNotedAfter (is_there subscripts.entry) faults.old faults.new (is_there (spec.sole (option_map (λ v. numbers (map number v.items)) subscripts.entry))) }
+    ensures value { option_map number result ≡ spec.sole (numbers_made subscripts.entry) }
+    ensures noted { IsNotedAfter (is_there subscripts.entry) faults.old faults.new (is_there (spec.sole (numbers_made subscripts.entry))) }
 {
     match subscripts {
         None => {
@@ -212,8 +213,10 @@ pub fn item_at<'a>(
     item: u16,
     subscripts: Option<Vec<Number<'a>>>,
 ) -> Result<Judged<'a>, AllocError>
-    ensures value { IfOk result (λ r. judged r ≡ spec.item_at_judged scope.now (written name.entry) item (kind_and_owner scope.now.dictionary item) (option_map (λ v. numbers (map number v.items)) subscripts.entry)) }
-    ensures noted { OnOk result (IsNotedAfter (is_there subscripts.entry) faults.old faults.new (is_sound (spec.item_at_judged scope.now (written name.entry) item (kind_and_owner scope.now.dictionary item) (option_map (λ v. numbers (map number v.items)) subscripts.entry)))) }
+    ensures value { IfOk result (λ r. judged r
+        ≡ spec.item_at_judged scope.now (written name.entry) item (kind_and_owner scope.now.dictionary item) (numbers_made subscripts.entry)) }
+    ensures noted { OnOk result (IsNotedAfter (is_there subscripts.entry) faults.old faults.new
+        (is_sound (spec.item_at_judged scope.now (written name.entry) item (kind_and_owner scope.now.dictionary item) (numbers_made subscripts.entry)))) }
 {
     match kind_and_owner(scope.dictionary, item) {
         None => {

@@ -20,14 +20,14 @@ pub fn keep<T: Drop>(found: &mut Vec<T>, x: Option<T>) -> Result<bool, AllocErro
 }
 
 /// Whether both are so; both are looked at.
-pub fn both(a: bool, b: bool) -> bool
+pub fn both_hold(a: bool, b: bool) -> bool
     ensures { result ≡ (a && b) }
 {
     a && b
 }
 
 /// One less, or 0.
-pub fn one_less(n: usize) -> usize
+pub fn decremented(n: usize) -> usize
     ensures { result ≡ n - 1 }
 {
     n.saturating_sub(1)

@@ -1,12 +1,13 @@
 //! What operators make of their operands.
 
-ghost use Rattle.std.specs.Prelude.{◌≡◌, ◌||◌, not, map, IfOk, OnOk};
+ghost use Rattle.std.specs.Prelude.{◌≡◌, not, map, IfOk, OnOk};
 ghost use Rattle.std.specs.Option.{option_map};
 ghost use Rattle.cse_logic_tree.specs.Typed as typed;
 ghost use Rattle.cse_logic_tree.specs.Typed.{number, words, operations, operation_tree};
 ghost use Rattle.cse_logic_expressions.specs.Judge as spec;
 ghost use Rattle.cse_logic_expressions.specs.Judge.{judged, is_sound, compared};
-ghost use Rattle.cse_logic_names.specs.Walk.{is_there, joined, IsNoted};
+ghost use Rattle.cse_logic_names.specs.Walk.{is_there, joined};
+ghost use Rattle.cse_logic_expressions.specs.Clauses.{IsNotedAfterBoth};
 
 use crate::judged::Judged;
 use cse_logic_names::faults::Faults;
@@ -129,7 +130,8 @@ pub fn compared<'a>(
     tokens: (usize, usize),
 ) -> Result<Option<Number<'a>>, AllocError>
     ensures value { IfOk result (λ r. option_map number r ≡ compared relation (judged x.entry) (judged y.entry)) }
-    ensures noted { OnOk result ((is_there faults.old.worst || (not (is_sound (judged x.entry)) || not (is_sound (judged y.entry)))) ≡ is_there faults.old.worst → IsNoted faults.old faults.new (is_there (compared relation (judged x.entry) (judged y.entry)))) }
+    ensures noted { OnOk result (IsNotedAfterBoth (is_sound (judged x.entry)) (is_sound (judged y.entry)) faults.old faults.new
+        (is_there (compared relation (judged x.entry) (judged y.entry)))) }
 {
     match x {
         Judged::Unknown => Ok(None),
@@ -158,7 +160,8 @@ pub fn chained<'a>(
     first: Option<Number<'a>>,
     others: Option<Vec<Operation<'a>>>,
 ) -> Result<Judged<'a>, AllocError>
-    ensures { IfOk result (λ r. judged r ≡ spec.AsNumber (joined typed.Chain (option_map number first.entry) (option_map (λ v. operations (map operation_tree v.items)) others.entry))) }
+    ensures { IfOk result (λ r. judged r
+        ≡ spec.AsNumber (joined typed.Chain (option_map number first.entry) (option_map (λ v. operations (map operation_tree v.items)) others.entry))) }
 {
     match first.zip(others) {
         None => Ok(Judged::Number(None)),

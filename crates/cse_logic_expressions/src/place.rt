@@ -1,12 +1,13 @@
 //! The places of items that values are put into.
 
-ghost use Rattle.std.specs.Prelude.{◌≡◌, map};
+ghost use Rattle.std.specs.Prelude.{◌≡◌};
 ghost use Rattle.std.specs.Option.{option_map};
 ghost use Rattle.cse_logic_tree.specs.Typed as typed;
-ghost use Rattle.cse_logic_tree.specs.Typed.{number, numbers};
+ghost use Rattle.cse_logic_tree.specs.Typed.{number};
 ghost use Rattle.cse_logic_expressions.specs.JudgeStatement as spec;
 ghost use Rattle.cse_logic_expressions.specs.JudgeStatement.{placed};
 ghost use Rattle.cse_logic_names.specs.Walk.{is_there, joined, IsNoted, IsNotedAfter};
+ghost use Rattle.cse_logic_expressions.specs.Clauses.{numbers_made};
 
 use crate::item::{field_at, sole};
 use cse_logic_names::faults::Faults;
@@ -44,8 +45,8 @@ fn which_at<'a>(
     found: Option<Found>,
     subscripts: Option<Vec<Number<'a>>>,
 ) -> Option<Which<'a>>
-    ensures value { option_map typed.which result ≡ spec.which_at count found (option_map (λ v. numbers (map number v.items)) subscripts.entry) }
-    ensures noted { IsNotedAfter (is_there subscripts.entry) faults.old faults.new (is_there (spec.which_at count found (option_map (λ v. numbers (map number v.items)) subscripts.entry))) }
+    ensures value { option_map typed.which result ≡ spec.which_at count found (numbers_made subscripts.entry) }
+    ensures noted { IsNotedAfter (is_there subscripts.entry) faults.old faults.new (is_there (spec.which_at count found (numbers_made subscripts.entry))) }
 {
     if count == 0 {
         here(faults, token, found)
@@ -76,8 +77,9 @@ pub fn place_at<'a>(
     owner: u8,
     subscripts: Option<Vec<Number<'a>>>,
 ) -> Option<(Field, Which<'a>)>
-    ensures value { option_map placed result ≡ spec.place_at scope.now count item owner (option_map (λ v. numbers (map number v.items)) subscripts.entry) }
-    ensures noted { IsNotedAfter (is_there subscripts.entry) faults.old faults.new (is_there (spec.place_at scope.now count item owner (option_map (λ v. numbers (map number v.items)) subscripts.entry))) }
+    ensures value { option_map placed result ≡ spec.place_at scope.now count item owner (numbers_made subscripts.entry) }
+    ensures noted { IsNotedAfter (is_there subscripts.entry) faults.old faults.new
+        (is_there (spec.place_at scope.now count item owner (numbers_made subscripts.entry))) }
 {
     let field = field_at(scope, faults, 43, token, item, owner);
     let found = scope.found(owner as u16);

@@ -175,8 +175,10 @@ pub fn member<'a>(
     name: Lexeme<'a>,
     set_name: Option<Lexeme<'a>>,
 ) -> Option<Number<'a>>
-    ensures value { option_map number result ≡ spec.member scope.now (written name.entry) (option_map written set_name.entry) (meant scope.now (written name.entry)) }
-    ensures noted { IsNoted faults.old faults.new (is_there (spec.member scope.now (written name.entry) (option_map written set_name.entry) (meant scope.now (written name.entry)))) }
+    ensures value { option_map number result
+        ≡ spec.member scope.now (written name.entry) (option_map written set_name.entry) (meant scope.now (written name.entry)) }
+    ensures noted { IsNoted faults.old faults.new
+        (is_there (spec.member scope.now (written name.entry) (option_map written set_name.entry) (meant scope.now (written name.entry)))) }
 {
     match scope.meant(name) {
         Some(Meaning::Item(item)) => {

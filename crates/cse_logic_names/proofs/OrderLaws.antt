@@ -8,8 +8,8 @@ use Rattle.cse_dict.specs.Dictionary.{DictionaryText}
 use Rattle.cse_sections.specs.Sections.{lines_of}
 use Rattle.cse_sections.proofs.SectionLaws.{no_lines}
 use Rattle.cse_logic_names.specs.declared.error.TypeError.{TypeError}
-use Rattle.cse_logic_names.specs.declared.error.Stop.{Stop}
-use Rattle.cse_logic_names.specs.declared.error.Stop.TheVariants.{Memory, Fault}
+use Rattle.cse_logic_names.specs.declared.error.FileStop.{FileStop}
+use Rattle.cse_logic_names.specs.declared.error.FileStop.TheVariants.{Memory, Fault}
 use Rattle.cse_logic_names.specs.Fault.{at_line, error_of, out_of_memory}
 use Rattle.cse_logic_names.specs.OrderFile.{IsOrder, IsOrderOf, ReadsOrder, FirstFaulty, TakesRecord, is_there, order_line, record_in, with_record}
 
@@ -212,7 +212,7 @@ cut_last d found number [] text c e = subst (λ ls. IsOrder d ls found) (sym (c.
 cut_last d found number (b ∷ rest) text c e = absurd (omega (arith, e))
 
 -- the fault that is told
-pub cut_told : (d : DictionaryText) (found new : List ℕ) (number : ℕ) (rest text line more : List ℕ) (stop : Stop) (e : TypeError) → Cut d found number rest text
+pub cut_told : (d : DictionaryText) (found new : List ℕ) (number : ℕ) (rest text line more : List ℕ) (stop : FileStop) (e : TypeError) → Cut d found number rest text
     → lines_of rest ≡ line ∷ lines_of more → TakesRecord (Err stop) found new d line → e ≡ error_of stop (number + 1)
     → (e ≡ out_of_memory) ⊎ ((e ≡ at_line 40 e.line) × FirstFaulty d (lines_of text) e.line)
 cut_told d found new number rest text line more Memory e c l k s = inl s

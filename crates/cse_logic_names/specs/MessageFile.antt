@@ -7,8 +7,8 @@ use Rattle.cse_image_parts.specs.Texts.{is_text, is_short}
 use Rattle.cse_sections.specs.Number.{number_between}
 use Rattle.cse_sections.specs.Sections.{after_mark, lines_of}
 use Rattle.cse_logic_names.specs.declared.error.TypeError.{TypeError}
-use Rattle.cse_logic_names.specs.declared.error.Stop.{Stop}
-use Rattle.cse_logic_names.specs.declared.error.Stop.TheVariants.{Memory, Fault}
+use Rattle.cse_logic_names.specs.declared.error.FileStop.{FileStop}
+use Rattle.cse_logic_names.specs.declared.error.FileStop.TheVariants.{Memory, Fault}
 use Rattle.cse_logic_names.specs.Fault.{at_line, out_of_memory}
 
 -- a message: its number and the bytes of its text
@@ -72,7 +72,7 @@ with_line found (Ok (Some m)) = with_message found m
 with_line found (Err number) = found
 
 -- a line is taken, or it has a fault, or memory ran out
-abbrev pub Takes : Result (Unit {0}) Stop → List MessageText → List MessageText → Result (Option MessageText) ℕ → Type 0
+abbrev pub Takes : Result (Unit {0}) FileStop → List MessageText → List MessageText → Result (Option MessageText) ℕ → Type 0
 Takes (Ok done) old new said = (new ≡ with_line old said) × IsOk said
 Takes (Err Memory) old new said = Unit {0}
 Takes (Err (Fault number)) old new said = said ≡ Err number

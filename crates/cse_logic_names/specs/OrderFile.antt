@@ -4,8 +4,8 @@ use Rattle.std.specs.List.{filter, list_any, IsDistinct}
 use Rattle.std.specs.Str.{is_utf8}
 use Rattle.cse_dict.specs.Dictionary.{DictionaryText, number_named, record_names}
 use Rattle.cse_logic_names.specs.declared.error.TypeError.{TypeError}
-use Rattle.cse_logic_names.specs.declared.error.Stop.{Stop}
-use Rattle.cse_logic_names.specs.declared.error.Stop.TheVariants.{Memory, Fault}
+use Rattle.cse_logic_names.specs.declared.error.FileStop.{FileStop}
+use Rattle.cse_logic_names.specs.declared.error.FileStop.TheVariants.{Memory, Fault}
 use Rattle.cse_logic_names.specs.Fault.{at_line, out_of_memory}
 
 -- the record that a line names, in any letter case
@@ -53,7 +53,7 @@ unfoldable pub order_line : DictionaryText → List ℕ → List ℕ → Option 
 order_line d found line = if is_there line then with_record found (record_in d line) else Some found
 
 -- a line is taken, or it is faulty, or memory ran out
-abbrev pub TakesRecord : Result (Unit {0}) Stop → List ℕ → List ℕ → DictionaryText → List ℕ → Type 0
+abbrev pub TakesRecord : Result (Unit {0}) FileStop → List ℕ → List ℕ → DictionaryText → List ℕ → Type 0
 TakesRecord (Ok done) old new d line = order_line d old line ≡ Some new
 TakesRecord (Err Memory) old new d line = Unit {0}
 TakesRecord (Err (Fault number)) old new d line = (number ≡ 40) × (order_line d old line ≡ None)

@@ -36,7 +36,7 @@ use Rattle.cse_logic_tree.specs.Typed.{Number, Words, Numbers, Operations, Const
 use Rattle.cse_logic_tree.specs.Typed.{Quoted, TextGlobal, TextItem, TextItemAt, TextGroup, no_number, number_and, no_operation, operation_and}
 use Rattle.cse_logic_tree.specs.Typed.{Which, Here, At, Argument, OfNumber, OfWords, Whole, Limit, Fixed, Counted, Counting, Statement, Statements, Arms}
 use Rattle.cse_logic_tree.specs.Typed.{Empty, Set, SetText, SetItem, SetTextItem, SetCell, CallOf, If, For, Do, Jump', Impute, PutDeck, ErrMsg, no_statement, statement_and, no_arm, else_of, arm}
-use Rattle.cse_logic_tree.specs.Typed.{Dimension, Sized, Rows, Array, Function, Declaration, Numeric, Alpha, Array', Function', Body, Plain, Preproc, Both, Postproc, Procedure, Entry, Tree}
+use Rattle.cse_logic_tree.specs.Typed.{Dimension, Sized, Rows, Array, Function, Declaration, Numeric, Alpha, Array', Function', Body, Plain, Preproc, Both, Postproc, Procedure, MessageEntry, Tree}
 use Rattle.cse_logic_tree.specs.Erase.{erase_statement, erase_block, erase_arms, erase_body, erase_declaration, erase_tree}
 use Rattle.cse_logic_names.specs.declared.meaning.Meaning.{Meaning}
 use Rattle.cse_logic_names.specs.declared.meaning.Meaning.TheVariants as m
@@ -222,7 +222,7 @@ kinds_of messages message = option_map (λ (x : MessageText). message_kinds x.te
 abbrev pub no_message : MessageText
 no_message = record { number = 0; text = [] }
 
-abbrev pub entry_of : List MessageText → syntax.Message × Bool → Entry
+abbrev pub entry_of : List MessageText → syntax.Message × Bool → MessageEntry
 entry_of messages x = let said = unwrap_or (message_meant messages x.0) no_message in record { number = said.number; text = said.text; summary = x.1 }
 
 abbrev pub argument_kind : Argument → ArgumentKind

@@ -36,23 +36,23 @@ pub struct TypeError {
 
 /// Why a line was not taken.
 #[derive(Clone, Copy)]
-pub enum Stop {
+pub enum FileStop {
     Memory,
     /// The number of the line's fault.
     Fault(u8),
 }
 
 /// The error at a line of this number.
-pub fn error_at(stop: Stop, line: u64) -> TypeError
+pub fn error_at(stop: FileStop, line: u64) -> TypeError
     ensures { result ≡ error_of stop line }
 {
     match stop {
-        Stop::Memory => TypeError {
+        FileStop::Memory => TypeError {
             number: 90,
             line: 0,
             column: 0,
         },
-        Stop::Fault(number) => TypeError {
+        FileStop::Fault(number) => TypeError {
             number,
             line,
             column: 1,

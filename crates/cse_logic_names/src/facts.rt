@@ -191,7 +191,8 @@ fn into_item(
     place: &Which<'_>,
     value: &Number<'_>,
 ) -> Result<(), AllocError>
-    ensures { OnOk result (gathered.new ≡ gather functions.now gathered.old (spec.TheCase ∷ (spec.uses_which (typed.which place.now) ++ spec.uses (typed.number value.now)))) }
+    ensures { OnOk result (gathered.new
+        ≡ gather functions.now gathered.old (spec.TheCase ∷ (spec.uses_which (typed.which place.now) ++ spec.uses (typed.number value.now)))) }
 {
     case(functions, gathered);
     which(functions, gathered, place)?;
@@ -206,7 +207,8 @@ fn text_into_item(
     place: &Which<'_>,
     value: &Words<'_>,
 ) -> Result<(), AllocError>
-    ensures { OnOk result (gathered.new ≡ gather functions.now gathered.old (spec.TheCase ∷ (spec.uses_which (typed.which place.now) ++ spec.uses_words (typed.words value.now)))) }
+    ensures { OnOk result (gathered.new
+        ≡ gather functions.now gathered.old (spec.TheCase ∷ (spec.uses_which (typed.which place.now) ++ spec.uses_words (typed.words value.now)))) }
 {
     case(functions, gathered);
     which(functions, gathered, place)?;
@@ -256,7 +258,8 @@ fn head(
     gathered: &mut Gathered,
     x: &Counting<'_>,
 ) -> Result<(), AllocError>
-    ensures { OnOk result (gathered.new ≡ gather functions.now (gather functions.now (gather functions.now gathered.old (spec.assigns x.now.variable)) (spec.uses_limit (typed.limit x.now.from))) (spec.uses_limit (typed.limit x.now.to))) }
+    ensures { OnOk result (gathered.new ≡ gather functions.now (gather functions.now (gather functions.now gathered.old (spec.assigns x.now.variable))
+        (spec.uses_limit (typed.limit x.now.from))) (spec.uses_limit (typed.limit x.now.to))) }
 {
     assigned(functions, gathered, x.variable)?;
     limit(functions, gathered, &x.from);
@@ -339,7 +342,8 @@ pub fn block(
 #[cycle(statements)]
 #[tactic(auto, using(crate::proofs::Gathering::gather_both))]
 fn arm(functions: &[Option<Facts>], gathered: &mut Gathered, x: &Arm<'_>) -> Result<(), AllocError>
-    ensures { OnOk result (gathered.new ≡ gather functions.now (gather functions.now gathered.old (spec.uses (typed.number x.now.condition))) (spec.uses_block (typed.block x.now.body.items))) }
+    ensures { OnOk result (gathered.new ≡ gather functions.now (gather functions.now gathered.old (spec.uses (typed.number x.now.condition)))
+        (spec.uses_block (typed.block x.now.body.items))) }
 {
     number(functions, gathered, &x.condition)?;
     block(functions, gathered, &x.body)

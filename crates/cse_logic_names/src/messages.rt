@@ -8,7 +8,7 @@ ghost use Rattle.cse_sections.specs.Sections.{lines_of};
 ghost use Rattle.cse_logic_names.specs.Texts.{AreTexts};
 ghost use Rattle.cse_logic_names.specs.MessageFile.{MessageText, ReadsMessages, Takes, digit_count, file_lines, has_form, is_skipped, line_of, text_in, with_message};
 
-use crate::error::{Stop, TypeError, error_at};
+use crate::error::{FileStop, TypeError, error_at};
 use crate::gaps::{begins_with_gap, digit_count, without_gaps};
 use cse_image_parts::texts::{is_short_text, plain_text};
 use cse_sections::number::number_between;
@@ -112,16 +112,16 @@ impl Found {
     }
 
     /// Takes what a line says.
-    fn take_line(&mut self, alloc: Global, line: &[u8]) -> Result<(), Stop>
+    fn take_line(&mut self, alloc: Global, line: &[u8]) -> Result<(), FileStop>
         ensures { Takes result self.old self.new (line_of line.now) }
     {
         match line_of(line) {
             Ok(None) => Ok(()),
             Ok(Some(message)) => match self.add(alloc, message) {
                 Ok(()) => Ok(()),
-                Err(_) => Err(Stop::Memory),
+                Err(_) => Err(FileStop::Memory),
             },
-            Err(number) => Err(Stop::Fault(number)),
+            Err(number) => Err(FileStop::Fault(number)),
         }
     }
 

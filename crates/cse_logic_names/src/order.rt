@@ -6,7 +6,7 @@ ghost use Rattle.cse_sections.specs.Sections.{after_mark, lines_of};
 ghost use Rattle.cse_logic_names.specs.MessageFile.{file_lines};
 ghost use Rattle.cse_logic_names.specs.OrderFile.{IsOrderOf, ReadsOrder, TakesRecord, record_in};
 
-use crate::error::{Stop, TypeError, error_at};
+use crate::error::{FileStop, TypeError, error_at};
 use cse_dict::Dictionary;
 use cse_sections::sections::{after_mark, first_line};
 use std::alloc::Global;
@@ -44,21 +44,21 @@ impl Order {
 
     /// Takes the record that a line names.
     #[tactic(auto, unfolding(crate::specs::OrderFile::order_line))]
-    fn take_line(&mut self, dictionary: &Dictionary, line: &[u8]) -> Result<(), Stop>
+    fn take_line(&mut self, dictionary: &Dictionary, line: &[u8]) -> Result<(), FileStop>
         ensures { TakesRecord result self.old self.new dictionary.now line.now }
     {
         if line.is_empty() {
             return Ok(());
         }
         let Some(record) = record_in(dictionary, line) else {
-            return Err(Stop::Fault(40));
+            return Err(FileStop::Fault(40));
         };
         if self.has(record) {
-            return Err(Stop::Fault(40));
+            return Err(FileStop::Fault(40));
         }
         match self.records.push(record) {
             Ok(()) => Ok(()),
-            Err(_) => Err(Stop::Memory),
+            Err(_) => Err(FileStop::Memory),
         }
     }
 

@@ -40,7 +40,7 @@ use Rattle.cse_logic_tree.specs.declared.tree.Declaration.TheVariants as c
 use Rattle.cse_logic_tree.specs.declared.tree.Body as rustbody
 use Rattle.cse_logic_tree.specs.declared.tree.Body.TheVariants as b
 use Rattle.cse_logic_tree.specs.declared.tree.Procedure as rustprocedure
-use Rattle.cse_logic_tree.specs.declared.tree.Entry as rustentry
+use Rattle.cse_logic_tree.specs.declared.tree.MessageEntry as rustentry
 use Rattle.cse_logic_tree.specs.declared.tree.Tree as rusttree
 
 -- ---- expressions
@@ -299,7 +299,7 @@ pub record Procedure : Type 0 where
   pub body : Body
 
 -- a message: its number, its text, and whether it is only counted
-pub record Entry : Type 0 where
+pub record MessageEntry : Type 0 where
   pub number : ℕ
   pub text : List ℕ
   pub summary : Bool
@@ -307,7 +307,7 @@ pub record Entry : Type 0 where
 pub record Tree : Type 0 where
   pub globals : Option (List Declaration)
   pub procedures : List Procedure
-  pub messages : List Entry
+  pub messages : List MessageEntry
 
 abbrev pub dimension : rustdimension.Dimension → Dimension
 dimension (d.Number x size) = Sized (written x) size
@@ -334,7 +334,7 @@ body_tree (b.Postproc xs) = Postproc (block xs.items)
 abbrev pub procedure : rustprocedure.Procedure → Procedure
 procedure x = record { name = written x.name; owner = x.owner; body = body_tree x.body }
 
-abbrev pub entry : rustentry.Entry → Entry
+abbrev pub entry : rustentry.MessageEntry → MessageEntry
 entry x = record { number = x.number; text = x.text.now; summary = x.is_summary }
 
 abbrev pub tree : rusttree.Tree → Tree

@@ -12,7 +12,7 @@ mod tree;
 
 pub use laws::tokens_are_counted;
 pub use tree::{
-    Argument, Arm, Array, Body, Counting, Declaration, Dimension, Entry, Field, Found, Function,
-    Limit, Number, Operation, Owner, Pick, Present, Procedure, Statement, Tree, Variable, Which,
-    Whole, Words,
+    Argument, Arm, Array, Body, Counting, Declaration, Dimension, Field, Found, Function, Limit,
+    MessageEntry, Number, Operation, Owner, Pick, Present, Procedure, Statement, Tree, Variable,
+    Which, Whole, Words,
 };

@@ -38,7 +38,8 @@ impl<'a> Statement<'a> {
         others: Vec<Arm<'a>>,
         otherwise: Option<Vec<Statement<'a>>>,
     ) -> Statement<'a>
-        ensures { statement result ≡ spec.If (number first.entry.condition) (block first.entry.body.items) (arms (map arm_tree others.entry.items) (otherwise_tree otherwise.entry)) }
+        ensures { statement result
+            ≡ spec.If (number first.entry.condition) (block first.entry.body.items) (arms (map arm_tree others.entry.items) (otherwise_tree otherwise.entry)) }
     {
         Statement::If(first, others, otherwise)
     }

@@ -58,6 +58,7 @@ pub struct Pick {
 
 // ---- expressions
 
+/// A numeric expression, each name beside what it names.
 #[cycle(value)]
 pub enum Number<'a> {
     /// With the number that the digits write.
@@ -205,6 +206,7 @@ pub struct Counting<'a> {
     pub step: i64,
 }
 
+/// A statement, each name beside what it names.
 #[cycle(action)]
 pub enum Statement<'a> {
     Empty,
@@ -289,6 +291,7 @@ pub enum Dimension<'a> {
     Set(Lexeme<'a>, u16, bool, u16),
 }
 
+/// An array that is declared.
 #[derive(Drop)]
 pub struct Array<'a> {
     pub name: Lexeme<'a>,
@@ -298,6 +301,7 @@ pub struct Array<'a> {
     pub cells: Vec<Whole<'a>>,
 }
 
+/// A function that is declared.
 #[derive(Drop)]
 pub struct Function<'a> {
     pub name: Lexeme<'a>,
@@ -307,6 +311,7 @@ pub struct Function<'a> {
     pub needs_case: bool,
 }
 
+/// What stands in `PROC GLOBAL`.
 #[derive(Drop)]
 pub enum Declaration<'a> {
     Numeric(Vec<Lexeme<'a>>),
@@ -334,6 +339,7 @@ pub enum Owner {
     Item(Field),
 }
 
+/// A procedure, with what it belongs to.
 #[derive(Drop)]
 pub struct Procedure<'a> {
     pub name: Lexeme<'a>,
@@ -344,7 +350,7 @@ pub struct Procedure<'a> {
 /// A message of the source: its number, 0 for a text that stands in the source, its text, and whether it is only
 /// counted.
 #[derive(Clone, Copy)]
-pub struct Entry<'a> {
+pub struct MessageEntry<'a> {
     pub number: u32,
     pub text: &'a str,
     pub is_summary: bool,
@@ -354,7 +360,7 @@ pub struct Entry<'a> {
 pub struct Tree<'a> {
     pub globals: Option<Vec<Declaration<'a>>>,
     pub procedures: Vec<Procedure<'a>>,
-    pub messages: Vec<Entry<'a>>,
+    pub messages: Vec<MessageEntry<'a>>,
 }
 
 // Written out, so that a crate that owns a tree calls this drop and does not prove one for each part.

@@ -10,3 +10,4 @@ pub mod Ahead
 pub mod Small
 pub mod Quiet
 pub mod Sorts
+pub mod Clauses

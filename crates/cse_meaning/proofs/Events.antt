@@ -21,7 +21,7 @@ use Rattle.cse_logic_tree.specs.declared.tree.Owner.{Owner}
 use Rattle.cse_logic_tree.specs.declared.tree.Owner.TheVariants as owners
 use Rattle.cse_logic_tree.specs.declared.tree.Field.{Field}
 use Rattle.cse_logic_tree.specs.Typed.{Statements, Tree}
-use Rattle.cse_compile_sections.specs.declared.outlines.Sort.TheVariants as sorts
+use Rattle.cse_compile_sections.specs.declared.outlines.RoutineSort.TheVariants as sorts
 use Rattle.cse_compile_sections.specs.Outline.{Outline, event_of, routine_of as routine_for}
 use Rattle.cse_compile_sections.specs.Tables.{functions_in}
 use Rattle.cse_compile_code.specs.Setting.{Setting}

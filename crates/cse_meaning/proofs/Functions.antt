@@ -31,7 +31,7 @@ use Rattle.cse_steps.specs.Laws.{RunsCompose}
 use Rattle.cse_steps.proofs.Lists.{is_there}
 use Rattle.cse_meaning.specs.Setting.{Context, Functions}
 use Rattle.cse_meaning.specs.Statements.{Flow, Fell, Broke, Skipped, Left, all_do}
-use Rattle.cse_meaning.specs.Meaning.{begun, given, function_of, functions_below}
+use Rattle.cse_meaning.specs.Meaning.{begun, valued_of, function_of, functions_below}
 use Rattle.cse_meaning.specs.Runs.{Goes, Spot, at, HasCode}
 use Rattle.cse_meaning.specs.Laid.{IsLaid}
 use Rattle.cse_meaning.specs.Follows.{Follows, AreNumbers, called_above, back_in}
@@ -109,7 +109,7 @@ module _ (compose : RunsCompose) (program : VerifiedProgram) (c : Context) (firs
     -- how the body ends is how the call ends
     ends : (flow : Flow) (L M : List Cell) (caller : Call) (below : List Call) (q r : ℕ) (args : List Num) (w v : World) → Goes program (called_above n routine args caller below w) (at (spot L caller below) q [] v)
         → Lands setting (spot L caller below) (outside c) first (length f.parameters) no_loop around q r v flow → HasCode (spot L caller below) r (exit_code setting)
-        → Runs n routine args caller below w (given flow).0 (given flow).1
+        → Runs n routine args caller below w (valued_of flow).0 (valued_of flow).1
     ends (Fell ls u) L M caller below q r args w v g h has =
         let x = exits compose setting (spot L caller below) fn (outside c) first (length f.parameters) is_of.sound (keeps_rows program.dictionary is_of.sound) follows (Some (length f.parameters)) refl (refl, ap (λ (o : Option Local). option_kind o) (result_there (length f.parameters))) h.locals [] [] ls r u h.laid h.fits has in
         record { goes = joined compose program _ _ _ g (joined compose program _ _ _ h.goes x.goes); fits = x.fits }
@@ -118,7 +118,7 @@ module _ (compose : RunsCompose) (program : VerifiedProgram) (c : Context) (firs
     ends (Skipped ls u) L M caller below q r args w v g h has = absurd (false≢true h.0)
 
     runs : (args : List Num) (caller : Call) (below : List Call) (w : World) → AreNumbers (take routine.parameters routine.locals) args → (is_run routine.ambient ≡ false → is_some first ≡ true) → FitsWorld program first w
-        → Runs n routine args caller below w (given (all_do fn (outside c) f.body (begun args) w)).0 (given (all_do fn (outside c) f.body (begun args) w)).1
+        → Runs n routine args caller below w (valued_of (all_do fn (outside c) f.body (begun args) w)).0 (valued_of (all_do fn (outside c) f.body (begun args) w)).1
     unfolding routine_code acts
     runs args caller below w are ambient fits =
         let count = length f.parameters in
@@ -159,7 +159,7 @@ module _ (compose : RunsCompose) (program : VerifiedProgram) (c : Context) (firs
     run_of n fn follows f there y args caller below w is numbers_are ambient fits =
         let r = are n f there in
         let same = same_Some (routine_of (outline_of f).sort r.instructions) y (sym r.there ∙ is) in
-        let go = subst (λ (y : RoutineLists). AreNumbers (take y.parameters y.locals) args → (is_run y.ambient ≡ false → is_some first ≡ true) → Runs n y args caller below w (given (all_do fn (outside c) f.body (begun args) w)).0 (given (all_do fn (outside c) f.body (begun args) w)).1) same
+        let go = subst (λ (y : RoutineLists). AreNumbers (take y.parameters y.locals) args → (is_run y.ambient ≡ false → is_some first ≡ true) → Runs n y args caller below w (valued_of (all_do fn (outside c) f.body (begun args) w)).0 (valued_of (all_do fn (outside c) f.body (begun args) w)).1) same
         (λ a b. runs n fn follows f r args caller below w a b fits) in
         subst (λ o. Runs n y args caller below w (function_of fn (outside c) o args w).0 (function_of fn (outside c) o args w).1) (sym there) (go numbers_are ambient)
 

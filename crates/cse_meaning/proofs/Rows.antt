@@ -9,7 +9,7 @@ use Rattle.cse_value.specs.declared.number.Num.{Num}
 use Rattle.cse_dict.specs.Pairs.{RowsBelow}
 use Rattle.cse_dict.specs.Dictionary.{DictionaryText, SetText, shape_of, row_in}
 use Rattle.cse_dict.specs.Sound.{IsSound, IsSoundSet}
-use Rattle.cse_dict.specs.declared.rows.Span.{Span}
+use Rattle.cse_dict.specs.declared.rows.NumberSpan.{NumberSpan}
 use Rattle.cse_dict.proofs.RowLaws.{row_in-below}
 use Rattle.cse_code_typing.specs.Signature.{is_numeric, rows_by}
 use Rattle.cse_meaning.specs.Laid.{KeepsRows}
@@ -19,7 +19,7 @@ sound_at d [] k x h is = absurd (none-some x is)
 sound_at d (y ∷ ys) zero x h is = subst (IsSoundSet d) (same_Some y x is) h.0
 sound_at d (y ∷ ys) (suc k) x h is = sound_at d ys k x h.1 is
 
-found : (n i : ℕ) (x : Num) (spans : List Span) → RowsBelow n spans → row_in x spans ≡ Some i → i < n
+found : (n i : ℕ) (x : Num) (spans : List NumberSpan) → RowsBelow n spans → row_in x spans ≡ Some i → i < n
 found n i x spans h is = subst (λ o. IfSome o (λ r. r < n)) is (row_in-below n x spans h)
 
 pub keeps_rows : (d : DictionaryText) → IsSound d → KeepsRows d

@@ -36,12 +36,12 @@ world_of (Left ls w) = w
 abbrev pub begun : List Num → Locals
 begun arguments = record { parameters = arguments; result = Undef }
 
-abbrev pub given : Flow → Valued Num
-given flow = ((locals_of flow).result, world_of flow)
+abbrev pub valued_of : Flow → Valued Num
+valued_of flow = ((locals_of flow).result, world_of flow)
 
 abbrev pub function_of : Functions → Context → Option Function → List Num → World → Valued Num
 function_of fn c None arguments w = (Undef, w)
-function_of fn c (Some f) arguments w = given (all_do fn c f.body (begun arguments) w)
+function_of fn c (Some f) arguments w = valued_of (all_do fn c f.body (begun arguments) w)
 
 -- the functions below number n, each by those below it
 unfoldable pub functions_below : Context → List Function → ℕ → Functions

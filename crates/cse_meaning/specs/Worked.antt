@@ -4,7 +4,7 @@ use Rattle.cse_value.specs.declared.number.Num.{Num}
 use Rattle.cse_value.specs.declared.number.Num.TheVariants.{Whole, NotAppl, Undef}
 use Rattle.cse_value.specs.declared.shape.ItemKind.TheVariants as kinds
 use Rattle.cse_image_parts.specs.declared.entries.EventCode.TheVariants as events
-use Rattle.cse_dict.specs.declared.rows.Span.{Span}
+use Rattle.cse_dict.specs.declared.rows.NumberSpan.{NumberSpan}
 use Rattle.cse_dict.specs.Dictionary.{DictionaryText, ItemText}
 use Rattle.cse_lines.specs.Columns.{LineText, no_line}
 use Rattle.cse_case.specs.Case.{CaseText}
@@ -43,8 +43,8 @@ whole z = Constant name z
 abbrev pub signed : ℤ → Signed
 signed z = record { literal = record { minus = false; digits = name }; value = z }
 
-abbrev pub told : ℕ → List Number → Statement
-told index xs = ErrMsg (Own name) index (map OfNumber xs) false
+abbrev pub errmsg : ℕ → List Number → Statement
+errmsg index xs = ErrMsg (Own name) index (map OfNumber xs) false
 
 -- the statements of one owner
 abbrev pub source : List Declaration → Owner → List Statement → Tree
@@ -55,7 +55,7 @@ source ds owner xs = record { globals = Some ds; procedures = record { name = na
 abbrev pub item : ℕ → ℕ → Bool → Option ℤ → ItemText
 item start len zero_fill code = record { name = []; shape = record { owner = 0; kind = kinds.Number; len = len; start = start }; zero_fill = zero_fill; code = code }
 
-abbrev pub span : ℤ → ℤ → ℕ → Span
+abbrev pub span : ℤ → ℤ → ℕ → NumberSpan
 span low high row = record { low = low; high = high; row = row }
 
 abbrev pub persons : Bool → Option ℤ → DictionaryText
@@ -118,7 +118,7 @@ abbrev pub sums : Tree
 sums =
     source []
     owners.Application
-    (told 0
+    (errmsg 0
     (Chain (whole (pos 9223372036854775807)) (operation_and operators.Add (whole (pos 1)) no_operation)
     ∷ Chain (whole (pos 7)) (operation_and operators.Remainder (whole (pos 0)) no_operation)
     ∷ Int (Chain (Minus (whole (pos 7))) (operation_and operators.Divide (whole (pos 2)) no_operation))
@@ -146,7 +146,7 @@ abbrev pub at : ℤ → Number
 at z = Cell name 0 (numbers (whole z ∷ []))
 
 abbrev pub cells : Tree
-cells = source (ten ∷ []) owners.Application (told 0 (at (pos 0) ∷ at (pos 1) ∷ at (pos 10) ∷ at (pos 11) ∷ []) ∷ [])
+cells = source (ten ∷ []) owners.Application (errmsg 0 (at (pos 0) ∷ at (pos 1) ∷ at (pos 10) ∷ at (pos 11) ∷ []) ∷ [])
 
 -- a cell is set to what the function gives
 abbrev pub sets : ℤ → Tree
@@ -161,10 +161,10 @@ abbrev pub ages : Tree
 ages =
     source []
     (owners.Item (field 2))
-    (If (if_below (pos 15)) (statements (told 0 [] ∷ []))
-    (arm (if_below (pos 65)) (statements (told 1 (age ∷ []) ∷ []))
-    (arm (if_below (pos 200)) (statements (told 2 (age ∷ []) ∷ []))
-    (else_of (statements (told 3 (age ∷ []) ∷ [])))))
+    (If (if_below (pos 15)) (statements (errmsg 0 [] ∷ []))
+    (arm (if_below (pos 65)) (statements (errmsg 1 (age ∷ []) ∷ []))
+    (arm (if_below (pos 200)) (statements (errmsg 2 (age ∷ []) ∷ []))
+    (else_of (statements (errmsg 3 (age ∷ []) ∷ [])))))
     ∷ [])
 
 abbrev pub of_age : Moment
@@ -222,7 +222,7 @@ adults =
     (statements (Set name (v.Global 1) (Chain (Variable' name (v.Global 1)) (operation_and operators.Add (whole (pos 1)) no_operation)) ∷ []))
     no_arm
     ∷ []))
-    ∷ told 0 (Variable' name (v.Global 1) ∷ TotOcc name 0 ∷ [])
+    ∷ errmsg 0 (Variable' name (v.Global 1) ∷ TotOcc name 0 ∷ [])
     ∷ [])
 
 abbrev pub of_three : World

@@ -79,10 +79,10 @@ abbrev pub unwritten : List MessageLists → Progress
 unwritten messages = record { written = []; held = begun messages }
 
 -- what a device is given over all steps and at the end
-abbrev pub given : Progress → ℕ → ℕ → ℕ → List ℕ
-given p cases lines unseen = p.written ++ ending p.held cases lines unseen
+abbrev pub given_in_all : Progress → ℕ → ℕ → ℕ → List ℕ
+given_in_all p cases lines unseen = p.written ++ ending p.held cases lines unseen
 
 -- Wherever flushes fall, one device is given the listing of all that was reported.
 abbrev pub GivesTheListing : Type 0
 GivesTheListing = (messages : List MessageLists) (steps : List Step) (cases lines unseen : ℕ)
-    → given (after_steps (unwritten messages) steps) cases lines unseen ≡ listing messages (reports_in steps) cases lines unseen
+    → given_in_all (after_steps (unwritten messages) steps) cases lines unseen ≡ listing messages (reports_in steps) cases lines unseen

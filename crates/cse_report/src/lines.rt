@@ -10,13 +10,13 @@ ghost use Rattle.cse_report.specs.Spans.{IsText, text_at};
 
 use crate::argument::Arg;
 use crate::fill::{put_char, put_message};
-use crate::spans::Span;
+use crate::spans::TextSpan;
 use cse_dict::Unseen;
 use itoa::Buffer;
 use std::alloc::AllocError;
 
 /// The heading that waits for the next line.
-#[derive(Clone, Copy, Debug, PartialEq, Eq)]
+#[derive(Clone, Copy, PartialEq, Eq)]
 pub enum Heading {
     Nothing,
     /// Of the application's preproc or postproc.
@@ -108,7 +108,7 @@ pub fn make_message(
     number: u32,
     text: &str,
     args: &[Arg],
-) -> Result<Span, AllocError>
+) -> Result<TextSpan, AllocError>
     ensures line { OnOk result (out.new.items ≡ waiting heading ids.now ++ message_line number (message_text text.now args.now)) }
     ensures place { IfOk result (λ s. IsText out.new.items s) }
     ensures text { IfOk result (λ s. text_at out.new.items s ≡ message_text text.now args.now) }
@@ -118,5 +118,5 @@ pub fn make_message(
     put_message(out, text, args)?;
     let end = out.len();
     out.extend_from_slice(b"\n")?;
-    Ok(Span { start, end })
+    Ok(TextSpan { start, end })
 }

@@ -15,7 +15,7 @@ ghost use Rattle.cse_report.specs.Spans.{IsText, AreTexts, text_at, texts_at, mo
 
 use crate::argument::{Arg, takes};
 use crate::lines::{Heading, make_message, make_unseen};
-use crate::spans::Span;
+use crate::spans::TextSpan;
 use crate::summary::put_summary;
 use cse_dict::Unseen;
 use cse_image::Message;
@@ -40,7 +40,7 @@ pub struct Listing {
     making: Vec<u8>,
     lines: Vec<u8>,
     /// Where the texts of messages stand in the lines.
-    spans: Vec<Span>,
+    spans: Vec<TextSpan>,
 }
 
 impl Model for Listing {
@@ -93,9 +93,9 @@ fn no_counts(alloc: Global, count: usize) -> Result<Vec<u64>, AllocError>
 /// Adds lines, in which the text of a message stands, or leaves all as it is.
 fn hold_message(
     lines: &mut Vec<u8>,
-    spans: &mut Vec<Span>,
+    spans: &mut Vec<TextSpan>,
     made: &[u8],
-    text: Span,
+    text: TextSpan,
 ) -> Result<(), AllocError>
     requires { IsText made.now text }
     ensures lines { OnOk result (lines.new.items ≡ lines.old.items ++ made.now) }
@@ -106,7 +106,7 @@ fn hold_message(
     spans.reserve(1)?;
     let before = lines.len();
     lines.extend_from_slice(made)?;
-    let span = Span {
+    let span = TextSpan {
         start: before + text.start,
         end: before + text.end,
     };
@@ -117,7 +117,7 @@ fn hold_message(
 }
 
 /// The text at a place.
-fn text_in(lines: &[u8], span: Span) -> &str
+fn text_in(lines: &[u8], span: TextSpan) -> &str
     requires { IsText lines.now span }
     ensures { result.now ≡ text_at lines.now span }
 {
@@ -128,7 +128,7 @@ fn text_in(lines: &[u8], span: Span) -> &str
 }
 
 /// The text at the place of this number.
-fn nth_text<'a>(lines: &'a [u8], spans: &[Span], i: usize) -> Option<&'a str>
+fn nth_text<'a>(lines: &'a [u8], spans: &[TextSpan], i: usize) -> Option<&'a str>
     requires { AreTexts lines.now spans.now }
     ensures text { option_copied result ≡ slice_get (texts_at lines.now spans.now) i }
     ensures small { OnSome result (i + 1 < 2 ^ 64) }

@@ -1,8 +1,8 @@
 //! Where texts stand in a list of bytes.
 
 /// The place of a text's first byte, and the place after its last, from 0.
-#[derive(Clone, Copy, Debug, PartialEq, Eq)]
-pub struct Span {
+#[derive(Clone, Copy, PartialEq, Eq)]
+pub struct TextSpan {
     pub start: usize,
     pub end: usize,
 }

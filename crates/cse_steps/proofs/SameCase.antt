@@ -21,7 +21,7 @@ use Rattle.cse_code_typing.specs.Signature.{id_number, id_text, number_item, tex
 use Rattle.cse_verify.specs.Verified.{VerifiedProgram}
 use Rattle.cse_steps.specs.Cell.{Cell, Number, Words, Index, Occurrence}
 use Rattle.cse_steps.specs.State.{Open, Call, World, with_given, in_store}
-use Rattle.cse_steps.specs.Operands.{given, with_number, with_text, with_occurrence, flag, is_within, is_special, special_value, whole_within, row_within, turns_of, combined, texts_compared, cell_of, kept_by_global, kept_by_local, cell_place, args_onto, popped}
+use Rattle.cse_steps.specs.Operands.{provided, with_number, with_text, with_occurrence, flag, is_within, is_special, special_value, whole_within, row_within, turns_of, combined, texts_compared, cell_of, kept_by_global, kept_by_local, cell_place, args_onto, popped}
 use Rattle.cse_steps.specs.Step.{Left, acts, at, on, or_to, two, one, many, read, stored_local, stored_global, loaded_cell, stored_cell, entered, again, turned, ends_at, broken, current, rowed}
 use Rattle.cse_steps.specs.Columns.{is_write}
 
@@ -111,8 +111,8 @@ module _ (c : Call) (w : World) where
 
   stores_cell : (k : ℕ) (a : ArrayLists) → Same (stored_cell c w k a)
   stores_cell k a =
-      number w.case c.cells (λ v below. option_and_then (λ p. given (nat_lt p.0 (length (cells_of w.store k))) (on c (in_store w (with_cell w.store k p.0 v)) p.1)) (cell_place a.dimensions below))
-      (λ v below. bound w.case (λ p. given (nat_lt p.0 (length (cells_of w.store k))) (on c (in_store w (with_cell w.store k p.0 v)) p.1)) (cell_place a.dimensions below)
+      number w.case c.cells (λ v below. option_and_then (λ p. provided (nat_lt p.0 (length (cells_of w.store k))) (on c (in_store w (with_cell w.store k p.0 v)) p.1)) (cell_place a.dimensions below))
+      (λ v below. bound w.case (λ p. provided (nat_lt p.0 (length (cells_of w.store k))) (on c (in_store w (with_cell w.store k p.0 v)) p.1)) (cell_place a.dimensions below)
       (λ p. either w.case (nat_lt p.0 (length (cells_of w.store k))) (on c (in_store w (with_cell w.store k p.0 v)) p.1) None refl tt))
 
   gives : (k : ℕ) (m : MessageLists) → Same (option_and_then (λ r. on c (with_given w k r.0) r.1) (args_onto (reverse (message_kinds m.text)) c.cells []))
@@ -157,7 +157,7 @@ inner_same v y code c w ops.JumpUnless a b k h = number w.case c.cells (λ x res
 inner_same v y code c w ops.Index a b k h =
     number w.case c.cells (λ x rest. or_to c w k rest (option_map (λ i. Index i b) (whole_within b x))) (λ x rest. or_goes c w k rest (option_map (λ i. Index i b) (whole_within b x)))
 inner_same v y code c w ops.Occurrence a b k h =
-    bound w.case (λ t. given (is_record (shape_of v.dictionary) a) (with_number c.cells (λ x rest. or_to c w k rest (option_map (λ o. Occurrence o a) (whole_within (many t a) x))))) w.case
+    bound w.case (λ t. provided (is_record (shape_of v.dictionary) a) (with_number c.cells (λ x rest. or_to c w k rest (option_map (λ o. Occurrence o a) (whole_within (many t a) x))))) w.case
     (λ t. either w.case (is_record (shape_of v.dictionary) a) (with_number c.cells (λ x rest. or_to c w k rest (option_map (λ o. Occurrence o a) (whole_within (many t a) x)))) None
     (number w.case c.cells (λ x rest. or_to c w k rest (option_map (λ o. Occurrence o a) (whole_within (many t a) x))) (λ x rest. or_goes c w k rest (option_map (λ o. Occurrence o a) (whole_within (many t a) x)))) tt)
 inner_same v y code c w ops.Row a b k h =
@@ -169,7 +169,7 @@ inner_same v y code c w ops.OccurrenceNumber a b k h =
     bound w.case (λ t. with_occurrence a (many t a) c.cells (λ o rest. on c w (Number (Whole (pos o)) ∷ rest))) w.case
     (λ t. occurrence w.case a (many t a) c.cells (λ o rest. on c w (Number (Whole (pos o)) ∷ rest)) (λ o rest. refl))
 inner_same v y code c w ops.TotalOccurrences a b k h =
-    bound w.case (λ t. given (is_record (shape_of v.dictionary) a) (on c w (Number (Whole (pos (many t a))) ∷ c.cells))) w.case
+    bound w.case (λ t. provided (is_record (shape_of v.dictionary) a) (on c w (Number (Whole (pos (many t a))) ∷ c.cells))) w.case
     (λ t. either w.case (is_record (shape_of v.dictionary) a) (on c w (Number (Whole (pos (many t a))) ∷ c.cells)) None refl tt)
 inner_same v y code c w ops.IdNumber a b k h =
     bound w.case (λ t. option_and_then (λ x. on c w (Number (number_at t 0 k) ∷ c.cells)) (id_number (shape_of v.dictionary) k)) w.case
@@ -192,7 +192,7 @@ inner_same v y code c w ops.LoopCount a b k h =
     bound w.case (λ m. with_number c.cells (λ x rest. entered c w rest None (turns_of m x) k)) (limit_of v.image.lists.limits b)
     (λ m. number w.case c.cells (λ x rest. entered c w rest None (turns_of m x) k) (λ x rest. enters c w rest None (turns_of m x) k))
 inner_same v y code c w ops.LoopOccurrences a b k h =
-    bound w.case (λ t. given (is_record (shape_of v.dictionary) a) (entered c w c.cells (Some (a, 1)) (many t a) k)) w.case
+    bound w.case (λ t. provided (is_record (shape_of v.dictionary) a) (entered c w c.cells (Some (a, 1)) (many t a) k)) w.case
     (λ t. either w.case (is_record (shape_of v.dictionary) a) (entered c w c.cells (Some (a, 1)) (many t a) k) None (enters c w c.cells (Some (a, 1)) (many t a) k) tt)
 inner_same v y code c w ops.End a b k h = turns c w k c.opens
 inner_same v y code c w ops.Break a b k h = breaks c w code k c.opens

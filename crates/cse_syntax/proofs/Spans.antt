@@ -10,7 +10,7 @@ use Rattle.cse_syntax_tree.specs.declared.token.Mark.{Mark}
 use Rattle.cse_syntax.specs.declared.lexer.Gap.{Gap}
 use Rattle.cse_syntax.specs.declared.lexer.Gap.TheVariants as g
 use Rattle.cse_syntax.specs.Loop.{snoc}
-use Rattle.cse_syntax.specs.Text.{begins, is_blank, turn, or_else, skip, mark_len, is_word_byte, symbol, symbol_at, is_inside, is_start, text_len, token_at, Piece, goes_on, next_piece, pieces_from, pieces_of}
+use Rattle.cse_syntax.specs.Text.{begins, is_blank, gap_after, or_else, skip, mark_len, is_word_byte, symbol, symbol_at, is_inside, is_start, text_len, token_at, Piece, goes_on, next_piece, pieces_from, pieces_of}
 use Rattle.cse_syntax.specs.Source.{Covers, IsCovered}
 use Rattle.cse_syntax.proofs.Steps.{some_is, bind_some, if_some, test_some}
 use Rattle.cse_syntax.proofs.SoundStmt.{both_true}
@@ -21,7 +21,7 @@ use Rattle.cse_syntax.proofs.SoundStmt.{both_true}
 abbrev GapTo : Gap → List ℕ → List ℕ → Type 0
 GapTo state text rest = (gap : List ℕ) × (text ≡ gap ++ rest) × (skip state gap ≡ Some [])
 
--- a turn that doesn't go to a second `/` is the same whatever comes next
+-- a byte that doesn't lead to a second `/` is the same whatever comes next
 same_turn : (after second : Gap) (p q r x y : Bool) (a b : Gap) → cond p (Some a) (cond q (Some b) (cond (r && x) (Some second) None)) ≡ Some after → (second ≡ after → x ≡ y)
     → cond p (Some a) (cond q (Some b) (cond (r && y) (Some second) None)) ≡ Some after
 same_turn after second true q r x y a b e s = e
@@ -37,7 +37,7 @@ same_front (c ∷ gap) rest bs e s = ap (begins 47) e
 slash_front : (after : Gap) (gap rest bs : List ℕ) → bs ≡ gap ++ rest → skip after gap ≡ Some [] → g.Slash ≡ after → begins 47 bs ≡ begins 47 gap
 slash_front after gap rest bs e s i = same_front gap rest bs e (subst (λ (a : Gap). skip a gap ≡ Some []) (sym i) s)
 
-one_more : (state after : Gap) (b : ℕ) (bs rest : List ℕ) → turn state b (begins 47 bs) ≡ Some after → GapTo after bs rest → GapTo state (b ∷ bs) rest
+one_more : (state after : Gap) (b : ℕ) (bs rest : List ℕ) → gap_after state b (begins 47 bs) ≡ Some after → GapTo after bs rest → GapTo state (b ∷ bs) rest
 one_more g.Between after b bs rest t h =
     let s = same_turn after g.Slash (b == 123) (is_blank b) (b == 47) (begins 47 bs) (begins 47 h.0) (g.Braces 0) g.Between t (slash_front after h.0 rest bs h.1 h.2) in
     (b ∷ h.0, ap (λ (r : List ℕ). b ∷ r) h.1, rw s h.2)
@@ -57,7 +57,7 @@ in_line false a b e = absurd cc
 
 -- The front of a text, by what its first byte does.
 abbrev Skips : Gap → ℕ → List ℕ → List ℕ → Option Gap → Type 0
-Skips state b bs rest o = or_else o (λ d. skip d bs) (Some (b ∷ bs)) ≡ Some rest → turn state b (begins 47 bs) ≡ o → GapTo state (b ∷ bs) rest
+Skips state b bs rest o = or_else o (λ d. skip d bs) (Some (b ∷ bs)) ≡ Some rest → gap_after state b (begins 47 bs) ≡ o → GapTo state (b ∷ bs) rest
 
 gap_before : (text : List ℕ) (state : Gap) (rest : List ℕ) → skip state text ≡ Some rest → GapTo state text rest
 gap_before [] g.Between rest e = ([], some_is e, refl)
@@ -68,23 +68,23 @@ gap_before (b ∷ bs) g.Between rest e =
     let by : (o : Option Gap) → Skips g.Between b bs rest o = λ o. elim o as (λ o. Skips g.Between b bs rest o) [
       | None ↦ λ s t. ([], some_is s, refl)
       | Some d ↦ λ s t. one_more g.Between d b bs rest t (gap_before bs d rest s)
-    ] in by (turn g.Between b (begins 47 bs)) e refl
+    ] in by (gap_after g.Between b (begins 47 bs)) e refl
 gap_before (b ∷ bs) g.Slash rest e = one_more g.Slash g.Line b bs rest refl (gap_before bs g.Line rest e)
 gap_before (b ∷ bs) g.Line rest e =
     let by : (o : Option Gap) → Skips g.Line b bs rest o = λ o. elim o as (λ o. Skips g.Line b bs rest o) [
       | None ↦ λ s t. absurd (in_line (b == 10) g.Between g.Line t)
       | Some d ↦ λ s t. one_more g.Line d b bs rest t (gap_before bs d rest s)
-    ] in by (turn g.Line b (begins 47 bs)) e refl
+    ] in by (gap_after g.Line b (begins 47 bs)) e refl
 gap_before (b ∷ bs) (g.Braces zero) rest e =
     let by : (o : Option Gap) → Skips (g.Braces zero) b bs rest o = λ o. elim o as (λ o. Skips (g.Braces zero) b bs rest o) [
       | None ↦ λ s t. absurd (never_none (b == 123) (b == 125) (g.Braces 1) g.Between (g.Braces 0) t)
       | Some d ↦ λ s t. one_more (g.Braces zero) d b bs rest t (gap_before bs d rest s)
-    ] in by (turn (g.Braces zero) b (begins 47 bs)) e refl
+    ] in by (gap_after (g.Braces zero) b (begins 47 bs)) e refl
 gap_before (b ∷ bs) (g.Braces (suc n)) rest e =
     let by : (o : Option Gap) → Skips (g.Braces (suc n)) b bs rest o = λ o. elim o as (λ o. Skips (g.Braces (suc n)) b bs rest o) [
       | None ↦ λ s t. absurd (never_none (b == 123) (b == 125) (g.Braces (suc (suc n))) (g.Braces n) (g.Braces (suc n)) t)
       | Some d ↦ λ s t. one_more (g.Braces (suc n)) d b bs rest t (gap_before bs d rest s)
-    ] in by (turn (g.Braces (suc n)) b (begins 47 bs)) e refl
+    ] in by (gap_after (g.Braces (suc n)) b (begins 47 bs)) e refl
 
 -- ---- tokens
 

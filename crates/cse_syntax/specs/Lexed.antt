@@ -3,7 +3,7 @@ use Rattle.std.specs.Prelude.{◌≡◌, ◌<◌, ℕ, suc, List, map, length, O
 use Rattle.cse_syntax.specs.declared.lexer.Gap.{Gap}
 use Rattle.cse_syntax.specs.declared.lexer.Gap.TheVariants as g
 use Rattle.cse_syntax_tree.specs.declared.token.Token.{Token}
-use Rattle.cse_syntax.specs.declared.error.Fault.{Fault}
+use Rattle.cse_syntax.specs.declared.error.SourceFault.{SourceFault}
 use Rattle.cse_syntax.specs.declared.lexer.Next.{Next}
 use Rattle.cse_syntax.specs.declared.lexer.Next.TheVariants as n
 use Rattle.cse_syntax_tree.specs.Word.{AreNumbered}
@@ -15,7 +15,7 @@ depth (g.Braces n) = suc n
 depth _ = 0
 
 -- These are all tokens of the text, or a fault was found and it has none.
-abbrev pub Splits : List ℕ → List Token → Option Fault → Type 0
+abbrev pub Splits : List ℕ → List Token → Option SourceFault → Type 0
 Splits text tokens None = (pieces_of text ≡ Some (map piece tokens)) × AreNumbered 0 tokens
 Splits text tokens (Some fault) = pieces_of text ≡ None
 

@@ -19,16 +19,16 @@ is_blank b = b == 32 || (b == 9 || (b == 10 || b == 13))
 
 -- Where the next byte is, after a byte of a blank or a comment, or none where a token begins.
 -- `{ }` nest; a `//` goes to the line's end; within the one the other means nothing.
-abbrev pub turn : Gap → ℕ → Bool → Option Gap
-turn g.Between b slash =
+abbrev pub gap_after : Gap → ℕ → Bool → Option Gap
+gap_after g.Between b slash =
     if b == 123 then Some (g.Braces 0)
     else (if is_blank b then Some g.Between
     else (if (b == 47 && slash) then Some g.Slash
     else None))
-turn g.Slash b slash = Some g.Line
-turn g.Line b slash = if b == 10 then Some g.Between else Some g.Line
-turn (g.Braces zero) b slash = if b == 123 then Some (g.Braces 1) else (if b == 125 then Some g.Between else Some (g.Braces 0))
-turn (g.Braces (suc n)) b slash = if b == 123 then Some (g.Braces (suc (suc n))) else (if b == 125 then Some (g.Braces n) else Some (g.Braces (suc n)))
+gap_after g.Slash b slash = Some g.Line
+gap_after g.Line b slash = if b == 10 then Some g.Between else Some g.Line
+gap_after (g.Braces zero) b slash = if b == 123 then Some (g.Braces 1) else (if b == 125 then Some g.Between else Some (g.Braces 0))
+gap_after (g.Braces (suc n)) b slash = if b == 123 then Some (g.Braces (suc (suc n))) else (if b == 125 then Some (g.Braces n) else Some (g.Braces (suc n)))
 
 -- the text after blanks and comments, if each comment in braces ends
 abbrev pub skip : Gap → List ℕ → Option (List ℕ)
@@ -36,7 +36,7 @@ skip g.Between [] = Some []
 skip g.Slash [] = None
 skip g.Line [] = Some []
 skip (g.Braces n) [] = None
-skip gap (b ∷ bs) = or_else (turn gap b (begins 47 bs)) (λ after. skip after bs) (Some (b ∷ bs))
+skip gap (b ∷ bs) = or_else (gap_after gap b (begins 47 bs)) (λ after. skip after bs) (Some (b ∷ bs))
 
 -- the bytes of a byte order mark at the front
 abbrev pub mark_len : List ℕ → ℕ

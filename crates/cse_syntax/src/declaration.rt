@@ -316,6 +316,7 @@ impl<'t, 'a> Parser<'t, 'a> {
         Ok(Procedure { name, body })
     }
 
+    /// Reads procedures up to the end of the tokens.
     #[tactic(auto, unfolding(crate::specs::ReadingSource::procedures))]
     pub fn procedures(&mut self, room: usize) -> Result<Vec<Procedure<'a>>, ReadError>
         ensures { Reads (λ v. map tree.procedure v.items) (rule.procedures room) result self.old.rest.now self.new.rest.now }

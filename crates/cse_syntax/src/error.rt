@@ -40,21 +40,22 @@ pub enum Cause {
 
 /// What is wrong, and the byte of the text at which it is.
 #[derive(Clone, Copy)]
-pub struct Fault {
+pub struct SourceFault {
     pub cause: Cause,
     pub place: usize,
 }
 
+/// Why reading stopped: want of memory, or the first fault.
 #[derive(Drop)]
 pub enum ReadError {
     Memory,
-    Found(Fault),
+    Found(SourceFault),
 }
 
-impl From<Fault> for ReadError {
+impl From<SourceFault> for ReadError {
     ghost from_gives = { λ f e. e ≡ Found f };
 
-    fn from(fault: Fault) -> ReadError {
+    fn from(fault: SourceFault) -> ReadError {
         ReadError::Found(fault)
     }
 }

@@ -227,7 +227,8 @@ impl<'t, 'a> Parser<'t, 'a> {
 
     #[cycle(expression)]
     fn operations(&mut self, level: Level, room: usize) -> Result<Vec<Operation<'a>>, ReadError>
-        ensures { Reads (λ v. map operation_tree v.items) (λ ws. spec.operations_from (spec.operator_of level) (spec.operand_of room (spec.nested room) level) (length ws) [] ws) result self.old.rest.now self.new.rest.now }
+        ensures { Reads (λ v. map operation_tree v.items) (λ ws. spec.operations_from (spec.operator_of level) (spec.operand_of room (spec.nested room) level)
+            (length ws) [] ws) result self.old.rest.now self.new.rest.now }
     {
         let mut found = Vec::new(self.alloc);
         'operands: while let Some(operator) = self.take_operator(level) {
@@ -275,6 +276,7 @@ impl<'t, 'a> Parser<'t, 'a> {
         compare(self.alloc, left, relation, right)
     }
 
+    /// Reads an expression, in which parentheses nest so deep at most.
     #[tactic(auto, unfolding(crate::specs::Reading::disjunction))]
     pub fn expression(&mut self, room: usize) -> Result<Expression<'a>, ReadError>
         ensures { Reads expr (spec.expr_at room) result self.old.rest.now self.new.rest.now }

@@ -8,7 +8,7 @@ ghost use Rattle.cse_syntax.specs.Text.{piece};
 ghost use Rattle.cse_syntax_tree.specs.Leaf.{is_token};
 ghost use Rattle.cse_syntax.specs.Lexed.{depth, Splits, Continues, IsShorter};
 
-use crate::error::{Cause, Fault};
+use crate::error::{Cause, SourceFault};
 use crate::word::word_kind;
 use cse_syntax_tree::{Kind, Mark, Token};
 use std::alloc::{AllocError, Global};
@@ -37,9 +37,9 @@ fn begins(byte: u8, bytes: &[u8]) -> bool
 }
 
 /// Where the next byte is, or none where a token begins; `slash` says whether a `/` comes next.
-fn turn(gap: Gap, byte: u8, slash: bool) -> Option<Gap>
+fn gap_after(gap: Gap, byte: u8, slash: bool) -> Option<Gap>
     requires { depth gap < usize.MAX }
-    ensures value { result ≡ spec.turn gap byte slash }
+    ensures value { result ≡ spec.gap_after gap byte slash }
     ensures small { IfSome result (λ after. depth after ≤ depth gap + 1) }
     ensures ascii { IfSome result (λ after. after ≡ Gap.Between → byte < 128) }
     ensures token { IfNone result (gap ≡ Gap.Between) }
@@ -63,7 +63,7 @@ fn turn(gap: Gap, byte: u8, slash: bool) -> Option<Gap>
 
 fn in_braces(around: usize, byte: u8) -> Gap
     requires { around + 1 < usize.MAX }
-    ensures value { Some result ≡ spec.turn (Gap.Braces around) byte false }
+    ensures value { Some result ≡ spec.gap_after (Gap.Braces around) byte false }
     ensures small { depth result ≤ around + 2 }
     ensures ascii { result ≡ Gap.Between → byte < 128 }
 {
@@ -88,7 +88,7 @@ fn gap_len(bytes: &[u8]) -> Result<usize, usize>
         if gap == Gap::Between {
             outermost = i;
         }
-        match turn(gap, *byte, begins(b'/', &bytes[i + 1..])) {
+        match gap_after(gap, *byte, begins(b'/', &bytes[i + 1..])) {
             Some(after) => gap = after,
             None => return Ok(i),
         }
@@ -248,12 +248,12 @@ fn past_gap(text: &str) -> Result<&str, usize>
 }
 
 /// The fault where no token begins.
-fn fault_at(bytes: &[u8], place: usize) -> Fault {
+fn fault_at(bytes: &[u8], place: usize) -> SourceFault {
     let cause = match bytes.first() {
         Some(b'\'' | b'"') => Cause::Comment,
         _ => Cause::Character,
     };
-    Fault { cause, place }
+    SourceFault { cause, place }
 }
 
 /// The token at the front of what is left of a text, and the text from the next one on; or else the fault there,
@@ -280,7 +280,7 @@ fn next_token<'a>(index: usize, total: usize, rest: &'a str) -> Next<'a>
         Ok(after) => Next::Token(token, after),
         Err(at) => Next::Last(
             token,
-            Fault {
+            SourceFault {
                 cause: Cause::Comment,
                 place: place + len + at,
             },
@@ -293,16 +293,16 @@ enum Next<'a> {
     /// A token, and the text from the next one on.
     Token(Token<'a>, &'a str),
     /// A token, and behind it a comment without an end.
-    Last(Token<'a>, Fault),
+    Last(Token<'a>, SourceFault),
     /// No token.
-    Fault(Fault),
+    Fault(SourceFault),
 }
 
 /// The tokens of a text, up to the first place where it has none.
 #[derive(Drop)]
 pub struct Lexed<'a> {
     pub tokens: Vec<Token<'a>>,
-    pub fault: Option<Fault>,
+    pub fault: Option<SourceFault>,
 }
 
 /// The text after a byte order mark at its front.
@@ -330,7 +330,7 @@ pub fn tokens<'a>(alloc: Global, text: &'a str) -> Result<Lexed<'a>, AllocError>
             let place = text.len() - front.len() + at;
             return Ok(Lexed {
                 tokens,
-                fault: Some(Fault {
+                fault: Some(SourceFault {
                     cause: Cause::Comment,
                     place,
                 }),

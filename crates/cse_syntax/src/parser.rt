@@ -6,7 +6,7 @@ ghost use Rattle.cse_syntax_tree.specs.Tree.{written};
 ghost use Rattle.cse_syntax.specs.Reading as spec;
 ghost use Rattle.cse_syntax.specs.Reading.{Reads, Leaves, IsFault, Takes};
 
-use crate::error::{Cause, Fault, ReadError};
+use crate::error::{Cause, ReadError, SourceFault};
 use cse_syntax_tree::{Kind, Lexeme, Mark, Operator, Relation, Token, is_within};
 use std::alloc::Global;
 
@@ -18,7 +18,7 @@ pub struct Parser<'t, 'a> {
     /// The place of the last token that was taken.
     pub last: usize,
     /// What is wrong where no token is left.
-    pub end: Fault,
+    pub end: SourceFault,
 }
 
 /// The fault of a token that can't stand where it does.
@@ -29,14 +29,15 @@ pub fn refused(token: &Token<'_>) -> ReadError
         Kind::LeftOut => Cause::LeftOut,
         _ => Cause::Unexpected,
     };
-    ReadError::Found(Fault {
+    ReadError::Found(SourceFault {
         cause,
         place: token.start,
     })
 }
 
 impl<'t, 'a> Parser<'t, 'a> {
-    pub fn new(alloc: Global, rest: &'t [Token<'a>], end: Fault) -> Parser<'t, 'a>
+    /// A parser before these tokens; the fault is told where they end too early.
+    pub fn new(alloc: Global, rest: &'t [Token<'a>], end: SourceFault) -> Parser<'t, 'a>
         ensures { result.rest.now ≡ rest.now }
     {
         Parser {
@@ -47,6 +48,7 @@ impl<'t, 'a> Parser<'t, 'a> {
         }
     }
 
+    /// Whether no token is left.
     pub fn is_at_end(&self) -> bool
         ensures { result ≡ (length (words self.now.rest.now) == 0) }
     {
@@ -74,7 +76,7 @@ impl<'t, 'a> Parser<'t, 'a> {
     pub fn too_deep(&self) -> ReadError
         ensures { IsFault result }
     {
-        ReadError::Found(Fault {
+        ReadError::Found(SourceFault {
             cause: Cause::TooDeep,
             place: self.last,
         })
@@ -84,12 +86,13 @@ impl<'t, 'a> Parser<'t, 'a> {
     pub fn out_of_range(&self) -> ReadError
         ensures { IsFault result }
     {
-        ReadError::Found(Fault {
+        ReadError::Found(SourceFault {
             cause: Cause::OutOfRange,
             place: self.last,
         })
     }
 
+    /// Whether this mark comes next.
     pub fn sees(&self, mark: Mark) -> bool
         ensures { result ≡ spec.sees mark (words self.now.rest.now) }
     {
@@ -130,6 +133,7 @@ impl<'t, 'a> Parser<'t, 'a> {
         found
     }
 
+    /// Reads this mark.
     pub fn expect(&mut self, mark: Mark) -> Result<(), ReadError>
         ensures value { Leaves result (spec.expect mark (words self.old.rest.now)) (words self.new.rest.now) }
         ensures shorter { length self.new.rest.now ≤ length self.old.rest.now }
@@ -175,6 +179,7 @@ impl<'t, 'a> Parser<'t, 'a> {
         Some(token)
     }
 
+    /// Reads a name.
     pub fn name(&mut self) -> Result<Lexeme<'a>, ReadError>
         ensures { Reads written spec.take_name result self.old.rest.now self.new.rest.now }
     {

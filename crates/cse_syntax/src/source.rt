@@ -11,7 +11,7 @@ ghost use Rattle.cse_syntax.specs.ReadingSource.{source_at, tree_of};
 ghost use Rattle.cse_syntax.specs.Text.{pieces, pieces_of};
 ghost use Rattle.cse_syntax.specs.Source.{IsCovered, IsSourceText, cause_number, error_number, IsRead};
 
-use crate::error::{Cause, Fault, ReadError, SyntaxError};
+use crate::error::{Cause, ReadError, SourceFault, SyntaxError};
 use crate::lexer;
 use crate::parser::Parser;
 use crate::place::{Position, position_of};
@@ -62,7 +62,11 @@ impl Source<'_> {
 
 /// All of the tokens as a tree; `end` is what is wrong behind them.
 #[tactic(auto, unfolding(crate::specs::ReadingSource::source_at))]
-fn tree_from<'a>(alloc: Global, tokens: &[Token<'a>], end: Fault) -> Result<Tree<'a>, ReadError>
+fn tree_from<'a>(
+    alloc: Global,
+    tokens: &[Token<'a>],
+    end: SourceFault,
+) -> Result<Tree<'a>, ReadError>
     ensures { GivesAll tree.tree result (source_at LIMIT (words tokens.now)) }
 {
     let mut parser = Parser::new(alloc, tokens, end);
@@ -86,7 +90,7 @@ fn read<'a>(alloc: Global, text: &'a str) -> Result<Source<'a>, ReadError>
     let found = lexer::tokens(alloc, text)?;
     match found.fault {
         None => {
-            let end = Fault {
+            let end = SourceFault {
                 cause: Cause::Unexpected,
                 place: text.len(),
             };

@@ -415,7 +415,8 @@ impl<'t, 'a> Parser<'t, 'a> {
         &mut self,
         room: usize,
     ) -> Result<(Vec<Arm<'a>>, Option<Vec<Statement<'a>>>), ReadError>
-        ensures { Reads (λ p. arms (map arm_tree p.0.items) (otherwise_tree p.1)) (rule.alternatives room (rule.body_at room)) result self.old.rest.now self.new.rest.now }
+        ensures { Reads (λ p. arms (map arm_tree p.0.items) (otherwise_tree p.1))
+            (rule.alternatives room (rule.body_at room)) result self.old.rest.now self.new.rest.now }
     {
         let mut others = Vec::new(self.alloc);
         'all: while self.eat(Mark::ElseIf) {
@@ -459,7 +460,8 @@ fn if_node<'a>(
     others: Vec<Arm<'a>>,
     otherwise: Option<Vec<Statement<'a>>>,
 ) -> Statement<'a>
-    ensures { stmt result ≡ tree.If (expr first.entry.condition) (block first.entry.body.items) (arms (map arm_tree others.entry.items) (otherwise_tree otherwise.entry)) }
+    ensures { stmt result
+        ≡ tree.If (expr first.entry.condition) (block first.entry.body.items) (arms (map arm_tree others.entry.items) (otherwise_tree otherwise.entry)) }
 {
     Statement::If(first, others, otherwise)
 }

@@ -213,6 +213,7 @@ fn is_left_out(text: &[u8]) -> bool
         || is_word(text, b"export")
 }
 
+/// What a word is.
 pub fn word_kind(text: &[u8]) -> Kind
     ensures { result ≡ spec.word_kind text.now }
 {

@@ -65,7 +65,8 @@ pub fn is_within(least: u64, most: u64, digits: &str) -> bool
 /// The number that a literal writes: none for what isn't digits alone, and for more than 9,223,372,036,854,775,807.
 #[tactic(auto, unfolding(crate::specs::Leaf::is_within))]
 pub fn number_of(digits: &str) -> Option<u64>
-    ensures { MatchOption result (spec.is_within 0 spec.MOST digits.now ≡ false) (λ v. (spec.is_within 0 spec.MOST digits.now ≡ true) × (v ≡ spec.number_of digits.now)) }
+    ensures { MatchOption result (spec.is_within 0 spec.MOST digits.now ≡ false) (λ v. (spec.is_within 0 spec.MOST digits.now ≡ true) × (v
+        ≡ spec.number_of digits.now)) }
 {
     if !is_digits(digits.as_bytes()) {
         return None;

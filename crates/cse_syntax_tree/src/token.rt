@@ -61,6 +61,7 @@ pub enum Mark {
     Percent,
 }
 
+/// What a token is.
 #[derive(Clone, Copy, PartialEq, Eq)]
 pub enum Kind {
     /// A word of at most 32 characters that isn't reserved.

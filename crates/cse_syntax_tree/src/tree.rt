@@ -28,6 +28,7 @@ pub enum Operator {
     Remainder,
 }
 
+/// A relation of two values.
 #[derive(Clone, Copy, PartialEq, Eq)]
 pub enum Relation {
     Equal,
@@ -62,6 +63,7 @@ pub enum Query {
     CurOcc,
 }
 
+/// An expression, as it is written.
 #[cycle(expr)]
 pub enum Expression<'a> {
     Number(Lexeme<'a>),
@@ -171,6 +173,7 @@ pub struct Counting<'a> {
     pub by: Option<Lexeme<'a>>,
 }
 
+/// A statement that leaves a turn, a loop or a procedure.
 #[derive(Clone, Copy, PartialEq, Eq)]
 pub enum Jump {
     Break,
@@ -185,6 +188,7 @@ pub enum Message<'a> {
     Number(Lexeme<'a>),
 }
 
+/// A statement, as it is written.
 #[cycle(stmt)]
 pub enum Statement<'a> {
     Empty,
@@ -256,6 +260,7 @@ pub struct Parameter<'a> {
     pub name: Lexeme<'a>,
 }
 
+/// What is declared in `PROC GLOBAL`.
 #[derive(Drop)]
 pub enum Declaration<'a> {
     Numeric(Vec<Lexeme<'a>>),
@@ -265,6 +270,7 @@ pub enum Declaration<'a> {
     Function(Lexeme<'a>, Vec<Parameter<'a>>, Vec<Statement<'a>>),
 }
 
+/// An array that is declared, as it is written.
 #[derive(Drop)]
 pub struct Array<'a> {
     pub name: Lexeme<'a>,
@@ -283,6 +289,7 @@ pub enum Body<'a> {
     Postproc(Vec<Statement<'a>>),
 }
 
+/// A procedure, as it is written.
 #[derive(Drop)]
 pub struct Procedure<'a> {
     pub name: Lexeme<'a>,

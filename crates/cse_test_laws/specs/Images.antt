@@ -2,7 +2,7 @@
 use Rattle.std.specs.Prelude.{◌≡◌, ℕ, ◌+◌, List, [], ◌∷◌, ◌++◌, length, map, take, drop, codes, replicate, Option, Some, None, Result, Ok, Err}
 use Rattle.std.specs.List.{flat_map, range_with_len}
 use Rattle.byteorder.specs.Endian.{little_bytes}
-use Rattle.cse_image_codec.specs.declared.fault.Fault.{Fault}
+use Rattle.cse_image_codec.specs.declared.fault.FieldFault.{FieldFault}
 use Rattle.cse_image_parts.specs.Image.{Image}
 use Rattle.cse_image.specs.Place.{placed}
 use Rattle.cse_image.specs.Reading.{reading}
@@ -203,7 +203,7 @@ full_faults =
     ∷ (187, 1 ∷ [], 63, 187) ∷ (189, 1 ∷ [], 63, 188) ∷ (193, 1 ∷ [], 63, 190) ∷ []
 
 -- the bytes of the program that bytes stand for, in version 2
-abbrev pub written : Result Image Fault → Option (List ℕ)
+abbrev pub written : Result Image FieldFault → Option (List ℕ)
 written (Ok x) = Some (spelling x)
 written (Err f) = None
 

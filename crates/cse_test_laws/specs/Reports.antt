@@ -8,7 +8,7 @@ use Rattle.cse_image_parts.specs.Image.{MessageLists}
 use Rattle.cse_report.specs.declared.argument.Arg.{Arg}
 use Rattle.cse_report.specs.declared.argument.Arg.TheVariants.{Number, Words}
 use Rattle.cse_report.specs.Frequency.{all_imputed, frequencies_text}
-use Rattle.cse_report.specs.Held.{Step, Lists, Flushes, after_steps, given, unwritten}
+use Rattle.cse_report.specs.Held.{Step, Lists, Flushes, after_steps, given_in_all, unwritten}
 use Rattle.cse_report.specs.Listing.{Report, BeginsRun, BeginsCase, LeavesUnseen, Gives, listing}
 use Rattle.cse_report.specs.MessageText.{HasArguments, message_text}
 use Rattle.cse_test_laws.specs.Rows as rows
@@ -80,7 +80,7 @@ ages_by between behind =
     ++ (Lists (BeginsCase (codes "004")) ∷ between) ++ (Lists (Gives 3 (number NotAppl ∷ [])) ∷ behind)
 
 abbrev pub ages_given : List Step → List ℕ
-ages_given steps = given (after_steps (unwritten of_ages) steps) 4 4 0
+ages_given steps = given_in_all (after_steps (unwritten of_ages) steps) 4 4 0
 
 abbrev pub ages_listed : List ℕ
 ages_listed =

@@ -4,7 +4,7 @@ use Rattle.std.specs.Str.{encode_utf8_all}
 use Rattle.cse_dict.specs.Dictionary.{DictionaryText, dictionary_of}
 use Rattle.cse_sections.specs.Sections.{sections_of}
 use Rattle.cse_lines.specs.Columns.{LineText, line_text}
-use Rattle.cse_lines.specs.Runs.{fault_in, given}
+use Rattle.cse_lines.specs.Runs.{fault_in, given_runs}
 use Rattle.cse_lines.specs.declared.line.Ending.{Ending}
 use Rattle.cse_lines.specs.declared.line.Ending.TheVariants.{FileEnd, Feed, ReturnFeed}
 use Rattle.cse_test_laws.specs.Rows.{Gives}
@@ -25,7 +25,7 @@ line columns len ending record_number = record { columns = columns; len = len; e
 
 -- the runs of a file that has ended
 abbrev pub runs : List ℕ → List (List LineText)
-runs bytes = map (map (line_text persons)) (given persons true true bytes)
+runs bytes = map (map (line_text persons)) (given_runs persons true true bytes)
 
 -- lines with ends of each kind, of a record and of none, and with U+00E9
 abbrev pub file : List ℕ

@@ -1,6 +1,6 @@
 //! Rows that were worked by hand: two files, and what is told of them.
 
-use cse_changes::{Count, Fault, compare};
+use cse_changes::{CompareFault, Count, compare};
 use cse_dict::Dictionary;
 use cse_value::Reads;
 use std::alloc::Global;
@@ -144,10 +144,10 @@ fn told(alloc: Global, dictionary: &Dictionary, before: &[u8], after: &[u8]) -> 
             [a, b, c, d] => Some(Ok([pair(*a), pair(*b), pair(*c), pair(*d)])),
             _ => None,
         },
-        Err(Fault::Data(error)) => Some(Err((READ, error.line))),
-        Err(Fault::Out(error)) => Some(Err((WRITTEN, error.line))),
-        Err(Fault::Apart { line }) => Some(Err((APART, line))),
-        Err(Fault::Memory) => None,
+        Err(CompareFault::Data(error)) => Some(Err((READ, error.line))),
+        Err(CompareFault::Out(error)) => Some(Err((WRITTEN, error.line))),
+        Err(CompareFault::Apart { line }) => Some(Err((APART, line))),
+        Err(CompareFault::Memory) => None,
     }
 }
 

@@ -2,7 +2,7 @@
 use Rattle.std.proofs.Common.{◌≡◌, ℕ, ◌+◌, ◌<◌, ◌≤◌, Bool, true, false, zero, suc, List, [], ◌∷◌, ◌++◌, length, map, drop, drop-cons, get_or, refl, sym, ap, ◌∙◌, append_assoc, arith}
 use Rattle.std.specs.Prelude.{◌&&◌}
 use Rattle.cse_syntax_tree.specs.Tree as syntax
-use Rattle.cse_logic_tree.specs.Typed.{Entry}
+use Rattle.cse_logic_tree.specs.Typed.{MessageEntry}
 use Rattle.cse_types.specs.declared.told.Told.{Told}
 use Rattle.cse_types.specs.Told.{told_of}
 use Rattle.cse_types.specs.Entries.{is_said, are_said}
@@ -18,7 +18,7 @@ said_at (x ∷ xs) zero d lt h = (and_holds (is_said (told_of x).0) (are_said (m
 said_at (x ∷ xs) (suc i) d lt h = said_at xs i d (omega (arith, lt)) (and_holds (is_said (told_of x).0) (are_said (map told_of xs)) h).1
 
 module _ (messages : List MessageText) (items : List Told) (i : ℕ) where
-  pub entries_turn : (d : Told) → i < length items → (found found' total : List Entry) → found ++ map (entry_of messages) (map told_of (drop i items)) ≡ total → found' ≡ found ++ entry_of messages (told_of (get_or items i d)) ∷ []
+  pub entries_turn : (d : Told) → i < length items → (found found' total : List MessageEntry) → found ++ map (entry_of messages) (map told_of (drop i items)) ≡ total → found' ≡ found ++ entry_of messages (told_of (get_or items i d)) ∷ []
       → found' ++ map (entry_of messages) (map told_of (drop (i + 1) items)) ≡ total
   entries_turn d lt found found' total inv e =
       let one : suc i ≡ i + 1 = omega arith in
@@ -28,5 +28,5 @@ module _ (messages : List MessageText) (items : List Told) (i : ℕ) where
       ∙ ap (λ l. found ++ map (entry_of messages) (map told_of l)) (sym next)
       ∙ inv
 
-  pub entries_end : length items ≤ i → (found total : List Entry) → found ++ map (entry_of messages) (map told_of (drop i items)) ≡ total → found ≡ total
+  pub entries_end : length items ≤ i → (found total : List MessageEntry) → found ++ map (entry_of messages) (map told_of (drop i items)) ≡ total → found ≡ total
   entries_end le found total inv = sym (append_none found) ∙ ap (λ l. found ++ map (entry_of messages) (map told_of l)) (sym (past items i le)) ∙ inv

@@ -14,7 +14,7 @@ ghost use Rattle.cse_logic_names.specs.Walk.{is_there, joined, IsNoted, IsNotedA
 use cse_dict::Dictionary;
 use cse_logic_expressions::expression::written_number;
 use cse_logic_expressions::head::whole;
-use cse_logic_expressions::list::{both, keep};
+use cse_logic_expressions::list::{both_hold, keep};
 use cse_logic_expressions::set::number_set;
 use cse_logic_names::faults::Faults;
 use cse_logic_names::scope::Scope;
@@ -158,7 +158,7 @@ pub fn dimensions<'a>(
     'all: for x in all {
         let next = dimension(scope, faults, x);
         let is_there = keep(&mut found, next)?;
-        is_sound = both(is_sound, is_there);
+        is_sound = both_hold(is_sound, is_there);
     }
     if is_sound { Ok(Some(found)) } else { Ok(None) }
 }
@@ -185,7 +185,7 @@ fn cells<'a>(
     'all: for x in all {
         let next = cell(faults, x);
         let is_there = keep(&mut found, next)?;
-        is_sound = both(is_sound, is_there);
+        is_sound = both_hold(is_sound, is_there);
     }
     if is_sound { Ok(Some(found)) } else { Ok(None) }
 }

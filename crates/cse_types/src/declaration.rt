@@ -13,7 +13,7 @@ ghost use Rattle.cse_logic_names.specs.Walk.{is_there, IsNoted};
 use crate::array::{array, size_of};
 use crate::function::function;
 use crate::told::Told;
-use cse_logic_expressions::list::{both, keep};
+use cse_logic_expressions::list::{both_hold, keep};
 use cse_logic_names::faults::Faults;
 use cse_logic_names::scope::Scope;
 use cse_logic_tree::{Array, Declaration, Function};
@@ -106,7 +106,7 @@ pub fn declarations<'a>(
     'all: for x in all {
         let next = declaration(alloc, scope, faults, told, x)?;
         let is_there = keep(&mut found, next)?;
-        is_sound = both(is_sound, is_there);
+        is_sound = both_hold(is_sound, is_there);
     }
     if is_sound { Ok(Some(found)) } else { Ok(None) }
 }

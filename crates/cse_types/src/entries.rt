@@ -12,7 +12,7 @@ ghost use Rattle.cse_logic_names.specs.WellTyped.{entry_of, message_meant, no_me
 use crate::told::Told;
 use cse_logic_expressions::errmsg::message_number;
 use cse_logic_names::messages::Messages;
-use cse_logic_tree::Entry;
+use cse_logic_tree::MessageEntry;
 use cse_syntax::{Message, text_of};
 use std::alloc::{AllocError, Global};
 
@@ -56,12 +56,12 @@ fn message_said<'a>(messages: &'a Messages, what: Message<'a>) -> Said<'a>
     }
 }
 
-fn entry<'a>(messages: &'a Messages, x: &Told<'a>) -> Entry<'a>
+fn entry<'a>(messages: &'a Messages, x: &Told<'a>) -> MessageEntry<'a>
     requires { is_said (told_of x.now).0 ≡ true }
     ensures { typed.entry result ≡ entry_of messages.now (told_of x.now) }
 {
     let said = message_said(messages, x.message);
-    Entry {
+    MessageEntry {
         number: said.number,
         text: said.text,
         is_summary: x.is_summary,
@@ -73,7 +73,7 @@ pub fn entries<'a>(
     alloc: Global,
     messages: &'a Messages,
     told: &Vec<Told<'a>>,
-) -> Result<Vec<Entry<'a>>, AllocError>
+) -> Result<Vec<MessageEntry<'a>>, AllocError>
     requires { are_said (map told_of told.now.items) ≡ true }
     ensures { IfOk result (λ v. map typed.entry v.items ≡ map (entry_of messages.now) (map told_of told.now.items)) }
 {

@@ -15,7 +15,7 @@ ghost use Rattle.cse_logic_names.specs.Walk.{is_there, joined, found_more, IsNot
 use crate::statement::block;
 use crate::told::Told;
 use cse_dict::Dictionary;
-use cse_logic_expressions::list::{both, keep};
+use cse_logic_expressions::list::{both_hold, keep};
 use cse_logic_names::faults::Faults;
 use cse_logic_names::meaning::{Meaning, Routine};
 use cse_logic_names::names::kept;
@@ -287,7 +287,7 @@ pub fn procedures<'a>(
     let mut is_sound = true;
     'all: for x in all {
         let is_there = one_more(alloc, scope, faults, told, &mut found, x)?;
-        is_sound = both(is_sound, is_there);
+        is_sound = both_hold(is_sound, is_there);
     }
     if is_sound { Ok(Some(found)) } else { Ok(None) }
 }

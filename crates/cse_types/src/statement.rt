@@ -17,7 +17,7 @@ use cse_logic_expressions::action::{alone, assignment, deck_value, imputation, j
 use cse_logic_expressions::errmsg::err_msg;
 use cse_logic_expressions::expression::value;
 use cse_logic_expressions::head::{counting, for_head};
-use cse_logic_expressions::list::{both, keep};
+use cse_logic_expressions::list::{both_hold, keep};
 use cse_logic_names::faults::Faults;
 use cse_logic_names::scope::Scope;
 use cse_logic_tree::{Arm, Counting, Number, Statement, Variable};
@@ -213,7 +213,7 @@ pub fn block<'a>(
     'all: for x in statements {
         let next = statement(alloc, scope, faults, told, x)?;
         let is_there = keep(&mut found, next)?;
-        is_sound = both(is_sound, is_there);
+        is_sound = both_hold(is_sound, is_there);
     }
     if is_sound { Ok(Some(found)) } else { Ok(None) }
 }
@@ -282,7 +282,7 @@ fn arms<'a>(
     'all: for x in others {
         let next = arm(alloc, scope, faults, told, x)?;
         let is_there = keep(&mut found, next)?;
-        is_sound = both(is_sound, is_there);
+        is_sound = both_hold(is_sound, is_there);
     }
     if is_sound { Ok(Some(found)) } else { Ok(None) }
 }

@@ -118,7 +118,7 @@ impl<R: io::Read> Input for Reads<R> {
 pub struct Writes<W> {
     writer: W,
     failed: bool,
-    record: Record,
+    taken_so_far: Record,
 }
 
 impl<W: io::Write> Writes<W> {
@@ -130,7 +130,7 @@ impl<W: io::Write> Writes<W> {
         Writes {
             writer,
             failed: false,
-            record: Record::new(),
+            taken_so_far: Record::new(),
         }
     }
 
@@ -144,7 +144,7 @@ impl<W: io::Write> Writes<W> {
     fn write_noted(&mut self, bytes: &[u8]) -> Result<usize, Failed>
         ensures bound { IfOk result (λ n. n ≤ length bytes.now) }
         ensures some { IfOk result (λ n. 0 < length bytes.now → 0 < n) }
-        ensures noted { WriteTakes self.old.record.bytes self.new.record.bytes result bytes.now }
+        ensures noted { WriteTakes self.old.taken_so_far.bytes self.new.taken_so_far.bytes result bytes.now }
         ensures written { WriteAppends (W.contents self.old.writer) (W.contents self.new.writer) result bytes.now }
         ensures failed { self.new.failed ≡ is_err result }
         ensures for_good { OnOk result (self.old.failed ≡ false) }
@@ -158,7 +158,7 @@ impl<W: io::Write> Writes<W> {
                 Err(Failed)
             }
             Ok(count) => {
-                self.record.note(&bytes[..count]);
+                self.taken_so_far.note(&bytes[..count]);
                 Ok(count)
             }
             Err(_) => {
@@ -170,7 +170,7 @@ impl<W: io::Write> Writes<W> {
 }
 
 impl<W: io::Write> Output for Writes<W> {
-    ghost taken = { λ s. s.record.bytes };
+    ghost taken = { λ s. s.taken_so_far.bytes };
 
     ghost has_failed = { λ s. s.failed };
 

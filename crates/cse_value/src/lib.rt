@@ -24,4 +24,4 @@ pub use digits::filler_of;
 pub use field::{keeps_width, put_num, put_text, read_num, read_text, round_trip, show_num};
 pub use memory::OutOfMemory;
 pub use number::{Num, Rel, add, compare, mul, neg, quo, rem, sub, truth};
-pub use text::{TEXT_LEN, Text, compare_columns, compare_text};
+pub use text::{TEXT_LEN, Text, compare_text};

@@ -7,7 +7,7 @@ ghost use Rattle.std.specs.Prelude.{◌≡◌};
 ghost use Rattle.cse_value.specs.Number.{sum_of, difference_of, product_of, quotient_of, remainder_of, negative_of, holds, is_condition};
 
 /// A number, or the name of a special value.
-#[derive(Clone, Copy, Debug, PartialEq, Eq)]
+#[derive(Clone, Copy, PartialEq, Eq)]
 pub enum Num {
     Whole(i64),
     /// `notappl`: the field is blank.
@@ -19,7 +19,7 @@ pub enum Num {
 }
 
 /// A relation of two values.
-#[derive(Clone, Copy, Debug, PartialEq, Eq)]
+#[derive(Clone, Copy, PartialEq, Eq)]
 pub enum Rel {
     Equal = 0,
     NotEqual = 1,

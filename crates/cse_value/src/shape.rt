@@ -7,7 +7,7 @@
 pub const ID_OWNER: u8 = 255;
 
 /// A record of the dictionary.
-#[derive(Clone, Copy, Debug, PartialEq, Eq)]
+#[derive(Clone, Copy, PartialEq, Eq)]
 pub struct RecordShape {
     /// How many occurrences a case may have.
     pub max_records: u16,
@@ -16,7 +16,7 @@ pub struct RecordShape {
 }
 
 /// What the logic may do with an item.
-#[derive(Clone, Copy, Debug, PartialEq, Eq)]
+#[derive(Clone, Copy, PartialEq, Eq)]
 pub enum ItemKind {
     /// Carried, and named by no logic.
     Opaque = 0,
@@ -27,7 +27,7 @@ pub enum ItemKind {
 }
 
 /// An item of the dictionary.
-#[derive(Clone, Copy, Debug, PartialEq, Eq)]
+#[derive(Clone, Copy, PartialEq, Eq)]
 pub struct ItemShape {
     /// The number of its record, or `ID_OWNER` for an id item.
     pub owner: u8,
@@ -39,7 +39,7 @@ pub struct ItemShape {
 }
 
 /// A value set of the dictionary.
-#[derive(Clone, Copy, Debug, PartialEq, Eq)]
+#[derive(Clone, Copy, PartialEq, Eq)]
 pub struct SetShape {
     /// The number of the item that it belongs to.
     pub item: u16,
@@ -50,7 +50,7 @@ pub struct SetShape {
 }
 
 /// The records, items and sets of a dictionary.
-#[derive(Debug, Drop)]
+#[derive(Drop)]
 pub struct Shape {
     pub records: Vec<RecordShape>,
     pub items: Vec<ItemShape>,

@@ -4,6 +4,5 @@ pub mod VerifiedLaws
 pub mod DepthLaws
 pub mod ChainLaws
 pub mod FirstLaws
-pub mod StartLaws
 pub mod MeaningLaws
 pub mod WalkLaws

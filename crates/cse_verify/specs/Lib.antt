@@ -3,5 +3,4 @@ pub mod Depths
 pub mod Verified
 pub mod Measured
 pub mod Chain
-pub mod Starts
 pub mod Meaning

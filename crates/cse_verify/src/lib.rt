@@ -6,13 +6,11 @@
 //! - `verify`: whether a program may run with a dictionary; a `Verified` value tells how much it may take.
 //! - `check_jumps`: the rules of jumps and brackets alone.
 //! - `same_shape`: whether a program was made for a dictionary, without memory.
-//! - `code_start`, `code_starts`: where the code of a routine lies.
 //! - `routine_of`: which routine an event runs.
 //!
 //! Its tests are those of cse_test_checks.
 #![tactic(auto)]
 
-mod code;
 mod depth;
 mod jumps;
 mod laws;
@@ -21,7 +19,6 @@ mod shape;
 mod verified;
 mod verifying;
 
-pub use code::{code_start, code_starts};
 pub use cse_code_bounds::STEP_LIMIT;
 pub use cse_code_typing::{NONE, Refusal, routine_of};
 pub use depth::Depth;

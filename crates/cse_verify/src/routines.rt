@@ -94,7 +94,8 @@ pub fn check_routines<C: Code>(
     program: &Program<C>,
 ) -> Result<Measured, Refusal>
     requires shape { shape_lists shape.now ≡ shape_of program.now }
-    ensures measured { IfOk result (λ m. AreMeasured (shape_lists shape.now) program.now (length program.now.lists.routines) m.bounds.items m.frames.items m.cells.items) }
+    ensures measured { IfOk result
+        (λ m. AreMeasured (shape_lists shape.now) program.now (length program.now.lists.routines) m.bounds.items m.frames.items m.cells.items) }
     ensures first { IfErr result (λ e. IsOutOfMemory e ⊎ IsFirstFault (shape_lists shape.now) program.now e) }
 {
     let code = program.code();

@@ -121,7 +121,8 @@ impl<'a, C: Code> Verified<'a, C> {
     /// more often than it may in a case.
     pub fn events_keep_to_case(&self)
         ensures listed { (events : List Moment) → KeepsTimes self.now.image events → events_bound self.now.image events ≤ case_bound self.now.image }
-        ensures case { (occurrences : ℕ → ℕ) → KeepsMost self.now.image occurrences → events_bound self.now.image (case_events self.now.image occurrences) ≤ case_bound self.now.image }
+        ensures case { (occurrences : ℕ → ℕ) → KeepsMost self.now.image occurrences
+            → events_bound self.now.image (case_events self.now.image occurrences) ≤ case_bound self.now.image }
     {
         events_keep_to_bound(self.program());
     }
@@ -130,7 +131,8 @@ impl<'a, C: Code> Verified<'a, C> {
     /// it, keep together no more numbers, texts, ordinals and open brackets than `depth` says. A call
     /// keeps its locals and its stack; one that waits, the stack without the arguments.
     pub fn calls_keep_to_depth(&self)
-        ensures { (calls : List Calling) (d : Depth) → IsChain (shape_of self.now.dictionary) self.now.image calls → IsDepthOf (shape_of self.now.dictionary) self.now.image d → KeepsToDepth self.now.image calls d }
+        ensures { (calls : List Calling) (d : Depth) → IsChain (shape_of self.now.dictionary) self.now.image calls
+            → IsDepthOf (shape_of self.now.dictionary) self.now.image d → KeepsToDepth self.now.image calls d }
     {
         let _may_run = self.program();
     }

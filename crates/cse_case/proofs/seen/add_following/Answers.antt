@@ -1,7 +1,7 @@
 use Rattle.std.proofs.Common.{◌≡◌, ◌+◌, ◌++◌, ◌∷◌, [], None, Some, ap, arith, get_or, length, length-append, refl, sym, ◌∙◌}
 use Rattle.cse_lines.specs.declared.line.Line.{Line}
 use Rattle.cse_lines.specs.declared.line.Ending.TheVariants.{FileEnd}
-use Rattle.cse_case.specs.declared.seen.Span.{Span}
+use Rattle.cse_case.specs.declared.seen.OccurrenceSpan.{OccurrenceSpan}
 use Rattle.cse_case.specs.Seen.{is_of}
 use Rattle.cse_case.specs.Table.{first_at, type_at}
 use Rattle.cse_case.specs.Found.{IsLonger}
@@ -16,7 +16,7 @@ lines-preserved c =
     let lines = c.args.lines.now in
     let next = c.lines.next in
     let firsts = c.lines.firsts.items in
-    let longer : Span = record { start = c.lines.span.start; count = c.lines.span.count + 1 } in
+    let longer : OccurrenceSpan = record { start = c.lines.span.start; count = c.lines.span.count + 1 } in
     let line = get_or lines next no in
     let own : type_at lines next ≡ Some c.args.number = type_is lines next no c.lines-test.true ∙ is_of_is c.args.number line.record_number (sym c.is_of.ensures ∙ c.if-not-is_of.false) in
     let more : IsLonger c.lines.span (first_at lines next) firsts c.push.new.self.items longer = record {

@@ -1,8 +1,8 @@
 use Rattle.std.proofs.Common.{◌≡◌, length, take, replicate}
-use Rattle.cse_case.specs.declared.seen.Span.{Span}
+use Rattle.cse_case.specs.declared.seen.OccurrenceSpan.{OccurrenceSpan}
 use Rattle.cse_case.proofs.seen.clear_spans.Given as goal
 
-abbrev none : Span
+abbrev none : OccurrenceSpan
 none = record { start = 0; count = 0 }
 
 abbrev pub invariant-spans : goal.invariant-spans

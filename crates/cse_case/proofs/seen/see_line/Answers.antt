@@ -2,7 +2,7 @@ use Rattle.std.proofs.Common.{subst, sym, ◌≡◌, ◌<◌, ◌≤◌, ◌+◌
 use Rattle.cse_value.specs.declared.shape.RecordShape.{RecordShape}
 use Rattle.cse_value.specs.Occurrences.{most_occurrences}
 use Rattle.cse_lines.specs.declared.line.Line.{Line}
-use Rattle.cse_case.specs.declared.seen.Span.{Span}
+use Rattle.cse_case.specs.declared.seen.OccurrenceSpan.{OccurrenceSpan}
 use Rattle.cse_lines.specs.declared.line.Ending.TheVariants.{FileEnd}
 use Rattle.std.proofs.lemmas.List.{length-map}
 use Rattle.cse_case.specs.Seen.{unseen_after}
@@ -38,7 +38,7 @@ returns-then-span-most c =
     let low : r < length spans = omega (arith, c.if-record-records.true, c.requires.seen.counts.size, length-map spans (λ s. s.count)) in
     let same = span_same spans r c.index-span.result.now span low c.index-span.ensures c.index_mut-own.ensures.value in
     let most : c.index-span.result.now.count < most_occurrences records r = rw (most_at records r no_record c.if-record-records.true) c.if-span-most.true in
-    let room : span.count < most_occurrences records r = subst (λ (s : Span). s.count < most_occurrences records r) same most in
+    let room : span.count < most_occurrences records r = subst (λ (s : OccurrenceSpan). s.count < most_occurrences records r) same most in
     let longer = c.in_ok-add_occurrence.ensures c.if-not-branch.false in
     let more : IsLonger span (first_at lines place) firsts c.add_occurrence.new.firsts.items c.add_occurrence.new.span = rw (first_here lines place no_line c.requires.place) longer in
     let one = AreFound-one records lines place place firsts c.add_occurrence.new.firsts.items spans r span c.add_occurrence.new.span c.requires.place

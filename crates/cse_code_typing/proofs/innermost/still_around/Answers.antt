@@ -13,13 +13,13 @@ returns-then-is_around g c =
 pub outward-smaller : goal.outward-smaller
 outward-smaller g c =
     let lt = c.outward.invariant.before c.in-Some.found c.in-Some.is in
-    let told = c.told-opener.ensures _ (ap (λ (l : List (Option ℕ)). slice_get l c.in-Some.found) c.requires.table ∙ innermost_at c.args.code.now c.args.place c.in-Some.found lt) in
-    shorter c.args.code.now c.in-Some.found c.outward.opener c.told-opener.result c.in-Some.is told
+    let told = c.opener_in-opener.ensures _ (ap (λ (l : List (Option ℕ)). slice_get l c.in-Some.found) c.requires.table ∙ innermost_at c.args.code.now c.args.place c.in-Some.found lt) in
+    shorter c.args.code.now c.in-Some.found c.outward.opener c.opener_in-opener.result c.in-Some.is told
 
 pub outward-preserved : goal.outward-preserved
 outward-preserved g c =
     let lt = c.outward.invariant.before c.in-Some.found c.in-Some.is in
-    let told = c.told-opener.ensures _ (ap (λ (l : List (Option ℕ)). slice_get l c.in-Some.found) c.requires.table ∙ innermost_at c.args.code.now c.args.place c.in-Some.found lt) in
+    let told = c.opener_in-opener.ensures _ (ap (λ (l : List (Option ℕ)). slice_get l c.in-Some.found) c.requires.table ∙ innermost_at c.args.code.now c.args.place c.in-Some.found lt) in
     record {
       reaches = λ s a. subst (λ o. Reaches o s) (sym told)
           (outward c.args.code.now c.in-Some.found c.args.place s (λ b. both_ways _ c.if-is_around.false (c.is_around.ensures.1 b)) a (subst (λ o. Reaches o s) c.in-Some.is (c.outward.invariant.reaches s a)) lt);

@@ -1,7 +1,7 @@
 use Rattle.std.proofs.Common.{◌≡◌, refl, List, ap, sym, ◌∙◌, subst, arith, suc, Some, length}
 use Rattle.std.specs.Prelude.{slice_get}
 use Rattle.cse_code_typing.specs.declared.control.Control.{Control}
-use Rattle.cse_code_typing.specs.declared.piles.Entry.{Entry}
+use Rattle.cse_code_typing.specs.declared.piles.PileEntry.{PileEntry}
 use Rattle.cse_code_typing.proofs.Few.{none_few, greater_few, more_few}
 use Rattle.cse_code_typing.specs.Code.{part}
 use Rattle.cse_code_typing.specs.Skeleton.{control, skeleton}
@@ -19,7 +19,7 @@ places-init g c =
       passed = passed_start (scene_in c.args.around) c.args.number code c.args.around.routine.now.instructions _ _ _ c.new-openers.ensures c.new-piles.ensures c.requires.known
           (sym (length-part c.args.start c.args.around.routine.now.instructions (g.C.Code.list c.args.code.now) c.requires.within));
       deep = deep_start (scene_in c.args.around) c.args.smaller.now code _ refl;
-      stacks = (let none = ap (λ (t : List Entry). length t) c.new-piles.ensures in omega arith);
+      stacks = (let none = ap (λ (t : List PileEntry). length t) c.new-piles.ensures in omega arith);
       few = none_few _;
     }
 
@@ -46,7 +46,7 @@ returns-then-not-branch-clause-judges g c =
     let is = c.control_of-control.ensures in
     let stands = sym c.may_stand.ensures ∙ c.if-not-may_stand.false in
     stops_stack s c.args.number code place i c.places.openers c.places.piles c.places.known c.places.invariant.passed there stands
-    (stuck_is s c.args.number code place i c.places.openers c.control_of-control.result c.is_in_loop-in_loop.result c.in_ok-turn.field-0 _ _ c.places.invariant.passed.openers_are is c.is_in_loop-in_loop.ensures c.in_ok-turn.ensures.turn c.if-not-branch.true)
+    (stuck_is s c.args.number code place i c.places.openers c.control_of-control.result c.is_in_loop-in_loop.result c.in_ok-pass_at.field-0 _ _ c.places.invariant.passed.openers_are is c.is_in_loop-in_loop.ensures c.in_ok-pass_at.ensures.pass_at c.if-not-branch.true)
 
 pub pass-requires : goal.pass-requires
 pass-requires g c =
@@ -78,12 +78,12 @@ places-preserved g c =
     let stands = sym c.may_stand.ensures ∙ c.if-not-may_stand.false in
     let skel = c.new-skeleton.ensures in
     record {
-      passed = passed_more s c.args.number code place i c.places.openers c.pass.new.openers c.places.piles c.turn.new.piles c.places.known c.turn.new.known c.places.invariant.passed there stands
-          (went_is s c.args.number code place i c.places.openers c.control_of-control.result c.is_in_loop-in_loop.result c.in_ok-turn.field-0 _ _ c.places.invariant.passed.openers_are is c.is_in_loop-in_loop.ensures c.in_ok-turn.ensures.turn c.if-not-branch.false)
-          c.turn.ensures.within (c.pass.ensures ∙ ap (λ (k : List Control). around k (suc place)) skel);
+      passed = passed_more s c.args.number code place i c.places.openers c.pass.new.openers c.places.piles c.pass_at.new.piles c.places.known c.pass_at.new.known c.places.invariant.passed there stands
+          (went_is s c.args.number code place i c.places.openers c.control_of-control.result c.is_in_loop-in_loop.result c.in_ok-pass_at.field-0 _ _ c.places.invariant.passed.openers_are is c.is_in_loop-in_loop.ensures c.in_ok-pass_at.ensures.pass_at c.if-not-branch.false)
+          c.pass_at.ensures.within (c.pass.ensures ∙ ap (λ (k : List Control). around k (suc place)) skel);
       deep = deep_more s c.args.smaller.now code c.args.number place i c.places.openers c.places.piles c.places.known c.expected_at-there.result c.places.most c.place_depth-kept.result c.greater-most.result c.places.invariant.passed there
           c.expected_at-there.ensures c.place_depth-kept.ensures.value c.greater-most.ensures c.places.invariant.deep;
-      stacks = (let before = c.places.invariant.stacks in let one = c.turn.ensures.one in omega arith);
+      stacks = (let before = c.places.invariant.stacks in let one = c.pass_at.ensures.one in omega arith);
       few = (let before = c.places.invariant.stacks in let lt = c.places-test.true in
           greater_few _ _ _ _ c.greater-most.ensures c.places.invariant.few (more_few _ _ _ (omega arith) c.place_depth-kept.ensures.few));
     }

@@ -4,7 +4,7 @@ use Rattle.cse_code_typing.specs.Code.{part}
 use Rattle.cse_code_typing.specs.Bracket.{KeepsRules, BreaksFirst}
 use Rattle.cse_code_typing.specs.Tables.{scene_in}
 use Rattle.cse_code_typing.specs.declared.depth.Depth.{Depth}
-use Rattle.cse_code_typing.specs.declared.walk.Fault.{Fault}
+use Rattle.cse_code_typing.specs.declared.walk.WalkFault.{WalkFault}
 use Rattle.cse_code_typing.specs.Judged.{Judges, fault_in}
 use Rattle.cse_code_typing.proofs.Checks.{told_none}
 use Rattle.cse_code_typing.proofs.whole.check_routine.Goals as goal
@@ -25,19 +25,19 @@ pub returns-in-Ok-clause-sound : goal.returns-in-Ok-clause-sound
 returns-in-Ok-clause-sound g c =
     let code = part c.args.start c.args.around.routine.now.instructions (g.C.Code.list c.args.code.now) in
     let skel = c.new-skeleton.ensures in
-    let judged = subst (λ (v : Result Depth Fault). Judges (scene_in c.args.around) c.args.number code (fault_in v)) c.in-Ok.is c.in_ok-depth.ensures.judges in
+    let judged = subst (λ (v : Result Depth WalkFault). Judges (scene_in c.args.around) c.args.number code (fault_in v)) c.in-Ok.is c.in_ok-depth.ensures.judges in
     record { brackets = subst KeepsRules skel (told_none c.in_ok-at.field-0 (KeepsRules c.new-skeleton.result) c.in_ok-at.ensures.all c.in_default.not-Some); calls = judged.0; typing = judged.1 }
 
 pub returns-in-Err-MayNotStand-clause-fails : goal.returns-in-Err-MayNotStand-clause-fails
 returns-in-Err-MayNotStand-clause-fails g c =
     let code = part c.args.start c.args.around.routine.now.instructions (g.C.Code.list c.args.code.now) in
     let skel = c.new-skeleton.ensures in
-    let judged = subst (λ (v : Result Depth Fault). Judges (scene_in c.args.around) c.args.number code (fault_in v)) (c.in-Err-MayNotStand.is ∙ ap Err c.in-Err-MayNotStand.field-0-is) c.in_ok-depth.ensures.judges in
+    let judged = subst (λ (v : Result Depth WalkFault). Judges (scene_in c.args.around) c.args.number code (fault_in v)) (c.in-Err-MayNotStand.is ∙ ap Err c.in-Err-MayNotStand.field-0-is) c.in_ok-depth.ensures.judges in
     inr (inr (inl (record { number = refl; routine = refl; brackets = subst KeepsRules skel (told_none c.in_ok-at.field-0 (KeepsRules c.new-skeleton.result) c.in_ok-at.ensures.all c.in_default.not-Some); at = judged })))
 
 pub returns-in-Err-NoStack-clause-fails : goal.returns-in-Err-NoStack-clause-fails
 returns-in-Err-NoStack-clause-fails g c =
     let code = part c.args.start c.args.around.routine.now.instructions (g.C.Code.list c.args.code.now) in
     let skel = c.new-skeleton.ensures in
-    let judged = subst (λ (v : Result Depth Fault). Judges (scene_in c.args.around) c.args.number code (fault_in v)) (c.in-Err-NoStack.is ∙ ap Err c.in-Err-NoStack.field-0-is) c.in_ok-depth.ensures.judges in
+    let judged = subst (λ (v : Result Depth WalkFault). Judges (scene_in c.args.around) c.args.number code (fault_in v)) (c.in-Err-NoStack.is ∙ ap Err c.in-Err-NoStack.field-0-is) c.in_ok-depth.ensures.judges in
     inr (inr (inr (record { number = refl; routine = refl; brackets = subst KeepsRules skel (told_none c.in_ok-at.field-0 (KeepsRules c.new-skeleton.result) c.in_ok-at.ensures.all c.in_default.not-Some); at = judged })))

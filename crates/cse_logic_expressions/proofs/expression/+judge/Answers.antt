@@ -140,7 +140,7 @@ all_operations-all-preserved t c =
     let whole = c.deref-x-items.ensures.value in
     let lt : c.all.x-index < length items = subst (λ (xs : List Operation). c.all.x-index < length xs) whole c.all-test.true in
     let is : x ≡ get_or items c.all.x-index x = subst (λ (xs : List Operation). x ≡ get_or xs c.all.x-index x) whole c.x-item.is in
-    let left = step_left _ _ c.all.x-index (length items) c.one_less-left.ensures c.all.invariant.left lt in
+    let left = step_left _ _ c.all.x-index (length items) c.decremented-left.ensures c.all.invariant.left lt in
     let none = none_left items (c.all.x-index + 1) _ left in
     let v = c.in_ok-next.ensures.value ∙ ap (λ b. judge_operation s c.args.top (syntax.operation_tree x) b) none in
     record {

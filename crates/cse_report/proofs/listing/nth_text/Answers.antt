@@ -1,6 +1,6 @@
 use Rattle.std.proofs.Common.{Some, option_map, ap, sym, ◌∙◌}
 use Rattle.std.proofs.lemmas.Option.{slice_get-map, slice_get-get_or}
-use Rattle.cse_report.specs.declared.spans.Span.{Span}
+use Rattle.cse_report.specs.declared.spans.TextSpan.{TextSpan}
 use Rattle.cse_report.specs.Spans.{text_at}
 use Rattle.cse_report.proofs.SpanLaws.{IsText-at}
 use Rattle.cse_report.proofs.listing.nth_text.Goals as goal
@@ -10,6 +10,6 @@ text_in-requires c = IsText-at c.args.lines.now c.args.spans.now c.args.i (recor
 
 pub returns-clause-text : goal.returns-clause-text
 returns-clause-text c =
-    let d : Span = record { start = 0; end = 0 } in
+    let d : TextSpan = record { start = 0; end = 0 } in
     ap Some c.text_in.ensures
     ∙ sym (slice_get-map (text_at c.args.lines.now) c.args.spans.now c.args.i ∙ ap (option_map (text_at c.args.lines.now)) (slice_get-get_or c.args.spans.now c.args.i d c.if-i-spans.false))

@@ -8,7 +8,7 @@ use Rattle.cse_lines.specs.Run.{line_at, with_columns}
 use Rattle.cse_lines.specs.declared.run.Lines.{Lines}
 use Rattle.cse_lines.proofs.LaidLaws.{IsLaid-len, laid_lines-with, length-with_columns}
 use Rattle.cse_case.specs.Field.{item_at}
-use Rattle.cse_case.specs.Entry.{IsShort, entry_columns}
+use Rattle.cse_case.specs.ItemEntry.{IsShort, entry_columns}
 use Rattle.cse_case.specs.Case.{CaseText, items_of, place_of}
 use Rattle.cse_case.specs.Kept.{IsKept}
 use Rattle.cse_case.proofs.FieldLaws.{entry_short, entry_wide}

@@ -1,6 +1,6 @@
 use Rattle.std.proofs.Common.{List, ap, ◌∙◌, Result, Ok, Err}
 use Rattle.std.specs.Result.{OnOk}
-use Rattle.cse_lines.specs.declared.layout.Span.{Span}
+use Rattle.cse_lines.specs.declared.layout.ColumnSpan.{ColumnSpan}
 use Rattle.cse_lines.specs.Bytes.{columns_lent}
 use Rattle.cse_lines.specs.Field.{HaveSame, fields_at, id_spans, ids_of}
 use Rattle.cse_lines.proofs.FieldLaws.{HaveSame-refl, HaveSame-trans}
@@ -22,5 +22,5 @@ returns-clause-ids c =
           HaveSame-trans _ _ _ (HaveSame-refl _ _ (ap (λ s. s.id_blocks.items) w.self-inside-is))
           (HaveSame-trans _ _ _ (c.self.invariant w.if-not-self.false) (HaveSame-refl _ _ (ap id_spans c.self.view_is)))
     ] in
-    let same = ap (λ (spans : List Span). fields_at spans (columns_lent c.args.columns)) c.deref.ensures.value ∙ listed.fields (columns_lent c.args.columns) in
+    let same = ap (λ (spans : List ColumnSpan). fields_at spans (columns_lent c.args.columns)) c.deref.ensures.value ∙ listed.fields (columns_lent c.args.columns) in
     on_ok c.put_fields.result c.put_fields.ensures (λ put. put ∙ same)

@@ -1,6 +1,6 @@
 use Rattle.std.proofs.Common.{ap, sym, ◌∙◌, arith, length, List, reverse, subst, ◌≡◌}
 use Rattle.std.proofs.lemmas.List.{length-reverse}
-use Rattle.cse_code_typing.specs.declared.piles.Entry.{Entry}
+use Rattle.cse_code_typing.specs.declared.piles.PileEntry.{PileEntry}
 use Rattle.cse_code_typing.specs.Piles.{stack_of}
 use Rattle.cse_code_typing.specs.Depth.{count_of}
 use Rattle.cse_code_typing.specs.Shared.{depths_of}
@@ -14,7 +14,7 @@ returns-then-stack-eq0-clause-value c = sym (ap count_of (ap (stack_of c.args.se
 
 pub index-requires : goal.index-requires
 index-requires c =
-    let counted = subst (λ (t : List Entry). reverse c.self.inside.depths.items ≡ depths_of t) c.self.view_is c.self.invariant.counted in
+    let counted = subst (λ (t : List PileEntry). reverse c.self.inside.depths.items ≡ depths_of t) c.self.view_is c.self.invariant.counted in
     let size = sym (length-reverse c.self.inside.depths.items) ∙ ap length counted ∙ length-depths_of c.args.self.now in
     let some = c.if-stack-eq0.false in
     let le = c.requires in
@@ -22,10 +22,10 @@ index-requires c =
 
 pub returns-clause-value : goal.returns-clause-value
 returns-clause-value c =
-    let counted = subst (λ (t : List Entry). reverse c.self.inside.depths.items ≡ depths_of t) c.self.view_is c.self.invariant.counted in
+    let counted = subst (λ (t : List PileEntry). reverse c.self.inside.depths.items ≡ depths_of t) c.self.view_is c.self.invariant.counted in
     depth_read c.self.inside.depths.items c.args.self.now c.args.stack _ counted (let some = c.if-stack-eq0.false in omega arith) c.requires c.index.ensures
 
 pub returns-clause-few : goal.returns-clause-few
 returns-clause-few c =
-    let counted = subst (λ (t : List Entry). reverse c.self.inside.depths.items ≡ depths_of t) c.self.view_is c.self.invariant.counted in
+    let counted = subst (λ (t : List PileEntry). reverse c.self.inside.depths.items ≡ depths_of t) c.self.view_is c.self.invariant.counted in
     pile_few c.args.self.now c.args.stack _ (depth_read c.self.inside.depths.items c.args.self.now c.args.stack _ counted (let some = c.if-stack-eq0.false in omega arith) c.requires c.index.ensures)

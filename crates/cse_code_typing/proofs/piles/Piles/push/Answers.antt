@@ -1,6 +1,6 @@
 use Rattle.std.proofs.Common.{length, List, reverse, subst, sym, ◌∙◌, ap, arith}
 use Rattle.std.proofs.lemmas.List.{length-reverse}
-use Rattle.cse_code_typing.specs.declared.piles.Entry.{Entry}
+use Rattle.cse_code_typing.specs.declared.piles.PileEntry.{PileEntry}
 use Rattle.cse_code_typing.specs.Shared.{IsShared}
 use Rattle.cse_code_typing.proofs.PileLaws.{push_stack, push_keeps}
 use Rattle.cse_code_typing.proofs.Shares.{known_stack}
@@ -8,12 +8,12 @@ use Rattle.cse_code_typing.proofs.piles.Piles.push.Goals as goal
 
 pub returns-in-Some-clause-stack : goal.returns-in-Some-clause-stack
 returns-in-Some-clause-stack c =
-    let so = subst (λ (t : List Entry). IsShared t (reverse c.self.inside.depths.items) c.self.inside.numbers) c.self.view_is c.self.invariant in
+    let so = subst (λ (t : List PileEntry). IsShared t (reverse c.self.inside.depths.items) c.self.inside.numbers) c.self.view_is c.self.invariant in
     (known_stack c.args.self.now _ _ so (record { kind = c.args.kind; below = c.args.below }) c.in-Some.number (sym c.find.ensures ∙ c.in-Some.is)).0
 
 pub returns-in-Some-clause-within : goal.returns-in-Some-clause-within
 returns-in-Some-clause-within c =
-    let so = subst (λ (t : List Entry). IsShared t (reverse c.self.inside.depths.items) c.self.inside.numbers) c.self.view_is c.self.invariant in
+    let so = subst (λ (t : List PileEntry). IsShared t (reverse c.self.inside.depths.items) c.self.inside.numbers) c.self.view_is c.self.invariant in
     (known_stack c.args.self.now _ _ so (record { kind = c.args.kind; below = c.args.below }) c.in-Some.number (sym c.find.ensures ∙ c.in-Some.is)).1
 
 pub returns-clause-stack : goal.returns-clause-stack

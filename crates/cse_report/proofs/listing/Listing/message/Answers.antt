@@ -12,7 +12,7 @@ use Rattle.cse_report.specs.MessageText.{message_text}
 use Rattle.cse_report.specs.Listing.{message_line, is_listed}
 use Rattle.cse_report.specs.Held.{Held}
 use Rattle.cse_report.specs.Spans.{IsText, AreTexts, texts_at, text_at}
-use Rattle.cse_report.specs.declared.spans.Span.{Span}
+use Rattle.cse_report.specs.declared.spans.TextSpan.{TextSpan}
 use Rattle.cse_report.proofs.SpanLaws.{AreTexts-more, texts_at-more}
 use Rattle.cse_report.proofs.HeldLaws.{same_held, message_there, reported-counted, reported-listed, is_listed-there}
 use Rattle.cse_report.proofs.listing.Listing.message.Goals.{After-count_one-2}
@@ -64,7 +64,7 @@ invariant_of-self-2 c =
     let more = AreTexts-more i.lines.items c.deref-2.result.now i.spans.items c.in_ok-text.text c.self.invariant.texts (placed c) in
     record {
       same = ap length c.count_one-2.ensures ∙ (length-set c.self.inside.counts.items c.args.index _ ∙ c.self.invariant.same);
-      texts = subst (λ (l : List ℕ). AreTexts l c.hold_message.new.spans.items) (sym c.in_ok-hold_message.ensures.lines) (subst (λ (s : List Span). AreTexts (i.lines.items ++ c.deref-2.result.now) s) (sym c.in_ok-hold_message.ensures.spans) more);
+      texts = subst (λ (l : List ℕ). AreTexts l c.hold_message.new.spans.items) (sym c.in_ok-hold_message.ensures.lines) (subst (λ (s : List TextSpan). AreTexts (i.lines.items ++ c.deref-2.result.now) s) (sym c.in_ok-hold_message.ensures.spans) more);
     }
 
 pub returns-clause-ok : goal.returns-clause-ok
@@ -78,7 +78,7 @@ returns-clause-ok c =
     let lines = c.in_ok-hold_message.ensures.lines ∙ ap (λ (l : List ℕ). i.lines.items ++ l) (made c) in
     let texts =
     ap (λ (l : List ℕ). texts_at l c.hold_message.new.spans.items) c.in_ok-hold_message.ensures.lines
-    ∙ (ap (λ (s : List Span). texts_at (i.lines.items ++ c.deref-2.result.now) s) c.in_ok-hold_message.ensures.spans
+    ∙ (ap (λ (s : List TextSpan). texts_at (i.lines.items ++ c.deref-2.result.now) s) c.in_ok-hold_message.ensures.spans
     ∙ (texts_at-more i.lines.items c.deref-2.result.now i.spans.items c.in_ok-text.text c.self.invariant.texts
     ∙ ap (λ (l : List ℕ). texts_at i.lines.items i.spans.items ++ l ∷ []) text)) in
     rw (← c.self.view_is) (same_held _ _ _ _ _ _ _ _ _ c.count_one-2.ensures refl lines texts ∙ sym is)
