@@ -1,13 +1,9 @@
-//! The program `csbatch`. What its commands do stands in `cse_commands`, and in `cse_check` what `check` and `explain` do.
+//! The program `csbatch`. What its commands do stands in `cse_commands`.
 #![tactic(auto)]
 
-use cse_check::command::start as start_check;
 use cse_commands::start::start;
 use std::process::ExitCode;
 
 fn main(rt: HostRuntime) -> ExitCode {
-    match start_check(&rt) {
-        Some(status) => status,
-        None => start(rt),
-    }
+    start(rt)
 }
