@@ -10,7 +10,7 @@ A crate that the command took from what an earlier run on this machine proved ha
 
 Beforehand it times one program that is always the same, so that the tables of two machines can be compared. While the command
 runs, it looks at the checks below it twice a second, so each one is short by half a second at most. The table is printed too,
-to standard error. Where the command fails nothing is written. The status is the command's.
+to standard error. Where `./gate` fails nothing is written, and FILE is written all the same. The status is the command's.
 """
 import collections
 import csv
@@ -229,7 +229,7 @@ def main(words):
     costs = with_kept(head, costs, to)
     head["chain"] = " ".join(longest_chain(costs))
     print("".join(table(head, costs)), end="", file=sys.stderr)
-    if not status and costs:
+    if costs and (to != FILE or not status):
         write(to, head, costs)
         if to == FILE:
             put_table()
