@@ -11,7 +11,7 @@ use Rattle.cse_logic_tree.specs.Typed.{Numbers, number, numbers}
 use Rattle.cse_logic_names.specs.declared.faults.Faults.{Faults}
 use Rattle.cse_logic_names.specs.declared.meaning.Meaning.{Meaning}
 use Rattle.cse_logic_names.specs.Scope.{Scope, meant}
-use Rattle.cse_logic_names.specs.Walk.{IsNoted, is_there}
+use Rattle.cse_logic_names.specs.Walk.{IsNoted}
 use Rattle.cse_logic_expressions.specs.Judge.{expr_count, judge_all}
 
 -- what is judged of a name, by what it is written and what it means
@@ -36,4 +36,4 @@ numbers_made made = option_map (λ v. numbers (map number v.items)) made
 
 -- a fault was noted, unless what was judged is sound, where a fault of each of two parts that isn't there was noted before
 abbrev pub IsNotedAfterBoth : Bool → Bool → Faults → Faults → Bool → Type 0
-IsNotedAfterBoth first second old new sound = (is_there old.worst || (not first || not second)) ≡ is_there old.worst → IsNoted old new sound
+IsNotedAfterBoth first second old new sound = (old.found || (not first || not second)) ≡ old.found → IsNoted old new sound

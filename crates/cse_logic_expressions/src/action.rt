@@ -1,6 +1,6 @@
 //! Statements that hold no others.
 
-ghost use Rattle.std.specs.Prelude.{◌≡◌, ◌||◌, not, false, Some, IfOk, OnOk};
+ghost use Rattle.std.specs.Prelude.{◌≡◌, false, Some, IfOk, OnOk};
 ghost use Rattle.std.specs.Option.{option_map};
 ghost use Rattle.cse_syntax_tree.specs.Tree.{expr};
 ghost use Rattle.cse_logic_tree.specs.Typed as typed;
@@ -12,7 +12,7 @@ ghost use Rattle.cse_logic_names.specs.Walk.{is_there, only_if, IsNoted};
 ghost use Rattle.cse_logic_expressions.specs.Clauses.{by_name, by_name_with, by_place};
 
 use crate::assign::{assign, call_of, impute, put_deck};
-use crate::expression::{all_values, expression, text_token, value};
+use crate::expression::{all_values, expression, value};
 use cse_logic_names::faults::Faults;
 use cse_logic_names::scope::Scope;
 use cse_logic_tree::{Statement, Variable};
@@ -33,15 +33,7 @@ pub fn assignment<'a>(
     let count = place.subscripts.len();
     let subscripts = all_values(alloc, scope, faults, &place.subscripts)?;
     let found = expression(alloc, scope, faults, false, x)?;
-    Ok(assign(
-        scope,
-        faults,
-        place.name,
-        count,
-        subscripts,
-        found,
-        text_token(x),
-    ))
+    Ok(assign(scope, faults, place.name, count, subscripts, found))
 }
 
 /// An imputation.
@@ -119,7 +111,7 @@ pub fn jump<'a>(
     if may_jump(&scope.loops, jump) {
         Some(Statement::Jump(token, jump))
     } else {
-        faults.note(49, token);
+        faults.note();
         None
     }
 }

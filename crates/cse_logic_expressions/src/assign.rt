@@ -1,11 +1,11 @@
 //! Assignments, imputations, values put into hot decks, and calls that stand alone.
 
-ghost use Rattle.std.specs.Prelude.{◌≡◌, ◌==◌, true, false, slice_get, Some, None, IfOk, OnOk};
+ghost use Rattle.std.specs.Prelude.{◌≡◌, ◌==◌, Some, None, IfOk, OnOk};
 ghost use Rattle.std.specs.Option.{option_map};
 ghost use Rattle.cse_syntax_tree.specs.Tree.{written};
 ghost use Rattle.cse_logic_tree.specs.Typed as typed;
 ghost use Rattle.cse_logic_tree.specs.Typed.{number, words, statement};
-ghost use Rattle.cse_logic_names.specs.Scope.{meant, kind_and_owner, found};
+ghost use Rattle.cse_logic_names.specs.Scope.{meant, kind_and_owner};
 ghost use Rattle.cse_logic_names.specs.WellTyped.{dimensions_of, may_call};
 ghost use Rattle.cse_logic_expressions.specs.Judge as judge;
 ghost use Rattle.cse_logic_expressions.specs.Judge.{judged, as_number, is_sound};
@@ -28,14 +28,14 @@ use cse_value::shape::ItemKind;
 use std::alloc::{AllocError, Global};
 
 /// A number, or the fault 44 at this token.
-pub fn number_in<'a>(faults: &mut Faults, token: usize, x: Judged<'a>) -> Option<Number<'a>>
+pub fn number_in<'a>(faults: &mut Faults, x: Judged<'a>) -> Option<Number<'a>>
     ensures value { option_map number result ≡ as_number (judged x.entry) }
     ensures noted { IsNotedAfter (is_sound (judged x.entry)) faults.old faults.new (is_there (as_number (judged x.entry))) }
 {
     match x {
         Judged::Number(x) => x,
         Judged::Words(_) => {
-            faults.note(44, token);
+            faults.note();
             None
         }
         Judged::Unknown => None,
@@ -43,13 +43,13 @@ pub fn number_in<'a>(faults: &mut Faults, token: usize, x: Judged<'a>) -> Option
 }
 
 /// A text, or the fault 44 at this token.
-pub fn words_in<'a>(faults: &mut Faults, token: usize, x: Judged<'a>) -> Option<Words<'a>>
+pub fn words_in<'a>(faults: &mut Faults, x: Judged<'a>) -> Option<Words<'a>>
     ensures value { option_map words result ≡ as_words (judged x.entry) }
     ensures noted { IsNotedAfter (is_sound (judged x.entry)) faults.old faults.new (is_there (as_words (judged x.entry))) }
 {
     match x {
         Judged::Number(_) => {
-            faults.note(44, token);
+            faults.note();
             None
         }
         Judged::Words(x) => x,
@@ -58,25 +58,20 @@ pub fn words_in<'a>(faults: &mut Faults, token: usize, x: Judged<'a>) -> Option<
 }
 
 /// A variable that no open loop is over; else the fault 47, or 40 where there is none.
-pub fn free_variable(
-    scope: &Scope<'_>,
-    faults: &mut Faults,
-    token: usize,
-    variable: Option<Variable>,
-) -> Option<Variable>
+pub fn free_variable(scope: &Scope<'_>, faults: &mut Faults, variable: Option<Variable>) -> Option<Variable>
     ensures value { result ≡ spec.free_variable scope.now.loops variable }
     ensures noted { IsNoted faults.old faults.new (is_there (spec.free_variable scope.now.loops variable)) }
 {
     match variable {
         None => {
-            faults.note(40, token);
+            faults.note();
             None
         }
         Some(variable) => {
             if is_free(&scope.loops, variable) {
                 Some(variable)
             } else {
-                faults.note(47, token);
+                faults.note();
                 None
             }
         }
@@ -97,47 +92,31 @@ fn set<'a>(
 }
 
 /// An assignment of a variable, behind which so many subscripts stand. A value that is a text stands at this token.
-fn assign_variable<'a>(
-    scope: &Scope<'_>,
-    faults: &mut Faults,
-    name: Lexeme<'a>,
-    variable: Option<Variable>,
-    count: usize,
-    value: Judged<'a>,
-    token: usize,
-) -> Option<Statement<'a>>
+fn assign_variable<'a>(scope: &Scope<'_>, faults: &mut Faults, name: Lexeme<'a>, variable: Option<Variable>, count: usize, value: Judged<'a>) -> Option<Statement<'a>>
     ensures value { option_map statement result ≡ spec.assign_variable scope.now (written name.entry) variable count (judged value.entry) }
     ensures noted { IsNotedAfter (is_sound (judged value.entry)) faults.old faults.new
         (is_there (spec.assign_variable scope.now (written name.entry) variable count (judged value.entry))) }
 {
     if count != 0 {
-        faults.note(44, name.token);
+        faults.note();
         return None;
     }
-    let variable = free_variable(scope, faults, name.token, variable);
-    let value = number_in(faults, token, value);
+    let variable = free_variable(scope, faults, variable);
+    let value = number_in(faults, value);
     set(name, variable, value)
 }
 
 /// An assignment of the result of a function in its own body: by its name alone, since a call is no place (40).
-fn assign_result<'a>(
-    scope: &Scope<'_>,
-    faults: &mut Faults,
-    name: Lexeme<'a>,
-    own: Option<Variable>,
-    count: usize,
-    value: Judged<'a>,
-    token: usize,
-) -> Option<Statement<'a>>
+fn assign_result<'a>(scope: &Scope<'_>, faults: &mut Faults, name: Lexeme<'a>, own: Option<Variable>, count: usize, value: Judged<'a>) -> Option<Statement<'a>>
     ensures value { option_map statement result ≡ spec.assign_variable scope.now (written name.entry) own count (judged value.entry) }
     ensures noted { IsNotedAfter (is_sound (judged value.entry)) faults.old faults.new
         (is_there (spec.assign_variable scope.now (written name.entry) own count (judged value.entry))) }
 {
     if count != 0 {
-        faults.note(40, name.token);
+        faults.note();
         return None;
     }
-    assign_variable(scope, faults, name, own, count, value, token)
+    assign_variable(scope, faults, name, own, count, value)
 }
 
 fn set_text<'a>(name: Lexeme<'a>, global: usize, value: Option<Words<'a>>) -> Option<Statement<'a>>
@@ -163,10 +142,10 @@ fn assign_text<'a>(
         (is_there (only_if (count == 0) (option_map (typed.SetText (written name.entry) global) (as_words (judged value.entry))))) }
 {
     if count != 0 {
-        faults.note(44, name.token);
+        faults.note();
         return None;
     }
-    let value = words_in(faults, name.token, value);
+    let value = words_in(faults, value);
     set_text(name, global, value)
 }
 
@@ -265,30 +244,21 @@ pub fn call_of<'a>(
 {
     match scope.meant(name) {
         Some(Meaning::Function(function)) => {
-            if may_call(scope, faults, name.token, count, function) {
+            if may_call(scope, faults, count, function) {
                 call(name, function, arguments)
             } else {
                 None
             }
         }
         _ => {
-            faults.note(40, name.token);
+            faults.note();
             None
         }
     }
 }
 
 /// An assignment of an item. A value that is a text stands at this token.
-fn assign_item<'a>(
-    scope: &Scope<'_>,
-    faults: &mut Faults,
-    name: Lexeme<'a>,
-    count: usize,
-    number: u16,
-    subscripts: Option<Vec<Number<'a>>>,
-    value: Judged<'a>,
-    token: usize,
-) -> Option<Statement<'a>>
+fn assign_item<'a>(scope: &Scope<'_>, faults: &mut Faults, name: Lexeme<'a>, count: usize, number: u16, subscripts: Option<Vec<Number<'a>>>, value: Judged<'a>) -> Option<Statement<'a>>
     ensures value { option_map statement result ≡ spec.assign_item scope.now (written name.entry) count number (kind_and_owner scope.now.dictionary number)
         (numbers_made subscripts.entry) (judged value.entry) }
     ensures noted { IsNotedAfterBoth (is_there subscripts.entry) (is_sound (judged value.entry)) faults.old faults.new (is_there (spec.assign_item scope.now
@@ -296,23 +266,23 @@ fn assign_item<'a>(
 {
     match kind_and_owner(scope.dictionary, number) {
         None => {
-            faults.note(40, name.token);
+            faults.note();
             None
         }
         Some((kind, owner)) => match kind {
             ItemKind::Opaque => {
-                faults.note(41, name.token);
+                faults.note();
                 None
             }
             ItemKind::Number => {
-                let place = place_at(scope, faults, name.token, count, number, owner, subscripts);
-                let value = number_in(faults, token, value);
+                let place = place_at(scope, faults, count, number, owner, subscripts);
+                let value = number_in(faults, value);
                 set_item(name, place, value)
             }
             ItemKind::Text => {
-                let place = place_at(scope, faults, name.token, count, number, owner, subscripts);
+                let place = place_at(scope, faults, count, number, owner, subscripts);
                 // Where the value is no text, the text at fault is the item.
-                let value = words_in(faults, name.token, value);
+                let value = words_in(faults, value);
                 set_text_item(name, place, value)
             }
         },
@@ -320,63 +290,46 @@ fn assign_item<'a>(
 }
 
 /// An assignment of a cell. A value that is a text stands at this token.
-fn assign_cell<'a>(
-    scope: &Scope<'_>,
-    faults: &mut Faults,
-    name: Lexeme<'a>,
-    count: usize,
-    array: usize,
-    subscripts: Option<Vec<Number<'a>>>,
-    value: Judged<'a>,
-    token: usize,
-) -> Option<Statement<'a>>
+fn assign_cell<'a>(scope: &Scope<'_>, faults: &mut Faults, name: Lexeme<'a>, count: usize, array: usize, subscripts: Option<Vec<Number<'a>>>, value: Judged<'a>) -> Option<Statement<'a>>
     ensures value { option_map statement result ≡ only_if (judge.is_count count (dimensions_of scope.now array))
         (joined (typed.SetCell (written name.entry) array) (numbers_made subscripts.entry) (as_number (judged value.entry))) }
     ensures noted { IsNotedAfterBoth (is_there subscripts.entry) (is_sound (judged value.entry)) faults.old faults.new
         (is_there (only_if (judge.is_count count (dimensions_of scope.now array))
         (joined (typed.SetCell (written name.entry) array) (numbers_made subscripts.entry) (as_number (judged value.entry))))) }
 {
-    if !has_dimensions(scope, faults, name.token, count, array) {
+    if !has_dimensions(scope, faults, count, array) {
         // The array may be declared behind the value.
-        number_in(faults, token, value);
+        number_in(faults, value);
         return None;
     }
-    let value = number_in(faults, token, value);
+    let value = number_in(faults, value);
     set_cell(name, array, subscripts, value)
 }
 
 /// A value, assigned to what a name means; so many subscripts stand behind it, and a value that is a text stands at
 /// this token.
-pub fn assign<'a>(
-    scope: &Scope<'_>,
-    faults: &mut Faults,
-    name: Lexeme<'a>,
-    count: usize,
-    subscripts: Option<Vec<Number<'a>>>,
-    value: Judged<'a>,
-    token: usize,
-) -> Option<Statement<'a>>
+pub fn assign<'a>(scope: &Scope<'_>, faults: &mut Faults, name: Lexeme<'a>, count: usize, subscripts: Option<Vec<Number<'a>>>, value: Judged<'a>) -> Option<Statement<'a>>
     ensures value { option_map statement result ≡ by_name spec.assign scope.now name.entry count (numbers_made subscripts.entry) (judged value.entry) }
     ensures noted { IsNotedAfterBoth (is_there subscripts.entry) (is_sound (judged value.entry)) faults.old faults.new
         (is_there (by_name spec.assign scope.now name.entry count (numbers_made subscripts.entry) (judged value.entry))) }
 {
     match scope.meant(name) {
         Some(Meaning::Variable(variable)) => {
-            assign_variable(scope, faults, name, Some(variable), count, value, token)
+            assign_variable(scope, faults, name, Some(variable), count, value)
         }
         Some(Meaning::Text(global)) => assign_text(faults, name, global, count, value),
         Some(Meaning::Array(array)) => {
-            assign_cell(scope, faults, name, count, array, subscripts, value, token)
+            assign_cell(scope, faults, name, count, array, subscripts, value)
         }
         Some(Meaning::Function(function)) => {
             let own = own_result(scope.routine, function);
-            assign_result(scope, faults, name, own, count, value, token)
+            assign_result(scope, faults, name, own, count, value)
         }
         Some(Meaning::Item(item)) => {
-            assign_item(scope, faults, name, count, item, subscripts, value, token)
+            assign_item(scope, faults, name, count, item, subscripts, value)
         }
         _ => {
-            faults.note(40, name.token);
+            faults.note();
             None
         }
     }
@@ -399,22 +352,22 @@ fn impute_number<'a>(
 {
     match kind_and_owner(scope.dictionary, item) {
         None => {
-            faults.note(40, name.token);
+            faults.note();
             None
         }
         Some((kind, owner)) => match kind {
             ItemKind::Opaque => {
-                faults.note(41, name.token);
+                faults.note();
                 None
             }
             ItemKind::Number => {
-                let place = place_at(scope, faults, name.token, count, item, owner, subscripts);
+                let place = place_at(scope, faults, count, item, owner, subscripts);
                 imputed(name, place, value)
             }
             ItemKind::Text => {
-                faults.note(44, name.token);
+                faults.note();
                 // Of an id item 43 is the lesser.
-                field_at(scope, faults, 43, name.token, item, owner);
+                field_at(scope, faults, item, owner);
                 None
             }
         },
@@ -440,7 +393,7 @@ pub fn impute<'a>(
             impute_number(scope, faults, name, count, item, subscripts, value)
         }
         _ => {
-            faults.note(40, name.token);
+            faults.note();
             None
         }
     }
@@ -458,15 +411,14 @@ pub fn put_deck<'a>(
     ensures noted { OnOk result
         (IsNotedAfter (is_there value.entry) faults.old faults.new (is_there (by_name spec.put_deck scope.now name.entry (option_map number value.entry)))) }
 {
-    let word = name.token.saturating_sub(2);
     match scope.meant(name) {
         Some(Meaning::Array(array)) => {
-            let picks = picks(alloc, scope, faults, (name.token, word), array)?;
+            let picks = picks(alloc, scope, faults, array)?;
             Ok(put(name, array, picks, value))
         }
         _ => {
-            faults.note(40, name.token);
-            needs_case(scope, faults, word);
+            faults.note();
+            needs_case(scope, faults);
             Ok(None)
         }
     }

@@ -1,15 +1,15 @@
 //! Calls of functions and cells of arrays.
 
-ghost use Rattle.std.specs.Prelude.{◌≡◌, length, slice_get, Some, None};
+ghost use Rattle.std.specs.Prelude.{◌≡◌, slice_get, Some, None};
 ghost use Rattle.std.specs.Option.{option_map};
-ghost use Rattle.std.specs.List.{list_any, list_all};
+ghost use Rattle.std.specs.List.{list_any};
 ghost use Rattle.cse_syntax_tree.specs.Tree.{written};
 ghost use Rattle.cse_logic_tree.specs.Typed as typed;
 ghost use Rattle.cse_logic_tree.specs.Typed.{number};
 ghost use Rattle.cse_logic_names.specs.Scope as scope_of;
 ghost use Rattle.cse_logic_names.specs.WellTyped as well;
 ghost use Rattle.cse_logic_expressions.specs.Judge as spec;
-ghost use Rattle.cse_logic_names.specs.Walk.{is_there, only_if, IsNoted, IsNotedAfter};
+ghost use Rattle.cse_logic_names.specs.Walk.{IsNoted};
 ghost use Rattle.cse_logic_expressions.specs.Clauses.{numbers_made};
 
 use cse_logic_names::faults::Faults;
@@ -68,36 +68,30 @@ pub fn dimensions_of(scope: &Scope<'_>, array: usize) -> Option<usize>
 }
 
 /// The fault 44, where this number isn't the one that is declared.
-fn same_count(faults: &mut Faults, token: usize, count: usize, declared: Option<&usize>) {
+fn same_count(faults: &mut Faults, count: usize, declared: Option<&usize>) {
     match declared {
-        Some(declared) if *declared != count => faults.note(44, token),
+        Some(declared) if *declared != count => faults.note(),
         _ => {}
     }
 }
 
 /// Whether an array has so many dimensions, or the fault 44.
-pub fn has_dimensions(
-    scope: &Scope<'_>,
-    faults: &mut Faults,
-    token: usize,
-    count: usize,
-    array: usize,
-) -> bool
+pub fn has_dimensions(scope: &Scope<'_>, faults: &mut Faults, count: usize, array: usize) -> bool
     ensures value { result ≡ spec.is_count count (well.dimensions_of scope.now array) }
     ensures noted { IsNoted faults.old faults.new (spec.is_count count (well.dimensions_of scope.now array)) }
 {
     match dimensions_of(scope, array) {
         None => {
             // Its declaration is at fault, maybe behind this place.
-            same_count(faults, token, count, scope.counts.dimensions.get(array));
-            faults.note(44, usize::MAX);
+            same_count(faults, count, scope.counts.dimensions.get(array));
+            faults.note();
             false
         }
         Some(dimensions) => {
             if dimensions == count {
                 true
             } else {
-                faults.note(44, token);
+                faults.note();
                 false
             }
         }
@@ -157,27 +151,21 @@ fn are_free(loops: &[(Option<u16>, Variable)], globals: &Globals) -> bool
 
 /// Whether a function that has ended may be called here with so many arguments; else the fault at its name.
 #[tactic(auto, unfolding(cse_logic_names::specs::WellTyped::suits))]
-fn suits(
-    scope: &Scope<'_>,
-    faults: &mut Faults,
-    token: usize,
-    arguments: usize,
-    facts: &Facts,
-) -> bool
+fn suits(scope: &Scope<'_>, faults: &mut Faults, arguments: usize, facts: &Facts) -> bool
     ensures value { result ≡ well.suits scope.now arguments facts.now }
     ensures noted { IsNoted faults.old faults.new (well.suits scope.now arguments facts.now) }
 {
     if facts.parameters != arguments {
-        faults.note(44, token);
+        faults.note();
         return false;
     }
     if !are_free(&scope.loops, &facts.assigned) {
-        faults.note(47, token);
+        faults.note();
         return false;
     }
     if facts.needs_case {
         if !has_case(scope.routine) {
-            faults.note(49, token);
+            faults.note();
             return false;
         }
     }
@@ -185,31 +173,25 @@ fn suits(
 }
 
 /// Whether a function may be called here with so many arguments; else the fault at its name.
-pub fn may_call(
-    scope: &Scope<'_>,
-    faults: &mut Faults,
-    token: usize,
-    arguments: usize,
-    function: usize,
-) -> bool
+pub fn may_call(scope: &Scope<'_>, faults: &mut Faults, arguments: usize, function: usize) -> bool
     ensures value { result ≡ well.may_call scope.now arguments (slice_get scope.now.functions function) }
     ensures noted { IsNoted faults.old faults.new (well.may_call scope.now arguments (slice_get scope.now.functions function)) }
 {
     let declared = scope.counts.parameters.get(function);
     match scope.functions.get(function) {
         None => {
-            same_count(faults, token, arguments, declared);
-            faults.note(45, token);
+            same_count(faults, arguments, declared);
+            faults.note();
             false
         }
         Some(facts) => match facts {
             None => {
                 // Its own fault may stand behind this place: that of a parameter's name stands at the later of two.
-                same_count(faults, token, arguments, declared);
-                faults.note(45, usize::MAX);
+                same_count(faults, arguments, declared);
+                faults.note();
                 false
             }
-            Some(facts) => suits(scope, faults, token, arguments, facts),
+            Some(facts) => suits(scope, faults, arguments, facts),
         },
     }
 }

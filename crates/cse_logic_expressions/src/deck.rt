@@ -1,13 +1,13 @@
 //! Hot decks, and the functions of one name.
 
-ghost use Rattle.std.specs.Prelude.{◌≡◌, ◌&&◌, true, false, map, length, drop, slice_get, Some, None, IfOk, OnOk};
+ghost use Rattle.std.specs.Prelude.{◌≡◌, true, map, slice_get, Some, None, IfOk, OnOk};
 ghost use Rattle.std.specs.Option.{option_map};
 ghost use Rattle.cse_syntax_tree.specs.Tree.{written};
 ghost use Rattle.cse_logic_tree.specs.Typed as typed;
 ghost use Rattle.cse_logic_tree.specs.Typed.{number, dimension};
 ghost use Rattle.cse_logic_names.specs.Scope.{meant};
 ghost use Rattle.cse_logic_expressions.specs.Judge as spec;
-ghost use Rattle.cse_logic_names.specs.Walk.{is_there, IsNoted, IsNotedAfter};
+ghost use Rattle.cse_logic_names.specs.Walk.{is_there, IsNoted};
 ghost use Rattle.cse_logic_expressions.specs.Clauses.{by_name};
 
 use crate::item::{needs_case, number_present};
@@ -21,22 +21,17 @@ use cse_syntax_tree::{Lexeme, Query};
 use std::alloc::{AllocError, Global};
 
 /// The present value's place of a set's item, or the fault at this token.
-fn set_present(
-    scope: &Scope<'_>,
-    faults: &mut Faults,
-    token: usize,
-    item: Option<u16>,
-) -> Option<Present>
+fn set_present(scope: &Scope<'_>, faults: &mut Faults, item: Option<u16>) -> Option<Present>
     ensures value { result ≡ spec.set_present scope.now item }
     ensures noted { IsNoted faults.old faults.new (is_there (spec.set_present scope.now item)) }
 {
     match item {
         None => {
             // The fault of its declaration counts.
-            faults.note(42, usize::MAX);
+            faults.note();
             None
         }
-        Some(item) => number_present(scope, faults, token, item),
+        Some(item) => number_present(scope, faults, item),
     }
 }
 
@@ -54,42 +49,31 @@ fn picked(set: u16, has_leftover: bool, item: Option<Present>) -> Option<Pick>
 }
 
 /// What picks an index of a hot deck in one direction. The tokens are those of its name and of the word before it.
-fn pick(
-    scope: &Scope<'_>,
-    faults: &mut Faults,
-    tokens: (usize, usize),
-    direction: &Dimension<'_>,
-) -> Option<Pick>
+fn pick(scope: &Scope<'_>, faults: &mut Faults, direction: &Dimension<'_>) -> Option<Pick>
     ensures value { result ≡ spec.dimension_pick scope.now (dimension direction.now) }
     ensures noted { IsNoted faults.old faults.new (is_there (spec.dimension_pick scope.now (dimension direction.now))) }
 {
     match direction {
         Dimension::Number(_, _) => {
-            faults.note(40, tokens.0);
+            faults.note();
             None
         }
         Dimension::Set(_, set, has_leftover, _) => {
-            let present = set_present(scope, faults, tokens.1, whole_set(scope.dictionary, *set));
+            let present = set_present(scope, faults, whole_set(scope.dictionary, *set));
             picked(*set, *has_leftover, present)
         }
     }
 }
 
 /// What picks the indexes of a hot deck.
-fn all_picks(
-    alloc: Global,
-    scope: &Scope<'_>,
-    faults: &mut Faults,
-    tokens: (usize, usize),
-    directions: &Vec<Dimension<'_>>,
-) -> Result<Option<Vec<Pick>>, AllocError>
+fn all_picks(alloc: Global, scope: &Scope<'_>, faults: &mut Faults, directions: &Vec<Dimension<'_>>) -> Result<Option<Vec<Pick>>, AllocError>
     ensures value { IfOk result (λ r. option_map (λ v. v.items) r ≡ spec.picks_for scope.now (map dimension directions.now.items)) }
     ensures noted { OnOk result (IsNoted faults.old faults.new (is_there (spec.picks_for scope.now (map dimension directions.now.items)))) }
 {
     let mut found = Vec::new(alloc);
     let mut is_sound = true;
     'all: for x in directions {
-        let next = pick(scope, faults, tokens, x);
+        let next = pick(scope, faults, x);
         let is_there = keep(&mut found, next)?;
         is_sound = both_hold(is_sound, is_there);
     }
@@ -98,34 +82,28 @@ fn all_picks(
 
 /// What picks a cell of this array, if it is a hot deck: else 40 at its name, and 49 at the word before it. These are
 /// the tokens.
-pub fn picks(
-    alloc: Global,
-    scope: &Scope<'_>,
-    faults: &mut Faults,
-    tokens: (usize, usize),
-    array: usize,
-) -> Result<Option<Vec<Pick>>, AllocError>
+pub fn picks(alloc: Global, scope: &Scope<'_>, faults: &mut Faults, array: usize) -> Result<Option<Vec<Pick>>, AllocError>
     ensures value { IfOk result (λ r. option_map (λ v. v.items) r ≡ spec.picks_of scope.now (slice_get scope.now.arrays array)) }
     ensures noted { OnOk result (IsNoted faults.old faults.new (is_there (spec.picks_of scope.now (slice_get scope.now.arrays array)))) }
 {
     match scope.arrays.get(array) {
         None => {
-            faults.note(40, tokens.0);
-            needs_case(scope, faults, tokens.1);
+            faults.note();
+            needs_case(scope, faults);
             Ok(None)
         }
         Some(directions) => match directions {
             None => {
                 // The fault of its declaration counts.
-                faults.note(40, usize::MAX);
-                needs_case(scope, faults, tokens.1);
+                faults.note();
+                needs_case(scope, faults);
                 Ok(None)
             }
             Some(directions) => {
                 if has_case(scope.routine) {
-                    all_picks(alloc, scope, faults, tokens, directions)
+                    all_picks(alloc, scope, faults, directions)
                 } else {
-                    faults.note(49, tokens.1);
+                    faults.note();
                     Ok(None)
                 }
             }
@@ -143,24 +121,18 @@ fn deck<'a>(name: Lexeme<'a>, array: usize, picks: Option<Vec<Pick>>) -> Option<
 }
 
 /// The value of a hot deck; else 40 at its name, or 49 at this token, where there is no case.
-fn deck_of<'a>(
-    alloc: Global,
-    scope: &Scope<'_>,
-    faults: &mut Faults,
-    name: Lexeme<'a>,
-    token: usize,
-) -> Result<Option<Number<'a>>, AllocError>
+fn deck_of<'a>(alloc: Global, scope: &Scope<'_>, faults: &mut Faults, name: Lexeme<'a>) -> Result<Option<Number<'a>>, AllocError>
     ensures value { IfOk result (λ r. option_map number r ≡ by_name spec.deck_of scope.now name.entry) }
     ensures noted { OnOk result (IsNoted faults.old faults.new (is_there (by_name spec.deck_of scope.now name.entry))) }
 {
     match scope.meant(name) {
         Some(Meaning::Array(array)) => {
-            let picks = picks(alloc, scope, faults, (name.token, token), array)?;
+            let picks = picks(alloc, scope, faults, array)?;
             Ok(deck(name, array, picks))
         }
         _ => {
-            faults.note(40, name.token);
-            needs_case(scope, faults, token);
+            faults.note();
+            needs_case(scope, faults);
             Ok(None)
         }
     }
@@ -179,20 +151,19 @@ pub fn queried<'a>(
     ensures noted { OnOk result
         (IsNoted faults.old faults.new (is_there (spec.queried scope.now query (written name.entry) (meant scope.now (written name.entry))))) }
 {
-    let word = name.token.saturating_sub(2);
     match query {
-        Query::GetDeck => deck_of(alloc, scope, faults, name, word),
+        Query::GetDeck => deck_of(alloc, scope, faults, name),
         Query::TotOcc => {
-            let over = record_of(scope, faults, name, name.token);
+            let over = record_of(scope, faults, name);
             Ok(tot_occ(name, over))
         }
         Query::MaxOcc => {
-            let over = record_of(scope, faults, name, name.token);
+            let over = record_of(scope, faults, name);
             Ok(max_occ(name, over))
         }
         Query::CurOcc => {
-            let over = record_of(scope, faults, name, word);
-            Ok(current(scope, faults, name, word, over))
+            let over = record_of(scope, faults, name);
+            Ok(current(scope, faults, name, over))
         }
     }
 }

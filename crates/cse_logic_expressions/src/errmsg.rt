@@ -1,6 +1,6 @@
 //! What `errmsg` says: its message, and a value for each placeholder.
 
-ghost use Rattle.std.specs.Prelude.{◌≡◌, ◌==◌, false, map, length, drop, nat_eq, find, Some, None, IfOk, OnOk};
+ghost use Rattle.std.specs.Prelude.{◌≡◌, ◌==◌, false, map, length, Some, None, IfOk, OnOk};
 ghost use Rattle.std.specs.Option.{option_map};
 ghost use Rattle.cse_image_parts.specs.Placeholders.{message_kinds};
 ghost use Rattle.cse_syntax_tree.specs.Leaf as leaf;
@@ -94,7 +94,7 @@ fn text<'a>(
 {
     match expression(alloc, scope, faults, false, x)? {
         Judged::Number(_) => {
-            faults.note(44, x.token());
+            faults.note();
             Ok(None)
         }
         Judged::Words(text) => Ok(text),
@@ -133,12 +133,12 @@ fn one_argument<'a>(
 {
     match kind {
         None => {
-            faults.note(48, x.token());
+            faults.note();
             Ok(None)
         }
         Some(ArgumentKind::Number) => {
             let found = expression(alloc, scope, faults, false, x)?;
-            Ok(of_number(number_in(faults, x.token(), found)))
+            Ok(of_number(number_in(faults, found)))
         }
         Some(ArgumentKind::Text) => {
             let found = text(alloc, scope, faults, x)?;
@@ -212,7 +212,7 @@ fn filled<'a>(
         (is_there (spec.err_msg scope.now (Some (message_kinds text.now)) (message said.entry) index is_summary (exprs (map expr values.now.items))))) }
 {
     if !has_values(text, values) {
-        faults.note(48, said.token());
+        faults.note();
         return Ok(None);
     }
     let found = arguments(alloc, scope, faults, text, values)?;
@@ -237,7 +237,7 @@ pub fn err_msg<'a>(
 {
     match text_meant(scope.messages, said) {
         None => {
-            faults.note(40, said.token());
+            faults.note();
             Ok(None)
         }
         Some(text) => filled(alloc, scope, faults, text, said, index, is_summary, values),

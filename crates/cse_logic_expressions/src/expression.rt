@@ -1,18 +1,18 @@
 //! Expressions: from trees of syntax to typed ones.
 
-ghost use Rattle.std.specs.Prelude.{◌≡◌, ◌&&◌, ◌||◌, not, ◌≤◌, ◌==◌, MatchOption, IfSome, true, false, map, length, drop, slice_get, Some, None, IfOk, OnOk};
+ghost use Rattle.std.specs.Prelude.{◌≡◌, ◌&&◌, ◌≤◌, ◌==◌, MatchOption, IfSome, true, false, map, length, Some, None, IfOk, OnOk};
 ghost use Rattle.std.specs.Option.{option_map};
 ghost use Rattle.cse_syntax_tree.specs.Leaf as leaf;
 ghost use Rattle.cse_syntax_tree.specs.Leaf.{is_within, MOST};
 ghost use Rattle.cse_syntax_tree.specs.Tree as syntax;
 ghost use Rattle.cse_syntax_tree.specs.Tree.{written, expr, operations as operations_of, operation_tree as parsed};
 ghost use Rattle.cse_logic_tree.specs.Typed as typed;
-ghost use Rattle.cse_logic_tree.specs.Typed.{number, words, operations, operation_tree};
+ghost use Rattle.cse_logic_tree.specs.Typed.{number, operations, operation_tree};
 ghost use Rattle.cse_logic_names.specs.Scope.{meant};
 ghost use Rattle.cse_logic_names.specs.WellTyped.{may_call, value_of, may_divide};
 ghost use Rattle.cse_logic_expressions.specs.Judge as spec;
 ghost use Rattle.cse_logic_expressions.specs.Judge.{judged, judge, judge_operations, as_number, is_sound, indexed, queried, bare, compared};
-ghost use Rattle.cse_logic_names.specs.Walk.{is_there, joined, only_if, found_more, IsNoted, IsNotedAfter};
+ghost use Rattle.cse_logic_names.specs.Walk.{is_there, joined, only_if, IsNoted, IsNotedAfter};
 ghost use Rattle.cse_logic_expressions.specs.Clauses.{all_judged, by_name, numbers_made};
 
 use crate::assign::number_in;
@@ -36,14 +36,14 @@ fn bare<'a>(scope: &Scope<'_>, faults: &mut Faults, name: Lexeme<'a>) -> Judged<
     ensures noted { IsNoted faults.old faults.new (is_sound (by_name bare scope.now name.entry)) }
 {
     match scope.meant(name) {
-        None => unknown(faults, name.token),
+        None => unknown(faults),
         Some(meaning) => match meaning {
             Meaning::Variable(variable) => {
                 Judged::Number(Some(Number::Variable(name, variable)))
             }
             Meaning::Text(global) => Judged::Words(Some(Words::Global(name, global))),
             Meaning::Array(_) => {
-                faults.note(44, name.token);
+                faults.note();
                 Judged::Number(None)
             }
             Meaning::Function(function) => result_of(
@@ -51,21 +51,21 @@ fn bare<'a>(scope: &Scope<'_>, faults: &mut Faults, name: Lexeme<'a>) -> Judged<
                 name,
                 own_result(scope.routine, function),
             ),
-            Meaning::Record(_) => unknown(faults, name.token),
+            Meaning::Record(_) => unknown(faults),
             Meaning::Item(number) => item(scope, faults, name, number),
-            Meaning::Set(_) => unknown(faults, name.token),
-            Meaning::Application => unknown(faults, name.token),
-            Meaning::Level => unknown(faults, name.token),
+            Meaning::Set(_) => unknown(faults),
+            Meaning::Application => unknown(faults),
+            Meaning::Level => unknown(faults),
         },
     }
 }
 
 /// The fault 40.
-fn unknown<'a>(faults: &mut Faults, token: usize) -> Judged<'a>
+fn unknown<'a>(faults: &mut Faults) -> Judged<'a>
     ensures value { judged result ≡ spec.Unknown }
-    ensures noted { is_there faults.new.worst ≡ true }
+    ensures noted { faults.new.found ≡ true }
 {
-    faults.note(40, token);
+    faults.note();
     Judged::Unknown
 }
 
@@ -75,7 +75,7 @@ fn result_of<'a>(faults: &mut Faults, name: Lexeme<'a>, own: Option<Variable>) -
     ensures noted { IsNoted faults.old faults.new (is_sound (spec.result_judged (written name.entry) own)) }
 {
     match own {
-        None => unknown(faults, name.token),
+        None => unknown(faults),
         Some(variable) => Judged::Number(Some(Number::Variable(name, variable))),
     }
 }
@@ -97,7 +97,7 @@ fn literal<'a>(faults: &mut Faults, digits: Lexeme<'a>) -> Option<Number<'a>>
 {
     match written_number(digits.text) {
         None => {
-            faults.note(44, digits.token);
+            faults.note();
             None
         }
         Some(value) => Some(Number::Literal(digits, value as i64)),
@@ -118,35 +118,35 @@ fn named_with<'a>(
         (is_sound (by_name indexed scope.now name.entry count (numbers_made arguments.entry)))) }
 {
     match scope.meant(name) {
-        None => Ok(unknown(faults, name.token)),
+        None => Ok(unknown(faults)),
         Some(meaning) => match meaning {
             Meaning::Variable(_) => {
-                faults.note(44, name.token);
+                faults.note();
                 Ok(Judged::Number(None))
             }
             Meaning::Text(_) => {
-                faults.note(44, name.token);
+                faults.note();
                 Ok(Judged::Words(None))
             }
             Meaning::Array(array) => {
-                if has_dimensions(scope, faults, name.token, count, array) {
+                if has_dimensions(scope, faults, count, array) {
                     Ok(Judged::Number(cell(name, array, arguments)))
                 } else {
                     Ok(Judged::Number(None))
                 }
             }
             Meaning::Function(function) => {
-                if may_call(scope, faults, name.token, count, function) {
+                if may_call(scope, faults, count, function) {
                     Ok(Judged::Number(call(name, function, arguments)))
                 } else {
                     Ok(Judged::Number(None))
                 }
             }
-            Meaning::Record(_) => Ok(unknown(faults, name.token)),
+            Meaning::Record(_) => Ok(unknown(faults)),
             Meaning::Item(item) => item_at(alloc, scope, faults, name, count, item, arguments),
-            Meaning::Set(_) => Ok(unknown(faults, name.token)),
-            Meaning::Application => Ok(unknown(faults, name.token)),
-            Meaning::Level => Ok(unknown(faults, name.token)),
+            Meaning::Set(_) => Ok(unknown(faults)),
+            Meaning::Application => Ok(unknown(faults)),
+            Meaning::Level => Ok(unknown(faults)),
         },
     }
 }
@@ -195,24 +195,15 @@ pub fn expression<'a>(
             negated(alloc, operand)
         }
         Expression::Compare(left, relation, right) => {
-            let tokens = (text_token(left), text_token(right));
             let earlier = expression(alloc, scope, faults, false, left)?;
             let later = expression(alloc, scope, faults, false, right)?;
-            let made = compared(alloc, faults, *relation, earlier, later, tokens)?;
+            let made = compared(alloc, faults, *relation, earlier, later)?;
             Ok(Judged::Number(made))
         }
         Expression::Chain(first, others) => {
             let start = value(alloc, scope, faults, false, first)?;
             chain(alloc, scope, faults, top, start, others)
         }
-    }
-}
-
-/// Where an expression stands that is a text: behind the parentheses around it.
-pub fn text_token(x: &Expression<'_>) -> usize {
-    match x {
-        Expression::Group(inner) => text_token(inner),
-        _ => x.token(),
     }
 }
 
@@ -229,7 +220,7 @@ pub fn value<'a>(
     ensures noted { OnOk result (IsNoted faults.old faults.new (is_there (as_number (judge scope.now top (expr x.now))))) }
 {
     let found = expression(alloc, scope, faults, top, x)?;
-    Ok(number_in(faults, text_token(x), found))
+    Ok(number_in(faults, found))
 }
 
 /// `int` or `special`.
@@ -314,13 +305,7 @@ fn chain<'a>(
 }
 
 /// Whether an operator may stand here, or the fault 46.
-fn may_stand(
-    faults: &mut Faults,
-    token: usize,
-    top: bool,
-    operator: Operator,
-    is_last: bool,
-) -> bool
+fn may_stand(faults: &mut Faults, top: bool, operator: Operator, is_last: bool) -> bool
     ensures value { result ≡ may_divide top operator is_last }
     ensures noted { IsNoted faults.old faults.new (may_divide top operator is_last) }
 {
@@ -329,7 +314,7 @@ fn may_stand(
             if top && is_last {
                 true
             } else {
-                faults.note(46, token);
+                faults.note();
                 false
             }
         }
@@ -366,7 +351,7 @@ fn one_operation<'a>(
     ensures value { IfOk result (λ r. option_map operation_tree r ≡ spec.judge_operation scope.now top (parsed x.now) is_last) }
     ensures noted { OnOk result (IsNoted faults.old faults.new (is_there (spec.judge_operation scope.now top (parsed x.now) is_last))) }
 {
-    let may_stand = may_stand(faults, x.token(), top, x.operator, is_last);
+    let may_stand = may_stand(faults, top, x.operator, is_last);
     let operand = value(alloc, scope, faults, false, &x.operand)?;
     Ok(operation(x.operator, may_stand, operand))
 }

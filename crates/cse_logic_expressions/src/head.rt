@@ -1,15 +1,15 @@
 //! The heads of loops, and literals.
 
-ghost use Rattle.std.specs.Prelude.{◌≡◌, true, false, Some, None};
+ghost use Rattle.std.specs.Prelude.{◌≡◌, Some, None};
 ghost use Rattle.std.specs.Option.{option_map};
 ghost use Rattle.cse_syntax_tree.specs.Tree as syntax;
 ghost use Rattle.cse_syntax_tree.specs.Tree.{written};
 ghost use Rattle.cse_logic_tree.specs.Typed as typed;
 ghost use Rattle.cse_logic_names.specs.Scope as scope_of;
-ghost use Rattle.cse_logic_names.specs.WellTyped.{signed_value, step_of, value_of};
+ghost use Rattle.cse_logic_names.specs.WellTyped.{step_of, value_of};
 ghost use Rattle.cse_logic_expressions.specs.JudgeStatement as spec;
 ghost use Rattle.cse_logic_expressions.specs.JudgeStatement.{limit_pair, limits_of, with_step};
-ghost use Rattle.cse_logic_names.specs.Walk.{is_there, joined, IsNoted, IsNotedAfter};
+ghost use Rattle.cse_logic_names.specs.Walk.{is_there, joined, IsNoted};
 
 use crate::assign::free_variable;
 use crate::expression::written_number;
@@ -53,8 +53,8 @@ pub fn for_head(
     ensures noted { IsNoted faults.old faults.new (is_there (spec.for_head scope.now (written variable.entry) (written record_name.entry))) }
 {
     let found = loop_variable(scope, variable);
-    let free = free_variable(scope, faults, variable.token, found);
-    let over = record_of(scope, faults, record_name, record_name.token);
+    let free = free_variable(scope, faults, found);
+    let over = record_of(scope, faults, record_name);
     head(free, over)
 }
 
@@ -66,7 +66,7 @@ pub fn whole<'a>(faults: &mut Faults, x: Literal<'a>) -> Option<Whole<'a>>
 {
     match written_number(x.digits.text) {
         None => {
-            faults.note(44, x.digits.token);
+            faults.note();
             None
         }
         Some(value) => {
@@ -89,7 +89,7 @@ fn limit<'a>(scope: &Scope<'_>, faults: &mut Faults, x: ParsedLimit<'a>) -> Opti
             None => None,
             Some(value) => Some(Limit::Literal(value)),
         },
-        ParsedLimit::Count(count, name) => match record_of(scope, faults, name, name.token) {
+        ParsedLimit::Count(count, name) => match record_of(scope, faults, name) {
             None => None,
             Some(over) => Some(Limit::Count(count, name, over)),
         },
@@ -133,7 +133,7 @@ fn step(faults: &mut Faults, by: Option<Lexeme<'_>>) -> Option<i64>
         None => Some(1),
         Some(digits) => match written_number(digits.text) {
             None => {
-                faults.note(44, digits.token);
+                faults.note();
                 None
             }
             Some(value) => Some(value as i64),
@@ -165,7 +165,7 @@ fn variable_and_step(
         (spec.free_variable scope.now.loops (scope_of.loop_variable scope.now (written x.entry.variable))) (step_of (option_map written x.entry.by)))) }
 {
     let found = loop_variable(scope, x.variable);
-    let free = free_variable(scope, faults, x.variable.token, found);
+    let free = free_variable(scope, faults, found);
     let step = step(faults, x.by);
     stepped(free, step)
 }

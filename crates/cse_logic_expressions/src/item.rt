@@ -1,12 +1,11 @@
 //! Items, value sets, hot decks and records in expressions.
 
-ghost use Rattle.std.specs.Prelude.{◌≡◌, ◌≤◌, map, slice_get, Some, None, IfOk, OnOk};
+ghost use Rattle.std.specs.Prelude.{◌≡◌, ◌≤◌, map, Some, None, IfOk, OnOk};
 ghost use Rattle.std.specs.Option.{option_map};
 ghost use Rattle.cse_syntax_tree.specs.Tree.{written};
 ghost use Rattle.cse_logic_tree.specs.Typed as typed;
-ghost use Rattle.cse_logic_tree.specs.Typed.{number, numbers, words, dimension};
-ghost use Rattle.cse_logic_names.specs.Scope.{kind_and_owner, meant, has_case};
-ghost use Rattle.cse_logic_names.specs.WellTyped.{set_kind, set_meant};
+ghost use Rattle.cse_logic_tree.specs.Typed.{number, numbers, words};
+ghost use Rattle.cse_logic_names.specs.Scope.{kind_and_owner, has_case};
 ghost use Rattle.cse_logic_expressions.specs.Judge as spec;
 ghost use Rattle.cse_logic_expressions.specs.Judge.{judged, is_sound, number_present};
 ghost use Rattle.cse_logic_names.specs.Walk.{is_there, joined, IsNoted, IsNotedAfter};
@@ -26,18 +25,12 @@ const IDS: u8 = 255;
 
 /// An item without a subscript, by its record's number. The fault is at this token.
 #[tactic(auto, unfolding(crate::specs::Judge::present_at))]
-pub fn present_at(
-    scope: &Scope<'_>,
-    faults: &mut Faults,
-    token: usize,
-    item: u16,
-    owner: u8,
-) -> Option<Present>
+pub fn present_at(scope: &Scope<'_>, faults: &mut Faults, item: u16, owner: u8) -> Option<Present>
     ensures value { result ≡ spec.present_at scope.now item owner }
     ensures noted { IsNoted faults.old faults.new (is_there (spec.present_at scope.now item owner)) }
 {
     if !has_case(scope.routine) {
-        faults.note(49, token);
+        faults.note();
         return None;
     }
     if owner == IDS {
@@ -45,7 +38,7 @@ pub fn present_at(
     }
     match scope.found(u16::from(owner)) {
         None => {
-            faults.note(49, token);
+            faults.note();
             None
         }
         Some(found) => Some(Present::Here(Field { owner, item }, found)),
@@ -54,36 +47,29 @@ pub fn present_at(
 
 /// An item of a record, by its record's number. An id item has no subscript (`number` 44) and is not assigned (43).
 #[tactic(auto, unfolding(crate::specs::Judge::field_at))]
-pub fn field_at(
-    scope: &Scope<'_>,
-    faults: &mut Faults,
-    number: u8,
-    token: usize,
-    item: u16,
-    owner: u8,
-) -> Option<Field>
+pub fn field_at(scope: &Scope<'_>, faults: &mut Faults, item: u16, owner: u8) -> Option<Field>
     requires least { 40 ≤ number }
     requires most { number ≤ 49 }
     ensures value { result ≡ spec.field_at scope.now item owner }
     ensures noted { IsNoted faults.old faults.new (is_there (spec.field_at scope.now item owner)) }
 {
     if owner == IDS {
-        faults.note(number, token);
+        faults.note();
         return None;
     }
     if !has_case(scope.routine) {
-        faults.note(49, token);
+        faults.note();
         return None;
     }
     Some(Field { owner, item })
 }
 
 /// The fault 49 at this token, where there is no case.
-pub fn needs_case(scope: &Scope<'_>, faults: &mut Faults, token: usize)
+pub fn needs_case(scope: &Scope<'_>, faults: &mut Faults)
     ensures { IsNoted faults.old faults.new (has_case scope.now.routine) }
 {
     if !has_case(scope.routine) {
-        faults.note(49, token);
+        faults.note();
     }
 }
 
@@ -112,20 +98,20 @@ pub fn item<'a>(scope: &Scope<'_>, faults: &mut Faults, name: Lexeme<'a>, item: 
 {
     match kind_and_owner(scope.dictionary, item) {
         None => {
-            faults.note(40, name.token);
+            faults.note();
             Judged::Unknown
         }
         Some((kind, owner)) => match kind {
             ItemKind::Opaque => {
-                faults.note(41, name.token);
+                faults.note();
                 Judged::Unknown
             }
             ItemKind::Number => {
-                let present = present_at(scope, faults, name.token, item, owner);
+                let present = present_at(scope, faults, item, owner);
                 Judged::Number(number_item(name, present))
             }
             ItemKind::Text => {
-                let present = present_at(scope, faults, name.token, item, owner);
+                let present = present_at(scope, faults, item, owner);
                 Judged::Words(text_item(name, present))
             }
         },
@@ -167,37 +153,28 @@ fn text_item_at<'a>(
 }
 
 /// The only subscript of so many, or the fault 44, which is told also where one of them isn't sound.
-pub fn sole<'a>(
-    faults: &mut Faults,
-    token: usize,
-    count: usize,
-    subscripts: Option<Vec<Number<'a>>>,
-) -> Option<Number<'a>>
+pub fn sole<'a>(faults: &mut Faults, count: usize, subscripts: Option<Vec<Number<'a>>>) -> Option<Number<'a>>
     ensures value { option_map number result ≡ spec.sole (numbers_made subscripts.entry) }
     ensures noted { IsNotedAfter (is_there subscripts.entry) faults.old faults.new (is_there (spec.sole (numbers_made subscripts.entry))) }
 {
     match subscripts {
         None => {
             if count != 1 {
-                faults.note(44, token);
+                faults.note();
             }
             None
         }
-        Some(subscripts) => only_one(faults, token, subscripts),
+        Some(subscripts) => only_one(faults, subscripts),
     }
 }
 
-fn only_one<'a>(
-    faults: &mut Faults,
-    token: usize,
-    subscripts: Vec<Number<'a>>,
-) -> Option<Number<'a>>
+fn only_one<'a>(faults: &mut Faults, subscripts: Vec<Number<'a>>) -> Option<Number<'a>>
     ensures value { option_map number result ≡ spec.sole (Some (numbers (map number subscripts.entry.items))) }
     ensures noted { IsNoted faults.old faults.new (is_there (spec.sole (Some (numbers (map number subscripts.entry.items))))) }
 {
     let mut subscripts = subscripts;
     if subscripts.len() != 1 {
-        faults.note(44, token);
+        faults.note();
         return None;
     }
     subscripts.pop()
@@ -220,23 +197,23 @@ pub fn item_at<'a>(
 {
     match kind_and_owner(scope.dictionary, item) {
         None => {
-            faults.note(40, name.token);
+            faults.note();
             Ok(Judged::Unknown)
         }
         Some((kind, owner)) => match kind {
             ItemKind::Opaque => {
-                faults.note(41, name.token);
+                faults.note();
                 Ok(Judged::Unknown)
             }
             ItemKind::Number => {
-                let place = sole(faults, name.token, count, subscripts);
-                let field = field_at(scope, faults, 44, name.token, item, owner);
+                let place = sole(faults, count, subscripts);
+                let field = field_at(scope, faults, item, owner);
                 let found = number_item_at(alloc, name, field, place)?;
                 Ok(Judged::Number(found))
             }
             ItemKind::Text => {
-                let place = sole(faults, name.token, count, subscripts);
-                let field = field_at(scope, faults, 44, name.token, item, owner);
+                let place = sole(faults, count, subscripts);
+                let field = field_at(scope, faults, item, owner);
                 let found = text_item_at(alloc, name, field, place)?;
                 Ok(Judged::Words(found))
             }
@@ -245,28 +222,23 @@ pub fn item_at<'a>(
 }
 
 /// A numeric item without a subscript, or the fault at this token.
-pub fn number_present(
-    scope: &Scope<'_>,
-    faults: &mut Faults,
-    token: usize,
-    item: u16,
-) -> Option<Present>
+pub fn number_present(scope: &Scope<'_>, faults: &mut Faults, item: u16) -> Option<Present>
     ensures value { result ≡ number_present scope.now item }
     ensures noted { IsNoted faults.old faults.new (is_there (number_present scope.now item)) }
 {
     match kind_and_owner(scope.dictionary, item) {
         None => {
-            faults.note(40, token);
+            faults.note();
             None
         }
         Some((kind, owner)) => match kind {
             ItemKind::Opaque => {
-                faults.note(41, token);
+                faults.note();
                 None
             }
-            ItemKind::Number => present_at(scope, faults, token, item, owner),
+            ItemKind::Number => present_at(scope, faults, item, owner),
             ItemKind::Text => {
-                faults.note(44, token);
+                faults.note();
                 None
             }
         },

@@ -1,10 +1,10 @@
 //! Value sets, records and hot decks in expressions.
 
-ghost use Rattle.std.specs.Prelude.{◌≡◌, ◌<◌, ◌≤◌, length, IfSome, map, nat_eq, position, slice_get, Some, None, IfOk, OnOk};
+ghost use Rattle.std.specs.Prelude.{◌≡◌, ◌<◌, ◌≤◌, length, IfSome, nat_eq, position, slice_get, Some, None};
 ghost use Rattle.std.specs.Option.{option_map};
 ghost use Rattle.cse_syntax_tree.specs.Tree.{written};
 ghost use Rattle.cse_logic_tree.specs.Typed as typed;
-ghost use Rattle.cse_logic_tree.specs.Typed.{number, dimension};
+ghost use Rattle.cse_logic_tree.specs.Typed.{number};
 ghost use Rattle.cse_logic_names.specs.Scope.{meant};
 ghost use Rattle.cse_logic_names.specs.WellTyped as well;
 ghost use Rattle.cse_logic_expressions.specs.Judge as spec;
@@ -15,10 +15,9 @@ use cse_dict::Dictionary;
 use cse_logic_names::faults::Faults;
 use cse_logic_names::meaning::Meaning;
 use cse_logic_names::scope::{Scope, has_case, kind_and_owner};
-use cse_logic_tree::{Dimension, Number, Pick, Present};
-use cse_syntax_tree::{Lexeme, Query};
+use cse_logic_tree::{Number, Present};
+use cse_syntax_tree::Lexeme;
 use cse_value::shape::{ItemKind, SetShape};
-use std::alloc::{AllocError, Global};
 
 /// The item of a whole set.
 pub fn whole_set(dictionary: &Dictionary, set: u16) -> Option<u16>
@@ -50,41 +49,17 @@ fn set_kind(dictionary: &Dictionary, set: u16) -> Option<ItemKind>
     kind_of(dictionary, whole_set(dictionary, set))
 }
 
-/// The number of the fault of a set that isn't whole: 41 where it is an opaque item's.
-fn partial_fault(dictionary: &Dictionary, set: u16) -> u8
-    ensures least { 40 ≤ result }
-    ensures most { result ≤ 49 }
-{
-    let Some(set) = dictionary.shape().sets.get(set as usize) else {
-        return 42;
-    };
-    match kind_and_owner(dictionary, set.item) {
-        Some((ItemKind::Opaque, _)) => 41,
-        _ => 42,
-    }
-}
-
 /// Whether this is a whole set of a numeric item, or the fault at this token.
-pub fn is_number_set(scope: &Scope<'_>, faults: &mut Faults, token: usize, set: u16) -> bool
+pub fn is_number_set(scope: &Scope<'_>, faults: &mut Faults, set: u16) -> bool
     ensures value { result ≡ spec.is_number_kind (well.set_kind scope.now.dictionary set) }
     ensures noted { IsNoted faults.old faults.new (spec.is_number_kind (well.set_kind scope.now.dictionary set)) }
 {
     match set_kind(scope.dictionary, set) {
-        None => {
-            faults.note(partial_fault(scope.dictionary, set), token);
+        Some(ItemKind::Number) => true,
+        _ => {
+            faults.note();
             false
         }
-        Some(kind) => match kind {
-            ItemKind::Opaque => {
-                faults.note(41, token);
-                false
-            }
-            ItemKind::Number => true,
-            ItemKind::Text => {
-                faults.note(44, token);
-                false
-            }
-        },
     }
 }
 
@@ -127,25 +102,20 @@ fn set_meant(scope: &Scope<'_>, item: u16, set_name: Option<Lexeme<'_>>) -> Opti
 }
 
 /// The number of the whole set of a numeric item that is meant; else the fault at this token: 40 where no set is meant, 41, 42 or 44 by its item.
-pub fn number_set(
-    scope: &Scope<'_>,
-    faults: &mut Faults,
-    token: usize,
-    meaning: Option<Meaning>,
-) -> Option<u16>
+pub fn number_set(scope: &Scope<'_>, faults: &mut Faults, meaning: Option<Meaning>) -> Option<u16>
     ensures value { result ≡ spec.number_set scope.now meaning }
     ensures noted { IsNoted faults.old faults.new (is_there (spec.number_set scope.now meaning)) }
 {
     match meaning {
         Some(Meaning::Set(set)) => {
-            if is_number_set(scope, faults, token, set) {
+            if is_number_set(scope, faults, set) {
                 Some(set)
             } else {
                 None
             }
         }
         _ => {
-            faults.note(40, token);
+            faults.note();
             None
         }
     }
@@ -182,28 +152,19 @@ pub fn member<'a>(
 {
     match scope.meant(name) {
         Some(Meaning::Item(item)) => {
-            let token = match set_name {
-                None => name.token,
-                Some(set_name) => set_name.token,
-            };
-            let present = number_present(scope, faults, name.token, item);
-            let set = number_set(scope, faults, token, set_meant(scope, item, set_name));
+            let present = number_present(scope, faults, item);
+            let set = number_set(scope, faults, set_meant(scope, item, set_name));
             in_set(name, set_name, present, set)
         }
         _ => {
-            faults.note(40, name.token);
+            faults.note();
             None
         }
     }
 }
 
 /// The record that a name means, where there is a case; else the fault: 40 at the name, 49 at this token where there is none.
-pub fn record_of(
-    scope: &Scope<'_>,
-    faults: &mut Faults,
-    name: Lexeme<'_>,
-    token: usize,
-) -> Option<u8>
+pub fn record_of(scope: &Scope<'_>, faults: &mut Faults, name: Lexeme<'_>) -> Option<u8>
     ensures value { result ≡ spec.record_of scope.now (meant scope.now (written name.entry)) }
     ensures noted { IsNoted faults.old faults.new (is_there (spec.record_of scope.now (meant scope.now (written name.entry)))) }
 {
@@ -212,26 +173,20 @@ pub fn record_of(
             if has_case(scope.routine) {
                 Some(found)
             } else {
-                faults.note(49, token);
+                faults.note();
                 None
             }
         }
         _ => {
-            faults.note(40, name.token);
-            needs_case(scope, faults, token);
+            faults.note();
+            needs_case(scope, faults);
             None
         }
     }
 }
 
 /// `curocc` of a record; 49 at this token where no occurrence is meant.
-pub fn current<'a>(
-    scope: &Scope<'_>,
-    faults: &mut Faults,
-    name: Lexeme<'a>,
-    token: usize,
-    over: Option<u8>,
-) -> Option<Number<'a>>
+pub fn current<'a>(scope: &Scope<'_>, faults: &mut Faults, name: Lexeme<'a>, over: Option<u8>) -> Option<Number<'a>>
     ensures value { option_map number result ≡ spec.current scope.now (written name.entry) over }
     ensures noted { IsNotedAfter (is_there over) faults.old faults.new (is_there (spec.current scope.now (written name.entry) over)) }
 {
@@ -239,7 +194,7 @@ pub fn current<'a>(
         None => None,
         Some(over) => match scope.found(u16::from(over)) {
             None => {
-                faults.note(49, token);
+                faults.note();
                 None
             }
             Some(found) => Some(Number::CurOcc(name, over, found)),

@@ -1,4 +1,4 @@
-//! The fault that is told: the one with the least token, and then the least number.
+//! A fault of logic, and whether there is one.
 
 ghost use Rattle.std.specs.Prelude.{◌≤◌};
 
@@ -13,29 +13,20 @@ pub struct Fault {
     pub ghost most: { number ≤ 49 },
 }
 
-/// The least fault so far.
+/// Whether a fault was found so far.
 #[derive(Clone, Copy)]
 pub struct Faults {
-    /// The one with the least token, and of these the one with the least number.
-    pub worst: Option<Fault>,
+    /// Whether one was.
+    pub found: bool,
 }
 
 impl Faults {
     ghost use Rattle.std.specs.Prelude.{◌≡◌, true};
-    ghost use Rattle.cse_logic_names.specs.Walk.{is_there};
 
-    /// Takes a fault of this number, from 40 to 49, at this token, if it is less than the least so far.
-    pub fn note(&mut self, number: u8, token: usize)
-        requires least { 40 ≤ number }
-        requires most { number ≤ 49 }
-        ensures { is_there self.new.worst ≡ true }
+    /// Notes that there is a fault.
+    pub fn note(&mut self)
+        ensures { self.new.found ≡ true }
     {
-        let is_less = match self.worst {
-            None => true,
-            Some(worst) => token < worst.token || (token == worst.token && number < worst.number),
-        };
-        if is_less {
-            self.worst = Some(Fault { number, token });
-        }
+        self.found = true;
     }
 }

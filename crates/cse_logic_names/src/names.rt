@@ -19,8 +19,6 @@ use std::marker::Model;
 #[derive(Drop)]
 pub struct Names {
     table: IndexMap<Vec<u8>, Meaning>,
-    /// Where each stands, as a token.
-    tokens: Vec<usize>,
 }
 
 impl Model for Names {
@@ -36,26 +34,16 @@ impl Names {
     {
         Names {
             table: IndexMap::new(alloc),
-            tokens: Vec::new(alloc),
         }
     }
 
-    /// One name more, in upper case, and where it stands.
-    pub fn add(&mut self, kept: Vec<u8>, meaning: Meaning, token: usize) -> Result<(), AllocError>
+    /// One name more, in upper case.
+    pub fn add(&mut self, kept: Vec<u8>, meaning: Meaning) -> Result<(), AllocError>
         requires { is_there (lookup (bytes_eq kept.items) self.old) ≡ false }
         ensures { OnOk result (self.new ≡ self.old ++ (kept.items, meaning) ∷ []) }
     {
         self.table.insert(kept, meaning)?;
-        self.tokens.push(token)?;
         Ok(())
-    }
-
-    /// Where a name stands; 0 for one that isn't there.
-    pub fn token(&self, kept: &[u8]) -> usize {
-        match self.table.get_index_of(kept) {
-            None => 0,
-            Some(place) => self.tokens.get(place).copied().unwrap_or(0),
-        }
     }
 
     /// What a name in upper case means.

@@ -1,6 +1,6 @@
 //! Arrays: their sizes, and the cells at the start.
 
-ghost use Rattle.std.specs.Prelude.{◌≡◌, ◌+◌, ◌<◌, ◌≤◌, length, map, slice_get, Some, None, IfOk, OnOk, IfSome};
+ghost use Rattle.std.specs.Prelude.{◌≡◌, ◌+◌, ◌<◌, map, slice_get, Some, None, IfOk, OnOk};
 ghost use Rattle.std.specs.Option.{option_map};
 ghost use Rattle.cse_syntax_tree.specs.Tree as syntax;
 ghost use Rattle.cse_syntax_tree.specs.Tree.{written};
@@ -29,7 +29,7 @@ pub fn size_of(faults: &mut Faults, most: u16, digits: Lexeme<'_>) -> Option<u16
 {
     match written_size(most, digits.text) {
         None => {
-            faults.note(44, digits.token);
+            faults.note();
             None
         }
         Some(size) => Some(size),
@@ -57,19 +57,13 @@ fn fitting(most: u16, size: u64) -> Option<u16>
 }
 
 /// The rows of a set, with one more where `(+)` stands; else the fault 49 at its name.
-fn set_rows(
-    scope: &Scope<'_>,
-    faults: &mut Faults,
-    token: usize,
-    set: u16,
-    one_more: bool,
-) -> Option<u16>
+fn set_rows(scope: &Scope<'_>, faults: &mut Faults, set: u16, one_more: bool) -> Option<u16>
     ensures value { result ≡ spec.set_rows scope.now set one_more }
     ensures noted { IsNoted faults.old faults.new (is_there (spec.set_rows scope.now set one_more)) }
 {
     match rows_with(scope.dictionary, set, one_more) {
         None => {
-            faults.note(49, token);
+            faults.note();
             None
         }
         Some(rows) => Some(rows),
@@ -115,7 +109,7 @@ fn set_dimension<'a>(
 {
     match set {
         None => None,
-        Some(set) => match set_rows(scope, faults, name.token, set, one_more) {
+        Some(set) => match set_rows(scope, faults, set, one_more) {
             None => None,
             Some(size) => Some(Dimension::Set(name, set, one_more, size)),
         },
@@ -137,7 +131,7 @@ fn dimension<'a>(
             Some(size) => Some(Dimension::Number(digits, size)),
         },
         ParsedDimension::Set(name, one_more) => {
-            let set = number_set(scope, faults, name.token, scope.meant(name));
+            let set = number_set(scope, faults, scope.meant(name));
             set_dimension(scope, faults, name, one_more, set)
         }
     }

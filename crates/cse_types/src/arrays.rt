@@ -21,7 +21,7 @@ fn dimensions_alone<'a>(
 ) -> Result<Option<Vec<Dimension<'a>>>, AllocError>
     ensures { IfOk result (λ r. option_map (λ v. map typed.dimension v.items) r ≡ spec.dimensions_judged scope.now (map syntax.dimension x.now.dimensions.items)) }
 {
-    let mut told_elsewhere = Faults { worst: None };
+    let mut told_elsewhere = Faults { found: false };
     dimensions(alloc, scope, &mut told_elsewhere, &x.dimensions)
 }
 

@@ -1,6 +1,6 @@
 //! Sources that are checked: each name stands beside what it names, and each rule of 40 to 49 is kept.
 
-ghost use Rattle.std.specs.Prelude.{◌≡◌, ◌≤◌, ◌⊎◌, not, false, true, IfOk, IfErr};
+ghost use Rattle.std.specs.Prelude.{◌≡◌, ◌≤◌, ◌⊎◌, not, false, IfOk, IfErr};
 ghost use Rattle.std.specs.Option.{option_map};
 ghost use Rattle.cse_syntax_tree.specs.Tree as syntax;
 ghost use Rattle.cse_syntax_tree.specs.Grammar.{spell_tree};
@@ -102,26 +102,26 @@ fn answer<'a>(
     source: &Source<'a>,
     messages: &'a Messages,
     order: &'a Order,
-    worst: Option<Fault>,
+    is_faulty: bool,
     found: Option<Tree<'a>>,
 ) -> Result<Typed<'a>, TypeError>
     requires order { IsOrderOf dictionary.now order.now }
-    requires noted { is_there worst ≡ not (is_there (typed_of dictionary.now messages.now (syntax.tree source.now.tree))) }
+    requires noted { is_faulty ≡ not (is_there (typed_of dictionary.now messages.now (syntax.tree source.now.tree))) }
     requires utf8 { ∥ AreUtf8 (spell_tree (syntax.tree source.now.tree)) ∥₁ }
     requires texts { AreTexts messages.now }
-    requires found { is_there worst ≡ false → option_map typed.tree found ≡ typed_of dictionary.now messages.now (syntax.tree source.now.tree) }
+    requires found { is_faulty ≡ false → option_map typed.tree found ≡ typed_of dictionary.now messages.now (syntax.tree source.now.tree) }
     ensures sound { IfOk result (λ t. IsTypedAs dictionary.now messages.now (syntax.tree source.now.tree) (checked t).tree) }
     ensures made_for { IfOk result (λ t. ((checked t).dictionary ≡ dictionary.now) × ((checked t).messages ≡ messages.now) × ((checked t).order ≡ order.now)) }
     ensures only { (t : typed.Tree) → IsTypedAs dictionary.now messages.now (syntax.tree source.now.tree) t → IsAnswer result t }
     ensures cause { IfErr result (λ e. ((40 ≤ e.number) × (e.number ≤ 49)) ⊎ (e ≡ out_of_memory)) }
     ensures fault { IfErr result (IsLeast dictionary.now messages.now (syntax.tree source.now.tree) source.now.text.now source.now.tokens.items) }
 {
-    match worst {
-        Some(_) => Err(told(alloc, dictionary, source, messages)),
-        None => match found {
-            Some(tree) => Ok(made_for(dictionary, messages, order, tree)),
-            None => unreachable!(),
-        },
+    if is_faulty {
+        return Err(told(alloc, dictionary, source, messages));
+    }
+    match found {
+        Some(tree) => Ok(made_for(dictionary, messages, order, tree)),
+        None => unreachable!(),
     }
 }
 
@@ -148,7 +148,7 @@ pub fn check<'a>(
 {
     read_tokens(&source.tokens);
     messages.count();
-    let mut noted = Faults { worst: None };
+    let mut noted = Faults { found: false };
     match judged(alloc, dictionary, messages, &mut noted, &source.tree) {
         Err(_) => Err(memory()),
         Ok(found) => answer(
@@ -157,7 +157,7 @@ pub fn check<'a>(
             source,
             messages,
             order,
-            noted.worst,
+            noted.found,
             found,
         ),
     }

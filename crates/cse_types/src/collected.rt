@@ -1,6 +1,6 @@
 //! All faults of names and kinds of a source.
 
-ghost use Rattle.std.specs.Prelude.{◌≡◌, ◌++◌, [], map, drop, length, IfOk, OnOk};
+ghost use Rattle.std.specs.Prelude.{◌≡◌, ◌++◌, [], map, IfOk, OnOk};
 ghost use Rattle.cse_syntax_tree.specs.Tree as syntax;
 ghost use Rattle.cse_logic_names.specs.WellTyped as well;
 ghost use Rattle.cse_logic_faults.specs.Listed.{listed};
@@ -104,7 +104,7 @@ fn known<'a>(
 ) -> Result<Scope<'a>, AllocError>
     ensures { IfOk result (λ s. s ≡ spec.first_known dictionary.now messages.now (well.all_declarations (syntax.tree tree.now).globals)) }
 {
-    let mut told_elsewhere = Faults { worst: None };
+    let mut told_elsewhere = Faults { found: false };
     let table = declared_names(alloc, dictionary, &mut told_elsewhere, tree)?;
     start(alloc, dictionary, messages, table.names, tree)
 }

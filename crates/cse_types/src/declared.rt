@@ -1,12 +1,11 @@
 //! The faults of declarations, one after the other.
 
-ghost use Rattle.std.specs.Prelude.{◌≡◌, ◌++◌, map, drop, length, slice_get, OnOk};
+ghost use Rattle.std.specs.Prelude.{◌≡◌, ◌++◌, map, length, slice_get, OnOk};
 ghost use Rattle.cse_syntax_tree.specs.Tree as syntax;
 ghost use Rattle.cse_syntax_tree.specs.Tree.{written};
 ghost use Rattle.cse_logic_names.specs.Scope.{meant};
 ghost use Rattle.cse_logic_names.specs.Walk.{is_there};
 ghost use Rattle.cse_logic_names.specs.WellTyped as well;
-ghost use Rattle.cse_logic_names.specs.WellTyped.{declared_messages};
 ghost use Rattle.cse_logic_faults.specs.FaultsOfStatements.{digits_faults, stmts_faults};
 ghost use Rattle.cse_types.specs.Fresh.{body_scope};
 ghost use Rattle.cse_types.specs.JudgeTree as judge;
@@ -161,7 +160,7 @@ fn function_body(
     ensures found { OnOk result (found.new ≡ found.old ++ stmts_faults counts.now (spec.parameters_scope scope.old (map syntax.parameter all.now.items)) (syntax.block body.now.items)) }
     ensures same { OnOk result (scope.new ≡ scope.old) }
 {
-    let mut told_elsewhere = Faults { worst: None };
+    let mut told_elsewhere = Faults { found: false };
     let fresh = parameters(alloc, scope, &mut told_elsewhere, all)?;
     body_in(scope, counts, found, fresh.names, body)
 }
@@ -199,7 +198,7 @@ fn behind<'a>(
     ensures behind { OnOk result (scope.new ≡ judge.behind scope.old (length told.old.items) (syntax.declaration x.now)) }
     ensures told { OnOk result (map told_of told.new.items ≡ map told_of told.old.items ++ judge.messages_with (syntax.declaration x.now)) }
 {
-    let mut told_elsewhere = Faults { worst: None };
+    let mut told_elsewhere = Faults { found: false };
     let _judged = declaration(alloc, scope, &mut told_elsewhere, told, x)?;
     Ok(())
 }

@@ -1,7 +1,6 @@
 //! Names that are new, each once.
 
-ghost use Rattle.std.specs.Prelude.{◌≡◌, ◌++◌, ◌&&◌, ◌||◌, not, [], map, OnOk};
-ghost use Rattle.std.specs.List.{list_any};
+ghost use Rattle.std.specs.Prelude.{◌≡◌, ◌&&◌, ◌||◌, [], OnOk};
 ghost use Rattle.std.specs.Map.{lookup};
 ghost use Rattle.std.specs.Str.{bytes_eq};
 ghost use Rattle.cse_logic_names.specs.Scope as scopes;
@@ -35,18 +34,12 @@ impl Fresh {
     }
 
     /// One name more, if it passes and isn't there; else the fault 40 at its token.
-    pub fn add(
-        &mut self,
-        faults: &mut Faults,
-        name: Vec<u8>,
-        passes: bool,
-        token: usize,
-    ) -> Result<(), AllocError>
+    pub fn add(&mut self, faults: &mut Faults, name: Vec<u8>, passes: bool) -> Result<(), AllocError>
         ensures value { OnOk result (self.new ≡ with_fresh (λ x. passes) self.old name.items) }
         ensures noted { OnOk result (IsNoted faults.old faults.new (is_fresh (λ x. passes) self.old.names name.items)) }
     {
         if !passes || self.names.has(&name) {
-            faults.note(40, token);
+            faults.note();
             self.is_sound = false;
             return Ok(());
         }

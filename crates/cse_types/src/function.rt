@@ -1,6 +1,6 @@
 //! Functions: their parameters, their statements, and what is known of them behind their end.
 
-ghost use Rattle.std.specs.Prelude.{◌≡◌, ◌++◌, ◌∷◌, ◌&&◌, ◌||◌, not, [], true, map, length, IfOk, OnOk};
+ghost use Rattle.std.specs.Prelude.{◌≡◌, ◌++◌, ◌∷◌, [], map, length, IfOk, OnOk};
 ghost use Rattle.std.specs.Option.{option_map};
 ghost use Rattle.cse_dict.specs.Keys.{kept_name};
 ghost use Rattle.cse_syntax_tree.specs.Tree as syntax;
@@ -26,12 +26,6 @@ use cse_logic_tree::{Function, Statement};
 use cse_syntax::{Lexeme, Parameter, Statement as Parsed};
 use std::alloc::{AllocError, Global};
 
-/// Where a parameter is at fault: at its own name, or at that of what bears the name, if that comes later.
-fn later_token(scope: &Scope<'_>, kept: &[u8], token: usize) -> usize {
-    let other = scope.declared.token(kept);
-    if other > token { other } else { token }
-}
-
 /// One parameter more.
 fn parameter(
     alloc: Global,
@@ -45,8 +39,7 @@ fn parameter(
 {
     let name = kept(alloc, x.name.text)?;
     let passes = is_new(scope.dictionary, &scope.declared, x.name.text, &name);
-    let token = later_token(scope, &name, x.name.token);
-    fresh.add(faults, name, passes, token)
+    fresh.add(faults, name, passes)
 }
 
 /// The names of parameters: each is new.

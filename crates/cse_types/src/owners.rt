@@ -1,11 +1,11 @@
 //! The names of procedures: each has one.
 
-ghost use Rattle.std.specs.Prelude.{◌≡◌, ◌||◌, not, true, map, IfOk, OnOk};
+ghost use Rattle.std.specs.Prelude.{◌≡◌, true, map, IfOk, OnOk};
 ghost use Rattle.cse_dict.specs.Keys.{kept_name};
 ghost use Rattle.cse_syntax_tree.specs.Tree as syntax;
 ghost use Rattle.cse_types.specs.JudgeTree as spec;
 ghost use Rattle.cse_types.specs.Fresh.{fresh_names, is_fresh, with_fresh};
-ghost use Rattle.cse_logic_names.specs.Walk.{is_there, IsNoted};
+ghost use Rattle.cse_logic_names.specs.Walk.{IsNoted};
 
 use crate::fresh::Fresh;
 use cse_logic_names::faults::Faults;
@@ -24,7 +24,7 @@ fn owner(
     ensures noted { OnOk result (IsNoted faults.old faults.new (is_fresh (λ name. true) fresh.old.names (kept_name x.now.name.text.now))) }
 {
     let name = kept(alloc, x.name.text)?;
-    fresh.add(faults, name, true, x.name.token)
+    fresh.add(faults, name, true)
 }
 
 /// The names of procedures, each of which stands once.

@@ -1,6 +1,6 @@
 //! A source's tree, from names to the typed one.
 
-ghost use Rattle.std.specs.Prelude.{◌≡◌, ◌&&◌, ◌||◌, not, false, true, [], map, length, Some, None, IfOk, OnOk};
+ghost use Rattle.std.specs.Prelude.{◌≡◌, not, false, true, [], map, Some, None, IfOk, OnOk};
 ghost use Rattle.std.specs.Option.{option_map};
 ghost use Rattle.cse_syntax_tree.specs.Tree as syntax;
 ghost use Rattle.cse_logic_tree.specs.Typed as typed;
@@ -46,9 +46,9 @@ pub fn declared_names(
     faults: &mut Faults,
     tree: &Parsed<'_>,
 ) -> Result<Table, AllocError>
-    requires { is_there faults.old.worst ≡ false }
+    requires { faults.old.found ≡ false }
     ensures value { IfOk result (λ t. t ≡ tables.table_of dictionary.now (all_declarations (syntax.tree tree.now).globals)) }
-    ensures noted { OnOk result (is_there faults.new.worst ≡ not (tables.table_of dictionary.now (all_declarations (syntax.tree tree.now).globals)).is_sound) }
+    ensures noted { OnOk result (faults.new.found ≡ not (tables.table_of dictionary.now (all_declarations (syntax.tree tree.now).globals)).is_sound) }
 {
     match &tree.globals {
         None => Ok(Table::new(alloc)),
@@ -224,9 +224,9 @@ pub fn judged<'a>(
     tree: &Parsed<'a>,
 ) -> Result<Option<Tree<'a>>, AllocError>
     requires said { are_said (tree_messages (syntax.tree tree.now)) ≡ true }
-    requires first { is_there faults.old.worst ≡ false }
-    ensures value { IfOk result (λ r. is_there faults.new.worst ≡ false → option_map typed.tree r ≡ judge.typed_of dictionary.now messages.now (syntax.tree tree.now)) }
-    ensures noted { OnOk result (is_there faults.new.worst ≡ not (is_there (judge.typed_of dictionary.now messages.now (syntax.tree tree.now)))) }
+    requires first { faults.old.found ≡ false }
+    ensures value { IfOk result (λ r. faults.new.found ≡ false → option_map typed.tree r ≡ judge.typed_of dictionary.now messages.now (syntax.tree tree.now)) }
+    ensures noted { OnOk result (faults.new.found ≡ not (is_there (judge.typed_of dictionary.now messages.now (syntax.tree tree.now)))) }
 {
     let table = declared_names(alloc, dictionary, faults, tree)?;
     let all = procedures_in(tree);

@@ -1,6 +1,6 @@
 //! Procedures, one after the other.
 
-ghost use Rattle.std.specs.Prelude.{◌≡◌, ◌≤◌, ◌++◌, ◌==◌, if◌then◌else◌, map, length, Some, None, IfOk, OnOk};
+ghost use Rattle.std.specs.Prelude.{◌≡◌, ◌++◌, ◌==◌, map, length, Some, None, IfOk, OnOk};
 ghost use Rattle.std.specs.Option.{option_map};
 ghost use Rattle.cse_syntax_tree.specs.Tree as syntax;
 ghost use Rattle.cse_syntax_tree.specs.Tree.{written};
@@ -63,20 +63,6 @@ pub fn owner_meant(dictionary: &Dictionary, meaning: Option<Meaning>) -> Option<
     }
 }
 
-/// The fault of a name that no procedure can have: 41 of an opaque item, 49 of an id item, else 40.
-fn owner_fault(dictionary: &Dictionary, meaning: Option<Meaning>) -> u8
-    ensures least { 40 ≤ result }
-    ensures most { result ≤ 49 }
-{
-    match meaning {
-        Some(Meaning::Item(item)) => match kind_and_owner(dictionary, item) {
-            Some((ItemKind::Opaque, _)) => 41,
-            _ => 49,
-        },
-        _ => 40,
-    }
-}
-
 /// What a name means in the dictionary.
 #[tactic(auto, using(crate::proofs::FreshLaws::kept_there))]
 pub fn meant_by(
@@ -103,7 +89,7 @@ fn owner_named(
     let meaning = meant_by(alloc, dictionary, name)?;
     match owner_meant(dictionary, meaning) {
         None => {
-            faults.note(owner_fault(dictionary, meaning), name.token);
+            faults.note();
             Ok(None)
         }
         Some(owner) => Ok(Some(owner)),

@@ -1,12 +1,11 @@
 //! The names of the declarations.
 
-ghost use Rattle.std.specs.Prelude.{◌≡◌, ◌+◌, ◌&&◌, ◌||◌, not, map, Some, None, OnOk, IfOk, true};
+ghost use Rattle.std.specs.Prelude.{◌≡◌, ◌+◌, not, map, Some, None, OnOk, IfOk, true};
 ghost use Rattle.cse_dict.specs.Keys.{kept_name};
 ghost use Rattle.cse_syntax_tree.specs.Tree as syntax;
 ghost use Rattle.cse_syntax_tree.specs.Tree.{written};
 ghost use Rattle.cse_types.specs.Fresh.{all_after};
 ghost use Rattle.cse_types.specs.Table as spec;
-ghost use Rattle.cse_logic_names.specs.Walk.{is_there};
 
 use crate::fresh::is_new;
 use cse_dict::Dictionary;
@@ -62,13 +61,13 @@ fn declare(
     meaning: Meaning,
 ) -> Result<(), AllocError>
     ensures value { OnOk result (table.new ≡ spec.with_name dictionary.now table.old (kept_name name.entry.text.now) meaning) }
-    ensures noted { OnOk result (is_there faults.old.worst ≡ not table.old.is_sound → is_there faults.new.worst ≡ not table.new.is_sound) }
+    ensures noted { OnOk result (faults.old.found ≡ not table.old.is_sound → faults.new.found ≡ not table.new.is_sound) }
 {
     let kept = kept(alloc, name.text)?;
     if is_new(dictionary, &table.names, name.text, &kept) {
-        table.names.add(kept, meaning, name.token)
+        table.names.add(kept, meaning)
     } else {
-        faults.note(40, name.token);
+        faults.note();
         table.is_sound = false;
         Ok(())
     }
@@ -94,7 +93,7 @@ fn global(
     name: &Lexeme<'_>,
 ) -> Result<(), AllocError>
     ensures value { OnOk result (table.new ≡ spec.with_global dictionary.now is_text table.old (written name.now)) }
-    ensures noted { OnOk result (is_there faults.old.worst ≡ not table.old.is_sound → is_there faults.new.worst ≡ not table.new.is_sound) }
+    ensures noted { OnOk result (faults.old.found ≡ not table.old.is_sound → faults.new.found ≡ not table.new.is_sound) }
 {
     let meaning = global_meaning(is_text, table.globals);
     table.globals = next(table.globals)?;
@@ -111,7 +110,7 @@ fn globals(
     names: &Vec<Lexeme<'_>>,
 ) -> Result<(), AllocError>
     ensures value { OnOk result (table.new ≡ all_after (spec.with_global dictionary.now is_text) table.old (map written names.now.items)) }
-    ensures noted { OnOk result (is_there faults.old.worst ≡ not table.old.is_sound → is_there faults.new.worst ≡ not table.new.is_sound) }
+    ensures noted { OnOk result (faults.old.found ≡ not table.old.is_sound → faults.new.found ≡ not table.new.is_sound) }
 {
     'all: for x in names {
         global(alloc, dictionary, table, faults, is_text, x)?;
@@ -128,7 +127,7 @@ fn declaration(
     x: &Declaration<'_>,
 ) -> Result<(), AllocError>
     ensures value { OnOk result (table.new ≡ spec.with_declaration dictionary.now table.old (syntax.declaration x.now)) }
-    ensures noted { OnOk result (is_there faults.old.worst ≡ not table.old.is_sound → is_there faults.new.worst ≡ not table.new.is_sound) }
+    ensures noted { OnOk result (faults.old.found ≡ not table.old.is_sound → faults.new.found ≡ not table.new.is_sound) }
 {
     match x {
         Declaration::Numeric(names) => { globals(alloc, dictionary, table, faults, false, names) }
@@ -154,7 +153,7 @@ pub fn table_of(
     all: &Vec<Declaration<'_>>,
 ) -> Result<Table, AllocError>
     ensures value { IfOk result (λ t. t ≡ spec.table_of dictionary.now (map syntax.declaration all.now.items)) }
-    ensures noted { OnOk result (is_there faults.old.worst ≡ not true → is_there faults.new.worst ≡ not (spec.table_of dictionary.now (map syntax.declaration all.now.items)).is_sound) }
+    ensures noted { OnOk result (faults.old.found ≡ not true → faults.new.found ≡ not (spec.table_of dictionary.now (map syntax.declaration all.now.items)).is_sound) }
 {
     let mut table = Table::new(alloc);
     'all: for x in all {

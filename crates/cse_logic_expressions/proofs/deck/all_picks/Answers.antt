@@ -19,7 +19,7 @@ returns-then-is_sound-clause-noted c =
     let s = c.args.scope.now in
     let le : length c.args.directions.now.items ≤ c.all.x-index = subst (λ (xs : List Dimension). length xs ≤ c.all.x-index) c.deref-x-items.ensures.value c.all-test.false in
     let e = at_end (λ x rest. dimension_pick s (dimension x)) c.args.directions.now.items c.all.x-index c.all.is_sound c.all.found.items _ le c.all.invariant.value in
-    c.all.invariant.noted ∙ ap (λ b. is_there c.args.faults.now.worst || not b) (sym (ap is_there (walk_made (λ d. dimension_pick s d) dimension c.args.directions.now.items) ∙ e.2))
+    c.all.invariant.noted ∙ ap (λ b. c.args.faults.now.found || not b) (sym (ap is_there (walk_made (λ d. dimension_pick s d) dimension c.args.directions.now.items) ∙ e.2))
 
 pub returns-else-is_sound-clause-value : goal.returns-else-is_sound-clause-value
 returns-else-is_sound-clause-value c =
@@ -33,4 +33,4 @@ returns-else-is_sound-clause-noted c =
     let s = c.args.scope.now in
     let le : length c.args.directions.now.items ≤ c.all.x-index = subst (λ (xs : List Dimension). length xs ≤ c.all.x-index) c.deref-x-items.ensures.value c.all-test.false in
     let e = at_end (λ x rest. dimension_pick s (dimension x)) c.args.directions.now.items c.all.x-index c.all.is_sound c.all.found.items _ le c.all.invariant.value in
-    c.all.invariant.noted ∙ ap (λ b. is_there c.args.faults.now.worst || not b) (sym (ap is_there (walk_made (λ d. dimension_pick s d) dimension c.args.directions.now.items) ∙ e.2))
+    c.all.invariant.noted ∙ ap (λ b. c.args.faults.now.found || not b) (sym (ap is_there (walk_made (λ d. dimension_pick s d) dimension c.args.directions.now.items) ∙ e.2))

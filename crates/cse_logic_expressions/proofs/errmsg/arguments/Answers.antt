@@ -1,4 +1,4 @@
-use Rattle.std.proofs.Common.{◌≡◌, ap, ◌∙◌, sym, subst, map, drop, ◌+◌, ◌<◌, ◌≤◌, length, get_or, List}
+use Rattle.std.proofs.Common.{◌≡◌, ap, ◌∙◌, sym, subst, map, ◌<◌, ◌≤◌, length, get_or, List}
 use Rattle.std.specs.Prelude.{◌||◌, not}
 use Rattle.cse_syntax_tree.specs.declared.tree.Expression.{Expression}
 use Rattle.cse_logic_tree.specs.Typed.{argument}
@@ -19,7 +19,7 @@ returns-then-is_sound-clause-noted c =
     let items = c.args.values.now.items in
     let le : length items ≤ c.all.x-index = subst (λ (xs : List Expression). length xs ≤ c.all.x-index) c.deref-x-items.ensures.value c.all-test.false in
     let e = arguments_end c.args.scope.now items c.all.x-index c.all.is_sound (map argument c.all.found.items) _ _ le c.all.invariant.value in
-    c.all.invariant.noted ∙ ap (λ b. is_there c.args.faults.now.worst || not b) (sym e.2)
+    c.all.invariant.noted ∙ ap (λ b. c.args.faults.now.found || not b) (sym e.2)
 
 pub returns-clause-value : goal.returns-clause-value
 returns-clause-value c =
@@ -33,7 +33,7 @@ returns-clause-noted c =
     let items = c.args.values.now.items in
     let le : length items ≤ c.all.x-index = subst (λ (xs : List Expression). length xs ≤ c.all.x-index) c.deref-x-items.ensures.value c.all-test.false in
     let e = arguments_end c.args.scope.now items c.all.x-index c.all.is_sound (map argument c.all.found.items) _ _ le c.all.invariant.value in
-    c.all.invariant.noted ∙ ap (λ b. is_there c.args.faults.now.worst || not b) (sym e.2)
+    c.all.invariant.noted ∙ ap (λ b. c.args.faults.now.found || not b) (sym e.2)
 
 pub all-preserved : goal.all-preserved
 all-preserved c =

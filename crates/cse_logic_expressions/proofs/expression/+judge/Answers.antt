@@ -1,5 +1,5 @@
-use Rattle.std.proofs.Common.{◌≡◌, ap, ◌∙◌, sym, subst, map, drop, ◌+◌, ◌<◌, ◌≤◌, length, get_or, List, arith}
-use Rattle.std.specs.Prelude.{◌||◌, not, false, Option, IfOk, option_map, ◌==◌}
+use Rattle.std.proofs.Common.{◌≡◌, ap, ◌∙◌, sym, subst, map, ◌+◌, ◌<◌, ◌≤◌, length, get_or, List}
+use Rattle.std.specs.Prelude.{◌||◌, not, false, Option, IfOk, option_map}
 use Rattle.std.proofs.lemmas.Result.{on_ok_weaker}
 use Rattle.cse_syntax_tree.specs.declared.tree.Expression.{Expression}
 use Rattle.cse_syntax_tree.specs.declared.tree.Operation.{Operation}
@@ -8,7 +8,7 @@ use Rattle.cse_syntax_tree.specs.Tree.{expr}
 use Rattle.cse_logic_tree.specs.Typed as typed
 use Rattle.cse_logic_tree.specs.Typed.{Number, number}
 use Rattle.cse_logic_expressions.specs.Judge.{AsNumber, judged, compared, judge, as_number, judge_operation, judge_operations}
-use Rattle.cse_logic_names.specs.Walk.{is_there, walk, so_far, joined}
+use Rattle.cse_logic_names.specs.Walk.{is_there, joined}
 use Rattle.cse_logic_names.proofs.Walks.{step_made, step_noted_made, at_end, there_map, is_none, none_left, after_made_part, step_left}
 use Rattle.cse_logic_expressions.proofs.Expressions.{indexed_judged, chain_judged, compare_judged, after_made_parts, values_walked, operations_walked, number_noted}
 use Rattle.cse_logic_expressions.proofs.expression.+judge.Goals as goal
@@ -69,7 +69,7 @@ all_values-returns-then-is_sound-clause-noted t c =
     let items = c.args.inner.now.items in
     let le : length items ≤ c.all.x-index = subst (λ (xs : List Expression). length xs ≤ c.all.x-index) c.deref-x-items.ensures.value c.all-test.false in
     let e = at_end (λ x rest. as_number (judge s false (expr x))) items c.all.x-index c.all.is_sound (map number c.all.found.items) _ le c.all.invariant.value in
-    c.all.invariant.noted ∙ ap (λ b. is_there c.args.faults.now.worst || not b) (sym (ap is_there (values_walked s items) ∙ there_map typed.numbers _ ∙ e.2))
+    c.all.invariant.noted ∙ ap (λ b. c.args.faults.now.found || not b) (sym (ap is_there (values_walked s items) ∙ there_map typed.numbers _ ∙ e.2))
 
 pub all_values-returns-clause-value : goal.all_values-returns-clause-value
 all_values-returns-clause-value t c =
@@ -85,7 +85,7 @@ all_values-returns-clause-noted t c =
     let items = c.args.inner.now.items in
     let le : length items ≤ c.all.x-index = subst (λ (xs : List Expression). length xs ≤ c.all.x-index) c.deref-x-items.ensures.value c.all-test.false in
     let e = at_end (λ x rest. as_number (judge s false (expr x))) items c.all.x-index c.all.is_sound (map number c.all.found.items) _ le c.all.invariant.value in
-    c.all.invariant.noted ∙ ap (λ b. is_there c.args.faults.now.worst || not b) (sym (ap is_there (values_walked s items) ∙ there_map typed.numbers _ ∙ e.2))
+    c.all.invariant.noted ∙ ap (λ b. c.args.faults.now.found || not b) (sym (ap is_there (values_walked s items) ∙ there_map typed.numbers _ ∙ e.2))
 
 pub all_values-all-preserved : goal.all_values-all-preserved
 all_values-all-preserved t c =
@@ -114,7 +114,7 @@ all_operations-returns-then-is_sound-clause-noted t c =
     let items = c.args.others.now.items in
     let le : length items ≤ c.all.x-index = subst (λ (xs : List Operation). length xs ≤ c.all.x-index) c.deref-x-items.ensures.value c.all-test.false in
     let e = at_end (λ x rest. judge_operation s c.args.top (syntax.operation_tree x) (is_none rest)) items c.all.x-index c.all.is_sound (map typed.operation_tree c.all.found.items) _ le c.all.invariant.value in
-    c.all.invariant.noted ∙ ap (λ b. is_there c.args.faults.now.worst || not b) (sym (ap is_there (operations_walked s c.args.top items) ∙ there_map typed.operations _ ∙ e.2))
+    c.all.invariant.noted ∙ ap (λ b. c.args.faults.now.found || not b) (sym (ap is_there (operations_walked s c.args.top items) ∙ there_map typed.operations _ ∙ e.2))
 
 pub all_operations-returns-clause-value : goal.all_operations-returns-clause-value
 all_operations-returns-clause-value t c =
@@ -130,7 +130,7 @@ all_operations-returns-clause-noted t c =
     let items = c.args.others.now.items in
     let le : length items ≤ c.all.x-index = subst (λ (xs : List Operation). length xs ≤ c.all.x-index) c.deref-x-items.ensures.value c.all-test.false in
     let e = at_end (λ x rest. judge_operation s c.args.top (syntax.operation_tree x) (is_none rest)) items c.all.x-index c.all.is_sound (map typed.operation_tree c.all.found.items) _ le c.all.invariant.value in
-    c.all.invariant.noted ∙ ap (λ b. is_there c.args.faults.now.worst || not b) (sym (ap is_there (operations_walked s c.args.top items) ∙ there_map typed.operations _ ∙ e.2))
+    c.all.invariant.noted ∙ ap (λ b. c.args.faults.now.found || not b) (sym (ap is_there (operations_walked s c.args.top items) ∙ there_map typed.operations _ ∙ e.2))
 
 pub all_operations-all-preserved : goal.all_operations-all-preserved
 all_operations-all-preserved t c =

@@ -11,5 +11,5 @@ returns-then-len-ne1-clause-value c = sym (sole_else number c.args.subscripts.it
 
 pub returns-then-len-ne1-clause-noted : goal.returns-then-len-ne1-clause-noted
 returns-then-len-ne1-clause-noted c =
-    c.note.ensures ∙ sym (or_true (is_there c.args.faults.now.worst))
-    ∙ ap (λ o. is_there c.args.faults.now.worst || not (is_there o)) (sym (sole_else number c.args.subscripts.items (λ e. omega (arith, e, c.len.ensures, c.if-len-ne1.true))))
+    c.note.ensures ∙ sym (or_true (c.args.faults.now.found))
+    ∙ ap (λ o. c.args.faults.now.found || not (is_there o)) (sym (sole_else number c.args.subscripts.items (λ e. omega (arith, e, c.len.ensures, c.if-len-ne1.true))))

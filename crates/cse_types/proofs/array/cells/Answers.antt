@@ -1,4 +1,4 @@
-use Rattle.std.proofs.Common.{◌≡◌, ap, ◌∙◌, sym, subst, ◌<◌, ◌≤◌, ◌+◌, length, get_or, map, List}
+use Rattle.std.proofs.Common.{ap, ◌∙◌, sym, subst, ◌≤◌, length, map, List}
 use Rattle.std.specs.Prelude.{◌||◌, not}
 use Rattle.cse_syntax_tree.specs.declared.tree.Literal.{Literal}
 use Rattle.cse_logic_expressions.specs.JudgeStatement.{whole_judged}
@@ -6,7 +6,7 @@ use Rattle.cse_syntax_tree.specs.Tree as syntax
 use Rattle.cse_logic_tree.specs.Typed as typed
 use Rattle.cse_types.specs.JudgeTree as spec
 use Rattle.cse_logic_names.specs.Walk.{is_there}
-use Rattle.cse_logic_names.proofs.Walks.{at_end, walk_made, step_made, step_noted_made}
+use Rattle.cse_logic_names.proofs.Walks.{at_end, walk_made}
 use Rattle.cse_types.proofs.array.cells.Goals as goal
 
 pub returns-then-is_sound-clause-value : goal.returns-then-is_sound-clause-value
@@ -21,7 +21,7 @@ returns-then-is_sound-clause-noted c =
     let items = c.args.all.now.items in
     let le : length items ≤ c.all.x-index = subst (λ (xs : List Literal). length xs ≤ c.all.x-index) c.deref-x-items.ensures.value c.all-test.false in
     let e = at_end (λ (x : Literal) (rest : List Literal). whole_judged (syntax.literal x)) items c.all.x-index c.all.is_sound (map typed.whole c.all.found.items) _ le c.all.invariant.value in
-    c.all.invariant.noted ∙ ap (λ b. is_there c.args.faults.now.worst || not b) (sym (ap is_there (walk_made (λ c. whole_judged c) syntax.literal items) ∙ e.2))
+    c.all.invariant.noted ∙ ap (λ b. c.args.faults.now.found || not b) (sym (ap is_there (walk_made (λ c. whole_judged c) syntax.literal items) ∙ e.2))
 
 pub returns-clause-value : goal.returns-clause-value
 returns-clause-value c =
@@ -35,4 +35,4 @@ returns-clause-noted c =
     let items = c.args.all.now.items in
     let le : length items ≤ c.all.x-index = subst (λ (xs : List Literal). length xs ≤ c.all.x-index) c.deref-x-items.ensures.value c.all-test.false in
     let e = at_end (λ (x : Literal) (rest : List Literal). whole_judged (syntax.literal x)) items c.all.x-index c.all.is_sound (map typed.whole c.all.found.items) _ le c.all.invariant.value in
-    c.all.invariant.noted ∙ ap (λ b. is_there c.args.faults.now.worst || not b) (sym (ap is_there (walk_made (λ c. whole_judged c) syntax.literal items) ∙ e.2))
+    c.all.invariant.noted ∙ ap (λ b. c.args.faults.now.found || not b) (sym (ap is_there (walk_made (λ c. whole_judged c) syntax.literal items) ∙ e.2))

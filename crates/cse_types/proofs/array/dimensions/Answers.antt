@@ -1,11 +1,11 @@
-use Rattle.std.proofs.Common.{◌≡◌, ap, ◌∙◌, sym, subst, ◌<◌, ◌≤◌, ◌+◌, length, get_or, map, List}
+use Rattle.std.proofs.Common.{ap, ◌∙◌, sym, subst, ◌≤◌, length, map, List}
 use Rattle.std.specs.Prelude.{◌||◌, not}
 use Rattle.cse_syntax_tree.specs.declared.tree.Dimension.{Dimension}
 use Rattle.cse_syntax_tree.specs.Tree as syntax
 use Rattle.cse_logic_tree.specs.Typed as typed
 use Rattle.cse_types.specs.JudgeTree as spec
 use Rattle.cse_logic_names.specs.Walk.{is_there}
-use Rattle.cse_logic_names.proofs.Walks.{at_end, walk_made, step_made, step_noted_made}
+use Rattle.cse_logic_names.proofs.Walks.{at_end, walk_made}
 use Rattle.cse_types.proofs.array.dimensions.Goals as goal
 
 pub returns-then-is_sound-clause-value : goal.returns-then-is_sound-clause-value
@@ -22,7 +22,7 @@ returns-then-is_sound-clause-noted c =
     let items = c.args.all.now.items in
     let le : length items ≤ c.all.x-index = subst (λ (xs : List Dimension). length xs ≤ c.all.x-index) c.deref-x-items.ensures.value c.all-test.false in
     let e = at_end (λ (x : Dimension) (rest : List Dimension). spec.dimension_judged s (syntax.dimension x)) items c.all.x-index c.all.is_sound (map typed.dimension c.all.found.items) _ le c.all.invariant.value in
-    c.all.invariant.noted ∙ ap (λ b. is_there c.args.faults.now.worst || not b) (sym (ap is_there (walk_made (λ d. spec.dimension_judged s d) syntax.dimension items) ∙ e.2))
+    c.all.invariant.noted ∙ ap (λ b. c.args.faults.now.found || not b) (sym (ap is_there (walk_made (λ d. spec.dimension_judged s d) syntax.dimension items) ∙ e.2))
 
 pub returns-clause-value : goal.returns-clause-value
 returns-clause-value c =
@@ -38,4 +38,4 @@ returns-clause-noted c =
     let items = c.args.all.now.items in
     let le : length items ≤ c.all.x-index = subst (λ (xs : List Dimension). length xs ≤ c.all.x-index) c.deref-x-items.ensures.value c.all-test.false in
     let e = at_end (λ (x : Dimension) (rest : List Dimension). spec.dimension_judged s (syntax.dimension x)) items c.all.x-index c.all.is_sound (map typed.dimension c.all.found.items) _ le c.all.invariant.value in
-    c.all.invariant.noted ∙ ap (λ b. is_there c.args.faults.now.worst || not b) (sym (ap is_there (walk_made (λ d. spec.dimension_judged s d) syntax.dimension items) ∙ e.2))
+    c.all.invariant.noted ∙ ap (λ b. c.args.faults.now.found || not b) (sym (ap is_there (walk_made (λ d. spec.dimension_judged s d) syntax.dimension items) ∙ e.2))

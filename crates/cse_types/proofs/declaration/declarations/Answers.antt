@@ -1,4 +1,4 @@
-use Rattle.std.proofs.Common.{◌≡◌, ap, ◌∙◌, sym, subst, ◌<◌, ◌≤◌, ◌+◌, ◌++◌, length, get_or, map, drop, List, refl}
+use Rattle.std.proofs.Common.{◌≡◌, ap, ◌∙◌, sym, subst, ◌<◌, ◌≤◌, ◌+◌, ◌++◌, length, get_or, map, List}
 use Rattle.std.specs.Prelude.{◌||◌, not}
 use Rattle.cse_syntax_tree.specs.declared.tree.Declaration.{Declaration}
 use Rattle.cse_syntax_tree.specs.Tree as syntax
@@ -43,7 +43,7 @@ returns-then-is_sound-clause-noted c =
     let none = ap (map syntax.declaration) (past items c.all.x-index le) in
     let n = length c.all.told.items in
     let e = made_end typed.declaration c.all.is_sound c.all.found.items _ _ (ap (spec.declarations_judged c.all.scope n) none) c.all.invariant.value in
-    c.all.invariant.noted ∙ ap (λ b. is_there c.args.faults.now.worst || not b) (sym e.2)
+    c.all.invariant.noted ∙ ap (λ b. c.args.faults.now.found || not b) (sym e.2)
 
 pub returns-then-is_sound-clause-told : goal.returns-then-is_sound-clause-told
 returns-then-is_sound-clause-told c =
@@ -77,7 +77,7 @@ returns-clause-noted c =
     let none = ap (map syntax.declaration) (past items c.all.x-index le) in
     let n = length c.all.told.items in
     let e = made_end typed.declaration c.all.is_sound c.all.found.items _ _ (ap (spec.declarations_judged c.all.scope n) none) c.all.invariant.value in
-    c.all.invariant.noted ∙ ap (λ b. is_there c.args.faults.now.worst || not b) (sym e.2)
+    c.all.invariant.noted ∙ ap (λ b. c.args.faults.now.found || not b) (sym e.2)
 
 pub returns-clause-told : goal.returns-clause-told
 returns-clause-told c =

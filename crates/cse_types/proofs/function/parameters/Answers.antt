@@ -1,11 +1,10 @@
-use Rattle.std.proofs.Common.{◌≡◌, ◌+◌, drop, ap, ◌∙◌, sym, subst, ◌<◌, ◌≤◌, length, get_or, map, List}
+use Rattle.std.proofs.Common.{◌≡◌, ◌+◌, drop, ap, ◌∙◌, sym, subst, ◌≤◌, length, get_or, List}
 use Rattle.std.specs.Prelude.{◌||◌, not}
 use Rattle.cse_dict.specs.Keys.{kept_name}
 use Rattle.cse_syntax_tree.specs.declared.tree.Parameter.{Parameter}
 use Rattle.cse_types.specs.declared.fresh.Fresh.{Fresh}
 use Rattle.cse_types.specs.Fresh.{all_after, no_names}
 use Rattle.cse_types.specs.JudgeTree.{is_new}
-use Rattle.cse_logic_names.specs.Walk.{is_there}
 use Rattle.cse_types.proofs.FreshLaws.{with_parameter, parameters_after, fresh_noted, parameter_at, after_end}
 use Rattle.cse_types.proofs.function.parameters.Goals as goal
 
@@ -22,7 +21,7 @@ returns-clause-noted c =
     let items = c.args.all.now.items in
     let le : length items ≤ c.all.x-index = subst (λ (xs : List Parameter). length xs ≤ c.all.x-index) c.deref-x-items.ensures.value c.all-test.false in
     c.all.invariant.noted
-    ∙ ap (λ (f : Fresh). is_there c.args.faults.now.worst || not f.is_sound) (after_end (with_parameter test) items c.all.x-index le c.all.fresh _ c.all.invariant.value ∙ parameters_after test no_names items)
+    ∙ ap (λ (f : Fresh). c.args.faults.now.found || not f.is_sound) (after_end (with_parameter test) items c.all.x-index le c.all.fresh _ c.all.invariant.value ∙ parameters_after test no_names items)
 
 pub all-preserved : goal.all-preserved
 all-preserved c =
@@ -33,5 +32,5 @@ all-preserved c =
       value = subst (λ (xs : List Parameter). all_after (with_parameter test) c.parameter.new.fresh (drop (c.all.x-index + 1) xs) ≡ all_after (with_parameter test) no_names c.args.all.now.items) whole
           (parameter_at test c.deref-x-items.result.now c.all.x-index _ c.all.fresh c.parameter.new.fresh _ c.all-test.true
           (subst (λ (xs : List Parameter). all_after (with_parameter test) c.all.fresh (drop c.all.x-index xs) ≡ all_after (with_parameter test) no_names c.args.all.now.items) (sym whole) c.all.invariant.value) e.value);
-      noted = fresh_noted test c.all.fresh c.parameter.new.fresh (kept_name (get_or c.deref-x-items.result.now c.all.x-index _).name.text.now) (is_there c.args.faults.now.worst) (is_there c.all.faults.worst) (is_there c.parameter.new.faults.worst) e.value c.all.invariant.noted e.noted;
+      noted = fresh_noted test c.all.fresh c.parameter.new.fresh (kept_name (get_or c.deref-x-items.result.now c.all.x-index _).name.text.now) (c.args.faults.now.found) (c.all.faults.found) (c.parameter.new.faults.found) e.value c.all.invariant.noted e.noted;
     }

@@ -1,15 +1,12 @@
-use Rattle.std.proofs.Common.{◌≡◌, map, drop, List}
+use Rattle.std.proofs.Common.{◌≡◌, drop}
 use Rattle.std.specs.Prelude.{◌||◌, not}
-use Rattle.cse_dict.specs.Keys.{kept_name}
-use Rattle.cse_syntax_tree.specs.declared.tree.Parameter.{Parameter}
-use Rattle.cse_types.specs.Fresh.{all_after, no_names, with_fresh}
+use Rattle.cse_types.specs.Fresh.{all_after, no_names}
 use Rattle.cse_types.specs.JudgeTree.{is_new}
-use Rattle.cse_logic_names.specs.Walk.{is_there}
 use Rattle.cse_types.proofs.FreshLaws.{with_parameter}
 use Rattle.cse_types.proofs.function.parameters.Given as goal
 
 abbrev pub invariant-all : goal.invariant-all
 invariant-all l = record {
   value : all_after (with_parameter (is_new l.scope.dictionary l.scope.declared)) l.fresh (drop l.x-index l.all.items) ≡ all_after (with_parameter (is_new l.scope.dictionary l.scope.declared)) no_names l.all.items;
-  noted : is_there l.faults.worst ≡ (is_there l.initial.faults.worst || not l.fresh.is_sound);
+  noted : l.faults.found ≡ (l.initial.faults.found || not l.fresh.is_sound);
 }

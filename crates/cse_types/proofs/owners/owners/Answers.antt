@@ -1,10 +1,8 @@
-use Rattle.std.proofs.Common.{◌≡◌, ◌+◌, drop, ap, ◌∙◌, sym, subst, ◌<◌, ◌≤◌, length, get_or, map, List, true}
+use Rattle.std.proofs.Common.{◌≡◌, ap, ◌∙◌, ◌<◌, ◌≤◌, length, get_or, true}
 use Rattle.std.specs.Prelude.{◌||◌, not}
 use Rattle.cse_dict.specs.Keys.{kept_name}
-use Rattle.cse_syntax_tree.specs.declared.tree.Procedure.{Procedure}
 use Rattle.cse_types.specs.declared.fresh.Fresh.{Fresh}
-use Rattle.cse_types.specs.Fresh.{all_after, no_names}
-use Rattle.cse_logic_names.specs.Walk.{is_there}
+use Rattle.cse_types.specs.Fresh.{no_names}
 use Rattle.cse_types.proofs.FreshLaws.{fresh_noted, after_turn, after_end}
 use Rattle.cse_types.proofs.OwnerLaws.{with_owner, owners_after}
 use Rattle.cse_types.proofs.owners.owners.Goals as goal
@@ -18,7 +16,7 @@ all-preserved c =
     let e = c.in_ok-owner.ensures in
     record {
       value = after_turn with_owner items c.all.x-index x lt is c.all.fresh c.owner.new.fresh _ c.all.invariant.value e.value;
-      noted = fresh_noted (λ name. true) c.all.fresh c.owner.new.fresh (kept_name x.name.text.now) (is_there c.args.faults.now.worst) (is_there c.all.faults.worst) (is_there c.owner.new.faults.worst) e.value c.all.invariant.noted e.noted;
+      noted = fresh_noted (λ name. true) c.all.fresh c.owner.new.fresh (kept_name x.name.text.now) (c.args.faults.now.found) (c.all.faults.found) (c.owner.new.faults.found) e.value c.all.invariant.noted e.noted;
     }
 
 pub returns-clause-value : goal.returns-clause-value
@@ -32,4 +30,4 @@ returns-clause-noted c =
     let items = c.args.all.now in
     let le : length items ≤ c.all.x-index = c.all-test.false in
     c.all.invariant.noted
-    ∙ ap (λ (f : Fresh). is_there c.args.faults.now.worst || not f.is_sound) (after_end with_owner items c.all.x-index le c.all.fresh _ c.all.invariant.value ∙ owners_after no_names items)
+    ∙ ap (λ (f : Fresh). c.args.faults.now.found || not f.is_sound) (after_end with_owner items c.all.x-index le c.all.fresh _ c.all.invariant.value ∙ owners_after no_names items)

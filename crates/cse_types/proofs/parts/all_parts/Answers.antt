@@ -1,4 +1,4 @@
-use Rattle.std.proofs.Common.{◌≡◌, ap, ◌∙◌, sym, ◌++◌, length, map, List}
+use Rattle.std.proofs.Common.{ap, ◌∙◌, ◌++◌, length, map, List}
 use Rattle.std.specs.Prelude.{◌||◌, not}
 use Rattle.cse_syntax_tree.specs.Tree as syntax
 use Rattle.cse_syntax_tree.specs.declared.tree.Procedure.{Procedure}
@@ -20,8 +20,8 @@ pub returns-clause-noted : goal.returns-clause-noted
 returns-clause-noted c =
     let e = c.in_ok-globals.ensures in
     let n = length c.globals.new.told.items in
-    parts_noted c.args.scope.now c.globals.new.scope (syntax.tree c.args.tree.now) c.globals.new.told.items e.behind e.told (is_there c.args.faults.now.worst) _ _ e.noted
-    (c.in_ok-procedures.ensures.noted ∙ ap (λ (ps : List Procedure). is_there c.globals.new.faults.worst || not (is_there (procedures_judged c.globals.new.scope n (map syntax.procedure ps)))) c.procedures_in-all.ensures)
+    parts_noted c.args.scope.now c.globals.new.scope (syntax.tree c.args.tree.now) c.globals.new.told.items e.behind e.told (c.args.faults.now.found) _ _ e.noted
+    (c.in_ok-procedures.ensures.noted ∙ ap (λ (ps : List Procedure). c.globals.new.faults.found || not (is_there (procedures_judged c.globals.new.scope n (map syntax.procedure ps)))) c.procedures_in-all.ensures)
 
 pub returns-clause-told : goal.returns-clause-told
 returns-clause-told c =

@@ -1,4 +1,4 @@
-use Rattle.std.proofs.Common.{◌≡◌, ◌∙◌, ap, sym, map, length, Option, ℕ, ◌+◌}
+use Rattle.std.proofs.Common.{◌≡◌, ◌∙◌, ap, length, Option, ℕ, ◌+◌}
 use Rattle.std.specs.Prelude.{◌||◌, not, option_map}
 use Rattle.cse_syntax_tree.specs.Tree as syntax
 use Rattle.cse_logic_tree.specs.Typed as typed
@@ -25,5 +25,5 @@ returns-clause-value c =
 
 pub returns-clause-noted : goal.returns-clause-noted
 returns-clause-noted c =
-    noted_joined typed.Both _ _ (is_there c.args.faults.now.worst) (is_there c.block.new.faults.worst) (is_there c.block-2.new.faults.worst) c.in_ok-before.ensures.noted
-    (c.in_ok-after.ensures.noted ∙ ap (λ (o : Option typed.Statements). is_there c.block.new.faults.worst || not (is_there o)) (behind_is c))
+    noted_joined typed.Both _ _ (c.args.faults.now.found) (c.block.new.faults.found) (c.block-2.new.faults.found) c.in_ok-before.ensures.noted
+    (c.in_ok-after.ensures.noted ∙ ap (λ (o : Option typed.Statements). c.block.new.faults.found || not (is_there o)) (behind_is c))

@@ -1,6 +1,5 @@
-use Rattle.std.proofs.Common.{◌≡◌, ap, ◌∙◌, sym, subst, ◌<◌, ◌≤◌, ◌+◌, ◌++◌, length, get_or, map, drop, List, refl}
+use Rattle.std.proofs.Common.{◌≡◌, ap, ◌∙◌, sym, ◌<◌, ◌≤◌, ◌+◌, ◌++◌, length, get_or, map}
 use Rattle.std.specs.Prelude.{◌||◌, not}
-use Rattle.cse_syntax_tree.specs.declared.tree.Procedure.{Procedure}
 use Rattle.cse_syntax_tree.specs.Tree as syntax
 use Rattle.cse_logic_tree.specs.Typed as typed
 use Rattle.cse_logic_names.specs.WellTyped.{procedure_messages}
@@ -43,7 +42,7 @@ returns-then-is_sound-clause-noted c =
     let none = ap (map syntax.procedure) (past items c.all.x-index le) in
     let n = length c.all.told.items in
     let e = made_end typed.procedure c.all.is_sound c.all.found.items _ _ (ap (spec.procedures_judged c.all.scope n) none) c.all.invariant.value in
-    c.all.invariant.noted ∙ ap (λ b. is_there c.args.faults.now.worst || not b) (sym e.2)
+    c.all.invariant.noted ∙ ap (λ b. c.args.faults.now.found || not b) (sym e.2)
 
 pub returns-then-is_sound-clause-told : goal.returns-then-is_sound-clause-told
 returns-then-is_sound-clause-told c =
@@ -69,7 +68,7 @@ returns-clause-noted c =
     let none = ap (map syntax.procedure) (past items c.all.x-index le) in
     let n = length c.all.told.items in
     let e = made_end typed.procedure c.all.is_sound c.all.found.items _ _ (ap (spec.procedures_judged c.all.scope n) none) c.all.invariant.value in
-    c.all.invariant.noted ∙ ap (λ b. is_there c.args.faults.now.worst || not b) (sym e.2)
+    c.all.invariant.noted ∙ ap (λ b. c.args.faults.now.found || not b) (sym e.2)
 
 pub returns-clause-told : goal.returns-clause-told
 returns-clause-told c =

@@ -5,13 +5,13 @@ use Rattle.cse_logic_tree.specs.Typed as typed
 use Rattle.cse_logic_names.specs.WellTyped.{procedure_messages}
 use Rattle.cse_types.specs.JudgeTree as spec
 use Rattle.cse_types.specs.Told.{told_of}
-use Rattle.cse_logic_names.specs.Walk.{is_there, so_far}
+use Rattle.cse_logic_names.specs.Walk.{so_far}
 use Rattle.cse_types.proofs.procedure.procedures.Given as goal
 
 abbrev pub invariant-all : goal.invariant-all
 invariant-all l = record {
   value : so_far l.is_sound (map typed.procedure l.found.items) (spec.procedures_judged l.scope (length l.told.items) (map syntax.procedure (drop l.x-index l.all))) ≡ spec.procedures_judged l.initial.scope (length l.initial.told.items) (map syntax.procedure l.all);
   same : l.scope ≡ l.initial.scope;
-  noted : is_there l.faults.worst ≡ (is_there l.initial.faults.worst || not l.is_sound);
+  noted : l.faults.found ≡ (l.initial.faults.found || not l.is_sound);
   told : map told_of l.told.items ++ procedure_messages (map syntax.procedure (drop l.x-index l.all)) ≡ map told_of l.initial.told.items ++ procedure_messages (map syntax.procedure l.all);
 }

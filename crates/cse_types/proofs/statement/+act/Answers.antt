@@ -1,4 +1,4 @@
-use Rattle.std.proofs.Common.{◌≡◌, ap, ◌∙◌, refl, sym, subst, map, drop, ◌+◌, ◌<◌, ◌≤◌, length, get_or, List}
+use Rattle.std.proofs.Common.{◌≡◌, ap, ◌∙◌, refl, sym, subst, map, ◌+◌, ◌<◌, ◌≤◌, length, get_or, List}
 use Rattle.std.specs.Prelude.{◌||◌, ◌++◌, not, false, option_map}
 use Rattle.cse_syntax_tree.specs.declared.tree.Statement as rusts
 use Rattle.cse_syntax_tree.specs.declared.tree.Arm as rustarm
@@ -12,7 +12,7 @@ use Rattle.cse_logic_expressions.specs.JudgeStatement.{judge_statement, judge_bl
 use Rattle.cse_types.specs.Told.{told_of}
 use Rattle.cse_logic_names.specs.Walk.{is_there, joined}
 use Rattle.cse_logic_names.proofs.Walks.{step_noted_made, there_map, append_none}
-use Rattle.cse_types.proofs.Counted.{walk_from, from_step, from_end, told_step, told_end, told_count, or_false, both_noted, on_ok}
+use Rattle.cse_types.proofs.Counted.{from_step, from_end, told_step, told_end, told_count, or_false, both_noted, on_ok}
 use Rattle.cse_types.proofs.Blocks.{statement_at, messages_at, count_at, block_walked, block_gathered, arm_at, arm_messages, arm_count, arms_walked, arms_gathered, choice_value, choice_noted, choice_told, none_judged, else_judged, for_judged, for_noted, do_judged, do_noted}
 use Rattle.cse_types.proofs.statement.+act.Goals as goal
 
@@ -32,7 +32,7 @@ block-returns-then-is_sound-clause-noted t c =
     let items = c.args.statements.now.items in
     let le : length items ≤ c.all.x-index = subst (λ (xs : List rusts.Statement). length xs ≤ c.all.x-index) c.deref-x-items.ensures.value c.all-test.false in
     let e = from_end (statement_at s) count_at items c.all.x-index _ c.all.is_sound (map statement c.all.found.items) _ le c.all.invariant.value in
-    c.all.invariant.noted ∙ ap (λ b. is_there c.args.faults.now.worst || not b) (sym (ap is_there (block_walked s (length c.args.told.now.items) items) ∙ there_map statements _ ∙ e.2))
+    c.all.invariant.noted ∙ ap (λ b. c.args.faults.now.found || not b) (sym (ap is_there (block_walked s (length c.args.told.now.items) items) ∙ there_map statements _ ∙ e.2))
 
 pub block-returns-then-is_sound-clause-told : goal.block-returns-then-is_sound-clause-told
 block-returns-then-is_sound-clause-told t c =
@@ -54,7 +54,7 @@ block-returns-clause-noted t c =
     let items = c.args.statements.now.items in
     let le : length items ≤ c.all.x-index = subst (λ (xs : List rusts.Statement). length xs ≤ c.all.x-index) c.deref-x-items.ensures.value c.all-test.false in
     let e = from_end (statement_at s) count_at items c.all.x-index _ c.all.is_sound (map statement c.all.found.items) _ le c.all.invariant.value in
-    c.all.invariant.noted ∙ ap (λ b. is_there c.args.faults.now.worst || not b) (sym (ap is_there (block_walked s (length c.args.told.now.items) items) ∙ there_map statements _ ∙ e.2))
+    c.all.invariant.noted ∙ ap (λ b. c.args.faults.now.found || not b) (sym (ap is_there (block_walked s (length c.args.told.now.items) items) ∙ there_map statements _ ∙ e.2))
 
 pub block-returns-clause-told : goal.block-returns-clause-told
 block-returns-clause-told t c =
@@ -94,7 +94,7 @@ arms-returns-then-is_sound-clause-noted t c =
     let items = c.args.others.now.items in
     let le : length items ≤ c.all.x-index = subst (λ (xs : List rustarm.Arm). length xs ≤ c.all.x-index) c.deref-x-items.ensures.value c.all-test.false in
     let e = from_end (arm_at s) arm_count items c.all.x-index _ c.all.is_sound (map arm_tree c.all.found.items) _ le c.all.invariant.value in
-    c.all.invariant.noted ∙ ap (λ b. is_there c.args.faults.now.worst || not b) (sym (ap is_there (arms_walked s (length c.args.told.now.items) items) ∙ e.2))
+    c.all.invariant.noted ∙ ap (λ b. c.args.faults.now.found || not b) (sym (ap is_there (arms_walked s (length c.args.told.now.items) items) ∙ e.2))
 
 pub arms-returns-then-is_sound-clause-told : goal.arms-returns-then-is_sound-clause-told
 arms-returns-then-is_sound-clause-told t c =
@@ -116,7 +116,7 @@ arms-returns-clause-noted t c =
     let items = c.args.others.now.items in
     let le : length items ≤ c.all.x-index = subst (λ (xs : List rustarm.Arm). length xs ≤ c.all.x-index) c.deref-x-items.ensures.value c.all-test.false in
     let e = from_end (arm_at s) arm_count items c.all.x-index _ c.all.is_sound (map arm_tree c.all.found.items) _ le c.all.invariant.value in
-    c.all.invariant.noted ∙ ap (λ b. is_there c.args.faults.now.worst || not b) (sym (ap is_there (arms_walked s (length c.args.told.now.items) items) ∙ e.2))
+    c.all.invariant.noted ∙ ap (λ b. c.args.faults.now.found || not b) (sym (ap is_there (arms_walked s (length c.args.told.now.items) items) ∙ e.2))
 
 pub arms-returns-clause-told : goal.arms-returns-clause-told
 arms-returns-clause-told t c =
@@ -161,7 +161,7 @@ statement-returns-in_ok-inner-in-For-clause-noted t c =
     let r = written c.in-For.record_name in
     let same = ap stmt c.in-For.is ∙ for_is c.in-For.variable c.in-For.record_name c.in-For.body in
     for_noted s n v r (syntax.block c.in-For.body.items) c.for_head-head.result c.for_loop.result c.for_head-head.ensures.value c.for_loop.ensures _ _ _ c.for_head-head.ensures.noted c.in_ok-inner-in-For.ensures.noted
-    ∙ ap (λ y. is_there c.args.faults.now.worst || not (is_there (judge_statement s n y))) (sym same)
+    ∙ ap (λ y. c.args.faults.now.found || not (is_there (judge_statement s n y))) (sym same)
 
 pub statement-returns-in_ok-inner-in-For-clause-told : goal.statement-returns-in_ok-inner-in-For-clause-told
 statement-returns-in_ok-inner-in-For-clause-told t c =
@@ -185,7 +185,7 @@ statement-returns-in_ok-inner-in-Do-clause-noted t c =
     let h = option_map counting c.counting-head.result in
     let same = ap stmt c.in-Do.is ∙ do_is c.in-Do.head c.in-Do.body in
     do_noted s n (syntax.counting c.in-Do.head) (syntax.block c.in-Do.body.items) h c.do_loop.result c.counting-head.ensures.value c.do_loop.ensures _ _ _ c.counting-head.ensures.noted c.in_ok-inner-in-Do.ensures.noted
-    ∙ ap (λ y. is_there c.args.faults.now.worst || not (is_there (judge_statement s n y))) (sym same)
+    ∙ ap (λ y. c.args.faults.now.found || not (is_there (judge_statement s n y))) (sym same)
 
 pub statement-returns-in_ok-inner-in-Do-clause-told : goal.statement-returns-in_ok-inner-in-Do-clause-told
 statement-returns-in_ok-inner-in-Do-clause-told t c =
@@ -213,11 +213,11 @@ statement-returns-in-None-clause-noted t c =
     let xs = map parsed_arm c.in-If.others.items in
     let same = ap stmt c.in-If.is ∙ if_is first c.in-If.others c.in-If.otherwise ∙ ap (λ o. syntax.If (syntax.expr first.condition) (syntax.block first.body.items) (syntax.arms xs (syntax.otherwise_tree o))) c.in-None.is in
     let k = length c.arm.new.told.items in
-    let none = sym (or_false (is_there c.arms.new.faults.worst)) ∙ ap (λ o. is_there c.arms.new.faults.worst || not (is_there o)) (none_judged s (k + length (messages_each xs))) in
+    let none = sym (or_false (c.arms.new.faults.found)) ∙ ap (λ o. c.arms.new.faults.found || not (is_there o)) (none_judged s (k + length (messages_each xs))) in
     choice_noted s (parsed_arm first) xs syntax.no_arm n k (k + length (messages_each xs)) c.arm.new.scope _ _ _ _
     (told_count told_of c.arm.new.told.items c.args.told.now.items (messages_of (parsed_arm first).1) c.in_ok-start-in-If.ensures.told) refl c.in_ok-start-in-If.ensures.same
     c.in_ok-start-in-If.ensures.noted c.in_ok-middle-in-If.ensures.noted none
-    ∙ ap (λ y. is_there c.args.faults.now.worst || not (is_there (judge_statement s n y))) (sym same)
+    ∙ ap (λ y. c.args.faults.now.found || not (is_there (judge_statement s n y))) (sym same)
 
 pub statement-returns-in-None-clause-told : goal.statement-returns-in-None-clause-told
 statement-returns-in-None-clause-told t c =
@@ -256,14 +256,14 @@ statement-returns-in_ok-last-in-Some-clause-noted t c =
     let k = length c.arm.new.told.items in
     let m = length c.arms.new.told.items in
     let where_at = c.in_ok-middle-in-If.ensures.same ∙ c.in_ok-start-in-If.ensures.same in
-    let last = c.in_ok-last-in-Some.ensures.noted ∙ ap (λ z. is_there c.arms.new.faults.worst || not (is_there (judge_block z m body))) where_at
-    ∙ ap (λ b. is_there c.arms.new.faults.worst || not b) (sym (there_map else_of (judge_block s m body)))
-    ∙ ap (λ o. is_there c.arms.new.faults.worst || not (is_there o)) (else_judged s m body) in
+    let last = c.in_ok-last-in-Some.ensures.noted ∙ ap (λ z. c.arms.new.faults.found || not (is_there (judge_block z m body))) where_at
+    ∙ ap (λ b. c.arms.new.faults.found || not b) (sym (there_map else_of (judge_block s m body)))
+    ∙ ap (λ o. c.arms.new.faults.found || not (is_there o)) (else_judged s m body) in
     choice_noted s (parsed_arm first) xs (syntax.else_of body) n k m c.arm.new.scope _ _ _ _
     (told_count told_of c.arm.new.told.items c.args.told.now.items (messages_of (parsed_arm first).1) c.in_ok-start-in-If.ensures.told)
     (told_count told_of c.arms.new.told.items c.arm.new.told.items (messages_each xs) c.in_ok-middle-in-If.ensures.told) c.in_ok-start-in-If.ensures.same
     c.in_ok-start-in-If.ensures.noted c.in_ok-middle-in-If.ensures.noted last
-    ∙ ap (λ y. is_there c.args.faults.now.worst || not (is_there (judge_statement s n y))) (sym same)
+    ∙ ap (λ y. c.args.faults.now.found || not (is_there (judge_statement s n y))) (sym same)
 
 pub statement-returns-in_ok-last-in-Some-clause-told : goal.statement-returns-in_ok-last-in-Some-clause-told
 statement-returns-in_ok-last-in-Some-clause-told t c =
@@ -313,7 +313,7 @@ body_of-returns-in_ok-inner-in-Some-clause-noted t c =
     let n = length c.args.told.now.items in
     let b = syntax.block c.args.body.now.items in
     c.in_ok-inner-in-Some.ensures.noted
-    ∙ ap (λ o. is_there c.args.faults.now.worst || not (is_there o)) (ap (λ z. judge_block z n b) c.in_ok-begin-in-Some.ensures ∙ ap (λ o. judge_block (opened c.args.scope.now o) n b) (sym c.in-Some.is))
+    ∙ ap (λ o. c.args.faults.now.found || not (is_there o)) (ap (λ z. judge_block z n b) c.in_ok-begin-in-Some.ensures ∙ ap (λ o. judge_block (opened c.args.scope.now o) n b) (sym c.in-Some.is))
 
 pub body_of-returns-in_ok-inner-in-Some-clause-same : goal.body_of-returns-in_ok-inner-in-Some-clause-same
 body_of-returns-in_ok-inner-in-Some-clause-same t c = c.end.ensures c.args.scope.now c.in-Some.turns (c.in_ok-inner-in-Some.ensures.same ∙ c.in_ok-begin-in-Some.ensures)

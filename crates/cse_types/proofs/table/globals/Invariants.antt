@@ -1,12 +1,11 @@
 use Rattle.std.proofs.Common.{◌≡◌, drop}
 use Rattle.std.specs.Prelude.{not}
 use Rattle.cse_types.specs.Fresh.{all_after}
-use Rattle.cse_logic_names.specs.Walk.{is_there}
 use Rattle.cse_types.proofs.TableLaws.{with_written}
 use Rattle.cse_types.proofs.table.globals.Given as goal
 
 abbrev pub invariant-all : goal.invariant-all
 invariant-all l = record {
   value : all_after (with_written l.dictionary l.is_text) l.table (drop l.x-index l.names.items) ≡ all_after (with_written l.dictionary l.is_text) l.initial.table l.names.items;
-  noted : is_there l.initial.faults.worst ≡ not l.initial.table.is_sound → is_there l.faults.worst ≡ not l.table.is_sound;
+  noted : l.initial.faults.found ≡ not l.initial.table.is_sound → l.faults.found ≡ not l.table.is_sound;
 }

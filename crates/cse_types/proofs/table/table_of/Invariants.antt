@@ -2,12 +2,11 @@ use Rattle.std.proofs.Common.{◌≡◌, drop}
 use Rattle.std.specs.Prelude.{not, true}
 use Rattle.cse_types.specs.Fresh.{all_after}
 use Rattle.cse_types.specs.Table.{no_table}
-use Rattle.cse_logic_names.specs.Walk.{is_there}
 use Rattle.cse_types.proofs.TableLaws.{with_parsed}
 use Rattle.cse_types.proofs.table.table_of.Given as goal
 
 abbrev pub invariant-all : goal.invariant-all
 invariant-all l = record {
   value : all_after (with_parsed l.dictionary) l.table (drop l.x-index l.all.items) ≡ all_after (with_parsed l.dictionary) no_table l.all.items;
-  noted : is_there l.initial.faults.worst ≡ not true → is_there l.faults.worst ≡ not l.table.is_sound;
+  noted : l.initial.faults.found ≡ not true → l.faults.found ≡ not l.table.is_sound;
 }
