@@ -58,7 +58,11 @@ pub fn words_in<'a>(faults: &mut Faults, x: Judged<'a>) -> Option<Words<'a>>
 }
 
 /// A variable that no open loop is over; else the fault 47, or 40 where there is none.
-pub fn free_variable(scope: &Scope<'_>, faults: &mut Faults, variable: Option<Variable>) -> Option<Variable>
+pub fn free_variable(
+    scope: &Scope<'_>,
+    faults: &mut Faults,
+    variable: Option<Variable>,
+) -> Option<Variable>
     ensures value { result ≡ spec.free_variable scope.now.loops variable }
     ensures noted { IsNoted faults.old faults.new (is_there (spec.free_variable scope.now.loops variable)) }
 {
@@ -92,7 +96,14 @@ fn set<'a>(
 }
 
 /// An assignment of a variable, behind which so many subscripts stand. A value that is a text stands at this token.
-fn assign_variable<'a>(scope: &Scope<'_>, faults: &mut Faults, name: Lexeme<'a>, variable: Option<Variable>, count: usize, value: Judged<'a>) -> Option<Statement<'a>>
+fn assign_variable<'a>(
+    scope: &Scope<'_>,
+    faults: &mut Faults,
+    name: Lexeme<'a>,
+    variable: Option<Variable>,
+    count: usize,
+    value: Judged<'a>,
+) -> Option<Statement<'a>>
     ensures value { option_map statement result ≡ spec.assign_variable scope.now (written name.entry) variable count (judged value.entry) }
     ensures noted { IsNotedAfter (is_sound (judged value.entry)) faults.old faults.new
         (is_there (spec.assign_variable scope.now (written name.entry) variable count (judged value.entry))) }
@@ -107,7 +118,14 @@ fn assign_variable<'a>(scope: &Scope<'_>, faults: &mut Faults, name: Lexeme<'a>,
 }
 
 /// An assignment of the result of a function in its own body: by its name alone, since a call is no place (40).
-fn assign_result<'a>(scope: &Scope<'_>, faults: &mut Faults, name: Lexeme<'a>, own: Option<Variable>, count: usize, value: Judged<'a>) -> Option<Statement<'a>>
+fn assign_result<'a>(
+    scope: &Scope<'_>,
+    faults: &mut Faults,
+    name: Lexeme<'a>,
+    own: Option<Variable>,
+    count: usize,
+    value: Judged<'a>,
+) -> Option<Statement<'a>>
     ensures value { option_map statement result ≡ spec.assign_variable scope.now (written name.entry) own count (judged value.entry) }
     ensures noted { IsNotedAfter (is_sound (judged value.entry)) faults.old faults.new
         (is_there (spec.assign_variable scope.now (written name.entry) own count (judged value.entry))) }
@@ -258,7 +276,15 @@ pub fn call_of<'a>(
 }
 
 /// An assignment of an item. A value that is a text stands at this token.
-fn assign_item<'a>(scope: &Scope<'_>, faults: &mut Faults, name: Lexeme<'a>, count: usize, number: u16, subscripts: Option<Vec<Number<'a>>>, value: Judged<'a>) -> Option<Statement<'a>>
+fn assign_item<'a>(
+    scope: &Scope<'_>,
+    faults: &mut Faults,
+    name: Lexeme<'a>,
+    count: usize,
+    number: u16,
+    subscripts: Option<Vec<Number<'a>>>,
+    value: Judged<'a>,
+) -> Option<Statement<'a>>
     ensures value { option_map statement result ≡ spec.assign_item scope.now (written name.entry) count number (kind_and_owner scope.now.dictionary number)
         (numbers_made subscripts.entry) (judged value.entry) }
     ensures noted { IsNotedAfterBoth (is_there subscripts.entry) (is_sound (judged value.entry)) faults.old faults.new (is_there (spec.assign_item scope.now
@@ -290,7 +316,15 @@ fn assign_item<'a>(scope: &Scope<'_>, faults: &mut Faults, name: Lexeme<'a>, cou
 }
 
 /// An assignment of a cell. A value that is a text stands at this token.
-fn assign_cell<'a>(scope: &Scope<'_>, faults: &mut Faults, name: Lexeme<'a>, count: usize, array: usize, subscripts: Option<Vec<Number<'a>>>, value: Judged<'a>) -> Option<Statement<'a>>
+fn assign_cell<'a>(
+    scope: &Scope<'_>,
+    faults: &mut Faults,
+    name: Lexeme<'a>,
+    count: usize,
+    array: usize,
+    subscripts: Option<Vec<Number<'a>>>,
+    value: Judged<'a>,
+) -> Option<Statement<'a>>
     ensures value { option_map statement result ≡ only_if (judge.is_count count (dimensions_of scope.now array))
         (joined (typed.SetCell (written name.entry) array) (numbers_made subscripts.entry) (as_number (judged value.entry))) }
     ensures noted { IsNotedAfterBoth (is_there subscripts.entry) (is_sound (judged value.entry)) faults.old faults.new
@@ -308,7 +342,14 @@ fn assign_cell<'a>(scope: &Scope<'_>, faults: &mut Faults, name: Lexeme<'a>, cou
 
 /// A value, assigned to what a name means; so many subscripts stand behind it, and a value that is a text stands at
 /// this token.
-pub fn assign<'a>(scope: &Scope<'_>, faults: &mut Faults, name: Lexeme<'a>, count: usize, subscripts: Option<Vec<Number<'a>>>, value: Judged<'a>) -> Option<Statement<'a>>
+pub fn assign<'a>(
+    scope: &Scope<'_>,
+    faults: &mut Faults,
+    name: Lexeme<'a>,
+    count: usize,
+    subscripts: Option<Vec<Number<'a>>>,
+    value: Judged<'a>,
+) -> Option<Statement<'a>>
     ensures value { option_map statement result ≡ by_name spec.assign scope.now name.entry count (numbers_made subscripts.entry) (judged value.entry) }
     ensures noted { IsNotedAfterBoth (is_there subscripts.entry) (is_sound (judged value.entry)) faults.old faults.new
         (is_there (by_name spec.assign scope.now name.entry count (numbers_made subscripts.entry) (judged value.entry))) }

@@ -66,7 +66,12 @@ fn pick(scope: &Scope<'_>, faults: &mut Faults, direction: &Dimension<'_>) -> Op
 }
 
 /// What picks the indexes of a hot deck.
-fn all_picks(alloc: Global, scope: &Scope<'_>, faults: &mut Faults, directions: &Vec<Dimension<'_>>) -> Result<Option<Vec<Pick>>, AllocError>
+fn all_picks(
+    alloc: Global,
+    scope: &Scope<'_>,
+    faults: &mut Faults,
+    directions: &Vec<Dimension<'_>>,
+) -> Result<Option<Vec<Pick>>, AllocError>
     ensures value { IfOk result (λ r. option_map (λ v. v.items) r ≡ spec.picks_for scope.now (map dimension directions.now.items)) }
     ensures noted { OnOk result (IsNoted faults.old faults.new (is_there (spec.picks_for scope.now (map dimension directions.now.items)))) }
 {
@@ -82,7 +87,12 @@ fn all_picks(alloc: Global, scope: &Scope<'_>, faults: &mut Faults, directions: 
 
 /// What picks a cell of this array, if it is a hot deck: else 40 at its name, and 49 at the word before it. These are
 /// the tokens.
-pub fn picks(alloc: Global, scope: &Scope<'_>, faults: &mut Faults, array: usize) -> Result<Option<Vec<Pick>>, AllocError>
+pub fn picks(
+    alloc: Global,
+    scope: &Scope<'_>,
+    faults: &mut Faults,
+    array: usize,
+) -> Result<Option<Vec<Pick>>, AllocError>
     ensures value { IfOk result (λ r. option_map (λ v. v.items) r ≡ spec.picks_of scope.now (slice_get scope.now.arrays array)) }
     ensures noted { OnOk result (IsNoted faults.old faults.new (is_there (spec.picks_of scope.now (slice_get scope.now.arrays array)))) }
 {
@@ -121,7 +131,12 @@ fn deck<'a>(name: Lexeme<'a>, array: usize, picks: Option<Vec<Pick>>) -> Option<
 }
 
 /// The value of a hot deck; else 40 at its name, or 49 at this token, where there is no case.
-fn deck_of<'a>(alloc: Global, scope: &Scope<'_>, faults: &mut Faults, name: Lexeme<'a>) -> Result<Option<Number<'a>>, AllocError>
+fn deck_of<'a>(
+    alloc: Global,
+    scope: &Scope<'_>,
+    faults: &mut Faults,
+    name: Lexeme<'a>,
+) -> Result<Option<Number<'a>>, AllocError>
     ensures value { IfOk result (λ r. option_map number r ≡ by_name spec.deck_of scope.now name.entry) }
     ensures noted { OnOk result (IsNoted faults.old faults.new (is_there (by_name spec.deck_of scope.now name.entry))) }
 {

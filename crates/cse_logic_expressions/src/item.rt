@@ -153,7 +153,11 @@ fn text_item_at<'a>(
 }
 
 /// The only subscript of so many, or the fault 44, which is told also where one of them isn't sound.
-pub fn sole<'a>(faults: &mut Faults, count: usize, subscripts: Option<Vec<Number<'a>>>) -> Option<Number<'a>>
+pub fn sole<'a>(
+    faults: &mut Faults,
+    count: usize,
+    subscripts: Option<Vec<Number<'a>>>,
+) -> Option<Number<'a>>
     ensures value { option_map number result ≡ spec.sole (numbers_made subscripts.entry) }
     ensures noted { IsNotedAfter (is_there subscripts.entry) faults.old faults.new (is_there (spec.sole (numbers_made subscripts.entry))) }
 {

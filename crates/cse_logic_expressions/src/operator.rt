@@ -121,7 +121,13 @@ fn compared_texts<'a>(
 }
 
 /// Two values of one kind; else the fault 44 at the text, which begins at one of these tokens.
-pub fn compared<'a>(alloc: Global, faults: &mut Faults, relation: Relation, x: Judged<'a>, y: Judged<'a>) -> Result<Option<Number<'a>>, AllocError>
+pub fn compared<'a>(
+    alloc: Global,
+    faults: &mut Faults,
+    relation: Relation,
+    x: Judged<'a>,
+    y: Judged<'a>,
+) -> Result<Option<Number<'a>>, AllocError>
     ensures value { IfOk result (λ r. option_map number r ≡ compared relation (judged x.entry) (judged y.entry)) }
     ensures noted { OnOk result (IsNotedAfterBoth (is_sound (judged x.entry)) (is_sound (judged y.entry)) faults.old faults.new
         (is_there (compared relation (judged x.entry) (judged y.entry)))) }

@@ -38,7 +38,12 @@ fn at<'a>(place: Option<Number<'a>>) -> Option<Which<'a>>
 }
 
 /// Which occurrence is meant.
-fn which_at<'a>(faults: &mut Faults, count: usize, found: Option<Found>, subscripts: Option<Vec<Number<'a>>>) -> Option<Which<'a>>
+fn which_at<'a>(
+    faults: &mut Faults,
+    count: usize,
+    found: Option<Found>,
+    subscripts: Option<Vec<Number<'a>>>,
+) -> Option<Which<'a>>
     ensures value { option_map typed.which result ≡ spec.which_at count found (numbers_made subscripts.entry) }
     ensures noted { IsNotedAfter (is_there subscripts.entry) faults.old faults.new (is_there (spec.which_at count found (numbers_made subscripts.entry))) }
 {
@@ -62,7 +67,14 @@ fn place_of<'a>(field: Option<Field>, which: Option<Which<'a>>) -> Option<(Field
 }
 
 /// A place of an item of this record.
-pub fn place_at<'a>(scope: &Scope<'_>, faults: &mut Faults, count: usize, item: u16, owner: u8, subscripts: Option<Vec<Number<'a>>>) -> Option<(Field, Which<'a>)>
+pub fn place_at<'a>(
+    scope: &Scope<'_>,
+    faults: &mut Faults,
+    count: usize,
+    item: u16,
+    owner: u8,
+    subscripts: Option<Vec<Number<'a>>>,
+) -> Option<(Field, Which<'a>)>
     ensures value { option_map placed result ≡ spec.place_at scope.now count item owner (numbers_made subscripts.entry) }
     ensures noted { IsNotedAfter (is_there subscripts.entry) faults.old faults.new
         (is_there (spec.place_at scope.now count item owner (numbers_made subscripts.entry))) }

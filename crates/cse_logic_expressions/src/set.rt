@@ -186,7 +186,12 @@ pub fn record_of(scope: &Scope<'_>, faults: &mut Faults, name: Lexeme<'_>) -> Op
 }
 
 /// `curocc` of a record; 49 at this token where no occurrence is meant.
-pub fn current<'a>(scope: &Scope<'_>, faults: &mut Faults, name: Lexeme<'a>, over: Option<u8>) -> Option<Number<'a>>
+pub fn current<'a>(
+    scope: &Scope<'_>,
+    faults: &mut Faults,
+    name: Lexeme<'a>,
+    over: Option<u8>,
+) -> Option<Number<'a>>
     ensures value { option_map number result ≡ spec.current scope.now (written name.entry) over }
     ensures noted { IsNotedAfter (is_there over) faults.old faults.new (is_there (spec.current scope.now (written name.entry) over)) }
 {

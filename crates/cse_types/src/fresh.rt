@@ -34,7 +34,12 @@ impl Fresh {
     }
 
     /// One name more, if it passes and isn't there; else the fault 40 at its token.
-    pub fn add(&mut self, faults: &mut Faults, name: Vec<u8>, passes: bool) -> Result<(), AllocError>
+    pub fn add(
+        &mut self,
+        faults: &mut Faults,
+        name: Vec<u8>,
+        passes: bool,
+    ) -> Result<(), AllocError>
         ensures value { OnOk result (self.new ≡ with_fresh (λ x. passes) self.old name.items) }
         ensures noted { OnOk result (IsNoted faults.old faults.new (is_fresh (λ x. passes) self.old.names name.items)) }
     {
