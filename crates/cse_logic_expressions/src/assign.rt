@@ -27,7 +27,7 @@ use cse_syntax_tree::Lexeme;
 use cse_value::shape::ItemKind;
 use std::alloc::{AllocError, Global};
 
-/// A number, or the fault 44 at this token.
+/// A number, or the fault 44.
 pub fn number_in<'a>(faults: &mut Faults, x: Judged<'a>) -> Option<Number<'a>>
     ensures value { option_map number result ≡ as_number (judged x.entry) }
     ensures noted { IsNotedAfter (is_sound (judged x.entry)) faults.old faults.new (is_there (as_number (judged x.entry))) }
@@ -42,7 +42,7 @@ pub fn number_in<'a>(faults: &mut Faults, x: Judged<'a>) -> Option<Number<'a>>
     }
 }
 
-/// A text, or the fault 44 at this token.
+/// A text, or the fault 44.
 pub fn words_in<'a>(faults: &mut Faults, x: Judged<'a>) -> Option<Words<'a>>
     ensures value { option_map words result ≡ as_words (judged x.entry) }
     ensures noted { IsNotedAfter (is_sound (judged x.entry)) faults.old faults.new (is_there (as_words (judged x.entry))) }
@@ -95,7 +95,7 @@ fn set<'a>(
     }
 }
 
-/// An assignment of a variable, behind which so many subscripts stand. A value that is a text stands at this token.
+/// An assignment of a variable, behind which so many subscripts stand.
 fn assign_variable<'a>(
     scope: &Scope<'_>,
     faults: &mut Faults,
@@ -275,7 +275,7 @@ pub fn call_of<'a>(
     }
 }
 
-/// An assignment of an item. A value that is a text stands at this token.
+/// An assignment of an item.
 fn assign_item<'a>(
     scope: &Scope<'_>,
     faults: &mut Faults,
@@ -307,7 +307,6 @@ fn assign_item<'a>(
             }
             ItemKind::Text => {
                 let place = place_at(scope, faults, count, number, owner, subscripts);
-                // Where the value is no text, the text at fault is the item.
                 let value = words_in(faults, value);
                 set_text_item(name, place, value)
             }
@@ -315,7 +314,7 @@ fn assign_item<'a>(
     }
 }
 
-/// An assignment of a cell. A value that is a text stands at this token.
+/// An assignment of a cell.
 fn assign_cell<'a>(
     scope: &Scope<'_>,
     faults: &mut Faults,
@@ -340,8 +339,7 @@ fn assign_cell<'a>(
     set_cell(name, array, subscripts, value)
 }
 
-/// A value, assigned to what a name means; so many subscripts stand behind it, and a value that is a text stands at
-/// this token.
+/// A value, assigned to what a name means; so many subscripts stand behind it.
 pub fn assign<'a>(
     scope: &Scope<'_>,
     faults: &mut Faults,
@@ -440,7 +438,7 @@ pub fn impute<'a>(
     }
 }
 
-/// A value that is put into a hot deck. The word stands two tokens before the name.
+/// A value that is put into a hot deck.
 pub fn put_deck<'a>(
     alloc: Global,
     scope: &Scope<'_>,

@@ -149,7 +149,7 @@ fn are_free(loops: &[(Option<u16>, Variable)], globals: &Globals) -> bool
     !is_any_among(loops, globals)
 }
 
-/// Whether a function that has ended may be called here with so many arguments; else the fault at its name.
+/// Whether a function that has ended may be called here with so many arguments; else a fault.
 #[tactic(auto, unfolding(cse_logic_names::specs::WellTyped::suits))]
 fn suits(scope: &Scope<'_>, faults: &mut Faults, arguments: usize, facts: &Facts) -> bool
     ensures value { result ≡ well.suits scope.now arguments facts.now }
@@ -172,7 +172,7 @@ fn suits(scope: &Scope<'_>, faults: &mut Faults, arguments: usize, facts: &Facts
     true
 }
 
-/// Whether a function may be called here with so many arguments; else the fault at its name.
+/// Whether a function may be called here with so many arguments; else a fault.
 pub fn may_call(scope: &Scope<'_>, faults: &mut Faults, arguments: usize, function: usize) -> bool
     ensures value { result ≡ well.may_call scope.now arguments (slice_get scope.now.functions function) }
     ensures noted { IsNoted faults.old faults.new (well.may_call scope.now arguments (slice_get scope.now.functions function)) }

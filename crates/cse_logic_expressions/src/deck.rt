@@ -20,7 +20,7 @@ use cse_logic_tree::{Dimension, Number, Pick, Present};
 use cse_syntax_tree::{Lexeme, Query};
 use std::alloc::{AllocError, Global};
 
-/// The present value's place of a set's item, or the fault at this token.
+/// The present value's place of a set's item, or a fault.
 fn set_present(scope: &Scope<'_>, faults: &mut Faults, item: Option<u16>) -> Option<Present>
     ensures value { result ≡ spec.set_present scope.now item }
     ensures noted { IsNoted faults.old faults.new (is_there (spec.set_present scope.now item)) }
@@ -48,7 +48,7 @@ fn picked(set: u16, has_leftover: bool, item: Option<Present>) -> Option<Pick>
     }
 }
 
-/// What picks an index of a hot deck in one direction. The tokens are those of its name and of the word before it.
+/// What picks an index of a hot deck in one direction.
 fn pick(scope: &Scope<'_>, faults: &mut Faults, direction: &Dimension<'_>) -> Option<Pick>
     ensures value { result ≡ spec.dimension_pick scope.now (dimension direction.now) }
     ensures noted { IsNoted faults.old faults.new (is_there (spec.dimension_pick scope.now (dimension direction.now))) }
@@ -85,8 +85,7 @@ fn all_picks(
     if is_sound { Ok(Some(found)) } else { Ok(None) }
 }
 
-/// What picks a cell of this array, if it is a hot deck: else 40 at its name, and 49 at the word before it. These are
-/// the tokens.
+/// What picks a cell of this array, if it is a hot deck: else 40, or 49 where there is no case.
 pub fn picks(
     alloc: Global,
     scope: &Scope<'_>,
@@ -130,7 +129,7 @@ fn deck<'a>(name: Lexeme<'a>, array: usize, picks: Option<Vec<Pick>>) -> Option<
     }
 }
 
-/// The value of a hot deck; else 40 at its name, or 49 at this token, where there is no case.
+/// The value of a hot deck; else 40, or 49 where there is no case.
 fn deck_of<'a>(
     alloc: Global,
     scope: &Scope<'_>,
@@ -153,8 +152,7 @@ fn deck_of<'a>(
     }
 }
 
-/// A function of one name. Its word stands two tokens before the name. Where there is no case, the fault 49 of the number
-/// of records is at the name, and that of the other functions at the word.
+/// A function of one name, or a fault: 49 where there is no case.
 pub fn queried<'a>(
     alloc: Global,
     scope: &Scope<'_>,

@@ -120,7 +120,7 @@ fn of_words<'a>(x: Option<Words<'a>>) -> Option<Argument<'a>>
     }
 }
 
-/// A value for a placeholder of this kind; a fault of its kind is told at its first token.
+/// A value for a placeholder of this kind, or a fault.
 fn one_argument<'a>(
     alloc: Global,
     scope: &Scope<'_>,

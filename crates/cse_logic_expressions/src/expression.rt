@@ -207,7 +207,7 @@ pub fn expression<'a>(
     }
 }
 
-/// A number, or the fault 44 at the text that stands there.
+/// A number, or the fault 44.
 #[cycle(judge)]
 pub fn value<'a>(
     alloc: Global,

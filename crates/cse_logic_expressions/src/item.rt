@@ -23,7 +23,7 @@ use std::alloc::{AllocError, Global};
 /// The number of an id item's record.
 const IDS: u8 = 255;
 
-/// An item without a subscript, by its record's number. The fault is at this token.
+/// An item without a subscript, by its record's number.
 #[tactic(auto, unfolding(crate::specs::Judge::present_at))]
 pub fn present_at(scope: &Scope<'_>, faults: &mut Faults, item: u16, owner: u8) -> Option<Present>
     ensures value { result ≡ spec.present_at scope.now item owner }
@@ -45,11 +45,9 @@ pub fn present_at(scope: &Scope<'_>, faults: &mut Faults, item: u16, owner: u8) 
     }
 }
 
-/// An item of a record, by its record's number. An id item has no subscript (`number` 44) and is not assigned (43).
+/// An item of a record, by its record's number. An id item has no subscript and is not assigned.
 #[tactic(auto, unfolding(crate::specs::Judge::field_at))]
 pub fn field_at(scope: &Scope<'_>, faults: &mut Faults, item: u16, owner: u8) -> Option<Field>
-    requires least { 40 ≤ number }
-    requires most { number ≤ 49 }
     ensures value { result ≡ spec.field_at scope.now item owner }
     ensures noted { IsNoted faults.old faults.new (is_there (spec.field_at scope.now item owner)) }
 {
@@ -64,7 +62,7 @@ pub fn field_at(scope: &Scope<'_>, faults: &mut Faults, item: u16, owner: u8) ->
     Some(Field { owner, item })
 }
 
-/// The fault 49 at this token, where there is no case.
+/// The fault 49, where there is no case.
 pub fn needs_case(scope: &Scope<'_>, faults: &mut Faults)
     ensures { IsNoted faults.old faults.new (has_case scope.now.routine) }
 {
@@ -225,7 +223,7 @@ pub fn item_at<'a>(
     }
 }
 
-/// A numeric item without a subscript, or the fault at this token.
+/// A numeric item without a subscript, or a fault.
 pub fn number_present(scope: &Scope<'_>, faults: &mut Faults, item: u16) -> Option<Present>
     ensures value { result ≡ number_present scope.now item }
     ensures noted { IsNoted faults.old faults.new (is_there (number_present scope.now item)) }

@@ -120,7 +120,7 @@ fn compared_texts<'a>(
     }
 }
 
-/// Two values of one kind; else the fault 44 at the text, which begins at one of these tokens.
+/// Two values of one kind; else the fault 44.
 pub fn compared<'a>(
     alloc: Global,
     faults: &mut Faults,

@@ -49,7 +49,7 @@ fn set_kind(dictionary: &Dictionary, set: u16) -> Option<ItemKind>
     kind_of(dictionary, whole_set(dictionary, set))
 }
 
-/// Whether this is a whole set of a numeric item, or the fault at this token.
+/// Whether this is a whole set of a numeric item, or a fault.
 pub fn is_number_set(scope: &Scope<'_>, faults: &mut Faults, set: u16) -> bool
     ensures value { result ≡ spec.is_number_kind (well.set_kind scope.now.dictionary set) }
     ensures noted { IsNoted faults.old faults.new (spec.is_number_kind (well.set_kind scope.now.dictionary set)) }
@@ -101,7 +101,7 @@ fn set_meant(scope: &Scope<'_>, item: u16, set_name: Option<Lexeme<'_>>) -> Opti
     }
 }
 
-/// The number of the whole set of a numeric item that is meant; else the fault at this token: 40 where no set is meant, 41, 42 or 44 by its item.
+/// The number of the whole set of a numeric item that is meant; else a fault: 40 where no set is meant, 41, 42 or 44 by its item.
 pub fn number_set(scope: &Scope<'_>, faults: &mut Faults, meaning: Option<Meaning>) -> Option<u16>
     ensures value { result ≡ spec.number_set scope.now meaning }
     ensures noted { IsNoted faults.old faults.new (is_there (spec.number_set scope.now meaning)) }
@@ -163,7 +163,7 @@ pub fn member<'a>(
     }
 }
 
-/// The record that a name means, where there is a case; else the fault: 40 at the name, 49 at this token where there is none.
+/// The record that a name means, where there is a case; else the fault 40, or 49 where there is none.
 pub fn record_of(scope: &Scope<'_>, faults: &mut Faults, name: Lexeme<'_>) -> Option<u8>
     ensures value { result ≡ spec.record_of scope.now (meant scope.now (written name.entry)) }
     ensures noted { IsNoted faults.old faults.new (is_there (spec.record_of scope.now (meant scope.now (written name.entry)))) }
@@ -185,7 +185,7 @@ pub fn record_of(scope: &Scope<'_>, faults: &mut Faults, name: Lexeme<'_>) -> Op
     }
 }
 
-/// `curocc` of a record; 49 at this token where no occurrence is meant.
+/// `curocc` of a record; 49 where no occurrence is meant.
 pub fn current<'a>(
     scope: &Scope<'_>,
     faults: &mut Faults,

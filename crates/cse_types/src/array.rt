@@ -56,7 +56,7 @@ fn fitting(most: u16, size: u64) -> Option<u16>
     }
 }
 
-/// The rows of a set, with one more where `(+)` stands; else the fault 49 at its name.
+/// The rows of a set, with one more where `(+)` stands; else the fault 49.
 fn set_rows(scope: &Scope<'_>, faults: &mut Faults, set: u16, one_more: bool) -> Option<u16>
     ensures value { result ≡ spec.set_rows scope.now set one_more }
     ensures noted { IsNoted faults.old faults.new (is_there (spec.set_rows scope.now set one_more)) }

@@ -33,7 +33,7 @@ impl Fresh {
         }
     }
 
-    /// One name more, if it passes and isn't there; else the fault 40 at its token.
+    /// One name more, if it passes and isn't there; else the fault 40.
     pub fn add(
         &mut self,
         faults: &mut Faults,

@@ -76,7 +76,7 @@ pub fn meant_by(
     Ok(in_dictionary(dictionary, name.text, &kept))
 }
 
-/// What a procedure belongs to, by its name; else the fault at it.
+/// What a procedure belongs to, by its name; else a fault.
 fn owner_named(
     alloc: Global,
     dictionary: &Dictionary,

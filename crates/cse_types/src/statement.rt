@@ -192,8 +192,8 @@ fn statement<'a>(
     }
 }
 
-/// Statements, or none where one isn't sound. All are judged, so that the least fault is told, and each message of
-/// theirs is one more of the source.
+/// Statements, or none where one isn't sound. All are judged, and each message of theirs is
+/// one more of the source.
 #[cycle(act)]
 #[tactic(auto, unfolding(cse_logic_expressions::specs::JudgeStatement::judge_block))]
 pub fn block<'a>(
