@@ -1,26 +1,37 @@
 //! The rows once more, each by one call from its texts to the texts of its run.
 
-use crate::row::{Row, are_texts};
+use crate::row::{Row, are_texts, row_of};
 use cse_edit::{EditFault, Texts, edit};
 use cse_value::{Reads, Writes};
 use std::alloc::Global;
 
 /// The name of the first row that is edited otherwise with this dictionary; nothing where none is.
-pub(crate) fn first_edited_otherwise(
+pub(crate) fn first_edited_otherwise<'a>(
     alloc: Global,
     dictionary: &[u8],
-    rows: &[Row],
-) -> &'static str {
-    for row in rows {
-        if !is_edited(alloc, dictionary, row) {
+    rows: &'a str,
+) -> &'a str {
+    for text in rows.split('`') {
+        let row = row_of(text);
+        if !is_edited(alloc, dictionary, &row) {
             return row.name;
         }
     }
     ""
 }
 
+/// Whether each of these rows is edited as it says with this dictionary.
+pub(crate) fn are_edited(alloc: Global, dictionary: &[u8], rows: &[Row<'_>]) -> bool {
+    for row in rows {
+        if !is_edited(alloc, dictionary, row) {
+            return false;
+        }
+    }
+    true
+}
+
 /// Whether an edit of a row's texts is refused as it should be, or does what it should.
-fn is_edited(alloc: Global, dictionary: &[u8], row: &Row) -> bool {
+fn is_edited(alloc: Global, dictionary: &[u8], row: &Row<'_>) -> bool {
     let texts = Texts {
         dictionary,
         logic: row.logic,
@@ -58,18 +69,18 @@ fn is_edited(alloc: Global, dictionary: &[u8], row: &Row) -> bool {
                 && are_texts(&found, row)
         }
         Err(EditFault::Run(fault)) => {
-            (fault.number, fault.line, 0) == row.fault && are_texts(&found, row)
+            (u64::from(fault.number), fault.line, 0) == row.fault && are_texts(&found, row)
         }
         Err(fault) => is_fault(fault, row),
     }
 }
 
 /// Whether a fault of the texts is the row's.
-fn is_fault(fault: EditFault, row: &Row) -> bool {
+fn is_fault(fault: EditFault, row: &Row<'_>) -> bool {
     let told = match fault {
-        EditFault::Dictionary(fault) => (fault.number, fault.line, 0),
-        EditFault::Logic(fault) => (fault.number, fault.line, fault.column),
-        EditFault::Decks(fault) => (fault.number, fault.line, 0),
+        EditFault::Dictionary(fault) => (u64::from(fault.number), fault.line, 0),
+        EditFault::Logic(fault) => (u64::from(fault.number), fault.line, fault.column),
+        EditFault::Decks(fault) => (u64::from(fault.number), fault.line, 0),
         EditFault::Run(_) | EditFault::Memory => return false,
     };
     told == row.fault

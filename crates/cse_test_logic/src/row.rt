@@ -8,59 +8,111 @@ use cse_build::build;
 use cse_decks::{Store, load};
 use cse_dict::Dictionary;
 use cse_image::Code;
+use cse_test_fixtures::rows::{cut, number};
 use cse_value::{Reads, Writes};
 use cse_verify::Verified;
 use std::alloc::Global;
 
 /// Logic with the texts beside it and the data of a run, and what comes of them: a fault, by its number, line and column
 /// (0 where it has none), or the counts and the texts of a run. An empty deck text is none.
-pub(crate) struct Row {
-    pub(crate) name: &'static str,
-    pub(crate) logic: &'static [u8],
-    pub(crate) messages: &'static [u8],
-    pub(crate) order: &'static [u8],
-    pub(crate) decks: &'static [u8],
-    pub(crate) data: &'static [u8],
-    pub(crate) fault: (u8, u64, u64),
+pub(crate) struct Row<'a> {
+    pub(crate) name: &'a str,
+    pub(crate) logic: &'a [u8],
+    pub(crate) messages: &'a [u8],
+    pub(crate) order: &'a [u8],
+    pub(crate) decks: &'a [u8],
+    pub(crate) data: &'a [u8],
+    pub(crate) fault: (u64, u64, u64),
     /// Cases, lines, and lines that are unseen.
     pub(crate) totals: (u64, u64, u64),
-    pub(crate) out: &'static [u8],
-    pub(crate) listing: &'static [u8],
-    pub(crate) frequencies: &'static [u8],
-    pub(crate) saved: &'static [u8],
+    pub(crate) out: &'a [u8],
+    pub(crate) listing: &'a [u8],
+    pub(crate) frequencies: &'a [u8],
+    pub(crate) saved: &'a [u8],
 }
 
-/// Empty logic over no data.
-pub(crate) const EMPTY: Row = Row {
-    name: "empty logic, no data",
-    logic: b"",
-    messages: b"",
-    order: b"",
-    decks: b"",
-    data: b"",
-    fault: (0, 0, 0),
-    totals: (0, 0, 0),
-    out: b"",
-    listing: b"CSEB LISTING 1\nSUMMARY\ncases 0\nlines 0\nunseen 0\nEND\n",
-    frequencies: b"CSEB FREQUENCIES 1\nEND\n",
-    saved: b"CSEB DECKS 1\nEND\n",
-};
+/// The listing, frequencies and decks of a run that has none, over no data.
+const NO_LISTING: &str = "CSEB LISTING 1\nSUMMARY\ncases 0\nlines 0\nunseen 0\nEND\n";
+const NO_FREQUENCIES: &str = "CSEB FREQUENCIES 1\nEND\n";
+const NO_DECKS: &str = "CSEB DECKS 1\nEND\n";
 
-/// The name of the first row that comes out otherwise with this dictionary; nothing where none does.
-pub(crate) fn first_wrong(alloc: Global, dictionary: &[u8], rows: &[Row]) -> &'static str {
+/// A field, or another text where it is empty.
+fn or<'a>(field: &'a str, other: &'a str) -> &'a [u8] {
+    if field.is_empty() {
+        other.as_bytes()
+    } else {
+        field.as_bytes()
+    }
+}
+
+/// Three numbers with a blank between them.
+fn numbers(text: &str) -> (u64, u64, u64) {
+    let (first, rest) = cut(text, ' ');
+    let (second, third) = cut(rest, ' ');
+    (number(first), number(second), number(third))
+}
+
+/// A row of a table: its name, fault and totals, the texts of its logic, data and lines, and those of its listing, messages,
+/// order, decks, frequencies and saved decks, with `~` between them. Lines `=` are those of the data. What a run gives where
+/// it lists, imputes and keeps nothing may be left out.
+pub(crate) fn row_of(text: &str) -> Row<'_> {
+    let (name, rest) = cut(text, '~');
+    let (fault, rest) = cut(rest, '~');
+    let (totals, rest) = cut(rest, '~');
+    let (logic, rest) = cut(rest, '~');
+    let (data, rest) = cut(rest, '~');
+    let (out, rest) = cut(rest, '~');
+    let (listing, rest) = cut(rest, '~');
+    let (messages, rest) = cut(rest, '~');
+    let (order, rest) = cut(rest, '~');
+    let (decks, rest) = cut(rest, '~');
+    let (frequencies, saved) = cut(rest, '~');
+    let out = if out == "=" { data } else { out };
+    Row {
+        name,
+        logic: logic.as_bytes(),
+        messages: messages.as_bytes(),
+        order: order.as_bytes(),
+        decks: decks.as_bytes(),
+        data: data.as_bytes(),
+        fault: numbers(fault),
+        totals: numbers(totals),
+        out: out.as_bytes(),
+        listing: or(listing, NO_LISTING),
+        frequencies: or(frequencies, NO_FREQUENCIES),
+        saved: or(saved, NO_DECKS),
+    }
+}
+
+/// The name of the first row that comes out otherwise with this dictionary; nothing where none does. Rows have '`' between them.
+pub(crate) fn first_wrong<'a>(alloc: Global, dictionary: &[u8], rows: &'a str) -> &'a str {
     match Dictionary::read(alloc, dictionary) {
         Ok(dictionary) => first_wrong_of(alloc, &dictionary, rows),
         Err(_) => "the dictionary",
     }
 }
 
-fn first_wrong_of(alloc: Global, dictionary: &Dictionary, rows: &[Row]) -> &'static str {
-    for row in rows {
-        if !comes_out(alloc, dictionary, row) {
+fn first_wrong_of<'a>(alloc: Global, dictionary: &Dictionary, rows: &'a str) -> &'a str {
+    for text in rows.split('`') {
+        let row = row_of(text);
+        if !comes_out(alloc, dictionary, &row) {
             return row.name;
         }
     }
     ""
+}
+
+/// Whether each of these rows comes out as it says with this dictionary.
+pub(crate) fn are_right(alloc: Global, dictionary: &[u8], rows: &[Row<'_>]) -> bool {
+    let Ok(dictionary) = Dictionary::read(alloc, dictionary) else {
+        return false;
+    };
+    for row in rows {
+        if !comes_out(alloc, &dictionary, row) {
+            return false;
+        }
+    }
+    true
 }
 
 /// The first logic that isn't refused by its fault; nothing where each is.
@@ -97,21 +149,21 @@ fn fault_of(alloc: Global, dictionary: &Dictionary, logic: &str) -> (u8, u64, u6
 }
 
 /// Whether the row's logic is refused as it should be, or does what it should.
-fn comes_out(alloc: Global, dictionary: &Dictionary, row: &Row) -> bool {
+fn comes_out(alloc: Global, dictionary: &Dictionary, row: &Row<'_>) -> bool {
     match build(alloc, dictionary, row.logic, row.messages, row.order) {
         Ok(image) => image_comes_out(alloc, dictionary, &image, row),
-        Err(fault) => (fault.number, fault.line, fault.column) == row.fault,
+        Err(fault) => (u64::from(fault.number), fault.line, fault.column) == row.fault,
     }
 }
 
-fn image_comes_out(alloc: Global, dictionary: &Dictionary, image: &[u8], row: &Row) -> bool {
+fn image_comes_out(alloc: Global, dictionary: &Dictionary, image: &[u8], row: &Row<'_>) -> bool {
     match check_image(alloc, dictionary, image) {
         Ok(verified) => program_comes_out(alloc, &verified, row),
         Err(_) => false,
     }
 }
 
-fn program_comes_out<C: Code>(alloc: Global, verified: &Verified<'_, C>, row: &Row) -> bool {
+fn program_comes_out<C: Code>(alloc: Global, verified: &Verified<'_, C>, row: &Row<'_>) -> bool {
     if row.decks.is_empty() {
         match Store::new(alloc, verified.program()) {
             Ok(store) => run_comes_out(alloc, verified, store, row),
@@ -120,7 +172,7 @@ fn program_comes_out<C: Code>(alloc: Global, verified: &Verified<'_, C>, row: &R
     } else {
         match load(alloc, verified.program(), row.decks) {
             Ok(store) => run_comes_out(alloc, verified, store, row),
-            Err(error) => (error.number, error.line, 0) == row.fault,
+            Err(error) => (u64::from(error.number), error.line, 0) == row.fault,
         }
     }
 }
@@ -129,7 +181,7 @@ fn run_comes_out<C: Code>(
     alloc: Global,
     verified: &Verified<'_, C>,
     store: Store,
-    row: &Row,
+    row: &Row<'_>,
 ) -> bool
     requires { StoreFits verified.now.image store }
 {
@@ -151,7 +203,7 @@ fn run_comes_out<C: Code>(
         Ok(totals) => {
             row.fault.0 == 0 && (totals.cases, totals.lines, totals.unseen) == row.totals
         }
-        Err(fault) => (fault.number, fault.line, 0) == row.fault,
+        Err(fault) => (u64::from(fault.number), fault.line, 0) == row.fault,
     };
     let texts = [
         out.into_inner(),
@@ -163,7 +215,7 @@ fn run_comes_out<C: Code>(
 }
 
 /// Whether these are the row's lines, listing, frequencies and decks.
-pub(crate) fn are_texts(found: &[Vec<u8>; 4], row: &Row) -> bool {
+pub(crate) fn are_texts(found: &[Vec<u8>; 4], row: &Row<'_>) -> bool {
     let [out, listing, frequencies, saved] = found;
     out.as_slice() == row.out
         && listing.as_slice() == row.listing
