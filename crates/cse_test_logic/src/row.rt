@@ -33,7 +33,9 @@ pub(crate) struct Row<'a> {
 
 /// The listing, frequencies and decks of a run that has none, over no data.
 const NO_LISTING: &str = "CSEB LISTING 1\nSUMMARY\ncases 0\nlines 0\nunseen 0\nEND\n";
+
 const NO_FREQUENCIES: &str = "CSEB FREQUENCIES 1\nEND\n";
+
 const NO_DECKS: &str = "CSEB DECKS 1\nEND\n";
 
 /// A field, or another text where it is empty.
