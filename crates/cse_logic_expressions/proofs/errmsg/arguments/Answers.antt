@@ -44,6 +44,6 @@ all-preserved c =
     let lt : c.all.x-index < length items = subst (λ (xs : List Expression). c.all.x-index < length xs) whole c.all-test.true in
     let is : x ≡ get_or items c.all.x-index x = subst (λ (xs : List Expression). x ≡ get_or xs c.all.x-index x) whole c.x-item.is in
     record {
-      value = arguments_step s items c.all.x-index x c.all.is_sound _ c.in_ok-is_there.is_there c.all.found.items _ c.in_ok-next.next _ _ _ c.next-kind.result lt is c.all.invariant.value c.next-kind.ensures.steps c.in_ok-next.ensures.value c.in_ok-is_there.ensures.found c.in_ok-is_there.ensures.there c.both-is_sound.ensures;
-      noted = step_noted_made argument _ _ _ c.all.is_sound _ c.in_ok-is_there.is_there c.in_ok-next.next _ c.all.invariant.noted c.in_ok-next.ensures.noted c.in_ok-next.ensures.value c.in_ok-is_there.ensures.there c.both-is_sound.ensures;
+      value = arguments_step s items c.all.x-index x c.all.is_sound _ c.in_ok-is_there.is_there c.all.found.items _ c.in_ok-next.next _ _ _ c.next-kind.result lt is c.all.invariant.value c.next-kind.ensures.steps c.in_ok-next.ensures.value c.in_ok-is_there.ensures.found c.in_ok-is_there.ensures.there c.both_hold-is_sound.ensures;
+      noted = step_noted_made argument _ _ _ c.all.is_sound _ c.in_ok-is_there.is_there c.in_ok-next.next _ c.all.invariant.noted c.in_ok-next.ensures.noted c.in_ok-next.ensures.value c.in_ok-is_there.ensures.there c.both_hold-is_sound.ensures;
     }

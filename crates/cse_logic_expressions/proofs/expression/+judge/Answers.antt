@@ -27,11 +27,11 @@ pub expression-returns-in_ok-made-in-Compare-clause-noted : goal.expression-retu
 expression-returns-in_ok-made-in-Compare-clause-noted t c =
     let s = c.args.scope.now in
     let relation = c.in-Compare.relation in
-    let left = c.deref-in-Compare-3.result.now in
-    let right = c.deref-in-Compare-4.result.now in
+    let left = c.deref-in-Compare.result.now in
+    let right = c.deref-in-Compare-2.result.now in
     let same = ap (λ x. judge s c.args.top (expr x)) c.in-Compare.is ∙ compare_judged s c.args.top c.in-Compare.left relation c.in-Compare.right
-    ∙ ap (λ (x : Expression). AsNumber (compared relation (judge s false (expr x)) (judge s false (expr c.in-Compare.right.value)))) (sym c.deref-in-Compare-3.ensures)
-    ∙ ap (λ (x : Expression). AsNumber (compared relation (judge s false (expr left)) (judge s false (expr x)))) (sym c.deref-in-Compare-4.ensures) in
+    ∙ ap (λ (x : Expression). AsNumber (compared relation (judge s false (expr x)) (judge s false (expr c.in-Compare.right.value)))) (sym c.deref-in-Compare.ensures)
+    ∙ ap (λ (x : Expression). AsNumber (compared relation (judge s false (expr left)) (judge s false (expr x)))) (sym c.deref-in-Compare-2.ensures) in
     rw same (after_made_parts relation (judge s false (expr left)) (judge s false (expr right)) _ _ _ _ _ _ c.in_ok-earlier-in-Compare.ensures.value c.in_ok-later-in-Compare.ensures.value c.in_ok-earlier-in-Compare.ensures.noted c.in_ok-later-in-Compare.ensures.noted c.in_ok-made-in-Compare.ensures.noted)
 
 pub expression-returns-in_ok-start-in-Chain-clause-value : goal.expression-returns-in_ok-start-in-Chain-clause-value
@@ -96,8 +96,8 @@ all_values-all-preserved t c =
     let lt : c.all.x-index < length items = subst (λ (xs : List Expression). c.all.x-index < length xs) whole c.all-test.true in
     let is : x ≡ get_or items c.all.x-index x = subst (λ (xs : List Expression). x ≡ get_or xs c.all.x-index x) whole c.x-item.is in
     record {
-      value = step_made (λ (x : Expression) (rest : List Expression). as_number (judge s false (expr x))) number items c.all.x-index x c.all.is_sound _ c.in_ok-is_there.is_there c.all.found.items _ c.in_ok-next.next _ lt is c.all.invariant.value c.in_ok-next.ensures.value c.in_ok-is_there.ensures.found c.in_ok-is_there.ensures.there c.both-is_sound.ensures;
-      noted = step_noted_made number _ _ _ c.all.is_sound _ c.in_ok-is_there.is_there c.in_ok-next.next _ c.all.invariant.noted c.in_ok-next.ensures.noted c.in_ok-next.ensures.value c.in_ok-is_there.ensures.there c.both-is_sound.ensures;
+      value = step_made (λ (x : Expression) (rest : List Expression). as_number (judge s false (expr x))) number items c.all.x-index x c.all.is_sound _ c.in_ok-is_there.is_there c.all.found.items _ c.in_ok-next.next _ lt is c.all.invariant.value c.in_ok-next.ensures.value c.in_ok-is_there.ensures.found c.in_ok-is_there.ensures.there c.both_hold-is_sound.ensures;
+      noted = step_noted_made number _ _ _ c.all.is_sound _ c.in_ok-is_there.is_there c.in_ok-next.next _ c.all.invariant.noted c.in_ok-next.ensures.noted c.in_ok-next.ensures.value c.in_ok-is_there.ensures.there c.both_hold-is_sound.ensures;
     }
 
 pub all_operations-returns-then-is_sound-clause-value : goal.all_operations-returns-then-is_sound-clause-value
@@ -144,7 +144,7 @@ all_operations-all-preserved t c =
     let none = none_left items (c.all.x-index + 1) _ left in
     let v = c.in_ok-next.ensures.value ∙ ap (λ b. judge_operation s c.args.top (syntax.operation_tree x) b) none in
     record {
-      value = step_made (λ (x : Operation) (rest : List Operation). judge_operation s c.args.top (syntax.operation_tree x) (is_none rest)) typed.operation_tree items c.all.x-index x c.all.is_sound _ c.in_ok-is_there.is_there c.all.found.items _ c.in_ok-next.next _ lt is c.all.invariant.value v c.in_ok-is_there.ensures.found c.in_ok-is_there.ensures.there c.both-is_sound.ensures;
-      noted = step_noted_made typed.operation_tree _ _ _ c.all.is_sound _ c.in_ok-is_there.is_there c.in_ok-next.next _ c.all.invariant.noted c.in_ok-next.ensures.noted c.in_ok-next.ensures.value c.in_ok-is_there.ensures.there c.both-is_sound.ensures;
+      value = step_made (λ (x : Operation) (rest : List Operation). judge_operation s c.args.top (syntax.operation_tree x) (is_none rest)) typed.operation_tree items c.all.x-index x c.all.is_sound _ c.in_ok-is_there.is_there c.all.found.items _ c.in_ok-next.next _ lt is c.all.invariant.value v c.in_ok-is_there.ensures.found c.in_ok-is_there.ensures.there c.both_hold-is_sound.ensures;
+      noted = step_noted_made typed.operation_tree _ _ _ c.all.is_sound _ c.in_ok-is_there.is_there c.in_ok-next.next _ c.all.invariant.noted c.in_ok-next.ensures.noted c.in_ok-next.ensures.value c.in_ok-is_there.ensures.there c.both_hold-is_sound.ensures;
       left = left;
     }

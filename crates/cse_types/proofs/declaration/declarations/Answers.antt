@@ -21,9 +21,9 @@ all-preserved c =
     let e = c.in_ok-next.ensures in
     record {
       value = made_turn typed.declaration c.all.is_sound _ c.in_ok-is_there.is_there c.all.found.items _ c.in_ok-next.next _ _ _ _ c.all.invariant.value
-          (declarations_head items c.all.x-index x lt is c.all.scope _ c.all.told.items _ e.behind e.told) e.value c.in_ok-is_there.ensures.found c.in_ok-is_there.ensures.there c.both-is_sound.ensures;
+          (declarations_head items c.all.x-index x lt is c.all.scope _ c.all.told.items _ e.behind e.told) e.value c.in_ok-is_there.ensures.found c.in_ok-is_there.ensures.there c.both_hold-is_sound.ensures;
       behind = behind_turn items c.all.x-index x lt is c.all.scope _ _ c.all.told.items _ e.behind e.told c.all.invariant.behind;
-      noted = step_noted_made typed.declaration _ _ _ c.all.is_sound _ c.in_ok-is_there.is_there c.in_ok-next.next _ c.all.invariant.noted e.noted e.value c.in_ok-is_there.ensures.there c.both-is_sound.ensures;
+      noted = step_noted_made typed.declaration _ _ _ c.all.is_sound _ c.in_ok-is_there.is_there c.in_ok-next.next _ c.all.invariant.noted e.noted e.value c.in_ok-is_there.ensures.there c.both_hold-is_sound.ensures;
       told = told_turn items c.all.x-index x lt is c.all.told.items _ _ e.told c.all.invariant.told;
     }
 

@@ -20,9 +20,9 @@ all-preserved c =
     let e = c.in_ok-is_there.ensures in
     record {
       value = judged_turn typed.procedure c.all.is_sound _ c.in_ok-is_there.is_there c.all.found.items _ _ _ _ _ c.all.invariant.value
-          (procedures_head items c.all.x-index x lt is c.all.scope _ c.all.told.items _ e.same e.told) e.found e.there c.both-is_sound.ensures;
+          (procedures_head items c.all.x-index x lt is c.all.scope _ c.all.told.items _ e.same e.told) e.found e.there c.both_hold-is_sound.ensures;
       same = e.same ∙ c.all.invariant.same;
-      noted = judged_noted _ _ _ c.all.is_sound _ c.in_ok-is_there.is_there _ c.all.invariant.noted e.noted e.there c.both-is_sound.ensures;
+      noted = judged_noted _ _ _ c.all.is_sound _ c.in_ok-is_there.is_there _ c.all.invariant.noted e.noted e.there c.both_hold-is_sound.ensures;
       told = procedures_told items c.all.x-index x lt is c.all.told.items _ _ e.told c.all.invariant.told;
     }
 

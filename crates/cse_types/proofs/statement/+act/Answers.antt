@@ -72,8 +72,8 @@ block-all-preserved t c =
     let is : x ≡ get_or items c.all.x-index x = subst (λ (xs : List rusts.Statement). x ≡ get_or xs c.all.x-index x) whole c.x-item.is in
     let at = ap (λ k. statement_at k (length c.all.told.items) x) c.all.invariant.same in
     record {
-      value = from_step (statement_at s) count_at statement items c.all.x-index _ _ x c.all.is_sound _ c.in_ok-is_there.is_there c.all.found.items _ c.in_ok-next.next _ lt is c.all.invariant.value (c.in_ok-next.ensures.value ∙ at) (told_count told_of _ _ (messages_at x) c.in_ok-next.ensures.told) c.in_ok-is_there.ensures.found c.in_ok-is_there.ensures.there c.both-is_sound.ensures;
-      noted = step_noted_made statement _ _ _ c.all.is_sound _ c.in_ok-is_there.is_there c.in_ok-next.next _ c.all.invariant.noted c.in_ok-next.ensures.noted c.in_ok-next.ensures.value c.in_ok-is_there.ensures.there c.both-is_sound.ensures;
+      value = from_step (statement_at s) count_at statement items c.all.x-index _ _ x c.all.is_sound _ c.in_ok-is_there.is_there c.all.found.items _ c.in_ok-next.next _ lt is c.all.invariant.value (c.in_ok-next.ensures.value ∙ at) (told_count told_of _ _ (messages_at x) c.in_ok-next.ensures.told) c.in_ok-is_there.ensures.found c.in_ok-is_there.ensures.there c.both_hold-is_sound.ensures;
+      noted = step_noted_made statement _ _ _ c.all.is_sound _ c.in_ok-is_there.is_there c.in_ok-next.next _ c.all.invariant.noted c.in_ok-next.ensures.noted c.in_ok-next.ensures.value c.in_ok-is_there.ensures.there c.both_hold-is_sound.ensures;
       told = told_step messages_at items c.all.x-index x _ _ _ lt is c.all.invariant.told c.in_ok-next.ensures.told;
       same = c.in_ok-next.ensures.same ∙ c.all.invariant.same;
     }
@@ -134,8 +134,8 @@ arms-all-preserved t c =
     let is : x ≡ get_or items c.all.x-index x = subst (λ (xs : List rustarm.Arm). x ≡ get_or xs c.all.x-index x) whole c.x-item.is in
     let at = ap (λ k. arm_at k (length c.all.told.items) x) c.all.invariant.same in
     record {
-      value = from_step (arm_at s) arm_count arm_tree items c.all.x-index _ _ x c.all.is_sound _ c.in_ok-is_there.is_there c.all.found.items _ c.in_ok-next.next _ lt is c.all.invariant.value (c.in_ok-next.ensures.value ∙ at) (told_count told_of _ _ (arm_messages x) c.in_ok-next.ensures.told) c.in_ok-is_there.ensures.found c.in_ok-is_there.ensures.there c.both-is_sound.ensures;
-      noted = step_noted_made arm_tree _ _ _ c.all.is_sound _ c.in_ok-is_there.is_there c.in_ok-next.next _ c.all.invariant.noted c.in_ok-next.ensures.noted c.in_ok-next.ensures.value c.in_ok-is_there.ensures.there c.both-is_sound.ensures;
+      value = from_step (arm_at s) arm_count arm_tree items c.all.x-index _ _ x c.all.is_sound _ c.in_ok-is_there.is_there c.all.found.items _ c.in_ok-next.next _ lt is c.all.invariant.value (c.in_ok-next.ensures.value ∙ at) (told_count told_of _ _ (arm_messages x) c.in_ok-next.ensures.told) c.in_ok-is_there.ensures.found c.in_ok-is_there.ensures.there c.both_hold-is_sound.ensures;
+      noted = step_noted_made arm_tree _ _ _ c.all.is_sound _ c.in_ok-is_there.is_there c.in_ok-next.next _ c.all.invariant.noted c.in_ok-next.ensures.noted c.in_ok-next.ensures.value c.in_ok-is_there.ensures.there c.both_hold-is_sound.ensures;
       told = told_step arm_messages items c.all.x-index x _ _ _ lt is c.all.invariant.told c.in_ok-next.ensures.told;
       same = c.in_ok-next.ensures.same ∙ c.all.invariant.same;
     }
