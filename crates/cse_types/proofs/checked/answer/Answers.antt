@@ -22,16 +22,16 @@ made_for-requires c =
     let is = sym (c.requires.found c.if-is_faulty.false) ∙ ap (option_map typed.tree) c.in-Some.is in
     checked_so d m c.args.order.now x _ (typed.tree c.in-Some.tree) (typed_right d m x (typed.tree c.in-Some.tree) is) c.args.source.now.is_source c.requires.order c.requires.utf8 c.requires.texts
 
-pub returns-in-Some-clause-sound : goal.returns-in-Some-clause-sound
-returns-in-Some-clause-sound c =
+pub returns-clause-sound : goal.returns-clause-sound
+returns-clause-sound c =
     let d = c.args.dictionary.now in
     let m = c.args.messages.now in
     let x = syntax.tree c.args.source.now.tree in
     let is = sym (c.requires.found c.if-is_faulty.false) ∙ ap (option_map typed.tree) c.in-Some.is in
     subst (λ (y : Checked). IsTypedAs d m x y.tree) (sym c.made_for.ensures) (typed_right d m x (typed.tree c.in-Some.tree) is)
 
-pub returns-in-Some-clause-only : goal.returns-in-Some-clause-only
-returns-in-Some-clause-only c = λ t h.
+pub returns-clause-only : goal.returns-clause-only
+returns-clause-only c = λ t h.
     let d = c.args.dictionary.now in
     let m = c.args.messages.now in
     let x = syntax.tree c.args.source.now.tree in
