@@ -27,18 +27,22 @@ pub const USAGE: &str = "usage: one of
   csbatch edit DICT LOGIC DATA OUT LIST FREQ [--messages F] [--order F] [--decks F] [--case-steps N] [--sync]
                                                                reads DICT, LOGIC, each F (that of --decks where it is there) and DATA; writes OUT, LIST, FREQ and the F of --decks; ends with 0, 1 or 3
   csbatch try IMAGE                                            reads IMAGE; writes no file; ends with 0, 1 or 3
+  csbatch check DICT LOGIC [--messages F] [--order F] [--json] [--warnings]
+                                                               reads DICT, LOGIC and each F; writes no file; ends with 0, 1 or 3
+  csbatch explain N                                            reads and writes no file; ends with 0, 1 or 3
   csbatch --version                                            prints the version; ends with 0 or 3
 
 compile makes an image of logic, with its messages and its edit order. verify tells whether an image may run with a
 dictionary, and how many steps it may take. run edits a data file, and begins with the hot decks of a file. edit does
 what compile and then run do, with no image between. try runs what an image does before the first case, and prints its
-messages.
+messages. check prints all faults of logic and the files beside it, with what to write instead, and explain what a fault's
+number means.
 --case-steps refuses an image of which a case may take more than N steps, by the bound that verify prints. --sync waits
 until the disk has OUT, LIST and FREQ. IMAGE and the F of --decks are written whole or not at all.
 No file that is written may be one of the others, but a device as /dev/null.
 The status is 0 where it is done, 1 where something was refused, 2 for words that are no command or of which two lead to
 one file, and 3 where a file, a device or memory failed. At 1, 2 and 3 standard error tells why, in a line where the
-words are a command.
+words are a command; at 1 of check and explain standard output does.
 ";
 
 /// The program: it does what its words ask for, and tells on standard error what it has not done.

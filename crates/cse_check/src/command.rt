@@ -1,0 +1,224 @@
+//! `csbatch check` and `csbatch explain`: what their words ask for, their files and their statuses.
+
+use crate::report::{File, Files, Report, report_of};
+use crate::said::section_of;
+use crate::words::{CheckWords, check_words};
+use cse_files::{ReadFault, open_input, read_all};
+use cse_value::{Output, Writes, write_all};
+use itoa::Buffer;
+use std::alloc::AllocError;
+use std::env;
+use std::io::{self, ErrorKind};
+use std::process::ExitCode;
+use std::rt::{Env, Files as Opens};
+
+/// The most bytes of a file.
+const MOST_TEXT: u64 = 268_435_456;
+
+/// Why a command has not printed all.
+#[derive(Clone, Copy)]
+enum Stop<'a> {
+    /// The words are no command.
+    Usage,
+    /// A file was not read.
+    NotRead(&'a str, ReadFault),
+    /// A file has more bytes than are read.
+    TooLong(&'a str),
+    /// Standard output took no more.
+    NotWritten,
+    /// Want of memory.
+    Memory,
+}
+
+impl From<AllocError> for Stop<'_> {
+    fn from(_refused: AllocError) -> Self {
+        Stop::Memory
+    }
+}
+
+/// The bytes of a file.
+fn bytes_of<'a, R: Opens + AllocGlobal>(rt: &R, path: &'a str) -> Result<Vec<u8>, Stop<'a>> {
+    let mut input = match open_input(rt, path) {
+        Ok(input) => input,
+        Err(error) if error.kind() == ErrorKind::OutOfMemory => return Err(Stop::Memory),
+        Err(_) => return Err(Stop::NotRead(path, ReadFault::NotOpened)),
+    };
+    match read_all(rt.alloc(), &mut input.device, MOST_TEXT) {
+        Ok(bytes) if bytes.len() as u64 > MOST_TEXT => Err(Stop::TooLong(path)),
+        Ok(bytes) => Ok(bytes),
+        Err(ReadFault::Memory) => Err(Stop::Memory),
+        Err(fault) => Err(Stop::NotRead(path, fault)),
+    }
+}
+
+/// The bytes of the files, none of one that isn't named.
+fn all_bytes<'a, R: Opens + AllocGlobal>(
+    rt: &R,
+    paths: [Option<&'a str>; 4],
+) -> Result<Vec<Vec<u8>>, Stop<'a>> {
+    let mut all = Vec::new(rt.alloc());
+    for path in paths {
+        let bytes = match path {
+            Some(path) => bytes_of(rt, path)?,
+            None => Vec::new(rt.alloc()),
+        };
+        if all.push(bytes).is_err() {
+            return Err(Stop::Memory);
+        }
+    }
+    Ok(all)
+}
+
+/// A file that may be named, with its bytes.
+fn file_if<'a>(path: Option<&'a str>, bytes: &'a [u8]) -> Option<File<'a>> {
+    match path {
+        Some(path) => Some(File { path, bytes }),
+        None => None,
+    }
+}
+
+/// All faults of the files.
+fn report_files<'a, R: Opens + AllocGlobal>(
+    rt: &R,
+    words: &CheckWords<'a>,
+) -> Result<Report, Stop<'a>> {
+    let paths = [
+        Some(words.dict),
+        Some(words.logic),
+        words.messages,
+        words.order,
+    ];
+    let all = all_bytes(rt, paths)?;
+    let [dict, logic, messages, order] = all.as_slice() else {
+        return Err(Stop::Memory);
+    };
+    let files = Files {
+        dict: File {
+            path: words.dict,
+            bytes: dict,
+        },
+        logic: File {
+            path: words.logic,
+            bytes: logic,
+        },
+        messages: file_if(words.messages, messages),
+        order: file_if(words.order, order),
+        has_warnings: words.has_warnings,
+    };
+    Ok(report_of(rt.alloc(), &files, words.is_json))
+}
+
+/// Prints bytes.
+fn print<R: Print>(rt: &R, bytes: &[u8]) -> Result<(), Stop<'static>> {
+    let mut out = Writes::new(io::writer(rt));
+    match write_all(&mut out, bytes) {
+        Ok(()) => Ok(()),
+        Err(_) => Err(Stop::NotWritten),
+    }
+}
+
+/// `check`. Answers the status.
+fn check<'a, R: Opens + Print + AllocGlobal>(rt: &R, words: &'a [String]) -> Result<u8, Stop<'a>> {
+    let Some(words) = check_words(words) else {
+        return Err(Stop::Usage);
+    };
+    let Report {
+        printed,
+        faults,
+        warnings: _,
+    } = report_files(rt, &words)?;
+    let bytes = printed.finish()?;
+    print(rt, &bytes)?;
+    Ok(if faults == 0 { 0 } else { 1 })
+}
+
+/// `explain`. Answers the status.
+fn explain<'a, R: Print>(rt: &R, words: &'a [String]) -> Result<u8, Stop<'a>> {
+    let [word] = words else {
+        return Err(Stop::Usage);
+    };
+    let Ok(number) = word.as_str().parse::<u8>() else {
+        return Err(Stop::Usage);
+    };
+    let mut buffer = Buffer::new();
+    let section = section_of(buffer.format(number).as_bytes());
+    if section.is_empty() {
+        print(rt, b"no fault has this number\n")?;
+        return Ok(1);
+    }
+    print(rt, section)?;
+    Ok(0)
+}
+
+/// Why a file was not read.
+fn reason(fault: ReadFault) -> &'static [u8] {
+    match fault {
+        ReadFault::NotOpened => b"error[72]: can't open ",
+        ReadFault::NotRead => b"error[70]: can't read ",
+        ReadFault::Memory => b"error[90]: not enough memory for ",
+    }
+}
+
+/// What is told of a command that has not printed all: words, the path behind them, and the status.
+fn told<'a>(stop: Stop<'a>, usage: &'a str) -> (&'a [u8], &'a str, u8) {
+    match stop {
+        Stop::Usage => (usage.as_bytes(), "", 2),
+        Stop::NotRead(path, fault) => (reason(fault), path, 3),
+        Stop::TooLong(path) => (b"error[64]: more than 268435456 bytes in ", path, 1),
+        Stop::NotWritten => (b"error[71]: standard output takes no more", "", 3),
+        Stop::Memory => (b"error[90]: not enough memory", "", 3),
+    }
+}
+
+/// Tells why a command has not printed all, and answers the status.
+fn tell<W: Output>(stop: Stop<'_>, usage: &str, errors: &mut W) -> u8 {
+    let (words, path, status) = told(stop, usage);
+    let end: &[u8] = if status == 2 { b"" } else { b"\n" };
+    let _ = write_all(errors, words);
+    let _ = write_all(errors, path.as_bytes());
+    let _ = write_all(errors, end);
+    status
+}
+
+/// Does what the words ask for, if the first is `check` or `explain`. Answers the status.
+fn carry_out<R: Opens + Print + AllocGlobal, W: Output>(
+    rt: &R,
+    words: &[String],
+    usage: &str,
+    errors: &mut W,
+) -> Option<u8> {
+    let [first, rest @ ..] = words else {
+        return None;
+    };
+    let done = match first.as_str() {
+        "check" => check(rt, rest),
+        "explain" => explain(rt, rest),
+        _ => return None,
+    };
+    Some(match done {
+        Ok(status) => status,
+        Err(stop) => tell(stop, usage, errors),
+    })
+}
+
+/// The words after the program's name.
+fn words_given<R: Env + AllocGlobal>(rt: &R) -> io::Result<Vec<String>> {
+    let mut words = Vec::new(rt.alloc());
+    for word in env::args(rt)?.skip(1) {
+        words.push(word)?;
+    }
+    Ok(words)
+}
+
+/// Does what the words ask for, if the first is `check` or `explain`; else nothing is done. Other words behind these are told by
+/// the usage.
+pub fn start(rt: &HostRuntime, usage: &str) -> Option<ExitCode> {
+    let Ok(words) = words_given(rt) else {
+        return None;
+    };
+    let mut errors = Writes::new(rt.stderr());
+    match carry_out(rt, &words, usage, &mut errors) {
+        Some(status) => Some(ExitCode::from(status)),
+        None => None,
+    }
+}

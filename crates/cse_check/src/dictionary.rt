@@ -1,0 +1,134 @@
+//! The faults of a dictionary: the first one, and those behind it as long as an item or a value set is at fault, which is left
+//! out then.
+
+use cse_dict::{DictError, Dictionary};
+use cse_pieces::{Finding, Gathered, mark_len};
+use cse_sections::sections::{Section, sections_of};
+use cse_sections::text::is_same;
+use std::alloc::{AllocError, Global};
+
+/// How many faults of a dictionary are told.
+const MOST: u32 = 50;
+
+/// The number of want of memory.
+const WANT_OF_MEMORY: u8 = 90;
+
+/// Lines from one up to another, from 1.
+#[derive(Clone, Copy)]
+struct Lines {
+    first: u64,
+    last: u64,
+}
+
+/// Where a line of this number begins, from 1; the front for 0.
+fn line_start(text: &[u8], number: u64) -> usize {
+    let mut line = 1u64;
+    let mut start = mark_len(text);
+    for (at, byte) in text.iter().enumerate() {
+        if line >= number {
+            return start;
+        }
+        if *byte == b'\n' {
+            line = line.saturating_add(1);
+            start = at.saturating_add(1);
+        }
+    }
+    start
+}
+
+/// Whether a section is a value set.
+fn is_set(section: &Section<'_>) -> bool {
+    is_same(section.heading, b"ValueSet")
+}
+
+/// The lines of the item or value set that a line stands in, those of an item with its value sets; none where it stands in neither.
+fn lines_in(sections: &[Section<'_>], line: u64) -> Option<Lines> {
+    let mut own: Option<&Section<'_>> = None;
+    for section in sections {
+        match own {
+            Some(first) if section.line > line && (is_set(first) || !is_set(section)) => {
+                return lines_up_to(first, section.line);
+            }
+            _ if section.line <= line => own = Some(section),
+            _ => {}
+        }
+    }
+    lines_up_to(own?, u64::MAX)
+}
+
+/// The lines of a section up to that of another; none where it is no item and no value set.
+fn lines_up_to(section: &Section<'_>, last: u64) -> Option<Lines> {
+    if is_set(section) || is_same(section.heading, b"Item") {
+        let first = section.line;
+        Some(Lines { first, last })
+    } else {
+        None
+    }
+}
+
+/// Blanks in place of lines.
+fn blank(text: &mut Vec<u8>, lines: Lines) {
+    let mut line = 1u64;
+    for byte in text.as_mut_slice().iter_mut() {
+        if *byte == b'\n' {
+            line = line.saturating_add(1);
+        } else if lines.first <= line && line < lines.last {
+            *byte = b' ';
+        }
+    }
+}
+
+/// A text without the item or the value set that a fault of this number and line stands in. Answers whether there is one.
+fn leave_out(alloc: Global, text: &mut Vec<u8>, number: u8, line: u64) -> bool {
+    let lines = match sections_of(alloc, text) {
+        Ok(sections) => lines_in(&sections, line),
+        Err(_) => None,
+    };
+    match lines {
+        // There is too much of something, and what is left out makes room for one more.
+        Some(lines) if number == 17 && lines.first == line => false,
+        Some(lines) => {
+            blank(text, lines);
+            true
+        }
+        None => false,
+    }
+}
+
+/// The first fault of a text without what a fault of this number and line stands in; none where it isn't behind that line.
+fn next_fault(alloc: Global, text: &mut Vec<u8>, number: u8, line: u64) -> Option<DictError> {
+    if !leave_out(alloc, text, number, line) {
+        return None;
+    }
+    match Dictionary::read(alloc, text) {
+        Ok(_) => None,
+        Err(error) if error.line > line || error.number == WANT_OF_MEMORY => Some(error),
+        Err(_) => None,
+    }
+}
+
+/// The faults of a dictionary, of which the first is known.
+pub fn dictionary_faults(
+    alloc: Global,
+    text: &[u8],
+    first: DictError,
+) -> Result<Vec<Finding>, AllocError> {
+    let mut kept = Vec::from_slice(alloc, text)?;
+    let mut found = Gathered::new(alloc);
+    let mut fault = Some(first);
+    for _ in 0..MOST {
+        if let Some(error) = fault {
+            let (number, line) = (error.number, error.line);
+            if number == WANT_OF_MEMORY {
+                found.give_up();
+            } else {
+                found.add(Finding {
+                    start: line_start(text, line),
+                    number,
+                });
+            }
+            fault = next_fault(alloc, &mut kept, number, line);
+        }
+    }
+    found.finish()
+}

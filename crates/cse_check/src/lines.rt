@@ -1,0 +1,75 @@
+//! Faults of the files beside logic: the messages and the edit order. Each is told by its line.
+
+use cse_dict::Dictionary;
+use cse_pieces::{Finding, Gathered, lines_of, part};
+use cse_types::Messages;
+use std::alloc::{AllocError, Global};
+
+/// The number of want of memory.
+const WANT_OF_MEMORY: u8 = 90;
+
+/// The fault of a line of a message file; 0 where there is none.
+fn fault_of(alloc: Global, line: &[u8]) -> u8 {
+    match Messages::read(alloc, line) {
+        Ok(_) => 0,
+        Err(error) => error.number,
+    }
+}
+
+/// The faults of a message file, each line by itself; the others are kept.
+pub fn message_faults(
+    alloc: Global,
+    text: &[u8],
+    kept: &mut Gathered<u8>,
+) -> Result<Vec<Finding>, AllocError> {
+    let lines = lines_of(alloc, text)?;
+    let mut found = Gathered::new(alloc);
+    for line in &lines {
+        let bytes = part(text, line.start, line.end);
+        match fault_of(alloc, bytes) {
+            0 => {
+                for byte in bytes {
+                    kept.add(*byte);
+                }
+                kept.add(b'\n');
+            }
+            WANT_OF_MEMORY => found.give_up(),
+            number => found.add(Finding {
+                start: line.start,
+                number,
+            }),
+        }
+    }
+    found.finish()
+}
+
+/// The record that a line of an order file names.
+fn record_of(dictionary: &Dictionary, line: &[u8]) -> Option<u16> {
+    match str::from_utf8(line) {
+        Ok(name) => dictionary.find_record(name),
+        Err(_) => None,
+    }
+}
+
+/// The faults of an order file: lines that name no record, or one that an earlier line names.
+pub fn order_faults(
+    alloc: Global,
+    dictionary: &Dictionary,
+    text: &[u8],
+) -> Result<Vec<Finding>, AllocError> {
+    let lines = lines_of(alloc, text)?;
+    let mut found = Gathered::new(alloc);
+    let mut named = Gathered::new(alloc);
+    for line in &lines {
+        let name = part(text, line.start, line.end);
+        match record_of(dictionary, name) {
+            Some(record) if !named.items().contains(&record) => named.add(record),
+            None if name.is_empty() => {}
+            _ => found.add(Finding {
+                start: line.start,
+                number: 40,
+            }),
+        }
+    }
+    found.finish()
+}

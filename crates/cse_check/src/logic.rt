@@ -1,0 +1,159 @@
+//! All faults of a text of logic.
+
+use cse_dict::Dictionary;
+use cse_pieces::{Finding, Gathered, Mending, Piece, Token, byte_of, in_order, is_among};
+use cse_syntax::{Kind, Mark, Source, SyntaxError, Token as Read, parse};
+use cse_types::{Messages, faults};
+use std::alloc::{AllocError, Global};
+
+/// What stands beside logic.
+#[derive(Clone, Copy)]
+pub struct Beside<'a> {
+    /// The dictionary; none where it is at fault.
+    pub dictionary: Option<&'a Dictionary>,
+    pub messages: &'a Messages,
+    /// Whether lines of the message file are at fault, so that some of its numbers are not known.
+    pub lacks_messages: bool,
+}
+
+/// Where the parenthesis closes that opens behind a name; the name itself where none opens.
+fn arguments_end(tokens: &[Read<'_>], name: usize) -> usize {
+    let behind = name.saturating_add(1);
+    let mut depth = 0usize;
+    for (place, token) in tokens.iter().enumerate().skip(behind) {
+        match token.kind {
+            Kind::Mark(Mark::Open) => depth = depth.saturating_add(1),
+            Kind::Mark(Mark::Close) => depth = depth.saturating_sub(1),
+            _ => {}
+        }
+        if depth == 0 {
+            return if place == behind { name } else { place };
+        }
+    }
+    tokens.len()
+}
+
+/// Whether a fault of an argument follows from its function, which is not known: a text, a record or a set stands there.
+fn is_argument(dictionary: &Dictionary, number: u8, token: &Read<'_>) -> bool {
+    let names_other = dictionary.find_record(token.text).is_some()
+        || dictionary.find_set(token.text).is_some();
+    number == 44 || (number == 40 && names_other)
+}
+
+/// Whether a fault of a name follows from that of a declaration, of which these are the names, or of a message.
+fn follows(beside: &Beside<'_>, excused: &[&[u8]], number: u8, token: &Read<'_>) -> bool {
+    if token.kind == Kind::Number {
+        return beside.lacks_messages && (number == 40 || number == 48);
+    }
+    number == 40 && is_among(excused, token.text.as_bytes())
+}
+
+/// Those faults of names and kinds that follow from no other. What stands for the place of each is its token.
+fn add_named(
+    beside: &Beside<'_>,
+    dictionary: &Dictionary,
+    tokens: &[Read<'_>],
+    excused: &[&[u8]],
+    named: &[Finding],
+    found: &mut Gathered<Finding>,
+) {
+    let mut unknown_end = 0;
+    for fault in named {
+        let (place, number) = (fault.start, fault.number);
+        let Some(token) = tokens.get(place) else {
+            continue;
+        };
+        if place < unknown_end && is_argument(dictionary, number, token) {
+            continue;
+        }
+        if number == 40 && unknown_end <= place {
+            unknown_end = arguments_end(tokens, place);
+        }
+        if !follows(beside, excused, number, token) {
+            let start = token.start;
+            found.add(Finding { start, number });
+        }
+    }
+}
+
+/// The faults of names and kinds of a source, each by its token, in their order.
+fn named_faults(
+    alloc: Global,
+    beside: &Beside<'_>,
+    dictionary: &Dictionary,
+    source: &Source<'_>,
+) -> Result<Vec<Finding>, AllocError> {
+    let faults = faults(alloc, dictionary, beside.messages, &source.tree)?;
+    let mut named = Gathered::new(alloc);
+    for fault in &faults {
+        named.add(Finding {
+            start: fault.token,
+            number: fault.number,
+        });
+    }
+    in_order(named.finish()?)
+}
+
+/// A fault of what was thought to be without one.
+fn add_error(text: &[u8], error: SyntaxError, found: &mut Gathered<Finding>) {
+    if error.number == 90 {
+        found.give_up();
+        return;
+    }
+    let (line, column) = (u64::from(error.line), u64::from(error.column));
+    found.add(Finding {
+        start: byte_of(text, line, column),
+        number: error.number,
+    });
+}
+
+/// The faults of names and kinds of what can be read.
+fn add_names(
+    alloc: Global,
+    beside: &Beside<'_>,
+    dictionary: &Dictionary,
+    mended: &[u8],
+    excused: &[&[u8]],
+    found: &mut Gathered<Finding>,
+) {
+    let Ok(text) = str::from_utf8(mended) else {
+        return;
+    };
+    match parse(alloc, text) {
+        Ok(source) => match named_faults(alloc, beside, dictionary, &source) {
+            Ok(named) => add_named(beside, dictionary, &source.tokens, excused, &named, found),
+            Err(_) => found.give_up(),
+        },
+        Err(error) => add_error(mended, error, found),
+    }
+}
+
+/// All faults of a text of logic behind some that were found, each once, in the order of their places.
+pub fn logic_faults(
+    alloc: Global,
+    text: &[u8],
+    tokens: &[Token],
+    pieces: &[Piece],
+    beside: &Beside<'_>,
+    found: Gathered<Finding>,
+) -> Result<Vec<Finding>, AllocError> {
+    let mut mending = Mending::new(alloc, text, tokens, found)?;
+    mending.take_pieces(pieces);
+    let Mending {
+        mended,
+        mut found,
+        excused,
+        ..
+    } = mending;
+    if let Some(dictionary) = beside.dictionary {
+        add_names(
+            alloc,
+            beside,
+            dictionary,
+            &mended,
+            excused.items(),
+            &mut found,
+        );
+    }
+    in_order(found.finish()?)
+}

@@ -1,0 +1,296 @@
+//! From the texts of the files to what is printed of them.
+
+use crate::advice::{Advice, advice_of, by_key, by_number};
+use crate::dictionary::dictionary_faults;
+use crate::known::Known;
+use crate::lines::{message_faults, order_faults};
+use crate::logic::{Beside, logic_faults};
+use crate::print::{Place, Printed};
+use crate::shown::line_end;
+use cse_dict::Dictionary;
+use cse_pieces::{
+    Cursor, Finding, Gathered, Piece, Role, Sort as TokenSort, Spot, Token, as_utf8, mark_len,
+    pieces_of, tokens_in, tokens_of, unused_messages, warnings_of,
+};
+use cse_types::Messages;
+use std::alloc::{AllocError, Global};
+
+/// A file that was read.
+#[derive(Clone, Copy)]
+pub struct File<'a> {
+    pub path: &'a str,
+    pub bytes: &'a [u8],
+}
+
+/// The files of `check`.
+#[derive(Clone, Copy)]
+pub struct Files<'a> {
+    pub dict: File<'a>,
+    pub logic: File<'a>,
+    pub messages: Option<File<'a>>,
+    pub order: Option<File<'a>>,
+    pub has_warnings: bool,
+}
+
+/// What was printed, and how many faults that are.
+#[derive(Drop)]
+pub struct Report {
+    pub printed: Printed,
+    pub faults: u64,
+    pub warnings: u64,
+}
+
+impl Report {
+    /// A fault more, or a warning, whose numbers are above 100.
+    fn tell(&mut self, place: &Place<'_>, advice: &Advice<'_>) {
+        if place.number > 100 {
+            self.warnings = self.warnings.saturating_add(1);
+        } else {
+            self.faults = self.faults.saturating_add(1);
+        }
+        self.printed.tell(place, advice);
+    }
+}
+
+/// A file beside logic.
+#[derive(Clone, Copy)]
+enum Sort {
+    Dictionary,
+    Messages,
+    Order,
+}
+
+/// What is said of a line of such a file.
+fn advice_of_line(sort: Sort, number: u8) -> Advice<'static> {
+    match (sort, number) {
+        (Sort::Messages, 30) => by_key(b"30-message"),
+        (Sort::Messages, 35) => by_key(b"35-message"),
+        (Sort::Messages, 103) => by_key(b"103-message"),
+        (Sort::Order, _) => by_key(b"40-order"),
+        _ => by_number(number),
+    }
+}
+
+/// The faults of such a file.
+fn tell_lines(file: &File<'_>, sort: Sort, found: &[Finding], report: &mut Report) {
+    let mut cursor = Cursor::new(mark_len(file.bytes));
+    for finding in found {
+        let Finding { start, number } = *finding;
+        cursor.move_to(file.bytes, start);
+        let place = Place {
+            path: file.path,
+            text: file.bytes,
+            cursor,
+            end: line_end(file.bytes, start),
+            is_named: false,
+            number,
+        };
+        report.tell(&place, &advice_of_line(sort, number));
+    }
+}
+
+/// The dictionary, or its faults, which are told.
+fn read_dictionary(alloc: Global, file: &File<'_>, report: &mut Report) -> Option<Dictionary> {
+    match Dictionary::read(alloc, file.bytes) {
+        Ok(dictionary) => Some(dictionary),
+        Err(error) => {
+            match dictionary_faults(alloc, file.bytes, error) {
+                Ok(found) => tell_lines(file, Sort::Dictionary, &found, report),
+                Err(_) => report.printed.give_up(),
+            }
+            None
+        }
+    }
+}
+
+/// The messages of a file, without its faulty lines, which are told. Answers whether there are any.
+fn read_messages(
+    alloc: Global,
+    file: &File<'_>,
+    kept: &mut Gathered<u8>,
+    report: &mut Report,
+) -> bool {
+    match message_faults(alloc, file.bytes, kept) {
+        Ok(found) => {
+            tell_lines(file, Sort::Messages, &found, report);
+            !found.is_empty()
+        }
+        Err(_) => {
+            report.printed.give_up();
+            false
+        }
+    }
+}
+
+/// The faults of an order file.
+fn read_order(alloc: Global, file: &File<'_>, dictionary: &Dictionary, report: &mut Report) {
+    match order_faults(alloc, dictionary, file.bytes) {
+        Ok(found) => tell_lines(file, Sort::Order, &found, report),
+        Err(_) => report.printed.give_up(),
+    }
+}
+
+/// Where the token ends that a fault stands at, and whether it is one, or the end of the text. What has no end is its first sign.
+fn token_at(spot: &Spot<'_>, start: usize) -> (usize, bool) {
+    match spot.ahead(0) {
+        Some(token) if token.start == start => match token.sort {
+            TokenSort::OpenComment | TokenSort::OpenText => (start.saturating_add(1), true),
+            _ => (token.end, true),
+        },
+        _ => (start, start >= spot.text.len()),
+    }
+}
+
+/// On to the first token that isn't before a place. Answers the name of the procedure that it stands in, if the one before it
+/// stood in this one.
+fn move_on<'a>(spot: &mut Spot<'a>, start: usize, owner: &'a [u8]) -> &'a [u8] {
+    let mut owner = owner;
+    let mut is_behind_proc = spot.role_before(1) == Role::Proc;
+    for token in tokens_in(spot.tokens, spot.index, spot.tokens.len()) {
+        if token.start >= start {
+            return owner;
+        }
+        if is_behind_proc {
+            owner = token.of(spot.text);
+        }
+        is_behind_proc = token.role == Role::Proc;
+        spot.index = spot.index.saturating_add(1);
+    }
+    owner
+}
+
+/// The faults of logic.
+fn tell_logic(
+    file: &File<'_>,
+    spot: &mut Spot<'_>,
+    found: &[Finding],
+    known: &mut Known<'_>,
+    report: &mut Report,
+) {
+    let mut cursor = Cursor::new(mark_len(file.bytes));
+    let mut owner: &[u8] = b"";
+    for finding in found {
+        let Finding { start, number } = *finding;
+        cursor.move_to(spot.text, start);
+        owner = move_on(spot, start, owner);
+        let (end, is_named) = token_at(spot, start);
+        let place = Place {
+            path: file.path,
+            text: spot.text,
+            cursor,
+            end,
+            is_named,
+            number,
+        };
+        let advice = if is_named {
+            advice_of(number, spot, owner, known)
+        } else {
+            by_key(b"30-bytes")
+        };
+        report.tell(&place, &advice);
+    }
+}
+
+/// Messages that no logic names, which are told.
+fn tell_unused(
+    alloc: Global,
+    text: &[u8],
+    tokens: &[Token],
+    messages: &File<'_>,
+    report: &mut Report,
+) {
+    match unused_messages(alloc, text, tokens, messages.bytes) {
+        Ok(found) => tell_lines(messages, Sort::Messages, &found, report),
+        Err(_) => report.printed.give_up(),
+    }
+}
+
+/// The faults of the pieces of logic behind some that were found, which are told, and its warnings, if they are wanted.
+fn read_pieces(
+    alloc: Global,
+    files: &Files<'_>,
+    beside: &Beside<'_>,
+    spot: &mut Spot<'_>,
+    pieces: &[Piece],
+    found: Gathered<Finding>,
+    report: &mut Report,
+) -> Result<(), AllocError> {
+    let (text, tokens) = (spot.text, spot.tokens);
+    let mut found = found;
+    if let (true, Some(dictionary)) = (files.has_warnings, beside.dictionary) {
+        let source = files.dict.bytes;
+        warnings_of(alloc, dictionary, source, text, tokens, pieces, &mut found);
+    }
+    let found = logic_faults(alloc, text, tokens, pieces, beside, found)?;
+    let mut known = Known::new(alloc, beside.dictionary, text, tokens, pieces)?;
+    tell_logic(&files.logic, spot, &found, &mut known, report);
+    Ok(())
+}
+
+/// The faults of logic without what is no UTF-8, behind some that were found, which are told, and its warnings, if they are
+/// wanted.
+fn read_text(
+    alloc: Global,
+    files: &Files<'_>,
+    beside: &Beside<'_>,
+    text: &[u8],
+    found: Gathered<Finding>,
+    report: &mut Report,
+) -> Result<(), AllocError> {
+    let tokens = tokens_of(alloc, text)?;
+    let pieces = pieces_of(alloc, &tokens)?;
+    let mut spot = Spot {
+        text,
+        tokens: &tokens,
+        index: 0,
+    };
+    read_pieces(alloc, files, beside, &mut spot, &pieces, found, report)?;
+    if let (true, Some(messages)) = (files.has_warnings, &files.messages) {
+        tell_unused(alloc, text, &tokens, messages, report);
+    }
+    Ok(())
+}
+
+/// All faults of logic, which are told, and its warnings, if they are wanted.
+fn read_logic(alloc: Global, files: &Files<'_>, beside: &Beside<'_>, report: &mut Report) {
+    let mut found = Gathered::new(alloc);
+    let done = match as_utf8(alloc, files.logic.bytes, &mut found) {
+        Ok(text) => read_text(alloc, files, beside, &text, found, report),
+        Err(refused) => Err(refused),
+    };
+    if done.is_err() {
+        report.printed.give_up();
+    }
+}
+
+/// All faults of the files.
+pub fn report_of(alloc: Global, files: &Files<'_>, is_json: bool) -> Report {
+    let mut report = Report {
+        printed: Printed::new(alloc, is_json),
+        faults: 0,
+        warnings: 0,
+    };
+    let dictionary = read_dictionary(alloc, &files.dict, &mut report);
+    let mut kept = Gathered::new(alloc);
+    let lacks_messages = match &files.messages {
+        Some(file) => read_messages(alloc, file, &mut kept, &mut report),
+        None => false,
+    };
+    if let (Some(file), Some(dictionary)) = (&files.order, &dictionary) {
+        read_order(alloc, file, dictionary, &mut report);
+    }
+    match Messages::read(alloc, kept.items()) {
+        Ok(messages) => {
+            let beside = Beside {
+                dictionary: dictionary.as_ref(),
+                messages: &messages,
+                lacks_messages,
+            };
+            read_logic(alloc, files, &beside, &mut report);
+        }
+        Err(_) => report.printed.give_up(),
+    }
+    let (faults, warnings) = (report.faults, report.warnings);
+    report.printed.tell_count(faults, warnings);
+    report
+}

@@ -1,0 +1,65 @@
+//! What the tables say.
+
+use crate::sections::SECTIONS;
+use cse_pieces::part;
+
+/// What a table says behind a word, in any letter case; nothing where it has no such row.
+pub fn said_of(table: &'static [u8], word: &[u8]) -> &'static [u8] {
+    let mut start = 0usize;
+    let mut is_head = true;
+    let mut is_found = false;
+    for (at, byte) in table.iter().enumerate() {
+        let behind = at.saturating_add(1);
+        match *byte {
+            b' ' | b'~' if is_head => {
+                is_found = is_found || part(table, start, at).eq_ignore_ascii_case(word);
+                is_head = *byte == b' ';
+                start = behind;
+            }
+            b'\n' if is_found => return part(table, start, at),
+            b'\n' => {
+                is_head = true;
+                start = behind;
+            }
+            _ => {}
+        }
+    }
+    b""
+}
+
+/// What stands behind so many `~` of what was said.
+pub fn cell(said: &'static [u8], count: usize) -> &'static [u8] {
+    let mut left = count;
+    let mut start = 0usize;
+    for (at, byte) in said.iter().enumerate() {
+        if *byte == b'~' {
+            if left == 0 {
+                return part(said, start, at);
+            }
+            left = left.saturating_sub(1);
+            start = at.saturating_add(1);
+        }
+    }
+    if left == 0 {
+        part(said, start, said.len())
+    } else {
+        b""
+    }
+}
+
+/// What docs/FAULTS.md says of a number; nothing where no fault has it.
+pub fn section_of(number: &[u8]) -> &'static [u8] {
+    let mut start = 0usize;
+    let mut is_end = false;
+    for (at, byte) in SECTIONS.iter().enumerate() {
+        if *byte == b'\n' && is_end {
+            let section = part(SECTIONS, start, at);
+            if let Some([b' ', ..]) = section.strip_prefix(number) {
+                return section;
+            }
+            start = at.saturating_add(1);
+        }
+        is_end = *byte == b'\n';
+    }
+    b""
+}
