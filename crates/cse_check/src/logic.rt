@@ -77,11 +77,11 @@ fn add_named(
 }
 
 /// The faults of names and kinds of a source, each by its token, in their order.
-fn named_faults(
+fn named_faults<'a>(
     alloc: Global,
-    beside: &Beside<'_>,
-    dictionary: &Dictionary,
-    source: &Source<'_>,
+    beside: &Beside<'a>,
+    dictionary: &'a Dictionary,
+    source: &Source<'a>,
 ) -> Result<Vec<Finding>, AllocError> {
     let faults = faults(alloc, dictionary, beside.messages, &source.tree)?;
     let mut named = Gathered::new(alloc);
@@ -108,11 +108,11 @@ fn add_error(text: &[u8], error: SyntaxError, found: &mut Gathered<Finding>) {
 }
 
 /// The faults of names and kinds of what can be read.
-fn add_names(
+fn add_names<'a>(
     alloc: Global,
-    beside: &Beside<'_>,
-    dictionary: &Dictionary,
-    mended: &[u8],
+    beside: &Beside<'a>,
+    dictionary: &'a Dictionary,
+    mended: &'a [u8],
     excused: &[&[u8]],
     found: &mut Gathered<Finding>,
 ) {

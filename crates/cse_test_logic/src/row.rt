@@ -15,6 +15,7 @@ use std::alloc::Global;
 
 /// Logic with the texts beside it and the data of a run, and what comes of them: a fault, by its number, line and column
 /// (0 where it has none), or the counts and the texts of a run. An empty deck text is none.
+#[derive(Drop)]
 pub(crate) struct Row<'a> {
     pub(crate) name: &'a str,
     pub(crate) logic: &'a [u8],
