@@ -3,14 +3,15 @@
 //!
 //! - `stacks`, `joined`, `machine`: stacks, forms of statements, and the steps of events.
 //! - `persons`: a dictionary.
-//! - `runs`, `samples`: whole runs, over devices that move few bytes in a call, and that fail.
+//! - `runs`, `samples`: the rows, and whole runs, over devices that move few bytes in a call, and that fail.
 #![tactic(auto)]
 
 #[cfg(test)]
 mod joined;
 #[cfg(test)]
 mod machine;
-pub mod persons;
+#[cfg(test)]
+mod persons;
 #[cfg(test)]
 mod runs;
 #[cfg(test)]

@@ -1,4 +1,4 @@
-//! Worked programs of cases, and how many steps their events take in one case after the other.
+//! How many steps the events of worked programs take in one case after the other.
 
 ghost use Rattle.std.specs.Prelude.{◌≡◌, None, Some, IsSome, slice_get};
 ghost use Rattle.std.specs.Bool.{OnTrue};
@@ -8,84 +8,15 @@ ghost use Rattle.cse_steps.specs.Fits.{IsThere, occurrences_in};
 
 use cse_case::{Case, CaseReader};
 use cse_decks::Store;
-use cse_dict::Dictionary;
-use cse_image::{Ambient, Code, Event, EventCode, EventEntry, Gift, Op, Program};
+use cse_image::{Code, Event, EventCode};
 use cse_machine::Machine;
 use cse_report::Reports;
-use cse_test_fixtures::outline::{Line, NOTHING, Outline, RoutineOutline, add_shape, parts_of};
-use cse_test_fixtures::persons::{DECK, persons_text};
+use cse_test_fixtures::listing::event_of;
+use cse_test_fixtures::rows::{cut, number};
 use cse_value::shape::ItemShape;
 use cse_value::{Input, Reads};
-use cse_verify::{Verified, verify};
+use cse_verify::Verified;
 use std::alloc::Global;
-use std::test::Fail;
-
-/// A loop over persons in which a counted loop is left early where there are more than two.
-const LOOPS: &[Line] = &[
-    (Op::LoopOccurrences, 0, 0, 9),
-    (Op::Number, 0, 0, 0),
-    (Op::LoopCount, 0, 10, 8),
-    (Op::TotalOccurrences, 0, 0, 0),
-    (Op::Number, 0, 0, 1),
-    (Op::Compare, 4, 0, 0),
-    (Op::JumpUnless, 0, 0, 8),
-    (Op::Break, 0, 0, 8),
-    (Op::End, 0, 0, 2),
-    (Op::End, 0, 0, 0),
-    (Op::Return, 0, 0, 0),
-];
-
-/// The loops, at the beginning of each case.
-const OF_LEVEL: Outline<'static> = Outline {
-    constants: &[10, 2],
-    routines: &[RoutineOutline {
-        ambient: Ambient::Case,
-        gives: Gift::Nothing,
-        parameters: 0,
-        locals: &[],
-        code: LOOPS,
-    }],
-    events: &[EventEntry {
-        code: EventCode::LevelPreproc,
-        index: 0,
-        routine: 0,
-    }],
-    ..NOTHING
-};
-
-/// Each program with its event, the occurrence of it, two cases, and the steps in each.
-const ROWS: [(Outline<'static>, Event, u16, &str, [u64; 2]); 3] = [
-    (
-        OF_LEVEL,
-        Event {
-            code: EventCode::LevelPreproc,
-            index: 0,
-        },
-        0,
-        "P00111\nP00112\nP00113\nP00211\nP00212\n",
-        [26, 108],
-    ),
-    (
-        DECK,
-        Event {
-            code: EventCode::ItemPostproc,
-            index: 3,
-        },
-        1,
-        "P00111 35\nP00211\n",
-        [15, 17],
-    ),
-    (
-        DECK,
-        Event {
-            code: EventCode::ItemPreproc,
-            index: 3,
-        },
-        1,
-        "P00111 35\nP00211\n",
-        [0, 0],
-    ),
-];
 
 /// An item by its number.
 fn item_at(items: &[ItemShape], index: u16) -> Option<ItemShape>
@@ -134,15 +65,18 @@ fn next_steps<C: Code, R: Input>(
     ensures dictionary { IsSome result → reader.new.stream.dictionary ≡ verified.now.dictionary }
     ensures sound { IsSome result → reader.new.stream.error ≡ None }
 {
-    let Ok(Some(mut case)) = reader.next() else {
-        return None;
-    };
-    if !is_there(verified, &case, event, occurrence) {
-        return None;
+    match reader.next() {
+        Ok(Some(mut case)) => {
+            if is_there(verified, &case, event, occurrence) {
+                machine
+                    .run_event(&mut case, store, reports, event, occurrence)
+                    .ok()
+            } else {
+                None
+            }
+        }
+        _ => None,
     }
-    machine
-        .run_event(&mut case, store, reports, event, occurrence)
-        .ok()
 }
 
 /// The steps of an event in the next two cases.
@@ -154,19 +88,80 @@ fn two_steps<C: Code, R: Input>(
     reader: &mut CaseReader<'_, R>,
     event: Event,
     occurrence: u16,
-) -> Option<[u64; 2]>
+) -> Option<(u64, u64)>
     requires machine { machine.old ≡ verified.now }
     requires store { StoreFits verified.now.image store.old }
     requires reports { ReportsFit verified.now.image reports.old }
     requires dictionary { reader.old.stream.dictionary ≡ verified.now.dictionary }
     requires sound { reader.old.stream.error ≡ None }
 {
-    let first = next_steps(verified, machine, store, reports, reader, event, occurrence)?;
-    let second = next_steps(verified, machine, store, reports, reader, event, occurrence)?;
-    Some([first, second])
+    let Some(first) = next_steps(verified, machine, store, reports, reader, event, occurrence)
+    else {
+        return None;
+    };
+    match next_steps(verified, machine, store, reports, reader, event, occurrence) {
+        Some(second) => Some((first, second)),
+        None => None,
+    }
 }
 
-/// The steps of an event in two cases, by a machine.
+/// The same in the two cases of a text.
+fn steps_in<C: Code>(
+    alloc: Global,
+    verified: &Verified<'_, C>,
+    machine: &mut Machine<'_, '_, C>,
+    store: &mut Store,
+    reports: &mut Reports,
+    event: Event,
+    occurrence: u16,
+    text: &str,
+) -> Option<(u64, u64)>
+    requires machine { machine.old ≡ verified.now }
+    requires store { StoreFits verified.now.image store.old }
+    requires reports { ReportsFit verified.now.image reports.old }
+{
+    let mut input = Reads::new(text.as_bytes());
+    let mut reader = CaseReader::new(alloc, verified.dictionary(), &mut input);
+    two_steps(
+        verified,
+        machine,
+        store,
+        reports,
+        &mut reader,
+        event,
+        occurrence,
+    )
+}
+
+/// The same with reports of its own.
+fn steps_with<C: Code>(
+    alloc: Global,
+    verified: &Verified<'_, C>,
+    machine: &mut Machine<'_, '_, C>,
+    store: &mut Store,
+    event: Event,
+    occurrence: u16,
+    text: &str,
+) -> Option<(u64, u64)>
+    requires machine { machine.old ≡ verified.now }
+    requires store { StoreFits verified.now.image store.old }
+{
+    match Reports::new(alloc, verified.program()) {
+        Ok(mut reports) => steps_in(
+            alloc,
+            verified,
+            machine,
+            store,
+            &mut reports,
+            event,
+            occurrence,
+            text,
+        ),
+        Err(_) => None,
+    }
+}
+
+/// The same with a store of its own.
 fn steps_by<C: Code>(
     alloc: Global,
     verified: &Verified<'_, C>,
@@ -174,26 +169,15 @@ fn steps_by<C: Code>(
     event: Event,
     occurrence: u16,
     text: &str,
-) -> Option<[u64; 2]>
+) -> Option<(u64, u64)>
     requires machine { machine.old ≡ verified.now }
 {
-    let Ok(mut store) = Store::new(alloc, verified.program()) else {
-        return None;
-    };
-    let Ok(mut reports) = Reports::new(alloc, verified.program()) else {
-        return None;
-    };
-    let mut input = Reads::new(text.as_bytes());
-    let mut reader = CaseReader::new(alloc, verified.dictionary(), &mut input);
-    two_steps(
-        verified,
-        machine,
-        &mut store,
-        &mut reports,
-        &mut reader,
-        event,
-        occurrence,
-    )
+    match Store::new(alloc, verified.program()) {
+        Ok(mut store) => steps_with(
+            alloc, verified, machine, &mut store, event, occurrence, text,
+        ),
+        Err(_) => None,
+    }
 }
 
 /// The steps of an event in two cases.
@@ -203,37 +187,29 @@ fn both_steps<C: Code>(
     event: Event,
     occurrence: u16,
     text: &str,
-) -> Option<[u64; 2]> {
-    let Ok(mut machine) = Machine::new(alloc, verified) else {
-        return None;
-    };
-    steps_by(alloc, verified, &mut machine, event, occurrence, text)
-}
-
-/// A program of the outline, for the persons.
-fn program_of(
-    alloc: Global,
-    dictionary: &Dictionary,
-    outline: &Outline<'_>,
-) -> Result<Program, Fail> {
-    let mut parts = parts_of(alloc, outline)?;
-    add_shape(&mut parts, dictionary.shape())?;
-    Ok(Program::from_parts(parts).ok_or("no spelling")?)
-}
-
-#[test]
-fn events_take_steps(rt: HostRuntime) -> Result<(), Fail> {
-    let alloc = rt.alloc();
-    let Ok(dictionary) = Dictionary::read(alloc, persons_text().as_bytes()) else {
-        return Err("no dictionary".into());
-    };
-    for (outline, event, occurrence, text, want) in &ROWS {
-        let program = program_of(alloc, &dictionary, outline)?;
-        let Ok(verified) = verify(alloc, &dictionary, program) else {
-            return Err("a program that may not run".into());
-        };
-        let steps = both_steps(alloc, &verified, *event, *occurrence, text).ok_or("no steps")?;
-        assert!(rt; steps == *want);
+) -> Option<(u64, u64)> {
+    match Machine::new(alloc, verified) {
+        Ok(mut machine) => steps_by(alloc, verified, &mut machine, event, occurrence, text),
+        Err(_) => None,
     }
-    Ok(())
+}
+
+/// Whether an event takes so many steps in each of two cases. A row is the event with its item and the occurrence of it, the
+/// cases, and the steps in each.
+pub(crate) fn takes_steps<C: Code>(alloc: Global, verified: &Verified<'_, C>, row: &str) -> bool {
+    let (told, rest) = cut(row, '|');
+    let (text, wanted) = cut(rest, '|');
+    let (first, second) = cut(wanted, ' ');
+    let Some(entry) = event_of(told) else {
+        return false;
+    };
+    let event = Event {
+        code: entry.code,
+        index: entry.index,
+    };
+    let occurrence = u16::try_from(entry.routine).unwrap_or(u16::MAX);
+    match both_steps(alloc, verified, event, occurrence, text) {
+        Some(steps) => steps == (number(first), number(second)),
+        None => false,
+    }
 }

@@ -9,7 +9,7 @@ run_event-requires-clause-fits g c =
     let gives = next.answers in
     rw c.requires.machine (record {
       present = λ _. refl;
-      there = OnTrue_at c.if-not-is_there.false c.is_there.ensures;
+      there = OnTrue_at c.if-is_there.true c.is_there.ensures;
       case_fits = gives.fits;
       dictionary = ap (λ (t : CaseText). t.dictionary) gives.is ∙ c.requires.dictionary;
       store_fits = c.requires.store;
