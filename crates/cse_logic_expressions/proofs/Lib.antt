@@ -1,5 +1,6 @@
 pub mod Right
 pub mod Complete
+pub mod Sets
 pub mod Subscripts
 pub mod Expressions
 pub mod Numbers

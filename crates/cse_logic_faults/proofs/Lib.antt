@@ -5,3 +5,4 @@ pub mod Numbers
 pub mod Arguments
 pub mod LeastLaws
 pub mod Blocks
+pub mod Sets
