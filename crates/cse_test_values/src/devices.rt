@@ -1,14 +1,16 @@
 //! Devices that fail, and what errors say.
 
+use cse_test_fixtures::rows::{cut, number};
 use cse_value::{Failed, Input, OutOfMemory, Output, Reads, Writes, write_all};
 use std::alloc::{AllocError, Global};
 use std::io;
 
-/// Gives ones, and fails at one call.
+/// Gives ones, takes two bytes at most, and fails at one call. At another it takes none.
 #[derive(Drop)]
 struct Breaks {
     calls: usize,
     breaks_at: usize,
+    takes_none_at: usize,
 }
 
 impl io::Read for Breaks {
@@ -28,6 +30,9 @@ impl io::Write for Breaks {
         if self.calls == self.breaks_at {
             return Err(io::Error::from(io::ErrorKind::TimedOut));
         }
+        if self.calls == self.takes_none_at {
+            return Ok(0);
+        }
         Ok(buf.len().min(2))
     }
 
@@ -36,117 +41,107 @@ impl io::Write for Breaks {
     }
 }
 
-/// Of six reads, how many gave three ones before one failed, and how many failed.
-fn count_reads(breaks_at: usize) -> (u8, u8) {
-    let mut input = Reads::new(Breaks {
+/// Fails at this call.
+fn breaks_at(call: usize) -> Breaks {
+    Breaks {
         calls: 0,
-        breaks_at,
-    });
-    let (mut given, mut failed) = (0u8, 0u8);
-    for _ in 0..6 {
-        let mut bytes = [0; 3];
-        match input.read(&mut bytes) {
-            Ok(3) if failed == 0 && bytes == [1; 3] => given = given.saturating_add(1),
-            Ok(_) => {}
-            Err(_) => failed = failed.saturating_add(1),
-        }
+        breaks_at: call,
+        takes_none_at: 0,
     }
-    (given, failed)
+}
+
+/// Takes no byte at its second call, so many calls before.
+fn takes_none(calls: usize) -> Breaks {
+    Breaks {
+        calls,
+        breaks_at: 0,
+        takes_none_at: 2,
+    }
+}
+
+/// Whether an answer is this: how many bytes, or `x` where the device has failed.
+fn is_answer(answer: Result<usize, Failed>, wanted: &str) -> bool {
+    match answer {
+        Ok(count) => count as u64 == number(wanted),
+        Err(Failed) => wanted == "x",
+    }
+}
+
+/// Whether reads of three bytes are answered so, one by one, and give ones.
+fn are_read(breaks: Breaks, answers: &str) -> bool {
+    let mut input = Reads::new(breaks);
+    let mut are_right = true;
+    for wanted in answers.split(' ') {
+        let mut bytes = [0; 3];
+        let answer = input.read(&mut bytes);
+        are_right = are_right && is_answer(answer, wanted) && (wanted == "x" || bytes == [1; 3]);
+    }
+    are_right
 }
 
 #[test]
 fn fails_where_the_reader_did(rt: HostRuntime) {
-    assert!(rt; count_reads(1) == (0, 6));
-    assert!(rt; count_reads(2) == (1, 5));
-    assert!(rt; count_reads(3) == (2, 4));
+    assert!(rt;
+        are_read(breaks_at(1), "x x x x x x")
+            && are_read(breaks_at(2), "3 x x x x x")
+            && are_read(breaks_at(3), "3 3 x x x x")
+    );
 }
 
-/// Of six writes, how many took two bytes before one failed, and how many failed; and how often the writer was asked.
-fn count_writes(breaks_at: usize) -> (u8, u8, usize) {
-    let mut out = Writes::new(Breaks {
-        calls: 0,
-        breaks_at,
-    });
-    let (mut taken, mut failed) = (0u8, 0u8);
-    for _ in 0..6 {
-        match out.write(b"abc") {
-            Ok(2) if failed == 0 => taken = taken.saturating_add(1),
-            Ok(_) => {}
-            Err(_) => failed = failed.saturating_add(1),
-        }
+/// Whether writes are answered so, one by one, and the writer was asked so often in the end: `abc=2` is a write of `abc` of
+/// which two bytes are taken.
+fn are_taken(breaks: Breaks, writes: &str, calls: usize) -> bool {
+    let mut out = Writes::new(breaks);
+    let mut are_right = true;
+    for write in writes.split(' ') {
+        let (bytes, wanted) = cut(write, '=');
+        let answer = out.write(bytes.as_bytes());
+        are_right = are_right && is_answer(answer, wanted);
     }
-    (taken, failed, out.into_inner().calls)
+    are_right && out.into_inner().calls == calls
 }
 
 /// Whether three bytes are written whole, in two calls.
-fn are_written(breaks_at: usize) -> bool {
-    let mut out = Writes::new(Breaks {
-        calls: 0,
-        breaks_at,
-    });
+fn are_written(breaks: Breaks) -> bool {
+    let mut out = Writes::new(breaks);
     write_all(&mut out, b"abc").is_ok()
 }
 
 // A failed device asks its writer no more.
 #[test]
 fn fails_where_the_writer_did(rt: HostRuntime) {
-    assert!(rt; count_writes(1) == (0, 6, 1));
-    assert!(rt; count_writes(2) == (1, 5, 2));
-    assert!(rt; count_writes(3) == (2, 4, 3));
-    assert!(rt; !are_written(1) && !are_written(2) && are_written(3));
+    assert!(rt;
+        are_taken(breaks_at(1), "abc=x abc=x abc=x abc=x abc=x abc=x", 1)
+            && are_taken(breaks_at(2), "abc=2 abc=x abc=x abc=x abc=x abc=x", 2)
+            && are_taken(breaks_at(3), "abc=2 abc=2 abc=x abc=x abc=x abc=x", 3)
+            && !are_written(breaks_at(1))
+            && !are_written(breaks_at(2))
+            && are_written(breaks_at(3))
+    );
 }
 
-/// Takes no byte at its second call.
-#[derive(Drop)]
-struct TakesNone {
-    calls: usize,
-}
-
-impl io::Write for TakesNone {
-    fn write(&mut self, buf: &[u8]) -> io::Result<usize> {
-        self.calls = self.calls.saturating_add(1);
-        if self.calls == 2 {
-            return Ok(0);
-        }
-        Ok(buf.len())
-    }
-
-    fn flush(&mut self) -> io::Result<()> {
-        Ok(())
-    }
-}
-
-/// Whether a write of some bytes is taken, and then, where the writer took none, each write fails.
-fn fails_for_good() -> bool {
-    let mut out = Writes::new(TakesNone { calls: 0 });
-    out.write(b"ab") == Ok(2)
-        && out.write(b"ab") == Err(Failed)
-        && out.write(b"ab") == Err(Failed)
-        && out.write(b"") == Err(Failed)
-}
-
-/// Whether a write of no byte takes none, and the next goes on.
-fn goes_on() -> bool {
-    let mut out = Writes::new(TakesNone { calls: 1 });
-    out.write(b"") == Ok(0) && out.write(b"ab") == Ok(2)
-}
-
+// Where the writer took none of some bytes, each write fails. A write of no byte takes none, and the next goes on.
 #[test]
 fn a_write_of_no_byte_of_some_fails(rt: HostRuntime) {
-    assert!(rt; fails_for_good() && goes_on());
+    assert!(rt;
+        are_taken(takes_none(0), "ab=2 ab=x ab=x =x", 2) && are_taken(takes_none(1), "=0 ab=2", 3)
+    );
 }
 
-/// Whether both errors are shown by these words.
-fn are_shown(alloc: Global) -> bool {
-    match (OutOfMemory.to_string(alloc), Failed.to_string(alloc)) {
-        (Ok(memory), Ok(device)) => {
-            memory.as_str() == "out of memory" && device.as_str() == "the device has failed"
-        }
-        _ => false,
+/// Whether a text is this one.
+fn is_text<E: Drop>(shown: Result<String, E>, words: &str) -> bool {
+    match shown {
+        Ok(text) => text.as_str() == words,
+        Err(_) => false,
     }
 }
 
 #[test]
 fn tells_errors(rt: HostRuntime) {
-    assert!(rt; are_shown(rt.alloc()) && OutOfMemory::from(AllocError) == OutOfMemory);
+    let alloc = rt.alloc();
+    assert!(rt;
+        is_text(OutOfMemory.to_string(alloc), "out of memory")
+            && is_text(Failed.to_string(alloc), "the device has failed")
+            && OutOfMemory::from(AllocError) == OutOfMemory
+    );
 }

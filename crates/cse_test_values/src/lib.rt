@@ -3,9 +3,9 @@
 //! of those are laws of cse_test_laws. They stand apart so that each of these libraries is proved once, and not a second time
 //! with its tests.
 //!
-//! - `numbers`, `texts`: values, how they compare, and their columns.
+//! - `values`: numbers and texts, how they compare, and their columns; whole numbers, as a value of a dictionary spells them.
 //! - `devices`: devices that fail, and what errors say.
-//! - `spelled`: whole numbers, as a value of a dictionary spells them.
+//! - `rows`: tables that are one text, and what goes through them.
 //! - `lines`: files as runs of lines.
 //! - `changes`: what a run changed, of two files side by side.
 //! - `written`: the items that logic may change.
@@ -19,12 +19,10 @@ mod devices;
 #[cfg(test)]
 mod lines;
 #[cfg(test)]
-mod numbers;
-#[cfg(test)]
 mod parts;
 #[cfg(test)]
-mod spelled;
+mod rows;
 #[cfg(test)]
-mod texts;
+mod values;
 #[cfg(test)]
 mod written;

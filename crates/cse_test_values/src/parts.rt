@@ -29,17 +29,25 @@ fn placeholders(rt: HostRuntime) {
         width: 99,
         zeros: true,
     };
-    assert!(rt; count_pieces(b"a%%%s%3%099d%0d") == (9, Some(last)));
     let text = b"adults %d of %s".as_slice();
-    assert!(rt; count_placeholders(text) == 2 && are_few_placeholders(text));
-    assert!(rt; kind_at(text, 1) == Some(ArgumentKind::Text) && kind_at(text, 2).is_none());
+    assert!(rt;
+        count_pieces(b"a%%%s%3%099d%0d") == (9, Some(last))
+            && count_placeholders(text) == 2
+            && are_few_placeholders(text)
+            && kind_at(text, 1) == Some(ArgumentKind::Text)
+            && kind_at(text, 2).is_none()
+    );
 }
 
 #[test]
 fn texts_and_names(rt: HostRuntime) {
-    assert!(rt; plain_text(b"\xc3\xa4 b") == Some("\u{e4} b"));
-    assert!(rt; plain_text(b"\xc3").is_none() && is_plain_text(" \x7f"));
-    assert!(rt; array_name(b"A_1").is_some() && array_name(b"1A").is_none());
+    assert!(rt;
+        plain_text(b"\xc3\xa4 b") == Some("\u{e4} b")
+            && plain_text(b"\xc3").is_none()
+            && is_plain_text(" \x7f")
+            && array_name(b"A_1").is_some()
+            && array_name(b"1A").is_none()
+    );
 }
 
 #[test]
@@ -49,21 +57,26 @@ fn fields(rt: HostRuntime) {
         index: 4,
         routine: 0,
     };
-    let lengths = is_right_global_length(GlobalKind::Text, 255)
-        && !is_right_local_length(LocalKind::Occurrence, 1)
-        && !is_right_owner(LocalKind::Number, 7)
-        && !is_right_kind(2, 2, LocalKind::Occurrence);
-    let room = !has_room_for_cells(0, &[65535, 65535, 65535])
-        && is_right_cell_count(&[2, 3], 6)
-        && has_room_for_code(999_999, 1);
-    assert!(rt; lengths && room);
-    assert!(rt; comes_after(Some(last), EventCode::ItemPostproc, 0));
-    assert!(rt; event_code_number(EventCode::RecordPreproc) == 4);
+    assert!(rt;
+        is_right_global_length(GlobalKind::Text, 255)
+            && !is_right_local_length(LocalKind::Occurrence, 1)
+            && !is_right_owner(LocalKind::Number, 7)
+            && !is_right_kind(2, 2, LocalKind::Occurrence)
+            && !has_room_for_cells(0, &[65535, 65535, 65535])
+            && is_right_cell_count(&[2, 3], 6)
+            && has_room_for_code(999_999, 1)
+            && comes_after(Some(last), EventCode::ItemPostproc, 0)
+            && event_code_number(EventCode::RecordPreproc) == 4
+    );
 }
 
 #[test]
 fn instructions(rt: HostRuntime) {
-    assert!(rt; op_named(24) == Some(Op::Row) && op_named(46).is_none());
-    assert!(rt; is_right_a(Op::Row, 1) && is_right_b(Version::One, Op::Row, 65535));
-    assert!(rt; !is_right_c(Op::Row, 1, 1));
+    assert!(rt;
+        op_named(24) == Some(Op::Row)
+            && op_named(46).is_none()
+            && is_right_a(Op::Row, 1)
+            && is_right_b(Version::One, Op::Row, 65535)
+            && !is_right_c(Op::Row, 1, 1)
+    );
 }
