@@ -18,7 +18,7 @@ use Rattle.cse_report.specs.Unended.{unended}
 use Rattle.cse_report.specs.AllReported.{all_reported}
 use Rattle.cse_report.specs.Frequency.{Table, all_imputed}
 use Rattle.cse_report.specs.declared.reports.Reports.{Reports}
-use Rattle.cse_report.proofs.ToldLaws.{flushes_between, imputes_all}
+use Rattle.cse_report.proofs.ToldLaws.{flushes_between, imputes_all, all_later}
 use Rattle.cse_verify.specs.Verified.{VerifiedProgram}
 use Rattle.cse_steps.specs.State.{Told, World}
 use Rattle.cse_steps.specs.Fits.{FitsFirst, IsThere, is_of_run}
@@ -30,7 +30,7 @@ use Rattle.cse_batch.specs.Edits.{Applies, Edits, Keeps}
 use Rattle.cse_batch.specs.Scene.{Scene, scene, scene_after_all}
 use Rattle.cse_batch.proofs.EndLaws.{fits_application}
 use Rattle.cse_batch.proofs.EventLaws.{ends_are_final}
-use Rattle.cse_batch.proofs.HeldLaws.{all_later, unended_held}
+use Rattle.cse_batch.proofs.HeldLaws.{unended_held}
 use Rattle.cse_batch.proofs.SceneLaws.{ran_fits, scene_is_told}
 
 -- a heading, the unseen lines, and then the events

@@ -24,7 +24,7 @@ use Rattle.cse_steps.specs.State.{State, World}
 use Rattle.cse_steps.specs.Run.{first}
 use Rattle.cse_steps.specs.Fits.{FitsFirst, FitsWorld, IsThere, is_of_run, occurrences_in}
 use Rattle.cse_steps.specs.Laws.{CaseKeepsToBound, EventsEnd}
-use Rattle.cse_machine.proofs.Following.{there_as}
+use Rattle.cse_steps.proofs.Events.{still_there}
 use Rattle.cse_batch.specs.Events.{AllEnd, after_moment, all_steps, end_of, steps_of, unedited}
 use Rattle.cse_batch.specs.Batch.{without_case}
 use Rattle.cse_batch.specs.Laws.{ApplicationsEnd, CasesEnd}
@@ -105,7 +105,7 @@ pub fits_moment : (v : VerifiedProgram) (case : Option CaseText) (w : World) (m 
     → FitsFirst v m w.case w.store
 fits_moment v case w m some f there = record {
   present = λ e. f.present ∙ some;
-  there = there_as v.image (occurrences_in case) (occurrences_in w.case) m.event.code m.event.index m.occurrence f.occurrences there;
+  there = still_there v.image (occurrences_in case) (occurrences_in w.case) f.occurrences m.event.code m.event.index m.occurrence there;
   case_fits = f.case_fits;
   dictionary = f.dictionary;
   store_fits = f.store;

@@ -8,11 +8,6 @@ use Rattle.cse_report.specs.AllReported.{all_reported, as_steps}
 use Rattle.cse_report.proofs.ListingLaws.{gives_the_listing}
 use Rattle.cse_report.proofs.ToldLaws.{lists_all}
 
--- reports in two parts
-pub all_later : (h : Held) (rs later : List Report) → all_reported h (rs ++ later) ≡ all_reported (all_reported h rs) later
-all_later h [] later = refl
-all_later h (r ∷ rs) later = all_later (reported h r) rs later
-
 lines_held : (h : Held) (rs : List Report) → (all_reported h rs).lines ≡ h.lines ++ lines_from h.messages h.heading rs
 lines_held h [] = sym (append-nil h.lines)
 lines_held h (r ∷ rs) = lines_held (reported h r) rs ∙ append_assoc h.lines (lines_of h.messages h.heading r) (lines_from h.messages (heading_after h.messages h.heading r) rs)

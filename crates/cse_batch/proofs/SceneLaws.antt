@@ -1,5 +1,5 @@
 -- What events change, one after the other.
-use Rattle.std.proofs.Common.{◌≡◌, ℕ, suc, ◌+◌, ◌-◌, ◌<◌, true, drop, map, Result, Ok, Err, OnOk, arith, List, [], ◌∷◌, ◌++◌, Option, Some, refl, sym, ap, ◌∙◌, subst}
+use Rattle.std.proofs.Common.{◌≡◌, ℕ, suc, ◌+◌, ◌-◌, ◌<◌, true, drop, map, arith, List, [], ◌∷◌, ◌++◌, Option, Some, refl, sym, ap, ◌∙◌, subst}
 use Rattle.std.specs.Prelude.{is_some}
 use Rattle.std.proofs.lemmas.List.{map-append}
 use Rattle.cse_image_parts.specs.declared.entries.Event.{Event}
@@ -12,13 +12,13 @@ use Rattle.cse_report.specs.Listing.{Gives}
 use Rattle.cse_report.specs.AllReported.{all_reported}
 use Rattle.cse_report.specs.Frequency.{Table, all_imputed}
 use Rattle.cse_report.specs.declared.reports.Reports.{Reports}
-use Rattle.cse_report.proofs.ToldLaws.{imputes_all}
+use Rattle.cse_report.proofs.ToldLaws.{imputes_all, all_later}
 use Rattle.cse_verify.specs.Verified.{VerifiedProgram}
 use Rattle.cse_steps.specs.State.{World, world_of}
 use Rattle.cse_steps.specs.Fits.{FitsFirst, FitsWorld, IsThere, occurrences_in}
 use Rattle.cse_steps.specs.Laws.{EventsEnd}
+use Rattle.cse_steps.proofs.Events.{still_there}
 use Rattle.cse_machine.specs.Results.{AllFitFirst, AllRunTo, RunsTo}
-use Rattle.cse_machine.proofs.Following.{there_as}
 use Rattle.cse_batch.specs.Events.{after_moment, after_moments, end_of, told_more}
 use Rattle.cse_batch.specs.Batch.{reports_of}
 use Rattle.cse_batch.specs.declared.handled.HandledRecord.{HandledRecord}
@@ -26,7 +26,6 @@ use Rattle.cse_batch.specs.Handled.{number_of}
 use Rattle.cse_batch.specs.Scene.{GoesOn, Scene, scene, scene_after, scene_after_all, told_to}
 use Rattle.cse_batch.proofs.EventLaws.{ends_are_final}
 use Rattle.cse_batch.proofs.EndLaws.{AllThere, fits_moment, fits_then}
-use Rattle.cse_batch.proofs.HeldLaws.{all_later}
 
 -- ---- one event
 
@@ -84,7 +83,7 @@ scene_is_told v s ms = all_told v s (world_of s.case s.store) ms
 pub there_now : (v : VerifiedProgram) (before now : CaseText) (store : Kept) → GoesOn v before now store → (e is : Event) → e ≡ is → (o : ℕ) → IsThere v.image (occurrences_in (Some before)) is.code is.index o
     → IsThere v.image (occurrences_in (Some now)) e.code e.index o
 there_now v before now store f e is same o h =
-    there_as v.image (occurrences_in (Some before)) (occurrences_in (Some now)) e.code e.index o f.occurrences (subst (λ (x : Event). IsThere v.image (occurrences_in (Some before)) x.code x.index o) (sym same) h)
+    still_there v.image (occurrences_in (Some before)) (occurrences_in (Some now)) f.occurrences e.code e.index o (subst (λ (x : Event). IsThere v.image (occurrences_in (Some before)) x.code x.index o) (sym same) h)
 
 -- the same of a case that goes on further
 pub goes_further : (v : VerifiedProgram) (before mid now : CaseText) (store store' : Kept) → GoesOn v before mid store → GoesOn v mid now store' → GoesOn v before now store'
@@ -120,10 +119,6 @@ all_ran_fits v law before (m ∷ ms) case case' store store' old new f there r =
     all_ran_fits v law before ms r.1 case' r.2 store' r.3 new (fits_then v (Some before) (world_of case store) (world_of r.1 r.2) f one) there.1 r.5
 
 -- ---- loops over events
-
-pub on_ok : {T E P Q : Type 0} (r : Result T E) → (P → Q) → OnOk r P → OnOk r Q
-on_ok (Ok x) f p = f p
-on_ok (Err e) f p = tt
 
 -- two events around others
 pub scene_around : (v : VerifiedProgram) (s s1 s2 s3 : Scene) (first last is is' : Event) (inner inner' : List Moment) → first ≡ is → last ≡ is' → inner ≡ inner'

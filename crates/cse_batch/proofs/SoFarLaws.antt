@@ -1,6 +1,7 @@
 -- What is known of a data file, run of lines by run of lines.
-use Rattle.std.proofs.Common.{◌≡◌, ℕ, ◌+◌, ◌*◌, ◌^◌, ◌<◌, ◌≤◌, ◌⊎◌, Bool, true, false, List, [], ◌∷◌, ◌++◌, length, Option, None, Some, Ok, Err, Result, cond, refl, ap, sym, ◌∙◌, subst, arith, append_assoc, append-nil, length-append, add_assoc, zero-add, inl, inr}
+use Rattle.std.proofs.Common.{◌≡◌, ℕ, ◌+◌, ◌*◌, ◌^◌, ◌<◌, ◌≤◌, ◌⊎◌, Bool, true, false, List, [], ◌∷◌, ◌++◌, length, None, Some, Ok, Err, Result, cond, refl, ap, sym, ◌∙◌, subst, arith, append_assoc, append-nil, length-append, zero-add, inl, inr}
 use Rattle.std.specs.Prelude.{sum_by, count_by}
+use Rattle.cse_lemmas.proofs.Booleans.{cond-le-one}
 use Rattle.cse_value.specs.Device.{Consumes, FailsOnce, Given, IsUnfailing}
 use Rattle.cse_value.proofs.ReadLaws.{Consumes-trans, Consumes-nil, Fails-after}
 use Rattle.std.proofs.lemmas.List.{length-map}
@@ -8,12 +9,12 @@ use Rattle.std.proofs.lemmas.List.Sums.{sum_by-append}
 use Rattle.std.proofs.lemmas.Bool.{eq-eqb, false≢true, ne_eqb}
 use Rattle.cse_dict.specs.Dictionary.{DictionaryText, shape_of}
 use Rattle.cse_lines.specs.declared.error.DataError.{DataError}
-use Rattle.cse_lines.specs.Line.{FileLine, lines_in}
+use Rattle.cse_lines.specs.Line.{FileLine}
 use Rattle.cse_lines.specs.Columns.{line_text}
 use Rattle.cse_lines.specs.Run.{RunText, written_run}
-use Rattle.cse_lines.specs.Runs.{given_runs, given_of, fault_in, later_by, MayFollow}
+use Rattle.cse_lines.specs.Runs.{given_runs, fault_in, later_by, MayFollow}
 use Rattle.cse_lines.specs.Reader.{ReaderText, IsError, IsFaulty, NeedsMore, held_of, is_front}
-use mir.Val.{bool_byte}
+use Rattle.cse_lines.proofs.RunLaws.{later_by-zero, later_by-later_by, nothing_given, nothing_faulty, may_follow}
 use Rattle.std.proofs.lemmas.Bool.{MatchBool-at_true}
 use Rattle.cse_value.specs.declared.device.Failed.{Failed}
 use Rattle.cse_value.specs.Writing.{AppendsFront, FailsAtErr, WritesAll}
@@ -41,22 +42,6 @@ pub record SoFar (before now : Given) (d : DictionaryText) (r : ReaderText) (tex
   pub goes_on : (later : Bool) (more : List ℕ) → MayFollow r.ended later more → given_runs d true later ((text ++ held_of r) ++ more) ≡ runs ++ given_runs d (is_front r) later (held_of r ++ more)
   pub fault : (later : Bool) (more : List ℕ) → MayFollow r.ended later more → fault_in d true later ((text ++ held_of r) ++ more) ≡ later_by r.lines (fault_in d (is_front r) later (held_of r ++ more))
 
-later_by-none : (f : Option (ℕ × ℕ)) → later_by 0 f ≡ f
-later_by-none None = refl
-later_by-none (Some f) = ap (λ n. Some (n, f.1)) (zero-add (f.0))
-
-later_by-later_by : (a b : ℕ) (f : Option (ℕ × ℕ)) → later_by a (later_by b f) ≡ later_by (a + b) f
-later_by-later_by a b None = refl
-later_by-later_by a b (Some f) = ap (λ n. Some (n, f.1)) (sym (add_assoc a b (f.0)))
-
-nothing_given : (d : DictionaryText) (front : Bool) → given_runs d front true [] ≡ []
-unfolding given_of lines_in
-nothing_given d front = refl
-
-nothing_faulty : (d : DictionaryText) (front : Bool) → fault_in d front true [] ≡ None
-unfolding fault_in lines_in
-nothing_faulty d front = refl
-
 -- nothing was read
 pub SoFar-none : (now : Given) (d : DictionaryText) (r : ReaderText) → r.dictionary ≡ d → held_of r ≡ [] → r.ended ≡ false → r.reads ≡ 0 → r.lines ≡ 0
     → SoFar now now d r [] (record { cases = 0; lines = 0; unseen = 0 })
@@ -74,7 +59,7 @@ SoFar-none now d r same none unended unread front =
       few_unseen = omega arith;
       few = omega arith;
       goes_on = λ later more h. ap (λ f. given_runs d f later (held_of r ++ more)) (sym first);
-      fault = λ later more h. ap (λ f. fault_in d f later (held_of r ++ more)) (sym first) ∙ (sym (later_by-none (fault_in d (is_front r) later (held_of r ++ more))) ∙ ap (λ n. later_by n (fault_in d (is_front r) later (held_of r ++ more))) (sym front));
+      fault = λ later more h. ap (λ f. fault_in d f later (held_of r ++ more)) (sym first) ∙ (sym (later_by-zero (fault_in d (is_front r) later (held_of r ++ more))) ∙ ap (λ n. later_by n (fault_in d (is_front r) later (held_of r ++ more))) (sym front));
     }
 
 pub runs-none : (now : Given) (d : DictionaryText) (r : ReaderText) (same : r.dictionary ≡ d) (none : held_of r ≡ []) (unended : r.ended ≡ false) (unread : r.reads ≡ 0) (front : r.lines ≡ 0)
@@ -94,27 +79,11 @@ totals_more d runs run case lines unseen e f g =
     ∙ (ap (λ n. record { cases = count_by (is_case_run d) runs + cond case 1 0; lines = n; unseen = sum_by (unseen_in d) (runs ++ run ∷ []) }) two
     ∙ ap (λ n. record { cases = count_by (is_case_run d) runs + cond case 1 0; lines = sum_by length runs + lines; unseen = n }) three)
 
--- a truth value as a number
-pub byte_is : (t : Bool) → bool_byte t ≡ cond t 1 0
-byte_is true = refl
-byte_is false = refl
-
-at_most_one : (t : Bool) → cond t 1 0 ≤ 1
-at_most_one true = omega arith
-at_most_one false = omega arith
-
 -- the runs that are given of all that was read
 pub given_so_far : (before now : Given) (d : DictionaryText) (r : ReaderText) (text : List ℕ) (totals : Totals) (s : SoFar before now d r text totals)
     → given_runs d true r.ended (text ++ held_of r) ≡ s.runs ++ given_runs d (is_front r) r.ended (held_of r)
 given_so_far before now d r text totals s =
     ap (given_runs d true r.ended) (sym (append-nil (text ++ held_of r))) ∙ (s.goes_on r.ended [] (λ e. (e, refl)) ∙ ap (λ l. s.runs ++ given_runs d (is_front r) r.ended l) (append-nil (held_of r)))
-
--- what may follow what was read may follow what was held
-may_follow : (ended ended' later : Bool) (taken more : List ℕ) → (ended ≡ true → (taken ≡ []) × (ended' ≡ true)) → MayFollow ended' later more → MayFollow ended later (taken ++ more)
-may_follow ended ended' later taken more stays h = λ e.
-    let s = stays e in
-    let f = h (s.1) in
-    (f.0, ap (λ l. l ++ more) (s.0) ∙ f.1)
 
 module _ (before now after : Given) (d : DictionaryText) (r r' : ReaderText) (text : List ℕ) (totals : Totals) (s : SoFar before now d r text totals) where
   module _ (c : CaseText) (n : NextCase now after r r' (Ok (Some c))) where
@@ -158,7 +127,7 @@ module _ (before now after : Given) (d : DictionaryText) (r r' : ReaderText) (te
         → SoFar before after d r' (text ++ written_run c.run) (record { cases = totals.cases + cond case 1 0; lines = totals.lines + length c.run.lines; unseen = totals.unseen + length (unseen_lines c) })
     SoFar-case works case is few =
         let more = totals_more d s.runs gives.run.lines case (length c.run.lines) (length (unseen_lines c)) (is ∙ is_case_is) run_lines unseen_is in
-        let one : cond case 1 0 ≤ 1 = at_most_one case in
+        let one : cond case 1 0 ≤ 1 = cond-le-one case in
         record {
           runs = s.runs ++ gives.run.lines ∷ [];
           dictionary = n.dictionary ∙ s.dictionary;

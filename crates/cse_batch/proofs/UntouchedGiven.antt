@@ -1,14 +1,15 @@
 -- The runs that are given of a file: each has a line, no line has a fault by itself, and only the first may stand at the front.
-use Rattle.std.proofs.Common.{◌≡◌, ℕ, zero, suc, ◌+◌, ◌<◌, Bool, true, false, cond, eqb, ltb, List, [], ◌∷◌, ◌++◌, length, take, map, Option, Some, None, refl, ap, ◌∙◌, subst, arith, append_assoc, append-nil}
+use Rattle.std.proofs.Common.{◌≡◌, ℕ, zero, suc, ◌+◌, ◌<◌, Bool, true, false, cond, eqb, List, [], ◌∷◌, ◌++◌, length, take, map, Option, Some, None, refl, ap, ◌∙◌, subst, arith, append_assoc, append-nil}
 use Rattle.std.specs.Prelude.{filter}
 use Rattle.std.specs.List.{flat_map, onto_first}
-use Rattle.std.specs.Option.{is_some, option_map_or}
+use Rattle.std.specs.Option.{option_map_or}
 use Rattle.std.specs.Str.{bytes_eq}
 use Rattle.cse_dict.specs.Dictionary.{DictionaryText}
 use Rattle.cse_lines.specs.Line.{FileLine, counts, flagged, lines_in, pieces_of}
 use Rattle.cse_lines.specs.Columns.{id_of}
 use Rattle.cse_lines.specs.Runs.{AreSound, all_but_last, fault_in, fault_of, first_fault, given_runs, given_before, given_of, line_fault, onto_run, or_later, place_after, runs_of}
 use Rattle.cse_lines.specs.Gathering.{StandsFrom, bytes_of}
+use Rattle.cse_lines.proofs.GatherLaws.{own_sound}
 
 -- runs with lines, sound ones, of which the first stands at the front of the file or not
 abbrev pub AreGood : Bool → List (List FileLine) → Type 0
@@ -36,13 +37,6 @@ but_last front (run ∷ []) g = tt
 but_last front (run ∷ next ∷ runs) g = (g.0, g.1, g.2, but_last false (next ∷ runs) g.3)
 
 -- ---- before the first faulty line
-
-own_sound : (place : ℕ) (line : FileLine) → fault_of place line ≡ None → line_fault line ≡ None
-own_sound place line h = by_cases (line_fault line) (cond {A = Option ℕ} (ltb 10000 place) (Some 22) None) h
-  where
-    by_cases : (fault later : Option ℕ) → cond {A = Option ℕ} (is_some fault) fault later ≡ None → fault ≡ None
-    by_cases None later h = refl
-    by_cases (Some x) later h = h
 
 none_later : (o : Option (ℕ × ℕ)) → or_later None o ≡ None → o ≡ None
 none_later None e = refl

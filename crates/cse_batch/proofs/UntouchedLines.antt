@@ -14,6 +14,7 @@ use Rattle.cse_lines.specs.Gathering.{StandsFrom}
 use Rattle.cse_lines.specs.Written.{kept_columns, mark_bytes, written_line}
 use Rattle.cse_lines.proofs.TakeLaws.{id_of_is}
 use Rattle.cse_lines.proofs.WrittenLaws.{written-line}
+use Rattle.cse_lines.proofs.AlikeLaws.{text_len, text_ending}
 use Rattle.cse_batch.specs.Untouched.{LineStays}
 
 -- ---- one line
@@ -35,14 +36,6 @@ written_same a b e f g =
     ap (λ columns. encode_utf8_all (kept_columns a.len columns) ++ end_bytes a.ending) e
     ∙ (ap (λ n. encode_utf8_all (kept_columns n b.columns) ++ end_bytes a.ending) f ∙ ap (λ x. encode_utf8_all (kept_columns b.len b.columns) ++ end_bytes x) g)
 
-len_is : (d : DictionaryText) (read : FileLine) → (line_text d read).len ≡ length (columns_of read)
-unfolding line_text
-len_is d read = refl
-
-ending_is : (d : DictionaryText) (read : FileLine) → (line_text d read).ending ≡ ending_of (read.1)
-unfolding line_text
-ending_is d read = refl
-
 -- what stays of the line that was read
 pub record IsLeft (d : DictionaryText) (Touched : ℕ → Type 0) (read : FileLine) (line : LineText) : Type 0 where
   pub len : line.len ≡ (line_text d read).len
@@ -60,7 +53,7 @@ line_stays d Touched read line written sound left is = record {
   stays = left.stays;
   ids = left.ids ∙ id_of_is d read;
   record_type = left.record_type;
-  bytes = is ∙ ap (λ l. mark_bytes (is_marked read) ++ l) (written_is line (length (columns_of read)) (ending_of (read.1)) (left.len ∙ len_is d read) (left.ending ∙ ending_is d read));
+  bytes = is ∙ ap (λ l. mark_bytes (is_marked read) ++ l) (written_is line (length (columns_of read)) (ending_of (read.1)) (left.len ∙ text_len d read) (left.ending ∙ text_ending d read));
   untouched = λ none.
       let columns : line.columns ≡ (line_text d read).columns = same_columns line.columns (line_text d read).columns left.width (λ k. elim (left.stays k) [ inl e ↦ e | inr t ↦ absurd (none k t) ]) in
       is ∙ (ap (λ l. mark_bytes (is_marked read) ++ l) (written_same line (line_text d read) columns left.len left.ending) ∙ written-line d read sound);

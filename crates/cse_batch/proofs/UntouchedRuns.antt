@@ -7,6 +7,7 @@ use Rattle.std.proofs.lemmas.Bool.{false≢true}
 use Rattle.std.proofs.lemmas.List.{length-map}
 use Rattle.std.proofs.lemmas.List.Folds.{flat_map-map}
 use Rattle.std.proofs.lemmas.Option.{get_or_from_slice_get, slice_get-map}
+use Rattle.cse_lemmas.proofs.Lists.{get_or-map_default}
 use Rattle.cse_image_parts.specs.declared.entries.EventCode.TheVariants.{ApplicationPreproc}
 use Rattle.cse_dict.specs.Dictionary.{DictionaryText}
 use Rattle.cse_lines.specs.declared.line.Ending.{Ending}
@@ -35,14 +36,9 @@ use Rattle.cse_batch.proofs.EventLaws.{ended_is_final}
 use Rattle.cse_batch.proofs.UntouchedEvents.{IsEdited, StepLaws, is_edited}
 use Rattle.cse_batch.proofs.UntouchedGiven.{AreGood, all_given, given_are_good}
 use Rattle.cse_batch.proofs.UntouchedLines.{IsLeft, as_many_written, line_stays, lines_written, sound_at, written_as_read, written_at, written_together}
+use Rattle.cse_batch.proofs.RunLaws.{begun_out}
 
 -- ---- one run
-
--- what is seen of an element, there or not
-seen_at : {A B : Type 0} (f : A → B) (xs : List A) (k : ℕ) (d : A) → get_or (map f xs) k (f d) ≡ f (get_or xs k d)
-seen_at f [] k d = refl
-seen_at f (x ∷ xs) zero d = refl
-seen_at f (x ∷ xs) (suc k) d = seen_at f xs k d
 
 module _ (d : DictionaryText) (number : ℕ) (lines : List FileLine) (Touched : ℕ → ℕ → Type 0) (c : CaseText) (stays : LinesStay Touched (case_of d number lines) c) where
   as_many : length c.run.lines ≡ length lines
@@ -56,11 +52,11 @@ module _ (d : DictionaryText) (number : ℕ) (lines : List FileLine) (Touched : 
     left : IsLeft d (Touched place) read (line_at c.run place)
     left = record {
       len =
-          sym (seen_at (λ (l : LineText). l.len) c.run.lines place no_line)
-          ∙ (ap (λ (ls : List ℕ). get_or ls place 0) stays.same.lens ∙ (seen_at (λ (l : LineText). l.len) (map (line_text d) lines) place no_line ∙ ap (λ (l : LineText). l.len) was));
+          sym (get_or-map_default (λ (l : LineText). l.len) c.run.lines place no_line)
+          ∙ (ap (λ (ls : List ℕ). get_or ls place 0) stays.same.lens ∙ (get_or-map_default (λ (l : LineText). l.len) (map (line_text d) lines) place no_line ∙ ap (λ (l : LineText). l.len) was));
       ending =
-          sym (seen_at (λ (l : LineText). l.ending) c.run.lines place no_line)
-          ∙ (ap (λ (ls : List Ending). get_or ls place no_line.ending) stays.same.endings ∙ (seen_at (λ (l : LineText). l.ending) (map (line_text d) lines) place no_line ∙ ap (λ (l : LineText). l.ending) was));
+          sym (get_or-map_default (λ (l : LineText). l.ending) c.run.lines place no_line)
+          ∙ (ap (λ (ls : List Ending). get_or ls place no_line.ending) stays.same.endings ∙ (get_or-map_default (λ (l : LineText). l.ending) (map (line_text d) lines) place no_line ∙ ap (λ (l : LineText). l.ending) was));
       width = stays.widths place ∙ ap (λ (l : LineText). length l.columns) was;
       stays = λ column. elim (stays.columns place column) [ inl e ↦ inl (e ∙ ap (λ (l : LineText). get_or l.columns column 32) was) | inr t ↦ inr t ];
       ids = stays.ids_and_types.ids place ∙ ap (λ (l : LineText). ids_of d l.columns) was;
@@ -145,10 +141,6 @@ out_is v store bytes ended = by_end (is_whole v.dictionary ended bytes)
     by_end true = refl
     by_end false = refl
 
-nothing_written : (v : VerifiedProgram) (store : Kept) → (begun v store).out ≡ []
-unfolding begun after_application
-nothing_written v store = refl
-
 pub untouched_columns_stay : (v : VerifiedProgram) → StepLaws v → UntouchedColumnsStay v
 untouched_columns_stay v laws store bytes ended fits =
     let runs = given_runs v.dictionary true ended bytes in
@@ -156,7 +148,7 @@ untouched_columns_stay v laws store bytes ended fits =
     let w = writes v laws (good.0) (begun v store) runs (good.1) (begun_fits v laws store fits) in
     record {
       written = w.written;
-      out = out_is v store bytes ended ∙ (w.out ∙ ap (λ (l : List ℕ). l ++ flat_map (flat_map (λ line. line)) w.written) (nothing_written v store));
+      out = out_is v store bytes ended ∙ (w.out ∙ ap (λ (l : List ℕ). l ++ flat_map (flat_map (λ line. line)) w.written) (begun_out v store));
       runs = w.stays;
       all = λ has_ended sound. all_read has_ended sound;
     }

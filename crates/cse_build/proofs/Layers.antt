@@ -1,19 +1,19 @@
 -- From one text to the next: what is given, and which fault is told.
-use Rattle.std.proofs.Common.{◌≡◌, ◌≤◌, ◌⊎◌, inl, inr, ℕ, suc, Bool, true, false, List, [], ◌∷◌, refl, sym, ap, ◌∙◌, subst, Some, arith}
+use Rattle.std.proofs.Common.{◌≡◌, ◌≤◌, ◌⊎◌, inl, inr, ℕ, Bool, true, false, List, refl, sym, ap, subst, Some, arith}
 use Rattle.std.specs.Prelude.{◌||◌, nat_eq, IsTrue, Result, Ok, Err, IfOk, IfErr}
-use Rattle.std.specs.Str.{IsUtf8, is_utf8}
-use Rattle.std.proofs.lemmas.Str.{IsUtf8-from_is_utf8}
+use Rattle.std.specs.Str.{is_utf8}
 use Rattle.std.proofs.lemmas.Bool.{eqb-true}
 use Rattle.cse_image_parts.specs.Image.{Image}
 use Rattle.cse_image.specs.Spelling.{Spells}
 use Rattle.cse_dict.specs.Dictionary.{DictionaryText, shape_of}
 use Rattle.cse_syntax.specs.declared.error.SyntaxError.{SyntaxError}
 use Rattle.cse_syntax_tree.specs.declared.token.Token.{Token}
-use Rattle.cse_syntax_tree.specs.Word.{Word, word, word_of, words, AreNumbered}
+use Rattle.cse_syntax_tree.specs.Word.{Word, words, AreNumbered}
 use Rattle.cse_syntax_tree.specs.Tree as syntax
 use Rattle.cse_syntax_tree.specs.Grammar.{IsSource}
 use Rattle.cse_syntax.specs.Text.{pieces, pieces_of}
-use Rattle.cse_syntax.specs.Source.{IsSourceText, said_from}
+use Rattle.cse_syntax.specs.Source.{IsSourceText}
+use Rattle.cse_syntax.proofs.Whole.{said_pieces}
 use Rattle.cse_logic_tree.specs.Typed.{Tree}
 use Rattle.cse_logic_names.specs.declared.error.TypeError.{TypeError}
 use Rattle.cse_logic_names.specs.Fault as types
@@ -83,10 +83,6 @@ image_of_source d entries named source made_for ordered t (Err e) bytes same_d s
 
 -- ---- texts
 
-said_pieces : (n : ℕ) (ts : List Token) → AreNumbered n ts → said_from n (pieces ts) ≡ words ts
-said_pieces n [] h = refl
-said_pieces n (t ∷ ts) h = ap (λ (k : ℕ). word k t.kind t.text.now ∷ said_from (suc n) (pieces ts)) (sym h.0) ∙ ap (λ (ws : List Word). word_of t ∷ ws) (said_pieces (suc n) ts h.1)
-
 pub source_text : (text : List ℕ) (ts : List Token) (source : syntax.Tree) → pieces_of text ≡ Some (pieces ts) → AreNumbered 0 ts → IsSource 64 source (words ts) → IsSourceText 64 text source
 source_text text ts source e n h = (pieces ts, e, subst (λ (ws : List Word). IsSource 64 source ws) (sym (said_pieces 0 ts n)) h)
 
@@ -110,14 +106,6 @@ pub image_of_text : {T : Type 0} (d : DictionaryText) (entries : List MessageTex
     → IfOk r (λ v. (source : syntax.Tree) × (t : Tree) × (x : Image) × IsSourceText 64 text source × IsTypedAs d entries source t × IsImage d named t x (bytes v))
 image_of_text d entries named text source (Ok v) bytes is h = (source, h.0, h.1, is, h.2, h.3)
 image_of_text d entries named text source (Err e) bytes is h = tt
-
--- of bytes that are a text
-pub no_text_is : (bs : List ℕ) → (IsUtf8 bs → ⊥) → is_utf8 bs ≡ false
-no_text_is bs h = by (is_utf8 bs) refl
-  where
-    by : (b : Bool) → is_utf8 bs ≡ b → is_utf8 bs ≡ false
-    by true e = absurd (h (IsUtf8-from_is_utf8 bs e))
-    by false e = e
 
 pub image_of_logic : {T : Type 0} (d : DictionaryText) (entries : List MessageText) (named logic text : List ℕ) (r : Result T BuildFault) (bytes : T → List ℕ) → text ≡ logic → is_utf8 logic ≡ true
     → IfOk r (λ v. (source : syntax.Tree) × (t : Tree) × (x : Image) × IsSourceText 64 text source × IsTypedAs d entries source t × IsImage d named t x (bytes v))

@@ -2,6 +2,7 @@
 use Rattle.std.proofs.Common.{◌≡◌, ℕ, Bool, true, false, List, refl, sym, subst}
 use Rattle.std.specs.Prelude.{IsTrue, ◌||◌, nat_eq, Result, Ok, Err, IfErr}
 use Rattle.std.proofs.Math.Logic.{∥∥₁_elim, ∥∥₁_prop}
+use Rattle.std.proofs.lemmas.Bool.{false≢true}
 use Rattle.cse_dict.specs.Dictionary.{DictionaryText, shape_of}
 use Rattle.cse_dict.specs.Sound.{IsSound as IsSoundDictionary}
 use Rattle.cse_syntax_tree.specs.Grammar.{spell_tree}
@@ -18,13 +19,10 @@ use Rattle.cse_law_sources_have_room.specs.Given.{ShapeFits}
 use Rattle.cse_law_sources_have_room.specs.Within.{IsWithin}
 use Rattle.cse_law_sources_have_room.proofs.Whole.{large_alone}
 
-differ : IsTrue false → ⊥
-differ h = cc
-
 -- a truth that follows from what is there
 decided : {S : Type 0} (b : Bool) → ∥ S ∥₁ → (S → IsTrue b) → IsTrue b
 decided true s h = refl
-decided false s h = absurd (∥∥₁_elim s (λ a b. absurd a) (λ x. differ (h x)))
+decided false s h = absurd (∥∥₁_elim s (λ a b. absurd a) (λ x. false≢true (h x)))
 
 module _ (c : Checked) (dictionary : IsSoundDictionary c.dictionary) (is : ∥ IsChecked c ∥₁) where
   sound : ∥ IsSound c.dictionary c.order c.tree ∥₁

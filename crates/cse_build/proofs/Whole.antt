@@ -2,6 +2,7 @@
 use Rattle.std.proofs.Common.{◌≡◌, ◌⊎◌, inl, inr, ℕ, true, false, List, Some, None, refl, sym, ap, ◌∙◌, subst}
 use Rattle.std.specs.Prelude.{◌||◌, nat_eq, IsTrue, Result, Ok, Err, IfErr}
 use Rattle.std.proofs.lemmas.Option.{same_Some, none-some}
+use Rattle.std.proofs.lemmas.Bool.{true≢false}
 use Rattle.cse_dict.specs.Dictionary.{DictionaryText}
 use Rattle.cse_syntax_tree.specs.Tree as syntax
 use Rattle.cse_syntax.specs.Source.{IsSourceText, said}
@@ -15,9 +16,6 @@ use Rattle.cse_logic_names.specs.WellTyped.{IsTypedAs}
 use Rattle.cse_build.specs.declared.error.BuildFault.{BuildFault}
 use Rattle.cse_build.specs.Fault.{IsReason, at_no_place, out_of_memory}
 use Rattle.cse_build.specs.Build.{AreSound, AreEntries, AreNamed, IsFault, IsFaultBehind, IsLimitFault, IsLogic, IsLogicFault, IsMessageFault, IsOrderFault, IsSourceFault, IsTextFault}
-
-clash : true ≡ false → ⊥
-clash h = cc
 
 -- a text has one tree
 same_source : (text : List ℕ) (x y : syntax.Tree) → IsSourceText 64 text x → IsSourceText 64 text y → x ≡ y
@@ -37,7 +35,7 @@ module _ (d : DictionaryText) (entries : List MessageText) (logic : List ℕ) (s
   by_source (inr k) = by_limit k.0 k.2
 
   by_text : IsTextFault logic e → ⊥
-  by_text (inl k) = clash (sym h.utf8 ∙ k.1)
+  by_text (inl k) = true≢false (sym h.utf8 ∙ k.1)
   by_text (inr k) = k.2 source h.text
 
   by_logic : IsLogicFault d entries logic e → IsReason e

@@ -1,6 +1,6 @@
 -- Laws of cases whose lines lie in one list of columns.
-use Rattle.std.proofs.Common.{◌≡◌, ℕ, zero, suc, ◌+◌, ◌<◌, List, [], ◌∷◌, length, map, Option, None, Some, refl, ap, sym, ◌∙◌, nat_lt, ◌++◌, ◌≤◌, take, drop, append-nil, arith, subst, get_or}
-use Rattle.std.proofs.lemmas.List.{length-map, drop_all, length-take-le, length-drop}
+use Rattle.std.proofs.Common.{◌≡◌, ℕ, suc, ◌+◌, ◌<◌, List, [], ◌∷◌, length, map, Option, None, Some, refl, ap, sym, ◌∙◌, nat_lt, ◌++◌, ◌≤◌, take, drop, append-nil, arith, get_or}
+use Rattle.std.proofs.lemmas.List.{length-map, drop_all}
 use Rattle.cse_lines.specs.Run.{with_columns}
 use Rattle.cse_value.specs.declared.shape.RecordShape.{RecordShape}
 use Rattle.cse_dict.specs.declared.lookup.Unseen.{Unseen}
@@ -9,7 +9,7 @@ use Rattle.std.specs.List.{flat_map}
 use Rattle.std.proofs.lemmas.List.{take_more, map-append}
 use Rattle.std.proofs.lemmas.Grind.{flat_map-append}
 use Rattle.cse_lines.specs.Written.{written_line}
-use Rattle.cse_lines.specs.Laid.{laid_line, laid_lines, IsLaid}
+use Rattle.cse_lines.specs.Laid.{laid_line, laid_lines}
 use Rattle.cse_case.specs.Seen.{onto_unseen, unseen_after, unseen_from, unseen_of, is_case}
 use Rattle.cse_case.specs.Case.{types_of}
 
@@ -60,16 +60,6 @@ pub with_columns-all : (field columns : List ℕ) → length field ≡ length co
 with_columns-all field columns e =
     let none : drop (0 + length field) columns ≡ [] = drop_all (0 + length field) columns (omega arith) in
     ap (λ l. field ++ l) none ∙ append-nil field
-
--- how wide a line is that lies within the columns
-pub width_of_line : (columns : List ℕ) (first width : ℕ) → first + width ≤ length columns → length (take width (drop first columns)) ≡ width
-width_of_line columns first width h = length-take-le width (drop first columns) (omega (arith, length-drop first columns))
-
--- no line was longer than it is wide
-pub laid_padded : (at : ℕ) (columns : List ℕ) (lines : List Line) (i : ℕ) (line : Line) → IsLaid at columns lines → i < length lines → line ≡ get_or lines i line → line.len ≤ line.width
-laid_padded at columns [] i line h l e = absurd (omega arith)
-laid_padded at columns (x ∷ xs) zero line h l e = subst (λ (y : Line). y.len ≤ y.width) (sym e) h.1
-laid_padded at columns (x ∷ xs) (suc i) line h l e = laid_padded (at + x.width) columns xs i line h.2 (omega arith) e
 
 -- one line more is written
 pub written-more : (columns : List ℕ) (lines : List Line) (i : ℕ) (line : Line) → i < length lines → line ≡ get_or lines i line

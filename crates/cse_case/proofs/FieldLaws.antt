@@ -1,7 +1,7 @@
 -- Laws of an item's columns among those of a line.
-use Rattle.std.proofs.Common.{◌≡◌, ℕ, zero, suc, ◌+◌, ◌-◌, ◌≤◌, min, List, [], ◌∷◌, ◌++◌, length, replicate, take, drop, refl, ap, sym, ◌∙◌, arith, inl, inr, append_assoc, append-nil, length-append, length-take-le}
+use Rattle.std.proofs.Common.{◌≡◌, ℕ, ◌+◌, ◌-◌, ◌≤◌, min, List, ◌++◌, length, replicate, take, drop, ap, sym, ◌∙◌, arith, inl, inr, append_assoc, append-nil, length-append, length-take-le}
 use Rattle.std.proofs.lemmas.Bool.{cases_lt}
-use Rattle.std.proofs.lemmas.List.{drop-drop, drop-take, length-drop, length-replicate, length-take, take_all, take_min, drop_min}
+use Rattle.std.proofs.lemmas.List.{drop-drop, drop-take, length-drop, length-replicate, length-take, take_all, take_min, drop_min, take-take}
 use Rattle.cse_value.specs.declared.shape.ItemShape.{ItemShape}
 use Rattle.cse_value.proofs.WidthLaws.{length-put, length-put_text}
 use Rattle.cse_lines.specs.declared.layout.ColumnSpan.{ColumnSpan}
@@ -17,12 +17,6 @@ use Rattle.cse_value.specs.declared.shape.ItemKind.{ItemKind}
 use Rattle.cse_value.specs.declared.shape.ItemKind.TheVariants.{Number as ANumber}
 use Rattle.cse_case.specs.ItemEntry.{IsFor, IsShort, entry_columns}
 use Rattle.cse_case.specs.Field.{field_of}
-
-take_take : (n m : ℕ) (xs : List ℕ) → n ≤ m → take n (take m xs) ≡ take n xs
-take_take zero m xs h = refl
-take_take (suc n) zero xs h = absurd (omega arith)
-take_take (suc n) (suc m) [] h = refl
-take_take (suc n) (suc m) (x ∷ xs) h = ap (λ l. x ∷ l) (take_take n m xs (omega arith))
 
 -- the columns that are there
 pub field_here : (item : ItemShape) (columns : List ℕ) (s n : ℕ) → s ≡ min (item.start - 1) (length columns) → n ≡ min item.len (length columns - s) → take n (drop s columns) ≡ field_of item columns
@@ -50,7 +44,7 @@ field_from item columns first width within =
     let rest : width ≡ from + (width - from) = omega arith in
     let cut : drop from (take width (drop first columns)) ≡ take (width - from) (drop from (drop first columns)) =
     ap (λ w. drop from (take w (drop first columns))) rest ∙ drop-take from (width - from) (drop first columns) in
-    sym (ap (take item.len) cut ∙ take_take item.len (width - from) (drop from (drop first columns)) (omega arith))
+    sym (ap (take item.len) cut ∙ take-take item.len (width - from) (drop from (drop first columns)) (omega arith))
 
 -- the columns of an item are Len at most
 pub short_field : (item : ItemShape) (columns : List ℕ) → length (field_of item columns) ≤ item.len

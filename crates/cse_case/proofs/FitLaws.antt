@@ -1,6 +1,7 @@
 -- Laws of cases that fit their dictionary.
-use Rattle.std.proofs.Common.{◌≡◌, ℕ, zero, suc, ◌-◌, ◌<◌, ◌≤◌, Bool, false, List, [], ◌∷◌, length, take, drop, get_or, replicate, Option, None, refl, ap, sym, ◌∙◌, subst, arith}
-use Rattle.std.proofs.lemmas.List.{get_or-map, length-map, length-take, length-append, length-replicate}
+use Rattle.std.proofs.Common.{◌≡◌, ℕ, zero, suc, ◌<◌, ◌≤◌, Bool, false, List, [], ◌∷◌, length, take, drop, get_or, Option, None, refl, ap, sym, ◌∙◌, subst, arith}
+use Rattle.std.proofs.lemmas.List.{get_or-map, length-map, length-take}
+use Rattle.cse_lemmas.proofs.Lists.{length-padded}
 use Rattle.cse_value.specs.declared.shape.RecordShape.{RecordShape}
 use Rattle.cse_value.specs.Occurrences.{most_occurrences}
 use Rattle.cse_dict.specs.Dictionary.{DictionaryText}
@@ -8,7 +9,7 @@ use Rattle.cse_lines.specs.declared.line.Line.{Line}
 use Rattle.cse_lines.specs.declared.line.Ending.TheVariants.{FileEnd}
 use Rattle.cse_lines.specs.Line.{FileLine}
 use Rattle.cse_lines.specs.Columns.{LineText, columns_of, line_text, no_line}
-use Rattle.cse_lines.specs.Field.{padded, width_of}
+use Rattle.cse_lines.specs.Field.{width_of}
 use Rattle.cse_lines.specs.Laid.{IsLaid, laid_line, laid_lines}
 use Rattle.cse_lines.specs.Run.{RunText, line_at, run_text}
 use Rattle.cse_lines.proofs.LaidLaws.{laid_within, line_in}
@@ -16,18 +17,15 @@ use Rattle.cse_case.specs.Seen.{occurrence_places, places_from}
 use Rattle.cse_case.specs.Kept.{AreWide}
 use Rattle.cse_case.specs.Case.{CaseText, places_of, records_of, types_of}
 use Rattle.cse_case.specs.Fit.{IsFit, line_width}
-use Rattle.cse_case.proofs.CaseLaws.{width_of_line}
+use Rattle.cse_case.proofs.FieldLaws.{length-piece}
 
 pub at_most : (records : List RecordShape) (r : ℕ) (lines : List (Option ℕ)) → length (occurrence_places records r lines) ≤ most_occurrences records r
 unfolding occurrence_places
 at_most records r lines = omega (arith, length-take (most_occurrences records r) (places_from 0 r lines))
 
-length-padded : (width : ℕ) (columns : List ℕ) → length columns ≤ width → length (padded width columns) ≡ width
-length-padded width columns h = omega (arith, length-append columns (replicate (width - length columns) 32), length-replicate {A = ℕ} (width - length columns) 32)
-
 line_wide : (d : DictionaryText) (line : FileLine) → length (line_text d line).columns ≡ line_width d (line_text d line)
 unfolding line_text width_of
-line_wide d line = length-padded (width_of d (columns_of line)) (columns_of line) (omega arith)
+line_wide d line = length-padded (width_of d (columns_of line)) (columns_of line) 32 (omega arith)
 
 -- a run that is read fits
 pub fits_read : (d : DictionaryText) (ids : List ℕ) (number : ℕ) (lines : List FileLine) → 0 < length lines → IsFit (record { dictionary = d; ids = ids; run = run_text d number lines })
@@ -49,7 +47,7 @@ pub are_wide : (d : DictionaryText) (columns : List ℕ) (lines : List Line) →
     → AreWide d lines
 are_wide d columns lines laid wide = λ place line h e.
     let at : get_or (laid_lines columns lines) place no_line ≡ laid_line columns line = line_in columns lines place line h e in
-    let own : length (take line.width (drop line.first columns)) ≡ line.width = width_of_line columns line.first line.width (laid_within 0 columns lines place line laid h e) in
+    let own : length (take line.width (drop line.first columns)) ≡ line.width = length-piece line.first line.width columns (laid_within 0 columns lines place line laid h e) in
     sym own ∙ subst (λ (l : LineText). length l.columns ≡ line_width d l) at (wide place (omega (arith, length-map lines (laid_line columns))))
 
 -- the lines of a run, as they lie
@@ -67,7 +65,7 @@ found [] place d h = absurd (omega arith)
 found (l ∷ ls) zero d h = refl
 found (l ∷ ls) (suc place) d h = found ls place d (omega arith)
 
-no_place : Line
+pub no_place : Line
 no_place = record { first = 0; width = 0; len = 0; ending = FileEnd; record_number = None }
 
 -- a case that keeps its lines so fits
@@ -85,6 +83,6 @@ kept_fits d ids columns lines marked first_line some wide laid =
           let line : Line = get_or lines place no_place in
           let e : line ≡ get_or lines place line = found lines place no_place low in
           let at : line_at c.run place ≡ laid_line columns line = line_in columns lines place line low e in
-          let own : length (take line.width (drop line.first columns)) ≡ line.width = width_of_line columns line.first line.width (laid_within 0 columns lines place line laid low e) in
+          let own : length (take line.width (drop line.first columns)) ≡ line.width = length-piece line.first line.width columns (laid_within 0 columns lines place line laid low e) in
           subst (λ (l : LineText). length l.columns ≡ line_width d l) (sym at) (own ∙ wide place line low e);
     }

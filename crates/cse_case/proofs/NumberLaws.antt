@@ -5,18 +5,20 @@ use Rattle.std.specs.Option.{option_map}
 use Rattle.std.specs.List.{list_all}
 use Rattle.std.specs.Char.{is_ascii_digit}
 use Rattle.std.specs.Str.{IsAscii}
+use Rattle.cse_lemmas.proofs.Lists.{list_all-reverse}
 use Rattle.cse_lines.specs.Bytes.{columns_by}
 use Rattle.cse_lines.proofs.BytesLaws.{ascii-columns_by}
-use Rattle.std.proofs.lemmas.Bool.{and_parts, and_from, not-true, cond-true, cond-false, eqb-true, lt-ltb}
+use Rattle.std.proofs.lemmas.Bool.{and_parts, and_from, cond-true, cond-false, eqb-true, lt-ltb}
 use Rattle.std.proofs.lemmas.Bool.Decides.{nat_tests}
-use Rattle.std.proofs.lemmas.List.{reverse-append, reverse-reverse}
-use Rattle.std.proofs.lemmas.List.Folds.{list_all-append}
+use Rattle.std.proofs.lemmas.List.{reverse-reverse}
 use Rattle.std.proofs.Math.Nat.{pow-le-pow_right}
+use Rattle.std.proofs.lemmas.Str.Ascii.{IsAscii-cons}
 use Rattle.cse_value.specs.declared.number.Num.TheVariants.{Missing, NotAppl, Whole}
 use Rattle.cse_dict.specs.Dictionary.{DictionaryText, code_at, shape_of}
 use Rattle.cse_case.specs.Field.{item_at}
 use Rattle.cse_case.specs.Limits.{AreKept, IsPlain}
 use Rattle.cse_value.specs.Field.{without_blanks, trimmed, digits_value, digits_number, numeral, in_i64, is_code, value_of, value_of_trimmed, field}
+use Rattle.cse_value.proofs.FieldLaws.{without_blanks-none, digit_is_no_minus, digits_have_no_blank}
 
 raised : (i j : ℕ) → i ≤ j → 10 ^ i ≤ 10 ^ j
 raised i j h = pow-le-pow_right {n = 10} (omega arith) {i = i} {j = j} h
@@ -35,31 +37,8 @@ digits_fit i n few low =
 abbrev not_blank : ℕ → Bool
 not_blank c = not (eqb c 32)
 
-without_blanks-none : (cs : List ℕ) → list_all not_blank cs ≡ true → without_blanks cs ≡ cs
-without_blanks-none [] h = refl
-without_blanks-none (c ∷ cs) h = cond-false (eqb c 32) (without_blanks cs) (c ∷ cs) (not-true (eqb c 32) (and_parts (not_blank c) (list_all not_blank cs) h).0)
-
-list_all-reverse : (p : ℕ → Bool) (cs : List ℕ) → list_all p cs ≡ true → list_all p (reverse cs) ≡ true
-list_all-reverse p [] h = refl
-list_all-reverse p (c ∷ cs) h =
-    let parts = and_parts (p c) (list_all p cs) h in
-    ap (list_all p) (reverse-append (c ∷ []) cs) ∙ list_all-append p (reverse cs) (c ∷ [])
-    ∙ and_from (list_all p (reverse cs)) (list_all p (c ∷ [])) (list_all-reverse p cs parts.1) (and_from (p c) true parts.0 refl)
-
-digit_is_no_blank : (c : ℕ) → is_ascii_digit c ≡ true → not_blank c ≡ true
-digit_is_no_blank c h = grind (arith, nat_tests)
-
-digit_is_no_minus : (c : ℕ) → is_ascii_digit c ≡ true → eqb c 45 ≡ false
-digit_is_no_minus c h = grind (arith, nat_tests)
-
 pub digit_is_low : (c : ℕ) → is_ascii_digit c ≡ true → c - 48 < 1000000000000000000
 digit_is_low c h = grind (arith, nat_tests)
-
-digits_have_no_blank : (ds : List ℕ) → list_all is_ascii_digit ds ≡ true → list_all not_blank ds ≡ true
-digits_have_no_blank [] h = refl
-digits_have_no_blank (c ∷ cs) h =
-    let parts = and_parts (is_ascii_digit c) (list_all is_ascii_digit cs) h in
-    and_from (not_blank c) (list_all not_blank cs) (digit_is_no_blank c parts.0) (digits_have_no_blank cs parts.1)
 
 -- the value of digits that are fewer than 19
 value_of_digits : (ds : List ℕ) (n : ℕ) (code : Option ℤ) → list_all is_ascii_digit ds ≡ true → digits_number ds ≡ Some n → n < 1000000000000000000 → value_of_trimmed ds code ≡ value_of (Some (pos n)) code
@@ -179,15 +158,11 @@ number_low (c ∷ cs) n h = by_cases (list_all is_ascii_digit (c ∷ cs)) refl
     by_cases true e = digits_low (c ∷ cs) e
     by_cases false e = let h' = rw e at h in cc
 
-cons_low : (c : ℕ) (cs : List ℕ) → c < 128 → IsAscii cs → IsAscii (c ∷ cs)
-cons_low c cs h low zero = h
-cons_low c cs h low (suc k) = low k
-
 blank_or_not : (c : ℕ) (cs : List ℕ) (t : Bool) → eqb c 32 ≡ t → (IsAscii (without_blanks cs) → IsAscii cs) → IsAscii (without_blanks (c ∷ cs)) → IsAscii (c ∷ cs)
 blank_or_not c cs true e rest h =
     let blank : c ≡ 32 = eqb-true c 32 e in
     let same : without_blanks (c ∷ cs) ≡ without_blanks cs = cond-true (eqb c 32) (without_blanks cs) (c ∷ cs) e in
-    cons_low c cs (omega (arith, blank)) (rest (subst IsAscii same h))
+    IsAscii-cons c cs (omega (arith, blank)) (rest (subst IsAscii same h))
 blank_or_not c cs false e rest h = subst IsAscii (cond-false (eqb c 32) (without_blanks cs) (c ∷ cs) e) h
 
 -- what stands behind blanks is ASCII, so all of it is

@@ -1,5 +1,5 @@
 -- Laws of the line of an occurrence: where it lies, by the table.
-use Rattle.std.proofs.Common.{◌≡◌, ℕ, ◌+◌, ◌-◌, ◌<◌, ◌≤◌, Bool, List, length, get_or, None, ap, sym, ◌∙◌, arith, subst}
+use Rattle.std.proofs.Common.{◌≡◌, ℕ, ◌+◌, ◌-◌, ◌<◌, ◌≤◌, Bool, List, length, get_or, ap, sym, ◌∙◌, arith, subst}
 use Rattle.std.specs.Prelude.{slice_index}
 use Rattle.std.proofs.lemmas.List.{length-map}
 use Rattle.cse_dict.specs.Dictionary.{DictionaryText, shape_of}
@@ -7,7 +7,6 @@ use Rattle.cse_dict.specs.Sound.{IsSound}
 use Rattle.cse_dict.specs.declared.lookup.Unseen.{Unseen}
 use Rattle.cse_lines.specs.Columns.{LineText}
 use Rattle.cse_lines.specs.declared.line.Line.{Line}
-use Rattle.cse_lines.specs.declared.line.Ending.TheVariants.{FileEnd}
 use Rattle.cse_lines.specs.Laid.{IsLaid, laid_line, laid_lines}
 use Rattle.cse_lines.specs.Run.{line_at}
 use Rattle.cse_lines.proofs.LaidLaws.{laid_within, line_in}
@@ -20,11 +19,12 @@ use Rattle.cse_case.specs.Field.{item_at}
 use Rattle.cse_case.specs.Fit.{IsFit}
 use Rattle.cse_case.specs.Kept.{IsKept}
 use Rattle.cse_case.proofs.SeenLaws.{count_is, first_is, place_below}
-use Rattle.cse_case.proofs.CaseLaws.{types_laid, width_of_line}
-use Rattle.cse_case.proofs.FitLaws.{found, kept_fits}
+use Rattle.cse_case.proofs.CaseLaws.{types_laid}
+use Rattle.cse_case.proofs.FitLaws.{found, kept_fits, no_place}
 use Rattle.cse_case.proofs.SetLaws.{item_within}
 use Rattle.cse_case.proofs.SightLaws.{has_place, occurrence_own}
 use Rattle.cse_case.proofs.TableLaws.{first_here}
+use Rattle.cse_case.proofs.FieldLaws.{length-piece}
 
 -- the case of lines that lie in these columns
 abbrev pub case_in : DictionaryText → List ℕ → List ℕ → List Line → Bool → ℕ → CaseText
@@ -53,9 +53,6 @@ unfolding places_of
 holds_occurrence d ids columns lines marked first_line firsts spans r o span t low e is =
     let records = (shape_of d).records in
     omega (arith, is.1, count_is records lines firsts spans r span t low e, ap (λ ts. length (occurrence_places records r ts)) (types_laid columns lines))
-
-no_place : Line
-no_place = record { first = 0; width = 0; len = 0; ending = FileEnd; record_number = None }
 
 pub own_line : (d : DictionaryText) (ids columns : List ℕ) (lines : List Line) (marked : Bool) (first_line : ℕ) (firsts : List ℕ) (spans : List OccurrenceSpan) (r o first : ℕ) (span : OccurrenceSpan)
     → IsTable (shape_of d).records lines firsts spans → IsLaid 0 columns lines → r < length spans → span ≡ get_or spans r span
@@ -117,7 +114,7 @@ own_item c d ids columns lines bytes is_set marked first_line firsts spans unsee
     let own : OwnLine c columns lines r o first = subst (λ (x : CaseText). OwnLine x columns lines r o first) view
     (own_line d ids columns lines marked first_line firsts spans r o first span kept.table kept.laid within e (subst (λ (x : CaseText). IsOccurrence x r o) (sym view) is) begins) in
     let width : length (line_at c.run (place_of c r o)).columns ≡ own.line.width =
-    ap (λ (l : LineText). length l.columns) own.is ∙ width_of_line columns own.line.first own.line.width own.within in
+    ap (λ (l : LineText). length l.columns) own.is ∙ length-piece own.line.first own.line.width columns own.within in
     let fit : IsFit c = subst IsFit view (kept_fits d ids columns lines marked first_line kept.some kept.wide kept.laid) in
     let inside = item_within c r n (place_of c r o) fit sound (has_place c r o is).below (occurrence_own c r o is) there low owns in
     record { own = own; whole = omega arith }

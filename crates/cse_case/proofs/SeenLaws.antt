@@ -38,8 +38,8 @@ most_past records r h = ap (λ (o : Option RecordShape). option_map_or (λ x. x.
 other : (q r : ℕ) → (q ≡ r → ⊥) → is_of q (Some r) ≡ false
 other q r h = ne_eqb r q (λ e. h (sym e))
 
-same : (r : ℕ) → is_of r (Some r) ≡ true
-same r = eq-eqb r r refl
+pub is_of_own : (r : ℕ) → is_of r (Some r) ≡ true
+is_of_own r = eq-eqb r r refl
 
 -- an occurrence more
 pub AreCounts-seen : (records : List RecordShape) (before : List (Option ℕ)) (counts : List ℕ) (r : ℕ) → AreCounts records before counts → r < length records
@@ -48,7 +48,7 @@ AreCounts-seen records before counts r are there room = record {
   size = length-set counts r (get_or counts r 0 + 1) ∙ are.size;
   each = λ q h. elim (cases_eq q r) [
     | inl e ↦
-        let one : count_by (is_of q) (before ++ Some r ∷ []) ≡ count_by (is_of q) before + 1 = counted q before (Some r) (rw e (same r)) in
+        let one : count_by (is_of q) (before ++ Some r ∷ []) ≡ count_by (is_of q) before + 1 = counted q before (Some r) (rw e (is_of_own r)) in
         let had : get_or counts r 0 ≡ min (count_by (is_of q) before) (most_occurrences records q) = rw (← e) (are.each q h) in
         let room' : get_or counts r 0 < most_occurrences records q = rw e room in
         let set : get_or (slice_set counts r (get_or counts r 0 + 1)) q 0 ≡ get_or counts r 0 + 1 = rw e (get_or-set_same counts r (get_or counts r 0 + 1) 0 (omega (arith, are.size))) in
@@ -64,7 +64,7 @@ AreCounts-extra records before counts r are full = record {
   size = are.size;
   each = λ q h. elim (cases_eq q r) [
     | inl e ↦
-        let one : count_by (is_of q) (before ++ Some r ∷ []) ≡ count_by (is_of q) before + 1 = counted q before (Some r) (rw e (same r)) in
+        let one : count_by (is_of q) (before ++ Some r ∷ []) ≡ count_by (is_of q) before + 1 = counted q before (Some r) (rw e (is_of_own r)) in
         let had : get_or counts q 0 ≡ min (count_by (is_of q) before) (most_occurrences records q) = are.each q h in
         let full' : most_occurrences records q ≤ get_or counts q 0 = rw e (full (rw (← e) h)) in
         (let n : get_or counts q 0 ≡ min (count_by (is_of q) before + 1) (most_occurrences records q) = omega arith in n ∙ ap (λ k. min k (most_occurrences records q)) (sym one))

@@ -1,11 +1,12 @@
 -- Laws of seen and unseen lines: where the occurrences of a record stand, and which lines are unseen. Proofs of crates above cite the public ones.
-use Rattle.std.proofs.Common.{◌≡◌, ℕ, zero, suc, ◌+◌, ◌-◌, ◌<◌, Bool, true, false, cond, eqb, List, [], ◌∷◌, ◌++◌, length, take, drop, get_or, Option, None, Some, refl, ap, sym, ◌∙◌, inl, inr, arith, add-zero, append-nil, append_assoc, take-append-drop, length-append, subst}
+use Rattle.std.proofs.Common.{◌≡◌, ℕ, zero, suc, ◌+◌, ◌-◌, ◌<◌, Bool, true, false, cond, List, [], ◌∷◌, ◌++◌, length, take, drop, get_or, Option, None, Some, refl, ap, sym, ◌∙◌, inl, inr, arith, add-zero, append-nil, append_assoc, take-append-drop, length-append, subst}
 use Rattle.std.specs.Prelude.{◌⊎◌, count_by, slice_get}
 use Rattle.std.specs.Option.{option_map_or}
 use Rattle.std.proofs.lemmas.List.{get_or-map, length-map, get_or-take, length-take, length-take-le}
 use Rattle.std.proofs.lemmas.List.Sums.{sum_by-cons}
 use Rattle.std.proofs.lemmas.Bool.{cases_lt, eqb-true, false≢true, le-ltb, lt-ltb, ltb-true}
 use Rattle.std.proofs.Math.Seq.{drop-cons, get_or-append_seam}
+use Rattle.std.proofs.lemmas.Option.{same_Some}
 use Rattle.cse_value.specs.declared.shape.RecordShape.{RecordShape}
 use Rattle.cse_value.specs.Occurrences.{most_occurrences}
 use Rattle.cse_dict.specs.declared.lookup.Unseen.{Unseen}
@@ -15,7 +16,7 @@ use Rattle.cse_lines.specs.Run.{line_at}
 use Rattle.cse_case.specs.Seen.{is_of, is_case, occurrence_places, onto_unseen, places_from, unseen_after, unseen_from, unseen_of}
 use Rattle.cse_case.specs.Case.{CaseText, IsOccurrence, place_of, places_of, records_of, types_of}
 use Rattle.cse_case.specs.Sight.{IsSeenAt, IsUnseenAt, SeenOrUnseen}
-use Rattle.cse_case.proofs.SeenLaws.{length-places_from, most_past, places_from-append}
+use Rattle.cse_case.proofs.SeenLaws.{length-places_from, most_past, places_from-append, is_of_own}
 use Rattle.cse_case.proofs.CaseLaws.{unseen_from_below}
 
 -- the line of a record's place, the first line standing at place n: so many lines of the record stand before it
@@ -79,13 +80,6 @@ place_there r j lines h own =
 pub is_of_is : (r : ℕ) (t : Option ℕ) → is_of r t ≡ true → t ≡ Some r
 is_of_is r None e = absurd (false≢true e)
 is_of_is r (Some n) e = ap Some (eqb-true n r e)
-
-is_of_own : (r : ℕ) → is_of r (Some r) ≡ true
-is_of_own r = by_eq (eqb r r) refl
-  where
-    by_eq : (b : Bool) → eqb r r ≡ b → eqb r r ≡ true
-    by_eq true e = e
-    by_eq false e = grind arith
 
 -- a line that isn't unseen is one of a record that has room for it
 seen_of : (records : List RecordShape) (before : List (Option ℕ)) (t : Option ℕ) → unseen_after records before t ≡ None
@@ -242,16 +236,13 @@ own-of c place h = get_or-map (λ (l : LineText). l.record_number) c.run.lines p
 pub occurrence_own : (c : CaseText) (r o : ℕ) → IsOccurrence c r o → (line_at c.run (place_of c r o)).record_number ≡ Some r
 occurrence_own c r o is = let h = has_place c r o is in sym (own-of c (place_of c r o) h.below) ∙ h.own
 
-Some-injective : (a b : ℕ) → Some a ≡ Some b → a ≡ b
-Some-injective a b e = ap (λ (o : Option ℕ). option_map_or (λ x. x) o a) e
-
 -- a line is one occurrence at most
 pub occurrence_once : (c : CaseText) (r o r' o' : ℕ) → IsOccurrence c r o → IsOccurrence c r' o' → place_of c r o ≡ place_of c r' o' → (r ≡ r') × (o ≡ o')
 occurrence_once c r o r' o' is is' e =
     let types = types_of c.run.lines in
     let h = has_place c r o is in
     let h' = has_place c r' o' is' in
-    let same : r ≡ r' = Some-injective r r' (sym h.own ∙ (ap (λ p. get_or types p None) e ∙ h'.own)) in
+    let same : r ≡ r' = same_Some r r' (sym h.own ∙ (ap (λ p. get_or types p None) e ∙ h'.own)) in
     let count : o - 1 ≡ o' - 1 = sym h.count ∙ (ap (λ p. count_by (is_of r) (take p types)) e ∙ (ap (λ q. count_by (is_of q) (take (place_of c r' o') types)) same ∙ h'.count)) in
     (same, omega (arith, is.0, is'.0))
 

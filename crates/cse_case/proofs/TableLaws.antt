@@ -2,22 +2,19 @@
 use Rattle.std.proofs.Common.{◌≡◌, ℕ, zero, suc, ◌+◌, ◌<◌, ◌≤◌, min, List, [], ◌∷◌, ◌++◌, length, take, drop, get_or, set, replicate, None, Some, refl, ap, sym, ◌∙◌, inl, inr, arith, map, length-append, subst}
 use Rattle.std.specs.Prelude.{count_by, slice_set}
 use Rattle.std.proofs.lemmas.Bool.{cases_eq, cases_lt, eq-eqb}
-use Rattle.std.proofs.lemmas.List.{get_or-map, length-map, length-drop, take_all, take_more, take-append-le, drop-append-le, get_or-set_same, get_or-set_other, get_or-replicate, length-replicate, map-append, map-set}
+use Rattle.std.proofs.lemmas.List.{get_or-map, length-map, length-drop, take_all, take_more, take-append-le, drop-append-le, get_or-set_same, get_or-set_other, get_or-replicate, length-replicate, map-append, map-set, set-set}
 use Rattle.std.proofs.Math.ListN.{length-set}
 use Rattle.cse_value.specs.declared.shape.RecordShape.{RecordShape}
 use Rattle.cse_value.specs.Occurrences.{most_occurrences}
 use Rattle.cse_dict.specs.declared.lookup.Unseen.TheVariants.{Extra}
 use Rattle.cse_lines.specs.declared.line.Line.{Line}
-use Rattle.cse_lines.specs.declared.line.Ending.TheVariants.{FileEnd}
 use Rattle.cse_case.specs.declared.seen.OccurrenceSpan.{OccurrenceSpan}
 use Rattle.cse_case.specs.Seen.{is_of, onto_unseen, places_from, unseen_after, unseen_from}
 use Rattle.cse_case.specs.Table.{AreCounts, AreSeen, IsSpan, IsTable, first_at, type_at, types_in}
 use Rattle.cse_case.specs.Found.{AreFound, IsLonger}
 use Rattle.cse_case.proofs.SeenLaws.{AreCounts-extra, AreCounts-none, AreCounts-seen, AreCounts-unknown, IsTable-spans, extra_if_full, seen_if_room, take-more, type_is, unseen_from-next}
 use Rattle.cse_case.proofs.SightLaws.{place_there}
-
-no_line_at : Line
-no_line_at = record { first = 0; width = 0; len = 0; ending = FileEnd; record_number = None }
+use Rattle.cse_case.proofs.FitLaws.{no_place}
 
 abbrev counts_in : List OccurrenceSpan → List ℕ
 counts_in spans = map (λ s. s.count) spans
@@ -142,12 +139,6 @@ extra_here records lines place firsts spans r are own full =
 
 -- ---- lines of a record that follow one another
 
--- a span that is put in place twice
-set_again : (spans : List OccurrenceSpan) (r : ℕ) (a b : OccurrenceSpan) → set (set spans r a) r b ≡ set spans r b
-set_again [] r a b = refl
-set_again (s ∷ ss) zero a b = refl
-set_again (s ∷ ss) (suc r) a b = ap (λ l. s ∷ l) (set_again ss r a b)
-
 -- no line
 pub AreFound-none : (records : List RecordShape) (lines : List Line) (place : ℕ) (firsts : List ℕ) (spans : List OccurrenceSpan) → AreSeen records lines place firsts spans → AreFound records lines place place firsts spans
 AreFound-none records lines place firsts spans are = record { far = omega arith; seen = are; none = λ n. refl }
@@ -157,8 +148,8 @@ passed : (records : List RecordShape) (lines : List Line) (place : ℕ) (n : ℕ
     → unseen_from records (n + place) (take place (types_in lines)) (drop place (types_in lines)) ≡ unseen_from records (n + (place + 1)) (take (place + 1) (types_in lines)) (drop (place + 1) (types_in lines))
 passed records lines place n h seen =
     let rest = unseen_from records (n + (place + 1)) (take (place + 1) (types_in lines)) (drop (place + 1) (types_in lines)) in
-    unseen_from-next records n lines place no_line_at h
-    ∙ ap (λ o. onto_unseen (n + place) o rest) (ap (unseen_after records (take place (types_in lines))) (sym (type_is lines place no_line_at h)) ∙ seen)
+    unseen_from-next records n lines place no_place h
+    ∙ ap (λ o. onto_unseen (n + place) o rest) (ap (unseen_after records (take place (types_in lines))) (sym (type_is lines place no_place h)) ∙ seen)
 
 -- an occurrence more
 pub AreFound-one : (records : List RecordShape) (lines : List Line) (from place : ℕ) (firsts new : List ℕ) (spans : List OccurrenceSpan) (r : ℕ) (span longer : OccurrenceSpan) → place < length lines
@@ -175,7 +166,7 @@ pub AreFound-further : (records : List RecordShape) (lines : List Line) (from pl
     → AreFound records lines from place firsts (slice_set spans r span) → type_at lines place ≡ Some r → r < length records → r < length spans → span.count < most_occurrences records r
     → IsLonger span (first_at lines place) firsts new longer → AreFound records lines from (place + 1) new (slice_set spans r longer)
 AreFound-further records lines from place firsts new spans r span longer h found own there low room more =
-    subst (AreFound records lines from (place + 1) new) (set_again spans r span longer)
+    subst (AreFound records lines from (place + 1) new) (set-set spans r span longer)
     (AreFound-one records lines from place firsts new (set spans r span) r span longer h found own there (omega (arith, length-set spans r span)) (sym (get_or-set_same spans r span span low)) room more)
 
 -- lines that follow others

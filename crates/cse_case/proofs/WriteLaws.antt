@@ -1,13 +1,13 @@
 -- Laws of written lines.
-use Rattle.std.proofs.Common.{◌≡◌, ℕ, zero, suc, ◌+◌, ◌-◌, ◌<◌, ◌≤◌, false, eqb, List, [], ◌∷◌, ◌++◌, length, get_or, set, take, drop, refl, ap, sym, subst, ◌∙◌, arith, take-add, get_or-drop, length-drop, take_all, bit_or, inl, inr}
-use Rattle.std.specs.Prelude.{encode_utf8, encode_utf8_all}
+use Rattle.std.proofs.Common.{◌≡◌, ℕ, ◌+◌, ◌-◌, ◌<◌, ◌≤◌, false, eqb, List, [], ◌∷◌, ◌++◌, length, get_or, set, take, drop, refl, ap, sym, subst, ◌∙◌, arith, take-add, get_or-drop, length-drop, take_all, inl, inr}
+use Rattle.std.specs.Prelude.{encode_utf8_all}
 use Rattle.std.proofs.lemmas.Bool.{cases_lt}
-use Rattle.std.proofs.lemmas.Nat.{le_or_l, le_or_r}
 use Rattle.std.specs.Str.{IsAscii}
-use Rattle.std.proofs.lemmas.Str.{encodes-IsAscii, encodes-append}
+use Rattle.std.proofs.lemmas.Str.{encodes-IsAscii}
 use Rattle.std.proofs.Math.Seq.{take-append-add}
 use borrow.Rule.Slice.PartMut.{put_mid, post_of}
-use Rattle.std.proofs.lemmas.List.{append-nil, get_or_past, take-append-le, take_rest, take_more, ext_get_or, get_or-set_other, get_or-set_same, get_or-take, length-take-le}
+use Rattle.std.proofs.lemmas.List.{take-append-le, take_rest, take_more, ext_get_or, get_or-set_other, get_or-set_same, get_or-take, length-take-le}
+use Rattle.cse_lemmas.proofs.Texts.{IsAscii-from_bound}
 use Rattle.cse_lines.specs.Bytes.{columns_by}
 use Rattle.cse_lines.proofs.BytesLaws.{ascii-columns_by}
 use Rattle.cse_lines.specs.Written.{onto_trimmed, without_blanks, kept_columns}
@@ -72,31 +72,15 @@ front_ascii columns bytes n a b same ascii =
     get_or-take n bytes k 0 low ∙ same k low ∙ sym (get_or-take n columns k 0 low))
     ∙ sym (encodes-IsAscii (take n columns) ascii)
 
--- columns that are at most an ASCII one are ASCII
-columns_below : (columns : List ℕ) (greatest : ℕ) → ((k : ℕ) → k < length columns → get_or columns k 0 ≤ greatest) → greatest < 128 → IsAscii columns
-columns_below columns greatest low ascii k =
-    elim (cases_lt k (length columns)) [
-      | inl h ↦ let at = low k h in omega arith
-      | inr h ↦ rw (get_or_past columns k 0 (omega arith)) (omega arith)
-    ]
-
 -- bytes of ASCII, each as it is, are their columns in UTF-8
 pub own_bytes : (ascii beside bytes : List ℕ) (greatest : ℕ) → length ascii ≤ length bytes → ((k : ℕ) → k < length ascii → get_or bytes k 0 ≡ get_or ascii k 0)
     → ((k : ℕ) → k < length ascii → get_or ascii k 0 ≤ greatest) → greatest < 128 → take (length (columns_by ascii beside)) bytes ≡ encode_utf8_all (columns_by ascii beside)
 own_bytes ascii beside bytes greatest room same low few =
     let n = length ascii in
     let all : take n ascii ≡ ascii = take_all n ascii (omega arith) in
-    let own : IsAscii ascii = columns_below ascii greatest low few in
+    let own : IsAscii ascii = IsAscii-from_bound ascii greatest low few in
     let are : columns_by ascii beside ≡ ascii = ascii-columns_by ascii beside own in
     ap (λ l. take (length l) bytes) are ∙ front_ascii ascii bytes n (omega arith) room same (subst IsAscii (sym all) own) ∙ ap encode_utf8_all (all ∙ sym are)
-
--- one more column goes into the bits of those before it
-pub bits_more : (columns : List ℕ) (i bits column : ℕ) → column ≡ get_or columns i 0 → ((k : ℕ) → k < i → get_or columns k 0 ≤ bits)
-    → (k : ℕ) → k < i + 1 → get_or columns k 0 ≤ bit_or bits column
-bits_more columns i bits column at low k h = elim (cases_lt k i) [
-  | inl below ↦ let before = low k below in omega (arith, le_or_l bits column)
-  | inr above ↦ let same : k ≡ i = omega arith in rw (same, ← at) (le_or_r bits column)
-]
 
 -- and its byte behind theirs
 pub bytes_more : (ascii bytes : List ℕ) (i : ℕ) → i < length bytes → ((k : ℕ) → k < i → get_or bytes k 0 ≡ get_or ascii k 0)
@@ -115,14 +99,3 @@ pub put_after : (xs ys : List ℕ) (a k n : ℕ) → a ≤ length xs → n ≤ l
 put_after xs ys a k n within fits =
     ap (λ j. take (j + n) (take a xs ++ (ys ++ post_of a k xs))) (sym (length-take-le a xs within))
     ∙ take-append-add (take a xs) (ys ++ post_of a k xs) n ∙ ap (λ l. take a xs ++ l) (take-append-le n ys (post_of a k xs) fits)
-
--- one more column in UTF-8
-pub encode-more : (columns : List ℕ) (i c : ℕ) → i < length columns → c ≡ get_or columns i c → encode_utf8_all (take (i + 1) columns) ≡ encode_utf8_all (take i columns) ++ encode_utf8 c
-encode-more columns i c within is =
-    ap encode_utf8_all (take_more columns i c within) ∙ encodes-append (take i columns) (get_or columns i c ∷ [])
-    ∙ ap (λ l. encode_utf8_all (take i columns) ++ l) (append-nil (encode_utf8 (get_or columns i c)) ∙ ap encode_utf8 (sym is))
-
-pub get_or_any : (l : List ℕ) (i d e : ℕ) → i < length l → get_or l i d ≡ get_or l i e
-get_or_any [] i d e h = absurd (omega (arith, h))
-get_or_any (x ∷ l) zero d e h = refl
-get_or_any (x ∷ l) (suc i) d e h = get_or_any l i d e (omega arith)

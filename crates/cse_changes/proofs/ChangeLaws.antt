@@ -1,9 +1,8 @@
 -- Laws of what was changed, place by place.
 use Rattle.std.proofs.Common.{◌≡◌, ℕ, zero, suc, ◌+◌, ◌-◌, ◌<◌, ◌≤◌, Bool, true, false, not, ◌||◌, ◌&&◌, List, [], ◌∷◌, length, get_or, take, drop, Option, None, Some, cond, refl, ap, sym, ◌∙◌, arith, add-one, eq-eqb, ne_eqb, nat_lt, drop_of_length-le, if◌then◌else◌, ltb-true, ltb-false, min, inl, inr}
 use Rattle.std.specs.Prelude.{count_by, ◌==◌}
-use Rattle.std.proofs.lemmas.Bool.{cases_lt, false≢true}
+use Rattle.std.proofs.lemmas.Bool.{cases_lt, and_parts}
 use Rattle.std.proofs.lemmas.List.Sums.{sum_by-cons}
-use mir.Val.{bool_byte}
 use Rattle.std.proofs.Math.Seq.{drop-cons}
 use Rattle.std.proofs.lemmas.List.{get_or-map, length-map}
 use Rattle.cse_lines.specs.Columns.{LineText, no_line}
@@ -66,16 +65,12 @@ take_none : (n : ℕ) → take {A = ℕ} n [] ≡ []
 take_none zero = refl
 take_none (suc n) = refl
 
-both : (a b : Bool) → (a && b) ≡ true → (a ≡ true) × (b ≡ true)
-both true b e = (refl, e)
-both false b e = absurd (false≢true e)
-
 -- a line more is seen
 pub left_seen : (most seen owner i : ℕ) (lines : List LineText) → i < length lines → (is_of owner (get_or lines i no_line).record_number && nat_lt seen most) ≡ true
     → left most seen owner i (types_of lines) ≡ i ∷ left most (seen + 1) owner (i + 1) (types_of lines)
 left_seen most seen owner i lines low own =
     let t = (get_or lines i no_line).record_number in
-    let two = both (is_of owner t) (nat_lt seen most) own in
+    let two = and_parts (is_of owner t) (nat_lt seen most) own in
     left_own most seen owner i (types_of lines) t (types_from lines i low) (two.0) (ltb-true seen most (two.1))
 
 -- a line is passed
@@ -119,15 +114,6 @@ count_next f i changed all here later e is =
 
 pub length_next : (i seen all : ℕ) (here later : List ℕ) → here ≡ i ∷ later → seen + length here ≡ all → (seen + 1) + length later ≡ all
 length_next i seen all here later e is = omega (arith, ap length e)
-
--- a truth value as a number
-pub byte_is : (t : Bool) → bool_byte t ≡ cond t 1 0
-byte_is true = refl
-byte_is false = refl
-
-pub at_most_one : (t : Bool) → cond t 1 0 ≤ 1
-at_most_one true = omega arith
-at_most_one false = omega arith
 
 -- ---- what is counted of an item
 

@@ -1,15 +1,16 @@
 -- Laws of a file that is read, run of lines by run of lines.
-use Rattle.std.proofs.Common.{◌≡◌, ◌≢◌, ℕ, ◌+◌, ◌^◌, ◌<◌, ◌≤◌, Bool, true, false, List, [], ◌∷◌, ◌++◌, length, Option, None, Some, Ok, Err, refl, ap, sym, ◌∙◌, subst, arith, append_assoc, append-nil, length-append, ◌⊎◌, inl, inr, add_assoc, zero-add, eq-eqb, ne_eqb}
+use Rattle.std.proofs.Common.{◌≡◌, ◌≢◌, ℕ, ◌+◌, ◌^◌, ◌<◌, ◌≤◌, Bool, true, false, List, [], ◌∷◌, ◌++◌, length, None, Some, Ok, Err, refl, ap, sym, ◌∙◌, subst, arith, append_assoc, append-nil, length-append, ◌⊎◌, inl, inr, eq-eqb, ne_eqb}
 use Rattle.cse_value.specs.Device.{Consumes, FailsOnce, Given, IsAtEnd, IsUnfailing}
 use Rattle.cse_value.proofs.ReadLaws.{Consumes-trans, Consumes-nil, Fails-after}
 use Rattle.std.proofs.lemmas.List.{length-map}
 use Rattle.cse_dict.specs.Dictionary.{DictionaryText}
 use Rattle.cse_lines.specs.declared.error.DataError.{DataError}
-use Rattle.cse_lines.specs.Line.{FileLine, lines_in}
+use Rattle.cse_lines.specs.Line.{FileLine}
 use Rattle.cse_lines.specs.Columns.{line_text}
 use Rattle.cse_lines.specs.Run.{RunText, written_run}
-use Rattle.cse_lines.specs.Runs.{given_runs, given_of, fault_in, later_by, MayFollow}
+use Rattle.cse_lines.specs.Runs.{given_runs, fault_in, later_by, MayFollow}
 use Rattle.cse_lines.specs.Reader.{GivesRun, IsError, Next, ReaderText, held_of, is_front}
+use Rattle.cse_lines.proofs.RunLaws.{later_by-zero, later_by-later_by, nothing_given, nothing_faulty, may_follow}
 use Rattle.cse_changes.specs.Files.{HasFault, IsRead, IsReadSoFar, lines_of}
 
 -- the runs so far: their bytes, and that the rest is given of what is held and may follow
@@ -21,22 +22,6 @@ pub record SoFar (before now : Given) (d : DictionaryText) (r : ReaderText) (tex
   pub goes_on : (later : Bool) (more : List ℕ) → MayFollow r.ended later more → given_runs d true later ((text ++ held_of r) ++ more) ≡ runs ++ given_runs d (is_front r) later (held_of r ++ more)
   pub fault : (later : Bool) (more : List ℕ) → MayFollow r.ended later more → fault_in d true later ((text ++ held_of r) ++ more) ≡ later_by r.lines (fault_in d (is_front r) later (held_of r ++ more))
 
-later_by-none : (f : Option (ℕ × ℕ)) → later_by 0 f ≡ f
-later_by-none None = refl
-later_by-none (Some f) = ap (λ n. Some (n, f.1)) (zero-add (f.0))
-
-later_by-later_by : (a b : ℕ) (f : Option (ℕ × ℕ)) → later_by a (later_by b f) ≡ later_by (a + b) f
-later_by-later_by a b None = refl
-later_by-later_by a b (Some f) = ap (λ n. Some (n, f.1)) (sym (add_assoc a b (f.0)))
-
-nothing_given : (d : DictionaryText) (front : Bool) → given_runs d front true [] ≡ []
-unfolding given_of lines_in
-nothing_given d front = refl
-
-nothing_faulty : (d : DictionaryText) (front : Bool) → fault_in d front true [] ≡ None
-unfolding fault_in lines_in
-nothing_faulty d front = refl
-
 -- nothing was read
 pub SoFar-none : (now : Given) (d : DictionaryText) (r : ReaderText) → r.dictionary ≡ d → held_of r ≡ [] → r.reads ≡ 0 → r.lines ≡ 0 → SoFar now now d r [] []
 SoFar-none now d r same none unread front =
@@ -47,15 +32,8 @@ SoFar-none now d r same none unread front =
       unfailing = refl;
       counted = omega arith;
       goes_on = λ later more h. ap (λ f. given_runs d f later (held_of r ++ more)) (sym first);
-      fault = λ later more h. ap (λ f. fault_in d f later (held_of r ++ more)) (sym first) ∙ (sym (later_by-none (fault_in d (is_front r) later (held_of r ++ more))) ∙ ap (λ n. later_by n (fault_in d (is_front r) later (held_of r ++ more))) (sym front));
+      fault = λ later more h. ap (λ f. fault_in d f later (held_of r ++ more)) (sym first) ∙ (sym (later_by-zero (fault_in d (is_front r) later (held_of r ++ more))) ∙ ap (λ n. later_by n (fault_in d (is_front r) later (held_of r ++ more))) (sym front));
     }
-
--- what may follow what was read may follow what was held
-may_follow : (ended ended' later : Bool) (taken more : List ℕ) → (ended ≡ true → (taken ≡ []) × (ended' ≡ true)) → MayFollow ended' later more → MayFollow ended later (taken ++ more)
-may_follow ended ended' later taken more stays h = λ e.
-    let s = stays e in
-    let f = h (s.1) in
-    (f.0, ap (λ l. l ++ more) (s.0) ∙ f.1)
 
 -- what was read so far, and the runs that are given of it
 pub so_far : (before now : Given) (d : DictionaryText) (r : ReaderText) (text : List ℕ) (runs : List (List FileLine)) → SoFar before now d r text runs → (r.ended ≡ true → IsAtEnd now)

@@ -5,6 +5,8 @@ use Rattle.std.specs.Option.{option_map_or}
 use Rattle.std.proofs.Math.Nat.{mul-le-mul_left, mul-le-mul_right}
 use Rattle.std.proofs.lemmas.Bool.{cases_eq, eq-eqb, ne_eqb}
 use Rattle.std.proofs.lemmas.List.Sums.{sum_by-cons, sum_by-append}
+use Rattle.cse_lemmas.proofs.Booleans.{cond-le-one}
+use Rattle.cse_lemmas.proofs.Lists.{sum_by_same}
 use Rattle.cse_value.specs.declared.shape.ItemShape.{ItemShape}
 use Rattle.cse_image_parts.specs.declared.entries.Event.{Event}
 use Rattle.cse_image_parts.specs.declared.entries.EventCode.{EventCode}
@@ -37,10 +39,6 @@ one_same a b =
     (λ (e : a ≡ b). ap one (eq-eqb a b e ∙ sym (eq-eqb b a (sym e))))
     (λ (ne : a ≡ b → ⊥). ap one (ne_eqb a b ne ∙ sym (ne_eqb b a (λ e. ne (sym e)))))
     (cases_eq a b)
-
-same_sum : {X : Type 0} (f g : X → ℕ) → ((x : X) → f x ≡ g x) → (xs : List X) → sum_by f xs ≡ sum_by g xs
-same_sum f g same [] = refl
-same_sum f g same (x ∷ xs) = omega (arith, sum_by-cons f x xs, sum_by-cons g x xs, same x, same_sum f g same xs)
 
 -- ---- events of which none comes too often
 
@@ -166,15 +164,12 @@ module _ (p : Event → Bool) (i : ℕ) (rp rq ip iq : Bool)
 
 -- ---- by the order, each record's events come once
 
-one_when : (b : Bool) → cond b 1 0 ≤ 1
-one_when b = one_small b
-
 module _ (n : ℕ) (order : List ℕ) (each : NamesEachOnce n order) where
   named_once : (k : ℕ) → sum_by (λ r. one (eqb k r)) order ≤ 1
   named_once k =
-      let a = same_sum (λ r. one (eqb k r)) (λ r. one (eqb r k)) (λ r. one_same k r) order in
+      let a = sum_by_same (λ r. one (eqb k r)) (λ r. one (eqb r k)) (λ r. one_same k r) order in
       let b = each k in
-      let c = one_when (ltb k n) in
+      let c = cond-le-one (ltb k n) in
       omega arith
 
   owner_times : (occurrences : ℕ → ℕ) (owner r : ℕ) → occurrences r * one (eqb owner r) ≡ occurrences owner * one (eqb owner r)
@@ -202,7 +197,7 @@ module _ (n : ℕ) (order : List ℕ) (each : NamesEachOnce n order) where
   owned_most : (x : Image) (occurrences : ℕ → ℕ) → KeepsMost x occurrences → (o : Option ItemShape) → sum_by (λ r. occurrences r * owned r o) order ≤ option_map_or (λ item. most_occurrences x.lists.records item.owner) o 0
   owned_most x occurrences keeps None = let none = none_owned occurrences order in omega arith
   owned_most x occurrences keeps (Some item) =
-      let a = same_sum (λ r. occurrences r * one (eqb item.owner r)) (λ r. occurrences item.owner * one (eqb item.owner r)) (λ r. owner_times occurrences item.owner r) order in
+      let a = sum_by_same (λ r. occurrences r * one (eqb item.owner r)) (λ r. occurrences item.owner * one (eqb item.owner r)) (λ r. owner_times occurrences item.owner r) order in
       let b = times_sum (occurrences item.owner) item.owner order in
       let c = mul-le-mul_left (occurrences item.owner) (named_once item.owner) in
       let d = keeps item.owner in

@@ -4,8 +4,9 @@ use Rattle.std.specs.Prelude.{sum_by, slice_index, IfSome, IfNone}
 use Rattle.std.proofs.lemmas.Bool.{cases_lt}
 use Rattle.std.specs.Option.{option_map_or}
 use Rattle.std.proofs.lemmas.List.{get_or_past, length_push, get_or_append_left, get_or_push}
-use Rattle.std.proofs.lemmas.List.Sums.{sum_by-cons, sum_by-take-le, sum_by_more}
+use Rattle.std.proofs.lemmas.List.Sums.{sum_by-take-le, sum_by_more}
 use Rattle.std.proofs.lemmas.Option.{slice_get_past}
+use Rattle.cse_lemmas.proofs.Lists.{sum_by_same}
 use Rattle.cse_image_parts.specs.declared.entries.EventEntry.{EventEntry}
 use Rattle.cse_image_parts.specs.Image.{Image, Lists, RoutineLists}
 use Rattle.cse_code_typing.specs.Code.{part, start_of, code_of}
@@ -66,11 +67,6 @@ bound_small x bounded r =
     (cases_lt r (length x.lists.routines))
 
 -- ---- sums
-
-sum_by_same : {X : Type 0} (f g : X → ℕ) → ((x : X) → f x ≡ g x) → (xs : List X) → sum_by f xs ≡ sum_by g xs
-sum_by_same f g same [] = refl
-sum_by_same f g same (x ∷ xs) =
-    omega (arith, sum_by-cons f x xs, sum_by-cons g x xs, same x, sum_by_same f g same xs)
 
 pub case_sum_is : (x : Image) (lists : Lists) (bounds : List ℕ) → lists ≡ x.lists → bounds ≡ bounds_below x (length x.lists.routines) → case_sum lists bounds ≡ case_bound x
 case_sum_is x lists bounds same is =

@@ -1,13 +1,13 @@
 -- What the spelling of a program says: each routine has an instruction, and the application has two events
 -- at most. The crates above cite may_walk.
-use Rattle.std.proofs.Common.{◌≡◌, ℕ, zero, suc, ◌+◌, ◌-◌, ◌*◌, ◌<◌, ◌≤◌, ◌&&◌, eqb, ltb, leb, List, [], ◌∷◌, ◌++◌, length, Option, Some, None, refl, ap, subst, inl, inr, ⊎_elim, arith}
+use Rattle.std.proofs.Common.{◌≡◌, ℕ, ◌+◌, ◌-◌, ◌*◌, ◌<◌, ◌≤◌, ◌&&◌, eqb, ltb, leb, List, [], ◌∷◌, ◌++◌, length, Option, Some, None, refl, ap, subst, inl, inr, ⊎_elim, arith}
 use Rattle.std.specs.Prelude.{slice_get, IsTrue, sum_by, ◌⊎◌}
 use Rattle.std.proofs.Math.Nat.{mul-le-mul_left, mul-le-mul_right}
 use Rattle.std.specs.List.{list_all}
 use Rattle.std.proofs.lemmas.Bool.{and_parts, leb-true, ltb-true, eqb-true, or_cases, false≢true}
-use Rattle.std.proofs.lemmas.List.{length-map, length_push}
+use Rattle.std.proofs.lemmas.List.{length-map}
 use Rattle.std.proofs.lemmas.List.Sums.{sum_by-cons}
-use Rattle.std.proofs.lemmas.Option.{same_Some}
+use Rattle.cse_lemmas.proofs.Lists.{slice_get_some}
 use Rattle.cse_value.specs.Shape.{ShapeLists}
 use Rattle.cse_image_parts.specs.declared.instruction.Instr.{Instr}
 use Rattle.cse_image_parts.specs.declared.entries.EventCode.{EventCode}
@@ -17,7 +17,9 @@ use Rattle.cse_image_parts.specs.Codes.{event_code}
 use Rattle.cse_image_parts.specs.declared.version.Version.TheVariants as versions
 use Rattle.cse_image_parts.specs.Fields.{instructions_in, last_event, is_after}
 use Rattle.cse_image_parts.specs.Image.{Image, RoutineLists}
+use Rattle.cse_image_parts.proofs.EventLaws.{last_is}
 use Rattle.cse_image_codec.specs.Reader.{AllAfter}
+use Rattle.cse_image_codec.proofs.Algebra.{after_at}
 use Rattle.cse_image.specs.Spelling.{RoutineFits, EventFits, Fits}
 use Rattle.cse_code_typing.specs.Code.{start_of, part, code_of}
 use Rattle.cse_code_typing.specs.Shapes.{shape_of}
@@ -29,14 +31,8 @@ use Rattle.cse_code_bounds.specs.Bound.{bound, AreBoundedBelow}
 use Rattle.cse_code_bounds.specs.EventBound.{times_in_run, run_bound}
 use Rattle.cse_code_bounds.specs.Calls.{AllKeepRules, AllCallSmaller, MayWalk}
 use Rattle.cse_code_bounds.proofs.EventLaws.{bound_small}
-use Rattle.cse_code_bounds.proofs.Tails.{some_at}
 
 -- ---- each routine has an instruction
-
-after_at : {X : Type 0} (P : List X → X → Type 0) (before xs : List X) (k : ℕ) (x : X) → AllAfter P before xs → slice_get xs k ≡ Some x → (l : List X) × P l x
-after_at P before [] k x all at = cc
-after_at P before (y ∷ ys) zero x all at = (before, subst (P before) (same_Some y x at) all.0)
-after_at P before (y ∷ ys) (suc k) x all at = after_at P (before ++ y ∷ []) ys k x all.1 at
 
 has_code : (x : Image) → Fits x → (r : ℕ) (y : RoutineLists) → slice_get x.lists.routines r ≡ Some y → 0 < length (skeleton_of x r)
 has_code x fits r y there =
@@ -53,7 +49,7 @@ pub may_walk : (x : Image) → Fits x → AllKeepRules x → AllCallSmaller x �
 may_walk x fits rules smaller = record {
   rules = rules;
   smaller = smaller;
-  some = λ r lt. let here = some_at x.lists.routines r lt in has_code x fits r here.0 here.1;
+  some = λ r lt. let here = slice_get_some x.lists.routines r lt in has_code x fits r here.0 here.1;
 }
 
 -- ---- the application has two events at most
@@ -113,15 +109,6 @@ spends (Some f) e after first =
     (or_cases (ltb (event_code f.code) (event_code e.code)) (eqb (event_code f.code) (event_code e.code) && ltb f.index e.index) after))
     (λ (none : times_in_run e.code + (1 - event_code e.code) ≡ 0). omega arith)
     (by_kind e.code)
-
-at_last : {X : Type 0} (xs : List X) (y : X) (i : ℕ) → i ≡ length xs → slice_get (xs ++ y ∷ []) i ≡ Some y
-at_last [] y zero e = refl
-at_last [] y (suc i) e = absurd (omega arith)
-at_last (x ∷ xs) y zero e = absurd (omega arith)
-at_last (x ∷ xs) y (suc i) e = at_last xs y i (omega arith)
-
-last_is : (before : List EventEntry) (e : EventEntry) → last_event (before ++ e ∷ []) ≡ Some e
-last_is before e = at_last before e (length (before ++ e ∷ []) - 1) (let n = length_push before e in omega arith)
 
 module _ (x : Image) (bounded : AreBoundedBelow x (length x.lists.routines)) (s : ShapeLists) where
   abbrev run_of : EventEntry → ℕ

@@ -3,12 +3,13 @@ use Rattle.std.proofs.Common.{◌≡◌, ℕ, zero, suc, ◌+◌, ◌*◌, ◌<�
 use Rattle.std.specs.Prelude.{slice_get}
 use Rattle.std.proofs.lemmas.Option.{same_Some, slice_get_within}
 use Rattle.std.proofs.lemmas.Bool.{cases_eq}
+use Rattle.cse_lemmas.proofs.Lists.{slice_get_some}
 use Rattle.cse_code_typing.specs.declared.control.Control.{Control}
 use Rattle.cse_code_typing.specs.declared.control.Control.TheVariants.{Step, Jump, Branch, Open, End, Break, Call, Return}
 use Rattle.cse_code_typing.specs.Bracket.{named_end, named_opener, IsBracket, around, KeepsRules}
 use Rattle.cse_code_typing.proofs.Around.{around_behind, around_plain, begins_between, ends_between, ends_within}
 use Rattle.cse_code_bounds.specs.Rest.{steps_from, tail}
-use Rattle.cse_code_bounds.proofs.Tails.{tail_at, some_at, no_begin, no_end, fine_at, last_at, nested_in}
+use Rattle.cse_code_bounds.proofs.Tails.{tail_at, no_begin, no_end, fine_at, last_at, nested_in}
 
 module _ (bounds : List ℕ) (code : List Control) (keeps : KeepsRules code) where
   pub tail_plain : (q : ℕ) (i : Control) → slice_get code q ≡ Some i → named_end (Some i) ≡ None → tail bounds code q ≡ steps_from bounds (tail bounds code) q i
@@ -47,7 +48,7 @@ module _ (bounds : List ℕ) (code : List Control) (keeps : KeepsRules code) whe
       ⊎_elim
       (λ (e : q ≡ c). let f = ap (tail bounds code) e in omega arith)
       (λ ne.
-      let here = some_at code q (omega arith) in
+      let here = slice_get_some code q (omega arith) in
       step_over q c here.0 (λ d a b k. tail_later n d c (omega arith) b lt k) here.1 (omega arith) same)
       (cases_eq q c)
 
@@ -62,7 +63,7 @@ module _ (bounds : List ℕ) (code : List Control) (keeps : KeepsRules code) whe
   -- behind a bracket there is more code
   pub behind_within : (s e : ℕ) → IsBracket code s e → suc e < length code
   behind_within s e b =
-      let here = some_at code e (ends_within code s e b) in
+      let here = slice_get_some code e (ends_within code s e b) in
       let at : slice_get code e ≡ Some here.0 = here.1 in
       let ne : suc e ≢ length code =
       λ k. let l : here.0 ≡ Return = last_at code keeps e here.0 at (omega arith) in

@@ -31,12 +31,12 @@ at_most table code p (suc n) lt =
     (λ (l : n ≤ p). let e : p ≡ n = omega arith in let k = ap (frames_at table code) e in omega arith)
     (cases_lt p n)
 
-length-frames : (x : Image) (n : ℕ) → length (frames_below x n) ≡ n
+pub length-frames : (x : Image) (n : ℕ) → length (frames_below x n) ≡ n
 unfolding frames_below
 length-frames x zero = refl
 length-frames x (suc n) = let ih = length-frames x n in length_push (frames_below x n) (frames_of x n) ∙ omega arith
 
-frames_told : (x : Image) (n r : ℕ) → r < n → get_or (frames_below x n) r 0 ≡ frames_of x r
+pub frames_told : (x : Image) (n r : ℕ) → r < n → get_or (frames_below x n) r 0 ≡ frames_of x r
 unfolding frames_below
 frames_told x zero r lt = absurd (omega arith)
 frames_told x (suc n) r lt =

@@ -4,6 +4,7 @@ use Rattle.std.proofs.Common.{◌≡◌, ℕ, zero, suc, ◌+◌, ◌-◌, ◌*�
 use Rattle.std.specs.Prelude.{slice_get}
 use Rattle.std.proofs.lemmas.List.{get_or-drop, get_or_past}
 use Rattle.std.proofs.lemmas.Option.{same_Some, slice_get_within}
+use Rattle.cse_lemmas.proofs.Lists.{slice_get_some, drop_some}
 use Rattle.cse_code_typing.specs.declared.control.Control.{Control}
 use Rattle.cse_code_typing.specs.declared.control.Control.TheVariants.{Step, Jump, Branch, Open, End, Break, Call, Return}
 use Rattle.cse_code_typing.specs.Bracket.{named_end, named_opener, IsBracket, IsNested, around, IsFine, KeepsRules}
@@ -19,11 +20,6 @@ unfolding tails
 drop_tails bounds zero a b code e = let f : a ≡ b = omega arith in ap (λ n. tails bounds n code) f
 drop_tails bounds (suc p) a b [] e = refl
 drop_tails bounds (suc p) a b (i ∷ is) e = drop_tails bounds p (suc a) b is (omega arith)
-
-drop_some : {X : Type 0} (xs : List X) (p : ℕ) (x : X) → slice_get xs p ≡ Some x → drop p xs ≡ x ∷ drop (suc p) xs
-drop_some [] p x h = cc
-drop_some (y ∷ ys) zero x h = ap (λ z. z ∷ ys) (same_Some y x h)
-drop_some (y ∷ ys) (suc p) x h = drop_some ys p x h
 
 same_steps : (bounds : List ℕ) (f g : ℕ → ℕ) (p : ℕ) (i : Control) → ((e : ℕ) → named_end (Some i) ≡ Some e → p < e) → ((q : ℕ) → suc p ≤ q → f q ≡ g q) → steps_from bounds f p i ≡ steps_from bounds g p i
 same_steps bounds f g p (Open limit e) later h =
@@ -97,11 +93,6 @@ no_begin code p i at n e b = let a = ap named_end at in let k = b.1 in cc
 pub no_end : (code : List Control) (p : ℕ) (i : Control) → slice_get code p ≡ Some i → named_opener (Some i) ≡ None → (s : ℕ) → IsBracket code s p → ⊥
 no_end code p i at n s b = let a = ap named_opener at in let k = b.2 in cc
 
-pub some_at : {X : Type 0} (xs : List X) (p : ℕ) → p < length xs → (x : X) × (slice_get xs p ≡ Some x)
-some_at [] p lt = absurd (omega arith)
-some_at (x ∷ xs) zero lt = (x, refl)
-some_at (x ∷ xs) (suc p) lt = some_at xs p (omega arith)
-
 -- ---- code that keeps the rules
 
 pub fine_at : (code : List Control) → KeepsRules code → (p : ℕ) (i : Control) → slice_get code p ≡ Some i → IsFine code p i
@@ -168,7 +159,7 @@ module _ (bounds : List ℕ) (code : List Control) (keeps : KeepsRules code) whe
   paid_and_ahead zero le = let e = ap (ahead (tail bounds code) code 0) (around_start code) in omega arith
   paid_and_ahead (suc p) le =
       let ih = paid_and_ahead p (omega arith) in
-      let here = some_at code p (omega arith) in
+      let here = slice_get_some code p (omega arith) in
       let m = ahead_more p here.0 here.1 in
       omega arith
 

@@ -5,6 +5,7 @@ use Rattle.std.specs.Prelude.{option_map, option_and_then, slice_get}
 use Rattle.std.proofs.lemmas.Option.{same_Some, slice_get_within}
 use Rattle.std.proofs.lemmas.Bool.{cond-true, eq-eqb}
 use Rattle.std.proofs.Math.Nat.{mul-le-mul_right}
+use Rattle.cse_lemmas.proofs.Lists.{slice_get_some}
 use Rattle.cse_image_parts.specs.Image.{Image}
 use Rattle.cse_code_typing.specs.declared.control.Control.{Control}
 use Rattle.cse_code_typing.specs.declared.control.Control.TheVariants.{Step, Jump, Branch, Open, End, Break, Call, Return}
@@ -16,7 +17,7 @@ use Rattle.cse_code_bounds.specs.Walk.{Turning, Standing, begun, at_place, branc
 use Rattle.cse_code_bounds.specs.Rest.{steps_from, tail, end_in, rest_opens, rest_call, rest}
 use Rattle.cse_code_bounds.specs.Calls.{MayWalk, IsStanding, IsCalled, AreCalls, StepsKeepToBound, WalksStayInside, RestFalls}
 use Rattle.cse_code_bounds.proofs.EventLaws.{bounds_at}
-use Rattle.cse_code_bounds.proofs.Tails.{end_of, no_begin, no_end, some_at, fine_at, nested_in, bound_is_tail}
+use Rattle.cse_code_bounds.proofs.Tails.{end_of, no_begin, no_end, fine_at, nested_in, bound_is_tail}
 use Rattle.cse_code_bounds.proofs.Later.{tail_plain, tail_opener, tail_jump, behind_within, next_within}
 
 abbrev pub openers : List Turning → List ℕ
@@ -234,7 +235,7 @@ module _ (x : Image) (r : ℕ) (c : Standing) (keeps : KeepsRules (skeleton_of x
   break_moves e (t ∷ outer) at is = (record { routine = c.routine; place = e + 1; opens = outer } ∷ below, refl)
 
   moves : (o : Option Control) (choice : ℕ) → slice_get (skeleton_of x c.routine) c.place ≡ o → (v : List Standing) × (moved o choice c below ≡ Some v)
-  moves None choice at = let here = some_at (skeleton_of x c.routine) c.place good.place in let there = here.1 in cc
+  moves None choice at = let here = slice_get_some (skeleton_of x c.routine) c.place good.place in let there = here.1 in cc
   moves (Some Step) choice at = (at_place c (c.place + 1) ∷ below, refl)
   moves (Some (Jump q)) choice at = (at_place c q ∷ below, refl)
   moves (Some (Branch q)) choice at = (branched choice q c ∷ below, refl)

@@ -3,6 +3,7 @@ use Rattle.std.proofs.Common.{◌≡◌, ℕ, zero, suc, ◌<◌, ◌≤◌, Boo
 use Rattle.std.specs.Prelude.{slice_get}
 use Rattle.std.proofs.lemmas.Bool.{cases_lt, cases_eq, and_parts, and_from, ltb-true, leb-true, eqb-true, lt-ltb, le-leb, eq-eqb, cases_Bool, false≢true, cond-true, cond-false, false_from_ne_true, both_ways}
 use Rattle.std.proofs.lemmas.Option.{same_Some, slice_get_past}
+use Rattle.cse_lemmas.proofs.Booleans.{same_from_both}
 use Rattle.cse_code_typing.specs.declared.control.Control.{Control}
 use Rattle.cse_code_typing.specs.declared.control.Control.TheVariants.{Step, Jump, Branch, Open, End, Break, Call, Return}
 use Rattle.cse_code_typing.specs.Bracket.{named_end, named_opener, IsBracket, IsAround, names, opens_around, around_below, around, first, innermost, IsNestedBelow, IsNested, IsOpener, IsFine}
@@ -71,16 +72,10 @@ module _ (code : List Control) where
   pub is_around_from : (s p : ℕ) → IsAround code s p → is_around code s p ≡ true
   is_around_from s p h = true_opens s p h.0 (slice_get code s) h.1.1 h.1.2 h.2 h.3
 
--- two tests with one meaning
-same_tests : (a b : Bool) → (a ≡ true → b ≡ true) → (b ≡ true → a ≡ true) → a ≡ b
-same_tests true b f g = sym (f refl)
-same_tests false true f g = g refl
-same_tests false false f g = refl
-
 module _ (code : List Control) where
   pub same_around : (s p q : ℕ) → (IsAround code s p → IsAround code s q) → (IsAround code s q → IsAround code s p) → is_around code s p ≡ is_around code s q
   same_around s p q f g =
-      same_tests _ _ (λ h. is_around_from code s q (f (around_is code s p h))) (λ h. is_around_from code s p (g (around_is code s q h)))
+      same_from_both _ _ (λ h. is_around_from code s q (f (around_is code s p h))) (λ h. is_around_from code s p (g (around_is code s q h)))
 
   pub not_around : (s p : ℕ) → (IsAround code s p → ⊥) → is_around code s p ≡ false
   not_around s p f = false_from_ne_true _ (λ h. f (around_is code s p h))

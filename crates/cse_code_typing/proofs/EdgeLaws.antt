@@ -4,6 +4,7 @@ use Rattle.std.specs.Prelude.{slice_get, map, option_map, option_and_then, ◌++
 use Rattle.std.proofs.lemmas.Bool.{cases_eq}
 use Rattle.std.proofs.lemmas.List.{length-map}
 use Rattle.std.proofs.lemmas.Option.{same_Some, slice_get_within, slice_get-map}
+use Rattle.cse_lemmas.proofs.Options.{option_and_then_parts}
 use Rattle.cse_image_parts.specs.declared.instruction.Instr.{Instr}
 use Rattle.cse_code_typing.specs.declared.kind.Kind.{Kind}
 use Rattle.cse_code_typing.specs.declared.control.Control.{Control}
@@ -14,10 +15,6 @@ use Rattle.cse_code_typing.specs.Bracket.{named_opener, KeepsRules}
 use Rattle.cse_code_typing.specs.Signature.{Scene, Signature, signature_by, is_in_loop}
 use Rattle.cse_code_typing.specs.Rule.{Edge, rule, exits, returned}
 use Rattle.cse_code_typing.specs.Laws.{LeadInside}
-
-some_then : {X Y : Type 0} (f : X → Option Y) (o : Option X) (y : Y) → option_and_then f o ≡ Some y → (x : X) × (o ≡ Some x) × (f x ≡ Some y)
-some_then f None y h = cc
-some_then f (Some x) y h = (x, refl, h)
 
 module _ (code : List Control) (keeps : KeepsRules code) where
   -- behind what doesn't return there is a place
@@ -65,6 +62,6 @@ edges_inside s code keeps q i stack edges there ruled =
     let skel = skeleton s.lists code in
     let c = control s.lists i in
     let at : slice_get skel q ≡ Some c = slice_get-map (control s.lists) code q ∙ ap (option_map (control s.lists)) there in
-    let a = some_then (λ (x : Signature). option_and_then (λ (rest : List Kind). exits q c rest (x.leaves ++ rest)) (below x.takes stack)) (signature_by s (is_in_loop s.lists code q i.a) (top_of stack) i.op i.a i.b i.c) edges ruled in
-    let b = some_then (λ (rest : List Kind). exits q c rest (a.0.leaves ++ rest)) (below a.0.takes stack) edges a.2 in
+    let a = option_and_then_parts (λ (x : Signature). option_and_then (λ (rest : List Kind). exits q c rest (x.leaves ++ rest)) (below x.takes stack)) (signature_by s (is_in_loop s.lists code q i.a) (top_of stack) i.op i.a i.b i.c) edges ruled in
+    let b = option_and_then_parts (λ (rest : List Kind). exits q c rest (a.0.leaves ++ rest)) (below a.0.takes stack) edges a.2 in
     subst (λ n. LeadInside n edges) (length-map code (control s.lists)) (inside skel keeps q c at b.0 (a.0.leaves ++ b.0) edges b.2)

@@ -4,6 +4,7 @@ use Rattle.std.specs.Prelude.{slice_get}
 use Rattle.std.proofs.lemmas.Bool.{cond-false, ne_eqb, cases_eq, cases_lt}
 use Rattle.std.proofs.lemmas.List.{length_push}
 use Rattle.std.proofs.lemmas.Option.{same_Some, slice_get_within}
+use Rattle.cse_lemmas.proofs.Lists.{slice_get_push}
 use Rattle.cse_code_typing.specs.declared.kind.Kind.{Kind}
 use Rattle.cse_code_typing.specs.declared.kind.Kind.TheVariants.{Number, Text, Index, Occurrence}
 use Rattle.cse_code_typing.specs.declared.depth.Depth.{Depth}
@@ -85,12 +86,6 @@ at_left [] ys i le ne = absurd (ne (omega arith))
 at_left (x ∷ xs) ys zero le ne = refl
 at_left (x ∷ xs) ys (suc i) le ne = at_left xs ys i (omega arith) (λ e. ne (omega arith))
 
-at_end : {X : Type 0} (xs : List X) (y : X) (i : ℕ) → i ≡ length xs → slice_get (xs ++ y ∷ []) i ≡ Some y
-at_end [] y zero e = refl
-at_end [] y (suc i) e = absurd (omega arith)
-at_end (x ∷ xs) y zero e = absurd (omega arith)
-at_end (x ∷ xs) y (suc i) e = at_end xs y i (omega arith)
-
 pub few_more : (depths next : List Depth) (d : Depth) → KeepFew depths → IsAtMost (most_kept * (length depths + 1)) d → next ≡ depths ++ d ∷ [] → KeepFew next
 few_more depths next d few small pushed r e at =
     let told : slice_get (depths ++ d ∷ []) r ≡ Some e = ap (λ (l : List Depth). slice_get l r) (sym pushed) ∙ at in
@@ -99,7 +94,7 @@ few_more depths next d few small pushed r e at =
     let count : length next ≡ length depths + 1 = ap (λ (l : List Depth). length l) pushed ∙ len in
     ⊎_elim
     (λ (last : r ≡ length depths).
-    let same : d ≡ e = same_Some d e (sym (at_end depths d r last) ∙ told) in
+    let same : d ≡ e = same_Some d e (sym (slice_get_push depths d r last) ∙ told) in
     subst (IsAtMost (most_kept * length next)) same (more_few d (most_kept * (length depths + 1)) (most_kept * length next) (omega arith) small))
     (λ (ne : r ≡ length depths → ⊥).
     more_few e (most_kept * length depths) (most_kept * length next) (omega arith)

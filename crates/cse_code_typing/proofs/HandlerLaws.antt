@@ -5,6 +5,7 @@ use Rattle.std.specs.List.{list_all}
 use Rattle.std.proofs.lemmas.Bool.{cases_lt, cases_order, cases_Bool, false≢true, eqb-true, ltb-true, eq-eqb, and_parts, and_from, or_cases}
 use Rattle.std.proofs.lemmas.List.{length-take}
 use Rattle.std.proofs.lemmas.Option.{same_Some, slice_get_within, get_or_from_slice_get}
+use Rattle.cse_lemmas.proofs.Lists.{slice_get-take}
 use Rattle.cse_value.specs.Shape.{ShapeLists}
 use Rattle.cse_image_parts.specs.declared.entries.Event.{Event}
 use Rattle.cse_image_parts.specs.declared.entries.EventCode.{EventCode}
@@ -40,12 +41,6 @@ after_order a b small after =
     omega arith)
     (or_cases (ltb (event_code a.code) (event_code b.code)) (eqb (event_code a.code) (event_code b.code) && ltb a.index b.index) after)
 
-at_take : {X : Type 0} (n : ℕ) (xs : List X) (p : ℕ) → p < n → slice_get (take n xs) p ≡ slice_get xs p
-at_take zero xs p h = absurd (omega arith)
-at_take (suc n) [] p h = refl
-at_take (suc n) (x ∷ xs) zero h = refl
-at_take (suc n) (x ∷ xs) (suc p) h = at_take n xs p (omega arith)
-
 -- what the format says of the entry at a place
 fits_at : (events : List EventEntry) (k : ℕ) (b : EventEntry) → AllAfter (λ before. EventFits (last_event before)) [] events → slice_get events k ≡ Some b → EventFits (last_event (take k events)) b
 fits_at events k b all at =
@@ -56,7 +51,7 @@ next_rises : (events : List EventEntry) (k : ℕ) (a b : EventEntry) → AllAfte
 next_rises events k a b all here next =
     let lt = slice_get_within events (suc k) b next in
     let size : length (take (suc k) events) - 1 ≡ k = let l = length-take (suc k) events in omega arith in
-    let last : last_event (take (suc k) events) ≡ Some a = ap (slice_get (take (suc k) events)) size ∙ at_take (suc k) events k (omega arith) ∙ here in
+    let last : last_event (take (suc k) events) ≡ Some a = ap (slice_get (take (suc k) events)) size ∙ slice_get-take (suc k) events k (omega arith) ∙ here in
     let f = fits_at events (suc k) b all next in
     after_order a b (fits_at events k a all here).index (subst (λ o. IsTrue (is_after o b.code b.index)) last f.after)
 

@@ -3,6 +3,7 @@ use Rattle.std.proofs.Common.{◌≡◌, ℕ, zero, suc, ◌+◌, ◌-◌, ◌<�
 use Rattle.std.specs.Prelude.{slice_get}
 use Rattle.std.proofs.lemmas.Bool.{cases_lt, cases_eq}
 use Rattle.std.proofs.lemmas.List.{length-append}
+use Rattle.cse_lemmas.proofs.Lists.{slice_get_push_below, slice_get_push}
 use Rattle.cse_code_typing.specs.declared.control.Control.{Control}
 use Rattle.cse_code_typing.specs.Bracket.{IsBracket, IsAround, IsJump, around, innermost}
 use Rattle.cse_code_typing.specs.Innermost.{innermost_below, Reaches, reach}
@@ -66,27 +67,16 @@ module _ (code : List Control) where
       let l = length-append (innermost_below code n) (innermost code n ∷ []) in
       omega arith
 
-  at_front : {X : Type 0} (xs : List X) (y : X) (k : ℕ) → k < length xs → slice_get (xs ++ y ∷ []) k ≡ slice_get xs k
-  at_front [] y k lt = absurd (omega arith)
-  at_front (x ∷ xs) y zero lt = refl
-  at_front (x ∷ xs) y (suc k) lt = at_front xs y k (omega arith)
-
-  at_end : {X : Type 0} (xs : List X) (y : X) (k : ℕ) → k ≡ length xs → slice_get (xs ++ y ∷ []) k ≡ Some y
-  at_end [] y zero is = refl
-  at_end [] y (suc k) is = absurd (omega arith)
-  at_end (x ∷ xs) y zero is = absurd (omega arith)
-  at_end (x ∷ xs) y (suc k) is = at_end xs y k (omega arith)
-
   pub innermost_at : (n p : ℕ) → p < n → slice_get (innermost_below code n) p ≡ Some (innermost code p)
   unfolding innermost_below
   innermost_at zero p lt = absurd (omega arith)
   innermost_at (suc n) p lt =
       let size = length-innermost_below n in
       ⊎_elim
-      (λ (l : p < n). at_front (innermost_below code n) (innermost code n) p (omega arith) ∙ innermost_at n p l)
+      (λ (l : p < n). slice_get_push_below (innermost_below code n) (innermost code n) p (omega arith) ∙ innermost_at n p l)
       (λ (l : n ≤ p).
       let same : n ≡ p = omega arith in
-      at_end (innermost_below code n) (innermost code n) p (omega arith) ∙ ap (λ k. Some (innermost code k)) same)
+      slice_get_push (innermost_below code n) (innermost code n) p (omega arith) ∙ ap (λ k. Some (innermost code k)) same)
       (cases_lt p n)
 
   pub innermost_start : innermost code 0 ≡ None

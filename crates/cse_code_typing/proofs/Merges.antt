@@ -2,6 +2,7 @@
 use Rattle.std.proofs.Common.{◌≡◌, ℕ, zero, suc, ◌+◌, ◌<◌, ◌≤◌, Bool, true, false, List, [], ◌∷◌, length, Some, None, refl, sym, ap, ◌∙◌, subst, inl, inr, ⊎_elim, arith}
 use Rattle.std.specs.Prelude.{slice_set, nat_le, if◌then◌else◌, ◌⊎◌}
 use Rattle.std.proofs.lemmas.Bool.{leb-true, leb-false, le-leb, lt-leb, cases_lt, cases_eq}
+use Rattle.std.proofs.lemmas.List.{length-set}
 use Rattle.cse_code_typing.specs.declared.kind.Kind.{Kind}
 use Rattle.cse_code_typing.specs.declared.kind.Kind.TheVariants.{Number, Text, Index, Occurrence}
 use Rattle.cse_code_typing.specs.Kinds.{same_kind}
@@ -117,11 +118,6 @@ is_stands Free s h = let e : [] ≡ s = cc in subst (λ l. same_kinds [] l ≡ t
 is_stands (Is j) s h = let e : j ≡ s = cc in subst (λ l. same_kinds j l ≡ true) e (same_kinds-refl j)
 is_stands Clash s h = cc
 
-pub set_length : (known : Known) (j : ℕ) (x : Expects) → length (slice_set known j x) ≡ length known
-set_length [] j x = refl
-set_length (y ∷ known) zero x = refl
-set_length (y ∷ known) (suc j) x = ap suc (set_length known j x)
-
 set_here : (known : Known) (j : ℕ) (x : Expects) → j < length known → entry (slice_set known j x) j ≡ x
 set_here [] j x h = absurd (omega arith)
 set_here (y ∷ known) zero x h = refl
@@ -188,7 +184,7 @@ pub merge_length : (q : ℕ) (es : List Edge) (known after : Known) → merge q 
 merge_length q [] known after h = let e : known ≡ after = cc in ap length (sym e)
 merge_length q (e ∷ es) known after h =
     ⊎_elim (λ b. merge_length q es known after b.2)
-    (λ f. merge_length q es (put known e) after f.1 ∙ set_length known e.0 (met (entry known e.0) e.1)) (merge_step q e es known after h)
+    (λ f. merge_length q es (put known e) after f.1 ∙ length-set known e.0 (met (entry known e.0) e.1)) (merge_step q e es known after h)
 
 -- places that were passed keep what is known
 pub merge_before : (q : ℕ) (es : List Edge) (known after : Known) (k : ℕ) → merge q es known ≡ Some after → k ≤ q → entry after k ≡ entry known k
@@ -220,7 +216,7 @@ merge_took q (e ∷ es) known after h =
       (λ lt. (
         (λ before. let l = f.0 in absurd (omega arith)),
         (λ later.
-            let len : length after ≡ length known = merge_length q es (put known e) after f.1 ∙ set_length known e.0 (met (entry known e.0) e.1) in
+            let len : length after ≡ length known = merge_length q es (put known e) after f.1 ∙ length-set known e.0 (met (entry known e.0) e.1) in
             let within : e.0 < length known = omega arith in
             merge_takes q es (put known e) after e.0 e.1 f.1
             (subst (λ x. Takes x e.1) (sym (set_here known e.0 (met (entry known e.0) e.1) within)) (takes_met (entry known e.0) e.1))),

@@ -4,19 +4,15 @@ use Rattle.std.specs.Prelude.{slice_get, ◌||◌}
 use Rattle.std.specs.List.{list_any}
 use Rattle.std.proofs.lemmas.Option.{slice_get-get_or}
 use Rattle.std.proofs.lemmas.List.{get_or-reverse, length-reverse, length-take-le, get_or-take}
-
-drop_suc : {X : Type 0} (xs : List X) (q : ℕ) (x : X) → slice_get xs q ≡ Some x → drop q xs ≡ x ∷ drop (suc q) xs
-drop_suc [] q x h = cc
-drop_suc (y ∷ xs) zero x h = cc
-drop_suc (y ∷ xs) (suc q) x h = drop_suc xs q x h
+use Rattle.cse_lemmas.proofs.Lists.{drop_some}
 
 pub any_here : (f : ℕ → Bool) (xs : List ℕ) (i x : ℕ) (found : Bool) → slice_get xs i ≡ Some x → found ≡ f x → found ≡ true → true ≡ list_any f (drop i xs)
 any_here f xs i x found at is holds =
-    sym (ap (list_any f) (drop_suc xs i x at) ∙ ap (λ b. b || list_any f (drop (suc i) xs)) (sym is ∙ holds))
+    sym (ap (list_any f) (drop_some xs i x at) ∙ ap (λ b. b || list_any f (drop (suc i) xs)) (sym is ∙ holds))
 
 pub any_more : (f : ℕ → Bool) (xs : List ℕ) (i x : ℕ) (found : Bool) → slice_get xs i ≡ Some x → found ≡ f x → found ≡ false → list_any f (drop i xs) ≡ list_any f (drop (i + 1) xs)
 any_more f xs i x found at is fails =
-    ap (list_any f) (drop_suc xs i x at) ∙ ap (λ b. b || list_any f (drop (suc i) xs)) (sym is ∙ fails) ∙ ap (λ n. list_any f (drop n xs)) (sym (add-one i))
+    ap (list_any f) (drop_some xs i x at) ∙ ap (λ b. b || list_any f (drop (suc i) xs)) (sym is ∙ fails) ∙ ap (λ n. list_any f (drop n xs)) (sym (add-one i))
 
 any_none : (f : ℕ → Bool) (xs : List ℕ) (i : ℕ) → length xs ≤ i → false ≡ list_any f (drop i xs)
 any_none f [] zero h = refl

@@ -84,11 +84,6 @@ known_of-set table [] k x = refl
 known_of-set table (y ∷ known) zero x = refl
 known_of-set table (y ∷ known) (suc k) x = ap (λ l. expects table y ∷ l) (known_of-set table known k x)
 
-pub set_past : {X : Type 0} (known : List X) (k : ℕ) (x : X) → length known ≤ k → slice_set known k x ≡ known
-set_past [] k x h = refl
-set_past (y ∷ known) zero x h = absurd (omega arith)
-set_past (y ∷ known) (suc k) x h = ap (λ l. y ∷ l) (set_past known k x (omega arith))
-
 pub set_within : (n : ℕ) (known : List Expected) (j : ℕ) (x : Expected) → AreWithin n known → IsWithin n x → AreWithin n (slice_set known j x)
 set_within n known j x h w = record { each = λ k. at known j k (λ m. h.each m) }
   where

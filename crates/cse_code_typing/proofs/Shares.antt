@@ -1,9 +1,10 @@
 -- Equal stacks have equal numbers.
-use Rattle.std.proofs.Common.{◌≡◌, ℕ, zero, suc, ◌+◌, ◌-◌, ◌<◌, ◌≤◌, true, false, eqb, List, [], ◌∷◌, ◌++◌, length, reverse, get_or, Option, Some, None, refl, sym, ap, ◌∙◌, subst, ⊎_elim, arith}
+use Rattle.std.proofs.Common.{◌≡◌, ℕ, zero, suc, ◌+◌, ◌-◌, ◌<◌, ◌≤◌, true, false, eqb, List, [], ◌∷◌, ◌++◌, length, reverse, get_or, Some, None, refl, sym, ap, ◌∙◌, subst, ⊎_elim, arith}
 use Rattle.std.specs.Prelude.{slice_get, if◌then◌else◌, Result, Ok, Err, is_err, is_ok, OnOk}
 use Rattle.std.proofs.lemmas.Bool.{cond-true, cond-false, eq-eqb, eqb-true, ne_eqb, cases_eq, cases_lt, cases_Bool, and_parts, and_from}
 use Rattle.std.proofs.lemmas.Option.{same_Some, slice_get-get_or}
 use Rattle.std.proofs.lemmas.List.{get_or-reverse, length-reverse, length-append, reverse-append}
+use Rattle.cse_lemmas.proofs.Options.{none_and_some}
 use Rattle.cse_code_typing.specs.declared.kind.Kind.{Kind}
 use Rattle.cse_code_typing.specs.declared.depth.Depth.{Depth}
 use Rattle.cse_code_typing.specs.declared.piles.PileEntry.{PileEntry}
@@ -81,9 +82,6 @@ heads k j a b h = (cc, cc)
 no_cons : (k : Kind) (a : List Kind) → k ∷ a ≡ [] → ⊥
 no_cons k a h = cc
 
-no_none : {X : Type 0} (o : Option X) (x : X) → o ≡ None → o ≡ Some x → ⊥
-no_none o x h k = cc
-
 module _ (table : List PileEntry) (depths : List Depth) (numbers : List (PileEntry × ℕ)) (so : IsShared table depths numbers) where
   empty_is : (n : ℕ) → n ≤ length table → stack_of table n ≡ [] → n ≡ 0
   empty_is n le h =
@@ -135,7 +133,7 @@ module _ (table : List PileEntry) (depths : List Depth) (numbers : List (PileEnt
       (x.stack ∙ ap (λ (y : PileEntry). y.kind ∷ stack_of table y.below) one, w.1)
 
   pub is_new : (e : PileEntry) → number_of numbers e ≡ None → (n : ℕ) → entry_of table n ≡ Some e → ⊥
-  is_new e none n at = no_none (number_of numbers e) n none (so.found n e at)
+  is_new e none n at = none_and_some (number_of numbers e) n none (so.found n e at)
 
   -- one more entry
   pub shared_more : (e : PileEntry) (n : ℕ) (d : Depth) (more : List (PileEntry × ℕ)) → e.below ≤ length table → ((m : ℕ) → entry_of table m ≡ Some e → ⊥) → n ≡ length table + 1
@@ -197,8 +195,8 @@ shared_none table depths numbers t d none =
     (subst (λ (l : List Depth). IsShared [] l numbers) (sym d)
     (record {
       grown = tt;
-      found = λ n e at. absurd (no_none (entry_of [] n) e (no_entry n) at);
-      known = λ n e h. absurd (no_none (number_of numbers e) n (none e) h);
+      found = λ n e at. absurd (none_and_some (entry_of [] n) e (no_entry n) at);
+      known = λ n e h. absurd (none_and_some (number_of numbers e) n (none e) h);
       counted = refl;
     }))
 

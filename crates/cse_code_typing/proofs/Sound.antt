@@ -1,10 +1,11 @@
 -- A pass that has come to a place has found a typing of the places before it, and where there is a
 -- typing the pass goes on.
-use Rattle.std.proofs.Common.{◌≡◌, ℕ, zero, suc, ◌+◌, ◌<◌, ◌≤◌, List, [], ◌∷◌, length, Option, Some, None, refl, sym, ap, ◌∙◌, subst, inl, inr, ⊎_elim, arith, replicate}
+use Rattle.std.proofs.Common.{◌≡◌, ℕ, zero, suc, ◌+◌, ◌<◌, ◌≤◌, List, [], ◌∷◌, length, Some, None, refl, sym, ap, ◌∙◌, subst, inl, inr, ⊎_elim, arith, replicate}
 use Rattle.std.specs.Prelude.{slice_get, option_and_then, ◌⊎◌}
 use Rattle.std.proofs.lemmas.Bool.{cases_lt}
 use Rattle.std.proofs.lemmas.Option.{same_Some, slice_get_within}
 use Rattle.std.proofs.lemmas.List.{length-replicate}
+use Rattle.cse_lemmas.proofs.Options.{option_and_then_parts, none_and_some}
 use Rattle.cse_image_parts.specs.declared.instruction.Instr.{Instr}
 use Rattle.cse_code_typing.specs.declared.kind.Kind.{Kind}
 use Rattle.cse_code_typing.specs.Rule.{Edge, Rule}
@@ -41,10 +42,6 @@ pub record IsKnown (rule : Rule) (code : List Instr) (q : ℕ) (known : Known) :
   pub same : (n : ℕ) (t : Stacks) → q ≤ n → IsTypingBelow rule code n t → (k : ℕ) → k < q → expected_stack (entry known k) ≡ Some (t k)
   pub allowed : (n : ℕ) (t : Stacks) → q ≤ n → IsTypingBelow rule code n t → (k : ℕ) → k < n → Allows (entry known k) (t k)
 
-some_then : {X Y : Type 0} (f : X → Option Y) (o : Option X) (y : Y) → option_and_then f o ≡ Some y → (x : X) × (o ≡ Some x) × (f x ≡ Some y)
-some_then f None y h = cc
-some_then f (Some x) y h = (x, refl, h)
-
 -- the parts of the pass at a place
 pub record Turned (rule : Rule) (q : ℕ) (i : Instr) (known after : Known) : Type 0 where
   pub stack : List Kind
@@ -55,8 +52,8 @@ pub record Turned (rule : Rule) (q : ℕ) (i : Instr) (known after : Known) : Ty
 
 pub turned : (rule : Rule) (q : ℕ) (i : Instr) (known after : Known) → pass_at rule q i known ≡ Some after → Turned rule q i known after
 turned rule q i known after h =
-    let s = some_then (λ (stack : List Kind). option_and_then (λ (es : List Edge). merge q es known) (rule q i stack)) (expected_stack (entry known q)) after h in
-    let u = some_then (λ (es : List Edge). merge q es known) (rule q i s.0) after s.2 in
+    let s = option_and_then_parts (λ (stack : List Kind). option_and_then (λ (es : List Edge). merge q es known) (rule q i stack)) (expected_stack (entry known q)) after h in
+    let u = option_and_then_parts (λ (es : List Edge). merge q es known) (rule q i s.0) after s.2 in
     record { stack = s.0; edges = u.0; expected = s.1; ruled = u.1; merged = u.2 }
 
 module _ (rule : Rule) (code : List Instr) where
@@ -160,9 +157,6 @@ module _ (rule : Rule) (code : List Instr) where
     },
   )
 
-  some_none : {X : Type 0} (o : Option X) (x : X) → o ≡ None → o ≡ Some x → ⊥
-  some_none o x h k = cc
-
   -- where the pass fails no typing goes on
   pub no_stack : (q : ℕ) (i : Instr) (known : Known) → slice_get code q ≡ Some i → IsKnown rule code q known → pass_at rule q i known ≡ None → HasNoStackAt rule code q
   no_stack q i known there so h =
@@ -177,7 +171,7 @@ module _ (rule : Rule) (code : List Instr) where
             let m = merge_goes (q + 1) q t f.edges known (omega arith) f.agrees
             (λ k le. ⊎_elim (λ (l : k < q). so.same (q + 1) t (omega arith) typed.1 k l)
             (λ (l : q ≤ k). let e : q ≡ k = omega arith in subst (λ n. expected_stack (entry known n) ≡ Some (t n)) e here) (cases_lt k q)) in
-            some_none (pass_at rule q i known) m.0 h
+            none_and_some (pass_at rule q i known) m.0 h
             (ap (option_and_then (λ (stack : List Kind). option_and_then (λ (es : List Edge). merge q es known) (rule q i stack))) here
             ∙ ap (option_and_then (λ (es : List Edge). merge q es known)) f.ruled ∙ m.1);
       }

@@ -4,7 +4,7 @@ use Rattle.std.proofs.Common.{◌≡◌, ℕ, zero, suc, ◌<◌, ◌≤◌, Boo
 use Rattle.std.specs.Prelude.{slice_get, option_map, option_and_then, not, ◌||◌, ◌&&◌}
 use Rattle.std.specs.Option.{option_map_or}
 use Rattle.std.specs.List.{list_any}
-use Rattle.std.proofs.lemmas.List.{length-map}
+use Rattle.std.proofs.lemmas.List.{length-map, drop-map, take-map}
 use Rattle.std.proofs.lemmas.Option.{slice_get-map, slice_get_within}
 use Rattle.cse_value.specs.Shape.{ShapeLists}
 use Rattle.cse_image_parts.specs.declared.instruction.Op.{Op}
@@ -77,18 +77,8 @@ any_same : {X : Type 0} (g h : X → Bool) → ((x : X) → g x ≡ h x) → (xs
 any_same g h same [] = refl
 any_same g h same (x ∷ xs) = ap (λ b. b || list_any g xs) (same x) ∙ ap (λ b. h x || b) (any_same g h same xs)
 
-drop_map : (f : Instr → Instr) (n : ℕ) (xs : List Instr) → drop n (map f xs) ≡ map f (drop n xs)
-drop_map f zero xs = refl
-drop_map f (suc n) [] = refl
-drop_map f (suc n) (x ∷ xs) = drop_map f n xs
-
-take_map : (f : Instr → Instr) (n : ℕ) (xs : List Instr) → take n (map f xs) ≡ map f (take n xs)
-take_map f zero xs = refl
-take_map f (suc n) [] = refl
-take_map f (suc n) (x ∷ xs) = ap (λ (l : List Instr). f x ∷ l) (take_map f n xs)
-
 pub part_map : (f : Instr → Instr) (start size : ℕ) (xs : List Instr) → part start size (map f xs) ≡ map f (part start size xs)
-part_map f start size xs = ap (take size) (drop_map f start xs) ∙ take_map f size (drop start xs)
+part_map f start size xs = ap (take size) (drop-map f start xs) ∙ take-map f size (drop start xs)
 
 -- what stands at a place of the whole code stands at one of a part
 in_drop : (n : ℕ) (xs : List Instr) (p : ℕ) (i : Instr) → slice_get (drop n xs) p ≡ Some i → (q : ℕ) × (slice_get xs q ≡ Some i)

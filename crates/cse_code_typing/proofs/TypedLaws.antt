@@ -53,7 +53,7 @@ typed_more s x r y there before here q z lt at =
 
 -- ---- what is wrong with a routine refuses the program, where the routines before are typed
 
-routine_of : (s : Scene) (r : ℕ) (code : List Instr) (e : Refusal) → Fails s r code e → e.routine ≡ r
+pub routine_of : (s : Scene) (r : ℕ) (code : List Instr) (e : Refusal) → Fails s r code e → e.routine ≡ r
 routine_of s r code e fails =
     ⊎_elim (λ (f : FailsRules s r code e). f.routine)
     (λ rest. ⊎_elim (λ (f : FailsCalls s r code e). f.routine) (λ (f : FailsTyping s r code e). f.routine) rest) fails

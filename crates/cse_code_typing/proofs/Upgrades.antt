@@ -1,8 +1,9 @@
 -- The upgrade of a program of version 1 and its code as it stands name the same limits.
-use Rattle.std.proofs.Common.{◌≡◌, ℕ, zero, suc, ◌+◌, ◌-◌, ◌<◌, ◌≤◌, ◌^◌, Bool, true, false, cond, ltb, eqb, List, [], ◌∷◌, Some, refl, sym, ap, ◌∙◌, subst, ⊎_elim, arith}
+use Rattle.std.proofs.Common.{◌≡◌, ℕ, zero, suc, ◌-◌, ◌<◌, ◌≤◌, ◌^◌, Bool, true, false, cond, ltb, eqb, List, [], ◌∷◌, Some, refl, sym, ap, ◌∙◌, subst, ⊎_elim, arith}
 use Rattle.std.specs.Prelude.{slice_get, not, ◌&&◌}
-use Rattle.std.specs.List.{AllByRecursion, range_with_len}
+use Rattle.std.specs.List.{AllByRecursion}
 use Rattle.std.proofs.lemmas.Bool.{and_parts, cases_Bool, cases_eq, cond-true, cond-false, lt-ltb, ltb-true, ltb-false, eq-eqb, false≢true}
+use Rattle.cse_lemmas.proofs.Lists.{slice_get-range_with_len}
 use Rattle.cse_image_parts.specs.declared.instruction.Instr.{Instr}
 use Rattle.cse_image_parts.specs.declared.instruction.Op.{Op}
 use Rattle.cse_image_parts.specs.declared.instruction.Op.TheVariants as ops
@@ -11,19 +12,15 @@ use Rattle.cse_image_parts.specs.Versions.{is_counting}
 use Rattle.cse_image_parts.specs.Opcodes.{shape, lies_in}
 use Rattle.cse_image_parts.specs.Upgrade.{greater, own_limit, greatest_limit, one_to, zero_below, upgrade_instr}
 use Rattle.cse_image_parts.specs.Turns.{limit_of}
+use Rattle.cse_image_parts.proofs.UpgradeLaws.{at_most_greatest}
 use Rattle.cse_image.specs.Spelling.{InstrFits}
 use Rattle.cse_code_typing.proofs.Twins.{FindsSame, AreTwins, AllTwins}
-
-range_at : (a n k : ℕ) → k < n → slice_get (range_with_len a n) k ≡ Some (a + k)
-range_at a zero k lt = absurd (omega arith)
-range_at a (suc n) zero lt = ap Some (omega arith)
-range_at a (suc n) (suc k) lt = range_at (a + 1) n k (omega arith) ∙ ap Some (omega arith)
 
 -- the limit b is at the place one less in 1, 2, .., and at its own in 0, 1, ..
 same_limit : (n b : ℕ) → 1 ≤ b → b ≤ n → b < 65536 → limit_of (one_to n) (b - 1) ≡ limit_of (zero_below 65536) b
 unfolding one_to zero_below
 same_limit n b some le small =
-    range_at 1 n (b - 1) (omega arith) ∙ ap Some (omega arith) ∙ sym (range_at 0 65536 b small)
+    slice_get-range_with_len 1 n (b - 1) (omega arith) ∙ ap Some (omega arith) ∙ sym (slice_get-range_with_len 0 65536 b small)
 
 left_greater : (a b : ℕ) → a ≤ greater a b
 left_greater a b =
@@ -38,17 +35,6 @@ right_greater a b =
     (λ (less : ltb a b ≡ true). let is : greater a b ≡ b = cond-true (ltb a b) b a less in omega arith)
     (λ (more : ltb a b ≡ false). let le : b ≤ a = ltb-false a b more in let is : greater a b ≡ a = cond-false (ltb a b) b a more in omega arith)
     (cases_Bool (ltb a b))
-
-own_limit_up : (code : List Instr) (p : ℕ) (j : Instr) → slice_get code p ≡ Some j → own_limit j ≤ greatest_limit code
-unfolding greatest_limit
-own_limit_up [] p j at = cc
-own_limit_up (x ∷ code) zero j at =
-    let same : x ≡ j = cc in
-    subst (λ (i : Instr). own_limit i ≤ greatest_limit (x ∷ code)) same (left_greater (own_limit x) (greatest_limit code))
-own_limit_up (x ∷ code) (suc p) j at =
-    let ih = own_limit_up code p j at in
-    let up = right_greater (own_limit x) (greatest_limit code) in
-    omega arith
 
 fits_there : (code : List Instr) (p : ℕ) (j : Instr) → AllByRecursion (InstrFits versions.One) code → slice_get code p ≡ Some j → InstrFits versions.One j
 fits_there [] p j all at = cc
@@ -96,7 +82,7 @@ upgrade_twins code all = record {
       let h = fits_there code p j all at in
       ⊎_elim
       (λ (is : is_counting j.op ≡ true).
-      let up = own_limit_up code p j at in
+      let up = at_most_greatest code p j at in
       let own = own_is j is in
       let some = some_limit j is h in
       let small : j.b < 2 ^ 16 = h.b_size in

@@ -1,7 +1,8 @@
 -- What is written part by part, where a part fails.
-use Rattle.std.proofs.Common.{◌≡◌, ℕ, suc, ◌+◌, ◌<◌, ◌≤◌, List, [], ◌∷◌, ◌++◌, length, get_or, take, drop, Option, None, Some, Result, ap, sym, ◌∙◌, subst, append_assoc, append-nil, arith, add-one, take-append-drop, take-suc, drop-cons, ⊎_elim}
+use Rattle.std.proofs.Common.{◌≡◌, ℕ, suc, ◌+◌, ◌<◌, ◌≤◌, List, [], ◌∷◌, ◌++◌, length, get_or, take, drop, None, Some, Result, ap, sym, ◌∙◌, subst, append_assoc, append-nil, arith, add-one, take-append-drop, take-suc, drop-cons, ⊎_elim}
 use Rattle.std.specs.Prelude.{slice_get}
 use Rattle.std.specs.List.{flat_map}
+use Rattle.cse_lemmas.proofs.Options.{none_and_some}
 use Rattle.cse_value.specs.Device.{Appends}
 use Rattle.std.proofs.lemmas.Grind.{flat_map-append}
 use Rattle.std.proofs.lemmas.List.Concat.{flat_map-cons}
@@ -49,11 +50,8 @@ pub whole_at : {X : Type 0} (f : X → List ℕ) (xs : List X) (i : ℕ) (x : X)
 whole_at f xs i x a b c e before one =
     rw (add-one) (subst (λ l. Appends a c l) (sym (one_more f xs i x e)) (Appends-trans a b c (flat_map f (take i xs)) (f x) before one))
 
-no_entry : {X : Type 0} (o : Option X) (x : X) → o ≡ None → o ≡ Some x → ⊥
-no_entry o x h k = cc
-
 at_end : {X : Type 0} (xs : List X) (i : ℕ) → slice_get xs i ≡ None → i ≤ length xs → i ≡ length xs
-at_end xs i e h = ⊎_elim (λ found. absurd (no_entry _ _ e found.2)) (λ past. omega (arith, h, past.0)) (slice_get_cases xs i).1
+at_end xs i e h = ⊎_elim (λ found. absurd (none_and_some _ _ e found.2)) (λ past. omega (arith, h, past.0)) (slice_get_cases xs i).1
 
 -- no entry is left
 pub whole_end : {X : Type 0} (f : X → List ℕ) (xs : List X) (i : ℕ) (a b : List ℕ) → slice_get xs i ≡ None → i ≤ length xs → Appends a b (flat_map f (take i xs)) → Appends a b (flat_map f xs)

@@ -1,9 +1,9 @@
 -- The table of events keeps the number of each handler.
-use Rattle.std.proofs.Common.{◌≡◌, ℕ, zero, suc, ◌+◌, Bool, true, false, ◌&&◌, cond, List, [], ◌∷◌, map, Option, Some, slice_get, nat_eq, refl, ap, subst, ◌∙◌, arith}
+use Rattle.std.proofs.Common.{◌≡◌, ℕ, zero, suc, ◌+◌, Bool, true, false, cond, List, [], ◌∷◌, map, Option, Some, slice_get, nat_eq, refl, ap, subst, ◌∙◌, arith}
 use Rattle.std.specs.Prelude.{if◌then◌else◌, unwrap_or}
 use Rattle.std.specs.List.{AllByRecursion, IsDistinct}
 use Rattle.std.specs.Map.{lookup}
-use Rattle.std.proofs.lemmas.Bool.{eq-eqb, eqb-true}
+use Rattle.std.proofs.lemmas.Bool.{eq-eqb, eqb-true, and_parts}
 use Rattle.indexmap.specs.IndexMap.{insert_entry}
 use Rattle.cse_compile_sections.specs.Outline.{Handler}
 use Rattle.cse_compile_sections.specs.Events.{Table, is_key, with_event, table_from}
@@ -14,19 +14,11 @@ use Rattle.cse_compile.specs.Numbers.{key_of, HandlersKeepNumbers}
 key_self : (k : ℕ × ℕ) → is_key k k ≡ true
 key_self k = rw (eq-eqb k.0 k.0 refl) (eq-eqb k.1 k.1 refl)
 
-left_true : (a b : Bool) → (a && b) ≡ true → a ≡ true
-left_true true b h = refl
-left_true false b h = h
-
-right_true : (a b : Bool) → (a && b) ≡ true → b ≡ true
-right_true true b h = h
-right_true false b h = cc
-
 -- a key that is another one's is compared as that
 pub key_other : (k x y : ℕ × ℕ) → is_key x y ≡ true → is_key k y ≡ is_key k x
 key_other k x y h =
-    let a : x.0 ≡ y.0 = eqb-true x.0 y.0 (left_true (nat_eq x.0 y.0) (nat_eq x.1 y.1) h) in
-    let b : x.1 ≡ y.1 = eqb-true x.1 y.1 (right_true (nat_eq x.0 y.0) (nat_eq x.1 y.1) h) in
+    let a : x.0 ≡ y.0 = eqb-true x.0 y.0 (and_parts (nat_eq x.0 y.0) (nat_eq x.1 y.1) h).0 in
+    let b : x.1 ≡ y.1 = eqb-true x.1 y.1 (and_parts (nat_eq x.0 y.0) (nat_eq x.1 y.1) h).1 in
     rw (a, b) refl
 
 -- ---- tables

@@ -2,15 +2,17 @@
 use Rattle.std.proofs.Common.{◌≡◌, ◌≤◌, ℕ, Bool, true, false, List, refl, sym, subst, ◌∙◌, ⊎_elim, inl, inr, arith}
 use Rattle.std.specs.Prelude.{◌⊎◌, ◌||◌, nat_eq, IsTrue, Result, IfErr}
 use Rattle.std.proofs.lemmas.Result.{IfErr-weaker}
+use Rattle.std.proofs.lemmas.Bool.{false≢true}
 use Rattle.cse_value.specs.Shape.{ShapeLists}
 use Rattle.cse_image_parts.specs.Image.{Image}
 use Rattle.cse_image.specs.Spelling.{Fits}
 use Rattle.cse_dict.specs.Dictionary.{DictionaryText, shape_of}
 use Rattle.cse_code_typing.specs.declared.refusal.Refusal.{Refusal}
-use Rattle.cse_code_typing.specs.Typed.{IsTyped, IsOutOfMemory, BreaksRules, MayNotStand, HasNoStack, IsOfOtherShape, Refuses}
+use Rattle.cse_code_typing.specs.Typed.{IsTyped, IsOutOfMemory, BreaksRules, MayNotStand, HasNoStack, IsOfOtherShape}
 use Rattle.cse_code_typing.proofs.TypedLaws.{never_typed}
 use Rattle.cse_code_bounds.specs.Bounded.{IsBounded}
 use Rattle.cse_verify.specs.FirstFault.{IsUntypedRoutine, IsTooLongRoutine, AreUnfitEvents, IsTooLongCase, IsFirstFault}
+use Rattle.cse_verify.proofs.VerifiedLaws.{untyped_never}
 use Rattle.cse_logic_tree.specs.Typed.{Tree}
 use Rattle.cse_compile.specs.declared.error.CompileError.{CompileError}
 use Rattle.cse_compile.specs.Fault.{IsLimit, IsReason}
@@ -38,23 +40,15 @@ one_more false false c h = h
 limit_reason : (e : CompileError) → IsLimit e → IsReason e
 limit_reason e h = one_more (nat_eq e.number 64) (nat_eq e.number 67) (nat_eq e.number 90) h
 
-differ : IsTrue false → ⊥
-differ h = cc
-
 limit_never : (e : CompileError) → IsLimit e → e.number ≡ 67 → ⊥
-limit_never e h is = differ (subst (λ n. IsTrue (nat_eq n 64 || nat_eq n 90)) is h)
+limit_never e h is = false≢true (subst (λ n. IsTrue (nat_eq n 64 || nat_eq n 90)) is h)
 
 -- ---- the verifier's refusals
-
-untyped : (s : ShapeLists) (x : Image) (r : Refusal) → BreaksRules s x r ⊎ (MayNotStand s x r ⊎ HasNoStack s x r) → Refuses s x r
-untyped s x r why =
-    ⊎_elim (λ (b : BreaksRules s x r). inr (inl b))
-    (λ rest. ⊎_elim (λ (b : MayNotStand s x r). inr (inr (inl b))) (λ (b : HasNoStack s x r). inr (inr (inr (inl b)))) rest) why
 
 too_long : (s : ShapeLists) (x : Image) (r : Refusal) → IsFirstFault s x r → IsTyped s x → r.number ≡ 67
 too_long s x r why typed =
     ⊎_elim (λ (b : IsOfOtherShape s x r). absurd (never_typed s x r (inl b) typed))
-    (λ a. ⊎_elim (λ (b : IsUntypedRoutine s x r). absurd (never_typed s x r (untyped s x r b.reason) typed))
+    (λ a. ⊎_elim (λ (b : IsUntypedRoutine s x r). absurd (never_typed s x r (untyped_never s x r b.reason) typed))
     (λ c. ⊎_elim (λ (b : IsTooLongRoutine s x r). b.reason.number)
     (λ d. ⊎_elim (λ (b : AreUnfitEvents s x r). absurd (never_typed s x r (inr (inr (inr (inr b.reason)))) typed))
     (λ (b : IsTooLongCase s x r). b.number) d) c) a) why

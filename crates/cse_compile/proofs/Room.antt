@@ -9,7 +9,7 @@ use Rattle.std.specs.Str.{IsUtf8, is_utf8, chars, bytes_eq}
 use Rattle.std.proofs.lemmas.Bool.{leb-true, ltb-true, and_parts}
 use Rattle.std.proofs.lemmas.Bool.Decides.{Decides-eqb}
 use Rattle.std.proofs.lemmas.Cmp.{int_eq_equiv, nat_eq_equiv, nat_list_eq_equiv}
-use Rattle.std.proofs.lemmas.List.{length-append, length-map}
+use Rattle.std.proofs.lemmas.List.{length-append, length-map, drop_more}
 use Rattle.std.proofs.lemmas.List.Folds.{list_any-append}
 use Rattle.std.proofs.lemmas.Map.Keys.{IsDistinct-push}
 use Rattle.std.proofs.lemmas.Map.Made.{length-le_from_is_member}
@@ -105,14 +105,9 @@ never_lacks old p (Plain op a b c) parts fit held lacks = omega (arith, held, la
 
 -- ---- along a code
 
-drop_at : (ws : List rust.Wide) (k : ℕ) (d : rust.Wide) → k < length ws → drop k ws ≡ get_or ws k d ∷ drop (k + 1) ws
-drop_at [] k d lt = absurd (omega (arith, lt))
-drop_at (w ∷ ws) zero d lt = refl
-drop_at (w ∷ ws) (suc k) d lt = let e : suc k + 1 ≡ suc (k + 1) = omega arith in drop_at ws k d (omega (arith, lt)) ∙ ap (λ n. get_or ws k d ∷ drop n (w ∷ ws)) (sym e)
-
 held_here : (p : PoolLists) (ws : List rust.Wide) (k : ℕ) (w d : rust.Wide) → k < length ws → w ≡ get_or ws k d → AllByRecursion (IsHeld p) (map wide (drop k ws)) → AllByRecursion (IsHeld p) (wide w ∷ map wide (drop (k + 1) ws))
 held_here p ws k w d lt e h =
-    subst (λ (y : rust.Wide). AllByRecursion (IsHeld p) (wide y ∷ map wide (drop (k + 1) ws))) (sym e) (subst (λ (l : List rust.Wide). AllByRecursion (IsHeld p) (map wide l)) (drop_at ws k d lt) h)
+    subst (λ (y : rust.Wide). AllByRecursion (IsHeld p) (wide y ∷ map wide (drop (k + 1) ws))) (sym e) (subst (λ (l : List rust.Wide). AllByRecursion (IsHeld p) (map wide l)) (drop_more ws k d lt) h)
 
 -- what is known of the tables and of the code that is left
 pub record Stay (now p : PoolLists) (ws : List rust.Wide) (k : ℕ) : Type 0 where
@@ -134,11 +129,6 @@ small_at P [] k w d lt e h = absurd (omega (arith, lt))
 small_at P (x ∷ ws) zero w d lt e h = subst (λ (y : rustoutline.Outline). P (outline y)) (sym e) h.0
 small_at P (x ∷ ws) (suc k) w d lt e h = small_at P ws k w d (omega (arith, lt)) e h.1
 
-outline_at : (ws : List rustoutline.Outline) (k : ℕ) (d : rustoutline.Outline) → k < length ws → drop k ws ≡ get_or ws k d ∷ drop (k + 1) ws
-outline_at [] k d lt = absurd (omega (arith, lt))
-outline_at (w ∷ ws) zero d lt = refl
-outline_at (w ∷ ws) (suc k) d lt = let e : suc k + 1 ≡ suc (k + 1) = omega arith in outline_at ws k d (omega (arith, lt)) ∙ ap (λ n. get_or ws k d ∷ drop n (w ∷ ws)) (sym e)
-
 module _ (records : List RecordShape) (arrays : List (List ℕ)) where
   -- the code so far is not longer than all of it
   pub too_long : (ws : List rustoutline.Outline) (k : ℕ) (w d : rustoutline.Outline) (before here there : List Wide) → k < length ws → w ≡ get_or ws k d
@@ -151,7 +141,7 @@ module _ (records : List RecordShape) (arrays : List (List ℕ)) where
       let rest = all_code records arrays (map outline (drop (k + 1) ws)) in
       let here_is : here ++ (code_of records arrays (outline w) ++ rest) ≡ before ++ all_code records arrays (map outline ws) =
       ap (λ (y : rustoutline.Outline). here ++ (code_of records arrays (outline y) ++ rest)) e
-      ∙ sym (ap (λ (l : List rustoutline.Outline). here ++ all_code records arrays (map outline l)) (outline_at ws k d lt))
+      ∙ sym (ap (λ (l : List rustoutline.Outline). here ++ all_code records arrays (map outline l)) (drop_more ws k d lt))
       ∙ all
       in
       let a = ap (λ (l : List Wide). length l) here_is in

@@ -1,10 +1,11 @@
 -- Tables that grow at their end: what stood for an instruction stands for it still.
-use Rattle.std.proofs.Common.{◌≡◌, ℕ, zero, suc, ◌+◌, ◌<◌, Bool, true, false, if◌then◌else◌, List, [], ◌∷◌, ◌++◌, map, length, take, get_or, Some, slice_get, nat_eq, refl, sym, ap, subst, ◌∙◌, ℤ}
+use Rattle.std.proofs.Common.{◌≡◌, ℕ, ◌+◌, ◌<◌, Bool, true, false, if◌then◌else◌, List, [], ◌∷◌, ◌++◌, map, length, take, get_or, Some, slice_get, nat_eq, refl, sym, ap, subst, ◌∙◌, ℤ}
 use Rattle.std.specs.List.{list_any}
 use Rattle.std.specs.Ordering.{int_eq}
 use Rattle.std.specs.Str.{bytes_eq}
 use Rattle.std.proofs.lemmas.List.{append-nil, take_more, map_push}
 use Rattle.indexmap.specs.IndexSet.{insert_key}
+use Rattle.cse_lemmas.proofs.Lists.{slice_get_append_left}
 use Rattle.cse_image_parts.specs.declared.instruction.Instr.{Instr}
 use Rattle.cse_compile_pools.specs.Pools.{PoolLists, with_constant, with_limit, with_text}
 use Rattle.cse_compile_code.specs.Wide.{Wide, Constant, Chars, Turns, Plain, wide}
@@ -37,13 +38,8 @@ more_text p q t e = subst (IsMore p) (sym e) (record { constants = same p.consta
 
 -- ---- what stands in a table stands in a longer one
 
-still_there : {A : Type 0} (xs more : List A) (i : ℕ) (x : A) → slice_get xs i ≡ Some x → slice_get (xs ++ more) i ≡ Some x
-still_there [] more i x h = cc
-still_there (y ∷ ys) more zero x h = h
-still_there (y ∷ ys) more (suc i) x h = still_there ys more i x h
-
 begun : {A : Type 0} (xs ys : List A) (i : ℕ) (x : A) → Begins xs ys → slice_get xs i ≡ Some x → slice_get ys i ≡ Some x
-begun xs ys i x m h = subst (λ zs. slice_get zs i ≡ Some x) (sym m.1) (still_there xs m.0 i x h)
+begun xs ys i x m h = subst (λ zs. slice_get zs i ≡ Some x) (sym m.1) (slice_get_append_left xs m.0 i x h)
 
 stands_still : (p q : PoolLists) (i : Instr) (w : Wide) → IsMore p q → Stands p i w → Stands q i w
 stands_still p q i (Constant z) m h = (h.0, begun p.constants q.constants i.c z m.constants h.1)

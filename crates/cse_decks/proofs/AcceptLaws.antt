@@ -7,6 +7,7 @@ use Rattle.std.specs.Str.{bytes_eq}
 use Rattle.std.proofs.lemmas.Bool.{cond-true, cond-false, and_from}
 use Rattle.std.proofs.lemmas.List.{set-get_or}
 use Rattle.std.proofs.lemmas.Slice.Eq.{bytes_eq-Decides}
+use Rattle.std.proofs.lemmas.Option.{slice_get_within}
 use Rattle.cse_value.specs.declared.number.Num.{Num}
 use Rattle.cse_image_parts.specs.Image.{Image, ArrayLists}
 use Rattle.cse_image_codec.specs.Reader.{AllAfter}
@@ -20,7 +21,7 @@ use Rattle.cse_decks.specs.Store.{Kept, cell_count, first_kept}
 use Rattle.cse_decks.specs.Deck.{heading, ending, array_line, block, cell_line}
 use Rattle.cse_decks.specs.DeckText.{HotDeck, IsDeckOfEntry, DeckFits, lines_of, with_decks, IsDeckText}
 use Rattle.cse_decks.specs.Loading.{Reading, due_at, is_open, opening, marked, by_entry, by_place, is_array_line, array_read, line_read, go_on, read_text, unread, with_arrays, loaded}
-use Rattle.cse_decks.proofs.ArrayLineLaws.{array_line_is, array_line_one, named_is, fits_at, there}
+use Rattle.cse_decks.proofs.ArrayLineLaws.{array_line_is, array_line_one, named_is, fits_at}
 use Rattle.cse_decks.proofs.FillLaws.{cells_then}
 use Rattle.cse_decks.proofs.LineLaws.{read_line}
 use Rattle.cse_decks.proofs.LoadLaws.{counts}
@@ -139,7 +140,7 @@ all_open : (arrays : List ArrayLists) (ds : List HotDeck) → AllByRecursion (De
 all_open arrays [] h = tt
 all_open arrays (d ∷ ds) h =
     let entry = is_entry (slice_get arrays d.array) d.cells h.0 in
-    (open_first (length arrays) d.array (there arrays d.array entry.0 entry.1), all_open arrays ds h.1)
+    (open_first (length arrays) d.array (slice_get_within arrays d.array entry.0 entry.1), all_open arrays ds h.1)
 
 abbrev kept_with : List GlobalValue → List (List Num) → Kept
 kept_with globals arrays = record { globals = globals; arrays = arrays }

@@ -12,9 +12,12 @@ use Rattle.std.proofs.lemmas.List.{take_at, drop_at}
 use Rattle.std.proofs.lemmas.List.Folds.{list_any-append}
 use Rattle.std.proofs.lemmas.Slice.Eq.{bytes_eq-Decides}
 use Rattle.std.proofs.lemmas.Fmt.{digits_decimal, decimal_nonempty, first_decimal}
+use Rattle.std.proofs.lemmas.Option.{slice_get_within}
+use Rattle.cse_lemmas.proofs.Lists.{AllByRecursion-append}
 use Rattle.cse_value.specs.declared.number.Num.{Num}
 use Rattle.cse_value.specs.declared.number.Num.TheVariants.{Whole, NotAppl, Missing, Undef}
 use Rattle.cse_value.specs.Field.{shown, fits_num}
+use Rattle.cse_value.proofs.FieldLaws.{numerals}
 use Rattle.cse_image_parts.specs.Image.{ArrayLists}
 use Rattle.cse_image_parts.specs.Texts.{is_name, is_name_char, is_upper, is_new}
 use Rattle.cse_image_parts.specs.Fields.{is_dimension_count}
@@ -22,8 +25,7 @@ use Rattle.cse_image_codec.specs.Reader.{AllAfter}
 use Rattle.cse_image.specs.Spelling.{ArrayFits, DimensionFits}
 use Rattle.cse_decks.specs.Deck.{size_word, array_line}
 use Rattle.cse_decks.specs.Loading.{blank_place, word, after_word, is_plain, after_size, ends_or, sized, are_sizes, is_array_line, named}
-use Rattle.cse_decks.proofs.CellLaws.{numerals}
-use Rattle.cse_decks.proofs.LineLaws.{OneLine, all_append, all_from}
+use Rattle.cse_decks.proofs.LineLaws.{OneLine, all_from}
 
 -- ---- words
 
@@ -159,7 +161,7 @@ sizes_are (d ∷ e ∷ f ∷ g ∷ ds) count h = absurd (too_many (length ds) co
 
 sizes_one_line : (ds : List ℕ) → AllByRecursion DimensionFits ds → OneLine (flat_map size_word ds)
 sizes_one_line [] h = tt
-sizes_one_line (d ∷ ds) h = all_append (λ c. eqb c 10 ≡ false) (size_word d) (flat_map size_word ds) (refl, decimal_one_line d (size_fits d h.0).1) (sizes_one_line ds h.1)
+sizes_one_line (d ∷ ds) h = AllByRecursion-append (λ c. eqb c 10 ≡ false) (size_word d) (flat_map size_word ds) (refl, decimal_one_line d (size_fits d h.0).1) (sizes_one_line ds h.1)
 
 -- ---- the line
 
@@ -191,8 +193,8 @@ array_line_is before a h =
 pub array_line_one : (before : List ArrayLists) (a : ArrayLists) → ArrayFits before a → OneLine (array_line a)
 unfolding array_line
 array_line_one before a h =
-    all_append (λ c. eqb c 10 ≡ false) (codes "ARRAY " ++ a.name) (flat_map size_word a.dimensions)
-    (all_append (λ c. eqb c 10 ≡ false) (codes "ARRAY ") a.name (refl, (refl, (refl, (refl, (refl, (refl, tt)))))) (name_is a.name h.name).one_line)
+    AllByRecursion-append (λ c. eqb c 10 ≡ false) (codes "ARRAY " ++ a.name) (flat_map size_word a.dimensions)
+    (AllByRecursion-append (λ c. eqb c 10 ≡ false) (codes "ARRAY ") a.name (refl, (refl, (refl, (refl, (refl, (refl, tt)))))) (name_is a.name h.name).one_line)
     (sizes_one_line a.dimensions h.dimensions)
 
 -- ---- the array that it names
@@ -235,11 +237,6 @@ name_place before (x ∷ xs) (suc i) a h e =
     let more = name_place (before ++ x ∷ []) xs i a h.1 e in
     cond-true (not (has_name a.name x)) (1 + position_or_len (has_name a.name) xs) 0 (ap not other) ∙ (ap (λ n. 1 + n) more ∙ omega arith)
 
-pub there : {A : Type 0} (xs : List A) (i : ℕ) (x : A) → slice_get xs i ≡ Some x → i < length xs
-there [] i x e = cc
-there (y ∷ ys) zero x e = omega arith
-there (y ∷ ys) (suc i) x e = omega (arith, there ys i x e)
-
 -- the line names the array
 pub named_is : (arrays : List ArrayLists) (i : ℕ) (a : ArrayLists) → AllAfter ArrayFits [] arrays → slice_get arrays i ≡ Some a → named arrays (array_line a) ≡ Some i
 named_is arrays i a h e =
@@ -248,7 +245,7 @@ named_is arrays i a h e =
     let place = name_place [] arrays i a h e in
     ap (λ (w : List ℕ). position (λ (x : ArrayLists). bytes_eq x.name w) arrays) own
     ∙ (ap (λ n. cond (nat_lt n (length arrays)) (Some n) None) place
-    ∙ ap (λ b. cond b (Some i) None) (lt-ltb i (length arrays) (there arrays i a e)))
+    ∙ ap (λ b. cond b (Some i) None) (lt-ltb i (length arrays) (slice_get_within arrays i a e)))
 
 -- ---- the line of a cell
 

@@ -1,5 +1,5 @@
 -- Laws of the lines of cells.
-use Rattle.std.proofs.Common.{◌≡◌, ℕ, suc, ◌+◌, ◌-◌, ◌*◌, ◌^◌, ◌<◌, ◌≤◌, Bool, true, false, cond, List, [], ◌∷◌, ◌++◌, length, get_or, fold, Option, Some, None, pos, negsuc, refl, ap, sym, ◌∙◌, arith, rules}
+use Rattle.std.proofs.Common.{◌≡◌, ℕ, suc, ◌-◌, ◌^◌, ◌<◌, ◌≤◌, Bool, true, false, cond, List, [], ◌∷◌, ◌++◌, length, get_or, Option, Some, None, pos, negsuc, refl, ap, sym, ◌∙◌, arith, rules}
 use Rattle.std.specs.Prelude.{ℤ, codes, nat_lt}
 use Rattle.std.specs.List.{list_all}
 use Rattle.std.specs.Str.{bytes_eq}
@@ -7,14 +7,13 @@ use Rattle.std.specs.Char.{is_ascii_digit}
 use Rattle.std.specs.Fmt.{decimal, signed_decimal}
 use Rattle.std.proofs.lemmas.Bool.{and_parts, cond-true, ltb-true, le-leb, le-ltb}
 use Rattle.std.proofs.lemmas.Slice.Eq.{bytes_eq-Decides}
-use Rattle.std.proofs.lemmas.Str.Parse.{IsNumeralModel, numerals_by_fold}
 use Rattle.std.proofs.lemmas.Fmt.{digits_decimal, decimal_nonempty, length-decimal-le}
 use Rattle.cse_value.specs.Number.{fits_i64}
 use Rattle.cse_value.specs.Texts.{blanks}
 use Rattle.cse_value.specs.declared.number.Num.{Num}
 use Rattle.cse_value.specs.declared.number.Num.TheVariants.{Whole, NotAppl, Missing, Undef}
-use Rattle.cse_value.specs.Field.{digits_value, field, fits_num, in_i64, numeral, put, put_whole, kept, stars, filled, has_room, trimmed, value_of, value_of_trimmed, shown}
-use Rattle.cse_value.proofs.FieldLaws.{field-put}
+use Rattle.cse_value.specs.Field.{field, fits_num, in_i64, numeral, put, put_whole, kept, stars, filled, has_room, trimmed, value_of, value_of_trimmed, shown}
+use Rattle.cse_value.proofs.FieldLaws.{field-put, numerals}
 use Rattle.cse_decks.specs.Loading.{cell_of, if_shown}
 use Rattle.cse_decks.specs.CellLine.{ReadsCells, ReadsNothingElse}
 
@@ -44,10 +43,6 @@ chain_last false false true d last h i j k = cc
 chain_last false false false true last h i j k = cc
 
 -- ---- a number
-
--- digits as the library counts them
-pub numerals : IsNumeralModel (λ ds. list_all is_ascii_digit ds ≡ true) digits_value
-numerals = numerals_by_fold (λ ds. list_all is_ascii_digit ds ≡ true) (search rules) (λ n ds. fold (λ n c. 10 * n + (c - 48)) n ds) (search rules)
 
 no_letter : (c : ℕ) → is_ascii_digit c ≡ true → c < 60
 no_letter c h = search (rules, arith)

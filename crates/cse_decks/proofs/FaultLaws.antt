@@ -1,10 +1,11 @@
 -- The line of a fault is the first faulty one: what was read before it can be made a deck text, and nothing
 -- that follows it can.
-use Rattle.std.proofs.Common.{◌≡◌, ℕ, zero, suc, ◌+◌, ◌-◌, ◌<◌, Bool, true, false, cond, eqb, List, [], ◌∷◌, ◌++◌, length, take, drop, set, replicate, Result, Ok, Err, pos, refl, ap, sym, ◌∙◌, subst, append_assoc, inl, inr, ⊎_elim, arith}
+use Rattle.std.proofs.Common.{◌≡◌, ℕ, ◌+◌, ◌-◌, ◌<◌, Bool, true, false, cond, eqb, List, [], ◌∷◌, ◌++◌, length, take, drop, set, replicate, Result, Ok, Err, pos, refl, ap, sym, ◌∙◌, subst, append_assoc, inl, inr, ⊎_elim, arith}
 use Rattle.std.specs.Prelude.{◌⊎◌}
 use Rattle.std.specs.List.{AllByRecursion, flat_map, slice_index_or}
 use Rattle.std.proofs.lemmas.List.{take-append-drop, length-take-le, length-drop, length-replicate, set-get_or}
 use Rattle.std.proofs.lemmas.List.Concat.{flat_map-append}
+use Rattle.cse_lemmas.proofs.Lists.{within_from_row, AllByRecursion-front, AllByRecursion-back}
 use Rattle.cse_value.specs.declared.number.Num.{Num}
 use Rattle.cse_value.specs.declared.number.Num.TheVariants.{Whole}
 use Rattle.cse_image_parts.specs.Image.{Image, ArrayLists}
@@ -13,7 +14,7 @@ use Rattle.cse_output.specs.Gathering.{line}
 use Rattle.cse_decks.specs.declared.due.Due.{Due}
 use Rattle.cse_decks.specs.declared.due.Due.TheVariants.{Heading, Opening, Cell, Nothing}
 use Rattle.cse_decks.specs.declared.error.DeckError.{DeckError}
-use Rattle.cse_decks.specs.Store.{Kept, CellsFit, first_kept}
+use Rattle.cse_decks.specs.Store.{Kept, first_kept}
 use Rattle.cse_decks.specs.Deck.{heading, ending, cell_line}
 use Rattle.cse_decks.specs.DeckText.{IsDeckText}
 use Rattle.cse_decks.specs.FirstFault.{IsLine, Begins, HasFaultyLine, LacksLine, FirstFault, TellsFirstFault}
@@ -23,6 +24,7 @@ use Rattle.cse_decks.proofs.AcceptLaws.{at_opening, end_is_read, deck_text_is_re
 use Rattle.cse_decks.proofs.FillLaws.{due_inside, filling, cells_then}
 use Rattle.cse_decks.proofs.LineLaws.{read_line, uncut-cut}
 use Rattle.cse_decks.proofs.ToldLaws.{Good, stays_good, first_good, read_is_deck_text}
+use Rattle.cse_decks.proofs.StoreLaws.{zeros_fit}
 
 abbrev Answer : Type 0
 Answer = Result (List (List Num)) DeckError
@@ -37,15 +39,6 @@ record Completes (arrays : List ArrayLists) (r : Reading) : Type 0 where
 
 abbrev reading : List (List Num) → List Bool → Due → Reading
 reading base came due = record { due = due; arrays = base; came = came }
-
-zeros_fit : (n : ℕ) → CellsFit (replicate n (Whole (pos 0)))
-zeros_fit zero = tt
-zeros_fit (suc n) = (refl, zeros_fit n)
-
-cell_there : (base : List (List Num)) (i place : ℕ) → place < length (slice_index_or base i []) → i < length base
-cell_there [] i place h = absurd (omega arith)
-cell_there (c ∷ cs) zero place h = omega arith
-cell_there (c ∷ cs) (suc i) place h = omega (arith, cell_there cs i place h)
 
 heading_read : (arrays : List ArrayLists) (base : List (List Num)) (came : List Bool) → line_read arrays (reading base came Heading) heading ≡ Ok (at_opening base came)
 unfolding line_read
@@ -76,7 +69,7 @@ completes_cell arrays base came i place h =
       more = flat_map cell_line zeros ++ line ending;
       after = after;
       reads = λ n. ap (λ (r : Reading). read_text arrays r n (flat_map cell_line zeros ++ line ending)) same
-          ∙ cells_then arrays base came i done rest zeros n (line ending) answer (cell_there base i place h) long (zeros_fit (length cells - place)) (λ m. end_is_read arrays after came m);
+          ∙ cells_then arrays base came i done rest zeros n (line ending) answer (within_from_row base i place h) long (zeros_fit (length cells - place)) (λ m. end_is_read arrays after came m);
     }
 
 completes : (arrays : List ArrayLists) (base : List (List Num)) (came : List Bool) (due : Due) → CellInside base due → Completes arrays (reading base came due)
@@ -187,14 +180,6 @@ are_lines : (text : List ℕ) → AreLines (cut text).lines (cut text).rest
 are_lines [] = record { each = tt; last = tt }
 are_lines (c ∷ cs) = cut_by c cs (eqb c 10) refl (are_lines cs)
 
-all_front : {A : Type 0} (P : A → Type 0) (xs ys : List A) → AllByRecursion P (xs ++ ys) → AllByRecursion P xs
-all_front P [] ys h = tt
-all_front P (x ∷ xs) ys h = (h.0, all_front P xs ys h.1)
-
-all_back : {A : Type 0} (P : A → Type 0) (xs ys : List A) → AllByRecursion P (xs ++ ys) → AllByRecursion P ys
-all_back P [] ys h = h
-all_back P (x ∷ xs) ys h = all_back P xs ys h.1
-
 -- ---- the first fault
 
 abbrev IsNoYes : Answer → Type 0
@@ -246,7 +231,7 @@ first_fault_by x text e fits h =
     let all = are_lines text in
     let t = stops arrays (unread x) 1 lines rest e h in
     let each = subst (λ (m : List (List ℕ)). AllByRecursion IsLine m) t.lines_are all.each in
-    let are = all_front IsLine t.before t.others each in
+    let are = AllByRecursion-front IsLine t.before t.others each in
     let front = flat_map line t.before in
     let tail = flat_map line t.others ++ rest in
     let text_is : text ≡ front ++ tail =
@@ -262,7 +247,7 @@ first_fault_by x text e fits h =
     }) in
     let has : IsStuck arrays t.last t.others → HasFaultyLine x front tail ⊎ LacksLine x front tail =
     λ stuck.
-    let own = subst (λ (m : List (List ℕ)). AllByRecursion IsLine m) stuck.is (all_back IsLine t.before t.others each) in
+    let own = subst (λ (m : List (List ℕ)). AllByRecursion IsLine m) stuck.is (AllByRecursion-back IsLine t.before t.others each) in
     inl (record {
       faulty = stuck.faulty;
       more = flat_map line stuck.more ++ rest;

@@ -8,10 +8,6 @@ use Rattle.cse_decks.specs.Loading.{Cut, joined, cut, Reading, line_read, go_on,
 
 -- ---- all of a list
 
-pub all_append : {A : Type 0} (P : A → Type 0) (xs ys : List A) → AllByRecursion P xs → AllByRecursion P ys → AllByRecursion P (xs ++ ys)
-all_append P [] ys h k = k
-all_append P (x ∷ xs) ys h k = (h.0, all_append P xs ys h.1 k)
-
 pub all_from : {A : Type 0} (P : A → Type 0) (test : A → Bool) → ((x : A) → test x ≡ true → P x) → (xs : List A) → list_all test xs ≡ true → AllByRecursion P xs
 all_from P test h [] k = tt
 all_from P test h (x ∷ xs) k = let parts = and_parts (test x) (list_all test xs) k in (h x parts.0, all_from P test h xs parts.1)

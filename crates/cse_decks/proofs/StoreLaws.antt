@@ -12,6 +12,7 @@ use Rattle.cse_value.specs.declared.number.Num.{Num}
 use Rattle.cse_value.specs.declared.number.Num.TheVariants.{Whole}
 use Rattle.cse_value.specs.Texts.{blanks}
 use Rattle.cse_value.specs.Field.{put_text}
+use Rattle.cse_value.proofs.TextLaws.{length-blanks}
 use Rattle.cse_image_parts.specs.declared.entries.GlobalKind.{GlobalKind}
 use Rattle.cse_image_parts.specs.declared.entries.GlobalKind.TheVariants as kinds
 use Rattle.cse_image_parts.specs.declared.entries.GlobalVariable.{GlobalVariable}
@@ -33,9 +34,6 @@ arrays_small before [] h = tt
 arrays_small before (a ∷ arrays) h = (at_most_three (length a.dimensions.items) h.0.count, arrays_small (before ++ array_lists a ∷ []) arrays h.1)
 
 -- ---- the first store
-
-length-blanks : (n : ℕ) → length (blanks n) ≡ n
-length-blanks n = length-replicate {A = ℕ} n 32
 
 zero_length : (n : ℕ) → eqb n 0 ≡ true → 0 ≡ n
 zero_length n h = grind (arith, nat_tests)
@@ -132,7 +130,7 @@ declared_fit : (cells : List ℤ) → AllByRecursion (FitsSigned w64) cells → 
 declared_fit [] h = tt
 declared_fit (z ∷ zs) h = (value_fits z h.0, declared_fit zs h.1)
 
-zeros_fit : (n : ℕ) → CellsFit (replicate n (Whole (pos 0)))
+pub zeros_fit : (n : ℕ) → CellsFit (replicate n (Whole (pos 0)))
 zeros_fit zero = tt
 zeros_fit (suc n) = (refl, zeros_fit n)
 

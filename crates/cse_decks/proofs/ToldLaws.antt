@@ -1,5 +1,5 @@
 -- Each text that is read is a deck text of the program, and says what was read.
-use Rattle.std.proofs.Common.{◌≡◌, ℕ, zero, suc, ◌+◌, ◌<◌, ◌≤◌, Bool, true, false, cond, eqb, List, [], ◌∷◌, ◌++◌, length, take, set, Option, Some, None, Result, Ok, Err, refl, ap, sym, ◌∙◌, subst, append_assoc, append-nil, arith}
+use Rattle.std.proofs.Common.{◌≡◌, ℕ, ◌+◌, ◌<◌, ◌≤◌, Bool, true, false, cond, eqb, List, [], ◌∷◌, ◌++◌, length, take, set, Option, Some, None, Result, Ok, Err, refl, ap, sym, ◌∙◌, subst, append_assoc, append-nil, arith}
 use Rattle.std.specs.Prelude.{slice_get, nat_lt, ◌&&◌, IfOk}
 use Rattle.std.specs.List.{AllByRecursion, flat_map, slice_index_or}
 use Rattle.std.specs.Option.{option_map_or}
@@ -7,6 +7,7 @@ use Rattle.std.specs.Str.{bytes_eq}
 use Rattle.std.proofs.lemmas.Bool.{and_parts, ltb-true, ltb-false, eqb-true}
 use Rattle.std.proofs.lemmas.List.{set-set, set-get_or, get_or-set_same, take_more_set, length-set, nil_from_length, take_all}
 use Rattle.std.proofs.lemmas.Slice.Eq.{bytes_eq-Decides}
+use Rattle.cse_lemmas.proofs.Lists.{within_from_row}
 use Rattle.cse_value.specs.declared.number.Num.{Num}
 use Rattle.cse_value.specs.Field.{shown, fits_num}
 use Rattle.cse_image_parts.specs.Image.{Image, ArrayLists}
@@ -97,11 +98,6 @@ inside_due base i place count false e same = tt
 
 -- ---- the line of a cell
 
-cell_inside : (base : List (List Num)) (i place : ℕ) → place < length (slice_index_or base i []) → i < length base
-cell_inside [] i place h = absurd (omega arith)
-cell_inside (c ∷ cs) zero place h = omega arith
-cell_inside (c ∷ cs) (suc i) place h = omega (arith, cell_inside cs i place h)
-
 -- the cell is put, and the rest after it
 filled_more : (arrays : List ArrayLists) (base : List (List Num)) (came : List Bool) (i place : ℕ) (l more : List ℕ) (v : Num) (after : List (List Num))
     → place < length (slice_index_or base i []) → l ≡ shown v → fits_num v ≡ true
@@ -110,7 +106,7 @@ filled_more : (arrays : List ArrayLists) (base : List (List Num)) (came : List B
 filled_more arrays base came i place l more v after h is fits f =
     let cells : List Num = slice_index_or base i [] in
     let put = set cells place v in
-    let own : slice_index_or (set base i put) i [] ≡ put = get_or-set_same base i put [] (cell_inside base i place h) in
+    let own : slice_index_or (set base i put) i [] ≡ put = get_or-set_same base i put [] (within_from_row base i place h) in
     let front : take (place + 1) put ≡ take place cells ++ v ∷ [] = take_more_set cells place v h in
     let joined : take (place + 1) (slice_index_or (set base i put) i []) ++ f.cells ≡ take place cells ++ (v ∷ f.cells) =
     ap (λ (m : List Num). take (place + 1) m ++ f.cells) own ∙ (ap (λ (m : List Num). m ++ f.cells) front ∙ append_assoc (take place cells) (v ∷ []) f.cells) in
@@ -135,7 +131,7 @@ cell_steps arrays base came i place l (Some v) s h is e more after says =
     let put = set cells place v in
     let new : Reading = record { due = due_at i (place + 1) (length cells); arrays = set base i put; came = came } in
     let same : s ≡ new = cc in
-    let own : length (slice_index_or (set base i put) i []) ≡ length cells = ap (λ (m : List Num). length m) (get_or-set_same base i put [] (cell_inside base i place h)) ∙ length-set cells place v in
+    let own : length (slice_index_or (set base i put) i []) ≡ length cells = ap (λ (m : List Num). length m) (get_or-set_same base i put [] (within_from_row base i place h)) ∙ length-set cells place v in
     let there : Says arrays new more after = subst (λ (r : Reading). Says arrays r more after) same says in
     let due : due_at i (place + 1) (length cells) ≡ due_at i (place + 1) (length (slice_index_or (set base i put) i [])) = ap (λ n. due_at i (place + 1) n) (sym own) in
     let here = subst (λ (d : Due). SaysBy arrays (set base i put) came more after d) due there in
@@ -150,7 +146,7 @@ cell_good base came i place (Some v) s h e =
     let put = set cells place v in
     let new : Reading = record { due = due_at i (place + 1) (length cells); arrays = set base i put; came = came } in
     let same : new ≡ s = cc in
-    let own : length (slice_index_or (set base i put) i []) ≡ length cells = ap (λ (m : List Num). length m) (get_or-set_same base i put [] (cell_inside base i place h)) ∙ length-set cells place v in
+    let own : length (slice_index_or (set base i put) i []) ≡ length cells = ap (λ (m : List Num). length m) (get_or-set_same base i put [] (within_from_row base i place h)) ∙ length-set cells place v in
     subst (λ (r : Reading). CellInside r.arrays r.due) same (inside_due (set base i put) i (place + 1) (length cells) (nat_lt (place + 1) (length cells)) refl (sym own))
 
 -- ---- the heading

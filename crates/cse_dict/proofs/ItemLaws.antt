@@ -1,10 +1,11 @@
 -- What an item of a section without a fault keeps to: its kind, its code, its record.
 use Rattle.std.proofs.Common.{◌≡◌, ◌⊎◌, ◌≤◌, ◌<◌, ◌+◌, ◌-◌, ◌∙◌, sym, ap, subst, inl, inr, ⊎_elim, ℕ, zero, suc, Bool, true, false, List, [], ◌∷◌, ◌++◌, length, slice_get, refl, arith, Option, None, Some, ℤ, pos, neg_ℤ, Contains, append_assoc, length-append, true≢false}
-use Rattle.std.specs.Prelude.{◌&&◌, ◌==◌, ◌^◌, nat_lt, nat_le, not, if◌then◌else◌}
+use Rattle.std.specs.Prelude.{◌&&◌, ◌==◌, ◌^◌, nat_lt, nat_le, if◌then◌else◌}
 use Rattle.std.specs.List.{list_any}
-use Rattle.std.proofs.lemmas.Bool.{and_cases, and_parts, false_from_ne_true, leb-true, lt-ltb, ltb-false, or_parts}
+use Rattle.std.proofs.lemmas.Bool.{and_cases, and_parts, false_from_ne_true, leb-true, lt-ltb, ltb-false, or_parts, not-false}
 use Rattle.std.proofs.lemmas.List.Folds.{list_any_at}
 use Rattle.std.proofs.lemmas.Option.{cond_some, same_Some, slice_get_past}
+use Rattle.cse_lemmas.proofs.Lists.{slice_get_at}
 use Rattle.cse_value.specs.Number.{fits_i64}
 use Rattle.cse_value.specs.declared.shape.ItemKind.{ItemKind}
 use Rattle.cse_value.specs.declared.shape.ItemKind.TheVariants.{Opaque, Number, Text}
@@ -107,14 +108,9 @@ whole_fits (b ∷ bs) z e = by (b == 45) e
     by true e = negated_by bs z e
     by false e = unsigned_by (b ∷ bs) z e
 
--- a code that is kept fits its item
-fits_by : (v : Bool) → not v ≡ false → v ≡ true
-fits_by true h = refl
-fits_by false h = cc
-
 good_code : (len : ℕ) (o : Option ℤ) (z : ℤ) → o ≡ Some z → is_bad_code len o ≡ false → fits_columns len z ≡ true
 good_code len None z e h = cc
-good_code len (Some y) z e h = subst (λ x. fits_columns len x ≡ true) (same_Some y z e) (fits_by (fits_columns len y) h)
+good_code len (Some y) z e h = subst (λ x. fits_columns len x ≡ true) (same_Some y z e) (not-false (fits_columns len y) h)
 
 pub code_by : (kind : ItemKind) (len : ℕ) (entry : Option EntryText) (z : ℤ)
     → ((e : EntryText) → entry ≡ Some e → (is_number kind && is_bad_code len (whole_of e.value)) ≡ false) → code_in kind entry ≡ Some z
@@ -129,10 +125,6 @@ abbrev pub LastOf : Owner → List RecordText → Type 0
 LastOf Nobody before = Unit {0}
 LastOf Ids before = Unit {0}
 LastOf (OfRecord room) before = (front : List RecordText) × (r : RecordText) × (before ≡ front ++ r ∷ []) × (room ≡ Some r.shape.record_len)
-
-pub get_behind : {X : Type 0} (front : List X) (x : X) (more : List X) → slice_get (front ++ x ∷ more) (length front) ≡ Some x
-get_behind [] x more = refl
-get_behind (y ∷ front) x more = get_behind front x more
 
 -- what an item's owner says of it
 pub record IsSoundOwner (o : Owner) (records : ℕ) (whole : List RecordText) (c : Columns) : Type 0 where
@@ -158,7 +150,7 @@ module _ (before more whole : List RecordText) (c : Columns) (start : 1 ≤ c.st
       let long : length whole ≡ length front + length (r ∷ more) = ap length parted ∙ length-append front (r ∷ more) in
       let counted : length before ≡ length front + 1 = ap length last ∙ length-append front (r ∷ []) in
       let place : records - 1 ≡ length front = omega (arith, count, counted) in
-      let found : slice_get whole (records - 1) ≡ Some r = ap (slice_get whole) place ∙ ap (λ w. slice_get w (length front)) parted ∙ get_behind front r more in record {
+      let found : slice_get whole (records - 1) ≡ Some r = ap (slice_get whole) place ∙ ap (λ w. slice_get w (length front)) parted ∙ slice_get_at front r more in record {
         there = inr (omega (arith, place, long));
         within = λ s e. ends_within c s.shape.record_len room (len ∙ ap (λ x. Some x.shape.record_len) (same_Some r s (sym found ∙ e))) start far;
         in_record = λ no. refl;

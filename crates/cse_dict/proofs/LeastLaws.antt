@@ -1,7 +1,8 @@
 -- The least of a list of faults.
 use Rattle.std.proofs.Common.{◌≡◌, ◌<◌, ℕ, suc, zero, Bool, true, false, List, [], ◌∷◌, length, get_or, refl, sym, ap, subst, ◌∙◌, arith, Option, None, Some, inl, inr, Contains, All}
-use Rattle.std.specs.Prelude.{◌⊎◌, if◌then◌else◌, unwrap_or}
+use Rattle.std.specs.Prelude.{◌⊎◌, if◌then◌else◌}
 use Rattle.std.proofs.lemmas.List.Elements.{Contains-append_right}
+use Rattle.std.proofs.lemmas.Option.{same_Some}
 use Rattle.cse_dict.specs.Faults.{is_before, note, note_all}
 use Rattle.cse_dict.specs.declared.fault.DictError.{DictError}
 use Rattle.cse_dict.specs.Reading.{IsAnswer, IsNoted, text_faults}
@@ -16,16 +17,13 @@ before_once f g e = grind (arith, e)
 pub before_along : (f g h : DictError) → is_before f g ≡ false → is_before g h ≡ false → is_before f h ≡ false
 before_along f g h e d = grind (arith, e, d)
 
-some_is : {f g : DictError} → Some f ≡ Some g → f ≡ g
-some_is {f} {g} e = ap (λ o. unwrap_or o f) e
-
 -- one fault more: the least is one of the two
 note_either : (a : Option DictError) (g f : DictError) → note a g ≡ Some f → (a ≡ Some f) ⊎ (g ≡ f)
-note_either None g f e = inr (some_is e)
+note_either None g f e = inr (same_Some _ _ e)
 note_either (Some b) g f e = by (is_before g b) e
   where
     by : (v : Bool) → (if v then Some g else Some b) ≡ Some f → (Some b ≡ Some f) ⊎ (g ≡ f)
-    by true e = inr (some_is e)
+    by true e = inr (same_Some _ _ e)
     by false e = inl e
 
 pub record Notes (a : Option DictError) (h m : DictError) : Type 0 where
@@ -43,7 +41,7 @@ notes (Some c) h = by (is_before h c) refl
       record {
         is = ap (λ v. if v then Some h else Some c) e;
         new = before_self h;
-        old = λ b d. subst (λ b'. is_before b' h ≡ false) (some_is d) (before_once h c e);
+        old = λ b d. subst (λ b'. is_before b' h ≡ false) (same_Some _ _ d) (before_once h c e);
       },
     )
     by false e = (
@@ -51,7 +49,7 @@ notes (Some c) h = by (is_before h c) refl
       record {
         is = ap (λ v. if v then Some h else Some c) e;
         new = e;
-        old = λ b d. subst (λ b'. is_before b' c ≡ false) (some_is d) (before_self c);
+        old = λ b d. subst (λ b'. is_before b' c ≡ false) (same_Some _ _ d) (before_self c);
       },
     )
 
@@ -81,7 +79,7 @@ module _ (f : DictError) where
 
   below : (a : Option DictError) (fs : List DictError) → note_all a fs ≡ Some f
       → ((g : DictError) → a ≡ Some g → is_before g f ≡ false) × All (λ g. is_before g f ≡ false) fs
-  below a [] h = (λ g e. subst (λ g'. is_before g' f ≡ false) (some_is (sym h ∙ e)) (before_self f), λ k d lt. absurd (omega (arith, lt)))
+  below a [] h = (λ g e. subst (λ g'. is_before g' f ≡ false) (same_Some _ _ (sym h ∙ e)) (before_self f), λ k d lt. absurd (omega (arith, lt)))
   below a (g ∷ gs) h = by (notes a g) (below (note a g) gs h)
     where
       by : (m : DictError) × Notes a g m → ((c : DictError) → note a g ≡ Some c → is_before c f ≡ false) × All (λ c. is_before c f ≡ false) gs

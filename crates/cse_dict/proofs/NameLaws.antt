@@ -1,7 +1,7 @@
 -- A set of names, seen as the list of their bytes.
-use Rattle.std.proofs.Common.{◌≡◌, ◌+◌, ℕ, suc, Bool, true, false, cond, not, List, [], ◌∷◌, ◌++◌, map, length, refl, sym, ap, ◌∙◌, None, Some}
-use Rattle.std.specs.Prelude.{position, nat_lt, ◌||◌, if◌then◌else◌}
-use Rattle.std.specs.List.{position_or_len, list_any}
+use Rattle.std.proofs.Common.{◌≡◌, ℕ, Bool, true, false, List, [], ◌∷◌, ◌++◌, map, refl, sym, ap, ◌∙◌}
+use Rattle.std.specs.Prelude.{◌||◌, if◌then◌else◌}
+use Rattle.std.specs.List.{list_any}
 use Rattle.std.proofs.lemmas.List.{map-append}
 use Rattle.std.specs.Str.{bytes_eq}
 use Rattle.cse_dict.specs.Names.{with_name}
@@ -10,19 +10,6 @@ module _ {A B : Type 0} (h : A → B) (test : B → Bool) where
   pub list_any-map : (xs : List A) → list_any test (map h xs) ≡ list_any (λ x. test (h x)) xs
   list_any-map [] = refl
   list_any-map (x ∷ xs) = ap (λ b. test (h x) || b) (list_any-map xs)
-
-  pub length-map : (xs : List A) → length (map h xs) ≡ length xs
-  length-map [] = refl
-  length-map (x ∷ xs) = ap suc (length-map xs)
-
-  pub place-map : (xs : List A) → position_or_len test (map h xs) ≡ position_or_len (λ x. test (h x)) xs
-  place-map [] = refl
-  place-map (x ∷ xs) = ap (λ n. cond (not (test (h x))) (1 + n) 0) (place-map xs)
-
-  pub position-map : (xs : List A) → position test (map h xs) ≡ position (λ x. test (h x)) xs
-  position-map xs =
-      ap (λ n. cond (nat_lt n (length (map h xs))) (Some n) None) (place-map xs)
-      ∙ ap (λ m. cond (nat_lt (position_or_len (λ x. test (h x)) xs) m) (Some (position_or_len (λ x. test (h x)) xs)) None) (length-map xs)
 
 -- the keys after an insertion
 pub insert-map : {K : Type 0} (h : K → List ℕ) (ks : List K) (k : K)

@@ -10,9 +10,9 @@ use Rattle.std.proofs.lemmas.Bool.{false≢true}
 use Rattle.std.proofs.lemmas.List.Quantifiers.{position-Some}
 use Rattle.std.proofs.lemmas.Slice.Eq.{bytes_eq-Decides}
 use Rattle.std.proofs.lemmas.Iterator.Adapters.{position_from-zero}
+use Rattle.std.proofs.lemmas.List.{length-map}
 use Rattle.cse_dict.specs.Dictionary.{number_named, places_from, with_place}
 use Rattle.cse_dict.specs.Keys.{kept_name}
-use Rattle.cse_dict.proofs.NameLaws.{length-map}
 
 -- the entries of a map, as names with their places
 abbrev pub named : {K : Type 0} → (K → List ℕ) → List (K × ℕ) → List (List ℕ × ℕ)
@@ -32,11 +32,6 @@ module _ (ps : List (List ℕ × ℕ)) (n : ℕ) (name : List ℕ) where
 
   pub with_place-new : is_some (lookup (bytes_eq name) ps) ≡ false → with_place ps n name ≡ ps ++ (name, n) ∷ []
   with_place-new e = ap (λ v. if v then ps else ps ++ (name, n) ∷ []) e
-
--- what isn't there is nothing
-pub none_there : {T : Type 0} (o : Option T) → is_some o ≡ false → o ≡ None
-none_there None e = refl
-none_there (Some x) e = cc
 
 -- one of two, the first where it is there
 abbrev or_else : Option ℕ → Option ℕ → Option ℕ
@@ -115,4 +110,4 @@ number_there name names n is = by (nat_le (length name) 32) is
 -- a number that is found is there
 pub number_named-there : {X : Type 0} (f : X → List ℕ) (name : List ℕ) (xs : List X) (o : Option ℕ) → o ≡ number_named name (map f xs) → IfSome o (λ n. n < length xs)
 number_named-there f name xs None is = tt
-number_named-there f name xs (Some n) is = let P : ℕ → Type 0 = λ m. n < m in subst P (length-map f (λ _. true) xs) (number_there name (map f xs) n is)
+number_named-there f name xs (Some n) is = let P : ℕ → Type 0 = λ m. n < m in subst P (length-map xs f) (number_there name (map f xs) n is)

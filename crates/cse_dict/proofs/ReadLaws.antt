@@ -1,10 +1,10 @@
 -- What stands at the keys of a section without a fault: each number is there and within its range.
-use Rattle.std.proofs.Common.{◌≡◌, ◌≤◌, ◌-◌, ◌∙◌, sym, ap, subst, ℕ, zero, suc, Bool, true, false, List, [], ◌∷◌, ◌++◌, length, replicate, refl, arith, Option, None, Some, codes, ℤ, pos, negsuc, unwrap_or, length-append, inl, inr}
+use Rattle.std.proofs.Common.{◌≡◌, ◌≤◌, ◌∙◌, sym, ap, subst, ℕ, zero, suc, Bool, true, false, List, [], ◌∷◌, ◌++◌, length, refl, arith, Option, None, Some, codes, ℤ, pos, negsuc, unwrap_or, inl, inr}
 use Rattle.std.specs.Prelude.{◌⊎◌, if◌then◌else◌, nat_le, nat_lt, ◌&&◌, is_none}
 use Rattle.std.specs.Option.{option_and_then, option_map}
 use Rattle.std.proofs.lemmas.Bool.{and_parts, leb-true, ltb-false, ltb-true, le-leb}
-use Rattle.std.proofs.lemmas.List.{length-replicate}
 use Rattle.std.proofs.lemmas.Option.{cond_some}
+use Rattle.cse_lemmas.proofs.Lists.{length-padded}
 use Rattle.cse_sections.specs.Sections.{EntryText, SectionText}
 use Rattle.cse_sections.specs.Number.{number_between, whole_of, within}
 use Rattle.cse_dict.specs.Keys.{data_type_of, entry_of, number_in, number_or}
@@ -160,13 +160,10 @@ no_type : (n : ℕ) → nat_lt 0 n ≡ false → length (unwrap_or (type_in n No
 no_type zero h = refl
 no_type (suc n) h = let none = ltb-false 0 (suc n) h in absurd (omega (arith, none))
 
-length-padded : (n : ℕ) (text : List ℕ) → length text ≤ n → length (padded n text) ≡ n
-length-padded n text fits = omega (arith, length-append text (replicate (n - length text) 32), length-replicate {A = ℕ} (n - length text) 32)
-
 some_type : (n : ℕ) (text : List ℕ) → nat_lt n (length text) ≡ false → length (unwrap_or (if nat_le (length text) n then Some (padded n text) else None) []) ≡ n
 some_type n text h =
     let fits : length text ≤ n = ltb-false n (length text) h in
-    ap (λ b. length (unwrap_or (if b then Some (padded n text) else None) [])) (le-leb (length text) n fits) ∙ length-padded n text fits
+    ap (λ b. length (unwrap_or (if b then Some (padded n text) else None) [])) (le-leb (length text) n fits) ∙ length-padded n text 32 fits
 
 type_by : (n : ℕ) (s : SectionText) (entry : Option EntryText) → type_faults_at n s entry ≡ [] → length (unwrap_or (type_in n entry) []) ≡ n
 type_by n s None h = no_type n (no_fault (nat_lt 0 n) s.line 12 h)

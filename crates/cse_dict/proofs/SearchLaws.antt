@@ -4,6 +4,7 @@ use Rattle.std.specs.Prelude.{◌<ℤ◌, int_le, int_lt, find, ◌&&◌}
 use Rattle.std.proofs.lemmas.Int.{ints}
 use Rattle.std.proofs.lemmas.List.{take-append-drop}
 use Rattle.std.proofs.Math.Seq.{drop-cons}
+use Rattle.std.proofs.lemmas.Bool.{and_parts}
 use Rattle.cse_dict.specs.Dictionary.{ascends, contains, starts_above}
 use Rattle.cse_dict.specs.declared.rows.NumberSpan.{NumberSpan}
 
@@ -19,10 +20,6 @@ le_test a b h = grind (arith, ints)
 not_le : (a b : ℤ) → b <ℤ a → int_le a b ≡ false
 not_le a b h = grind (arith, ints)
 
-both : (a b : Bool) → a && b ≡ true → (a ≡ true) × (b ≡ true)
-both true b h = (refl, h)
-both false b h = cc
-
 -- what a pair that ascends says
 pub record Ascent (s : NumberSpan) (ss : List NumberSpan) : Type 0 where
   pub ordered : s.low ≤ℤ s.high
@@ -31,8 +28,8 @@ pub record Ascent (s : NumberSpan) (ss : List NumberSpan) : Type 0 where
 
 ascent : (s : NumberSpan) (ss : List NumberSpan) → ascends (s ∷ ss) ≡ true → Ascent s ss
 ascent s ss h =
-    let outer = both (int_le s.low s.high && starts_above s.high ss) (ascends ss) h in
-    let inner = both (int_le s.low s.high) (starts_above s.high ss) outer.0 in
+    let outer = and_parts (int_le s.low s.high && starts_above s.high ss) (ascends ss) h in
+    let inner = and_parts (int_le s.low s.high) (starts_above s.high ss) outer.0 in
     record { ordered = le_fact s.low s.high inner.0; above = inner.1; rest = outer.1 }
 
 module _ (z : ℤ) where

@@ -1,7 +1,7 @@
 -- The two laws of each entry: what is read is spelled so and fits, and what fits is read from its spelling.
-use Rattle.std.proofs.Common.{◌≡◌, ℕ, ◌^◌, ◌<◌, Bool, true, false, not, ◌||◌, eqb, List, [], ◌∷◌, ◌++◌, length, Option, refl, sym, subst, arith, append_assoc, length-append}
+use Rattle.std.proofs.Common.{◌≡◌, ℕ, ◌^◌, ◌<◌, Bool, true, not, ◌||◌, eqb, List, [], ◌∷◌, ◌++◌, length, Option, refl, sym, subst, arith, append_assoc, length-append}
 use Rattle.std.specs.List.{flat_map, AllByRecursion}
-use Rattle.std.proofs.lemmas.Bool.{eqb-true, eq-eqb, ne_eqb}
+use Rattle.std.proofs.lemmas.Bool.{eqb-true, eq-eqb, ne_eqb, or_right, or_left, not_from_false}
 use Rattle.byteorder.specs.Endian.{little_bytes}
 use Rattle.cse_value.specs.declared.shape.RecordShape.{RecordShape}
 use Rattle.cse_value.specs.declared.shape.ItemShape.{ItemShape}
@@ -128,13 +128,6 @@ dimension_laws cells rank before = refit (DimensionReads cells rank before) (che
 at_last : (room same : Bool) → same ≡ true → (not same || room) ≡ true → room ≡ true
 at_last room same e h = subst (λ (b : Bool). (not b || room) ≡ true) e h
 
-before_last : (room same : Bool) → same ≡ false → (not same || room) ≡ true
-before_last room same e = rw e refl
-
-all_room : (a b : Bool) → b ≡ true → (a || b) ≡ true
-all_room true b e = refl
-all_room false b e = e
-
 -- dimensions that were read have room together
 dimensions_there : (cells rank : ℕ) (before xs : List ℕ) → AllAfter (DimensionReads cells rank) before xs → length (before ++ xs) ≡ rank → 0 < length xs
     → AllByRecursion DimensionFits xs × (is_room_for_cells cells (before ++ xs) ≡ true)
@@ -151,11 +144,11 @@ dimensions_back : (cells rank : ℕ) (before xs : List ℕ) → AllByRecursion D
     → AllAfter (DimensionReads cells rank) before xs
 dimensions_back cells rank before [] h room len = tt
 dimensions_back cells rank before (x ∷ []) h room len =
-    (record { size = h.0.size; some = h.0.some; room = all_room (not (eqb (length (before ++ x ∷ [])) rank)) (is_room_for_cells cells (before ++ x ∷ [])) room }, tt)
+    (record { size = h.0.size; some = h.0.some; room = or_right (not (eqb (length (before ++ x ∷ [])) rank)) (is_room_for_cells cells (before ++ x ∷ [])) room }, tt)
 dimensions_back cells rank before (x ∷ y ∷ ys) h room len =
     let regrouped : (before ++ x ∷ []) ++ y ∷ ys ≡ before ++ x ∷ y ∷ ys = append_assoc before (x ∷ []) (y ∷ ys) in
     let short : length (before ++ x ∷ []) < rank = omega (arith, len, length-append before (x ∷ []), length-append before (x ∷ y ∷ ys)) in
-    (record { size = h.0.size; some = h.0.some; room = before_last (is_room_for_cells cells (before ++ x ∷ [])) (eqb (length (before ++ x ∷ [])) rank) (ne_eqb _ _ (λ e. omega (arith, e, short))) }, dimensions_back cells rank (before ++ x ∷ []) (y ∷ ys) h.1 (rw regrouped room) (rw regrouped len))
+    (record { size = h.0.size; some = h.0.some; room = or_left (not (eqb (length (before ++ x ∷ [])) rank)) (is_room_for_cells cells (before ++ x ∷ [])) (not_from_false (eqb (length (before ++ x ∷ [])) rank) (ne_eqb _ _ (λ e. omega (arith, e, short)))) }, dimensions_back cells rank (before ++ x ∷ []) (y ∷ ys) h.1 (rw regrouped room) (rw regrouped len))
 
 record DimensionsFit (cells rank : ℕ) (xs : List ℕ) : Type 0 where
   size : length xs ≡ rank

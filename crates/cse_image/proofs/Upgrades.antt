@@ -1,7 +1,7 @@
 -- An image of version 1 that has a spelling stands for a program that has one.
 use Rattle.std.proofs.Common.{◌≡◌, ℕ, zero, suc, ◌+◌, ◌-◌, ◌≤◌, ◌<◌, ◌^◌, Bool, true, false, not, ◌&&◌, ltb, eqb, List, [], ◌∷◌, ◌++◌, map, length, refl, sym, ap, subst, ◌∙◌, leb, arith}
 use Rattle.std.specs.List.{AllByRecursion, range_with_len}
-use Rattle.std.proofs.lemmas.Bool.{and_parts, le-leb, lt-ltb}
+use Rattle.std.proofs.lemmas.Bool.{and_parts, le-leb, lt-ltb, and_from}
 use Rattle.std.proofs.lemmas.Bool.Decides.{nat_tests}
 use Rattle.std.proofs.lemmas.List.{length-map}
 use Rattle.std.proofs.lemmas.List.FromFn.{length-range_with_len}
@@ -64,13 +64,10 @@ unfolding shape
 counting_shape ops.LoopCount e = refl
 counting_shape op e = absurd cc
 
-both : (p q : Bool) → p ≡ true → q ≡ true → (p && q) ≡ true
-both p q e f = rw (e, f) refl
-
 limit_place : (op : Op) (b : ℕ) → is_counting op ≡ true → b ≤ 65535 → fits_b versions.Two op b ≡ true
 limit_place op b is le =
-    let small : lies_in any_limit b ≡ true = both (leb 0 b) (leb b 65535) (le-leb 0 b (omega arith)) (le-leb b 65535 le) in
-    both (lies_in (shape op).b b) true (subst (λ (r : Range). lies_in r b ≡ true) (sym (counting_shape op is)) small) refl
+    let small : lies_in any_limit b ≡ true = and_from (leb 0 b) (leb b 65535) (le-leb 0 b (omega arith)) (le-leb b 65535 le) in
+    and_from (lies_in (shape op).b b) true (subst (λ (r : Range). lies_in r b ≡ true) (sym (counting_shape op is)) small) refl
 
 pub instr_fits : (x : Instr) (counting : Bool) → is_counting x.op ≡ counting → InstrFits versions.One x → InstrFits versions.Two (upgrade_instr x)
 instr_fits x true is h =
@@ -82,7 +79,7 @@ instr_fits x false is h =
     let e : upgrade_instr x ≡ x = rw is refl in
     let p = and_parts (lies_in (shape x.op).b x.b) (not (is_counting x.op && eqb x.b 0)) h.b in
     subst (λ (y : Instr). InstrFits versions.Two y) (sym e)
-    (record { a_size = h.a_size; a = h.a; b_size = h.b_size; b = both (lies_in (shape x.op).b x.b) true p.0 refl; c_size = h.c_size; c = h.c })
+    (record { a_size = h.a_size; a = h.a; b_size = h.b_size; b = and_from (lies_in (shape x.op).b x.b) true p.0 refl; c_size = h.c_size; c = h.c })
 
 code_fits : (xs : List Instr) → AllByRecursion (InstrFits versions.One) xs → AllByRecursion (InstrFits versions.Two) (map upgrade_instr xs)
 code_fits [] h = tt

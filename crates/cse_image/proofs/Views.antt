@@ -85,11 +85,6 @@ pub read_same : {A : Type 0} (read : Result A FieldFault) (x y : A) → read ≡
 read_same (Ok z) x y e f = cc
 read_same (Err g) x y e f = absurd cc
 
--- where reading gives a value, there is no fault
-pub read_unless : {A : Type 0} (read : Result A FieldFault) (x : A) (f : FieldFault) → read ≡ Ok x → read ≡ Err f → ⊥
-read_unless (Ok z) x f e h = absurd cc
-read_unless (Err g) x f e h = absurd cc
-
 pub rest_shorter : (version : Version) (n : ℕ) (bytes : List ℕ) (xs : List Instr) (rest : List ℕ) → IsBytes bytes → each (instr_at version) n bytes ≡ Ok (xs, rest) → length rest ≤ length bytes
 rest_shorter version n bytes xs rest fits e =
     let t = (each_laws n (instr_laws version)).takes bytes (xs, rest) fits e in

@@ -2,6 +2,7 @@
 use Rattle.std.proofs.Common.{◌≡◌, ℕ, Bool, true, false, cond, eqb, List, [], ◌++◌, length, Result, Ok, Err, refl, sym, ap, ◌∙◌, inl}
 use Rattle.std.proofs.lemmas.Bool.{eqb-true}
 use Rattle.std.proofs.lemmas.List.{append-nil, nil_from_length}
+use Rattle.cse_lemmas.proofs.Results.{ok_and_err}
 use Rattle.cse_image_codec.specs.declared.fault.FieldFault.{FieldFault}
 use Rattle.cse_image_codec.specs.declared.fault.Rule.TheVariants.{LeftOver}
 use Rattle.cse_image_codec.specs.declared.fault.ReadStop.{ReadStop}
@@ -26,10 +27,6 @@ all_ok (Ok x) a e =
     let nothing : x.1 ≡ [] = nil_from_length x.1 (eqb-true (length x.1) 0 p.0) in
     rw (← p.1, ← nothing) refl
 all_ok (Err f) a e = absurd cc
-
-not_both : {Y : Type 0} (read : Result Y FieldFault) (f : FieldFault) (x : Y) → read ≡ Err f → read ≡ Ok x → ⊥
-not_both (Ok y) f x p q = absurd cc
-not_both (Err g) f x p q = absurd cc
 
 pub edition_found : (bytes : List ℕ) (e : Edition) → IsBytes bytes → whole_edition bytes ≡ Ok e → SpellsIn e.version e.image bytes
 unfolding whole_edition
@@ -62,7 +59,7 @@ reading_only bytes x stands = ap programs (edition_only bytes stands.version sta
 pub stopped_only : {X Y : Type 0} (view : X → Y) (stop : ReadStop) (len : ℕ) (e : ImageError) (read : Result Y FieldFault) (x : Y)
     → Fails stop read → read ≡ Ok x → e ≡ error_of stop len → Answers view (Err e) (Ok x)
 stopped_only view stops.Memory len e read x fails reads same = inl same
-stopped_only view (stops.Fault f) len e read x fails reads same = absurd (not_both read f x fails reads)
+stopped_only view (stops.Fault f) len e read x fails reads same = absurd (ok_and_err read x f reads fails)
 
 pub spelled_once : (version : Version) (x : Image) (a b : List ℕ) → SpellsIn version x a → SpellsIn version x b → a ≡ b
 spelled_once version x a b p q = p.bytes_are ∙ sym q.bytes_are

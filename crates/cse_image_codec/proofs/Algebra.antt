@@ -1,7 +1,7 @@
 -- A reader and what it reads: each way to build a reader keeps the two laws.
 use Rattle.std.proofs.Common.{◌≡◌, ℕ, ℤ, pos, negsuc, zero, suc, ◌+◌, ◌/◌, ◌%◌, ◌*◌, ◌^◌, ◌<◌, ◌≤◌, Bool, true, false, cond, ltb, leb, List, [], ◌∷◌, ◌++◌, length, take, drop, Option, Some, None, Result, Ok, Err, refl, sym, ap, subst, ◌∙◌, append_assoc, arith, inl, inr}
 use Rattle.std.specs.List.{flat_map, AllByRecursion}
-use Rattle.std.specs.Prelude.{FitsSigned}
+use Rattle.std.specs.Prelude.{FitsSigned, slice_get}
 use Rattle.cse_image_codec.specs.declared.fault.Rule.TheVariants.{Limit}
 use Rattle.cse_image_codec.specs.Spelling.{section, SectionFits}
 use borrow.Author.Gap.{read_sfits}
@@ -11,6 +11,7 @@ use Rattle.std.proofs.lemmas.List.{append-nil, take_at, drop_at, take-append-dro
 use Rattle.std.proofs.lemmas.List.Concat.{flat_map-cons}
 use Rattle.std.proofs.Math.Nat.{div-div-eq-div-mul, pow-succ'}
 use Rattle.std.specs.Int.{w64, byte_at, bytes_low_first, cast_signed, cast_unsigned}
+use Rattle.std.proofs.lemmas.Option.{same_Some}
 use Rattle.byteorder.specs.Endian.{little_number, little_bytes}
 use Rattle.byteorder.specs.Numbers.{little_from-cons, little_from-lt, little_number-reads_back, length-bytes_low_first}
 use Rattle.cse_image_codec.specs.declared.fault.Rule.{Rule}
@@ -272,6 +273,12 @@ after_each P before (x ∷ xs) h = (h.0, after_each P (before ++ x ∷ []) xs h.
 pub each_after : {A : Type 0} (P : A → Type 0) (before xs : List A) → AllByRecursion P xs → AllAfter (λ _. P) before xs
 each_after P before [] h = tt
 each_after P before (x ∷ xs) h = (h.0, each_after P (before ++ x ∷ []) xs h.1)
+
+-- of an element at a place, after some others
+pub after_at : {X : Type 0} (P : List X → X → Type 0) (before xs : List X) (k : ℕ) (x : X) → AllAfter P before xs → slice_get xs k ≡ Some x → (l : List X) × P l x
+after_at P before [] k x all at = cc
+after_at P before (y ∷ ys) zero x all at = (before, subst (P before) (same_Some y x at) all.0)
+after_at P before (y ∷ ys) (suc k) x all at = after_at P (before ++ y ∷ []) ys k x all.1 at
 
 pub each_laws : {A : Type 0} {r : Reader A} {w : A → List ℕ} {P : A → Type 0} (n : ℕ) → Laws r w P → Laws (each r n) (flat_map w) (λ xs. AllByRecursion P xs × (length xs ≡ n))
 each_laws {A} {r} {w} {P} n laws =

@@ -1,10 +1,9 @@
 -- What holds of each entry after those before it, at a place of the list.
 use Rattle.std.proofs.Common.{ℕ, zero, suc, ◌+◌, ◌<◌, List, [], ◌∷◌, ◌++◌, length, get_or, take, map, refl, sym, subst, arith, append_assoc}
 use Rattle.std.proofs.lemmas.List.{append-nil}
-use Rattle.std.proofs.Common.{◌≤◌, ◌≡◌, ◌∙◌, ap, add-one, Some, Bool, false}
+use Rattle.std.proofs.Common.{◌≤◌, ◌≡◌, ◌∙◌, ap, Bool, false}
 use Rattle.std.specs.Bool.{Decides}
 use Rattle.std.proofs.lemmas.List.{take_more, map_push}
-use Rattle.std.specs.List.{slice_get}
 use Rattle.std.proofs.lemmas.Bool.{leb-true}
 use Rattle.cse_image_codec.specs.Reader.{AllAfter}
 use Rattle.std.proofs.Common.{leb}
@@ -24,12 +23,6 @@ at_place f P xs h i d lt = after_at f P xs [] h i d lt
 
 pub count_small : {A : Type 0} (limit : ℕ) (P : List A → A → Type 0) (xs : List A) → SectionFits limit P xs → length xs ≤ limit
 count_small limit P xs fits = leb-true (length xs) limit fits.count
-
--- the list up to the next place
-pub take_next : {A : Type 0} (xs : List A) (i : ℕ) (x : A) → slice_get xs i ≡ Some x → take (i + 1) xs ≡ take i xs ++ x ∷ []
-take_next [] i x e = absurd cc
-take_next {A} (y ∷ ys) zero x e = let same : y ≡ x = cc in ap (λ (z : A). z ∷ []) same
-take_next {A} (y ∷ ys) (suc i) x e = rw add-one (ap (λ (zs : List A). y ∷ zs) (rw add-one at (take_next ys i x e)))
 
 -- ---- a loop that checks each entry after those before it
 

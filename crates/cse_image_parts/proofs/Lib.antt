@@ -4,3 +4,4 @@ pub mod OpcodeLaws
 pub mod UpgradeLaws
 pub mod PieceLaws
 pub mod WrittenLaws
+pub mod EventLaws

@@ -1,22 +1,9 @@
 -- The pieces of a text come one after the other, within the text.
-use Rattle.std.proofs.Common.{◌≡◌, ℕ, zero, suc, ◌+◌, ◌-◌, ◌≤◌, true, false, cond, Bool, List, [], ◌∷◌, length, take, drop, Option, Some, None, option_map, refl, ap, arith}
-use Rattle.std.specs.List.{filter_map, prefix_len, list_all}
+use Rattle.std.proofs.Common.{◌≡◌, ℕ, zero, suc, ◌-◌, ◌≤◌, List, [], ◌∷◌, length, take, drop, Option, Some, None, option_map, refl, ap, arith}
+use Rattle.std.specs.List.{filter_map}
 use Rattle.std.proofs.lemmas.List.{take_rest}
 use Rattle.cse_image_parts.specs.declared.placeholders.Piece.{Piece}
 use Rattle.cse_image_parts.specs.Placeholders.{pieces_after, pieces_of, piece_at, argument_of}
-
--- ---- the digits after a mark
-
-front_step : (p : ℕ → Bool) (x : ℕ) (xs : List ℕ) (b : Bool) → p x ≡ b → list_all p (take (prefix_len p xs) xs) ≡ true → list_all p (take (cond b (1 + prefix_len p xs) 0) (x ∷ xs)) ≡ true
-front_step p x xs false e h = refl
-front_step p x xs true e h = let one : 1 + prefix_len p xs ≡ suc (prefix_len p xs) = omega arith in rw (one, e) h
-
--- what stands in front passes
-pub front_passes : (p : ℕ → Bool) (xs : List ℕ) → list_all p (take (prefix_len p xs) xs) ≡ true
-front_passes p [] = refl
-front_passes p (x ∷ xs) = front_step p x xs (p x) refl (front_passes p xs)
-
--- ---- piece after piece
 
 -- bytes of the piece before are passed over
 skipped : (skip : ℕ) (text : List ℕ) → pieces_after skip text ≡ pieces_of (drop skip text)

@@ -2,6 +2,7 @@
 use Rattle.std.proofs.Common.{◌≡◌, ℕ, zero, suc, ◌+◌, ◌-◌, ◌≤◌, ◌<◌, Bool, true, false, cond, ltb, List, [], ◌∷◌, ◌++◌, length, Some, refl, sym, ap, subst, ◌∙◌, arith}
 use Rattle.std.specs.List.{range_with_len, slice_get}
 use Rattle.std.proofs.lemmas.Bool.Decides.{nat_tests}
+use Rattle.cse_lemmas.proofs.Lists.{slice_get-range_with_len}
 use Rattle.cse_image_parts.specs.declared.instruction.Instr.{Instr}
 use Rattle.cse_image_parts.specs.Turns.{limit_of}
 use Rattle.cse_image_parts.specs.Versions.{is_counting}
@@ -28,20 +29,15 @@ pub one_to_next : (n : ℕ) → one_to (suc n) ≡ one_to n ++ (n + 1) ∷ []
 unfolding one_to
 one_to_next n = range_next 1 n ∙ ap (λ (m : ℕ). range_with_len 1 n ++ m ∷ []) (omega arith)
 
-range_at : (a n i : ℕ) → i < n → slice_get (range_with_len a n) i ≡ Some (a + i)
-range_at a zero i lt = absurd (omega arith)
-range_at a (suc n) zero lt = ap (λ (m : ℕ). Some m) (omega arith)
-range_at a (suc n) (suc i) lt = range_at (a + 1) n i (omega arith) ∙ ap (λ (m : ℕ). Some m) (omega arith)
-
 -- as it stands each limit is at its own place
 pub own_place : (n b : ℕ) → b < n → limit_of (zero_below n) b ≡ Some b
 unfolding zero_below
-own_place n b lt = range_at 0 n b lt ∙ ap (λ (m : ℕ). Some m) (omega arith)
+own_place n b lt = slice_get-range_with_len 0 n b lt ∙ ap (λ (m : ℕ). Some m) (omega arith)
 
 -- in the upgrade it is at the place before
 pub place_before : (n b : ℕ) → 1 ≤ b → b ≤ n → limit_of (one_to n) (b - 1) ≡ Some b
 unfolding one_to
-place_before n b some le = range_at 1 n (b - 1) (omega arith) ∙ ap (λ (m : ℕ). Some m) (omega arith)
+place_before n b some le = slice_get-range_with_len 1 n (b - 1) (omega arith) ∙ ap (λ (m : ℕ). Some m) (omega arith)
 
 -- no instruction of the code holds a greater limit
 pub at_most_greatest : (code : List Instr) (i : ℕ) (x : Instr) → slice_get code i ≡ Some x → own_limit x ≤ greatest_limit code

@@ -4,13 +4,14 @@ use Rattle.std.proofs.Math.Seq.{take-append_seam, drop-append_seam, drop-append-
 use Rattle.std.proofs.lemmas.List.{take-append-drop}
 use Rattle.std.specs.List.{prefix_len, list_all}
 use Rattle.std.specs.Option.{unwrap_or}
-use Rattle.std.proofs.lemmas.Bool.{eqb-true, and_parts}
+use Rattle.std.proofs.lemmas.Bool.{eqb-true, and_parts, le-ltb, lt-ltb, ne_eqb, eqb-false}
 use Rattle.std.proofs.lemmas.Bool.Decides.{nat_tests}
+use Rattle.cse_lemmas.proofs.Lists.{list_all-prefix}
 use Rattle.cse_image_parts.specs.declared.placeholders.Piece.{Piece}
 use Rattle.cse_image_parts.specs.declared.placeholders.Piece.TheVariants as pieces
 use Rattle.cse_image_parts.specs.Placeholders.{is_digit, width_of, number_of, piece_of, marked, piece_at, pieces_of}
 use Rattle.cse_image_parts.specs.Written.{digits_of, written, IsWritable, BeginsNoPiece}
-use Rattle.cse_image_parts.proofs.PieceLaws.{next_piece, front_passes}
+use Rattle.cse_image_parts.proofs.PieceLaws.{next_piece}
 
 -- what a map gives comes from a value
 mapped : {A B : Type 0} (f : A → B) (o : Option A) (y : B) → option_map f o ≡ Some y → (x : A) × (f x ≡ y) × (o ≡ Some x)
@@ -18,15 +19,6 @@ mapped f None y e = absurd cc
 mapped f (Some x) y e = (x, cc, refl)
 
 -- ---- tests of numbers
-
-eqb_no : (a b : ℕ) → (a ≡ b → ⊥) → eqb a b ≡ false
-eqb_no a b other = grind (arith, nat_tests)
-
-ltb_yes : (a b : ℕ) → a < b → ltb a b ≡ true
-ltb_yes a b lt = grind (arith, nat_tests)
-
-ltb_no : (a b : ℕ) → b ≤ a → ltb a b ≡ false
-ltb_no a b le = grind (arith, nat_tests)
 
 digit_bounds : (c : ℕ) → is_digit c ≡ true → (48 ≤ c) × (c ≤ 57)
 digit_bounds c e = (grind (arith, nat_tests), grind (arith, nat_tests))
@@ -37,22 +29,22 @@ is_digit_yes c low high = grind (arith, nat_tests)
 -- ---- the digits of a width
 
 one_digit : (n : ℕ) → 0 < n → n < 10 → digits_of n ≡ (48 + n) ∷ []
-one_digit n low high = let ne : n ≡ 0 → ⊥ = (λ e. omega (arith, e)) in rw (eqb_no n 0 ne, ltb_yes n 10 high) refl
+one_digit n low high = let ne : n ≡ 0 → ⊥ = (λ e. omega (arith, e)) in rw (ne_eqb n 0 ne, lt-ltb n 10 high) refl
 
 two_digits : (n : ℕ) → 10 ≤ n → digits_of n ≡ (48 + n / 10) ∷ (48 + n % 10) ∷ []
-two_digits n low = let ne : n ≡ 0 → ⊥ = (λ e. omega (arith, e)) in rw (eqb_no n 0 ne, ltb_no n 10 low) refl
+two_digits n low = let ne : n ≡ 0 → ⊥ = (λ e. omega (arith, e)) in rw (ne_eqb n 0 ne, le-ltb n 10 low) refl
 
 width_one : (n : ℕ) → 0 < n → n < 10 → width_of ((48 + n) ∷ []) ≡ Some n
 width_one n low high =
     let ne : 48 + n ≡ 48 → ⊥ = (λ e. omega (arith, e)) in
     let back : 48 + n - 48 ≡ n = omega arith in
-    rw (eqb_no (48 + n) 48 ne, back) refl
+    rw (ne_eqb (48 + n) 48 ne, back) refl
 
 width_two : (n : ℕ) → 10 ≤ n → n ≤ 99 → width_of ((48 + n / 10) ∷ (48 + n % 10) ∷ []) ≡ Some n
 width_two n low high =
     let ne : 48 + n / 10 ≡ 48 → ⊥ = (λ e. omega (arith, e)) in
     let back : 10 * (48 + n / 10 - 48) + (48 + n % 10 - 48) ≡ n = omega arith in
-    rw (eqb_no (48 + n / 10) 48 ne, back) refl
+    rw (ne_eqb (48 + n / 10) 48 ne, back) refl
 
 -- ---- a run of digits and its end
 
@@ -110,11 +102,11 @@ plain_number n high =
     (λ n low up le.
     let ne : 48 + n ≡ 48 → ⊥ = (λ e. omega (arith, e)) in
     let back : 48 + n - 48 ≡ n = omega arith in
-    rw (one_digit n low up, eqb_no (48 + n) 48 ne, back) refl)
+    rw (one_digit n low up, ne_eqb (48 + n) 48 ne, back) refl)
     (λ n low le.
     let ne : 48 + n / 10 ≡ 48 → ⊥ = (λ e. omega (arith, e)) in
     let back : 10 * (48 + n / 10 - 48) + (48 + n % 10 - 48) ≡ n = omega arith in
-    rw (two_digits n low, eqb_no (48 + n / 10) 48 ne, back) refl)
+    rw (two_digits n low, ne_eqb (48 + n / 10) 48 ne, back) refl)
     n high
 
 filled_number : (n : ℕ) → n ≤ 99 → 0 < n → number_of (48 ∷ digits_of n) ≡ Some (pieces.Number n true)
@@ -144,9 +136,6 @@ written_read pieces.Text rest h = found_piece [] 115 rest pieces.Text refl refl 
 
 -- ---- what is read was written
 
-not_equal : (a b : ℕ) → eqb a b ≡ false → a ≡ b → ⊥
-not_equal a b e same = grind (arith, nat_tests)
-
 -- these are the digits of the width
 IsWidth : List ℕ → ℕ → Type 0
 IsWidth ds n = (0 < n) × (n ≤ 99) × (digits_of n ≡ ds)
@@ -156,7 +145,7 @@ unfolding IsWidth
 one_written a n true e digit is = absurd cc
 one_written a n false e digit is =
     let bounds = digit_bounds a digit in
-    let other : a ≡ 48 → ⊥ = not_equal a 48 e in
+    let other : a ≡ 48 → ⊥ = eqb-false a 48 e in
     let same : a - 48 ≡ n = cc in
     let low : 0 < n = omega (arith, bounds.0, same, other) in
     let back : 48 + n ≡ a = omega (arith, bounds.0, same) in
@@ -168,7 +157,7 @@ two_written a b n true e first second is = absurd cc
 two_written a b n false e first second is =
     let low_a = digit_bounds a first in
     let low_b = digit_bounds b second in
-    let other : a ≡ 48 → ⊥ = not_equal a 48 e in
+    let other : a ≡ 48 → ⊥ = eqb-false a 48 e in
     let same : 10 * (a - 48) + (b - 48) ≡ n = cc in
     let ten : 10 ≤ n = omega (arith, low_a.0, same, other) in
     let tens : 48 + n / 10 ≡ a = omega (arith, low_a.0, low_b.0, low_b.1, same) in
@@ -253,7 +242,7 @@ alone_step : (text : List ℕ) (found : Option (Piece × ℕ)) → marked text �
 alone_step text None e none = refl
 alone_step text (Some found) e none =
     let k : ℕ = prefix_len is_digit text in
-    let w = mark_step (take k text) (drop k text) text (k + 1) found (take-append-drop k text) (front_passes is_digit text) e in
+    let w = mark_step (take k text) (drop k text) text (k + 1) found (take-append-drop k text) (list_all-prefix is_digit text) e in
     absurd (none w.0 w.1 w.2.writable w.2.is)
 
 pub stands_alone : (text : List ℕ) → BeginsNoPiece (37 ∷ text) → pieces_of (37 ∷ text) ≡ pieces.Plain 37 ∷ pieces_of text

@@ -1,58 +1,27 @@
 -- The code is at most 16 times as long as its tokens. An expression leaves room for 11 more.
-use Rattle.std.proofs.Common.{◌≤◌, ℕ, ◌+◌, ◌*◌, ℤ, Bool, true, false, List, [], ◌∷◌, length, Option, Some, None, arith}
+use Rattle.std.proofs.Common.{◌≤◌, ℕ, ◌+◌, ◌*◌, Bool, true, false, List, [], ◌∷◌, arith}
 use Rattle.std.specs.Prelude.{if◌then◌else◌}
 use Rattle.cse_value.specs.declared.shape.RecordShape.{RecordShape}
-use Rattle.cse_syntax_tree.specs.declared.tree.Jump.{Jump}
-use Rattle.cse_syntax_tree.specs.declared.tree.Jump.TheVariants as j
-use Rattle.cse_logic_tree.specs.declared.tree.Found.{Found}
 use Rattle.cse_logic_tree.specs.declared.tree.Found.TheVariants as h
-use Rattle.cse_logic_tree.specs.declared.tree.Present.{Present}
-use Rattle.cse_logic_tree.specs.declared.tree.Present.TheVariants as p
-use Rattle.cse_logic_tree.specs.declared.tree.Pick.{Pick}
 use Rattle.cse_logic_tree.specs.Typed.{Number, Words, Numbers, Operations, Constant, Special', Variable', Item, ItemAt, Cell, Call, Group, Int, IsSpecial, Deck, TotOcc, MaxOcc, CurOcc, InSet, Minus, Not, Compare, CompareTexts, Chain}
 use Rattle.cse_logic_tree.specs.Typed.{Quoted, TextGlobal, TextItem, TextItemAt, TextGroup, no_number, number_and, no_operation, operation_and}
 use Rattle.cse_logic_tree.specs.Typed.{Which, Here, At, Argument, OfNumber, OfWords, Counting, Statement, Statements, Arms}
 use Rattle.cse_logic_tree.specs.Typed.{Empty, Set, SetText, SetItem, SetTextItem, SetCell, CallOf, If, For, Do, Jump', Impute, PutDeck, ErrMsg, no_statement, statement_and, no_arm, else_of, arm}
 use Rattle.cse_logic_tree.specs.Erase.{erase, erase_words, erase_all, erase_operations, erase_which, erase_argument, erase_arguments, erase_statement, erase_block, erase_arms}
 use Rattle.cse_logic_tree.specs.Tokens.{expr_tokens, exprs_tokens, others_tokens, operations_tokens, subscripts_tokens, stmt_tokens, stmts_tokens, arms_tokens}
-use Rattle.cse_compile_code.specs.Wide.{jump_size}
 use Rattle.cse_compile_code.specs.Setting.{Setting}
-use Rattle.cse_compile_code.specs.Numbers.{here_size, present_size, can_fail, deepest, picks_size, deck_size, count, behind, number_size, words_size, numbers_size, indexes_size, operations_size}
-use Rattle.cse_compile_code.specs.Statements.{known, which_size, argument_size, arguments_size, turns_size_by, head_size, exit_size_by, jump_code_size, statement_size, block_size, arms_size}
-use Rattle.cse_compile_code.specs.Routines.{entry_size_by, routine_size}
+use Rattle.cse_compile_code.specs.Numbers.{deepest, count, behind, number_size, words_size, numbers_size, indexes_size, operations_size}
+use Rattle.cse_compile_code.specs.Statements.{known, which_size, argument_size, arguments_size, head_size, statement_size, block_size, arms_size}
+use Rattle.cse_compile_code.specs.Routines.{routine_size}
+use Rattle.cse_compile_code.proofs.Small.{here_small, present_small, picks_small, deepest_small, deck_small, exit_small, jump_code_small, jump_small, turns_small, entry_small}
 use Rattle.cse_law_code_is_small.specs.Few.{NumberIsFew, WordsAreFew, NumbersAreFew, OperationsAreFew, WhichIsFew, ArgumentIsFew, ArgumentsAreFew, StatementIsFew, BlockIsFew, ArmsAreFew}
 use Rattle.cse_law_code_is_small.specs.Measure.{tokens}
 
 -- ---- items and hot decks
 
-here_short : (x : Found) → here_size x ≤ 5
-here_short h.Loop = omega arith
-here_short h.Event = omega arith
-here_short h.First = omega arith
-
-present_short : (x : Present) → present_size x ≤ 5
-present_short (p.Id item) = omega arith
-present_short (p.Here field found) = here_short found
-
-picks_short : (xs : List Pick) → picks_size xs ≤ 6 * length xs
-picks_short [] = omega arith
-picks_short (x ∷ xs) = omega (arith, present_short x.item, picks_short xs)
-
 either_short : (b : Bool) (m n k : ℕ) → m ≤ k → n ≤ k → (if b then m else n) ≤ k
 either_short true m n k f g = f
 either_short false m n k f g = g
-
-deepest_short : (xs : List Pick) → deepest xs ≤ length xs
-deepest_short [] = omega arith
-deepest_short (x ∷ xs) =
-    let ih = deepest_short xs in
-    let e = either_short (can_fail xs) (deepest xs + 1) 0 (length xs + 1) (omega (arith, ih)) (omega arith) in
-    omega (arith, e)
-
-deck_short : (xs : List Pick) → deck_size xs ≤ length xs + 3
-deck_short xs =
-    let d = deepest_short xs in
-    either_short (can_fail xs) (deepest xs + 3) 1 (length xs + 3) (omega (arith, d)) (omega arith)
 
 -- ---- expressions
 
@@ -63,18 +32,18 @@ mutual
   number_short (Constant digits value) f = omega arith
   number_short (Special' token value) f = omega arith
   number_short (Variable' name variable) f = omega arith
-  number_short (Item name item) f = omega (arith, present_short item)
+  number_short (Item name item) f = omega (arith, present_small item)
   number_short (ItemAt name field x) f = omega (arith, number_short x f)
   number_short (Cell name array xs) f = omega (arith, indexes_short xs f)
   number_short (Call name function xs) f = omega (arith, numbers_short xs f)
   number_short (Group x) f = omega (arith, number_short x f)
   number_short (Int x) f = omega (arith, number_short x f)
   number_short (IsSpecial x) f = omega (arith, number_short x f)
-  number_short (Deck name array picks) f = omega (arith, f, picks_short picks, deck_short picks)
+  number_short (Deck name array picks) f = omega (arith, f, picks_small picks, deck_small picks)
   number_short (TotOcc name of) f = omega arith
   number_short (MaxOcc name of) f = omega arith
-  number_short (CurOcc name of found) f = omega (arith, here_short found)
-  number_short (InSet name item set_name set) f = omega (arith, present_short item)
+  number_short (CurOcc name of found) f = omega (arith, here_small found)
+  number_short (InSet name item set_name set) f = omega (arith, present_small item)
   number_short (Minus x) f = omega (arith, number_short x f)
   number_short (Not x) f = omega (arith, number_short x f)
   number_short (Compare relation x y) f = omega (arith, number_short x f.0, number_short y f.1)
@@ -84,7 +53,7 @@ mutual
   pub words_short : (x : Words) → WordsAreFew x → words_size x + 11 ≤ 16 * expr_tokens (erase_words x)
   words_short (Quoted text) f = omega arith
   words_short (TextGlobal name variable) f = omega arith
-  words_short (TextItem name item) f = omega (arith, present_short item)
+  words_short (TextItem name item) f = omega (arith, present_small item)
   words_short (TextItemAt name field x) f = omega (arith, number_short x f)
   words_short (TextGroup x) f = omega (arith, words_short x f)
 
@@ -131,25 +100,8 @@ unfolding arguments_size
 arguments_short [] f = omega arith
 arguments_short (x ∷ xs) f = omega (arith, argument_short x f.0, arguments_short xs f.1)
 
-turns_short : (a b : Option ℤ) → turns_size_by a b ≤ 7
-turns_short (Some a) (Some b) = omega arith
-turns_short (Some a) None = omega arith
-turns_short None b = omega arith
-
 head_short : (records : List RecordShape) (x : Counting) → head_size records x ≤ 9
-head_short records x = omega (arith, turns_short (known records x.start) (known records x.stop))
-
-exit_short : (o : Option ℕ) → exit_size_by o ≤ 2
-exit_short None = omega arith
-exit_short (Some result) = omega arith
-
-jump_short : (s : Setting) (x : Jump) → jump_code_size s x ≤ 2
-jump_short s j.Break = omega arith
-jump_short s j.Next = omega arith
-jump_short s j.Exit = exit_short s.result_at
-
-one_jump : (n : ℕ) → jump_size n ≤ 1
-one_jump n = omega arith
+head_short records x = omega (arith, turns_small (known records x.start) (known records x.stop))
 
 mutual
   unfolding statement_size block_size arms_size
@@ -160,16 +112,16 @@ mutual
   statement_short s (SetText name variable x) f = omega (arith, words_short x f)
   statement_short s (SetItem name field which x) f = omega (arith, which_short which f.0, number_short x f.1)
   statement_short s (SetTextItem name field which x) f = omega (arith, which_short which f.0, words_short x f.1)
-  statement_short s (SetCell name array xs x) f = omega (arith, subscripts_short xs f.0, one_jump (behind xs), number_short x f.1)
+  statement_short s (SetCell name array xs x) f = omega (arith, subscripts_short xs f.0, jump_small (behind xs), number_short x f.1)
   statement_short s (CallOf name function xs) f = omega (arith, numbers_short xs f)
   statement_short s (If condition body others) f =
-      omega (arith, number_short condition f.0, block_short s body f.1, one_jump (arms_size s others), arms_short s others f.2)
+      omega (arith, number_short condition f.0, block_short s body f.1, jump_small (arms_size s others), arms_short s others f.2)
   statement_short s (For name variable record_name of body) f = omega (arith, block_short s body f)
   statement_short s (Do counting body) f = omega (arith, head_short s.records counting, block_short s body f)
-  statement_short s (Jump' token x) f = omega (arith, jump_short s x)
+  statement_short s (Jump' token x) f = omega (arith, jump_code_small s x)
   statement_short s (Impute name field which x) f = omega (arith, which_short which f.0, number_short x f.1)
   statement_short s (PutDeck name array picks x) f =
-      omega (arith, f.0, picks_short picks, deepest_short picks, one_jump (deepest picks), number_short x f.1)
+      omega (arith, f.0, picks_small picks, deepest_small picks, jump_small (deepest picks), number_short x f.1)
   statement_short s (ErrMsg message index xs summary) f = omega (arith, arguments_short xs f)
 
   pub block_short : (s : Setting) (xs : Statements) → BlockIsFew xs → block_size s xs ≤ 16 * stmts_tokens (erase_block xs)
@@ -180,14 +132,10 @@ mutual
   arms_short s no_arm f = omega arith
   arms_short s (else_of body) f = omega (arith, block_short s body f)
   arms_short s (arm condition body others) f =
-      omega (arith, number_short condition f.0, block_short s body f.1, one_jump (arms_size s others), arms_short s others f.2)
+      omega (arith, number_short condition f.0, block_short s body f.1, jump_small (arms_size s others), arms_short s others f.2)
 
 -- ---- routines
 
-entry_short : (o : Option ℕ) → entry_size_by o ≤ 2
-entry_short None = omega arith
-entry_short (Some result) = omega arith
-
 pub routine_short : (s : Setting) (body : Statements) → BlockIsFew body → routine_size s body ≤ 16 * tokens body + 4
 unfolding routine_size
-routine_short s body f = omega (arith, entry_short s.result_at, block_short s body f, exit_short s.result_at)
+routine_short s body f = omega (arith, entry_small s.result_at, block_short s body f, exit_small s.result_at)

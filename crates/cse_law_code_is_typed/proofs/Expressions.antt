@@ -2,7 +2,7 @@
 use Rattle.std.proofs.Common.{◌≡◌, ℕ, ◌+◌, ◌<◌, ◌≤◌, Bool, true, false, List, [], ◌∷◌, ◌++◌, length, map, Some, refl, sym, ap, ◌∙◌, subst, arith, ⊎_elim}
 use Rattle.std.specs.Prelude.{slice_get, ◌==◌, not, ◌||◌, reverse, unwrap_or, if◌then◌else◌}
 use Rattle.std.specs.List.{list_any}
-use Rattle.std.proofs.lemmas.Bool.{cases_Bool, or_right, false≢true}
+use Rattle.std.proofs.lemmas.Bool.{cases_Bool, or_right, false≢true, not-true}
 use Rattle.cse_image_parts.specs.declared.instruction.Op.TheVariants as ops
 use Rattle.cse_syntax_tree.specs.declared.tree.Operator.{Operator}
 use Rattle.cse_syntax_tree.specs.declared.tree.Operator.TheVariants as operators
@@ -112,10 +112,6 @@ module _ (s : Spot) (ws : List Wide) (all : List Stack) (bounds : List ℕ) wher
 
     -- ---- hot decks
 
-    not_true : (b : Bool) → not b ≡ true → b ≡ false
-    not_true true h = absurd (false≢true h)
-    not_true false h = refl
-
     or_left : (a b : Bool) → (a || b) ≡ true → b ≡ false → a ≡ true
     or_left true b h e = refl
     or_left false b h e = absurd (false≢true (sym e ∙ h))
@@ -191,7 +187,7 @@ module _ (s : Spot) (ws : List Wide) (all : List Stack) (bounds : List ℕ) wher
         ⊎_elim
         (λ (e : can_fail xs ≡ true). picks_led xs ys drops (q + 1) (pick_index s x ∷ st) f.2 (omega arith) h'.1 s''.1 e)
         (λ (e : can_fail xs ≡ false).
-        let b = not_true x.has_leftover (or_left (not x.has_leftover) (can_fail xs) can e) in
+        let b = not-true x.has_leftover (or_left (not x.has_leftover) (can_fail xs) can e) in
         let z : deepest (x ∷ xs) ≡ 0 = ap (λ b. if b then deepest xs + 1 else 0) e in
         let fail = drops + deepest (x ∷ xs) in
         let i : row x fail ≡ w.Plain ops.Row 0 x.set fail = ap (λ b. if b then w.Plain ops.Row 1 x.set 0 else w.Plain ops.Row 0 x.set fail) b in

@@ -9,10 +9,11 @@ use Rattle.cse_image_parts.specs.declared.instruction.Op.TheVariants as ops
 use Rattle.cse_code_typing.specs.declared.kind.Kind.{Kind}
 use Rattle.cse_code_typing.specs.declared.kind.Kind.TheVariants as k
 use Rattle.cse_code_typing.specs.declared.control.Control.TheVariants as c
-use Rattle.cse_code_typing.specs.Kinds.{same_kind, below, top_of, gift_kinds}
+use Rattle.cse_code_typing.specs.Kinds.{below, top_of, gift_kinds}
 use Rattle.cse_code_typing.specs.Skeleton.{control_by}
 use Rattle.cse_code_typing.specs.Signature.{Scene, Signature, ◌⇒◌, provided, signature_by, is_record, rows_of, id_number, id_text, number_item, text_item, global_at, local_at, storable, indexes_of, parameters_of, arguments_of}
 use Rattle.cse_code_typing.specs.Rule.{Edge, exits}
+use Rattle.cse_code_typing.proofs.Merges.{same_kind-refl}
 use Rattle.cse_logic_tree.specs.declared.tree.Variable.{Variable}
 use Rattle.cse_logic_tree.specs.declared.tree.Variable.TheVariants as v
 use Rattle.cse_compile_code.specs.Wide as w
@@ -25,14 +26,8 @@ use Rattle.cse_law_code_is_typed.proofs.WideRule.{Stack, wide_control, wide_sign
 same : (n : ℕ) → nat_eq n n ≡ true
 same n = eq-eqb n n refl
 
-pub same_self : (kind : Kind) → same_kind kind kind ≡ true
-same_self k.Number = refl
-same_self k.Text = refl
-same_self (k.Index n) = same n
-same_self (k.Occurrence n) = same n
-
 pub below_one : (kind : Kind) (takes st : Stack) → below (kind ∷ takes) (kind ∷ st) ≡ below takes st
-below_one kind takes st = ap (λ b. if b then below takes st else None) (same_self kind)
+below_one kind takes st = ap (λ b. if b then below takes st else None) (same_kind-refl kind)
 
 -- kinds laid down one after the other, and taken again from the top
 abbrev pub piled : List Kind → Stack → Stack

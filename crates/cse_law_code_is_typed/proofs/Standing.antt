@@ -283,9 +283,13 @@ module _ (s : Spot) where
 may_over : (s : Spot) (of : ℕ) (l : List Wide) → AllMay (over s of) l → AllMay s l
 may_over s of l e = record { by = e.by }
 
-within_may : (room : ℕ) (Q : ℕ → Type 0) (R : Type 0) → Within room Q → ((m : ℕ) → Q m → R) → R
+pub within_may : (room : ℕ) (Q : ℕ → Type 0) (R : Type 0) → Within room Q → ((m : ℕ) → Q m → R) → R
 within_may zero Q R h f = absurd h
 within_may (suc m) Q R h f = f m h
+
+pub inside : (room : ℕ) (P : ℕ → Type 0) → Within room P → (n : ℕ) × P n
+inside zero P h = absurd h
+inside (suc room) P h = (room, h)
 
 mutual
   unfolding statement_size block_size arms_size statement_code block_code arms_code needs_case calls_well

@@ -131,7 +131,7 @@ turns_stacks_length None b = refl
 pub head_stacks_length : (s : Spot) (x : Counting) → length (head_stacks s x) ≡ head_size s.setting.records x
 head_stacks_length s x = let e = turns_stacks_length (known s.setting.records x.start) (known s.setting.records x.stop) in omega (arith, e)
 
-exit_stacks_length : (o : Option ℕ) → length (exit_stacks_by o) ≡ exit_size_by o
+pub exit_stacks_length : (o : Option ℕ) → length (exit_stacks_by o) ≡ exit_size_by o
 exit_stacks_length None = refl
 exit_stacks_length (Some r) = refl
 

@@ -1,5 +1,5 @@
 -- Whole routines are typed, and their steps are counted.
-use Rattle.std.proofs.Common.{◌≡◌, ℕ, ◌+◌, ◌*◌, ◌≤◌, false, List, [], ◌∷◌, ◌++◌, length, Option, Some, None, refl, sym, ap, ◌∙◌, subst, arith, length-append}
+use Rattle.std.proofs.Common.{◌≡◌, ℕ, ◌+◌, ◌*◌, false, List, [], ◌∷◌, ◌++◌, length, Option, Some, None, refl, sym, ap, ◌∙◌, subst, arith, length-append}
 use Rattle.std.specs.Prelude.{slice_get, ◌==◌, unwrap_or}
 use Rattle.std.specs.List.{list_any}
 use Rattle.std.proofs.lemmas.Bool.{false≢true}
@@ -21,6 +21,7 @@ use Rattle.cse_logic_tree.specs.Typed.{Statements}
 use Rattle.cse_compile_code.specs.Wide.{Wide, bare, with_c, undefined}
 use Rattle.cse_compile_code.specs.Statements.{block_size, block_code, exit_size_by, exit_code_by}
 use Rattle.cse_compile_code.specs.Routines.{no_loop, entry_size_by, entry_code_by, routine_code}
+use Rattle.cse_compile_code.proofs.Small.{exit_some}
 use Rattle.cse_law_code_is_typed.specs.Stands.{AllStand}
 use Rattle.cse_law_code_is_typed.specs.Fit.{Spot, IsExit, IsSettled, BlockFits}
 use Rattle.cse_law_code_is_typed.specs.Steps.{block_steps, routine_steps}
@@ -28,7 +29,7 @@ use Rattle.cse_law_code_is_typed.specs.Emitted.{BracketsKeepRules, CodeIsTyped, 
 use Rattle.cse_law_code_is_typed.proofs.At.{HasAt, has_front, has_back, has_self}
 use Rattle.cse_law_code_is_typed.proofs.Spans.{sealed_around}
 use Rattle.cse_law_code_is_typed.proofs.WideRule.{Stack, wide_control, wide_skeleton}
-use Rattle.cse_law_code_is_typed.proofs.StatementStacks.{N, exit_stacks_by, block_stacks, block_stacks_length, block_start}
+use Rattle.cse_law_code_is_typed.proofs.StatementStacks.{N, exit_stacks_by, block_stacks, block_stacks_length, block_start, exit_stacks_length}
 use Rattle.cse_law_code_is_typed.proofs.Blocks.{entry_length, exit_length, block_length}
 use Rattle.cse_law_code_is_typed.proofs.Rules.{store_local}
 use Rattle.cse_law_code_is_typed.proofs.Parts.{stack_at, stack_is}
@@ -45,10 +46,6 @@ entry_stacks_by (Some result) = [] ∷ N ∷ []
 entry_stacks_length : (o : Option ℕ) → length (entry_stacks_by o) ≡ entry_size_by o
 entry_stacks_length None = refl
 entry_stacks_length (Some r) = refl
-
-exit_stacks_length : (o : Option ℕ) → length (exit_stacks_by o) ≡ exit_size_by o
-exit_stacks_length None = refl
-exit_stacks_length (Some r) = refl
 
 -- in a routine of such a body; `r` is the local of the result, if it has one
 module _ (s : Spot) (body : Statements) (r : Option ℕ) (bounds : List ℕ) where
@@ -130,17 +127,13 @@ module _ (s : Spot) (body : Statements) (r : Option ℕ) (bounds : List ℕ) whe
           looped = λ of h. absurd (false≢true (sym (ap (list_any (λ o. o == of)) outside) ∙ h));
           few = omega arith;
           breaks = λ e. absurd (false≢true e);
-          within = omega (arith, sk_len, size, some_exit r);
+          within = omega (arith, sk_len, size, exit_some r);
           behind = behind_body;
         }) (has_front wides n (block_code s.setting no_loop n body) _ body_code) (has_front all n (block_stacks s body) _ body_stacks) in
         let z : n + m + exit_size_by r ≡ length wides = omega (arith, size) in
         let c = exit_part s wides all bounds r (n + m) exits exit_code exit_stacks (moved s wides all bounds _ _ [] (sym z) past) in
         let steps : entry_size_by r + (block_steps bounds s.setting body + exit_size_by r) ≡ routine_steps bounds s.setting body = ap (λ o. entry_size_by o + (block_steps bounds s.setting body + exit_size_by o)) (sym same) in
         to s wides all bounds 0 (n + m + exit_size_by r) (length wides) _ _ z steps (join s wides all bounds 0 n _ _ _ a (join s wides all bounds n (n + m) _ _ _ b c))
-      where
-        some_exit : (o : Option ℕ) → 1 ≤ exit_size_by o
-        some_exit None = omega arith
-        some_exit (Some x) = omega arith
 
     start_is : (o : Option ℕ) → HasAt all 0 (entry_stacks_by o) → stack_at all (entry_size_by o) ≡ [] → stack_at all 0 ≡ []
     start_is None h e = e

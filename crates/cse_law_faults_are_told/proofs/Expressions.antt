@@ -3,6 +3,7 @@ use Rattle.std.specs.Prelude.{Bool, true, false, ◌&&◌, ◌||◌, not, ◌==�
 use Rattle.std.specs.Option.{option_and_then}
 use Rattle.std.proofs.Common.{◌≡◌, ℕ, ◌+◌, ◌-◌, List, [], ◌∷◌, ◌++◌, length, Option, Some, None, refl, sym, ap, ◌∙◌, arith, option_map}
 use Rattle.std.proofs.lemmas.Bool.{false≢true, ne_eqb, lt-leb}
+use Rattle.cse_lemmas.proofs.Booleans.{and-false, and-true}
 use Rattle.cse_value.specs.declared.shape.ItemKind.{ItemKind}
 use Rattle.cse_value.specs.declared.shape.ItemKind.TheVariants as kind
 use Rattle.cse_dict.specs.Dictionary.{SetText as ValueSet}
@@ -22,11 +23,12 @@ use Rattle.cse_logic_names.specs.declared.meaning.Meaning.TheVariants as m
 use Rattle.cse_logic_names.specs.Scope.{Scope, Facts, meant, own_result, has_case, kind_and_owner, found, are_free}
 use Rattle.cse_logic_names.specs.Walk.{is_there, joined, only_if}
 use Rattle.cse_logic_names.specs.WellTyped.{kind_of, whole_set, set_kind, set_meant, dimensions_of, may_call, suits, may_divide, value_of}
+use Rattle.cse_logic_names.proofs.Walks.{there_map}
 use Rattle.cse_logic_faults.specs.Faults.{Fault, only, unless, Counts, is_count as is_declared, sort_of, text_token}
 use Rattle.cse_logic_faults.specs.FaultsOfExpressions.{is_present, item_faults, field_faults, item_at_faults, number_item_faults, ended_faults, call_faults, cell_faults, bare_faults, indexed_faults, set_kind_faults, number_set_faults, set_faults, set_token, member_faults, is_record, record_faults, is_known, current_faults, is_numeric_present, is_picked, is_deck, are_picked, picks_faults, deck_faults, query_faults, text_faults, kinds_faults, is_end as is_last_operation, count_of, expr_faults, numbers_faults, operations_faults}
 use Rattle.cse_logic_expressions.specs.Judge.{Judged, AsNumber, AsWords, Unknown, is_sound, as_number, present_at, field_at, item_judged, sole, item_at_judged, result_judged, bare, is_count, indexed, present_if, number_present, pick, set_present, picks_for, picks_of, deck_of, record_of, current, queried, is_number_kind, number_set, in_set, member, grouped, compared, expr_count, is_end, judge, judge_all, judge_operations}
 use Rattle.cse_law_faults_are_told.specs.Counted.{ArrayIsCounted, FunctionIsCounted, IsCounted}
-use Rattle.cse_law_faults_are_told.proofs.Truths.{none, and_both, and_true, and_false, and_flip, and_second, none_both, none_unless, none_beside, none_of_two, there_map, there_if, there_both, told_both, told_if}
+use Rattle.cse_law_faults_are_told.proofs.Truths.{none, and_both, and_flip, and_second, none_both, none_unless, none_beside, none_of_two, there_if, there_both, told_both, told_if}
 use Rattle.cse_law_faults_are_told.proofs.Sorts.{sort_judged, sort_is, number_told}
 
 -- ---- subscripts
@@ -70,7 +72,7 @@ subscripts_are s (syntax.expr_and x (syntax.expr_and y xs)) =
     let all = joined number_and (as_number (judge s false x)) (joined number_and (as_number (judge s false y)) (judge_all s xs)) in
     record {
       no_one = λ h. absurd (false≢true (sym (more (n + 1)) ∙ h));
-      one = sole_of_more (as_number (judge s false x)) (as_number (judge s false y)) (judge_all s xs) ∙ sym (ap (λ b. is_there all && b) (more_than_one n) ∙ and_false (is_there all));
+      one = sole_of_more (as_number (judge s false x)) (as_number (judge s false y)) (judge_all s xs) ∙ sym (ap (λ b. is_there all && b) (more_than_one n) ∙ and-false (is_there all));
       few = lt-leb (n + 1 + 1) 1 (omega arith) ∙ sym (ap (λ b. b || ((n + 1 + 1) == 1)) (more (n + 1)) ∙ more_than_one n);
     }
 
@@ -87,7 +89,7 @@ module _ (c : Counts) (s : Scope) where
 
   pub field_there : (item owner : ℕ) → is_there (field_at s item owner) ≡ (has_case s.routine && not (owner == 255))
   unfolding field_at
-  field_there item owner = there_if (has_case s.routine && not (owner == 255)) _ ∙ and_true _
+  field_there item owner = there_if (has_case s.routine && not (owner == 255)) _ ∙ and-true _
 
   item_told : (name : Spelling) (item : ℕ) (o : Option (ItemKind × ℕ)) → is_sound (item_judged s name item o) ≡ none (item_faults s name.token o)
   item_told name item None = refl
@@ -122,7 +124,7 @@ module _ (c : Counts) (s : Scope) where
       by (Some (m.Text g)) = refl
       by (Some (m.Array a)) = refl
       by (Some (m.Function k)) = refl
-      by (Some (m.Record x)) = there_if (has_case s.routine) (Some x) ∙ and_true (has_case s.routine)
+      by (Some (m.Record x)) = there_if (has_case s.routine) (Some x) ∙ and-true (has_case s.routine)
       by (Some (m.Item item)) = refl
       by (Some (m.Set x)) = refl
       by (Some m.Application) = refl
@@ -177,7 +179,7 @@ module _ (c : Counts) (s : Scope) where
   set_told token (Some (m.Record x)) = refl
   set_told token (Some (m.Item item)) = refl
   set_told token (Some (m.Set x)) =
-      there_if (is_number_kind (kind_of s.dictionary (whole_set (slice_get s.dictionary.sets x)))) (Some x) ∙ and_true _ ∙ set_of_told token (slice_get s.dictionary.sets x)
+      there_if (is_number_kind (kind_of s.dictionary (whole_set (slice_get s.dictionary.sets x)))) (Some x) ∙ and-true _ ∙ set_of_told token (slice_get s.dictionary.sets x)
   set_told token (Some m.Application) = refl
   set_told token (Some m.Level) = refl
 
@@ -269,7 +271,7 @@ module _ (c : Counts) (s : Scope) where
 
   call_told : (token n : ℕ) (o : Option (Option Facts)) (declared : Option ℕ) → FunctionIsCounted o declared → may_call s n o ≡ none (unless (is_declared n declared) 44 token ++ ended_faults s token o)
   unfolding suits
-  call_told token n None declared h = sym (none_beside (is_declared n declared) 44 token (only 45 token) ∙ and_false (is_declared n declared))
+  call_told token n None declared h = sym (none_beside (is_declared n declared) 44 token (only 45 token) ∙ and-false (is_declared n declared))
   call_told token n (Some None) declared h = absurd h
   call_told token n (Some (Some f)) declared h =
       let may = has_case s.routine || not f.needs_case in
@@ -319,9 +321,9 @@ module _ (c : Counts) (s : Scope) where
     -- a name with subscripts
     module _ (name : Spelling) (n : ℕ) (xs : Option Numbers) (subscripts : Subscripts n xs) where
       field_order : (h o x one : Bool) → ((h && not o) && (x && one)) ≡ (x && ((one && not o) && h))
-      field_order h true x one = ap (λ b. b && (x && one)) (and_false h) ∙ sym (ap (λ b. x && (b && h)) (and_false one) ∙ and_false x)
+      field_order h true x one = ap (λ b. b && (x && one)) (and-false h) ∙ sym (ap (λ b. x && (b && h)) (and-false one) ∙ and-false x)
       field_order h false x one =
-          ap (λ b. b && (x && one)) (and_true h) ∙ and_second h x one ∙ ap (λ b. x && b) (and_flip h one ∙ sym (ap (λ b. b && h) (and_true one)))
+          ap (λ b. b && (x && one)) (and-true h) ∙ and_second h x one ∙ ap (λ b. x && b) (and_flip h one ∙ sym (ap (λ b. b && h) (and-true one)))
 
       field_told : {A : Type 0} (g : Field → Number → A) (item owner : ℕ) → is_there (joined g (field_at s item owner) (sole xs)) ≡ (is_there xs && none (field_faults s name.token n owner))
       field_told g item owner =
@@ -331,24 +333,24 @@ module _ (c : Counts) (s : Scope) where
           ∙ ap (λ b. is_there xs && b) (sym (none_of_two ((n == 1) && not (owner == 255)) (has_case s.routine) 44 name.token 49 name.token))
 
       item_at_told : (item : ℕ) (o : Option (ItemKind × ℕ)) → is_sound (item_at_judged s name item o xs) ≡ (is_there xs && none (item_at_faults s name.token n o))
-      item_at_told item None = sym (and_false (is_there xs))
-      item_at_told item (Some (kind.Opaque, owner)) = sym (and_false (is_there xs))
+      item_at_told item None = sym (and-false (is_there xs))
+      item_at_told item (Some (kind.Opaque, owner)) = sym (and-false (is_there xs))
       item_at_told item (Some (kind.Number, owner)) = field_told (ItemAt name) item owner
       item_at_told item (Some (kind.Text, owner)) = field_told (TextItemAt name) item owner
 
       indexed_told : (o : Option Meaning) → is_sound (indexed s name o n xs) ≡ (is_there xs && none (indexed_faults c s name.token n o))
-      indexed_told None = sym (and_false (is_there xs))
-      indexed_told (Some (m.Variable x)) = sym (and_false (is_there xs))
-      indexed_told (Some (m.Text g)) = sym (and_false (is_there xs))
+      indexed_told None = sym (and-false (is_there xs))
+      indexed_told (Some (m.Variable x)) = sym (and-false (is_there xs))
+      indexed_told (Some (m.Text g)) = sym (and-false (is_there xs))
       indexed_told (Some (m.Array a)) =
           there_if (is_count n (dimensions_of s a)) (option_map (Cell name a) xs) ∙ and_both (cells_told name.token n a) (there_map (Cell name a) xs) ∙ and_flip (none (cell_faults c name.token n a)) (is_there xs)
       indexed_told (Some (m.Function k)) =
           there_if (may_call s n (slice_get s.functions k)) (option_map (Call name k) xs) ∙ and_both (calls_told name.token n k) (there_map (Call name k) xs) ∙ and_flip (none (call_faults c s name.token n k)) (is_there xs)
-      indexed_told (Some (m.Record x)) = sym (and_false (is_there xs))
+      indexed_told (Some (m.Record x)) = sym (and-false (is_there xs))
       indexed_told (Some (m.Item item)) = item_at_told item (kind_and_owner s.dictionary item)
-      indexed_told (Some (m.Set x)) = sym (and_false (is_there xs))
-      indexed_told (Some m.Application) = sym (and_false (is_there xs))
-      indexed_told (Some m.Level) = sym (and_false (is_there xs))
+      indexed_told (Some (m.Set x)) = sym (and-false (is_there xs))
+      indexed_told (Some m.Application) = sym (and-false (is_there xs))
+      indexed_told (Some m.Level) = sym (and-false (is_there xs))
 
     -- ---- expressions
 

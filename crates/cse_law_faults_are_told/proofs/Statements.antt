@@ -2,6 +2,7 @@
 use Rattle.std.specs.Prelude.{Bool, true, false, ◌&&◌, ◌||◌, not, ◌==◌, nat_le, if◌then◌else◌, slice_get}
 use Rattle.std.proofs.Common.{◌≡◌, ℕ, ◌+◌, List, [], ◌∷◌, ◌++◌, length, Option, Some, None, refl, sym, ap, ◌∙◌, arith, option_map}
 use Rattle.std.proofs.lemmas.Bool.{eqb-true}
+use Rattle.cse_lemmas.proofs.Booleans.{and-false, and_assoc, and-true}
 use Rattle.cse_value.specs.declared.shape.ItemKind.{ItemKind}
 use Rattle.cse_value.specs.declared.shape.ItemKind.TheVariants as kind
 use Rattle.cse_image_parts.specs.declared.placeholders.ArgumentKind.{ArgumentKind}
@@ -17,14 +18,15 @@ use Rattle.cse_logic_names.specs.declared.meaning.Meaning.TheVariants as m
 use Rattle.cse_logic_names.specs.Scope.{Scope, meant, own_result, loop_variable, has_case, kind_and_owner, found, is_free, within}
 use Rattle.cse_logic_names.specs.Walk.{is_there, joined, only_if}
 use Rattle.cse_logic_names.specs.WellTyped.{dimensions_of, may_call, messages_in, messages_of, kinds_of, signed_value, step_of, may_jump, value_of}
+use Rattle.cse_logic_names.proofs.Walks.{there_map}
 use Rattle.cse_logic_faults.specs.Faults.{Fault, only, unless, Counts, is_text, is_number, sort_of, text_token}
 use Rattle.cse_logic_faults.specs.FaultsOfExpressions.{cell_faults, call_faults, record_faults, deck_faults, text_faults, count_of, expr_faults, numbers_faults, number_faults}
 use Rattle.cse_logic_faults.specs.FaultsOfStatements.{free_faults, stands, place_faults, assign_item_faults, assign_result_faults, assign_faults, impute_item_faults, impute_faults, alone_faults, variable_or, record_in, for_scope, do_scope, digits_faults, limit_faults, by_faults, variable_faults, counting_faults, for_faults, values_faults, is_of, arguments_faults, message_faults, stmt_faults, stmts_faults, arms_faults}
 use Rattle.cse_logic_expressions.specs.Judge.{Judged, is_sound, as_number, field_at, sole, is_count, picks_of, record_of, judge, judge_all}
 use Rattle.cse_logic_expressions.specs.JudgeStatement.{as_words, free_variable, which_at, place_at, set_item, set_text_item, impute_item, assign_variable, assign_item, assign, impute_number, impute, put_deck, call_of, head, for_head, in_for, for_of, whole_judged, limit_judged, limit_pair, with_step, counting_of, counting_judged, in_do, as_argument, judge_arguments, message_of, err_msg, if_of, arm_of, judge_statement, judge_block, judge_arms}
-use Rattle.cse_logic_expressions.proofs.Right.{For, for_joined, for_only, IsRecord, record_right}
+use Rattle.cse_logic_expressions.proofs.Right.{For, for_joined, for_only, IsRecord, record_right, for_any}
 use Rattle.cse_law_faults_are_told.specs.Counted.{IsCounted}
-use Rattle.cse_law_faults_are_told.proofs.Truths.{none, and_both, and_true, and_false, and_flip, and_group, and_second, none_both, none_unless, none_of_two, there_map, there_if, there_both, told_both}
+use Rattle.cse_law_faults_are_told.proofs.Truths.{none, and_both, and_flip, and_second, none_both, none_unless, none_of_two, there_if, there_both, told_both}
 use Rattle.cse_law_faults_are_told.proofs.Sorts.{sort_judged, number_there, words_there, sort_is, number_told}
 use Rattle.cse_law_faults_are_told.proofs.Expressions.{Subscripts, counts_are, subscripts_are, field_there, record_told, calls_told, cells_told, picks_are_told, expr_told, numbers_told}
 
@@ -37,10 +39,10 @@ module _ (c : Counts) (s : Scope) (counted : IsCounted c s) (name : Spelling) (n
     where
       by : (z : Bool) → (z ≡ true → is_there xs ≡ true) → (z && b) ≡ (is_there xs && (z && b))
       by true h = sym (ap (λ t. t && b) (h refl))
-      by false h = sym (and_false (is_there xs))
+      by false h = sym (and-false (is_there xs))
 
   at_fault : (v : Bool) → false ≡ (is_there xs && (v && false))
-  at_fault v = sym (ap (λ b. is_there xs && b) (and_false v) ∙ and_false (is_there xs))
+  at_fault v = sym (ap (λ b. is_there xs && b) (and-false v) ∙ and-false (is_there xs))
 
   -- a place of an item
 
@@ -62,14 +64,14 @@ module _ (c : Counts) (s : Scope) (counted : IsCounted c s) (name : Spelling) (n
       → ((case && field) && (if z then known else (x && one))) ≡ (x && (field && ((case && (not z || known)) && few)))
   place_order true x one few case known field h k =
       ap (λ b. b && known) (and_flip case field)
-      ∙ and_group field case known
-      ∙ ap (λ b. field && b) (sym (and_true (case && known)) ∙ ap (λ b. (case && known) && b) (sym k))
+      ∙ and_assoc field case known
+      ∙ ap (λ b. field && b) (sym (and-true (case && known)) ∙ ap (λ b. (case && known) && b) (sym k))
       ∙ ap (λ b. b && (field && ((case && known) && few))) (sym (h refl))
   place_order false x one few case known field h k =
       and_second (case && field) x one
       ∙ ap (λ b. x && (b && one)) (and_flip case field)
-      ∙ ap (λ b. x && b) (and_group field case one)
-      ∙ ap (λ b. x && (field && (b && one))) (sym (and_true case))
+      ∙ ap (λ b. x && b) (and_assoc field case one)
+      ∙ ap (λ b. x && (field && (b && one))) (sym (and-true case))
       ∙ ap (λ b. x && (field && ((case && true) && b))) (sym k)
 
   place_told : (token item owner : ℕ) → is_there (place_at s n item owner xs) ≡ (is_there xs && none (place_faults s token n owner))
@@ -98,16 +100,16 @@ module _ (c : Counts) (s : Scope) (counted : IsCounted c s) (name : Spelling) (n
         let free = is_free s.loops x in
         let faults = unless (n == 0) number name.token ++ unless free 47 name.token in
         there_if (n == 0) _
-        ∙ ap (λ b. (n == 0) && b) (there_both (Set name) (only_if free (Some x)) (as_number v) ∙ and_both (there_if free (Some x) ∙ and_true free) (number_there v))
+        ∙ ap (λ b. (n == 0) && b) (there_both (Set name) (only_if free (Some x)) (as_number v) ∙ and_both (there_if free (Some x) ∙ and-true free) (number_there v))
         ∙ bare_order (free && (is_sound v && not (is_text (sort_judged v))))
         ∙ ap (λ b. is_there xs && b) (
-        sym (and_group (n == 0) free (is_sound v && not (is_text (sort_judged v))))
+        sym (and_assoc (n == 0) free (is_sound v && not (is_text (sort_judged v))))
         ∙ ap (λ b. b && (is_sound v && not (is_text (sort_judged v)))) (sym (none_of_two (n == 0) free number name.token 47 name.token))
         ∙ as_number_none faults
         )
 
     result_told : (o : Option Variable) → is_there (assign_variable s name o n v) ≡ (is_there xs && (is_sound v && none (assign_result_faults s name.token n o ++ text_faults (sort_judged v) token)))
-    result_told None = there_if (n == 0) None ∙ and_false (n == 0) ∙ at_fault (is_sound v)
+    result_told None = there_if (n == 0) None ∙ and-false (n == 0) ∙ at_fault (is_sound v)
     result_told (Some x) = variable_told 40 x
 
     item_told : (item : ℕ) (o : Option (ItemKind × ℕ)) → is_there (assign_item s name n item o xs v) ≡ (is_there xs && (is_sound v && none (assign_item_faults s name.token n o (sort_judged v) token)))
@@ -116,12 +118,12 @@ module _ (c : Counts) (s : Scope) (counted : IsCounted c s) (name : Spelling) (n
     item_told item (Some (kind.Number, owner)) =
         there_both (set_item name) (place_at s n item owner xs) (as_number v)
         ∙ and_both (place_told name.token item owner) (number_there v)
-        ∙ and_group (is_there xs) (none (place_faults s name.token n owner)) (is_sound v && not (is_text (sort_judged v)))
+        ∙ and_assoc (is_there xs) (none (place_faults s name.token n owner)) (is_sound v && not (is_text (sort_judged v)))
         ∙ ap (λ b. is_there xs && b) (as_number_none (place_faults s name.token n owner))
     item_told item (Some (kind.Text, owner)) =
         there_both (set_text_item name) (place_at s n item owner xs) (as_words v)
         ∙ and_both (place_told name.token item owner) (words_there v)
-        ∙ and_group (is_there xs) (none (place_faults s name.token n owner)) (is_sound v && not (is_number (sort_judged v)))
+        ∙ and_assoc (is_there xs) (none (place_faults s name.token n owner)) (is_sound v && not (is_number (sort_judged v)))
         ∙ ap (λ b. is_there xs && b) (as_words_none (place_faults s name.token n owner))
 
     assign_told : (o : Option Meaning) → is_there (assign s name o n xs v) ≡ (is_there xs && (is_sound v && none (assign_faults c s name.token n o (sort_judged v) token)))
@@ -153,7 +155,7 @@ module _ (c : Counts) (s : Scope) (counted : IsCounted c s) (name : Spelling) (n
   impute_item_told item (Some (kind.Number, owner)) w =
       there_both (impute_item name) (place_at s n item owner xs) w
       ∙ ap (λ b. b && is_there w) (place_told name.token item owner)
-      ∙ and_group (is_there xs) (none (place_faults s name.token n owner)) (is_there w)
+      ∙ and_assoc (is_there xs) (none (place_faults s name.token n owner)) (is_there w)
       ∙ ap (λ b. is_there xs && b) (and_flip (none (place_faults s name.token n owner)) (is_there w))
   impute_item_told item (Some (kind.Text, owner)) w = at_fault (is_there w)
 
@@ -172,35 +174,35 @@ module _ (c : Counts) (s : Scope) (counted : IsCounted c s) (name : Spelling) (n
   -- a call that stands alone
 
   alone_told : (o : Option Meaning) → is_there (call_of s name o n xs) ≡ (is_there xs && none (alone_faults c s name.token n o))
-  alone_told None = sym (and_false (is_there xs))
-  alone_told (Some (m.Variable x)) = sym (and_false (is_there xs))
-  alone_told (Some (m.Text g)) = sym (and_false (is_there xs))
-  alone_told (Some (m.Array k)) = sym (and_false (is_there xs))
+  alone_told None = sym (and-false (is_there xs))
+  alone_told (Some (m.Variable x)) = sym (and-false (is_there xs))
+  alone_told (Some (m.Text g)) = sym (and-false (is_there xs))
+  alone_told (Some (m.Array k)) = sym (and-false (is_there xs))
   alone_told (Some (m.Function k)) =
       there_if (may_call s n (slice_get s.functions k)) (option_map (CallOf name k) xs)
       ∙ and_both (calls_told c s counted name.token n k) (there_map (CallOf name k) xs)
       ∙ and_flip (none (call_faults c s name.token n k)) (is_there xs)
-  alone_told (Some (m.Record x)) = sym (and_false (is_there xs))
-  alone_told (Some (m.Item item)) = sym (and_false (is_there xs))
-  alone_told (Some (m.Set x)) = sym (and_false (is_there xs))
-  alone_told (Some m.Application) = sym (and_false (is_there xs))
-  alone_told (Some m.Level) = sym (and_false (is_there xs))
+  alone_told (Some (m.Record x)) = sym (and-false (is_there xs))
+  alone_told (Some (m.Item item)) = sym (and-false (is_there xs))
+  alone_told (Some (m.Set x)) = sym (and-false (is_there xs))
+  alone_told (Some m.Application) = sym (and-false (is_there xs))
+  alone_told (Some m.Level) = sym (and-false (is_there xs))
 
 module _ (c : Counts) (s : Scope) (counted : IsCounted c s) where
   put_told : (name : Spelling) (o : Option Meaning) (w : Option Number) → is_there (put_deck s name o w) ≡ (is_there w && none (deck_faults s name.token o))
-  put_told name None w = sym (and_false (is_there w))
-  put_told name (Some (m.Variable x)) w = sym (and_false (is_there w))
-  put_told name (Some (m.Text g)) w = sym (and_false (is_there w))
+  put_told name None w = sym (and-false (is_there w))
+  put_told name (Some (m.Variable x)) w = sym (and-false (is_there w))
+  put_told name (Some (m.Text g)) w = sym (and-false (is_there w))
   put_told name (Some (m.Array k)) w =
       there_both (PutDeck name k) (picks_of s (slice_get s.arrays k)) w
       ∙ ap (λ b. b && is_there w) (picks_are_told c s counted name.token k)
       ∙ and_flip (none (deck_faults s name.token (Some (m.Array k)))) (is_there w)
-  put_told name (Some (m.Function k)) w = sym (and_false (is_there w))
-  put_told name (Some (m.Record x)) w = sym (and_false (is_there w))
-  put_told name (Some (m.Item item)) w = sym (and_false (is_there w))
-  put_told name (Some (m.Set x)) w = sym (and_false (is_there w))
-  put_told name (Some m.Application) w = sym (and_false (is_there w))
-  put_told name (Some m.Level) w = sym (and_false (is_there w))
+  put_told name (Some (m.Function k)) w = sym (and-false (is_there w))
+  put_told name (Some (m.Record x)) w = sym (and-false (is_there w))
+  put_told name (Some (m.Item item)) w = sym (and-false (is_there w))
+  put_told name (Some (m.Set x)) w = sym (and-false (is_there w))
+  put_told name (Some m.Application) w = sym (and-false (is_there w))
+  put_told name (Some m.Level) w = sym (and-false (is_there w))
 
   -- ---- messages
 
@@ -242,7 +244,7 @@ whole_told x = there_map _ (signed_value x) ∙ there_map _ (value_of x.digits) 
 module _ (s : Scope) where
   free_told : (token : ℕ) (o : Option Variable) → is_there (free_variable s.loops o) ≡ none (free_faults s token o)
   free_told token None = refl
-  free_told token (Some x) = there_if (is_free s.loops x) (Some x) ∙ and_true (is_free s.loops x) ∙ sym (none_unless (is_free s.loops x) 47 token)
+  free_told token (Some x) = there_if (is_free s.loops x) (Some x) ∙ and-true (is_free s.loops x) ∙ sym (none_unless (is_free s.loops x) 47 token)
 
   free_right : (o : Option Variable) → For (λ x. o ≡ Some x) (free_variable s.loops o)
   free_right None = tt
@@ -269,7 +271,7 @@ module _ (s : Scope) where
       (free_variable s.loops (loop_variable s variable)) (record_of s (meant s record_name)) (free_right (loop_variable s variable)) (record_right s (meant s record_name))
 
   do_order : (f w p q : Bool) → ((f && w) && (p && q)) ≡ (f && (p && (q && w)))
-  do_order f w p q = and_group f w (p && q) ∙ ap (λ b. f && b) (and_flip w (p && q) ∙ and_group p q w)
+  do_order f w p q = and_assoc f w (p && q) ∙ ap (λ b. f && b) (and_flip w (p && q) ∙ and_assoc p q w)
 
   do_head_told : (c : Counts) (x : syntax.Counting) → is_there (counting_judged s x) ≡ none (counting_faults s x)
   do_head_told c x =
@@ -284,18 +286,14 @@ module _ (s : Scope) where
       ∙ ap (λ b. none (variable_faults s x.variable) && (none (limit_faults s x.start) && b)) (none_both (limit_faults s x.stop) (by_faults x.by))
       )
 
-  any : {A : Type 0} (o : Option A) → For (λ x. Unit {0}) o
-  any None = tt
-  any (Some x) = tt
-
   do_scope_is : (x : syntax.Counting) → For (λ h. in_do s (Some h) ≡ do_scope s x.variable) (counting_judged s x)
   do_scope_is x =
       let variable = free_variable s.loops (loop_variable s x.variable) in
       for_joined (λ v. loop_variable s x.variable ≡ Some v.0) (λ l. Unit {0}) (λ h. in_do s (Some h) ≡ do_scope s x.variable) (counting_of x)
       (λ v l e u. ap (λ o. within s None (variable_or o)) (sym e))
       (joined with_step variable (step_of x.by)) (joined limit_pair (limit_judged s x.start) (limit_judged s x.stop))
-      (for_joined (λ y. loop_variable s x.variable ≡ Some y) (λ z. Unit {0}) (λ v. loop_variable s x.variable ≡ Some v.0) with_step (λ y z e u. e) variable (step_of x.by) (free_right (loop_variable s x.variable)) (any (step_of x.by)))
-      (any (joined limit_pair (limit_judged s x.start) (limit_judged s x.stop)))
+      (for_joined (λ y. loop_variable s x.variable ≡ Some y) (λ z. Unit {0}) (λ v. loop_variable s x.variable ≡ Some v.0) with_step (λ y z e u. e) variable (step_of x.by) (free_right (loop_variable s x.variable)) (for_any (step_of x.by)))
+      (for_any (joined limit_pair (limit_judged s x.start) (limit_judged s x.stop)))
 
 -- ---- statements
 
@@ -357,7 +355,7 @@ module _ (c : Counts) where
         (do_scope_is s counting) (do_head_told s c counting)
         (block_told outer (counted_within c s None (variable_or (loop_variable s counting.variable)) k) n body)
     statement_told s k n (syntax.Jump' token jump) =
-        there_if (may_jump s.loops jump) _ ∙ and_true (may_jump s.loops jump) ∙ sym (none_unless (may_jump s.loops jump) 49 token)
+        there_if (may_jump s.loops jump) _ ∙ and-true (may_jump s.loops jump) ∙ sym (none_unless (may_jump s.loops jump) 49 token)
     statement_told s k n (syntax.Impute name subscripts value) =
         let xs = judge_all s subscripts in
         let w = as_number (judge s false value) in

@@ -1,7 +1,8 @@
 -- Where lists of faults are empty, and where parts are there: the same truths on both sides.
 use Rattle.std.specs.Prelude.{Bool, true, false, ◌&&◌, not}
-use Rattle.std.proofs.Common.{◌≡◌, ℕ, List, [], ◌∷◌, ◌++◌, Option, Some, None, refl, sym, ap, ◌∙◌, option_map}
+use Rattle.std.proofs.Common.{◌≡◌, ℕ, List, [], ◌∷◌, ◌++◌, Option, Some, None, refl, sym, ap, ◌∙◌}
 use Rattle.std.proofs.lemmas.Bool.{false≢true}
+use Rattle.cse_lemmas.proofs.Booleans.{and-false, and_assoc, and-true}
 use Rattle.cse_logic_names.specs.Walk.{is_there, joined, only_if}
 use Rattle.cse_logic_faults.specs.Faults.{Fault, unless, least_of}
 
@@ -24,29 +25,17 @@ least_there (x ∷ xs) = refl
 pub and_both : {a b x y : Bool} → a ≡ x → b ≡ y → (a && b) ≡ (x && y)
 and_both {b = b} {x = x} h k = ap (λ t. t && b) h ∙ ap (λ t. x && t) k
 
-pub and_true : (a : Bool) → (a && true) ≡ a
-and_true true = refl
-and_true false = refl
-
-pub and_false : (a : Bool) → (a && false) ≡ false
-and_false true = refl
-and_false false = refl
-
 pub and_flip : (a b : Bool) → (a && b) ≡ (b && a)
-and_flip true b = sym (and_true b)
-and_flip false b = sym (and_false b)
-
-pub and_group : (a b c : Bool) → ((a && b) && c) ≡ (a && (b && c))
-and_group true b c = refl
-and_group false b c = refl
+and_flip true b = sym (and-true b)
+and_flip false b = sym (and-false b)
 
 -- the first of three goes behind the second
 pub and_second : (a b c : Bool) → (a && (b && c)) ≡ (b && (a && c))
 and_second true b c = refl
-and_second false b c = sym (and_false b)
+and_second false b c = sym (and-false b)
 
 pub and_pairs : (a b c d : Bool) → ((a && b) && (c && d)) ≡ ((a && c) && (b && d))
-and_pairs a b c d = and_group a b (c && d) ∙ ap (λ t. a && t) (and_second b c d) ∙ sym (and_group a c (b && d))
+and_pairs a b c d = and_assoc a b (c && d) ∙ ap (λ t. a && t) (and_second b c d) ∙ sym (and_assoc a c (b && d))
 
 -- ---- faults
 
@@ -66,10 +55,6 @@ pub none_of_two : (a b : Bool) (m x n y : ℕ) → none (unless a m x ++ unless 
 none_of_two a b m x n y = none_beside a m x (unless b n y) ∙ ap (λ t. a && t) (none_unless b n y)
 
 -- ---- parts
-
-pub there_map : {A B : Type 0} (g : A → B) (o : Option A) → is_there (option_map g o) ≡ is_there o
-there_map g None = refl
-there_map g (Some x) = refl
 
 pub there_if : {A : Type 0} (b : Bool) (o : Option A) → is_there (only_if b o) ≡ (b && is_there o)
 there_if true o = refl

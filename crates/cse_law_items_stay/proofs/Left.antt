@@ -1,9 +1,8 @@
 -- What events leave of a case: all columns but those of the items that are named.
-use Rattle.std.proofs.Common.{◌≡◌, ℕ, zero, suc, ◌+◌, ◌-◌, ◌<◌, ◌≤◌, List, [], ◌∷◌, length, get_or, Option, Some, None, refl, sym, ap, ◌∙◌, subst, arith, inl, inr}
+use Rattle.std.proofs.Common.{◌≡◌, ℕ, zero, suc, ◌<◌, ◌≤◌, List, [], ◌∷◌, length, get_or, Option, Some, None, refl, sym, ap, ◌∙◌, subst, arith}
 use Rattle.std.specs.Prelude.{slice_get}
 use Rattle.std.specs.Option.{option_map, option_map_or}
 use Rattle.std.proofs.lemmas.Option.{slice_get-map, slice_get_within}
-use Rattle.std.proofs.lemmas.Bool.{cases_eq, cases_lt}
 use Rattle.cse_value.specs.declared.shape.ItemKind.{ItemKind}
 use Rattle.cse_value.specs.declared.shape.ItemKind.TheVariants as kind
 use Rattle.cse_value.specs.declared.shape.ItemShape.{ItemShape}
@@ -19,7 +18,7 @@ use Rattle.cse_case.proofs.SetLaws.{stay-occurrences, stay-columns, stay-fit, st
 use Rattle.cse_case.proofs.SightLaws.{occurrence_own}
 use Rattle.cse_logic_tree.specs.declared.tree.Field.{Field}
 use Rattle.cse_steps.specs.Columns.{LinesStay}
-use Rattle.cse_steps.proofs.Columns.{case_then}
+use Rattle.cse_steps.proofs.Columns.{case_then, lines_written}
 use Rattle.cse_law_items_stay.proofs.Keeps.{Keeps}
 
 -- ---- an item of the dictionary
@@ -45,24 +44,6 @@ module _ (d : DictionaryText) (k : ItemKind) (f : Field) (is : IsThere d k f) wh
   is_item = record { there = slice_get_within (shape_of d).items f.item is.item.shape shape_is; owns = owner_is; is_of_kind = ap (λ (x : ItemShape). x.kind) item_is ∙ is.kind }
 
 -- ---- an item written into the line at a place
-
-written_lines : (W : ℕ → ℕ → Type 0) (old new : CaseText) (place : ℕ) (item : ItemShape) → HasSameOccurrences old new → LeavesColumns old new place item → LeavesIdsAndTypes old new
-    → ((j : ℕ) → HasColumn item j → W place j) → LinesStay W old new
-written_lines W old new place item same leaves others written = record {
-  same = same;
-  widths = leaves.widths;
-  columns = λ p j. elim (cases_eq p place) [
-    | inr other ↦ inl (leaves.columns p j (λ here has. other here))
-    | inl here ↦ elim (cases_lt j (item.start - 1)) [
-      | inl low ↦ inl (leaves.columns p j (λ h has. let first = has.0 in omega arith))
-      | inr high ↦ elim (cases_lt j (item.start - 1 + item.len)) [
-        | inl within ↦ inr (subst (λ q. W q j) (sym here) (written j (high, within)))
-        | inr past ↦ inl (leaves.columns p j (λ h has. let last = has.1 in omega arith))
-      ]
-    ]
-  ];
-  ids_and_types = others;
-}
 
 -- the record of the line at a place
 record_at : (lines : List LineText) (k : ℕ) → get_or (types_of lines) k None ≡ (get_or lines k no_line).record_number
@@ -126,7 +107,7 @@ module _ (d : DictionaryText) (sound : IsSound d) (M : ℕ → Type 0) (t : Case
         record {
           fit = fit;
           lines = case_then Named Named Named (λ p j w. w) (λ p j w. w) (Some t) (Some c) (Some new) q.lines
-              (written_lines Named c new (place_of c f.owner o) (item_at (shape_of d).items f.item) same (subst (LeavesColumns c new (place_of c f.owner o)) item columns) others
+              (lines_written Named c new (place_of c f.owner o) (item_at (shape_of d).items f.item) same (subst (LeavesColumns c new (place_of c f.owner o)) item columns) others
               (λ j has. record { item = f.item; there = slice_get_within d.items f.item a.0.item a.0.there; named = a.1; record_is = own; covers = has }));
         }
 

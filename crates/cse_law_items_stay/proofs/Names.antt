@@ -1,9 +1,9 @@
 -- The items that a sound source names: each is there, with its kind and its record, and stands in the list.
 use Rattle.std.proofs.Common.{◌≡◌, ℕ, zero, suc, ◌+◌, ◌<◌, Bool, true, false, List, [], ◌∷◌, ◌++◌, length, Option, Some, None, refl, sym, ap, ◌∙◌, subst, arith, cond}
-use Rattle.std.specs.Prelude.{◌||◌, nat_eq, slice_get, Contains}
+use Rattle.std.specs.Prelude.{nat_eq, slice_get, Contains}
 use Rattle.std.specs.List.{filter, list_any, range_with_len}
 use Rattle.std.specs.Option.{option_map}
-use Rattle.std.proofs.lemmas.Bool.{eq-eqb}
+use Rattle.std.proofs.lemmas.Bool.{eq-eqb, or_left, or_right}
 use Rattle.std.proofs.lemmas.List.FromFn.{length-range_with_len, get_or-range_with_len}
 use Rattle.std.proofs.lemmas.Option.{same_Some, none-some}
 use Rattle.cse_value.specs.declared.shape.ItemKind.{ItemKind}
@@ -17,6 +17,7 @@ use Rattle.cse_compile_sections.specs.Tables.{functions_in}
 use Rattle.cse_logic_names.specs.MessageFile.{MessageText}
 use Rattle.cse_logic_names.specs.Scope.{Scope, kind_and_owner, within}
 use Rattle.cse_logic_names.specs.WellTyped.{IsField, IsStatement, AreStatements, AreArms, IsBody, AreDeclared, AreProcedures, IsWell, messages_in, messages_of, body_messages, function_scope, with_function, with_functions, procedure_scope, first_scope, typed_declarations}
+use Rattle.cse_logic_names.proofs.ScopeLaws.{same_dictionary}
 use Rattle.cse_meaning.specs.Meaning.{declarations, declarations_in}
 use Rattle.cse_law_items_stay.proofs.Puts.{Puts, AllPut, ArmsPut, BodyPuts, ProceduresPut, FunctionsPut}
 use Rattle.cse_law_items_stay.proofs.Left.{IsThere}
@@ -105,13 +106,6 @@ module _ (M : ℕ → Type 0) where
 
   -- ---- sources
 
-  with_dictionary : (s : Scope) (ds : List Declaration) → (with_functions s ds).dictionary ≡ s.dictionary
-  with_dictionary s [] = refl
-  with_dictionary s (Numeric names ∷ ds) = with_dictionary s ds
-  with_dictionary s (Alpha digits size names ∷ ds) = with_dictionary s ds
-  with_dictionary s (Array' array ∷ ds) = with_dictionary s ds
-  with_dictionary s (Function' f ∷ ds) = with_dictionary (with_function s f) ds
-
   same_declarations : (g : Option (List Declaration)) → typed_declarations g ≡ declarations_in g
   same_declarations None = refl
   same_declarations (Some ds) = refl
@@ -127,18 +121,10 @@ module _ (M : ℕ → Type 0) where
 
   pub procedures_of_source : (d : DictionaryText) (messages : List MessageText) (t : Tree) → IsWell d messages t → Each (written_by_tree t) → ProceduresPut (Of d) t.procedures
   procedures_of_source d messages t well m =
-      subst (λ (e : DictionaryText). ProceduresPut (Of e) t.procedures) (with_dictionary (first_scope d messages t) (typed_declarations t.globals))
+      subst (λ (e : DictionaryText). ProceduresPut (Of e) t.procedures) (same_dictionary (first_scope d messages t) (typed_declarations t.globals))
       (procedures_put (with_functions (first_scope d messages t) (typed_declarations t.globals)) _ t.procedures well.procedures (back (written_by_globals t.globals) (written_by_procedures t.procedures) m))
 
 -- ---- the list
-
-or_left : (a b : Bool) → a ≡ true → (a || b) ≡ true
-or_left true b e = refl
-or_left false b e = cc
-
-or_right : (a b : Bool) → b ≡ true → (a || b) ≡ true
-or_right true b e = refl
-or_right false b e = e
 
 -- the members of a list are in it
 each_member : (M : ℕ → Type 0) (xs : List ℕ) → ((i : ℕ) → list_any (λ x. nat_eq i x) xs ≡ true → M i) → Each M xs

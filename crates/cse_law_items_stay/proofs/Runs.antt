@@ -6,6 +6,7 @@ use Rattle.std.specs.Option.{option_map, option_map_or}
 use Rattle.std.proofs.lemmas.Grind.{flat_map-append}
 use Rattle.std.proofs.lemmas.List.{length-map}
 use Rattle.std.proofs.lemmas.Option.{get_or_from_slice_get, slice_get-map}
+use Rattle.cse_lemmas.proofs.Lists.{get_or-map_default}
 use Rattle.cse_dict.specs.Dictionary.{DictionaryText}
 use Rattle.cse_dict.specs.Sound.{IsSound, SoundWithoutFault}
 use Rattle.cse_lines.specs.declared.line.Ending.{Ending}
@@ -59,11 +60,6 @@ both_stay d t (read ∷ reads) more (line ∷ written) later a b = (a.0, both_st
 
 -- ---- the lines of a case
 
-seen_at : {A B : Type 0} (f : A → B) (xs : List A) (k : ℕ) (e : A) → get_or (map f xs) k (f e) ≡ f (get_or xs k e)
-seen_at f [] k e = refl
-seen_at f (x ∷ xs) zero e = refl
-seen_at f (x ∷ xs) (suc k) e = seen_at f xs k e
-
 module _ (d : DictionaryText) (t : Tree) (number : ℕ) (reads : List FileLine) (Touched : ℕ → ℕ → Type 0) (c : CaseText) (stays : LinesStay Touched (case_of d number reads) c) where
   as_many : length c.run.lines ≡ length reads
   as_many = stays.same.lines ∙ length-map reads (line_text d)
@@ -77,11 +73,11 @@ module _ (d : DictionaryText) (t : Tree) (number : ℕ) (reads : List FileLine) 
         let before = was place read is in
         record {
           len =
-              sym (seen_at (λ (l : LineText). l.len) c.run.lines place no_line)
-              ∙ (ap (λ (ls : List ℕ). get_or ls place 0) stays.same.lens ∙ (seen_at (λ (l : LineText). l.len) (map (line_text d) reads) place no_line ∙ ap (λ (l : LineText). l.len) before));
+              sym (get_or-map_default (λ (l : LineText). l.len) c.run.lines place no_line)
+              ∙ (ap (λ (ls : List ℕ). get_or ls place 0) stays.same.lens ∙ (get_or-map_default (λ (l : LineText). l.len) (map (line_text d) reads) place no_line ∙ ap (λ (l : LineText). l.len) before));
           ending =
-              sym (seen_at (λ (l : LineText). l.ending) c.run.lines place no_line)
-              ∙ (ap (λ (ls : List Ending). get_or ls place no_line.ending) stays.same.endings ∙ (seen_at (λ (l : LineText). l.ending) (map (line_text d) reads) place no_line ∙ ap (λ (l : LineText). l.ending) before));
+              sym (get_or-map_default (λ (l : LineText). l.ending) c.run.lines place no_line)
+              ∙ (ap (λ (ls : List Ending). get_or ls place no_line.ending) stays.same.endings ∙ (get_or-map_default (λ (l : LineText). l.ending) (map (line_text d) reads) place no_line ∙ ap (λ (l : LineText). l.ending) before));
           width = stays.widths place ∙ ap (λ (l : LineText). length l.columns) before;
           stays = λ column. elim (stays.columns place column) [ inl e ↦ inl (e ∙ ap (λ (l : LineText). get_or l.columns column 32) before) | inr x ↦ inr (may place column read is x) ];
           ids = stays.ids_and_types.ids place ∙ ap (λ (l : LineText). ids_of d l.columns) before;

@@ -1,8 +1,7 @@
 -- 64 bits hold the turns of each `do` of a sound source: its limits have nine digits at most, and its step three.
-use Rattle.std.proofs.Common.{◌≡◌, ℕ, zero, suc, ◌+◌, ◌≤◌, ℤ, pos, Bool, true, false, ◌&&◌, length, List, Option, Some, None, refl, sym, ap, ◌∙◌, subst, arith}
-use Rattle.std.specs.Prelude.{neg_ℤ, option_map, if◌then◌else◌, nat_le, slice_get}
+use Rattle.std.proofs.Common.{◌≡◌, ℕ, zero, suc, ◌+◌, ◌≤◌, ℤ, pos, Bool, true, false, length, List, Option, Some, None, refl, sym, ap, ◌∙◌, subst, arith}
+use Rattle.std.specs.Prelude.{neg_ℤ, option_map, if◌then◌else◌, slice_get}
 use Rattle.std.specs.Option.{option_map_or}
-use Rattle.std.proofs.lemmas.Bool.{and_parts, leb-true}
 use Rattle.std.proofs.lemmas.Int.{ints}
 use Rattle.std.proofs.lemmas.List.Elements.{All-get_or}
 use Rattle.std.proofs.lemmas.Option.{same_Some, none-some, slice_get-map, slice_get_within, get_or_from_slice_get}
@@ -10,11 +9,12 @@ use Rattle.cse_value.specs.declared.shape.RecordShape.{RecordShape}
 use Rattle.cse_value.specs.Occurrences.{most_occurrences}
 use Rattle.cse_dict.specs.Dictionary.{DictionaryText, RecordText, shape_of}
 use Rattle.cse_dict.specs.Sound.{IsSound, IsSoundRecord}
-use Rattle.cse_syntax_tree.specs.Leaf.{is_within, is_digits, number_of, MOST}
+use Rattle.cse_syntax_tree.specs.Leaf.{is_within, number_of, MOST}
 use Rattle.cse_syntax_tree.specs.Tree as syntax
 use Rattle.cse_syntax_tree.specs.Tree.{Spelling}
 use Rattle.cse_syntax_tree.specs.Grammar as grammar
 use Rattle.cse_syntax_tree.specs.Grammar.{Below, IsStmt, AreStmts, IsBy}
+use Rattle.cse_syntax_tree.proofs.Digits.{number_within}
 use Rattle.cse_logic_tree.specs.Typed.{Limit, Fixed, Counted, Counting, Statement, Statements, Arms}
 use Rattle.cse_logic_tree.specs.Typed.{Empty, Set, SetText, SetItem, SetTextItem, SetCell, CallOf, If, For, Do, Jump', Impute, PutDeck, ErrMsg, no_statement, statement_and, no_arm, else_of, arm}
 use Rattle.cse_logic_tree.specs.Erase.{erase_limit, erase_counting, erase_statement, erase_block, erase_arms}
@@ -25,13 +25,6 @@ use Rattle.cse_law_programs_mean.proofs.Kept.{IsNear, IsNearLimit, keeps}
 use Rattle.cse_law_programs_mean.proofs.Turns.{HoldTurns, AllHoldTurns, ArmsHoldTurns}
 
 -- ---- digits
-
-number_within : (least most : ℕ) (digits : List ℕ) → is_within least most digits ≡ true → (least ≤ number_of digits) × (number_of digits ≤ most)
-unfolding is_within
-number_within least most digits h =
-    let p = and_parts (is_digits digits) (nat_le least (number_of digits) && nat_le (number_of digits) most) h in
-    let q = and_parts (nat_le least (number_of digits)) (nat_le (number_of digits) most) p.1 in
-    (leb-true least (number_of digits) q.0, leb-true (number_of digits) most q.1)
 
 -- the value is what the digits write
 value_is : (digits : Spelling) (v : ℤ) → value_of digits ≡ Some v → v ≡ pos (number_of digits.text)

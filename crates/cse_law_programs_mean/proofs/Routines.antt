@@ -3,6 +3,7 @@ use Rattle.std.proofs.Common.{◌≡◌, ℕ, zero, suc, ◌+◌, ◌-◌, Bool,
 use Rattle.std.specs.Prelude.{slice_get, option_map, if◌then◌else◌}
 use Rattle.std.proofs.lemmas.List.{length-map}
 use Rattle.std.proofs.lemmas.Option.{same_Some, none-some, slice_get-map}
+use Rattle.cse_lemmas.proofs.Lists.{slice_get_append_left, slice_get-append-add, slice_get_at}
 use Rattle.cse_image_parts.specs.declared.entries.Gift.TheVariants as gifts
 use Rattle.cse_image_parts.specs.declared.instruction.Instr.{Instr}
 use Rattle.cse_image_parts.specs.Image.{Lists, ArrayLists, RoutineLists}
@@ -27,7 +28,6 @@ use Rattle.cse_compile.specs.Program.{outlines, sizes, setting_for, entry_of, ha
 use Rattle.cse_law_sources_are_sound.specs.Checked.{IsCompiled}
 use Rattle.cse_law_sources_are_sound.proofs.Whole.{sources_fit}
 use Rattle.cse_law_sources_are_sound.proofs.Parts.{routine_stands}
-use Rattle.cse_law_sources_are_sound.proofs.Tables.{front_at, behind}
 use Rattle.cse_meaning.specs.Meaning as meaning
 use Rattle.cse_meaning.specs.Meaning.{context}
 use Rattle.cse_meaning.specs.Runs.{StandAt}
@@ -53,10 +53,6 @@ same_functions (Function' f ∷ ds) = ap (λ os. outline_of f ∷ os) (same_func
 
 -- ---- code
 
-behind_front : {A : Type 0} (xs ys : List A) (y : A) → slice_get (xs ++ y ∷ ys) (length xs) ≡ Some y
-behind_front [] ys y = refl
-behind_front (x ∷ xs) ys y = behind_front xs ys y
-
 -- instructions that stand for code stand for it from their place on
 stand_from : (x : Lists) (front is : List Instr) (ws : List Wide) → AllStand x is ws → StandAt x (front ++ is) (length front) ws
 stand_from x front [] [] h = tt
@@ -64,7 +60,7 @@ stand_from x front (i ∷ is) [] h = tt
 stand_from x front [] (w ∷ ws) h = absurd h
 stand_from x front (i ∷ is) (w ∷ ws) h =
     let more : length (front ++ i ∷ []) ≡ length front + 1 = length-append front (i ∷ []) in (
-      (i, behind_front front is i, h.0),
+      (i, slice_get_at front i is, h.0),
       subst (λ p. StandAt x (front ++ i ∷ is) p ws) more (subst (λ code. StandAt x code (length (front ++ i ∷ [])) ws) (append_assoc front (i ∷ []) is) (stand_from x (front ++ i ∷ []) is ws h.1)),
     )
 
@@ -143,13 +139,13 @@ module _ (v : VerifiedProgram) (messages : List MessageText) (named : List ℕ) 
 
   function_at : (k : ℕ) (f : Function) → slice_get (tables.functions_in (meaning.declarations t)) k ≡ Some f → slice_get (outlines t) k ≡ Some (outline_of f)
   function_at k f e =
-      front_at (outline.functions_in (program.declarations t)) (map (λ (x : Handler). x.outline) (handlers t)) k (outline_of f)
+      slice_get_append_left (outline.functions_in (program.declarations t)) (map (λ (x : Handler). x.outline) (handlers t)) k (outline_of f)
       (ap (λ l. slice_get l k) functions_are ∙ (slice_get-map outline_of (tables.functions_in (meaning.declarations t)) k ∙ ap (option_map outline_of) e))
 
   pub handler_at : (k : ℕ) (h : Handler) → slice_get (handlers t) k ≡ Some h → slice_get (outlines t) (many_functions + k) ≡ Some h.outline
   handler_at k h e =
       ap (λ n. slice_get (outlines t) (n + k)) (sym as_many)
-      ∙ (behind (outline.functions_in (program.declarations t)) (map (λ (x : Handler). x.outline) (handlers t)) k
+      ∙ (slice_get-append-add (outline.functions_in (program.declarations t)) (map (λ (x : Handler). x.outline) (handlers t)) k
       ∙ (slice_get-map (λ (x : Handler). x.outline) (handlers t) k ∙ ap (option_map (λ (x : Handler). x.outline)) e))
 
   -- no other routine gives a number
@@ -158,7 +154,7 @@ module _ (v : VerifiedProgram) (messages : List MessageText) (named : List ℕ) 
       let entry = entry_of (shape_of d).records (sizes t) in
       let past : slice_get (outlines t) (many_functions + k) ≡ None =
       ap (λ n. slice_get (outlines t) (n + k)) (sym as_many)
-      ∙ (behind (outline.functions_in (program.declarations t)) (map (λ (x : Handler). x.outline) (handlers t)) k
+      ∙ (slice_get-append-add (outline.functions_in (program.declarations t)) (map (λ (x : Handler). x.outline) (handlers t)) k
       ∙ (slice_get-map (λ (x : Handler). x.outline) (handlers t) k ∙ ap (option_map (λ (x : Handler). x.outline)) none)) in
       none-some y (sym (ap (λ l. slice_get l (many_functions + k)) compiled.program.routines ∙ (slice_get-map entry (outlines t) (many_functions + k) ∙ ap (option_map entry) past)) ∙ is)
   gives_by k y (Some h) some is gives =

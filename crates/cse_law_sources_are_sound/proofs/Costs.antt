@@ -1,6 +1,6 @@
 -- A routine takes at most the steps that its tokens cost.
-use Rattle.std.proofs.Common.{◌≤◌, ℕ, zero, suc, ◌+◌, ◌*◌, Bool, true, List, [], ◌∷◌, Option, Some, None, arith}
-use Rattle.std.specs.Prelude.{slice_index, min, ℤ, pos, negsuc}
+use Rattle.std.proofs.Common.{◌≤◌, ℕ, ◌+◌, ◌*◌, Bool, true, List, [], ◌∷◌, arith}
+use Rattle.std.specs.Prelude.{slice_index, min, pos, negsuc}
 use Rattle.std.proofs.Math.Nat.{le-max_left, mul-le-mul_left, mul-le-mul_right}
 use Rattle.cse_value.specs.declared.number.Num.{Num}
 use Rattle.cse_value.specs.declared.number.Num.TheVariants as num
@@ -11,12 +11,13 @@ use Rattle.cse_logic_tree.specs.Typed.{Which, Here, At, Argument, OfNumber, OfWo
 use Rattle.cse_logic_tree.specs.Typed.{Empty, Set, SetText, SetItem, SetTextItem, SetCell, CallOf, If, For, Do, Jump', Impute, PutDeck, ErrMsg, no_statement, statement_and, no_arm, else_of, arm}
 use Rattle.cse_logic_tree.specs.Erase.{erase_counting}
 use Rattle.cse_logic_tree.specs.Tokens.{counting_tokens}
-use Rattle.cse_compile_code.specs.Routines.{entry_size_by}
-use Rattle.cse_compile_code.specs.Statements.{as_limit, head_size, turns_size_by, known, turn_limit, statement_size, arms_size}
-use Rattle.cse_law_code_is_typed.specs.Fit.{Spot, Within, over, StatementFits, BlockFits, ArmsFit}
+use Rattle.cse_compile_code.specs.Statements.{as_limit, head_size, known, turn_limit, statement_size, arms_size}
+use Rattle.cse_compile_code.proofs.Small.{exit_small, jump_code_small, jump_small, turns_small, entry_small}
+use Rattle.cse_law_code_is_typed.specs.Fit.{Spot, over, StatementFits, BlockFits, ArmsFit}
 use Rattle.cse_law_code_is_typed.specs.Steps.{number_calls, words_calls, numbers_calls, operations_calls, which_calls, argument_calls, arguments_calls, loop_steps, statement_steps, block_steps, arms_steps, routine_steps}
+use Rattle.cse_law_code_is_typed.proofs.Standing.{within_may}
 use Rattle.cse_law_sources_are_sound.specs.Cost.{statement_cost, block_cost, arms_cost, routine_cost}
-use Rattle.cse_law_sources_are_sound.proofs.Sizes.{IsSmall, small_over, jump_small, exit_small, number_small, words_small, numbers_small, which_small, arguments_small, place_small, deck_place_small, jump_code_small}
+use Rattle.cse_law_sources_are_sound.proofs.Sizes.{IsSmall, small_over, number_small, words_small, numbers_small, which_small, arguments_small, place_small, deck_place_small}
 
 -- ---- calls
 
@@ -82,25 +83,12 @@ as_limit_some num.NotAppl = omega arith
 as_limit_some num.Missing = omega arith
 as_limit_some num.Undef = omega arith
 
-head_small : (a b : Option ℤ) → turns_size_by a b ≤ 7
-head_small None b = omega arith
-head_small (Some a) None = omega arith
-head_small (Some a) (Some b) = omega arith
-
 -- a loop that has a turn at least: what stands before it is paid by its first turn
 loop_cheap : (turns before body cost : ℕ) → 1 ≤ turns → before + (body + 2) ≤ cost → before + loop_steps turns body ≤ turns * cost
 loop_cheap turns before body cost some le =
     let a = mul-le-mul_left turns le in
     let c = mul-le-mul_right (before + 1) some in
     omega (arith, a, c)
-
-inside : (room : ℕ) (P : ℕ → Type 0) (C : Type 0) → Within room P → ((n : ℕ) → P n → C) → C
-inside zero P C h f = absurd h
-inside (suc n) P C h f = f n h
-
-entry_small : (o : Option ℕ) → entry_size_by o ≤ 2
-entry_small None = omega arith
-entry_small (Some r) = omega arith
 
 -- ---- statements
 
@@ -143,14 +131,14 @@ module _ (bounds costs : List ℕ) (le : (k : ℕ) → slice_index bounds k ≤ 
         let g = jump_small (arms_size s.setting others) in
         omega (arith, a, c, d, e, g)
     statement_cheap s room b (For name variable record_name of body) m f =
-        inside room (λ n. BlockFits (over s of) n true body) _ f.2 (λ n g.
+        within_may room (λ n. BlockFits (over s of) n true body) _ f.2 (λ n g.
         let a = block_cheap (over s of) n true body (small_over s of m) g in
         let c = loop_cheap (most_occurrences s.setting.records of) 0 (3 + block_steps bounds s.setting body) (16 * 7 + block_cost costs s.setting body) (m.most of f.0.1) (omega (arith, a)) in
         omega (arith, c))
     statement_cheap s room b (Do counting body) m f =
-        inside room (λ n. BlockFits s n true body) _ f.1 (λ n g.
+        within_may room (λ n. BlockFits s n true body) _ f.1 (λ n g.
         let a = block_cheap s n true body m g in
-        let h = head_small (known s.setting.records counting.start) (known s.setting.records counting.stop) in
+        let h = turns_small (known s.setting.records counting.start) (known s.setting.records counting.stop) in
         loop_cheap (turn_limit s.setting.records counting) (head_size s.setting.records counting) (block_steps bounds s.setting body + 4) (16 * (3 + counting_tokens (erase_counting counting)) + block_cost costs s.setting body) (as_limit_some _) (omega (arith, a, h)))
     statement_cheap s room b (Jump' token x) m f = let a = jump_code_small s.setting x in omega (arith, a)
     statement_cheap s room b (Impute name field which x) m f =

@@ -9,6 +9,7 @@ use Rattle.std.proofs.lemmas.Bool.{eq-eqb, eqb-true, and_parts, lt-ltb}
 use Rattle.std.proofs.lemmas.List.{length-map}
 use Rattle.std.proofs.lemmas.List.Folds.{list_all-append}
 use Rattle.std.proofs.lemmas.Option.{same_Some, none-some, slice_get-map}
+use Rattle.cse_lemmas.proofs.Lists.{slice_get-append-add}
 use Rattle.cse_value.specs.declared.shape.ItemKind.{ItemKind}
 use Rattle.cse_value.specs.declared.shape.ItemKind.TheVariants as kinds
 use Rattle.cse_value.specs.declared.shape.ItemShape.{ItemShape}
@@ -16,7 +17,7 @@ use Rattle.cse_image_parts.specs.declared.entries.Event.{Event}
 use Rattle.cse_image_parts.specs.declared.entries.EventCode.{EventCode}
 use Rattle.cse_image_parts.specs.declared.entries.EventCode.TheVariants as codes
 use Rattle.cse_image_parts.specs.declared.entries.EventEntry.{EventEntry}
-use Rattle.cse_image_parts.specs.Codes.{event_code, event_code_of}
+use Rattle.cse_image_parts.specs.Codes.{event_code}
 use Rattle.cse_image_parts.specs.Image.{Lists, RoutineLists}
 use Rattle.cse_dict.specs.Dictionary.{DictionaryText, ItemText, RecordText, shape_of, number_named, record_names, item_names, set_names}
 use Rattle.cse_dict.specs.Keys.{kept_name}
@@ -32,8 +33,8 @@ use Rattle.cse_logic_names.specs.declared.meaning.Meaning.TheVariants as m
 use Rattle.cse_logic_names.specs.Scope.{Scope, first_of, in_dictionary, kind_and_owner}
 use Rattle.cse_logic_names.specs.WellTyped.{item_owner, owner_meant, body_messages, AreProcedures}
 use Rattle.cse_code_typing.specs.Order.{handles_item, handles, is_handled_by, fits_event, all_events_fit}
+use Rattle.cse_code_typing.proofs.HandlerLaws.{one_code}
 use Rattle.cse_law_sources_are_sound.proofs.Names.{named_within}
-use Rattle.cse_law_sources_are_sound.proofs.Tables.{behind}
 
 -- ---- what procedures belong to
 
@@ -205,21 +206,6 @@ found_in table n (x ∷ xs) a r e =
     (put_there a x.event n r table f))
     (found_in (with_event table x.event n) (n + 1) xs a r e)
 
--- ---- codes
-
-code_back : (c : EventCode) → event_code_of (event_code c) ≡ Some c
-code_back codes.ApplicationPreproc = refl
-code_back codes.ApplicationPostproc = refl
-code_back codes.LevelPreproc = refl
-code_back codes.LevelPostproc = refl
-code_back codes.RecordPreproc = refl
-code_back codes.RecordPostproc = refl
-code_back codes.ItemPreproc = refl
-code_back codes.ItemPostproc = refl
-
-same_code : (a b : EventCode) → event_code a ≡ event_code b → a ≡ b
-same_code a b e = same_Some a b (sym (code_back a) ∙ ap event_code_of e ∙ code_back b)
-
 -- ---- the routine of an event is what the event wants
 
 handled_item : (d : DictionaryText) (owner item n : ℕ) → OwnerThere d (owners.Item (record { owner = owner; item = item })) → handles_item (slice_get (shape_of d).items item) (routine_of (sorts.Procedure (owners.Item (record { owner = owner; item = item }))) n) ≡ true
@@ -280,12 +266,12 @@ module _ (d : DictionaryText) (size : Outline → ℕ) (x : Lists) (fs : List Ou
   routine_there k h e =
       ap (λ l. slice_get l (length fs + k)) routines
       ∙ slice_get-map entry (fs ++ map (λ (h : Handler). h.outline) hs) (length fs + k)
-      ∙ ap (option_map entry) (behind fs (map (λ (h : Handler). h.outline) hs) k ∙ slice_get-map (λ (h : Handler). h.outline) hs k ∙ ap (option_map (λ (h : Handler). h.outline)) e)
+      ∙ ap (option_map entry) (slice_get-append-add fs (map (λ (h : Handler). h.outline) hs) k ∙ slice_get-map (λ (h : Handler). h.outline) hs k ∙ ap (option_map (λ (h : Handler). h.outline)) e)
 
   handled_event : (code : EventCode) (index : ℕ) (h : Handler) → IsHandled d h → is_key (event_code code, index) (key h.event) ≡ true → handles (shape_of d) code index (entry h.outline) ≡ true
   handled_event code index h b e =
       let p = same_key (event_code code, index) (key h.event) e in
-      ap (λ c. handles (shape_of d) c index (entry h.outline)) (same_code code h.event.code p.0)
+      ap (λ c. handles (shape_of d) c index (entry h.outline)) (one_code code h.event.code p.0)
       ∙ ap (λ i. handles (shape_of d) h.event.code i (entry h.outline)) p.1
       ∙ ap (λ (v : Event). handles (shape_of d) v.code v.index (entry h.outline)) b.event
       ∙ ap (λ s. handles (shape_of d) (event_of b.owner b.after).code (event_of b.owner b.after).index (routine_of s (size h.outline))) b.sort

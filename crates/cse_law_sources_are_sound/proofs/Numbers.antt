@@ -1,10 +1,11 @@
 -- Sound expressions fit the tables.
-use Rattle.std.proofs.Common.{◌≡◌, ℕ, suc, ◌+◌, Bool, true, false, ◌&&◌, ◌||◌, List, [], ◌∷◌, length, Option, Some, None, refl, sym, ap, ◌∙◌, subst, arith}
+use Rattle.std.proofs.Common.{◌≡◌, ℕ, suc, ◌+◌, Bool, true, false, ◌||◌, List, [], ◌∷◌, length, Option, Some, None, refl, sym, ap, ◌∙◌, subst, arith}
 use Rattle.std.specs.Prelude.{slice_get, ◌==◌, not, replicate, if◌then◌else◌}
 use Rattle.std.specs.List.{list_any}
 use Rattle.std.specs.Option.{option_map, option_and_then}
-use Rattle.std.proofs.lemmas.Bool.{false≢true, and_from, lt-ltb, eqb-true}
+use Rattle.std.proofs.lemmas.Bool.{false≢true, and_from, lt-ltb, eqb-true, and_parts}
 use Rattle.std.proofs.lemmas.Option.{same_Some, none-some, slice_get-map}
+use Rattle.cse_lemmas.proofs.Booleans.{or-true}
 use Rattle.cse_value.specs.declared.shape.ItemKind.{ItemKind}
 use Rattle.cse_value.specs.declared.shape.ItemKind.TheVariants as items
 use Rattle.cse_value.specs.declared.shape.ItemShape.{ItemShape}
@@ -34,18 +35,6 @@ use Rattle.cse_logic_names.specs.WellTyped.{IsField, IsPresent, IsNumberSet, set
 use Rattle.cse_compile_code.specs.Numbers.{count}
 use Rattle.cse_law_code_is_typed.specs.Fit.{Spot, HasCase, IsFound, IsEntry, IsNumberVariable, IsNumberField, IsTextField, IsNumberPresent, IsTextPresent, IsArray, ArePicks, row_count, IsDeck, numbers_kinds, IsFunction, NumberFits, WordsFit, NumbersFit, OperationsFit}
 use Rattle.cse_law_sources_are_sound.proofs.Agrees.{MeaningFits, SizesFit, FunctionFits, Agrees, Cased, cased_left, cased_right, cased_call, cased_tail, cased_here}
-
-and_left : (a b : Bool) → (a && b) ≡ true → a ≡ true
-and_left true b e = refl
-and_left false b e = e
-
-and_right : (a b : Bool) → (a && b) ≡ true → b ≡ true
-and_right true b e = e
-and_right false b e = absurd (false≢true e)
-
-or_true : (a : Bool) → (a || true) ≡ true
-or_true true = refl
-or_true false = refl
 
 needed : (a n : Bool) → (a || not n) ≡ true → n ≡ true → a ≡ true
 needed true n e f = refl
@@ -266,7 +255,7 @@ module _ (c : Scope) (s : Spot) (a : Agrees c s) where
       where
         by : (n : Bool) → f.needs_case ≡ n → (not (is_run s.scene.routine.ambient) || is_run b.entry.ambient) ≡ true
         by true e = ap (λ r. not r || is_run b.entry.ambient) (k e)
-        by false e = ap (λ r. not (is_run s.scene.routine.ambient) || r) (b.ambient e) ∙ or_true (not (is_run s.scene.routine.ambient))
+        by false e = ap (λ r. not (is_run s.scene.routine.ambient) || r) (b.ambient e) ∙ or-true (not (is_run s.scene.routine.ambient))
 
     function_by : (o : Option (Option Facts)) (function : ℕ) (xs : Numbers) → slice_get c.functions function ≡ o → may_call c (t.count xs) o ≡ true → (has_case c.routine ≡ true → facts_need o ≡ true → HasCase s) → IsFunction s function xs
     unfolding suits
@@ -274,8 +263,8 @@ module _ (c : Scope) (s : Spot) (a : Agrees c s) where
     function_by (Some None) function xs e h k = absurd (false≢true h)
     function_by (Some (Some f)) function xs e h k =
         let b = a.functions function f e in
-        let n : f.parameters ≡ t.count xs = eqb-true f.parameters (t.count xs) (and_left _ _ h) in
-        let g = and_left _ _ (and_right (f.parameters == t.count xs) _ h) in
+        let n : f.parameters ≡ t.count xs = eqb-true f.parameters (t.count xs) (and_parts _ _ h).0 in
+        let g = (and_parts _ _ (and_parts (f.parameters == t.count xs) _ h).1).0 in
         let case_of : f.needs_case ≡ true → has_case c.routine ≡ true = λ e. needed (has_case c.routine) f.needs_case g e in
         (b.entry, b.there, b.gives, b.takes ∙ ap (λ n. replicate n kind.Number) n ∙ same_kinds xs, calls_fit function f b (λ e. k (case_of e) e))
 

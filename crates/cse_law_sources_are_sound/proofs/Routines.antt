@@ -6,6 +6,7 @@ use Rattle.std.proofs.lemmas.Bool.{false≢true, lt-ltb, eqb-true}
 use Rattle.std.proofs.lemmas.List.{length-map, length-append, map-append, append-nil}
 use Rattle.std.proofs.lemmas.List.Elements.{All-get_or}
 use Rattle.std.proofs.lemmas.Option.{same_Some, none-some, slice_get-map, slice_get_within, get_or_from_slice_get}
+use Rattle.cse_lemmas.proofs.Lists.{slice_get_append_left}
 use Rattle.cse_value.specs.declared.shape.ItemKind.{ItemKind}
 use Rattle.cse_image_parts.specs.declared.entries.Local.{Local}
 use Rattle.cse_image_parts.specs.Image.{Image, Lists, ArrayLists, MessageLists, RoutineLists}
@@ -28,6 +29,7 @@ use Rattle.cse_logic_tree.specs.Erase.{erase_block, erase_body, erase_declaratio
 use Rattle.cse_compile_sections.specs.declared.outlines.RoutineSort.TheVariants as sorts
 use Rattle.cse_compile_sections.specs.Tables.{globals_in, arrays_in, message_of}
 use Rattle.cse_compile_sections.specs.Outline.{Outline, Handler, ambient_of, gives_of, parameters_of, locals_of, number_local, numbers, outline_of, functions_in, is_idle, event_of, handler_of, handlers_of_body, handlers_in}
+use Rattle.cse_compile_sections.proofs.Lists.{result_there}
 use Rattle.cse_compile.specs.Program.{declarations_in, declarations, handlers, outlines, sizes, entry_of}
 use Rattle.cse_logic_names.specs.MessageFile.{MessageText}
 use Rattle.cse_logic_names.specs.declared.meaning.Routine.{Routine}
@@ -35,14 +37,14 @@ use Rattle.cse_logic_names.specs.declared.meaning.Routine.TheVariants as r
 use Rattle.cse_logic_names.specs.Scope.{Scope, Facts, declared_from, is_looped, kind_and_owner, own_result, is_event_of, has_case}
 use Rattle.cse_logic_names.specs.Uses.{facts_of}
 use Rattle.cse_logic_names.specs.WellTyped as w
-use Rattle.cse_logic_names.specs.WellTyped.{AreStatements, AreDeclared, AreProcedures, IsBody, all_declarations, typed_declarations, parameter_names, first_scope, with_function, with_functions, messages_of, declared_messages, procedure_messages, body_messages, tree_messages}
+use Rattle.cse_logic_names.specs.WellTyped.{AreStatements, AreDeclared, AreProcedures, IsBody, all_declarations, typed_declarations, parameter_names, first_scope, with_functions, messages_of, declared_messages, procedure_messages, body_messages, tree_messages}
 use Rattle.cse_law_code_is_typed.specs.Fit.{Spot, variable_kind, BlockFits}
 use Rattle.cse_law_code_is_typed.proofs.At.{HasAt, has_self, has_front, has_back}
 use Rattle.cse_law_sources_are_sound.specs.Checked.{IsCompiled, spot_for}
 use Rattle.cse_law_sources_are_sound.proofs.Agrees.{is_open, ArrayFits, FunctionFits, Agrees, InLoops}
 use Rattle.cse_law_sources_are_sound.proofs.Names.{AllMean, declared_mean, name_fits}
 use Rattle.cse_law_sources_are_sound.proofs.Statements.{block_fits}
-use Rattle.cse_law_sources_are_sound.proofs.Tables.{front_at, ArraysKnown, arrays_known, array_at, FunctionsKnown, one_more, function_at}
+use Rattle.cse_law_sources_are_sound.proofs.Tables.{ArraysKnown, arrays_known, array_at, FunctionsKnown, one_more, function_at}
 
 -- ---- locals
 
@@ -50,10 +52,6 @@ number_there : (n j : ℕ) (ys : List Local) → j < n → slice_get (numbers n 
 number_there zero j ys lt = absurd (omega (arith, lt))
 number_there (suc n) zero ys lt = refl
 number_there (suc n) (suc j) ys lt = number_there n j ys (omega (arith, lt))
-
-pub result_there : (n : ℕ) → slice_get (numbers n ++ number_local ∷ []) n ≡ Some number_local
-result_there zero = refl
-result_there (suc n) = result_there n
 
 numbers_taken : (n : ℕ) (ys : List Local) → map local_kind (take n (numbers n ++ ys)) ≡ replicate n kind.Number
 numbers_taken zero ys = refl
@@ -98,14 +96,6 @@ each_declaration (Some ds) h = h
 -- what the grammar says of all declarations and procedures
 abbrev pub OfGrammar : syntax.Tree → Type 0
 OfGrammar s = AreGlobals 64 s.globals × Each (IsProcedure 64) s.procedures
-
--- functions change no dictionary
-pub same_dictionary : (s : Scope) (ds : List Declaration) → (with_functions s ds).dictionary ≡ s.dictionary
-same_dictionary s [] = refl
-same_dictionary s (Numeric names ∷ ds) = same_dictionary s ds
-same_dictionary s (Alpha digits size names ∷ ds) = same_dictionary s ds
-same_dictionary s (Array' array ∷ ds) = same_dictionary s ds
-same_dictionary s (Function' f ∷ ds) = same_dictionary (with_function s f) ds
 
 no_loops : (c : Scope) (s : Spot) → c.loops ≡ [] → InLoops c s false
 no_loops c s e = record {
@@ -205,7 +195,7 @@ module _ (d : DictionaryText) (messages : List MessageText) (named : List ℕ) (
         let lt = slice_get_within os g b.outline b.there in
         record {
           entry = entry b.outline;
-          there = ap (λ l. slice_get l g) h.program.routines ∙ slice_get-map entry (outlines t) g ∙ ap (option_map entry) (ap (λ l. slice_get l g) all ∙ front_at os rest g b.outline b.there);
+          there = ap (λ l. slice_get l g) h.program.routines ∙ slice_get-map entry (outlines t) g ∙ ap (option_map entry) (ap (λ l. slice_get l g) all ∙ slice_get_append_left os rest g b.outline b.there);
           gives = ap gives_of b.sort;
           takes = ap (λ s. map local_kind (take (parameters_of s) (locals_of s))) b.sort ∙ numbers_taken f.parameters (number_local ∷ []);
           before = omega (arith, lt, behind);

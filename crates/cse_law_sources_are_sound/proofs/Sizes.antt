@@ -1,15 +1,9 @@
 -- The code of a tree that fits has at most 16 instructions a token.
-use Rattle.std.proofs.Common.{◌≡◌, ◌≤◌, ℕ, suc, ◌+◌, ◌*◌, Bool, true, false, List, [], ◌∷◌, length, Option, Some, None, refl, ap, arith}
-use Rattle.std.specs.Prelude.{slice_get, if◌then◌else◌}
-use Rattle.std.proofs.Math.Nat.{min-le_right}
+use Rattle.std.proofs.Common.{◌≡◌, ◌≤◌, ℕ, suc, ◌+◌, ◌*◌, true, List, [], ◌∷◌, length, Some, refl, ap, arith}
+use Rattle.std.specs.Prelude.{slice_get}
 use Rattle.cse_image_parts.specs.Image.{ArrayLists}
-use Rattle.cse_syntax_tree.specs.declared.tree.Jump.{Jump}
-use Rattle.cse_syntax_tree.specs.declared.tree.Jump.TheVariants as j
 use Rattle.cse_code_typing.specs.Signature.{is_record}
-use Rattle.cse_logic_tree.specs.declared.tree.Found.{Found}
 use Rattle.cse_logic_tree.specs.declared.tree.Found.TheVariants as h
-use Rattle.cse_logic_tree.specs.declared.tree.Present.{Present}
-use Rattle.cse_logic_tree.specs.declared.tree.Present.TheVariants as p
 use Rattle.cse_logic_tree.specs.declared.tree.Pick.{Pick}
 use Rattle.cse_logic_tree.specs.Typed.{Number, Words, Numbers, Operations, Constant, Special', Variable', Item, ItemAt, Cell, Call, Group, Int, IsSpecial, Deck, TotOcc, MaxOcc, CurOcc, InSet, Minus, Not, Compare, CompareTexts, Chain}
 use Rattle.cse_logic_tree.specs.Typed.{Quoted, TextGlobal, TextItem, TextItemAt, TextGroup, no_number, number_and, no_operation, operation_and}
@@ -17,10 +11,9 @@ use Rattle.cse_logic_tree.specs.Typed.{Which, Here, At, Argument, OfNumber, OfWo
 use Rattle.cse_logic_tree.specs.Erase.{erase, erase_words, erase_all, erase_operations, erase_which, erase_argument, erase_arguments}
 use Rattle.cse_logic_tree.specs.Tokens.{expr_tokens, exprs_tokens, others_tokens, operations_tokens, subscripts_tokens}
 use Rattle.cse_value.specs.Occurrences.{most_occurrences}
-use Rattle.cse_compile_code.specs.Wide.{jump_size}
-use Rattle.cse_compile_code.specs.Setting.{Setting}
-use Rattle.cse_compile_code.specs.Numbers.{here_size, present_size, can_fail, deepest, picks_size, deck_size, count, behind, number_size, words_size, numbers_size, indexes_size, operations_size}
-use Rattle.cse_compile_code.specs.Statements.{which_size, drops_size, argument_size, arguments_size, exit_size_by, jump_code_size}
+use Rattle.cse_compile_code.specs.Numbers.{deepest, picks_size, count, behind, number_size, words_size, numbers_size, indexes_size, operations_size}
+use Rattle.cse_compile_code.specs.Statements.{which_size, drops_size, argument_size, arguments_size}
+use Rattle.cse_compile_code.proofs.Small.{here_small, present_small, picks_small, deepest_small, deck_small, jump_small}
 use Rattle.cse_law_code_is_typed.specs.Fit.{Spot, ArePicks, IsDeck, NumberFits, WordsFit, NumbersFit, OperationsFit, WhichFits, ArgumentFits, ArgumentsFit, over}
 
 -- arrays have at most three dimensions, and each record can have an occurrence
@@ -31,42 +24,7 @@ pub record IsSmall (s : Spot) : Type 0 where
 pub small_over : (s : Spot) (of : ℕ) → IsSmall s → IsSmall (over s of)
 small_over s of h = record { few = h.few; most = h.most }
 
-pub jump_small : (n : ℕ) → jump_size n ≤ 1
-jump_small n = min-le_right n 1
-
-pub exit_small : (o : Option ℕ) → exit_size_by o ≤ 2
-exit_small None = omega arith
-exit_small (Some r) = omega arith
-
-here_small : (x : Found) → here_size x ≤ 5
-here_small h.Loop = omega arith
-here_small h.Event = omega arith
-here_small h.First = omega arith
-
-present_small : (x : Present) → present_size x ≤ 5
-present_small (p.Id item) = omega arith
-present_small (p.Here field found) = here_small found
-
 -- ---- hot decks
-
-picks_small : (xs : List Pick) → picks_size xs ≤ 6 * length xs
-picks_small [] = omega arith
-picks_small (x ∷ xs) = let a = present_small x.item in let b = picks_small xs in omega (arith, a, b)
-
-pub deepest_small : (xs : List Pick) → deepest xs ≤ length xs
-deepest_small [] = omega arith
-deepest_small (x ∷ xs) = by (can_fail xs) (deepest_small xs)
-  where
-    by : (b : Bool) → deepest xs ≤ length xs → (if b then deepest xs + 1 else 0) ≤ suc (length xs)
-    by true h = omega (arith, h)
-    by false h = omega arith
-
-deck_small : (xs : List Pick) → deck_size xs ≤ length xs + 3
-deck_small xs = by (can_fail xs) (deepest_small xs)
-  where
-    by : (b : Bool) → deepest xs ≤ length xs → (if b then deepest xs + 3 else 1) ≤ length xs + 3
-    by true h = omega (arith, h)
-    by false h = omega arith
 
 pub picks_many : (s : Spot) (ds : List ℕ) (xs : List Pick) → ArePicks s ds xs → length xs ≡ length ds
 picks_many s [] [] f = refl
@@ -158,8 +116,3 @@ module _ (s : Spot) (m : IsSmall s) where
 
   pub deck_place_small : (array : ℕ) (xs : List Pick) → IsDeck s array xs → picks_size xs + drops_size (deepest xs) ≤ 22
   deck_place_small array xs f = let a = few_picks s array xs m f in let b = picks_small xs in let c = deepest_small xs in let d = jump_small (deepest xs) in omega (arith, a, b, c, d)
-
-pub jump_code_small : (s : Setting) (x : Jump) → jump_code_size s x ≤ 2
-jump_code_small s j.Break = omega arith
-jump_code_small s j.Next = omega arith
-jump_code_small s j.Exit = exit_small s.result_at

@@ -21,6 +21,7 @@ use Rattle.cse_compile_sections.specs.Outline.{Outline, functions_in}
 use Rattle.cse_compile_code.specs.Routines.{routine_size}
 use Rattle.cse_logic_names.specs.MessageFile.{MessageText}
 use Rattle.cse_logic_names.specs.WellTyped.{IsTypedAs, all_declarations, declared_messages, typed_declarations, first_scope, with_functions}
+use Rattle.cse_logic_names.proofs.ScopeLaws.{same_dictionary}
 use Rattle.cse_compile.specs.Program.{IsProgramOf, declarations, setting_for, sizes}
 use Rattle.cse_compile.specs.Compiled.{IsSound}
 use Rattle.cse_law_sources_are_sound.specs.Checked.{IsCompiled}
@@ -29,7 +30,6 @@ use Rattle.cse_law_sources_are_sound.specs.Sound.{IsOrdered, SourcesAreSound, Gr
 use Rattle.cse_law_sources_are_sound.proofs.EditOrder.{orders_name_all}
 use Rattle.cse_law_sources_are_sound.proofs.EventsFit.{events_fit}
 use Rattle.cse_law_sources_are_sound.proofs.Bounds.{bounds_are_costs}
-use Rattle.cse_law_sources_are_sound.proofs.Routines.{same_dictionary}
 use Rattle.cse_law_sources_are_sound.proofs.Whole.{sources_are_typed}
 
 -- ---- typed programs

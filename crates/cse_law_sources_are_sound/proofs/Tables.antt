@@ -20,17 +20,6 @@ use Rattle.cse_law_code_is_typed.specs.Fit.{row_count}
 use Rattle.cse_law_sources_are_sound.proofs.Agrees.{SizesFit}
 use Rattle.cse_law_sources_are_sound.proofs.Numbers.{has_set}
 
--- ---- lists
-
-pub front_at : {A : Type 0} (xs ys : List A) (k : ℕ) (x : A) → slice_get xs k ≡ Some x → slice_get (xs ++ ys) k ≡ Some x
-front_at [] ys k x e = absurd (none-some x e)
-front_at (y ∷ xs) ys zero x e = e
-front_at (y ∷ xs) ys (suc k) x e = front_at xs ys k x e
-
-pub behind : {A : Type 0} (xs ys : List A) (k : ℕ) → slice_get (xs ++ ys) (length xs + k) ≡ slice_get ys k
-behind [] ys k = ap (slice_get ys) (omega arith)
-behind (x ∷ xs) ys k = let e : suc (length xs) + k ≡ suc (length xs + k) = omega arith in ap (slice_get (x ∷ xs ++ ys)) e ∙ behind xs ys k
-
 -- ---- arrays
 
 dimension_rows : (set : Option ValueSet) (entry : ValueSet) (one_more : Bool) (size : ℕ) → set ≡ Some entry → option_map (λ rows. rows + one_if one_more) (t.rows_of set) ≡ Some size → size ≡ row_count one_more entry.shape.rows

@@ -16,12 +16,13 @@ use Rattle.cse_logic_names.specs.MessageFile.{MessageText}
 use Rattle.cse_compile_sections.specs.declared.outlines.RoutineSort.{RoutineSort}
 use Rattle.cse_compile_sections.specs.declared.outlines.RoutineSort.TheVariants as sorts
 use Rattle.cse_compile_sections.specs.Outline.{Outline, gives_of, locals_of, result_at}
+use Rattle.cse_compile_sections.proofs.Lists.{result_there}
 use Rattle.cse_compile.specs.Program.{outlines, sizes, setting_for, entry_of}
 use Rattle.cse_law_code_is_typed.specs.Fit.{Spot, IsExit}
 use Rattle.cse_law_code_is_typed.specs.Emitted.{IsRoutine}
 use Rattle.cse_law_code_is_typed.proofs.Whole.{routine_is_typed, routine_is_counted}
 use Rattle.cse_law_sources_are_sound.specs.Checked.{IsCompiled, spot_for, StatementsFit, RoutinesAreTyped, RoutinesAreCounted}
-use Rattle.cse_law_sources_are_sound.proofs.Routines.{result_there, statements_fit}
+use Rattle.cse_law_sources_are_sound.proofs.Routines.{statements_fit}
 use Rattle.cse_law_sources_are_sound.proofs.Parts.{routine_stands}
 
 exit_there : (s : Spot) (sort : RoutineSort) → s.scene.routine.gives ≡ gives_of sort → s.scene.routine.locals ≡ locals_of sort → IsExit s (result_at sort)

@@ -5,7 +5,7 @@ use Rattle.std.specs.Int.{w64}
 use Rattle.std.specs.List.{AllByRecursion, IsDistinct, list_any}
 use Rattle.std.specs.Option.{option_map}
 use Rattle.std.specs.Str.{bytes_eq}
-use Rattle.std.proofs.lemmas.Bool.{and_from, le-leb, lt-ltb, false≢true}
+use Rattle.std.proofs.lemmas.Bool.{and_from, le-leb, lt-ltb, false≢true, or_from}
 use Rattle.std.proofs.lemmas.List.Folds.{list_any-append}
 use Rattle.std.proofs.lemmas.List.Sums.{sum_by-cons, sum_by-append}
 use Rattle.std.proofs.lemmas.Option.{same_Some, none-some}
@@ -19,6 +19,7 @@ use Rattle.cse_dict.specs.Dictionary.{SetText as ValueSet}
 use Rattle.cse_syntax_tree.specs.Grammar.{Each, IsSome, IsDeclaration}
 use Rattle.cse_syntax_tree.specs.Leaf.{is_within, number_of}
 use Rattle.cse_syntax_tree.specs.Tree.{Spelling}
+use Rattle.cse_syntax_tree.proofs.Digits.{number_within}
 use Rattle.cse_logic_tree.specs.Typed.{Whole, Dimension, Sized, Rows, Declaration, Numeric, Alpha, Array', Function'}
 use Rattle.cse_logic_tree.specs.Erase.{erase_block, erase_dimension, erase_declaration}
 use Rattle.cse_compile_sections.specs.Tables.{size_of, cell_of, arrays_in}
@@ -26,7 +27,7 @@ use Rattle.cse_logic_names.specs.Scope.{Scope}
 use Rattle.cse_logic_names.specs.WellTyped as t
 use Rattle.cse_logic_names.specs.WellTyped.{IsWhole, IsDimension, AreDeclared, one_if, rows_of, size_in, with_function, messages_of}
 use Rattle.cse_law_sources_have_room.specs.Within.{IsArrayWithin}
-use Rattle.cse_law_sources_have_room.proofs.Held.{within, signed_fits}
+use Rattle.cse_law_sources_have_room.proofs.Held.{signed_fits}
 use Rattle.cse_law_sources_have_room.proofs.Names.{name_fits, names_of}
 
 -- beside the arrays before it
@@ -45,7 +46,7 @@ unfolding size_in
 sized digits size e = by (is_within 1 65535 digits.text) refl e
   where
     by : (b : Bool) → is_within 1 65535 digits.text ≡ b → (if b then Some (number_of digits.text) else None) ≡ Some size → 1 ≤ size
-    by true f g = subst (λ n. 1 ≤ n) (same_Some (number_of digits.text) size g) (within 1 65535 digits.text f).0
+    by true f g = subst (λ n. 1 ≤ n) (same_Some (number_of digits.text) size g) (number_within 1 65535 digits.text f).0
     by false f g = absurd (none-some size g)
 
 nonzero : (n : ℕ) → (n == 0) ≡ false → 1 ≤ n
@@ -98,15 +99,10 @@ arrays_good c n (Function' f ∷ ds) h g w = arrays_good (with_function c f) (n 
 abbrev AreNew : List ArrayLists → List (List ℕ) → Type 0
 AreNew before names = AllByRecursion (λ name. list_any (λ (x : ArrayLists). bytes_eq x.name name) before ≡ false) names
 
-either : (a b : Bool) → a ≡ false → b ≡ false → (a || (b || false)) ≡ false
-either true b e f = e
-either false true e f = f
-either false false e f = refl
-
 still_new : (before : List ArrayLists) (x : ArrayLists) (names : List (List ℕ)) → AreNew before names → AllByRecursion (λ name. bytes_eq x.name name ≡ false) names → AreNew (before ++ x ∷ []) names
 still_new before x [] h k = tt
 still_new before x (name ∷ names) h k =
-    (list_any-append (λ (y : ArrayLists). bytes_eq y.name name) before (x ∷ []) ∙ either (list_any (λ (y : ArrayLists). bytes_eq y.name name) before) (bytes_eq x.name name) h.0 k.0, still_new before x names h.1 k.1)
+    (list_any-append (λ (y : ArrayLists). bytes_eq y.name name) before (x ∷ []) ∙ or_from (list_any (λ (y : ArrayLists). bytes_eq y.name name) before) ((bytes_eq x.name name) || false) h.0 (or_from (bytes_eq x.name name) false k.0 refl), still_new before x names h.1 k.1)
 
 all_new : (names : List (List ℕ)) → AreNew [] names
 all_new [] = tt

@@ -1,5 +1,5 @@
 -- The code of statements and of routines fits.
-use Rattle.std.proofs.Common.{◌≡◌, ◌≤◌, ◌<◌, ◌^◌, ℕ, zero, suc, ◌+◌, ℤ, Bool, true, false, List, [], ◌∷◌, ◌++◌, Option, Some, None, refl, arith}
+use Rattle.std.proofs.Common.{◌≡◌, ◌≤◌, ◌<◌, ◌^◌, ℕ, ◌+◌, ℤ, Bool, true, false, List, [], ◌∷◌, ◌++◌, Option, Some, None, refl, arith}
 use Rattle.std.proofs.lemmas.Option.{slice_get_within}
 use Rattle.cse_value.specs.declared.number.Num.TheVariants.{Whole}
 use Rattle.cse_value.specs.Number.{sum_of, difference_of}
@@ -18,9 +18,11 @@ use Rattle.cse_compile_code.specs.declared.setting.Loop.{Loop}
 use Rattle.cse_compile_code.specs.Numbers.{behind, deepest, count, number_size, words_size, numbers_size, indexes_size, picks_size, number_code, words_code, numbers_code, indexes_code, picks_code}
 use Rattle.cse_compile_code.specs.Statements.{which_size, which_code, drops_size, drops_code, argument_size, argument_code, arguments_size, arguments_code, known, limit_code, least, greatest, turns, turns_code_by, head_size, head_code, step_code, exit_code_by, exit_code, jump_code, front_size, guard_size, front_code, guard_code, loop_to, over_code, opener_at, turn_end_at, counted_code, statement_size, block_size, arms_size, statement_code, block_code, arms_code}
 use Rattle.cse_compile_code.specs.Routines.{no_loop, entry_size_by, entry_code_by, routine_size, routine_code}
+use Rattle.cse_compile_code.proofs.Small.{deepest_small}
 use Rattle.cse_law_code_is_typed.specs.Fit as fit
-use Rattle.cse_law_code_is_typed.specs.Fit.{Spot, IsRecord, IsNumberVariable, IsDeck, WhichFits, ArgumentFits, ArgumentsFit, CountingFits, Within, over, StatementFits, BlockFits, ArmsFit}
-use Rattle.cse_law_sources_are_sound.proofs.Sizes.{deepest_small, picks_many}
+use Rattle.cse_law_code_is_typed.specs.Fit.{Spot, IsRecord, IsNumberVariable, IsDeck, WhichFits, ArgumentFits, ArgumentsFit, CountingFits, over, StatementFits, BlockFits, ArmsFit}
+use Rattle.cse_law_code_is_typed.proofs.Standing.{inside}
+use Rattle.cse_law_sources_are_sound.proofs.Sizes.{picks_many}
 use Rattle.cse_law_sources_have_room.proofs.Plain.{current_fits, number_of_fits, total_fits, occurrence_fits, over_fits, load_local, store_local, store_global, store_cell, store_number, store_text, jump_fits, jump_unless, message_fits, impute_fits, call_fits, end_fits, break_fits, pop_fits, add_fits, subtract_fits, quotient_fits, return_fits}
 use Rattle.cse_law_sources_have_room.proofs.Pooled.{WideFits, CodeFits}
 use Rattle.cse_law_sources_have_room.proofs.Leaves.{WhichHolds, ArgumentHolds, ArgumentsHold, LimitHolds, CountingHolds, StatementHolds, BlockHolds, ArmsHold}
@@ -30,10 +32,6 @@ use Rattle.cse_law_sources_have_room.proofs.Expressions.{joined, undefined_fits,
 
 drops_fit : (q n : ℕ) → q + drops_size n < 2 ^ 32 → CodeFits (drops_code q n)
 drops_fit q n small = joined (jump_over (q + drops_size n) n) (pops n) (jump_over_fits (q + drops_size n) n small) (pops_fit n)
-
-inside : (room : ℕ) (P : ℕ → Type 0) → Within room P → (n : ℕ) × P n
-inside zero P h = absurd h
-inside (suc room) P h = (room, h)
 
 -- ---- parts of statements
 

@@ -1,14 +1,14 @@
 -- The events of a source ascend.
-use Rattle.std.proofs.Common.{◌≡◌, ◌≤◌, ◌<◌, ◌^◌, ◌⊎◌, inl, inr, ℕ, zero, suc, ◌+◌, ◌-◌, ◌*◌, true, ◌||◌, ◌&&◌, List, [], ◌∷◌, ◌++◌, length, Option, Some, None, refl, sym, ap, subst, ◌∙◌, arith, length-append}
-use Rattle.std.specs.Prelude.{slice_get, nat_lt, ◌==◌}
+use Rattle.std.proofs.Common.{◌≡◌, ◌≤◌, ◌<◌, ◌^◌, ◌⊎◌, inl, inr, ℕ, zero, suc, ◌+◌, ◌*◌, true, ◌||◌, ◌&&◌, List, [], ◌∷◌, ◌++◌, length, Option, Some, None, refl, sym, ap, subst, ◌∙◌, arith, length-append}
+use Rattle.std.specs.Prelude.{nat_lt, ◌==◌}
 use Rattle.std.specs.List.{AllByRecursion, flat_map, range_with_len}
 use Rattle.std.proofs.lemmas.Bool.{lt-ltb, eq-eqb, or_right}
-use Rattle.std.proofs.lemmas.List.{length_push}
 use Rattle.cse_image_parts.specs.declared.entries.EventCode.{EventCode}
 use Rattle.cse_image_parts.specs.declared.entries.EventCode.TheVariants as codes
 use Rattle.cse_image_parts.specs.declared.entries.EventEntry.{EventEntry}
 use Rattle.cse_image_parts.specs.Codes.{event_code}
 use Rattle.cse_image_parts.specs.Fields.{last_event, is_after}
+use Rattle.cse_image_parts.proofs.EventLaws.{last_is}
 use Rattle.cse_image_codec.specs.Reader.{AllAfter}
 use Rattle.cse_image.specs.Spelling.{EventFits}
 use Rattle.cse_compile_sections.specs.Events.{Table, routine_at, entry_of, entry_at, entries_below, entries_in}
@@ -135,15 +135,6 @@ module _ (table : Table) where
       omega (arith, h)
 
 -- ---- as a section has them
-
-at_last : {X : Type 0} (xs : List X) (y : X) (i : ℕ) → i ≡ length xs → slice_get (xs ++ y ∷ []) i ≡ Some y
-at_last [] y zero e = refl
-at_last [] y (suc i) e = absurd (omega (arith, e))
-at_last (x ∷ xs) y zero e = absurd (omega (arith, e))
-at_last (x ∷ xs) y (suc i) e = at_last xs y i (omega (arith, e))
-
-last_is : (before : List EventEntry) (e : EventEntry) → last_event (before ++ e ∷ []) ≡ Some e
-last_is before e = at_last before e (length (before ++ e ∷ []) - 1) (let n = length_push before e in omega (arith, n))
 
 section : (before es : List EventEntry) (last : Option EventEntry) → last_event before ≡ last → Ascends last es → AllByRecursion (λ (e : EventEntry). e.routine < 2 ^ 32) es → AllAfter (λ before. EventFits (last_event before)) before es
 section before [] last is h k = tt

@@ -2,6 +2,7 @@
 use Rattle.std.proofs.Common.{◌≤◌, ◌<◌, ◌^◌, ℕ, zero, suc, ◌+◌, Bool, true, false, List, [], ◌∷◌, ◌++◌, length, arith}
 use Rattle.std.specs.Prelude.{if◌then◌else◌, ◌==◌}
 use Rattle.std.proofs.lemmas.Option.{slice_get_within}
+use Rattle.cse_lemmas.proofs.Lists.{AllByRecursion-append}
 use Rattle.cse_logic_tree.specs.declared.tree.Found.{Found}
 use Rattle.cse_logic_tree.specs.declared.tree.Found.TheVariants as h
 use Rattle.cse_logic_tree.specs.declared.tree.Present.{Present}
@@ -16,16 +17,16 @@ use Rattle.cse_compile_code.specs.Wide as w
 use Rattle.cse_compile_code.specs.Wide.{Wide, with_a, with_c, jump, undefined, pops, jump_over}
 use Rattle.cse_compile_code.specs.Setting.{size_at}
 use Rattle.cse_compile_code.specs.Numbers.{special_number, relation_number, guarded, here_size, here_code, present_size, number_of_item, text_of_item, can_fail, deepest, row, picks_size, picks_code, deck_code, count, behind, number_size, words_size, numbers_size, indexes_size, operations_size, number_code, words_code, numbers_code, indexes_code, operations_code}
+use Rattle.cse_compile_code.proofs.Small.{deepest_small}
 use Rattle.cse_law_code_is_typed.specs.Fit.{Spot, IsNumberPresent, IsTextPresent, IsArray, ArePicks, IsDeck, IsFunction, NumberFits, WordsFit, NumbersFit, OperationsFit}
-use Rattle.cse_law_sources_are_sound.proofs.Sizes.{deepest_small, picks_many}
-use Rattle.cse_law_sources_have_room.proofs.Lists.{both}
+use Rattle.cse_law_sources_are_sound.proofs.Sizes.{picks_many}
 use Rattle.cse_law_sources_have_room.proofs.Plain.{current_fits, number_of_fits, total_fits, occurrence_fits, load_local, load_global, load_cell, jump_fits, id_number_fits, id_text_fits, item_number, item_text, call_fits, row_or_place, row_or_leftover, in_set, index_fits, special_fits, pop_fits, compare_fits, compare_text_fits, negate_fits, not_fits, is_special_fits, operation_fits, relation_small, special_small}
 use Rattle.cse_law_sources_have_room.proofs.Pooled.{WideFits, CodeFits}
 use Rattle.cse_law_sources_have_room.proofs.Leaves.{NumberHolds, WordsHold, NumbersHold, OperationsHold}
 use Rattle.cse_law_sources_have_room.proofs.Facts.{IsRoomy, mapped_within, item_within, set_within, small_number, no_text, load_fits, record_small, size_fits}
 
 pub joined : (xs ys : List Wide) → CodeFits xs → CodeFits ys → CodeFits (xs ++ ys)
-joined xs ys f g = both WideFits xs ys f g
+joined xs ys f g = AllByRecursion-append WideFits xs ys f g
 
 pub either_fits : (b : Bool) (xs ys : List Wide) → CodeFits xs → CodeFits ys → CodeFits (if b then xs else ys)
 either_fits true xs ys f g = f

@@ -1,5 +1,5 @@
 -- Statements that fit tables of small arrays have small hot decks.
-use Rattle.std.proofs.Common.{◌≡◌, ◌≤◌, ℕ, zero, suc, Bool, true, List, [], ◌∷◌, length, Some, arith}
+use Rattle.std.proofs.Common.{◌≡◌, ◌≤◌, ℕ, Bool, true, List, [], ◌∷◌, length, Some, arith}
 use Rattle.std.specs.Prelude.{slice_get}
 use Rattle.cse_logic_tree.specs.declared.tree.Pick.{Pick}
 use Rattle.cse_logic_tree.specs.Typed.{Number, Words, Numbers, Operations, Constant, Special', Variable', Item, ItemAt, Cell, Call, Group, Int, IsSpecial, Deck, TotOcc, MaxOcc, CurOcc, InSet, Minus, Not, Compare, CompareTexts, Chain}
@@ -8,7 +8,8 @@ use Rattle.cse_logic_tree.specs.Typed.{Which, Here, At, Argument, OfNumber, OfWo
 use Rattle.cse_logic_tree.specs.Typed.{Empty, Set, SetText, SetItem, SetTextItem, SetCell, CallOf, If, For, Do, Jump', Impute, PutDeck, ErrMsg, no_statement, statement_and, no_arm, else_of, arm}
 use Rattle.cse_image_parts.specs.Image.{ArrayLists}
 use Rattle.cse_code_typing.specs.Signature.{Scene}
-use Rattle.cse_law_code_is_typed.specs.Fit.{Spot, IsDeck, Within, over, NumberFits, WordsFit, NumbersFit, OperationsFit, WhichFits, ArgumentFits, ArgumentsFit, StatementFits, BlockFits, ArmsFit}
+use Rattle.cse_law_code_is_typed.specs.Fit.{Spot, IsDeck, over, NumberFits, WordsFit, NumbersFit, OperationsFit, WhichFits, ArgumentFits, ArgumentsFit, StatementFits, BlockFits, ArmsFit}
+use Rattle.cse_law_code_is_typed.proofs.Standing.{inside}
 use Rattle.cse_law_code_is_small.specs.Few.{NumberIsFew, WordsAreFew, NumbersAreFew, OperationsAreFew, WhichIsFew, ArgumentIsFew, ArgumentsAreFew, StatementIsFew, BlockIsFew, ArmsAreFew}
 use Rattle.cse_law_sources_are_sound.proofs.Sizes.{picks_many}
 
@@ -69,10 +70,6 @@ module _ (s : Spot) (m : AreFlat s.scene) where
   arguments_few : (xs : List Argument) → ArgumentsFit s xs → ArgumentsAreFew xs
   arguments_few [] f = tt
   arguments_few (x ∷ xs) f = (argument_few x f.0, arguments_few xs f.1)
-
-inside : (room : ℕ) (P : ℕ → Type 0) → Within room P → (n : ℕ) × P n
-inside zero P h = absurd h
-inside (suc room) P h = (room, h)
 
 mutual
   statement_few : (s : Spot) (room : ℕ) (b : Bool) (x : Statement) → AreFlat s.scene → StatementFits s room b x → StatementIsFew x

@@ -1,17 +1,18 @@
 -- The numbers of sound expressions are of 64 bits, and their texts are texts of the format, where the texts among the words are UTF-8.
-use Rattle.std.proofs.Common.{◌≡◌, ◌≤◌, ℕ, zero, suc, ℤ, pos, neg_ℤ, Bool, true, false, ◌&&◌, List, ◌∷◌, Option, Some, None, refl, subst, arith}
-use Rattle.std.specs.Prelude.{FitsSigned, nat_le, if◌then◌else◌}
+use Rattle.std.proofs.Common.{◌≡◌, ◌≤◌, ℕ, zero, suc, ℤ, pos, neg_ℤ, Bool, true, false, List, ◌∷◌, Option, Some, None, refl, subst, arith}
+use Rattle.std.specs.Prelude.{FitsSigned, if◌then◌else◌}
 use Rattle.std.specs.Int.{w64}
 use Rattle.std.specs.Option.{option_map}
-use Rattle.std.proofs.lemmas.Bool.{and_parts, leb-true}
 use Rattle.std.proofs.lemmas.Int.{fits_signed_from_abs}
 use Rattle.std.proofs.lemmas.Option.{same_Some, none-some}
 use Rattle.cse_syntax_tree.specs.declared.token.Mark.TheVariants as mark
-use Rattle.cse_syntax_tree.specs.Leaf.{number_of, is_within, is_digits, MOST}
+use Rattle.cse_syntax_tree.specs.Leaf.{number_of, is_within, MOST}
 use Rattle.cse_syntax_tree.specs.Tree as syntax
 use Rattle.cse_syntax_tree.specs.Tree.{Spelling}
 use Rattle.cse_syntax_tree.specs.Word.{Word, Sign}
-use Rattle.cse_syntax_tree.specs.Grammar.{Below, IsExpr, AreInner, AreOperations, spell_expr, spell_exprs, spell_others, spell_operations, spell_set}
+use Rattle.cse_syntax_tree.specs.Grammar.{IsExpr, AreInner, AreOperations, spell_expr, spell_exprs, spell_others, spell_operations, spell_set}
+use Rattle.cse_syntax_tree.proofs.Rooms.{below}
+use Rattle.cse_syntax_tree.proofs.Digits.{number_within}
 use Rattle.cse_logic_tree.specs.Typed.{Number, Words, Numbers, Operations, Constant, Special', Variable', Item, ItemAt, Cell, Call, Group, Int, IsSpecial, Deck, TotOcc, MaxOcc, CurOcc, InSet, Minus, Not, Compare, CompareTexts, Chain}
 use Rattle.cse_logic_tree.specs.Typed.{Quoted as QuotedText, TextGlobal, TextItem, TextItemAt, TextGroup, no_number, number_and, no_operation, operation_and}
 use Rattle.cse_logic_tree.specs.Erase.{erase, erase_words, erase_all, erase_operations}
@@ -23,14 +24,6 @@ use Rattle.cse_law_sources_have_room.proofs.Texts.{text_fits}
 
 -- ---- numbers
 
--- what digits write
-pub within : (least most : ℕ) (digits : List ℕ) → is_within least most digits ≡ true → (least ≤ number_of digits) × (number_of digits ≤ most)
-unfolding is_within
-within least most digits e =
-    let a = and_parts (is_digits digits) (nat_le least (number_of digits) && nat_le (number_of digits) most) e in
-    let b = and_parts (nat_le least (number_of digits)) (nat_le (number_of digits) most) a.1 in
-    (leb-true least (number_of digits) b.0, leb-true (number_of digits) most b.1)
-
 record IsWritten (z : ℤ) : Type 0 where
   number : ℕ
   few : number ≤ MOST
@@ -41,7 +34,7 @@ unfolding value_of
 written digits z e = by (is_within 0 MOST digits.text) refl e
   where
     by : (b : Bool) → is_within 0 MOST digits.text ≡ b → (if b then Some (pos (number_of digits.text)) else None) ≡ Some z → IsWritten z
-    by true f g = record { number = number_of digits.text; few = (within 0 MOST digits.text f).1; is = same_Some (pos (number_of digits.text)) z g }
+    by true f g = record { number = number_of digits.text; few = (number_within 0 MOST digits.text f).1; is = same_Some (pos (number_of digits.text)) z g }
     by false f g = absurd (none-some z g)
 
 positive_fits : (n : ℕ) → n ≤ MOST → FitsSigned w64 (pos n)
@@ -66,10 +59,6 @@ signed_fits x z e = by (value_of x.digits) refl e
     by (Some v) f g = subst (FitsSigned w64) (same_Some _ z g) (sign v (written x.digits v f) x.minus)
 
 -- ---- expressions
-
-pub below : (room : ℕ) (P : ℕ → Type 0) → Below room P → (r : ℕ) × P r
-below zero P h = absurd h
-below (suc room) P h = (room, h)
 
 set_rest : (set : Option Spelling) (rest : List Word) → AreUtf8 (spell_set set rest) → AreUtf8 rest
 set_rest None rest w = w

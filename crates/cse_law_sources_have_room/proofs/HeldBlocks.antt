@@ -4,6 +4,7 @@ use Rattle.std.specs.Prelude.{FitsSigned}
 use Rattle.std.specs.Int.{w64}
 use Rattle.std.specs.List.{AllByRecursion}
 use Rattle.std.proofs.lemmas.Option.{same_Some}
+use Rattle.cse_lemmas.proofs.Lists.{AllByRecursion-append}
 use Rattle.cse_syntax_tree.specs.declared.token.Mark.{Mark}
 use Rattle.cse_syntax_tree.specs.declared.token.Mark.TheVariants as mark
 use Rattle.cse_syntax_tree.specs.Tree as syntax
@@ -11,6 +12,7 @@ use Rattle.cse_syntax_tree.specs.Tree.{Spelling}
 use Rattle.cse_syntax_tree.specs.Word.{Word, Digits, Sign}
 use Rattle.cse_syntax_tree.specs.Grammar as grammar
 use Rattle.cse_syntax_tree.specs.Grammar.{Below, IsExpr, AreInner, IsMessage, IsStmt, AreStmts, spell_expr, spell_others, spell_mark, spell_subscripts, spell_literal, spell_limit, spell_by, spell_counting, spell_message, spell_stmt, spell_stmts, spell_arms}
+use Rattle.cse_syntax_tree.proofs.Rooms.{below}
 use Rattle.cse_logic_tree.specs.Typed.{Numbers, no_number, number_and, Which, Here, At, Argument, OfNumber, OfWords, Limit, Fixed, Counted, Counting, Statement, Statements, Arms}
 use Rattle.cse_logic_tree.specs.Typed.{Empty, Set, SetText, SetItem, SetTextItem, SetCell, CallOf, If, For, Do, Jump', Impute, PutDeck, ErrMsg, no_statement, statement_and, no_arm, else_of, arm}
 use Rattle.cse_logic_tree.specs.Erase.{erase, erase_all, erase_which, erase_argument, erase_arguments, erase_limit, erase_counting, erase_statement, erase_block, erase_arms}
@@ -19,9 +21,8 @@ use Rattle.cse_logic_names.specs.WellTyped.{AreNumbers, IsWhich, IsArgument, Are
 use Rattle.cse_logic_names.specs.Texts.{AreUtf8}
 use Rattle.cse_law_sources_have_room.proofs.Facts.{small_number}
 use Rattle.cse_law_sources_have_room.proofs.Leaves.{NumbersHold, WhichHolds, ArgumentHolds, ArgumentsHold, LimitHolds, CountingHolds, MessageHolds, StatementHolds, BlockHolds, ArmsHold}
-use Rattle.cse_law_sources_have_room.proofs.Lists.{both}
 use Rattle.cse_law_sources_have_room.proofs.Texts.{text_fits}
-use Rattle.cse_law_sources_have_room.proofs.Held.{value_fits, signed_fits, below, number_held, words_held, numbers_held}
+use Rattle.cse_law_sources_have_room.proofs.Held.{value_fits, signed_fits, number_held, words_held, numbers_held}
 
 pub mark_rest : (m : Mark) (b : Bool) (rest : List Word) → AreUtf8 (spell_mark m b rest) → AreUtf8 rest
 mark_rest m true rest w = w.1
@@ -163,7 +164,7 @@ mutual
   messages_held (SetTextItem name field which x) h = tt
   messages_held (SetCell name array xs x) h = tt
   messages_held (CallOf name function xs) h = tt
-  messages_held (If condition body others) h = both EntryHolds (messages_of (erase_block body)) (messages_behind (erase_arms others)) (block_messages body h.1) (arms_messages others h.2)
+  messages_held (If condition body others) h = AllByRecursion-append EntryHolds (messages_of (erase_block body)) (messages_behind (erase_arms others)) (block_messages body h.1) (arms_messages others h.2)
   messages_held (For name variable record_name of body) h = block_messages body h
   messages_held (Do counting body) h = block_messages body h.1
   messages_held (Jump' token x) h = tt
@@ -173,9 +174,9 @@ mutual
 
   pub block_messages : (xs : Statements) → BlockHolds xs → AllByRecursion EntryHolds (messages_of (erase_block xs))
   block_messages no_statement h = tt
-  block_messages (statement_and x xs) h = both EntryHolds (messages_in (erase_statement x)) (messages_of (erase_block xs)) (messages_held x h.0) (block_messages xs h.1)
+  block_messages (statement_and x xs) h = AllByRecursion-append EntryHolds (messages_in (erase_statement x)) (messages_of (erase_block xs)) (messages_held x h.0) (block_messages xs h.1)
 
   arms_messages : (xs : Arms) → ArmsHold xs → AllByRecursion EntryHolds (messages_behind (erase_arms xs))
   arms_messages no_arm h = tt
   arms_messages (else_of body) h = block_messages body h
-  arms_messages (arm condition body others) h = both EntryHolds (messages_of (erase_block body)) (messages_behind (erase_arms others)) (block_messages body h.1) (arms_messages others h.2)
+  arms_messages (arm condition body others) h = AllByRecursion-append EntryHolds (messages_of (erase_block body)) (messages_behind (erase_arms others)) (block_messages body h.1) (arms_messages others h.2)

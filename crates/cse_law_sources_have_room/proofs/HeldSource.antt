@@ -3,6 +3,7 @@ use Rattle.std.proofs.Common.{ℕ, ◌+◌, Bool, true, false, List, [], ◌∷�
 use Rattle.std.specs.Prelude.{if◌then◌else◌}
 use Rattle.std.specs.List.{AllByRecursion}
 use Rattle.std.specs.Option.{option_map}
+use Rattle.cse_lemmas.proofs.Lists.{AllByRecursion-append, AllByRecursion-map}
 use Rattle.cse_dict.specs.Dictionary.{DictionaryText}
 use Rattle.cse_syntax_tree.specs.declared.token.Mark.TheVariants as mark
 use Rattle.cse_syntax_tree.specs.Tree as syntax
@@ -20,7 +21,6 @@ use Rattle.cse_logic_names.specs.WellTyped.{AreStatements, AreDeclared, AreProce
 use Rattle.cse_compile.specs.Program.{declarations_in, declarations, handlers, outlines}
 use Rattle.cse_logic_names.specs.Texts.{AreUtf8}
 use Rattle.cse_law_sources_have_room.proofs.Leaves.{BlockHolds}
-use Rattle.cse_law_sources_have_room.proofs.Lists.{both, each_map}
 use Rattle.cse_law_sources_have_room.proofs.HeldBlocks.{EntryHolds, mark_rest, literal_rest, block_held, block_messages}
 
 -- ---- what stands around statements
@@ -81,7 +81,7 @@ declarations_held c n (Function' f ∷ ds) rest h g w =
     let a = list_rest spell_parameter parameter_rest f.parameters (Sign mark.Close ∷ spell_stmts (erase_block f.body) (Sign mark.End ∷ Sign mark.Semicolon ∷ spell_all spell_declaration (map erase_declaration ds) rest)) w.1.1.1 in
     let b = block_held (function_scope c (length c.functions) f.parameters) n f.body 64 (Sign mark.End ∷ Sign mark.Semicolon ∷ spell_all spell_declaration (map erase_declaration ds) rest) h.0.body g.0.2 a.1 in
     let r = declarations_held (with_function c f) (n + length (messages_of (erase_block f.body))) ds rest h.1 g.1 b.1.1.1 in
-    record { routines = (b.0, r.routines); messages = both EntryHolds (messages_of (erase_block f.body)) (declared_messages (map erase_declaration ds)) (block_messages f.body b.0) r.messages; rest = r.rest }
+    record { routines = (b.0, r.routines); messages = AllByRecursion-append EntryHolds (messages_of (erase_block f.body)) (declared_messages (map erase_declaration ds)) (block_messages f.body b.0) r.messages; rest = r.rest }
 
 -- ---- procedures
 
@@ -112,8 +112,8 @@ body_held c n owner (Both xs ys) rest h g w =
     let a = one_part c n owner false xs (Sign mark.Postproc ∷ spell_stmts (erase_block ys) rest) h.0 g.0 w.1 in
     let b = one_part c (n + length (messages_of (erase_block xs))) owner true ys rest h.1 g.1 a.rest.1 in
     record {
-      routines = both HandlerHolds (handler_of owner false xs) (handler_of owner true ys) a.routines b.routines;
-      messages = both EntryHolds (messages_of (erase_block xs)) (messages_of (erase_block ys)) a.messages b.messages;
+      routines = AllByRecursion-append HandlerHolds (handler_of owner false xs) (handler_of owner true ys) a.routines b.routines;
+      messages = AllByRecursion-append EntryHolds (messages_of (erase_block xs)) (messages_of (erase_block ys)) a.messages b.messages;
       rest = b.rest;
     }
 body_held c n owner (Postproc xs) rest h g w = one_part c n owner true xs rest h g w.1
@@ -124,8 +124,8 @@ procedures_held c n (x ∷ ps) rest h g w =
     let a = body_held (procedure_scope c x.owner) n x.owner x.body (spell_all spell_procedure (map erase_procedure ps) rest) h.1 g.0.1 w.1.1 in
     let b = procedures_held c (n + length (body_messages (erase_body x.body))) ps rest h.2 g.1 a.rest in
     record {
-      routines = both HandlerHolds (handlers_of_body x.owner x.body) (handlers_in ps) a.routines b.routines;
-      messages = both EntryHolds (body_messages (erase_body x.body)) (procedure_messages (map erase_procedure ps)) a.messages b.messages;
+      routines = AllByRecursion-append HandlerHolds (handlers_of_body x.owner x.body) (handlers_in ps) a.routines b.routines;
+      messages = AllByRecursion-append EntryHolds (body_messages (erase_body x.body)) (procedure_messages (map erase_procedure ps)) a.messages b.messages;
       rest = b.rest;
     }
 
@@ -142,7 +142,7 @@ tree_held d messages t h g k w =
     let a = globals_held (first_scope d messages t) t.globals (spell_all spell_procedure (map erase_procedure t.procedures) []) h.declarations g w in
     let b = procedures_held (with_functions (first_scope d messages t) (typed_declarations t.globals)) (length (declared_messages (all_declarations (erase_tree t).globals))) t.procedures [] h.procedures k a.rest in
     record {
-      routines = both OutlineHolds (functions_in (declarations t)) (map (λ (x : Handler). x.outline) (handlers t)) a.routines (each_map OutlineHolds (λ (x : Handler). x.outline) (handlers t) b.routines);
-      messages = both EntryHolds (declared_messages (all_declarations (erase_tree t).globals)) (procedure_messages (erase_tree t).procedures) a.messages b.messages;
+      routines = AllByRecursion-append OutlineHolds (functions_in (declarations t)) (map (λ (x : Handler). x.outline) (handlers t)) a.routines (AllByRecursion-map OutlineHolds (λ (x : Handler). x.outline) (handlers t) b.routines);
+      messages = AllByRecursion-append EntryHolds (declared_messages (all_declarations (erase_tree t).globals)) (procedure_messages (erase_tree t).procedures) a.messages b.messages;
       rest = tt;
     }

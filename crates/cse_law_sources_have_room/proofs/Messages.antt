@@ -5,6 +5,7 @@ use Rattle.std.specs.List.{AllByRecursion}
 use Rattle.std.proofs.lemmas.Bool.{eqb-true, and_from, le-leb}
 use Rattle.std.proofs.lemmas.List.{length-append, length-replicate}
 use Rattle.std.proofs.lemmas.Option.{same_Some, none-some}
+use Rattle.cse_lemmas.proofs.Lists.{AllByRecursion-append}
 use Rattle.cse_image_parts.specs.Texts.{is_text}
 use Rattle.cse_image.specs.Spelling.{GlobalFits, MessageFits}
 use Rattle.cse_syntax_tree.specs.Leaf.{is_within, number_of}
@@ -17,12 +18,11 @@ use Rattle.cse_logic_names.specs.MessageFile.{MessageText}
 use Rattle.cse_logic_names.specs.Scope.{Scope}
 use Rattle.cse_logic_names.specs.WellTyped.{message_number, numbered, message_meant, no_message, entry_of, size_of, size_in, AreDeclared, with_function, messages_of}
 use Rattle.cse_syntax_tree.specs.Tree.{Spelling}
+use Rattle.cse_syntax_tree.proofs.Digits.{number_within}
 use Rattle.cse_logic_names.specs.Texts.{AreTexts}
 use Rattle.cse_law_sources_have_room.specs.Within.{IsMessageWithin}
 use Rattle.cse_law_sources_have_room.proofs.Facts.{no_text}
-use Rattle.cse_law_sources_have_room.proofs.Held.{within}
 use Rattle.cse_law_sources_have_room.proofs.HeldBlocks.{EntryHolds}
-use Rattle.cse_law_sources_have_room.proofs.Lists.{both}
 use Rattle.cse_law_sources_have_room.proofs.Texts.{short_size}
 
 -- ---- messages
@@ -46,7 +46,7 @@ numbered_has : (messages : List MessageText) (digits : List ℕ) (x : MessageTex
 numbered_has messages digits x h e = by (is_within 1 999999999 digits) refl e
   where
     by : (b : Bool) → is_within 1 999999999 digits ≡ b → numbered messages (if b then Some (number_of digits) else None) ≡ Some x → IsEntry x
-    by true f g = found_has (number_of digits) messages x (within 1 999999999 digits f).1 h g
+    by true f g = found_has (number_of digits) messages x (number_within 1 999999999 digits f).1 h g
     by false f g = absurd (none-some x g)
 
 meant_has : (messages : List MessageText) (m : syntax.Message) (summary : Bool) → AreTexts messages → EntryHolds (m, summary) → IsEntry (unwrap_or (message_meant messages m) no_message)
@@ -71,7 +71,7 @@ unfolding size_in
 sized digits size e = by (is_within 1 255 digits.text) refl e
   where
     by : (b : Bool) → is_within 1 255 digits.text ≡ b → (if b then Some (number_of digits.text) else None) ≡ Some size → (1 ≤ size) × (size ≤ 255)
-    by true f g = subst (λ n. (1 ≤ n) × (n ≤ 255)) (same_Some (number_of digits.text) size g) (within 1 255 digits.text f)
+    by true f g = subst (λ n. (1 ≤ n) × (n ≤ 255)) (same_Some (number_of digits.text) size g) (number_within 1 255 digits.text f)
     by false f g = absurd (none-some size g)
 
 each_same : {A : Type 0} (P : A → Type 0) (x : A) (n : ℕ) → P x → AllByRecursion P (replicate n x)
@@ -86,9 +86,9 @@ text_fits n h = record { size = omega (arith, h.1); length = and_from (nat_le 1 
 
 pub globals_fit : (c : Scope) (n : ℕ) (ds : List Declaration) → AreDeclared c n ds → AllByRecursion GlobalFits (globals_in ds)
 globals_fit c n [] h = tt
-globals_fit c n (Numeric names ∷ ds) h = both GlobalFits (replicate (length names) number_global) (globals_in ds) (each_same GlobalFits number_global (length names) number_fits) (globals_fit c n ds h)
+globals_fit c n (Numeric names ∷ ds) h = AllByRecursion-append GlobalFits (replicate (length names) number_global) (globals_in ds) (each_same GlobalFits number_global (length names) number_fits) (globals_fit c n ds h)
 globals_fit c n (Alpha digits size names ∷ ds) h =
-    both GlobalFits (replicate (length names) (text_global size)) (globals_in ds) (each_same GlobalFits (text_global size) (length names) (text_fits size (sized digits size h.0))) (globals_fit c n ds h.1)
+    AllByRecursion-append GlobalFits (replicate (length names) (text_global size)) (globals_in ds) (each_same GlobalFits (text_global size) (length names) (text_fits size (sized digits size h.0))) (globals_fit c n ds h.1)
 globals_fit c n (Array' array ∷ ds) h = globals_fit c n ds h.2
 globals_fit c n (Function' f ∷ ds) h = globals_fit (with_function c f) (n + length (messages_of (erase_block f.body))) ds h.1
 

@@ -8,6 +8,7 @@ use Rattle.std.proofs.lemmas.Bool.{and_parts, and_from}
 use Rattle.std.proofs.lemmas.Bool.Decides.{nat_tests}
 use Rattle.std.proofs.lemmas.List.{length-map, map-append}
 use Rattle.std.proofs.lemmas.Str.Ascii.{uppercase_is}
+use Rattle.cse_lemmas.proofs.Lists.{AllByRecursion-back}
 use Rattle.cse_dict.specs.Keys.{kept_name}
 use Rattle.cse_image_parts.specs.Image.{ArrayLists}
 use Rattle.cse_image_parts.specs.Texts.{is_upper, is_name_char, is_name}
@@ -20,7 +21,6 @@ use Rattle.cse_logic_names.specs.declared.meaning.Meaning.{Meaning}
 use Rattle.cse_logic_names.specs.declared.meaning.Meaning.TheVariants as m
 use Rattle.cse_logic_tree.specs.declared.tree.Variable.TheVariants as v
 use Rattle.cse_logic_names.specs.Scope.{numbered_from, declared_from}
-use Rattle.cse_law_sources_have_room.proofs.Lists.{back}
 
 -- ---- their form
 
@@ -61,7 +61,7 @@ names_of xs = map (λ (x : ArrayLists). x.name) xs
 
 module _ (P : List ℕ → Type 0) where
   behind_names : (xs ys : List (List ℕ × Meaning)) → AllByRecursion P (map named (xs ++ ys)) → AllByRecursion P (map named ys)
-  behind_names xs ys h = back P (map named xs) (map named ys) (subst (AllByRecursion P) (map-append named xs ys) h)
+  behind_names xs ys h = AllByRecursion-back P (map named xs) (map named ys) (subst (AllByRecursion P) (map-append named xs ys) h)
 
   among : (g a f : ℕ) (ds : List Declaration) → AllByRecursion P (map named (declared_from g a f (map erase_declaration ds))) → AllByRecursion P (names_of (arrays_in ds))
   among g a f [] h = tt

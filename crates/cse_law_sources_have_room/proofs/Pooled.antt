@@ -14,7 +14,7 @@ use Rattle.cse_law_code_is_typed.proofs.At.{HasAt, has_self}
 use Rattle.cse_compile.specs.Stands.{AllStand, instr}
 use Rattle.cse_compile.proofs.Spelled.{constant_fits, text_fits, turns_fit}
 use Rattle.cse_law_code_is_small.specs.Entries.{Table, Constants, Limits, Texts, entries}
-use Rattle.cse_law_sources_have_room.proofs.Lists.{after_all}
+use Rattle.cse_image_codec.proofs.Algebra.{each_after}
 
 abbrev pub constants_of : List Wide → List ℤ
 constants_of [] = []
@@ -116,9 +116,9 @@ texts_length (Plain op a b c ∷ ws) = omega (arith, texts_length ws)
 module _ (ws : List Wide) (few : (k : Table) → entries k ws ≤ 65536) (fits : CodeFits ws) where
   pub pools_fit : PoolsFit (pools ws)
   pools_fit = record {
-    constants = record { count = le-leb (length (constants_of ws)) 65536 (omega (arith, constants_length ws, few Constants)); each = after_all (FitsSigned w64) [] (constants_of ws) (constants_fit ws fits) };
-    limits = record { count = le-leb (length (limits_of ws)) 65536 (omega (arith, limits_length ws, few Limits)); each = after_all LimitFits [] (limits_of ws) (limits_fit ws fits) };
-    texts = record { count = le-leb (length (texts_of ws)) 65536 (omega (arith, texts_length ws, few Texts)); each = after_all TextFits [] (texts_of ws) (texts_fit ws fits) };
+    constants = record { count = le-leb (length (constants_of ws)) 65536 (omega (arith, constants_length ws, few Constants)); each = each_after (FitsSigned w64) [] (constants_of ws) (constants_fit ws fits) };
+    limits = record { count = le-leb (length (limits_of ws)) 65536 (omega (arith, limits_length ws, few Limits)); each = each_after LimitFits [] (limits_of ws) (limits_fit ws fits) };
+    texts = record { count = le-leb (length (texts_of ws)) 65536 (omega (arith, texts_length ws, few Texts)); each = each_after TextFits [] (texts_of ws) (texts_fit ws fits) };
   }
 
 placed_fit : (c l t : ℕ) (ws : List Wide) → c + entries Constants ws ≤ 65536 → l + entries Limits ws ≤ 65536 → t + entries Texts ws ≤ 65536 → CodeFits ws → AllByRecursion (InstrFits versions.Two) (placed c l t ws)

@@ -7,6 +7,7 @@ use Rattle.std.proofs.lemmas.Bool.{and_from, le-leb}
 use Rattle.std.proofs.lemmas.List.{length-replicate}
 use Rattle.std.proofs.lemmas.List.Sums.{sum_by-cons, sum_by-append}
 use Rattle.std.proofs.lemmas.Option.{same_Some, none-some, slice_get-map}
+use Rattle.cse_lemmas.proofs.Lists.{AllByRecursion-append, AllByRecursion-at, AllByRecursion-map}
 use Rattle.cse_value.specs.declared.shape.ItemKind.{ItemKind}
 use Rattle.cse_value.specs.declared.shape.ItemKind.TheVariants as kinds
 use Rattle.cse_value.specs.declared.shape.RecordShape.{RecordShape}
@@ -31,11 +32,10 @@ use Rattle.cse_logic_names.specs.declared.meaning.Meaning.TheVariants as m
 use Rattle.cse_logic_names.specs.Scope.{Scope, in_dictionary, kind_and_owner}
 use Rattle.cse_logic_names.specs.WellTyped.{item_owner, owner_meant, body_messages, AreProcedures}
 use Rattle.cse_compile_code.specs.Routines.{routine_size}
-use Rattle.cse_compile_code.specs.Statements.{exit_size_by}
+use Rattle.cse_compile_code.proofs.Small.{exit_some}
 use Rattle.cse_law_code_is_typed.proofs.Blocks.{routine_length}
 use Rattle.cse_compile.specs.Program.{setting_for, code_of, all_code, entry_of}
 use Rattle.cse_law_sources_have_room.specs.Within.{IsFunctionWithin}
-use Rattle.cse_law_sources_have_room.proofs.Lists.{both, at, each_map}
 
 -- ---- owners
 
@@ -64,7 +64,7 @@ module _ (d : DictionaryText) (items : AllByRecursion ItemFits (shape_of d).item
       by None f e = absurd (none-some o e)
       by (Some i) f e =
           let there : slice_get (shape_of d).items item ≡ Some i.shape = slice_get-map (λ (x : ItemText). x.shape) d.items item ∙ ap (option_map (λ (x : ItemText). x.shape)) f in
-          let fits : ItemFits i.shape = at ItemFits (shape_of d).items item i.shape items there in
+          let fits : ItemFits i.shape = AllByRecursion-at ItemFits (shape_of d).items item i.shape items there in
           let small = fits.owner in
           owned_by item i.shape.owner o i.shape.kind (omega (arith, small)) e
 
@@ -110,19 +110,19 @@ part_fits owner after body h = by (is_idle body)
 body_fits : (owner : Owner) (body : Body) → OwnerFits owner → AllByRecursion HandlerFits (handlers_of_body owner body)
 body_fits owner (Plain xs) h = part_fits owner true xs h
 body_fits owner (Preproc xs) h = part_fits owner false xs h
-body_fits owner (Both xs ys) h = both HandlerFits (handler_of owner false xs) (handler_of owner true ys) (part_fits owner false xs h) (part_fits owner true ys h)
+body_fits owner (Both xs ys) h = AllByRecursion-append HandlerFits (handler_of owner false xs) (handler_of owner true ys) (part_fits owner false xs h) (part_fits owner true ys h)
 body_fits owner (Postproc xs) h = part_fits owner true xs h
 
 procedures_fit : (c : Scope) (items : AllByRecursion ItemFits (shape_of c.dictionary).items) (n : ℕ) (ps : List Procedure) → AreProcedures c n ps → AllByRecursion HandlerFits (handlers_in ps)
 procedures_fit c items n [] h = tt
 procedures_fit c items n (x ∷ ps) h =
-    both HandlerFits (handlers_of_body x.owner x.body) (handlers_in ps)
+    AllByRecursion-append HandlerFits (handlers_of_body x.owner x.body) (handlers_in ps)
     (body_fits x.owner x.body (owner_fits c.dictionary items (in_dictionary c.dictionary x.name.text) x.owner h.0))
     (procedures_fit c items (n + length (body_messages (erase_body x.body))) ps h.2)
 
 pub outlines_fit : (c : Scope) (n : ℕ) (ds : List Declaration) (ps : List Procedure) → AllByRecursion ItemFits (shape_of c.dictionary).items → AllByRecursion IsFunctionWithin (tables.functions_in ds) → AreProcedures c n ps → AllByRecursion OutlineFits (functions_in ds ++ map (λ (x : Handler). x.outline) (handlers_in ps))
 outlines_fit c n ds ps items few h =
-    both OutlineFits (functions_in ds) (map (λ (x : Handler). x.outline) (handlers_in ps)) (functions_fit ds few) (each_map OutlineFits (λ (x : Handler). x.outline) (handlers_in ps) (procedures_fit c items n ps h))
+    AllByRecursion-append OutlineFits (functions_in ds) (map (λ (x : Handler). x.outline) (handlers_in ps)) (functions_fit ds few) (AllByRecursion-map OutlineFits (λ (x : Handler). x.outline) (handlers_in ps) (procedures_fit c items n ps h))
 
 -- ---- locals
 
@@ -182,10 +182,6 @@ module _ (records : List RecordShape) (arrays : List (List ℕ)) where
   one_at_least : (o : Outline) → 1 ≤ size_of o
   unfolding routine_size
   one_at_least o = let e = exit_some (setting_for records arrays o).result_at in omega (arith, e)
-    where
-      exit_some : (r : Option ℕ) → 1 ≤ exit_size_by r
-      exit_some None = omega arith
-      exit_some (Some r) = omega arith
 
   routines_fit : (before : List RoutineLists) (os : List Outline) → instructions_in before + total os ≤ most_instructions → AllByRecursion OutlineFits os → AllAfter (λ before. RoutineFits versions.Two (instructions_in before)) before (map (entry_of records arrays) os)
   routines_fit before [] room h = tt

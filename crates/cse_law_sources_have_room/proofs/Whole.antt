@@ -8,6 +8,7 @@ use Rattle.std.proofs.Math.Logic.{∥∥₁_elim}
 use Rattle.std.proofs.lemmas.Bool.{and_parts, le-leb, false≢true}
 use Rattle.std.proofs.lemmas.List.{length-map}
 use Rattle.std.proofs.lemmas.Option.{same_Some, none-some, slice_get_within}
+use Rattle.cse_lemmas.proofs.Lists.{AllByRecursion-at, AllByRecursion-weaker}
 use Rattle.cse_value.specs.declared.shape.RecordShape.{RecordShape}
 use Rattle.cse_value.specs.Occurrences.{most_occurrences}
 use Rattle.cse_value.specs.Shape.{ShapeLists}
@@ -51,12 +52,13 @@ use Rattle.cse_law_sources_are_sound.specs.Checked.{IsCompiled, spot_for}
 use Rattle.cse_law_sources_are_sound.specs.Sound.{IsOrdered}
 use Rattle.cse_law_sources_are_sound.proofs.EditOrder.{orders_name_all}
 use Rattle.cse_law_sources_are_sound.proofs.EventsFit as checked
-use Rattle.cse_law_sources_are_sound.proofs.Routines.{same_declarations, same_erased, each_declaration, OfGrammar, same_dictionary, statements_fit}
+use Rattle.cse_law_sources_are_sound.proofs.Routines.{same_declarations, same_erased, each_declaration, OfGrammar, statements_fit}
 use Rattle.cse_logic_names.specs.Texts.{AreUtf8, AreTexts}
+use Rattle.cse_logic_names.proofs.ScopeLaws.{same_dictionary}
 use Rattle.cse_law_sources_have_room.specs.Given.{ShapeFits}
 use Rattle.cse_law_sources_have_room.specs.Within.{IsMessageWithin, IsWithin}
 use Rattle.cse_law_sources_have_room.specs.Room.{LargeAlone}
-use Rattle.cse_law_sources_have_room.proofs.Lists.{after_all, weaker, each_flat, at, by_place}
+use Rattle.cse_law_sources_have_room.proofs.Lists.{each_flat, by_place}
 use Rattle.cse_law_sources_have_room.proofs.Pooled.{WideFits, CodeFits, constants_of, limits_of, texts_of, placed, pools_fit, all_stand, code_fits, placed_length}
 use Rattle.cse_law_sources_have_room.proofs.Facts.{IsSized, IsRoomy}
 use Rattle.cse_law_sources_have_room.proofs.Few.{block_few}
@@ -69,6 +71,7 @@ use Rattle.cse_law_sources_have_room.proofs.Names.{names_of, names_once}
 use Rattle.cse_law_sources_have_room.proofs.Arrays.{IsGood, arrays_good, all_arrays_fit}
 use Rattle.cse_law_sources_have_room.proofs.Routines.{SortFits, OutlineFits, outlines_fit, few_locals, size_of, total, code_length, instructions_are, all_routines_fit}
 use Rattle.cse_law_sources_have_room.proofs.Events as order
+use Rattle.cse_image_codec.proofs.Algebra.{each_after}
 
 -- ---- declarations, if there are any
 
@@ -91,7 +94,7 @@ most_small records h of = by (slice_get records of) refl
   where
     by : (o : Option RecordShape) → slice_get records of ≡ o → option_map_or (λ (x : RecordShape). x.max_records) o 0 < 2 ^ 16
     by None e = omega arith
-    by (Some x) e = (at RecordFits records of x h e).max_records
+    by (Some x) e = (AllByRecursion-at RecordFits records of x h e).max_records
 
 each_passes : {A : Type 0} (test : A → Bool) (xs : List A) → list_all test xs ≡ true → AllByRecursion (λ x. test x ≡ true) xs
 each_passes test [] h = tt
@@ -203,11 +206,11 @@ module _ (d : DictionaryText) (messages : List MessageText) (named : List ℕ) (
   few_routines = let a = length-map os (entry_of records (sizes t)) in let b = within.routines in omega (arith, a, b)
 
   sized : (a : ℕ) (y : ArrayLists) → slice_get (arrays_in (declarations t)) a ≡ Some y → IsSized y
-  sized a y e = let g = at IsGood (arrays_in (declarations t)) a y good e in (g.few, g.dimensions)
+  sized a y e = let g = AllByRecursion-at IsGood (arrays_in (declarations t)) a y good e in (g.few, g.dimensions)
 
   roomy : (k : ℕ) (o : Outline) → slice_get os k ≡ Some o → IsRoomy (scene_of (shape_of d) program (entry_of records (sizes t) o)) (setting_for records (sizes t) o)
   roomy k o e =
-      let sort = at OutlineFits os k o sorts_fit e in
+      let sort = AllByRecursion-at OutlineFits os k o sorts_fit e in
       record {
         globals = (let a = few_globals in omega (arith, a));
         locals = few_locals o.sort sort;
@@ -256,7 +259,7 @@ module _ (d : DictionaryText) (messages : List MessageText) (named : List ℕ) (
 
   code_of_routine : (k : ℕ) (o : Outline) → slice_get os k ≡ Some o → CodeFits (code_of records (sizes t) o)
   code_of_routine k o e =
-      routine_fits (spot_for d t program k o) o.body (roomy k o e) (block_there k o e) (at OutlineHolds os k o held.routines e)
+      routine_fits (spot_for d t program k o) o.body (roomy k o e) (block_there k o e) (AllByRecursion-at OutlineHolds os k o held.routines e)
       (let a = size_within records (sizes t) os k o e in let b = short in omega (arith, a, b))
 
   all_fits : CodeFits ws
@@ -274,7 +277,7 @@ module _ (d : DictionaryText) (messages : List MessageText) (named : List ℕ) (
 
   routines_there : AllByRecursion (λ (e : EventEntry). e.routine < 2 ^ 32) (events d t)
   routines_there =
-      weaker (λ (e : EventEntry). fits_event (shape_of d) program.lists e ≡ true) (λ (e : EventEntry). e.routine < 2 ^ 32)
+      AllByRecursion-weaker (λ (e : EventEntry). fits_event (shape_of d) program.lists e ≡ true) (λ (e : EventEntry). e.routine < 2 ^ 32)
       (λ e h. let a = handled_within (shape_of d) program.lists e h in let b = few_routines in omega (arith, a, b)) (events d t) (each_passes (fits_event (shape_of d) program.lists) (events d t) events_handled)
 
   abbrev table : event.Table
@@ -289,25 +292,25 @@ module _ (d : DictionaryText) (messages : List MessageText) (named : List ℕ) (
       (messages_fit messages (tree_messages (erase_tree t)) texts held.messages (subst (AllByRecursion IsMessageWithin) typed.well.messages_are within.messages))
 
   orders_small : AllByRecursion OrderFits (edit_order (length records) named)
-  orders_small = weaker (λ k. k < length records) OrderFits (λ k lt. let a = records_few in omega (arith, lt, a)) (edit_order (length records) named) (order_below (length records) (edit_order (length records) named) names_all)
+  orders_small = AllByRecursion-weaker (λ k. k < length records) OrderFits (λ k lt. let a = records_few in omega (arith, lt, a)) (edit_order (length records) named) (order_below (length records) (edit_order (length records) named) names_all)
 
   lists_fit : ListsFit versions.Two program.lists
   lists_fit =
       let pools = pools_fit ws few_entries all_fits in
       record {
-        records = record { count = le-leb (length records) 200 records_few; each = after_all RecordFits [] records shape.records };
-        items = record { count = le-leb (length (shape_of d).items) 10000 items_few; each = after_all ItemFits [] (shape_of d).items shape.items };
-        sets = record { count = le-leb (length (shape_of d).sets) 10000 sets_few; each = after_all SetFits [] (shape_of d).sets shape.sets };
+        records = record { count = le-leb (length records) 200 records_few; each = each_after RecordFits [] records shape.records };
+        items = record { count = le-leb (length (shape_of d).items) 10000 items_few; each = each_after ItemFits [] (shape_of d).items shape.items };
+        sets = record { count = le-leb (length (shape_of d).sets) 10000 sets_few; each = each_after SetFits [] (shape_of d).sets shape.sets };
         order = record {
           count = le-leb (length (edit_order (length records) named)) 200 (let a = order_few (length records) (edit_order (length records) named) names_all in let b = records_few in omega (arith, a, b));
-          each = after_all OrderFits [] (edit_order (length records) named) orders_small;
+          each = each_after OrderFits [] (edit_order (length records) named) orders_small;
         };
         constants = pools.constants;
         limits = pools.limits;
         texts = pools.texts;
-        globals = record { count = le-leb (length (globals_in (declarations t))) 65536 (let a = few_globals in omega (arith, a)); each = after_all GlobalFits [] (globals_in (declarations t)) (globals_fit (first_scope d messages t) 0 (declarations t) declared) };
+        globals = record { count = le-leb (length (globals_in (declarations t))) 65536 (let a = few_globals in omega (arith, a)); each = each_after GlobalFits [] (globals_in (declarations t)) (globals_fit (first_scope d messages t) 0 (declarations t) declared) };
         arrays = record { count = le-leb (length (arrays_in (declarations t))) 4096 within.arrays.count; each = all_arrays_fit (arrays_in (declarations t)) good once within.arrays.cells };
-        messages = record { count = le-leb (length (map message_of t.messages)) 65536 (let a = few_messages in omega (arith, a)); each = after_all MessageFits [] (map message_of t.messages) all_messages };
+        messages = record { count = le-leb (length (map message_of t.messages)) 65536 (let a = few_messages in omega (arith, a)); each = each_after MessageFits [] (map message_of t.messages) all_messages };
         routines = record { count = le-leb (length (map (entry_of records (sizes t)) os)) 4096 few_routines; each = all_routines_fit records (sizes t) os (let a = short in omega (arith, a)) sorts_fit };
         events = record {
           count = le-leb (length (events d t)) 50000 few_events;

@@ -1,7 +1,7 @@
 -- Laws of lines like the one before them.
 use Rattle.std.proofs.Common.{◌≡◌, ℕ, ◌+◌, ◌-◌, ◌<◌, ◌≤◌, max, Bool, true, false, cond, eqb, map, List, [], ◌∷◌, ◌++◌, length, get_or, get_or-take, take, drop, replicate, refl, ap, sym, ◌∙◌, subst, arith, bit_or, inl, inr, None, length-take, length-drop, append-nil, encode_utf8_all}
 use Rattle.std.proofs.Common.{drop-drop}
-use Rattle.std.proofs.lemmas.Bool.{cases_lt, eqb-true, false≢true}
+use Rattle.std.proofs.lemmas.Bool.{cases_lt, eqb-true, false≢true, false_from_ne_true}
 use Rattle.std.proofs.lemmas.List.{get_or_past, get_or-append_right, get_or_append_left, get_or-drop, take-append-le, get_or_push, length_push, length-map, length-take-le, take-take}
 use Rattle.std.proofs.lemmas.Bool.{leb-false}
 use Rattle.std.proofs.lemmas.Simd.{none_from_empty_mask}
@@ -12,6 +12,7 @@ use Rattle.std.proofs.lemmas.Nat.{le_or_l, le_or_r}
 use Rattle.std.proofs.lemmas.Str.{chars-IsAscii, IsUtf8-from_ascii, encodes-chars, is_utf8-from_IsUtf8}
 use Rattle.std.proofs.lemmas.Grind.{flat_map-append}
 use Rattle.std.specs.List.{flat_map}
+use Rattle.cse_lemmas.proofs.Booleans.{or-false}
 use Rattle.cse_dict.specs.Dictionary.{DictionaryText, number_of_type}
 use Rattle.cse_lines.specs.declared.decode.Beginning.TheVariants.{Alike}
 use Rattle.cse_lines.specs.declared.line.Ending.{Ending}
@@ -31,10 +32,10 @@ use Rattle.cse_lines.specs.Field.{least_width, padded, record_len, record_of, wi
 use Rattle.cse_lines.specs.Line.{FileLine, before_end, end_bytes, ending_of, is_whole}
 use Rattle.cse_lines.specs.Runs.{line_fault}
 use Rattle.cse_lines.proofs.DecodeLaws.{length-padded, line_fault-none, line_text-is, record_of_is, width_of_is}
-use Rattle.cse_lines.proofs.GatherLaws.{Gathers-more, front_after-some, length-done, or_false, run_id-done}
+use Rattle.cse_lines.proofs.GatherLaws.{Gathers-more, front_after-some, length-done, run_id-done}
 use Rattle.cse_lines.proofs.LaidLaws.{IsLaid-push, laid_fits, laid_lines-push, laid_within, line_in}
 use Rattle.cse_lines.proofs.LastLaws.{ids_begin, last_of, type_begins, type_named}
-use Rattle.cse_lines.proofs.WrittenLaws.{end_parts, kept_columns-padded}
+use Rattle.cse_lines.proofs.WrittenLaws.{end_parts, kept_columns-padded, some_byte}
 use Rattle.cse_lines.proofs.LineLaws.{IsFirstLine-found}
 use Rattle.cse_lines.proofs.TakeLaws.{id_of_is}
 
@@ -49,10 +50,6 @@ marked_more text i bits byte at low k h = elim (cases_lt k i) [
   | inl below ↦ let before = low k below in omega (arith, le_or_l bits byte)
   | inr above ↦ let same : k ≡ i = omega arith in rw (same, ← at) (le_or_r bits byte)
 ]
-
-not_true : (b : Bool) → (b ≡ true → ⊥) → b ≡ false
-not_true true h = absurd (h refl)
-not_true false h = refl
 
 unmarked : (b : ℕ) → marked_byte b < 128 → (eqb b 10 ≡ false) × (b < 128)
 unmarked b h = by_cases (eqb b 10) refl h
@@ -73,7 +70,7 @@ plain_below text greatest low ascii = record {
 
 -- another byte goes in as it is
 pub marked_other : (b : ℕ) → (b ≡ 10 → ⊥) → b ≡ marked_byte b
-marked_other b h = let other : eqb b 10 ≡ false = not_true (eqb b 10) (λ e. h (eqb-true b 10 e)) in rw other refl
+marked_other b h = let other : eqb b 10 ≡ false = false_from_ne_true (eqb b 10) (λ e. h (eqb-true b 10 e)) in rw other refl
 
 -- the end of a whole line: its last byte is its only line feed
 record Closed (line : List ℕ) : Type 0 where
@@ -83,10 +80,6 @@ record Closed (line : List ℕ) : Type 0 where
 
 feed_only : (line : List ℕ) (n : ℕ) → HasNoFeed (take n line) → (k : ℕ) → k < n → k < length line → eqb (get_or line k 0) 10 ≡ false
 feed_only line n h k below fits = ap (λ b. eqb b 10) (sym (get_or-take n line k 0 below)) ∙ h k (omega (arith, length-take n line))
-
-some_byte : (piece : List ℕ) → eqb (get_or piece (length piece - 1) 0) 10 ≡ true → 0 < length piece
-some_byte [] e = absurd (false≢true e)
-some_byte (b ∷ bs) e = omega arith
 
 closed : (line : List ℕ) → 0 < length (end_bytes (ending_of line)) → HasNoFeed (before_end line) → Closed line
 closed line some h = by_cases (is_whole line) (eqb (get_or line (length line - 2) 0) 13) refl refl
@@ -137,11 +130,11 @@ text_columns : (d : DictionaryText) (line : FileLine) → (line_text d line).col
 unfolding line_text
 text_columns d line = refl
 
-text_len : (d : DictionaryText) (line : FileLine) → (line_text d line).len ≡ length (columns_of line)
+pub text_len : (d : DictionaryText) (line : FileLine) → (line_text d line).len ≡ length (columns_of line)
 unfolding line_text
 text_len d line = refl
 
-text_ending : (d : DictionaryText) (line : FileLine) → (line_text d line).ending ≡ ending_of (line.1)
+pub text_ending : (d : DictionaryText) (line : FileLine) → (line_text d line).ending ≡ ending_of (line.1)
 unfolding line_text
 text_ending d line = refl
 
@@ -274,7 +267,7 @@ GoesOn-like d first ended marked number columns lines last line uncut laid is g 
       same = λ more. run_id-done d first ended number run uncut g some ∙ sym ((known.1).1) ∙ sym (like_id d before line len least begins like.plain);
       room = omega (arith, count, room);
       is = ap (λ ls. (let r : RunText = record { lines = ls; marked = marked; first_line = number } in r)) (lines_like columns lines last line laid like.len fits ∙ ap (λ l. laid_lines columns lines ++ l ∷ []) text)
-          ∙ ap (λ m. (let r : RunText = record { lines = laid_lines columns lines ++ line_text d (false, line) ∷ []; marked = m; first_line = number } in r)) (or_false marked);
+          ∙ ap (λ m. (let r : RunText = record { lines = laid_lines columns lines ++ line_text d (false, line) ∷ []; marked = m; first_line = number } in r)) (sym (or-false marked));
     }
 
 -- what was gathered goes on with it
@@ -393,3 +386,7 @@ plain_all text h = record {
   ];
   none = λ k low. (h k low).1;
 }
+
+pub past_end : (last k : ℕ) → Done 0 last k → last ≤ k
+past_end last k (inl low) = absurd (omega arith)
+past_end last k (inr high) = high

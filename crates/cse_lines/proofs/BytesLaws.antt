@@ -1,11 +1,10 @@
 -- Laws of columns that are kept as bytes.
-use Rattle.std.proofs.Common.{◌≡◌, ℕ, ◌+◌, ◌-◌, ◌<◌, ◌≤◌, cond, ltb, Bool, true, false, List, [], ◌∷◌, ◌++◌, length, get_or, set, take, drop, zero, suc, refl, ap, sym, ◌∙◌, arith, inl, inr, ◌^◌, min, length-append, length-take, get_or-take, replicate, subst, bit_or, append_assoc, append-nil, drop-drop, length-drop, length-take-le}
+use Rattle.std.proofs.Common.{◌≡◌, ℕ, ◌+◌, ◌-◌, ◌<◌, ◌≤◌, cond, ltb, Bool, true, false, List, [], ◌∷◌, ◌++◌, length, get_or, set, take, drop, zero, suc, refl, ap, sym, ◌∙◌, arith, inl, inr, ◌^◌, min, length-append, get_or-take, replicate, subst, bit_or, append_assoc, append-nil, drop-drop, length-drop, length-take-le}
 use Rattle.std.specs.Str.{IsAscii}
 use Rattle.std.proofs.lemmas.Bool.{cases_lt, lt-ltb, ltb-true}
-use Rattle.std.proofs.lemmas.List.{drop-take, drop_at, ext_get_or, get_or_append_left, get_or_past, get_or-replicate, length-replicate, take-append-le, take-take, take_at}
-use Rattle.std.proofs.Math.ListN.{drop_of_length-le}
+use Rattle.std.proofs.lemmas.List.{drop-take, drop_at, ext_get_or, get_or_append_left, get_or_past, get_or-replicate, length-replicate, take-append-le, take-take, take_at, drop_all}
 use Rattle.std.proofs.lemmas.Nat.{le_or_l, le_or_r}
-use Rattle.std.proofs.lemmas.Str.{IsAscii-append}
+use Rattle.std.proofs.lemmas.Str.{IsAscii-append, IsAscii-take}
 use Rattle.cse_lines.specs.Bytes.{column_by, columns_by, reaching}
 use Rattle.cse_lines.specs.Field.{padded}
 use Rattle.cse_lines.specs.Run.{with_columns}
@@ -188,14 +187,11 @@ taken_len n bytes beside h = length-take-le n (columns_by bytes beside) (omega (
 pub IsAscii-padded : (width : ℕ) (text : List ℕ) → IsAscii text → IsAscii (padded width text)
 IsAscii-padded width text ascii = IsAscii-append text (replicate (width - length text) 32) ascii (IsAscii-blanks (width - length text))
 
-past : (k : ℕ) (l : List ℕ) → length l ≤ k → drop k l ≡ []
-past k l h = drop_of_length-le l h
-
 -- what stands beside bytes further on
 pub further_beside : (first n at : ℕ) (beside : List ℕ) → length beside < 2 ^ 64 → at ≡ min (first + n) (2 ^ 64 - 1) → drop at beside ≡ drop n (drop first beside)
 further_beside first n at beside small is = elim (cases_lt (first + n) (2 ^ 64)) [
   | inl low ↦ (let e : at ≡ first + n = omega (arith, is, low) in ap (λ k. drop k beside) e ∙ sym (drop-drop n first beside))
-  | inr high ↦ past at beside (omega (arith, is, high, small)) ∙ sym (drop-drop n first beside ∙ past (first + n) beside (omega (arith, small, high)))
+  | inr high ↦ drop_all at beside (omega (arith, is, high, small)) ∙ sym (drop-drop n first beside ∙ drop_all (first + n) beside (omega (arith, small, high)))
 ]
 
 -- columns that are as wide already
@@ -320,12 +316,6 @@ pub ascii_view : (len at : ℕ) (field bytes beside : List ℕ) → IsAscii fiel
 ascii_view len at field bytes beside ascii h k =
     ap (take len) (with_ascii at field bytes beside ascii (omega (arith, h, k))) ∙ view_with len at field (columns_by bytes beside) h (omega (arith, k, length-columns_by bytes beside))
 
-pub IsAscii-take : (n : ℕ) (text : List ℕ) → IsAscii text → IsAscii (take n text)
-IsAscii-take n text ascii k = elim (cases_lt k n) [
-  | inl h ↦ subst (λ x. x < 128) (sym (get_or-take n text k 0 h)) (ascii k)
-  | inr h ↦ subst (λ x. x < 128) (sym (get_or_past (take n text) k 0 (omega (arith, h, length-take n text)))) (omega arith)
-]
-
 -- columns that begin with the same bytes of ASCII
 pub same_columns : (n : ℕ) (a there b here : List ℕ) → take n a ≡ take n b → IsAscii (take n a) → take n (columns_by a there) ≡ take n (columns_by b here)
 same_columns n a there b here same ascii =
@@ -339,7 +329,7 @@ begins_columns first width bytes beside columns text are begins ascii =
     let piece = take width (drop first bytes) in
     let same : take width (drop first columns) ≡ piece =
     ap (λ l. take width (drop first l)) are ∙ sym (part-columns_by first width bytes beside)
-    ∙ ascii-columns_by piece (drop first beside) (subst IsAscii begins (IsAscii-take (length piece) text ascii)) in
+    ∙ ascii-columns_by piece (drop first beside) (subst IsAscii begins (IsAscii-take text (length piece) ascii)) in
     ap (λ l. take (length l) text) same ∙ begins ∙ sym same
 
 pub four_ascii : (w x y z : ℕ) → bit_or (bit_or (bit_or w x) y) z < 128 → IsAscii (w ∷ x ∷ y ∷ z ∷ [])

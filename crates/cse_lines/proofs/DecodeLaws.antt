@@ -1,11 +1,10 @@
 -- Laws of a line that is read as columns.
-use Rattle.std.proofs.Common.{◌≡◌, ℕ, ◌+◌, ◌-◌, ◌<◌, ◌≤◌, max, cond, ltb, Option, Some, None, Bool, true, false, List, [], ◌∷◌, ◌++◌, length, get_or, set, take, drop, replicate, refl, ap, sym, ◌∙◌, arith, append_assoc, append-nil, length-append, length-drop, bit_or, inl, inr, subst, take-append-drop, length-take-le}
+use Rattle.std.proofs.Common.{◌≡◌, ℕ, ◌+◌, ◌-◌, ◌<◌, ◌≤◌, max, cond, ltb, Option, Some, None, Bool, true, false, List, [], ◌∷◌, ◌++◌, length, get_or, set, take, drop, replicate, refl, ap, sym, ◌∙◌, arith, append_assoc, append-nil, length-append, length-drop, inl, inr, subst, take-append-drop, length-take-le}
 use Rattle.std.specs.Str.{IsAscii, IsUtf8, chars, is_utf8}
-use Rattle.std.proofs.lemmas.Str.{IsUtf8-append, IsUtf8-from_ascii, IsUtf8-from_is_utf8, chars-IsAscii, chars-append, encodes-chars, length-le-encodes}
-use Rattle.std.proofs.lemmas.List.{drop-append-le, drop_more, get_or-set_other, get_or-set_same, get_or_past, length-replicate, replicate-append-replicate, take-append-le, take_all, take_at}
+use Rattle.std.proofs.lemmas.Str.{IsUtf8-append, IsUtf8-from_ascii, chars-IsAscii, chars-append, encodes-chars, length-le-encodes}
+use Rattle.std.proofs.lemmas.List.{drop-append-le, drop_more, get_or-set_other, get_or-set_same, length-replicate, replicate-append-replicate, take-append-le, take_all, take_at}
 use Rattle.std.proofs.lemmas.Slice.{drop-append-drop}
-use Rattle.std.proofs.lemmas.Nat.{le_or_l, le_or_r}
-use Rattle.std.proofs.lemmas.Bool.{cases_lt, lt-ltb, ltb-true}
+use Rattle.std.proofs.lemmas.Bool.{cases_lt, lt-ltb, false_from_ne_true, le-ltb}
 use Rattle.cse_dict.specs.Dictionary.{DictionaryText, number_of_type}
 use Rattle.cse_dict.specs.Sound.{IsSound}
 use Rattle.cse_lines.specs.declared.layout.ColumnSpan.{ColumnSpan}
@@ -18,13 +17,6 @@ use Rattle.cse_lines.specs.Runs.{line_fault}
 use Rattle.cse_lines.specs.declared.decode.LineStop.{LineStop}
 use Rattle.cse_lines.specs.declared.decode.LineStop.TheVariants.{Memory, Fault}
 use Rattle.cse_lines.specs.Decoding.{Holds, IfFault}
-
-not_true : (b : Bool) → (b ≡ true → ⊥) → b ≡ false
-not_true true h = absurd (h refl)
-not_true false h = refl
-
-pub not_utf8 : (bytes : List ℕ) → (IsUtf8 bytes → ⊥) → is_utf8 bytes ≡ false
-not_utf8 bytes h = not_true _ (λ e. h (IsUtf8-from_is_utf8 bytes e))
 
 pub length-padded : (width : ℕ) (columns : List ℕ) → length (padded width columns) ≡ max (length columns) width
 length-padded width columns = omega (arith, length-append columns (replicate (width - length columns) 32), length-replicate {A = ℕ} (width - length columns) 32)
@@ -125,25 +117,22 @@ pub line_fault-long : (line : FileLine) → 262144 < length (text_of line) → l
 unfolding line_fault
 line_fault-long line h = rw (lt-ltb 262144 (length (text_of line)) h) refl
 
-not_above : (m n : ℕ) → n ≤ m → ltb m n ≡ false
-not_above m n h = not_true _ (λ e. let above : m < n = ltb-true m n e in absurd (omega arith))
-
 pub line_fault-not_text : (line : FileLine) → length (text_of line) ≤ 262144 → is_utf8 (text_of line) ≡ false → line_fault line ≡ Some 20
 unfolding line_fault
-line_fault-not_text line h u = rw (not_above 262144 (length (text_of line)) h, u) refl
+line_fault-not_text line h u = rw (le-ltb 262144 (length (text_of line)) h, u) refl
 
 pub line_fault-wide : (line : FileLine) → length (text_of line) ≤ 262144 → is_utf8 (text_of line) ≡ true → 65536 < length (columns_of line) → line_fault line ≡ Some 21
 unfolding line_fault
-line_fault-wide line h u w = rw (not_above 262144 (length (text_of line)) h, u, lt-ltb 65536 (length (columns_of line)) w) refl
+line_fault-wide line h u w = rw (le-ltb 262144 (length (text_of line)) h, u, lt-ltb 65536 (length (columns_of line)) w) refl
 
 pub line_fault-none : (line : FileLine) → length (text_of line) ≤ 262144 → is_utf8 (text_of line) ≡ true → length (columns_of line) ≤ 65536 → line_fault line ≡ None
 unfolding line_fault
-line_fault-none line h u w = rw (not_above 262144 (length (text_of line)) h, u, not_above 65536 (length (columns_of line)) w) refl
+line_fault-none line h u w = rw (le-ltb 262144 (length (text_of line)) h, u, le-ltb 65536 (length (columns_of line)) w) refl
 
 -- a line without a fault is not too long, and is text
 pub short_line : (line : FileLine) → line_fault line ≡ None → ltb 262144 (length (text_of line)) ≡ false
 unfolding line_fault
-short_line line h = not_true _ (λ e. let h' = rw e at h in cc)
+short_line line h = false_from_ne_true _ (λ e. let h' = rw e at h in cc)
 
 pub text_is_utf8 : (line : FileLine) → line_fault line ≡ None → is_utf8 (text_of line) ≡ true
 unfolding line_fault
@@ -166,14 +155,6 @@ pub IfFault-more : (P Q : ℕ → Type 0) (stop : LineStop) → ((number : ℕ) 
 IfFault-more P Q Memory h f = tt
 IfFault-more P Q (Fault number) h f = h number f
 
--- one more byte goes into the bits of those before it
-pub bits_more : (text : List ℕ) (i bits byte : ℕ) → byte ≡ get_or text i 0 → ((k : ℕ) → k < i → get_or text k 0 ≤ bits)
-    → (k : ℕ) → k < i + 1 → get_or text k 0 ≤ bit_or bits byte
-bits_more text i bits byte at low k h = elim (cases_lt k i) [
-  | inl below ↦ let before = low k below in omega (arith, le_or_l bits byte)
-  | inr above ↦ let same : k ≡ i = omega arith in rw (same, ← at) (le_or_r bits byte)
-]
-
 -- and becomes a column behind theirs
 pub columns_more : (text columns : List ℕ) (i byte : ℕ) → i < length columns → byte ≡ get_or text i 0 → ((k : ℕ) → k < i → get_or columns k 0 ≡ get_or text k 0)
     → (k : ℕ) → k < i + 1 → get_or (set columns i byte) k 0 ≡ get_or text k 0
@@ -181,14 +162,6 @@ columns_more text columns i byte room at before k h = elim (cases_lt k i) [
   | inl below ↦ get_or-set_other columns i k byte 0 (λ e. absurd (omega arith)) ∙ before k below
   | inr above ↦ let same : k ≡ i = omega arith in rw (same, ← at) (get_or-set_same columns i byte 0 room)
 ]
-
--- bytes that are at most an ASCII one are ASCII
-pub ascii_below : (text : List ℕ) (greatest : ℕ) → ((k : ℕ) → k < length text → get_or text k 0 ≤ greatest) → greatest < 128 → IsAscii text
-ascii_below text greatest low ascii k =
-    elim (cases_lt k (length text)) [
-      | inl h ↦ let at = low k h in omega arith
-      | inr h ↦ rw (get_or_past text k 0 (omega arith)) (omega arith)
-    ]
 
 -- a column is written behind others
 set_front : (front rest : List ℕ) (n x y : ℕ) → n ≡ length front → set (front ++ y ∷ rest) n x ≡ (front ++ x ∷ []) ++ rest

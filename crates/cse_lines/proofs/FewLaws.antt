@@ -1,5 +1,5 @@
 -- Laws of a number that is written into a few columns.
-use Rattle.std.proofs.Common.{◌≡◌, ℕ, zero, suc, Bool, true, false, cond, ◌+◌, ◌-◌, ◌/◌, ◌%◌, ◌<◌, ◌≤◌, List, [], ◌∷◌, ◌++◌, length, replicate, ap, sym, ◌∙◌, arith, append_assoc, length-append, slice_set}
+use Rattle.std.proofs.Common.{◌≡◌, ℕ, Bool, true, false, cond, ◌+◌, ◌-◌, ◌/◌, ◌%◌, ◌<◌, ◌≤◌, List, [], ◌∷◌, ◌++◌, length, replicate, ap, sym, ◌∙◌, arith, append_assoc, length-append, slice_set}
 use Rattle.std.proofs.Common.{◌^◌, inl, inr, refl}
 use Rattle.std.proofs.lemmas.Bool.{cases_lt}
 use Rattle.std.proofs.lemmas.Fmt.{decimal_digit, decimal_step}
@@ -7,6 +7,7 @@ use Rattle.std.specs.Fmt.{decimal}
 use Rattle.std.specs.Str.{IsAscii}
 use Rattle.std.proofs.lemmas.Fmt.{IsAscii-decimal}
 use Rattle.std.proofs.lemmas.Str.{IsAscii-append}
+use Rattle.cse_lemmas.proofs.Texts.{IsAscii-replicate}
 
 -- a number behind a character, in so many columns
 abbrev pub aligned : ℕ → ℕ → ℕ → List ℕ
@@ -87,12 +88,7 @@ three_digits n high small = one_more n 2 (omega arith) small (two_digits (n / 10
 pub four_digits : (n : ℕ) → 1000 ≤ n → n < 2 ^ 64 → 4 ≤ length (decimal n)
 four_digits n high small = one_more n 3 (omega arith) small (three_digits (n / 10) (omega arith) (omega arith))
 
-same_ascii : (k x : ℕ) → x < 128 → IsAscii (replicate k x)
-same_ascii zero x h i = omega arith
-same_ascii (suc k) x h zero = h
-same_ascii (suc k) x h (suc i) = same_ascii k x h i
-
 -- few digits with blanks or zeros before them are ASCII
 pub few_ascii : (k n : ℕ) (fill : Bool) → n < 1000 → IsAscii (replicate k (cond fill 48 32) ++ decimal n)
-few_ascii k n true low = IsAscii-append (replicate k 48) (decimal n) (same_ascii k 48 (omega arith)) (IsAscii-decimal n (omega (arith, low)))
-few_ascii k n false low = IsAscii-append (replicate k 32) (decimal n) (same_ascii k 32 (omega arith)) (IsAscii-decimal n (omega (arith, low)))
+few_ascii k n true low = IsAscii-append (replicate k 48) (decimal n) (IsAscii-replicate k 48 (omega arith)) (IsAscii-decimal n (omega (arith, low)))
+few_ascii k n false low = IsAscii-append (replicate k 32) (decimal n) (IsAscii-replicate k 32 (omega arith)) (IsAscii-decimal n (omega (arith, low)))

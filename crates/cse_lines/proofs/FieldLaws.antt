@@ -1,20 +1,13 @@
 -- Laws of the columns that a dictionary names.
-use Rattle.std.proofs.Common.{◌≡◌, ℕ, ◌+◌, ◌-◌, ◌<◌, ◌≤◌, max, Bool, true, false, List, [], ◌∷◌, ◌++◌, length, get_or, take, drop, refl, ap, sym, ◌∙◌, arith, append_assoc, append-nil, length-drop, subst, take-add}
+use Rattle.std.proofs.Common.{◌≡◌, ℕ, ◌+◌, ◌-◌, ◌<◌, ◌≤◌, max, false, List, [], ◌∷◌, ◌++◌, length, get_or, take, drop, refl, ap, sym, ◌∙◌, arith, append_assoc, append-nil, length-drop, subst, take-add}
 use Rattle.std.specs.Str.{bytes_eq}
 use Rattle.std.proofs.lemmas.Slice.Eq.{bytes_eq-Decides}
 use Rattle.std.proofs.lemmas.List.{drop-drop, drop_more, take_at, drop_at, length-take-le}
+use Rattle.std.proofs.lemmas.Bool.{false_from_ne_true}
+use Rattle.cse_lemmas.proofs.Booleans.{same_from_both}
 use Rattle.cse_dict.specs.Dictionary.{DictionaryText}
 use Rattle.cse_lines.specs.declared.layout.ColumnSpan.{ColumnSpan}
 use Rattle.cse_lines.specs.Field.{AreFront, HaveSame, LayoutText, TellApart, field_at, fields_at, id_spans, last_column, layout_of, least_width}
-
-same_tests : (b c : Bool) → (b ≡ true → c ≡ true) → (c ≡ true → b ≡ true) → b ≡ c
-same_tests true c h k = sym (h refl)
-same_tests false true h k = k refl
-same_tests false false h k = refl
-
-not_true : (b : Bool) → (b ≡ true → ⊥) → b ≡ false
-not_true true h = absurd (h refl)
-not_true false h = refl
 
 front_same : (x y r s : List ℕ) → length x ≡ length y → x ++ r ≡ y ++ s → x ≡ y
 front_same x y r s len e = sym (take_at x r (length x) refl) ∙ ap (take (length x)) e ∙ take_at y s (length x) (sym len)
@@ -31,7 +24,7 @@ same_len s a b h k = length-field_at s a h ∙ sym (length-field_at s b k)
 -- a place where the same stands
 pub fields_eq-same : (s : ColumnSpan) (ss : List ColumnSpan) (a b : List ℕ) → s.start - 1 + s.len ≤ length a → s.start - 1 + s.len ≤ length b → field_at s a ≡ field_at s b
     → bytes_eq (fields_at (s ∷ ss) a) (fields_at (s ∷ ss) b) ≡ bytes_eq (fields_at ss a) (fields_at ss b)
-fields_eq-same s ss a b h k e = same_tests _ _
+fields_eq-same s ss a b h k e = same_from_both _ _
     (λ t. (bytes_eq-Decides (fields_at ss a) (fields_at ss b)).1 (back_same (field_at s a) (field_at s b) (fields_at ss a) (fields_at ss b) (same_len s a b h k)
     ((bytes_eq-Decides (fields_at (s ∷ ss) a) (fields_at (s ∷ ss) b)).0 t)))
     (λ t. (bytes_eq-Decides (fields_at (s ∷ ss) a) (fields_at (s ∷ ss) b)).1
@@ -40,7 +33,7 @@ fields_eq-same s ss a b h k e = same_tests _ _
 -- and one where something else stands
 pub fields_eq-other : (s : ColumnSpan) (ss : List ColumnSpan) (a b : List ℕ) → s.start - 1 + s.len ≤ length a → s.start - 1 + s.len ≤ length b → (field_at s a ≡ field_at s b → ⊥)
     → bytes_eq (fields_at (s ∷ ss) a) (fields_at (s ∷ ss) b) ≡ false
-fields_eq-other s ss a b h k other = not_true _ (λ t. other (front_same (field_at s a) (field_at s b) (fields_at ss a) (fields_at ss b) (same_len s a b h k)
+fields_eq-other s ss a b h k other = false_from_ne_true _ (λ t. other (front_same (field_at s a) (field_at s b) (fields_at ss a) (fields_at ss b) (same_len s a b h k)
     ((bytes_eq-Decides (fields_at (s ∷ ss) a) (fields_at (s ∷ ss) b)).0 t)))
 
 pub layout_is : (d : DictionaryText) (ids : List ColumnSpan) (start len least : ℕ) → ids ≡ id_spans d → start ≡ d.type_columns.start → len ≡ d.type_columns.len
@@ -75,7 +68,7 @@ spans_at spans i a b l h k =
       right_rest = omega arith;
     }
 
-fields_at-append : (ss ts : List ColumnSpan) (columns : List ℕ) → fields_at (ss ++ ts) columns ≡ fields_at ss columns ++ fields_at ts columns
+pub fields_at-append : (ss ts : List ColumnSpan) (columns : List ℕ) → fields_at (ss ++ ts) columns ≡ fields_at ss columns ++ fields_at ts columns
 fields_at-append [] ts columns = refl
 fields_at-append (s ∷ ss) ts columns = ap (λ l. field_at s columns ++ l) (fields_at-append ss ts columns) ∙ sym (append_assoc (field_at s columns) (fields_at ss columns) (fields_at ts columns))
 

@@ -2,8 +2,9 @@
 use Rattle.std.proofs.Common.{◌≡◌, ℕ, ◌+◌, ◌<◌, ◌≤◌, Bool, true, false, cond, eqb, ltb, List, [], ◌∷◌, ◌++◌, length, take, drop, map, refl, ap, sym, ◌∙◌, subst, arith, Some, None, Option, append_assoc, inl, inr, append-nil, length-drop, take-append-drop}
 use Rattle.std.specs.Prelude.{◌&&◌, ◌||◌, ◌⊎◌}
 use Rattle.std.specs.Option.{is_some}
-use Rattle.std.proofs.lemmas.Bool.{eqb-true, ltb-true}
+use Rattle.std.proofs.lemmas.Bool.{eqb-true, ltb-true, false_from_ne_true}
 use Rattle.std.proofs.lemmas.List.{length_push, length-map, map-append}
+use Rattle.cse_lemmas.proofs.Booleans.{or-false}
 use Rattle.cse_dict.specs.Dictionary.{DictionaryText}
 use Rattle.cse_lines.specs.Line.{FileLine, is_marked, lines_in}
 use Rattle.cse_lines.specs.Columns.{id_of, line_text}
@@ -18,11 +19,7 @@ use Rattle.cse_lines.proofs.TakeLaws.{id_of_is, least_fits}
 use Rattle.cse_lines.proofs.WrittenLaws.{written-run}
 use Rattle.cse_lines.proofs.RunLaws.{IsRunOf-push, first_fault-found, first_fault-run, given_of-fault, given_of-step, place-first}
 
-not_true : (b : Bool) → (b ≡ true → ⊥) → b ≡ false
-not_true true h = absurd (h refl)
-not_true false h = refl
-
-own_sound : (place : ℕ) (line : FileLine) → fault_of place line ≡ None → line_fault line ≡ None
+pub own_sound : (place : ℕ) (line : FileLine) → fault_of place line ≡ None → line_fault line ≡ None
 own_sound place line h = by_cases (line_fault line) (cond {A = Option ℕ} (ltb 10000 place) (Some 22) None) h
   where
     by_cases : (fault later : Option ℕ) → cond {A = Option ℕ} (is_some fault) fault later ≡ None → fault ≡ None
@@ -31,7 +28,7 @@ own_sound place line h = by_cases (line_fault line) (cond {A = Option ℕ} (ltb 
 
 fine_at : (place : ℕ) (line : FileLine) → line_fault line ≡ None → place ≤ 10000 → fault_of place line ≡ None
 fine_at place line h low =
-    let few : ltb 10000 place ≡ false = not_true _ (λ e. let above : 10000 < place = ltb-true 10000 place e in absurd (omega arith)) in
+    let few : ltb 10000 place ≡ false = false_from_ne_true _ (λ e. let above : 10000 < place = ltb-true 10000 place e in absurd (omega arith)) in
     rw (h, few) refl
 
 pub are_sound : (d : DictionaryText) (id : List ℕ) (n : ℕ) (lines : List FileLine) → IsRunOf d id n lines → AreSound lines
@@ -42,14 +39,10 @@ pub bytes_of-push : (lines : List FileLine) (line : FileLine) → bytes_of (line
 bytes_of-push [] line = append-nil (line.1)
 bytes_of-push (l ∷ ls) line = ap (λ rest. l.1 ++ rest) (bytes_of-push ls line) ∙ sym (append_assoc (l.1) (bytes_of ls) (line.1))
 
-pub or_false : (b : Bool) → b ≡ b || false
-or_false true = refl
-or_false false = refl
-
 begins_marked-push : (front : Bool) (done : List FileLine) (line : List ℕ)
     → begins_marked (done ++ (front_after front done, line) ∷ []) ≡ begins_marked done || is_marked (front_after front done, line)
 begins_marked-push front [] line = refl
-begins_marked-push front (x ∷ xs) line = or_false (is_marked x)
+begins_marked-push front (x ∷ xs) line = sym (or-false (is_marked x))
 
 run_text-push : (d : DictionaryText) (front : Bool) (number : ℕ) (done : List FileLine) (line : List ℕ)
     → with_line (run_text d number done) (is_marked (front_after front done, line)) (line_text d (front_after front done, line))
@@ -70,7 +63,7 @@ front_after-some front (x ∷ xs) some = refl
 pub front_is : (front : Bool) (done : List FileLine) → front && eqb (length done) 0 ≡ front_after front done
 front_is true [] = refl
 front_is false [] = refl
-front_is true (x ∷ xs) = not_true (eqb (length (x ∷ xs)) 0) (λ e. let none : length (x ∷ xs) ≡ 0 = eqb-true (length (x ∷ xs)) 0 e in absurd (omega arith))
+front_is true (x ∷ xs) = false_from_ne_true (eqb (length (x ∷ xs)) 0) (λ e. let none : length (x ∷ xs) ≡ 0 = eqb-true (length (x ∷ xs)) 0 e in absurd (omega arith))
 front_is false (x ∷ xs) = refl
 
 front_after-inside : (done : List FileLine) → front_after false done ≡ false

@@ -5,16 +5,12 @@ use Rattle.std.specs.Prelude.{not}
 use Rattle.std.specs.Simd.Lanes.{chunk, mask_l}
 use lib.Count.{count_trailing_zeros}
 use Rattle.std.proofs.lemmas.Simd.{length-chunk, run_in_chunk_fails, run_in_chunk_stops, trailing_mask_l}
-use Rattle.std.proofs.lemmas.Bool.{cases_eq, cases_lt, eqb-true, ltb-true, lt-ltb, false≢true}
+use Rattle.std.proofs.lemmas.Bool.{cases_eq, cases_lt, eqb-true, ltb-true, lt-ltb, false≢true, false_from_ne_true}
 use Rattle.std.specs.List.{onto_first}
 use Rattle.std.proofs.lemmas.List.{take_more, get_or_push, length_push, drop_all, take_all, length-take-le}
 use Rattle.memchr.specs.Find.{Nowhere, NoneBefore, Passes, is_byte}
 use Rattle.cse_lines.specs.Line.{pieces_of, lines_in, counts, is_whole, is_excessive, is_last, text_of, flagged, without_mark}
 use Rattle.cse_lines.specs.Cutting.{HasNoFeed, IsFirstLine}
-
-not_true : (b : Bool) → (b ≡ true → ⊥) → b ≡ false
-not_true true h = absurd (h refl)
-not_true false h = refl
 
 tail : (b : ℕ) (bs : List ℕ) → HasNoFeed (b ∷ bs) → HasNoFeed bs
 tail b bs h k l = h (suc k) (omega arith)
@@ -78,11 +74,11 @@ piece_found : (bytes : List ℕ) (i : ℕ) → NoneBefore (Passes (is_byte 10) b
 piece_found bytes i b p = record {
   text = take i bytes;
   is = let here : get_or bytes i 0 ≡ 10 = eqb-true _ _ p in take_more bytes i 0 b.high ∙ rw here refl;
-  none = λ k l. let below : k < i = omega (arith, length-take i bytes) in rw get_or-take (not_true _ (b.before k (omega arith) below));
+  none = λ k l. let below : k < i = omega (arith, length-take i bytes) in rw get_or-take (false_from_ne_true _ (b.before k (omega arith) below));
 }
 
 pub none_found : (bytes : List ℕ) → Nowhere (Passes (is_byte 10) bytes) 0 (length bytes) → HasNoFeed bytes
-none_found bytes h k l = not_true _ (h k (omega arith) l)
+none_found bytes h k l = false_from_ne_true _ (h k (omega arith) l)
 
 -- the first line, up to the line feed that a search found
 pub IsFirstLine-found : (front ended : Bool) (bytes : List ℕ) (i : ℕ) → NoneBefore (Passes (is_byte 10) bytes) 0 (length bytes) i → Passes (is_byte 10) bytes i

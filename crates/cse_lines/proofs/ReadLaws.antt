@@ -1,7 +1,7 @@
 -- What a call of the reader knows while it reads.
 use Rattle.std.proofs.Common.{◌≡◌, ℕ, ◌+◌, ◌*◌, ◌^◌, ◌<◌, ◌≤◌, Bool, true, false, eqb, List, [], ◌∷◌, ◌++◌, length, take, refl, ap, sym, ◌∙◌, subst, arith, Some, None, Ok, Err, Option, Result, add-zero, append_assoc, append-nil, length-append, inl, inr}
 use Rattle.cse_value.proofs.ReadLaws.{Consumes-kept, Consumes-nil, Consumes-trans, Keeps-refl}
-use Rattle.std.proofs.lemmas.Bool.{eqb-true, false≢true}
+use Rattle.std.proofs.lemmas.Bool.{eqb-true, false≢true, false_from_ne_true}
 use Rattle.std.proofs.lemmas.List.{length-map, nil_from_length, take_at}
 use Rattle.cse_value.specs.Device.{Consumes, IsAtEnd, IsUnfailing, Keeps, Given}
 use Rattle.cse_dict.specs.Dictionary.{DictionaryText}
@@ -107,11 +107,7 @@ HasRead-more before now after old run new uncut rest rest' ended ended' reads re
     }
 
 not_zero : (n : ℕ) → 0 < n → eqb n 0 ≡ false
-not_zero n h = by_cases (eqb n 0) (λ e. let z : n ≡ 0 = eqb-true n 0 e in absurd (omega arith))
-  where
-    by_cases : (b : Bool) → (b ≡ true → ⊥) → b ≡ false
-    by_cases true never = absurd (never refl)
-    by_cases false never = refl
+not_zero n h = false_from_ne_true (eqb n 0) (λ e. let z : n ≡ 0 = eqb-true n 0 e in absurd (omega arith))
 
 module _ (before now : Given) (old : ReaderText) (run : RunText) (uncut : List ℕ) (ended : Bool) (reads : ℕ)
     (h : HasRead before now old run uncut ended reads) where

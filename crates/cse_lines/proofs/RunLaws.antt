@@ -1,13 +1,14 @@
 -- Laws of the runs of a list of lines.
-use Rattle.std.proofs.Common.{◌≡◌, ℕ, suc, ◌+◌, Bool, true, false, cond, List, [], ◌∷◌, ◌++◌, length, take, refl, ap, sym, ◌∙◌, subst, arith, Some, None, Option, add-zero, zero-add, add-one, append-nil}
+use Rattle.std.proofs.Common.{◌≡◌, ℕ, suc, ◌+◌, Bool, true, false, cond, List, [], ◌∷◌, ◌++◌, length, take, refl, ap, sym, ◌∙◌, subst, arith, Some, None, Option, add-zero, zero-add, add-one, append-nil, add_assoc}
 use Rattle.std.specs.Str.{bytes_eq}
 use Rattle.std.proofs.lemmas.Slice.Eq.{bytes_eq-Decides}
 use Rattle.std.proofs.Math.Seq.{take-append-add, take-append_seam}
+use Rattle.std.proofs.lemmas.Bool.{false_from_ne_true}
 use Rattle.cse_dict.specs.Dictionary.{DictionaryText}
-use Rattle.cse_lines.specs.Line.{FileLine}
+use Rattle.cse_lines.specs.Line.{FileLine, lines_in}
 use Rattle.cse_lines.specs.Columns.{id_of}
 use Rattle.cse_lines.specs.Gathering.{IsRunOf}
-use Rattle.cse_lines.specs.Runs.{fault_of, place_after, or_later, later_by, first_fault, onto_run, runs_of, all_but_last, given_before, given_of}
+use Rattle.cse_lines.specs.Runs.{fault_of, place_after, or_later, later_by, first_fault, onto_run, runs_of, all_but_last, given_before, given_of, given_runs, fault_in, MayFollow}
 
 -- these lines don't go on a run of the id
 abbrev pub Differs : DictionaryText → List ℕ → List FileLine → Type 0
@@ -17,12 +18,8 @@ Differs d id (line ∷ lines) = id_of d line ≡ id → ⊥
 same_id : (id : List ℕ) → bytes_eq id id ≡ true
 same_id id = (bytes_eq-Decides id id).1 refl
 
-not_true : (b : Bool) → (b ≡ true → ⊥) → b ≡ false
-not_true true h = absurd (h refl)
-not_true false h = refl
-
 other_id : (id other : List ℕ) → (other ≡ id → ⊥) → bytes_eq id other ≡ false
-other_id id other h = not_true _ (λ same. h (sym ((bytes_eq-Decides id other).0 same)))
+other_id id other h = false_from_ne_true _ (λ same. h (sym ((bytes_eq-Decides id other).0 same)))
 
 pub place-same : (d : DictionaryText) (id : List ℕ) (n : ℕ) (line : FileLine) → id_of d line ≡ id → place_after d id n line ≡ n + 1
 place-same d id n line same = rw (same, same_id id) refl
@@ -41,9 +38,13 @@ IsRunOf-push d id n [] line place run same at sound =
 IsRunOf-push d id n (l ∷ ls) line place run same at sound =
     (run.0, run.1, IsRunOf-push d id (n + 1) ls line place run.2 same (omega arith) sound)
 
-later_by-zero : (fault : Option (ℕ × ℕ)) → later_by 0 fault ≡ fault
+pub later_by-zero : (fault : Option (ℕ × ℕ)) → later_by 0 fault ≡ fault
 later_by-zero None = refl
 later_by-zero (Some f) = rw zero-add refl
+
+pub later_by-later_by : (a b : ℕ) (f : Option (ℕ × ℕ)) → later_by a (later_by b f) ≡ later_by (a + b) f
+later_by-later_by a b None = refl
+later_by-later_by a b (Some f) = ap (λ n. Some (n, f.1)) (sym (add_assoc a b (f.0)))
 
 later_by-suc : (k : ℕ) (fault : Option (ℕ × ℕ)) → or_later None (later_by k fault) ≡ later_by (suc k) fault
 later_by-suc k None = refl
@@ -176,3 +177,18 @@ pub given_of-nil : (d : DictionaryText) (ended : Bool) → given_of d ended [] �
 unfolding given_of
 given_of-nil d true = refl
 given_of-nil d false = refl
+
+pub nothing_given : (d : DictionaryText) (front : Bool) → given_runs d front true [] ≡ []
+unfolding given_of lines_in
+nothing_given d front = refl
+
+pub nothing_faulty : (d : DictionaryText) (front : Bool) → fault_in d front true [] ≡ None
+unfolding fault_in lines_in
+nothing_faulty d front = refl
+
+-- what may follow what was read may follow what was held
+pub may_follow : (ended ended' later : Bool) (taken more : List ℕ) → (ended ≡ true → (taken ≡ []) × (ended' ≡ true)) → MayFollow ended' later more → MayFollow ended later (taken ++ more)
+may_follow ended ended' later taken more stays h = λ e.
+    let s = stays e in
+    let f = h (s.1) in
+    (f.0, ap (λ l. l ++ more) (s.0) ∙ f.1)

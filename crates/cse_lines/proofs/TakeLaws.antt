@@ -1,6 +1,5 @@
 -- Laws of a line that comes to a run.
 use Rattle.std.proofs.Common.{◌≡◌, ℕ, ◌+◌, ◌≤◌, max, Bool, true, false, List, [], ◌∷◌, length, take, drop, Some, None, refl, ap, sym, ◌∙◌, arith}
-use Rattle.std.specs.Prelude.{not}
 use Rattle.std.specs.Str.{bytes_eq}
 use Rattle.std.proofs.lemmas.Bool.{false≢true}
 use Rattle.std.proofs.lemmas.Slice.Eq.{bytes_eq-Decides}
@@ -38,14 +37,6 @@ pub ids_test : (d : DictionaryText) (run : RunText) (layout : LayoutText) (a b :
 ids_test d run layout a b test t l e =
     t ∙ ap (λ x. bytes_eq (fields_at x.ids a) (fields_at x.ids b)) l ∙ ap (λ x. bytes_eq x (fields_at (id_spans d) b)) (ids_of_is d a ∙ ap (ids_of d) e)
     ∙ ap (bytes_eq (run_id d run)) (ids_of_is d b)
-
-pub not_false : (test : Bool) → not test ≡ false → test ≡ true
-not_false true h = refl
-not_false false h = sym h
-
-pub not_true : (test : Bool) → not test ≡ true → test ≡ false
-not_true true h = sym h
-not_true false h = refl
 
 pub same_ids : (xs ys : List ℕ) (test : Bool) → test ≡ bytes_eq xs ys → test ≡ true → xs ≡ ys
 same_ids xs ys test e t = (bytes_eq-Decides xs ys).0 (sym e ∙ t)

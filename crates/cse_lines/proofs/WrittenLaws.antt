@@ -33,7 +33,7 @@ last_two piece a b e f some =
     drop_more piece (length piece - 2) 0 (omega arith) ∙ ap (λ x. x ∷ drop (length piece - 2 + 1) piece) at
     ∙ ap (λ n. a ∷ drop n piece) next ∙ ap (λ l. a ∷ l) (last_byte piece b f (omega arith))
 
-some_byte : (piece : List ℕ) → eqb (get_or piece (length piece - 1) 0) 10 ≡ true → 0 < length piece
+pub some_byte : (piece : List ℕ) → eqb (get_or piece (length piece - 1) 0) 10 ≡ true → 0 < length piece
 some_byte [] e = absurd (false≢true e)
 some_byte (b ∷ bs) e = omega arith
 

@@ -17,8 +17,8 @@ use Rattle.cse_logic_names.specs.Scope.{Scope, own_result, kind_and_owner, found
 use Rattle.cse_logic_names.specs.WellTyped.{dimensions_of, may_call}
 use Rattle.cse_logic_expressions.specs.Judge.{Judged, AsNumber, AsWords, Unknown, is_sound, as_number, field_at, sole, is_count, picks_of, expr_count, judge_all}
 use Rattle.cse_logic_expressions.specs.JudgeStatement.{as_words, free_variable, place_at, set_item, set_text_item, impute_item, assign_variable, assign_item, assign, impute_number, impute, put_deck, call_of}
-use Rattle.cse_logic_names.specs.Walk.{is_there, joined, only_if}
-use Rattle.cse_logic_names.proofs.Walks.{there_map, or_parts, or_same}
+use Rattle.cse_logic_names.specs.Walk.{is_there, only_if}
+use Rattle.cse_logic_names.proofs.Walks.{there_map, or_parts, or_same, joined_there}
 use Rattle.cse_logic_expressions.proofs.Expressions.{count_is}
 
 -- ---- faults that were noted of parts
@@ -52,11 +52,6 @@ part_noted s a before mid final e h k = h (ap (λ t. t || not s) e ∙ or_same b
 only_there : {A : Type 0} (b : Bool) (o : Option A) → is_there (only_if b o) ≡ true → (b ≡ true) × (is_there o ≡ true)
 only_there true o h = (refl, h)
 only_there false o h = absurd (false≢true h)
-
-joined_there : {A B C : Type 0} (f : A → B → C) (a : Option A) (b : Option B) → is_there (joined f a b) ≡ true → (is_there a ≡ true) × (is_there b ≡ true)
-joined_there f (Some x) (Some y) h = (refl, refl)
-joined_there f (Some x) None h = absurd (false≢true h)
-joined_there f None b h = absurd (false≢true h)
 
 number_sound : (v : Judged) → is_there (as_number v) ≡ true → is_sound v ≡ true
 number_sound (AsNumber x) h = h

@@ -2,7 +2,7 @@
 use Rattle.std.proofs.Common.{◌≡◌, ℕ, ◌+◌, ◌≤◌, Bool, true, false, List, [], ◌∷◌, length, map, Option, Some, None, refl, ap, sym, ◌∙◌, subst, arith}
 use Rattle.std.specs.Prelude.{◌&&◌, ◌||◌, not, option_map}
 use Rattle.std.proofs.lemmas.List.{length-map}
-use Rattle.std.proofs.lemmas.Bool.{leb-true}
+use Rattle.std.proofs.lemmas.Bool.{leb-true, and_parts}
 use Rattle.std.specs.Global.{Vec, Box}
 use Rattle.cse_syntax_tree.specs.declared.tree.Lexeme.{Lexeme}
 use Rattle.cse_syntax_tree.specs.declared.tree.Operator.{Operator}
@@ -19,7 +19,6 @@ use Rattle.cse_logic_names.specs.Scope.{Scope, meant}
 use Rattle.cse_logic_names.specs.WellTyped.{may_divide}
 use Rattle.cse_logic_expressions.specs.Judge.{Judged, AsNumber, AsWords, Unknown, is_sound, compared, as_number, expr_count, indexed, is_end, judge, judge_all, judge_operation, judge_operations}
 use Rattle.cse_logic_names.specs.Walk.{is_there, joined, only_if, walk}
-use Rattle.cse_logic_expressions.proofs.Right.{and_holds}
 use Rattle.cse_logic_names.proofs.Walks.{walk_made, is_none, or_parts, or_same}
 
 pub count_is : (xs : List syntax.Expr) → expr_count (exprs xs) ≡ length xs
@@ -51,7 +50,7 @@ all_walked s (x ∷ xs) = ap (joined typed.number_and (as_number (judge s false 
 
 pub within_most : (digits : List ℕ) → is_within 0 MOST digits ≡ true → number_of digits ≤ 9223372036854775807
 unfolding is_within
-within_most digits h = leb-true (number_of digits) 9223372036854775807 (and_holds _ _ (and_holds (is_digits digits) _ h).1).1
+within_most digits h = leb-true (number_of digits) 9223372036854775807 (and_parts _ _ (and_parts (is_digits digits) _ h).1).1
 
 pub values_walked : (s : Scope) (xs : List rust.Expression) → judge_all s (exprs (map expr xs)) ≡ option_map typed.numbers (walk (λ x rest. as_number (judge s false (expr x))) xs)
 values_walked s xs = all_walked s (map expr xs) ∙ ap (option_map typed.numbers) (walk_made (λ x. as_number (judge s false x)) expr xs)

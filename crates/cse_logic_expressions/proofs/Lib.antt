@@ -1,6 +1,5 @@
 pub mod Right
 pub mod Complete
-pub mod Sets
 pub mod Subscripts
 pub mod Expressions
 pub mod Numbers

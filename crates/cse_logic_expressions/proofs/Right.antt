@@ -2,7 +2,8 @@
 use Rattle.std.proofs.Common.{◌≡◌, ℕ, ◌+◌, Bool, true, false, List, [], ◌∷◌, Option, Some, None, refl, sym, ap, ◌∙◌, subst}
 use Rattle.std.specs.Prelude.{◌==◌, ◌&&◌, not, if◌then◌else◌, option_map, slice_get}
 use Rattle.std.specs.Option.{option_and_then}
-use Rattle.std.proofs.lemmas.Bool.{eqb-true, false≢true}
+use Rattle.std.proofs.lemmas.Bool.{eqb-true, false≢true, and_parts, not-true}
+use Rattle.std.proofs.lemmas.Iterator.Adapters.{option_map_id}
 use Rattle.cse_value.specs.declared.shape.ItemKind.{ItemKind}
 use Rattle.cse_value.specs.declared.shape.ItemKind.TheVariants as kind
 use Rattle.cse_syntax_tree.specs.declared.tree.Operator.{Operator}
@@ -33,6 +34,10 @@ use Rattle.cse_logic_names.specs.Walk.{joined, only_if}
 abbrev pub For : {A : Type 0} → (A → Type 0) → Option A → Type 0
 For P None = Unit {0}
 For P (Some x) = P x
+
+pub for_any : {A : Type 0} (o : Option A) → For (λ x. Unit {0}) o
+for_any None = tt
+for_any (Some x) = tt
 
 pub for_map : {A B : Type 0} (P : A → Type 0) (Q : B → Type 0) (g : A → B) → ((x : A) → P x → Q (g x)) → (o : Option A) → For P o → For Q (option_map g o)
 for_map P Q g h None k = tt
@@ -73,14 +78,6 @@ number_right s top x Unknown h = tt
 
 -- ---- items
 
-pub and_holds : (a b : Bool) → (a && b) ≡ true → (a ≡ true) × (b ≡ true)
-and_holds true b h = (refl, h)
-and_holds false b h = (h, absurd (false≢true h))
-
-pub not_holds : (a : Bool) → not a ≡ true → a ≡ false
-not_holds true h = sym h
-not_holds false h = refl
-
 present_here : (s : Scope) (k : ItemKind) (item owner : ℕ) (b : Bool) → (owner == 255) ≡ b → has_case s.routine ≡ true → kind_and_owner s.dictionary item ≡ Some (k, owner) → (o : Option Found) → found s owner ≡ o
     → For (λ x. (item_of x ≡ item) × IsPresent s k x) (if b then Some (p.Id item) else option_map (p.Here (record { owner = owner; item = item })) o)
 present_here s k item owner true e c h o w = (refl, (c, h ∙ ap (λ n. Some (k, n)) (eqb-true owner 255 e)))
@@ -94,8 +91,8 @@ present_right s k item owner h = for_only _ (has_case s.routine) _ (λ c. presen
 field_right : (s : Scope) (k : ItemKind) (item owner : ℕ) → kind_and_owner s.dictionary item ≡ Some (k, owner) → For (λ x. (x.item ≡ item) × IsField s k x) (field_at s item owner)
 unfolding field_at
 field_right s k item owner h = for_only _ (has_case s.routine && not (owner == 255)) _ (λ c.
-    let d = and_holds (has_case s.routine) (not (owner == 255)) c in
-    (refl, (d.0, h, not_holds (owner == 255) d.1)))
+    let d = and_parts (has_case s.routine) (not (owner == 255)) c in
+    (refl, (d.0, h, not-true (owner == 255) d.1)))
 
 item_right : (s : Scope) (top : Bool) (name : Spelling) (item : ℕ) (o : Option (ItemKind × ℕ)) → meant s name ≡ Some (m.Item item) → kind_and_owner s.dictionary item ≡ o → Right s top (syntax.Bare name) (item_judged s name item o)
 item_right s top name item None e h = tt
@@ -182,12 +179,8 @@ number_present_right s item = present_if_right s item (kind_and_owner s.dictiona
 set_present_right : (s : Scope) (o : Option ℕ) → For (λ x. (o ≡ Some (item_of x)) × IsPresent s kind.Number x) (set_present s o)
 set_present_right s None = tt
 set_present_right s (Some item) =
-    subst (λ (r : Option Present). For (λ x. (Some item ≡ Some (item_of x)) × IsPresent s kind.Number x) r) (map_same (number_present s item))
+    subst (λ (r : Option Present). For (λ x. (Some item ≡ Some (item_of x)) × IsPresent s kind.Number x) r) (option_map_id (number_present s item))
     (for_map (λ x. (item_of x ≡ item) × IsPresent s kind.Number x) (λ x. (Some item ≡ Some (item_of x)) × IsPresent s kind.Number x) (λ x. x) (λ x k. (ap Some (sym k.0), k.1)) (number_present s item) (number_present_right s item))
-  where
-    map_same : (r : Option Present) → option_map (λ x. x) r ≡ r
-    map_same None = refl
-    map_same (Some x) = refl
 
 picks_right : (s : Scope) (ds : List Dimension) → For (ArePicks s ds) (picks_for s ds)
 picks_right s [] = tt

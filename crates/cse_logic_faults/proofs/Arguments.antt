@@ -1,6 +1,8 @@
 -- The values of a message, each beside its placeholder's kind.
 use Rattle.std.specs.Prelude.{MatchOption, false}
 use Rattle.std.proofs.Common.{◌≡◌, ℕ, ◌+◌, ◌<◌, ◌≤◌, get_or, drop, List, [], ◌∷◌, ◌++◌, length, map, Option, Some, None, refl, ap, sym, ◌∙◌, append_assoc}
+use Rattle.std.proofs.lemmas.List.{append-nil, drop_all}
+use Rattle.cse_lemmas.proofs.Lists.{drop_read}
 use Rattle.cse_image_parts.specs.declared.placeholders.ArgumentKind.{ArgumentKind}
 use Rattle.cse_syntax_tree.specs.declared.tree.Expression.{Expression}
 use Rattle.cse_syntax_tree.specs.Tree.{expr, exprs}
@@ -9,7 +11,6 @@ use Rattle.cse_logic_faults.specs.Faults.{Fault, Counts}
 use Rattle.cse_logic_faults.specs.FaultsOfExpressions.{expr_faults}
 use Rattle.cse_logic_faults.specs.FaultsOfStatements.{values_faults, arguments_faults}
 use Rattle.cse_logic_faults.specs.Operators.{argument_faults}
-use Rattle.cse_logic_names.proofs.Walks.{drop_is, past, append_none}
 
 -- without placeholders
 no_kinds : (c : Counts) (s : Scope) (xs : List Expression) → values_faults c s (exprs (map expr xs)) ≡ arguments_faults c s [] (exprs (map expr xs))
@@ -34,7 +35,7 @@ arguments_turn c s items i x lt is g g' total ks others k inv next e =
     ap (λ z. z ++ arguments_faults c s others (exprs (map expr rest))) e
     ∙ append_assoc g (argument_faults c s k (expr x)) (arguments_faults c s others (exprs (map expr rest)))
     ∙ ap (λ z. g ++ z) (more c s ks others k x rest next)
-    ∙ ap (λ zs. g ++ arguments_faults c s ks (exprs (map expr zs))) (sym (drop_is items i x lt is))
+    ∙ ap (λ zs. g ++ arguments_faults c s ks (exprs (map expr zs))) (sym (drop_read items i x lt is))
     ∙ inv
 
 none_left : (c : Counts) (s : Scope) (ks : List ArgumentKind) → arguments_faults c s ks (exprs []) ≡ []
@@ -44,6 +45,6 @@ none_left c s (k ∷ ks) = refl
 pub arguments_end : (c : Counts) (s : Scope) (items : List Expression) (i : ℕ) → length items ≤ i → (g total : List Fault) (ks : List ArgumentKind)
     → g ++ arguments_faults c s ks (exprs (map expr (drop i items))) ≡ total → g ≡ total
 arguments_end c s items i le g total ks inv =
-    sym (append_none g)
-    ∙ ap (λ z. g ++ z) (sym (ap (λ zs. arguments_faults c s ks (exprs (map expr zs))) (past items i le) ∙ none_left c s ks))
+    sym (append-nil g)
+    ∙ ap (λ z. g ++ z) (sym (ap (λ zs. arguments_faults c s ks (exprs (map expr zs))) (drop_all i items le) ∙ none_left c s ks))
     ∙ inv

@@ -2,11 +2,11 @@
 use Rattle.std.proofs.Common.{◌≡◌, ℕ, ◌≤◌, drop, Bool, true, false, List, ◌∷◌, length, map, Option, Some, None, refl, ap, sym, ◌∙◌, arith}
 use Rattle.std.specs.Option.{option_map}
 use Rattle.std.proofs.lemmas.Bool.Decides.{nat_tests}
+use Rattle.std.proofs.lemmas.List.{drop_all}
 use Rattle.cse_logic_names.specs.declared.faults.Fault as rust
 use Rattle.cse_logic_faults.specs.Faults.{Fault, is_before, lesser, least_of}
 use Rattle.cse_logic_faults.specs.Least.{lesser_so_far, both}
 use Rattle.cse_logic_faults.specs.Listed.{listed}
-use Rattle.cse_logic_names.proofs.Walks.{past}
 
 -- before what stands before another
 before_both : (x y z : Fault) → is_before x y ≡ true → is_before y z ≡ true → is_before x z ≡ true
@@ -50,5 +50,5 @@ pub least_end : (items : List rust.Fault) (i : ℕ) → length items ≤ i → (
 unfolding least_of
 least_end items i le l total inv =
     sym (none_is (option_map listed l))
-    ∙ ap (λ zs. both (option_map listed l) (least_of (map listed zs))) (sym (past items i le))
+    ∙ ap (λ zs. both (option_map listed l) (least_of (map listed zs))) (sym (drop_all i items le))
     ∙ inv

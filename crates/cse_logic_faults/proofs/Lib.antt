@@ -5,4 +5,3 @@ pub mod Numbers
 pub mod Arguments
 pub mod LeastLaws
 pub mod Blocks
-pub mod Sets

@@ -1,17 +1,12 @@
 -- Faults that are found one list after the other.
-use Rattle.std.proofs.Common.{◌≡◌, ℕ, suc, ◌+◌, ◌<◌, ◌≤◌, get_or, drop, drop-cons, List, [], ◌∷◌, ◌++◌, length, ap, sym, ◌∙◌, append_assoc, arith}
+use Rattle.std.proofs.Common.{◌≡◌, ℕ, ◌+◌, ◌<◌, ◌≤◌, get_or, drop, List, [], ◌∷◌, ◌++◌, length, ap, sym, ◌∙◌, append_assoc}
+use Rattle.std.proofs.lemmas.List.{append-nil, drop_all}
+use Rattle.cse_lemmas.proofs.Lists.{drop_read}
 use Rattle.cse_logic_faults.specs.Faults.{Fault}
-use Rattle.cse_logic_names.proofs.Walks.{drop_is, past, append_none}
 
 -- two lists, one behind the other
 pub behind : (old us vs : List Fault) → old ++ (us ++ vs) ≡ (old ++ us) ++ vs
 behind old us vs = sym (append_assoc old us vs)
-
--- the next member of a list, where it is copied
-pub next_at : {A : Type 0} (items : List A) (i : ℕ) (d : A) → i < length items → drop i items ≡ get_or items i d ∷ drop (i + 1) items
-next_at items i d lt =
-    let one : suc i ≡ i + 1 = omega arith in
-    drop-cons items i d lt ∙ ap (λ n. get_or items i d ∷ drop n items) one
 
 -- one member of a list more, where what is known changes
 pub turn_with : {S A : Type 0} (step : S → A → S) (f : S → A → List Fault) (k : S → List A → List Fault) → ((s : S) (x : A) (xs : List A) → k s (x ∷ xs) ≡ f s x ++ k (step s x) xs) → (here rest : List A) (x : A) → here ≡ x ∷ rest
@@ -37,9 +32,9 @@ turn f k h items i x lt is g g' total inv e =
     ap (λ z. z ++ k (drop (i + 1) items)) e
     ∙ append_assoc g (f x) (k (drop (i + 1) items))
     ∙ ap (λ l. g ++ l) (sym (h x (drop (i + 1) items)))
-    ∙ ap (λ l. g ++ k l) (sym (drop_is items i x lt is))
+    ∙ ap (λ l. g ++ k l) (sym (drop_read items i x lt is))
     ∙ inv
 
-pub end : {A : Type 0} (k : List A → List Fault) → k [] ≡ [] → (items : List A) (i : ℕ) → length items ≤ i → (g total : List Fault) → g ++ k (drop i items) ≡ total → g ≡ total
-end k h items i le g total inv =
-    sym (append_none g) ∙ ap (λ l. g ++ l) (sym (ap k (past items i le) ∙ h)) ∙ inv
+pub found_end : {A : Type 0} (k : List A → List Fault) → k [] ≡ [] → (items : List A) (i : ℕ) → length items ≤ i → (g total : List Fault) → g ++ k (drop i items) ≡ total → g ≡ total
+found_end k h items i le g total inv =
+    sym (append-nil g) ∙ ap (λ l. g ++ l) (sym (ap k (drop_all i items le) ∙ h)) ∙ inv

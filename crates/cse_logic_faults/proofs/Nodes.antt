@@ -3,6 +3,7 @@ use Rattle.std.proofs.Common.{◌≡◌, ℕ, ◌+◌, ◌-◌, ◌<◌, get_or,
 use Rattle.std.specs.Prelude.{◌==◌}
 use Rattle.std.proofs.lemmas.List.{length-map}
 use Rattle.std.specs.Global.{Vec, Box}
+use Rattle.cse_lemmas.proofs.Lists.{drop_read}
 use Rattle.cse_syntax_tree.specs.declared.tree.Lexeme.{Lexeme}
 use Rattle.cse_syntax_tree.specs.declared.tree.Operation as rustop
 use Rattle.cse_syntax_tree.specs.declared.tree.Expression as rust
@@ -13,7 +14,7 @@ use Rattle.cse_syntax_tree.proofs.Rows.{indexed_is, chain_is}
 use Rattle.cse_logic_names.specs.Scope.{Scope, meant}
 use Rattle.cse_syntax_tree.specs.First.{expr_token}
 use Rattle.cse_logic_names.specs.WellTyped.{may_divide}
-use Rattle.cse_logic_names.proofs.Walks.{drop_is, is_none, none_left, step_left}
+use Rattle.cse_logic_names.proofs.Walks.{is_none, none_left, step_left}
 use Rattle.cse_logic_faults.specs.Faults.{Fault, unless, Counts, ANumber, sort_of, indexed_sort}
 use Rattle.cse_logic_faults.specs.Operators.{operation_faults}
 use Rattle.cse_logic_faults.specs.FaultsOfExpressions.{expr_faults, numbers_faults, number_faults, operations_faults, indexed_faults, count_of, is_end}
@@ -81,7 +82,7 @@ operations_turn c s top items i x lt is g g' total l k inv left less e =
       ap (λ z. z ++ rest) (e ∙ ap (λ b. g ++ own b) (none_left items (i + 1) k next))
           ∙ append_assoc g (own (is_none (drop (i + 1) items))) rest
           ∙ ap (λ z. g ++ z) (sym (operations_more c s top x (drop (i + 1) items)))
-          ∙ ap (λ z. g ++ operations_faults c s top (operations (map operation_tree z))) (sym (drop_is items i x lt is))
+          ∙ ap (λ z. g ++ operations_faults c s top (operations (map operation_tree z))) (sym (drop_read items i x lt is))
           ∙ inv,
       next,
     )

@@ -1,13 +1,15 @@
 -- What is gathered from one list of uses and then another.
 use Rattle.std.proofs.Common.{◌≡◌, ℕ, ◌+◌, ◌<◌, ◌≤◌, List, [], ◌∷◌, ◌++◌, length, map, drop, get_or, Option, refl, sym, ap, ◌∙◌, append_assoc}
 use Rattle.std.specs.Prelude.{Bool, true, false, ◌||◌, slice_get}
+use Rattle.std.proofs.lemmas.List.{drop_all}
+use Rattle.cse_lemmas.proofs.Lists.{drop_read}
+use Rattle.cse_lemmas.proofs.Booleans.{or-false, or-true}
 use Rattle.cse_logic_tree.specs.Typed as typed
 use Rattle.cse_logic_tree.specs.Typed.{Number, Statements, Arms, no_arm, arm, arms}
 use Rattle.cse_logic_names.specs.declared.facts.Gathered.{Gathered}
 use Rattle.cse_logic_names.specs.Scope.{Facts}
 use Rattle.cse_logic_names.specs.Uses.{Use, TheCase, Calls, Assigns, uses, uses_of, uses_block, uses_arms, facts_need, needs_case, assigned_after, with_global, with_globals}
 use Rattle.cse_logic_names.specs.Gather.{with_call, with_use, gather}
-use Rattle.cse_logic_names.proofs.Walks.{drop_is, past}
 
 module _ (functions : List (Option Facts)) where
   pub gather_both : (g : Gathered) (us vs : List Use) → gather functions g (us ++ vs) ≡ gather functions (gather functions g us) vs
@@ -30,26 +32,18 @@ module _ (functions : List (Option Facts)) where
       ap (λ z. gather functions z (k (drop (i + 1) items))) e
       ∙ sym (gather_both g (f x) (k (drop (i + 1) items)))
       ∙ ap (gather functions g) (sym (h x (drop (i + 1) items)))
-      ∙ ap (λ l. gather functions g (k l)) (sym (drop_is items i x lt is))
+      ∙ ap (λ l. gather functions g (k l)) (sym (drop_read items i x lt is))
       ∙ inv
 
   pub gather_end : {A : Type 0} (k : List A → List Use) → k [] ≡ [] → (items : List A) (i : ℕ) → length items ≤ i → (g total : Gathered) → gather functions g (k (drop i items)) ≡ total → g ≡ total
   gather_end k h items i le g total inv =
-      sym (gather_none g) ∙ ap (gather functions g) (sym (ap k (past items i le) ∙ h)) ∙ inv
+      sym (gather_none g) ∙ ap (gather functions g) (sym (ap k (drop_all i items le) ∙ h)) ∙ inv
 
   -- what is gathered, apart
   needs_is : (g : Gathered) (us : List Use) → (gather functions g us).needs_case ≡ (g.needs_case || needs_case functions us)
   unfolding gather
-  needs_is g [] = sym (or_false g.needs_case)
-    where
-      or_false : (b : Bool) → (b || false) ≡ b
-      or_false true = refl
-      or_false false = refl
-  needs_is g (TheCase ∷ us) = needs_is (with_use functions g TheCase) us ∙ sym (or_true g.needs_case)
-    where
-      or_true : (b : Bool) → (b || true) ≡ true
-      or_true true = refl
-      or_true false = refl
+  needs_is g [] = sym (or-false g.needs_case)
+  needs_is g (TheCase ∷ us) = needs_is (with_use functions g TheCase) us ∙ sym (or-true g.needs_case)
   needs_is g (Calls f ∷ us) = needs_is (with_use functions g (Calls f)) us ∙ or_assoc g.needs_case (facts_need (slice_get functions f)) (needs_case functions us)
     where
       or_assoc : (a b c : Bool) → ((a || b) || c) ≡ (a || (b || c))

@@ -4,3 +4,6 @@ mod OrderLaws
 pub mod NameLaws
 pub mod Walks
 pub mod Gathering
+pub mod Sets
+pub mod Numbers
+pub mod ScopeLaws

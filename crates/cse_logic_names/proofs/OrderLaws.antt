@@ -2,8 +2,9 @@
 use Rattle.std.proofs.Common.{◌≡◌, ◌⊎◌, inl, inr, ◌≤◌, ◌<◌, ◌+◌, suc, ℕ, Bool, true, false, List, [], ◌∷◌, ◌++◌, length, refl, sym, ap, ◌∙◌, subst, arith, Some, None}
 use Rattle.std.specs.Prelude.{Result, Ok, Err, IfOk, map, nat_eq, ◌||◌, unwrap_or, Option, is_some, if◌then◌else◌}
 use Rattle.std.specs.List.{filter, list_any, IsDistinct, AllByRecursion}
-use Rattle.std.proofs.lemmas.List.{map-append}
+use Rattle.std.proofs.lemmas.List.{map-append, append-nil, length_push}
 use Rattle.std.proofs.lemmas.List.Elements.{filter-append}
+use Rattle.std.proofs.lemmas.Bool.{true≢false}
 use Rattle.cse_dict.specs.Dictionary.{DictionaryText}
 use Rattle.cse_sections.specs.Sections.{lines_of}
 use Rattle.cse_sections.proofs.SectionLaws.{no_lines}
@@ -28,20 +29,9 @@ named_first d line more e = rw e refl
 named_empty : (d : DictionaryText) (line : List ℕ) (more : List (List ℕ)) → is_there line ≡ false → named d (line ∷ more) ≡ named d more
 named_empty d line more e = rw e refl
 
-append_none : {X : Type 0} (xs : List X) → xs ++ [] ≡ xs
-append_none [] = refl
-append_none (x ∷ xs) = ap (λ ys. x ∷ ys) (append_none xs)
-
 joined : {X : Type 0} (xs : List X) (x : X) (ys : List X) → xs ++ x ∷ ys ≡ (xs ++ x ∷ []) ++ ys
 joined [] x ys = refl
 joined (z ∷ xs) x ys = ap (λ l. z ∷ l) (joined xs x ys)
-
-one_longer : {X : Type 0} (xs : List X) (x : X) → length (xs ++ x ∷ []) ≡ length xs + 1
-one_longer [] x = omega arith
-one_longer (y ∷ ys) x = omega (arith, one_longer ys x)
-
-clash : true ≡ false → ⊥
-clash h = cc
 
 -- ---- distinct records
 
@@ -55,7 +45,7 @@ distinct_after r [] k h = (tt, tt)
 distinct_after r (x ∷ found) k h = by (distinct_after r found k.1) (nat_eq x r) refl
   where
     by : (list_any (λ y. nat_eq y r) found ≡ false → IsDistinct nat_eq (found ++ r ∷ [])) → (b : Bool) → nat_eq x r ≡ b → IsDistinct nat_eq ((x ∷ found) ++ r ∷ [])
-    by rest true e = absurd (clash (sym (ap (λ (b : Bool). b || list_any (λ y. nat_eq y r) found) e) ∙ h))
+    by rest true e = absurd (true≢false (sym (ap (λ (b : Bool). b || list_any (λ y. nat_eq y r) found) e) ∙ h))
     by rest false e = (all_after x r found k.0 e, rest (sym (ap (λ (b : Bool). b || list_any (λ y. nat_eq y r) found) e) ∙ h))
 
 none_equal : (x r : ℕ) (found more : List ℕ) → AllByRecursion (λ y. nat_eq x y ≡ false) (found ++ r ∷ more) → nat_eq x r ≡ false
@@ -65,11 +55,11 @@ none_equal x r (y ∷ ys) more k = none_equal x r ys more k.1
 -- a record that stands there again
 not_distinct : (r : ℕ) (found more : List ℕ) → list_any (λ x. nat_eq x r) found ≡ true → IsDistinct nat_eq (found ++ r ∷ more) → ⊥
 unfolding IsDistinct
-not_distinct r [] more h k = clash (sym h)
+not_distinct r [] more h k = true≢false (sym h)
 not_distinct r (x ∷ found) more h k = by (λ again. not_distinct r found more again k.1) (nat_eq x r) refl
   where
     by : (list_any (λ y. nat_eq y r) found ≡ true → ⊥) → (b : Bool) → nat_eq x r ≡ b → ⊥
-    by rest true e = clash (sym e ∙ none_equal x r found more k.0)
+    by rest true e = true≢false (sym e ∙ none_equal x r found more k.0)
     by rest false e = rest (sym (ap (λ (b : Bool). b || list_any (λ y. nat_eq y r) found) e) ∙ h)
 
 -- ---- what follows the records so far
@@ -107,7 +97,7 @@ module _ (d : DictionaryText) (before : List (List ℕ)) (found : List ℕ) (lin
 
   empty_on : is_there line ≡ false → IsOrder d (before ++ line ∷ []) found
   empty_on e = record {
-    named = named_both d before (line ∷ []) ∙ ap (λ l. named d before ++ l) (named_empty d line [] e) ∙ append_none (named d before) ∙ is.named;
+    named = named_both d before (line ∷ []) ∙ ap (λ l. named d before ++ l) (named_empty d line [] e) ∙ append-nil (named d before) ∙ is.named;
     once = is.once;
   }
 
@@ -125,7 +115,7 @@ module _ (d : DictionaryText) (before : List (List ℕ)) (found : List ℕ) (lin
       ∙ k.named)
 
   no_record : is_there line ≡ true → record_in d line ≡ None → (more : List (List ℕ)) (others : List ℕ) → IsOrder d (before ++ line ∷ more) others → ⊥
-  no_record e o more others k = clash (sym (ap is_some (sym o ∙ (what_follows e more others k).first)))
+  no_record e o more others k = true≢false (sym (ap is_some (sym o ∙ (what_follows e more others k).first)))
 
   named_before : (r : ℕ) → is_there line ≡ true → record_in d line ≡ Some r → list_any (λ x. nat_eq x r) found ≡ true
       → (more : List (List ℕ)) (others : List ℕ) → IsOrder d (before ++ line ∷ more) others → ⊥
@@ -167,7 +157,7 @@ module _ (d : DictionaryText) (before : List (List ℕ)) (found : List ℕ) (lin
       by_record e (Some r) o g = by_any r e o (list_any (λ x. nat_eq x r) found) refl g
 
       by_there : (b : Bool) → is_there line ≡ b → ⊥
-      by_there false e = clash (ap is_some (sym (ap picks e) ∙ h))
+      by_there false e = true≢false (ap is_some (sym (ap picks e) ∙ h))
       by_there true e = by_record e (record_in d line) refl (sym (ap picks e) ∙ h)
 
 -- ---- all lines
@@ -189,7 +179,7 @@ pub cut_on : (d : DictionaryText) (found new : List ℕ) (number : ℕ) (rest te
 cut_on d found new number rest text line more c l s h = record {
   before = c.before ++ line ∷ [];
   lines_are = c.lines_are ∙ ap (λ ls. c.before ++ ls) l ∙ joined c.before line (lines_of more);
-  number_is = ap (λ n. n + 1) c.number_is ∙ sym (one_longer c.before line);
+  number_is = ap (λ n. n + 1) c.number_is ∙ sym (length_push c.before line);
   fine = order_on d c.before found line c.fine new h;
   room = let r : number + length rest ≤ length text = c.room in omega (arith, r, s);
 }
@@ -208,7 +198,7 @@ cut_off d found number rest text line more c l h = record {
 }
 
 pub cut_last : (d : DictionaryText) (found : List ℕ) (number : ℕ) (rest text : List ℕ) → Cut d found number rest text → length rest ≡ 0 → IsOrder d (lines_of text) found
-cut_last d found number [] text c e = subst (λ ls. IsOrder d ls found) (sym (c.lines_are ∙ ap (λ ls. c.before ++ ls) no_lines ∙ append_none c.before)) c.fine
+cut_last d found number [] text c e = subst (λ ls. IsOrder d ls found) (sym (c.lines_are ∙ ap (λ ls. c.before ++ ls) no_lines ∙ append-nil c.before)) c.fine
 cut_last d found number (b ∷ rest) text c e = absurd (omega (arith, e))
 
 -- the fault that is told

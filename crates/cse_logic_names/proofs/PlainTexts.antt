@@ -1,17 +1,14 @@
 -- The texts of a message file are texts.
 use Rattle.std.proofs.Common.{◌≡◌, ℕ, Bool, true, false, not, ◌&&◌, List, [], ◌∷◌, ◌++◌, Option, Some, None, refl, sym, subst}
 use Rattle.std.specs.Prelude.{Result, Ok, Err, IsTrue, nat_le, nat_eq, take, drop, if◌then◌else◌}
-use Rattle.std.specs.List.{AllByRecursion, list_any}
+use Rattle.std.specs.List.{list_any}
 use Rattle.std.specs.Str.{is_utf8}
 use Rattle.std.proofs.lemmas.Bool.{and_parts}
+use Rattle.cse_lemmas.proofs.Lists.{AllByRecursion-append}
 use Rattle.cse_image_parts.specs.Texts.{is_text, is_short}
 use Rattle.cse_sections.specs.Number.{number_between}
 use Rattle.cse_logic_names.specs.MessageFile.{MessageText, digit_count, begins_with_gap, text_in, has_form, is_skipped, numbered, line_of, with_message, with_line, messages_behind}
 use Rattle.cse_logic_names.specs.Texts.{AreTexts}
-
-both : {A : Type 0} (P : A → Type 0) (xs ys : List A) → AllByRecursion P xs → AllByRecursion P ys → AllByRecursion P (xs ++ ys)
-both P [] ys f g = g
-both P (x ∷ xs) ys f g = (f.0, both P xs ys f.1 g)
 
 abbrev IsPlain : MessageText → Type 0
 IsPlain x = IsTrue (is_text x.text)
@@ -47,7 +44,7 @@ one_more found x h p = by (list_any (λ (y : MessageText). nat_eq x.number y.num
   where
     by : (b : Bool) → AreTexts (if b then found else found ++ x ∷ [])
     by true = h
-    by false = both IsPlain found (x ∷ []) h (p, tt)
+    by false = AllByRecursion-append IsPlain found (x ∷ []) h (p, tt)
 
 with_plain : (found : List MessageText) (said : Result (Option MessageText) ℕ) → AreTexts found → IsPlainLine said → AreTexts (with_line found said)
 with_plain found (Ok None) h p = h

@@ -1,7 +1,9 @@
 -- Lists that are judged from the left.
 use Rattle.std.specs.Prelude.{Bool, true, false, ◌&&◌, ◌||◌, not, ◌==◌}
-use Rattle.std.proofs.Common.{subst, ◌-◌, zero, ◌≤◌, ◌<◌, get_or, drop, drop-cons, ◌≡◌, ℕ, suc, ◌+◌, List, [], ◌∷◌, ◌++◌, length, map, Option, Some, None, refl, ap, sym, ◌∙◌, arith, option_map, append_assoc}
+use Rattle.std.proofs.Common.{subst, ◌-◌, zero, ◌≤◌, ◌<◌, get_or, drop, ◌≡◌, ℕ, suc, ◌+◌, List, [], ◌∷◌, ◌++◌, length, map, Option, Some, None, refl, ap, sym, ◌∙◌, arith, option_map, append_assoc, is_some}
 use Rattle.std.proofs.lemmas.Bool.{false≢true, eqb-true}
+use Rattle.std.proofs.lemmas.List.{append-nil, drop_all, map_push}
+use Rattle.cse_lemmas.proofs.Lists.{drop_read}
 use Rattle.cse_logic_names.specs.Walk.{walk, so_far, found_more, joined, only_if, is_there}
 
 more_found : {B : Type 0} (xs : List B) (y : B) (rest : Option (List B)) → option_map (λ ys. (xs ++ y ∷ []) ++ ys) rest ≡ option_map (λ ys. xs ++ ys) (joined (λ y ys. y ∷ ys) (Some y) rest)
@@ -19,11 +21,6 @@ flags_are true b y = refl
 flags_are false true y = refl
 flags_are false false y = refl
 
-pub drop_is : {A : Type 0} (items : List A) (i : ℕ) (x : A) → i < length items → x ≡ get_or items i x → drop i items ≡ x ∷ drop (i + 1) items
-drop_is items i x lt is =
-    let one : suc i ≡ i + 1 = omega arith in
-    drop-cons items i x lt ∙ ap (λ y. y ∷ drop (suc i) items) (sym is) ∙ ap (λ n. x ∷ drop n items) one
-
 -- the invariant of a loop, after one member
 pub step_value : {A B : Type 0} (f : A → List A → Option B) (items : List A) (i : ℕ) (x : A) (b there : Bool) (xs xs' : List B) (y : Option B) (all : Option (List B))
     → i < length items → x ≡ get_or items i x → so_far b xs (walk f (drop i items)) ≡ all → y ≡ f x (drop (i + 1) items) → xs' ≡ found_more xs y → there ≡ is_there y
@@ -34,34 +31,20 @@ step_value f items i x b there xs xs' y all lt is inv e g h =
     ∙ ap (λ l. so_far (b && is_there y) l rest) g
     ∙ turn_is b xs y rest
     ∙ ap (λ z. so_far b xs (joined (λ y ys. y ∷ ys) z rest)) e
-    ∙ ap (λ l. so_far b xs (walk f l)) (sym (drop_is items i x lt is))
+    ∙ ap (λ l. so_far b xs (walk f l)) (sym (drop_read items i x lt is))
     ∙ inv
 
 pub step_noted : (new old first b there : Bool) (y : Bool) → old ≡ (first || not b) → new ≡ (old || not y) → there ≡ y → new ≡ (first || not (b && there))
 step_noted new old first b there y inv e h = e ∙ ap (λ o. o || not y) inv ∙ flags_are first b y ∙ ap (λ k. first || not (b && k)) (sym h)
 
-pub past : {A : Type 0} → (xs : List A) (i : ℕ) → length xs ≤ i → drop i xs ≡ []
-past [] zero le = refl
-past [] (suc i) le = refl
-past (x ∷ xs) zero le = absurd (omega arith)
-past (x ∷ xs) (suc i) le = past xs i (omega arith)
-
-pub append_none : {B : Type 0} (xs : List B) → xs ++ [] ≡ xs
-append_none [] = refl
-append_none (x ∷ xs) = ap (λ ys. x ∷ ys) (append_none xs)
-
 pub end_is : {B : Type 0} (b : Bool) (xs : List B) (o : Option (List B)) → so_far b xs (Some []) ≡ o → (b ≡ true → o ≡ Some xs) × (b ≡ false → o ≡ None) × (is_there o ≡ b)
-end_is true xs o e = (λ t. sym e ∙ ap Some (append_none xs), λ t. absurd (false≢true (sym t)), ap is_there (sym e))
+end_is true xs o e = (λ t. sym e ∙ ap Some (append-nil xs), λ t. absurd (false≢true (sym t)), ap is_there (sym e))
 end_is false xs o e = (λ t. absurd (false≢true t), λ t. sym e, ap is_there (sym e))
 
 -- that invariant at the end
 pub at_end : {A B : Type 0} (f : A → List A → Option B) (items : List A) (i : ℕ) (b : Bool) (xs : List B) (all : Option (List B)) → length items ≤ i → so_far b xs (walk f (drop i items)) ≡ all
     → (b ≡ true → all ≡ Some xs) × (b ≡ false → all ≡ None) × (is_there all ≡ b)
-at_end f items i b xs all le inv = end_is b xs all (sym (ap (λ l. so_far b xs (walk f l)) (past items i le)) ∙ inv)
-
-pub or_true : (b : Bool) → (b || true) ≡ true
-or_true true = refl
-or_true false = refl
+at_end f items i b xs all le inv = end_is b xs all (sym (ap (λ l. so_far b xs (walk f l)) (drop_all i items le)) ∙ inv)
 
 -- a walk that looks at each member alone, over members made of others
 pub walk_made : {A B C : Type 0} (f : B → Option C) (g : A → B) (xs : List A) → walk (λ x rest. f x) (map g xs) ≡ walk (λ x rest. f (g x)) xs
@@ -72,13 +55,9 @@ pub there_map : {A B : Type 0} (g : A → B) (y : Option A) → is_there (option
 there_map g None = refl
 there_map g (Some y) = refl
 
-pub map_more : {A B : Type 0} (g : A → B) (xs : List A) (y : A) → map g (xs ++ y ∷ []) ≡ map g xs ++ g y ∷ []
-map_more g [] y = refl
-map_more g (x ∷ xs) y = ap (λ ys. g x ∷ ys) (map_more g xs y)
-
 pub map_found : {A B : Type 0} (g : A → B) (xs : List A) (y : Option A) → map g (found_more xs y) ≡ found_more (map g xs) (option_map g y)
 map_found g xs None = refl
-map_found g xs (Some y) = map_more g xs y
+map_found g xs (Some y) = map_push g xs y
 
 -- the invariant of a loop that keeps what is made into members, after one of them
 pub step_made : {A R B : Type 0} (f : A → List A → Option B) (g : R → B) (items : List A) (i : ℕ) (x : A) (b both there : Bool) (xs xs' : List R) (y : Option R) (all : Option (List B))
@@ -146,3 +125,12 @@ after_made_part {A = A} g f y a b before mid final u e h =
 
 pub step_left : (l k i n : ℕ) → k ≡ l - 1 → l + i ≡ n → i < n → k + (i + 1) ≡ n
 step_left l k i n e h lt = omega (arith, e, h, lt)
+
+pub joined_there : {A B C : Type 0} (f : A → B → C) (a : Option A) (b : Option B) → is_there (joined f a b) ≡ true → (is_there a ≡ true) × (is_there b ≡ true)
+joined_there f (Some x) (Some y) h = (refl, refl)
+joined_there f (Some x) None h = absurd (false≢true h)
+joined_there f None b h = absurd (false≢true h)
+
+pub some_there : {A : Type 0} (o : Option A) → is_some o ≡ is_there o
+some_there None = refl
+some_there (Some x) = refl

@@ -5,6 +5,7 @@ use Rattle.std.specs.Prelude.{slice_get, slice_index, option_map, option_and_the
 use Rattle.std.proofs.lemmas.Bool.{and_from, and_parts, eq-eqb, leb-true, lt-ltb}
 use Rattle.std.proofs.lemmas.Nat.{mul-add-lt}
 use Rattle.std.proofs.lemmas.Option.{slice_get-map, get_or_from_slice_get}
+use Rattle.cse_lemmas.proofs.Lists.{slice_get_some}
 use Rattle.cse_value.specs.declared.number.Num.{Num}
 use Rattle.cse_value.specs.declared.number.Num.TheVariants.{Undef}
 use Rattle.cse_image_parts.specs.declared.instruction.Op.TheVariants as ops
@@ -24,7 +25,7 @@ use Rattle.cse_steps.specs.Step.{acts, on, loaded_cell, stored_cell}
 use Rattle.cse_steps.specs.Fits.{FitsWorld}
 use Rattle.cse_steps.specs.Laws.{RunsCompose}
 use Rattle.cse_steps.proofs.Cells.{map_some}
-use Rattle.cse_steps.proofs.Lists.{is_there, product_reverse}
+use Rattle.cse_steps.proofs.Lists.{product_reverse}
 use Rattle.cse_verify.specs.Verified.{VerifiedProgram}
 use Rattle.cse_meaning.specs.Setting.{Context, Locals, Valued}
 use Rattle.cse_meaning.specs.Reading as reading
@@ -131,7 +132,7 @@ module _ (compose : RunsCompose) (e : Setting) (s : Spot) (c : Context) (first :
       let top = on_top (stacked a.dimensions is []) cells in
       let k : Call = record { routine = s.number; place = p; locals = s.locals; cells = top; opens = s.opens } in
       let at_place = place_of array a is cells w there fits within in
-      let v = is_there (cells_of w.store array) at_place.place at_place.below in
+      let v = slice_get_some (cells_of w.store array) at_place.place at_place.below in
       let same : cell_in c w array is ≡ v.0 = ap (λ i. unwrap_or (slice_get (cells_of w.store array) i) Undef) at_place.same ∙ ap (λ (o : Option Num). unwrap_or o Undef) v.1 in
       subst (λ x. Goes s.program (at s p top w) (at s (p + 1) (Number x ∷ cells) w)) (sym same)
       (plain_at compose s laid.there p ops.LoadCell 0 0 array top w _ has

@@ -1,7 +1,7 @@
 -- The code of the picks of a hot deck does what they mean.
 use Rattle.std.proofs.Common.{◌≡◌, ℕ, ◌+◌, ◌<◌, Bool, true, false, List, [], ◌∷◌, length, Option, Some, None, refl, sym, ap, ◌∙◌, subst, arith}
 use Rattle.std.specs.Prelude.{option_and_then, option_map, if◌then◌else◌, ◌||◌, not}
-use Rattle.std.proofs.lemmas.Bool.{and_from, le-leb, lt-ltb}
+use Rattle.std.proofs.lemmas.Bool.{and_from, le-leb, lt-ltb, or_left, not_from_false}
 use Rattle.cse_value.specs.declared.number.Num.{Num}
 use Rattle.cse_image_parts.specs.declared.instruction.Op.TheVariants as ops
 use Rattle.cse_dict.specs.Dictionary.{DictionaryText, shape_of, row_in, spans_at}
@@ -37,9 +37,6 @@ row_is n (Some i) keeps = ap (λ b. if b then Some i else None) (lt-ltb i n (kee
 
 within_up : (d i : ℕ) → i < d → is_within d (i + 1) ≡ true
 within_up d i h = and_from _ _ (le-leb 1 (i + 1) (omega arith)) (le-leb (i + 1) d (omega arith))
-
-some_fail : (b : Bool) (rest : Bool) → b ≡ false → (not b || rest) ≡ true
-some_fail b rest e = ap (λ b. not b || rest) e
 
 more_fail : (b : Bool) (rest : Bool) → rest ≡ true → (not b || rest) ≡ true
 more_fail true rest e = e
@@ -99,7 +96,7 @@ module _ (compose : RunsCompose) (e : Setting) (s : Spot) (c : Context) (first :
       let z : p + k + 1 + picks_size xs ≡ p + (k + 1 + picks_size xs) = omega arith in
       let follow = λ (j : ℕ). picks_go xs ds drops (p + k + 1) m ((j, row_count x.has_leftover n) ∷ done) cells w fits fit.2 b.1
       (λ yes. (let y = out (more_fail x.has_leftover (can_fail xs) yes) in let deep : deepest (x ∷ xs) ≡ deepest xs + 1 = ap (λ b. if b then deepest xs + 1 else 0) yes in let r = y.0 in (omega arith, y.1))) in
-      let r = row_by x.has_leftover (reading.row c x.set v) x.set n m drops (deepest (x ∷ xs)) (p + k) (p + k + 1 + picks_size xs) v ds done cells w (picks c w ds xs) is fit.1.1 (λ i e. keeps x.set n i v fit.1.1 (is ∙ e)) (b.0, tt) (λ none. out (some_fail x.has_leftover (can_fail xs) none)) p w g follow in
+      let r = row_by x.has_leftover (reading.row c x.set v) x.set n m drops (deepest (x ∷ xs)) (p + k) (p + k + 1 + picks_size xs) v ds done cells w (picks c w ds xs) is fit.1.1 (λ i e. keeps x.set n i v fit.1.1 (is ∙ e)) (b.0, tt) (λ none. out (or_left (not x.has_leftover) (can_fail xs) (not_from_false x.has_leftover none))) p w g follow in
       subst (λ q. LedBy s drops m p q done (d ∷ ds) cells w (picks c w (d ∷ ds) (x ∷ xs)) w) z
       (subst (λ d. LedBy s drops m p (p + k + 1 + picks_size xs) done (d ∷ ds) cells w (option_and_then (λ i. option_map (λ is. i ∷ is) (picks c w ds xs)) (picked d x.has_leftover (reading.row c x.set v))) w) (sym fit.1.2) r)
 

@@ -1,8 +1,10 @@
 -- What a call and a world that fit hold of what names stand for.
-use Rattle.std.proofs.Common.{◌≡◌, ℕ, ◌<◌, true, false, List, length, Option, Some, None, refl, sym, ap, ◌∙◌}
-use Rattle.std.specs.Prelude.{slice_get, option_map, is_some, unwrap_or, map}
+use Rattle.std.proofs.Common.{◌≡◌, ℕ, ◌<◌, false, List, length, Option, Some, None, refl, sym, ap, ◌∙◌}
+use Rattle.std.specs.Prelude.{slice_get, option_map, unwrap_or, map}
 use Rattle.std.specs.Option.{option_map_or}
 use Rattle.std.proofs.lemmas.Option.{slice_get-map}
+use Rattle.cse_lemmas.proofs.Lists.{slice_get_some}
+use Rattle.cse_lemmas.proofs.Options.{some_from_is_some}
 use Rattle.cse_value.specs.declared.number.Num.{Num}
 use Rattle.cse_value.specs.declared.number.Num.TheVariants.{Undef}
 use Rattle.cse_image_parts.specs.declared.entries.GlobalVariable.{GlobalVariable}
@@ -20,7 +22,6 @@ use Rattle.cse_steps.specs.Cell.{Number}
 use Rattle.cse_steps.specs.State.{World}
 use Rattle.cse_steps.specs.Fits.{FitsWorld, occurrences_in}
 use Rattle.cse_steps.proofs.Cells.{map_some}
-use Rattle.cse_steps.proofs.Lists.{is_there}
 use Rattle.cse_meaning.specs.Setting.{Context, Locals}
 use Rattle.cse_meaning.specs.Reading.{many}
 use Rattle.cse_meaning.specs.Runs.{Spot}
@@ -55,10 +56,6 @@ module _ (program : VerifiedProgram) (first : Option CaseText) (w : World) (fits
 
 -- ---- the case
 
-some_case : (o : Option CaseText) → is_some o ≡ true → (t : CaseText) × (o ≡ Some t)
-some_case None h = cc
-some_case (Some t) h = (t, refl)
-
 -- the occurrences of a record, as the meaning counts them and as the first case has them
 pub many_of : (w : World) (t : CaseText) (of : ℕ) → w.case ≡ Some t → many w of ≡ length (places_of t of)
 many_of w t of is = ap (λ o. option_map_or (λ t. length (places_of t of)) o 0) is
@@ -82,10 +79,10 @@ table_of program first w g x fits is = ap (λ l. slice_get l g) (sym fits.store.
 
 module _ (e : Setting) (s : Spot) (c : Context) (first : Option CaseText) (ls : Locals) (laid : IsLaid e s c first ls) (w : World) (fits : FitsWorld s.program first w) where
   pub case_here : is_run s.routine.ambient ≡ false → (t : CaseText) × (w.case ≡ Some t)
-  case_here h = some_case w.case (fits.present ∙ laid.ambient h)
+  case_here h = some_from_is_some w.case (fits.present ∙ laid.ambient h)
 
   -- what a parameter or the result holds
   pub parameter_held : (k : ℕ) → k < length ls.parameters → slice_get s.locals k ≡ Some (Number (unwrap_or (slice_get ls.parameters k) Undef))
   parameter_held k h =
-      let x = is_there ls.parameters k h in
+      let x = slice_get_some ls.parameters k h in
       laid.parameters k x.0 x.1 ∙ ap (λ o. Some (Number (unwrap_or o Undef))) (sym x.1)

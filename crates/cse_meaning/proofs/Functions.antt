@@ -3,6 +3,7 @@ use Rattle.std.proofs.Common.{◌≡◌, ℕ, zero, suc, ◌+◌, ◌<◌, ◌�
 use Rattle.std.specs.Prelude.{pos, ◌==◌, if◌then◌else◌, slice_get, slice_set, is_some, option_map}
 use Rattle.std.proofs.lemmas.Option.{same_Some, slice_get_within}
 use Rattle.std.proofs.lemmas.Bool.{eqb-true, eq-eqb, false≢true}
+use Rattle.cse_lemmas.proofs.Lists.{slice_get_some}
 use Rattle.cse_value.specs.declared.number.Num.{Num}
 use Rattle.cse_value.specs.declared.number.Num.TheVariants.{Whole, Undef}
 use Rattle.cse_image_parts.specs.declared.entries.Gift.TheVariants as gifts
@@ -19,6 +20,7 @@ use Rattle.cse_verify.specs.Verified.{VerifiedProgram}
 use Rattle.cse_logic_tree.specs.declared.tree.Variable.TheVariants as v
 use Rattle.cse_logic_tree.specs.Typed.{Function}
 use Rattle.cse_compile_sections.specs.Outline.{outline_of, routine_of, numbers, number_local}
+use Rattle.cse_compile_sections.proofs.Lists.{result_there}
 use Rattle.cse_compile_code.specs.Setting.{Setting}
 use Rattle.cse_compile_code.specs.Routines.{no_loop, routine_code}
 use Rattle.cse_compile_code.specs.Statements.{block_size, block_code, exit_code}
@@ -28,7 +30,6 @@ use Rattle.cse_steps.specs.State.{Call, World}
 use Rattle.cse_steps.specs.Step.{acts, first_local}
 use Rattle.cse_steps.specs.Fits.{FitsWorld}
 use Rattle.cse_steps.specs.Laws.{RunsCompose}
-use Rattle.cse_steps.proofs.Lists.{is_there}
 use Rattle.cse_meaning.specs.Setting.{Context, Functions}
 use Rattle.cse_meaning.specs.Statements.{Flow, Fell, Broke, Skipped, Left, all_do}
 use Rattle.cse_meaning.specs.Meaning.{begun, valued_of, function_of, functions_below}
@@ -49,10 +50,6 @@ use Rattle.cse_meaning.proofs.Statements.{block_lands}
 first_number : (n : ℕ) → slice_get (numbers n ++ number_local ∷ []) 0 ≡ Some number_local
 first_number zero = refl
 first_number (suc n) = refl
-
-result_there : (n : ℕ) → slice_get (numbers n ++ number_local ∷ []) n ≡ Some number_local
-result_there zero = refl
-result_there (suc n) = result_there n
 
 result_left : (n : ℕ) → drop n (numbers n ++ number_local ∷ []) ≡ number_local ∷ []
 result_left zero = refl
@@ -184,7 +181,7 @@ module _ (compose : RunsCompose) (program : VerifiedProgram) (c : Context) (firs
     }
     follow (suc n) h =
         let fn = functions_below (outside c) fs n in
-        let f = is_there fs n (omega arith) in
+        let f = slice_get_some fs n (omega arith) in
         let before = follow n (omega arith) in
         record {
           goes = λ k y args caller below w less is gives numbers_are ambient fits. (chosen_run n fn before f.0 f.1 k (k == n) refl y args caller below w less is gives numbers_are ambient fits).goes;

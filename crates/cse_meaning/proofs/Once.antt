@@ -1,19 +1,16 @@
 -- An event of a program that does what the logic means leaves nothing else.
-use Rattle.std.proofs.Common.{◌≡◌, List, [], ◌∷◌, ◌++◌, refl, sym, ap, ◌∙◌}
+use Rattle.std.proofs.Common.{◌≡◌, [], ◌∷◌, ◌++◌, refl, sym, ap, ◌∙◌}
+use Rattle.std.proofs.lemmas.List.{append-nil}
 use Rattle.cse_steps.specs.State.{World, Told, nothing_told}
 use Rattle.cse_steps.specs.Events.{Outcome, nothing_done, told_both, both}
 use Rattle.cse_steps.proofs.Outcomes.{outcomes}
 use Rattle.cse_meaning.specs.Meaning.{meaning}
 use Rattle.cse_meaning.specs.Means.{begins, MeaningIsTheOutcome}
 
-nothing_behind : {A : Type 0} (xs : List A) → xs ++ [] ≡ xs
-nothing_behind [] = refl
-nothing_behind (x ∷ xs) = ap (λ ys. x ∷ ys) (nothing_behind xs)
-
 told_alone : (t : Told) → told_both t nothing_told ≡ t
 told_alone t =
-    ap (λ g. record { given = g; imputed = t.imputed ++ [] }) (nothing_behind t.given)
-    ∙ ap (λ i. record { given = t.given; imputed = i }) (nothing_behind t.imputed)
+    ap (λ g. record { given = g; imputed = t.imputed ++ [] }) (append-nil t.given)
+    ∙ ap (λ i. record { given = t.given; imputed = i }) (append-nil t.imputed)
 
 abbrev world_in : Outcome → World
 world_in o = record { case = o.case; store = o.store; told = o.told }

@@ -1,18 +1,10 @@
 -- Laws of the device of a slice.
 use Rattle.std.proofs.Common.{◌≡◌, ℕ, zero, suc, ◌+◌, ◌-◌, ◌<◌, ◌≤◌, ◌==◌, Bool, false, List, [], ◌∷◌, ◌++◌, length, take, drop, min, refl, ap, sym, ◌∙◌, arith, append_assoc, append-nil, take-add, take-append-drop, length-append}
-use Rattle.std.proofs.Math.Seq.{take-append-add, take-length}
+use Rattle.std.proofs.Math.Seq.{take-length}
 use Rattle.std.proofs.lemmas.Bool.{eq-eqb, ne_eqb}
-use Rattle.std.proofs.lemmas.List.{length-drop, length-take}
+use Rattle.std.proofs.lemmas.List.{length-drop, length-take, take_rest, take_at}
 use Rattle.cse_value.specs.Device.{Consumes}
 use Rattle.cse_memory.specs.Slice.{ReadOf, at_end, given_of, mark}
-
--- the bytes at the front of a buffer that were put there
-put_front : (bytes rest : List ℕ) (n : ℕ) → length bytes ≡ n → take n (bytes ++ rest) ≡ bytes
-put_front bytes rest n same = ap (λ k. take k (bytes ++ rest)) (omega (arith, same)) ∙ (take-append-add bytes rest 0 ∙ append-nil bytes)
-
--- those that are left
-left_is : (bytes : List ℕ) (n : ℕ) → take (length bytes - n) (drop n bytes) ≡ drop n bytes
-left_is bytes n = ap (λ k. take k (drop n bytes)) (sym (length-drop n bytes)) ∙ take-length (drop n bytes)
 
 -- one read
 pub read_more : (bytes put rest : List ℕ) (n k : ℕ) (old new : Bool) → put ≡ take k (take (length bytes - n) (drop n bytes)) → length put ≡ k
@@ -21,7 +13,7 @@ read_more bytes put rest n k old new is same = record {
   more =
       ap (λ l. mark bytes ++ l) (take-add n k bytes)
       ∙ (sym (append_assoc (mark bytes) (take n bytes) (take k (drop n bytes)))
-      ∙ ap (λ l. (mark bytes ++ take n bytes) ++ l) (sym (put_front put rest k same ∙ (is ∙ ap (take k) (left_is bytes n)))));
+      ∙ ap (λ l. (mark bytes ++ take n bytes) ++ l) (sym (take_at put rest k same ∙ (is ∙ ap (take k) (take_rest bytes n)))));
 }
 
 -- as many were put as there is room for

@@ -34,7 +34,7 @@ all_behind l t h (r ∷ rs) = ap (λ (g : Held). all_reported g rs) (reported_be
 flushed_behind : (h : Held) → behind h.lines h.texts (flushed h) ≡ h
 flushed_behind h = same_held _ _ _ _ _ _ _ _ _ refl refl (append-nil h.lines) (append-nil h.texts)
 
-all_later : (h : Held) (rs later : List Report) → all_reported h (rs ++ later) ≡ all_reported (all_reported h rs) later
+pub all_later : (h : Held) (rs later : List Report) → all_reported h (rs ++ later) ≡ all_reported (all_reported h rs) later
 all_later h [] later = refl
 all_later h (r ∷ rs) later = all_later (reported h r) rs later
 

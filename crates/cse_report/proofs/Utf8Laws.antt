@@ -1,5 +1,5 @@
 -- What messages are made of is UTF-8.
-use Rattle.std.proofs.Common.{◌≡◌, ℕ, zero, suc, ◌+◌, ◌<◌, ◌≤◌, true, false, Bool, eqb, cond, List, [], ◌∷◌, ◌++◌, length, drop, take, get_or, replicate, Option, Some, None, Result, Ok, Err, OnOk, option_map, pos, negsuc, refl, ap, sym, ◌∙◌, subst, append-nil, inl, inr, arith}
+use Rattle.std.proofs.Common.{◌≡◌, ℕ, zero, suc, ◌+◌, ◌<◌, ◌≤◌, true, false, Bool, eqb, cond, List, [], ◌∷◌, ◌++◌, length, drop, take, get_or, replicate, Option, Some, None, option_map, pos, negsuc, refl, ap, sym, ◌∙◌, subst, append-nil, inl, inr, arith}
 use Rattle.std.specs.Prelude.{ℤ, map}
 use Rattle.std.specs.List.{prefix_len}
 use Rattle.std.specs.Option.{unwrap_or}
@@ -8,8 +8,10 @@ use Rattle.std.specs.Str.{IsUtf8, IsAscii, encode_utf8_all, all_scalars}
 use Rattle.std.specs.Char.{encode_utf8, IsScalar}
 use lib.Utf8.{scalar}
 use Rattle.std.proofs.lemmas.Str.{IsUtf8-nil, IsUtf8-append, IsUtf8-encode, IsUtf8-drop, IsUtf8-from_ascii, IsAscii-append, IsCharBoundary-after_ascii, encode_ascii, inside_one, length-encode, len_utf8_bounds, encodes-append}
-use Rattle.std.proofs.lemmas.List.{get_or-drop, length-drop, length-append, length-replicate, get_or-replicate, get_or_past, take_more, map-append}
+use Rattle.std.proofs.lemmas.List.{get_or-drop, length-drop, length-append, take_more, map-append}
 use Rattle.std.proofs.lemmas.Bool.{cond_both, cond-false, eqb-true, ne_eqb, and_parts, cases_lt}
+use Rattle.std.proofs.lemmas.Str.Ascii.{IsAscii-cons}
+use Rattle.cse_lemmas.proofs.Texts.{IsAscii-replicate}
 use Rattle.cse_value.specs.Field.{filled}
 use Rattle.cse_image_parts.specs.declared.placeholders.Piece.{Piece}
 use Rattle.cse_image_parts.specs.declared.placeholders.Piece.TheVariants as pieces
@@ -21,22 +23,12 @@ use Rattle.cse_report.specs.Filling.{IsPlaced, ArePlaced}
 
 -- ---- numbers
 
-replicate_ascii : (n c : ℕ) → c < 128 → IsAscii (replicate n c)
-replicate_ascii n c h i = elim (cases_lt i n) as (λ _. get_or (replicate n c) i 0 < 128) [
-  | inl low ↦ rw (get_or-replicate n i c 0 low) h
-  | inr high ↦ let past : length (replicate n c) ≤ i = omega (arith, length-replicate n c) in rw (get_or_past (replicate n c) i 0 past) (omega arith)
-]
-
-cons_ascii : (c : ℕ) (xs : List ℕ) → c < 128 → IsAscii xs → IsAscii (c ∷ xs)
-cons_ascii c xs h a zero = h
-cons_ascii c xs h a (suc i) = a i
-
 pub aligned_utf8 : (room : ℕ) (text : List ℕ) → IsUtf8 text → IsUtf8 (replicate room 32 ++ text)
-aligned_utf8 room text u = IsUtf8-append (replicate room 32) text (IsUtf8-from_ascii (replicate room 32) (replicate_ascii room 32 (omega arith))) u
+aligned_utf8 room text u = IsUtf8-append (replicate room 32) text (IsUtf8-from_ascii (replicate room 32) (IsAscii-replicate room 32 (omega arith))) u
 
 filled_ascii : (room : ℕ) (z : ℤ) → IsAscii (signed_decimal z) → IsAscii (filled room true z)
-filled_ascii room (pos n) a = IsAscii-append (replicate room 48) (decimal n) (replicate_ascii room 48 (omega arith)) a
-filled_ascii room (negsuc n) a = cons_ascii 45 (replicate room 48 ++ decimal (suc n)) (omega arith) (IsAscii-append (replicate room 48) (decimal (suc n)) (replicate_ascii room 48 (omega arith)) (λ i. a (suc i)))
+filled_ascii room (pos n) a = IsAscii-append (replicate room 48) (decimal n) (IsAscii-replicate room 48 (omega arith)) a
+filled_ascii room (negsuc n) a = IsAscii-cons 45 (replicate room 48 ++ decimal (suc n)) (omega arith) (IsAscii-append (replicate room 48) (decimal (suc n)) (IsAscii-replicate room 48 (omega arith)) (λ i. a (suc i)))
 
 pub filled_utf8 : (room : ℕ) (z : ℤ) (text : List ℕ) → IsAscii text → text ≡ signed_decimal z → IsUtf8 (filled room true z)
 filled_utf8 room z text a e = IsUtf8-from_ascii (filled room true z) (filled_ascii room z (subst (λ (l : List ℕ). IsAscii l) e a))
@@ -96,7 +88,7 @@ piece_leaves c rest h u =
     (λ e. (h, u))
 
 sane_text : (p : Piece) (args : List Arg) → SanePiece p → IsPlaced p args → IsUtf8 (piece_text p args)
-sane_text (pieces.Plain c) args s placed = IsUtf8-from_ascii (c ∷ []) (cons_ascii c [] s (λ i. omega arith))
+sane_text (pieces.Plain c) args s placed = IsUtf8-from_ascii (c ∷ []) (IsAscii-cons c [] s (λ i. omega arith))
 sane_text (pieces.Number width zeros) args s placed = placed
 sane_text pieces.Text args s placed = placed
 
@@ -174,10 +166,6 @@ message_utf8 text args u placed = filled_upto (length text) u.0 text (omega arit
 
 -- ---- answers
 
-pub on_ok : {T E : Type 0} (r : Result T E) (P : Type 0) → P → OnOk r P
-on_ok (Ok x) P p = p
-on_ok (Err e) P p = tt
-
 -- a character more
 pub encodes_more : (f : ℕ → ℕ) (xs : List ℕ) (i x : ℕ) → i < length xs → x ≡ get_or xs i x → encode_utf8_all (map f (take (i + 1) xs)) ≡ encode_utf8_all (map f (take i xs)) ++ encode_utf8 (f x)
 encodes_more f xs i x h at =
@@ -185,9 +173,3 @@ encodes_more f xs i x h at =
     ∙ (ap encode_utf8_all (map-append f (take i xs) (get_or xs i x ∷ []))
     ∙ (encodes-append (map f (take i xs)) (f (get_or xs i x) ∷ [])
     ∙ (ap (λ (l : List ℕ). encode_utf8_all (map f (take i xs)) ++ l) (append-nil (encode_utf8 (f (get_or xs i x)))) ∙ ap (λ y. encode_utf8_all (map f (take i xs)) ++ encode_utf8 (f y)) (sym at))))
-
-pub encodes_next : (xs : List ℕ) (i x : ℕ) → i < length xs → x ≡ get_or xs i x → encode_utf8_all (take (i + 1) xs) ≡ encode_utf8_all (take i xs) ++ encode_utf8 x
-encodes_next xs i x h at =
-    ap encode_utf8_all (take_more xs i x h)
-    ∙ (encodes-append (take i xs) (get_or xs i x ∷ [])
-    ∙ (ap (λ (l : List ℕ). encode_utf8_all (take i xs) ++ l) (append-nil (encode_utf8 (get_or xs i x))) ∙ ap (λ y. encode_utf8_all (take i xs) ++ encode_utf8 y) (sym at)))

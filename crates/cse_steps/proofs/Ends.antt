@@ -4,6 +4,7 @@ use Rattle.std.specs.Prelude.{slice_get, option_and_then, is_some}
 use Rattle.std.specs.Option.{option_map_or}
 use Rattle.std.proofs.lemmas.List.{length-map}
 use Rattle.std.proofs.lemmas.Option.{slice_get_within}
+use Rattle.cse_lemmas.proofs.Lists.{slice_get_some}
 use Rattle.cse_image_parts.specs.Image.{RoutineLists}
 use Rattle.cse_case.specs.Case.{CaseText}
 use Rattle.cse_decks.specs.Store.{Kept}
@@ -29,7 +30,6 @@ use Rattle.cse_steps.specs.State.{Call, State}
 use Rattle.cse_steps.specs.Step.{step, new_call}
 use Rattle.cse_steps.specs.Run.{run, first, first_calls, event_arguments}
 use Rattle.cse_steps.specs.Fits.{IsVerified, FitsState, FitsFirst, occurrences_in}
-use Rattle.cse_steps.proofs.Lists.{is_there}
 use Rattle.cse_steps.specs.Walks.{standings}
 use Rattle.cse_steps.specs.Laws.{EndsWithin, EventsEnd, CaseKeepsToBound}
 use Rattle.cse_steps.proofs.Calls.{has_code}
@@ -127,12 +127,12 @@ module _ (v : VerifiedProgram) (sound : IsVerified v) (falls : RestFalls v.image
 
 pub all_keep_rules : (v : VerifiedProgram) → MayRun v → AllKeepRules v.image
 all_keep_rules v may r low =
-    let y = is_there v.image.lists.routines r low in
+    let y = slice_get_some v.image.lists.routines r low in
     (may.typed.routines r y.0 low y.1).brackets
 
 pub all_call_smaller : (v : VerifiedProgram) → MayRun v → AllCallSmaller v.image
 all_call_smaller v may r low =
-    let y = is_there v.image.lists.routines r low in
+    let y = slice_get_some v.image.lists.routines r low in
     calls_below v.image.lists v.image.lists.routines r y.0.ambient (code_of v.image r) (may.typed.routines r y.0 low y.1).calls
 
 pub case_keeps : (v : VerifiedProgram) → MayRun v → ((occurrences : ℕ → ℕ) → KeepsMost v.image occurrences → events_bound v.image (case_events v.image occurrences) ≤ case_bound v.image) → CaseKeepsToBound v

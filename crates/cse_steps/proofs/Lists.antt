@@ -1,15 +1,9 @@
 -- Lists by their places, and in reverse.
-use Rattle.std.proofs.Common.{◌≡◌, ℕ, zero, suc, ◌*◌, ◌<◌, List, [], ◌∷◌, ◌++◌, length, map, reverse, Some, refl, sym, ap, ◌∙◌, arith, take, drop}
+use Rattle.std.proofs.Common.{◌≡◌, ℕ, zero, suc, ◌*◌, List, [], ◌∷◌, ◌++◌, map, reverse, Some, refl, sym, ap, ◌∙◌, arith}
 use Rattle.std.specs.Prelude.{slice_get, slice_set}
-use Rattle.std.proofs.lemmas.List.{reverse-append}
+use Rattle.std.proofs.lemmas.List.{reverse-append, map-append}
 use Rattle.std.proofs.lemmas.Option.{same_Some}
 use Rattle.cse_image_parts.specs.Fields.{product}
-
--- a list of so many elements has one at each place below that
-pub is_there : {X : Type 0} (xs : List X) (k : ℕ) → k < length xs → (x : X) × (slice_get xs k ≡ Some x)
-is_there [] k h = absurd (omega arith)
-is_there (x ∷ xs) zero h = (x, refl)
-is_there (x ∷ xs) (suc k) h = is_there xs k (omega arith)
 
 -- another element that looks the same changes nothing of how the list looks
 pub map_set : {X Y : Type 0} (f : X → Y) (xs : List X) (k : ℕ) (new old : X) → slice_get xs k ≡ Some old → f new ≡ f old → map f (slice_set xs k new) ≡ map f xs
@@ -17,15 +11,11 @@ map_set f [] k new old h e = refl
 map_set f (x ∷ xs) zero new old h e = ap (λ y. y ∷ map f xs) (e ∙ ap f (sym (same_Some _ _ h)))
 map_set f (x ∷ xs) (suc k) new old h e = ap (λ l. f x ∷ l) (map_set f xs k new old h e)
 
-pub map_append : {X Y : Type 0} (f : X → Y) (xs ys : List X) → map f (xs ++ ys) ≡ map f xs ++ map f ys
-map_append f [] ys = refl
-map_append f (x ∷ xs) ys = ap (λ l. f x ∷ l) (map_append f xs ys)
-
 pub map_reverse : {X Y : Type 0} (f : X → Y) (xs : List X) → map f (reverse xs) ≡ reverse (map f xs)
 map_reverse f [] = refl
 map_reverse f (x ∷ xs) =
     ap (map f) (reverse-append (x ∷ []) xs)
-    ∙ (map_append f (reverse xs) (x ∷ [])
+    ∙ (map-append f (reverse xs) (x ∷ [])
     ∙ (ap (λ l. l ++ f x ∷ []) (map_reverse f xs)
     ∙ sym (reverse-append (f x ∷ []) (map f xs))))
 
@@ -39,8 +29,3 @@ product_reverse (d ∷ a) =
     let e = ap product (reverse-append (d ∷ []) a) ∙ product_append (reverse a) (d ∷ []) in
     let h = product_reverse a in
     grind arith
-
-pub take_drop : {X : Type 0} (n : ℕ) (xs : List X) → take n xs ++ drop n xs ≡ xs
-take_drop zero xs = refl
-take_drop (suc n) [] = refl
-take_drop (suc n) (x ∷ xs) = ap (λ l. x ∷ l) (take_drop n xs)

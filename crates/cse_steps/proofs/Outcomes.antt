@@ -3,6 +3,7 @@ use Rattle.std.proofs.Common.{◌≡◌, ℕ, suc, ◌+◌, ◌-◌, ◌<◌, Bo
 use Rattle.std.specs.Prelude.{option_and_then, is_some}
 use Rattle.std.proofs.lemmas.Option.{same_Some}
 use Rattle.std.proofs.lemmas.Bool.{cases_lt}
+use Rattle.cse_lemmas.proofs.Options.{none_from_is_some}
 use Rattle.cse_case.specs.Case.{CaseText}
 use Rattle.cse_decks.specs.Store.{Kept}
 use Rattle.cse_code_typing.specs.Handlers.{routine_of}
@@ -124,10 +125,6 @@ module _ (v : VerifiedProgram) where
 
   -- ---- events that have a routine
 
-  routine_or_none : (r : Option ℕ) → is_some r ≡ false → r ≡ None
-  routine_or_none None h = refl
-  routine_or_none (Some r) h = cc
-
   module _ (m : Moment) (ms : List Moment) (case : Option CaseText) (store : Kept) where
     -- what is left out before the others
     without : routine_of v.image.lists.events m.event ≡ None → (o : Outcome) → AllEndIn v (m ∷ ms) case store o → AllEndIn v ms case store o
@@ -147,12 +144,12 @@ module _ (v : VerifiedProgram) where
     leave_out : ((c : Option CaseText) (s : Kept) (b : Outcome) → AllEndIn v ms c s b → AllEndIn v (Handled ms) c s b) → (b : Bool) → is_some (routine_of v.image.lists.events m.event) ≡ b
         → AllEndIn v (m ∷ ms) case store o → AllEndIn v (cond b (m ∷ Handled ms) (Handled ms)) case store o
     leave_out others true is e = (e.0, e.1, e.2, others e.0.case e.0.store e.1 e.3, e.4)
-    leave_out others false is e = others case store o (without m ms case store (routine_or_none (routine_of v.image.lists.events m.event) is) o e)
+    leave_out others false is e = others case store o (without m ms case store (none_from_is_some (routine_of v.image.lists.events m.event) is) o e)
 
     put_back : ((c : Option CaseText) (s : Kept) (b : Outcome) → AllEndIn v (Handled ms) c s b → AllEndIn v ms c s b) → (b : Bool) → is_some (routine_of v.image.lists.events m.event) ≡ b
         → AllEndIn v (cond b (m ∷ Handled ms) (Handled ms)) case store o → AllEndIn v (m ∷ ms) case store o
     put_back others true is e = (e.0, e.1, e.2, others e.0.case e.0.store e.1 e.3, e.4)
-    put_back others false is e = beside m ms case store (routine_or_none (routine_of v.image.lists.events m.event) is) o (others case store o e)
+    put_back others false is e = beside m ms case store (none_from_is_some (routine_of v.image.lists.events m.event) is) o (others case store o e)
 
   only_handled : (ms : List Moment) (case : Option CaseText) (store : Kept) (o : Outcome) → AllEndIn v ms case store o → AllEndIn v (Handled ms) case store o
   only_handled [] case store o e = e

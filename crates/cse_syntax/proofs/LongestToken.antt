@@ -3,17 +3,18 @@ use Rattle.std.proofs.Common.{◌≡◌, ℕ, zero, suc, ◌+◌, ◌≤◌, ◌
 use Rattle.std.specs.Prelude.{nat_le}
 use Rattle.std.specs.List.{prefix_len, count_by}
 use Rattle.std.specs.Char.{is_ascii_alphabetic, is_ascii_digit}
+use Rattle.std.proofs.lemmas.Option.{same_Some}
 use Rattle.cse_syntax_tree.specs.declared.token.Kind.{Kind}
 use Rattle.cse_syntax_tree.specs.declared.token.Mark.{Mark}
 use Rattle.cse_syntax_tree.specs.Leaf.{begins, is_word_byte, is_inside, is_start}
 use Rattle.cse_syntax.specs.Text.{symbol, symbol_at, text_len, token_at}
-use Rattle.cse_syntax.proofs.Steps.{some_is, bind_some, if_some, test_some}
+use Rattle.cse_syntax.proofs.Steps.{bind_some, if_some, test_some}
 
 abbrev found : ℕ → Kind → Option (ℕ × Kind)
 found n kind = Some (n, kind)
 
 len_is : {a x : ℕ} {b y : Kind} → found a b ≡ found x y → a ≡ x
-len_is e = ap (λ (q : ℕ × Kind). q.0) (some_is e)
+len_is e = ap (λ (q : ℕ × Kind). q.0) (same_Some _ _ e)
 
 -- a run that goes to the end of a front
 run_longest : (p : ℕ → Bool) (bs : List ℕ) (m : ℕ) → m ≤ length bs → prefix_len p (take m bs) ≡ m → m ≤ prefix_len p bs
@@ -39,7 +40,7 @@ run_case : (p : ℕ → Bool) (bs : List ℕ) (n m : ℕ) → prefix_len p bs �
 run_case p bs n m e f lt le = omega (arith, e, lt, run_longest p bs m le f)
 
 text_is : (q : ℕ) (bs : List ℕ) (n : ℕ) → text_len q bs ≡ Some n → prefix_len (is_inside q) bs + 2 ≡ n
-text_is q bs n e = some_is (test_some (begins q (drop (prefix_len (is_inside q) bs) bs) && nat_le (count_by is_start (take (prefix_len (is_inside q) bs) bs)) 255) (prefix_len (is_inside q) bs + 2) n e).1
+text_is q bs n e = same_Some _ _ (test_some (begins q (drop (prefix_len (is_inside q) bs) bs) && nat_le (count_by is_start (take (prefix_len (is_inside q) bs) bs)) 255) (prefix_len (is_inside q) bs + 2) n e).1
 
 text_case : (q : ℕ) (bs : List ℕ) (n m : ℕ) → text_len q bs ≡ Some n → text_len q (take m bs) ≡ Some (suc m) → n < suc m → m ≤ length bs → ⊥
 text_case q bs n m e f lt le =
@@ -48,18 +49,14 @@ text_case q bs n m e f lt le =
     let same = run_ends (is_inside q) bs m (omega (arith, b)) le in
     omega (arith, a, b, same, lt)
 
-begins_one : (q : ℕ) (bs : List ℕ) → begins q (take 1 bs) ≡ begins q bs
-begins_one q [] = refl
-begins_one q (b ∷ bs) = refl
-
 symbol_one : (b : ℕ) (bs : List ℕ) → symbol_at b (take 1 bs) ≡ symbol_at b bs
 symbol_one b [] = refl
 symbol_one b (c ∷ bs) = refl
 
 symbol_small : (b : ℕ) (bs : List ℕ) (t : ℕ × Mark) → symbol_at b bs ≡ Some t → t.0 ≤ 2
 symbol_small b bs t e =
-    let two : (mark : Mark) → Some (2, mark) ≡ Some t → t.0 ≤ 2 = λ mark i. subst (λ (v : ℕ × Mark). v.0 ≤ 2) (some_is i) (omega arith) in
-    let one : (mark : Mark) → Some (1, mark) ≡ Some t → t.0 ≤ 2 = λ mark i. subst (λ (v : ℕ × Mark). v.0 ≤ 2) (some_is i) (omega arith) in
+    let two : (mark : Mark) → Some (2, mark) ≡ Some t → t.0 ≤ 2 = λ mark i. subst (λ (v : ℕ × Mark). v.0 ≤ 2) (same_Some _ _ i) (omega arith) in
+    let one : (mark : Mark) → Some (1, mark) ≡ Some t → t.0 ≤ 2 = λ mark i. subst (λ (v : ℕ × Mark). v.0 ≤ 2) (same_Some _ _ i) (omega arith) in
     elim (if_some (b == 60) _ _ _ e) [
       | inl h ↦
           elim (if_some (begins 62 bs) _ _ _ h.1) [
@@ -76,15 +73,15 @@ symbol_small b bs t e =
 symbol_case : (b : ℕ) (bs : List ℕ) (s t : ℕ × Mark) (m : ℕ) → symbol_at b bs ≡ Some s → symbol_at b (take m bs) ≡ Some t → 1 ≤ s.0 → s.0 < t.0 → t.0 ≡ suc m → ⊥
 symbol_case b bs s t zero e f pos lt is = omega (arith, pos, lt, is)
 symbol_case b bs s t (suc zero) e f pos lt is =
-    let same : s ≡ t = some_is (sym e ∙ sym (symbol_one b bs) ∙ f) in
+    let same : s ≡ t = same_Some _ _ (sym e ∙ sym (symbol_one b bs) ∙ f) in
     let len : s.0 ≡ t.0 = ap (λ (v : ℕ × Mark). v.0) same in
     omega (arith, len, lt)
 symbol_case b bs s t (suc (suc m)) e f pos lt is = omega (arith, symbol_small b (take (suc (suc m)) bs) t f, is)
 
 symbol_some : (b : ℕ) (bs : List ℕ) (t : ℕ × Mark) → symbol_at b bs ≡ Some t → 1 ≤ t.0
 symbol_some b bs t e =
-    let two : (mark : Mark) → Some (2, mark) ≡ Some t → 1 ≤ t.0 = λ mark i. subst (λ (v : ℕ × Mark). 1 ≤ v.0) (some_is i) (omega arith) in
-    let one : (mark : Mark) → Some (1, mark) ≡ Some t → 1 ≤ t.0 = λ mark i. subst (λ (v : ℕ × Mark). 1 ≤ v.0) (some_is i) (omega arith) in
+    let two : (mark : Mark) → Some (2, mark) ≡ Some t → 1 ≤ t.0 = λ mark i. subst (λ (v : ℕ × Mark). 1 ≤ v.0) (same_Some _ _ i) (omega arith) in
+    let one : (mark : Mark) → Some (1, mark) ≡ Some t → 1 ≤ t.0 = λ mark i. subst (λ (v : ℕ × Mark). 1 ≤ v.0) (same_Some _ _ i) (omega arith) in
     elim (if_some (b == 60) _ _ _ e) [
       | inl h ↦
           elim (if_some (begins 62 bs) _ _ _ h.1) [

@@ -4,9 +4,8 @@ use Rattle.std.specs.Prelude.{nat_le}
 use Rattle.std.specs.List.{count_by, list_all}
 use Rattle.std.specs.Str.{IsCharBoundary}
 use Rattle.std.proofs.lemmas.Str.{IsCharBoundary-after_ascii, IsCharBoundary-before_ascii}
-use Rattle.std.proofs.lemmas.Bool.{eqb-true}
+use Rattle.std.proofs.lemmas.Bool.{eqb-true, and_parts}
 use Rattle.cse_syntax_tree.specs.Leaf.{begins, is_inside, is_start, is_quote, text_of, is_text}
-use Rattle.cse_syntax.proofs.SoundStmt.{both_true}
 
 quote_small : (q : ℕ) → is_quote q ≡ true → q < 128
 quote_small q h =
@@ -26,8 +25,8 @@ pub quotes : (bs : List ℕ) → is_text bs ≡ true → (1 < length bs) × (get
 unfolding is_text
 quotes [] h = absurd cc
 quotes (q ∷ bs) h =
-    let a = both_true 0 (is_quote q) (begins q (drop (length bs - 1) bs) && (list_all (is_inside q) (text_of (q ∷ bs)) && nat_le (count_by is_start (text_of (q ∷ bs))) 255)) h in
-    let b = both_true 0 (begins q (drop (length bs - 1) bs)) (list_all (is_inside q) (text_of (q ∷ bs)) && nat_le (count_by is_start (text_of (q ∷ bs))) 255) a.1 in
+    let a = and_parts (is_quote q) (begins q (drop (length bs - 1) bs) && (list_all (is_inside q) (text_of (q ∷ bs)) && nat_le (count_by is_start (text_of (q ∷ bs))) 255)) h in
+    let b = and_parts (begins q (drop (length bs - 1) bs)) (list_all (is_inside q) (text_of (q ∷ bs)) && nat_le (count_by is_start (text_of (q ∷ bs))) 255) a.1 in
     let last = begins_at q (length bs - 1) bs b.0 in
     let some : 0 < length bs = omega (arith, last.0) in
     let small = quote_small q a.0 in

@@ -1,5 +1,6 @@
 -- What is read is of the grammar, and its words stood at the front.
 use Rattle.std.proofs.Common.{◌≡◌, ℕ, zero, suc, ◌≤◌, Bool, List, [], ◌∷◌, length, drop, Option, Some, None, refl, sym, ap, subst, ◌∙◌, arith, inl, inr}
+use Rattle.std.proofs.lemmas.Option.{same_Some}
 use Rattle.cse_syntax_tree.specs.declared.token.Mark.{Mark}
 use Rattle.cse_syntax_tree.specs.declared.token.Mark.TheVariants as m
 use Rattle.cse_syntax_tree.specs.declared.tree.Operator.{Operator}
@@ -12,7 +13,7 @@ use Rattle.cse_syntax_tree.specs.Word.{Word, Name, Digits, Quoted, Value, Leave,
 use Rattle.cse_syntax_tree.specs.Tree.{Spelling, Expr, Number, Text, Special', Bare, Indexed, Group, Apply, Query', InValueSet, Minus, Not, Compare, exprs, operations}
 use Rattle.cse_syntax_tree.specs.Grammar.{sign, relation_sign, function_sign, query_sign, spell_each, spell_list, spell_set, Each, IsSome, spell_expr, spell_exprs, spell_others, spell_operations, binds, level, rule, Below, HasRoom, IsExpr, AreInner, AreOperations, spell_subscripts, is_name, is_within, is_text, MOST, IsName, IsSetName}
 use Rattle.cse_syntax.specs.Reading.{◌>>=◌, Parser, sees, expect, enter, take_name, name_before, loop, snoc, after_comma, listed, operator_at, is_some, operation, operations_from, chained, chain, or_operator, and_operator, sum_operator, product_operator, relation_of, bracketed, subscripts, arguments, named, closed, group, apply, query, set_after, member, marked, prim, unary, product, sum, related, relation, negation, conjunction, disjunction, nested}
-use Rattle.cse_syntax.proofs.Steps.{read, some_is, both_are, bind_some, if_some, test_some, sees_is, expect_is, enter_is, take_name_is, name_before_is}
+use Rattle.cse_syntax.proofs.Steps.{read, both_are, bind_some, if_some, test_some, sees_is, expect_is, enter_is, take_name_is, name_before_is}
 
 -- A reader gives only trees that are Good, and their words.
 abbrev pub Sound : {A : Type 0} → (A → List Word → List Word) → (A → Type 0) → Parser A → Type 0
@@ -52,7 +53,7 @@ loop_sound starts item add spell Good spell_item Fine item_sound adds keeps (suc
 
 -- ---- lists with commas
 
-Each-snoc : {A : Type 0} (P : A → Type 0) (xs : List A) (x : A) → Each P xs → P x → Each P (snoc xs x)
+pub Each-snoc : {A : Type 0} (P : A → Type 0) (xs : List A) (x : A) → Each P xs → P x → Each P (snoc xs x)
 Each-snoc P [] x h i = (i, tt)
 Each-snoc P (y ∷ xs) x h i = (h.0, Each-snoc P xs x h.1 i)
 
@@ -143,31 +144,31 @@ module _ (operator : Mark → Option Operator) (level room : ℕ) (positive : 1 
       made spell_expr (IsAt level room) ws (chained a.0.0 b.0.0) x b.0.1 rest b.2 (first.0 ∙ ap (spell_expr a.0.0) go.0 ∙ whole.0) whole.1
 
 or_is : (found : Mark) (op : Operator) → or_operator found ≡ Some op → (found ≡ sign op) × (binds op ≡ 1)
-or_is m.Or op e = subst (λ (v : Operator). (m.Or ≡ sign v) × (binds v ≡ 1)) (some_is e) (refl, refl)
+or_is m.Or op e = subst (λ (v : Operator). (m.Or ≡ sign v) × (binds v ≡ 1)) (same_Some _ _ e) (refl, refl)
 or_is _ op e = absurd cc
 
 and_is : (found : Mark) (op : Operator) → and_operator found ≡ Some op → (found ≡ sign op) × (binds op ≡ 2)
-and_is m.And op e = subst (λ (v : Operator). (m.And ≡ sign v) × (binds v ≡ 2)) (some_is e) (refl, refl)
+and_is m.And op e = subst (λ (v : Operator). (m.And ≡ sign v) × (binds v ≡ 2)) (same_Some _ _ e) (refl, refl)
 and_is _ op e = absurd cc
 
 sum_is : (found : Mark) (op : Operator) → sum_operator found ≡ Some op → (found ≡ sign op) × (binds op ≡ 5)
-sum_is m.Plus op e = subst (λ (v : Operator). (m.Plus ≡ sign v) × (binds v ≡ 5)) (some_is e) (refl, refl)
-sum_is m.Minus op e = subst (λ (v : Operator). (m.Minus ≡ sign v) × (binds v ≡ 5)) (some_is e) (refl, refl)
+sum_is m.Plus op e = subst (λ (v : Operator). (m.Plus ≡ sign v) × (binds v ≡ 5)) (same_Some _ _ e) (refl, refl)
+sum_is m.Minus op e = subst (λ (v : Operator). (m.Minus ≡ sign v) × (binds v ≡ 5)) (same_Some _ _ e) (refl, refl)
 sum_is _ op e = absurd cc
 
 product_is : (found : Mark) (op : Operator) → product_operator found ≡ Some op → (found ≡ sign op) × (binds op ≡ 6)
-product_is m.Star op e = subst (λ (v : Operator). (m.Star ≡ sign v) × (binds v ≡ 6)) (some_is e) (refl, refl)
-product_is m.Slash op e = subst (λ (v : Operator). (m.Slash ≡ sign v) × (binds v ≡ 6)) (some_is e) (refl, refl)
-product_is m.Percent op e = subst (λ (v : Operator). (m.Percent ≡ sign v) × (binds v ≡ 6)) (some_is e) (refl, refl)
+product_is m.Star op e = subst (λ (v : Operator). (m.Star ≡ sign v) × (binds v ≡ 6)) (same_Some _ _ e) (refl, refl)
+product_is m.Slash op e = subst (λ (v : Operator). (m.Slash ≡ sign v) × (binds v ≡ 6)) (same_Some _ _ e) (refl, refl)
+product_is m.Percent op e = subst (λ (v : Operator). (m.Percent ≡ sign v) × (binds v ≡ 6)) (same_Some _ _ e) (refl, refl)
 product_is _ op e = absurd cc
 
 relation_is : (found : Mark) (which : Relation) → relation_of found ≡ Some which → found ≡ relation_sign which
-relation_is m.Equals which e = subst (λ (v : Relation). m.Equals ≡ relation_sign v) (some_is e) refl
-relation_is m.Differs which e = subst (λ (v : Relation). m.Differs ≡ relation_sign v) (some_is e) refl
-relation_is m.Less which e = subst (λ (v : Relation). m.Less ≡ relation_sign v) (some_is e) refl
-relation_is m.AtMost which e = subst (λ (v : Relation). m.AtMost ≡ relation_sign v) (some_is e) refl
-relation_is m.More which e = subst (λ (v : Relation). m.More ≡ relation_sign v) (some_is e) refl
-relation_is m.AtLeast which e = subst (λ (v : Relation). m.AtLeast ≡ relation_sign v) (some_is e) refl
+relation_is m.Equals which e = subst (λ (v : Relation). m.Equals ≡ relation_sign v) (same_Some _ _ e) refl
+relation_is m.Differs which e = subst (λ (v : Relation). m.Differs ≡ relation_sign v) (same_Some _ _ e) refl
+relation_is m.Less which e = subst (λ (v : Relation). m.Less ≡ relation_sign v) (same_Some _ _ e) refl
+relation_is m.AtMost which e = subst (λ (v : Relation). m.AtMost ≡ relation_sign v) (same_Some _ _ e) refl
+relation_is m.More which e = subst (λ (v : Relation). m.More ≡ relation_sign v) (same_Some _ _ e) refl
+relation_is m.AtLeast which e = subst (λ (v : Relation). m.AtLeast ≡ relation_sign v) (same_Some _ _ e) refl
 relation_is _ which e = absurd cc
 
 relation_at_is : (ws : List Word) (which : Relation) → operator_at relation_of ws ≡ Some which → ws ≡ Sign (relation_sign which) ∷ drop 1 ws

@@ -2,6 +2,7 @@
 use Rattle.std.proofs.Common.{◌≡◌, ℕ, Bool, true, false, ◌&&◌, ◌==◌, List, [], ◌∷◌, length, drop, Some, None, refl, ap, subst, ◌∙◌, inl, inr}
 use Rattle.std.proofs.lemmas.Bool.{eqb-true}
 use Rattle.std.proofs.lemmas.List.{nil_from_length}
+use Rattle.std.proofs.lemmas.Option.{same_Some}
 use Rattle.cse_syntax_tree.specs.declared.token.Mark.TheVariants as m
 use Rattle.cse_syntax_tree.specs.Word.{Word, Name, Digits, Quoted, Value, Leave, Sign, Stray}
 use Rattle.cse_syntax_tree.specs.Tree.{Spelling, stmts, Literal, Sized, Rows, Numeric, Alpha, Array', Function', Plain, Preproc, Both, Postproc, Tree}
@@ -9,8 +10,8 @@ use Rattle.cse_syntax_tree.specs.Grammar.{is_name, is_within, MOST, IsName, IsPa
 use Rattle.cse_syntax.specs.Reading.{Parser, sees, after, expect, ends, take_name, name_before, take_number, loop, snoc, listed}
 use Rattle.cse_syntax.specs.ReadingStmt.{literal, statements_at}
 use Rattle.cse_syntax.specs.ReadingSource.{rows, dimension, parameter, parameters, cells, numeric, alpha, array, array_declaration, function, declaration, starts_declaration, declarations, globals, plain, postproc, preproc, body, procedure, procedures, source_at}
-use Rattle.cse_syntax.proofs.Steps.{some_is, bind_some, if_some, test_some, sees_is, expect_is, ends_is, take_name_is, name_before_is, take_number_is, after_is_spelled}
-use Rattle.cse_syntax.proofs.Sound.{Sound, SoundAfter, made, loop_sound, listed_sound}
+use Rattle.cse_syntax.proofs.Steps.{bind_some, if_some, test_some, sees_is, expect_is, ends_is, take_name_is, name_before_is, take_number_is, after_is_spelled}
+use Rattle.cse_syntax.proofs.Sound.{Sound, SoundAfter, made, loop_sound, listed_sound, Each-snoc}
 use Rattle.cse_syntax.proofs.SoundStmt.{spell_block, literal_sound, statements_at_sound}
 
 names_sound : Sound (spell_list spell_name) (λ xs. IsSome xs × Each IsName xs) (listed take_name)
@@ -160,10 +161,6 @@ spell_all_snoc : {A : Type 0} (spell : A → List Word → List Word) (xs : List
 spell_all_snoc spell [] x rest = refl
 spell_all_snoc spell (y ∷ xs) x rest = ap (spell y) (spell_all_snoc spell xs x rest)
 
-Each-snoc : {A : Type 0} (P : A → Type 0) (xs : List A) (x : A) → Each P xs → P x → Each P (snoc xs x)
-Each-snoc P [] x h i = (i, tt)
-Each-snoc P (y ∷ xs) x h i = (h.0, Each-snoc P xs x h.1 i)
-
 module _ {A : Type 0} (starts : List Word → Bool) (spell : A → List Word → List Word) (P : A → Type 0) (item : Parser A) (item_sound : Sound spell P item) where
   all_sound : (n : ℕ) → Sound (spell_all spell) (Each P) (loop starts item snoc n [])
   all_sound n ws x rest e =
@@ -254,4 +251,4 @@ source_sound room ws tree e =
     let t = test_some (length b.0.1 == 0) (record { globals = a.0.0; procedures = b.0.0 }) tree b.2 in
     let end : b.0.1 ≡ [] = nil_from_length b.0.1 (eqb-true _ _ t.0) in
     let words : ws ≡ spell_tree (record { globals = a.0.0; procedures = b.0.0 }) = first.0 ∙ ap (spell_globals a.0.0) (others.0 ∙ ap (spell_all spell_procedure b.0.0) end) in
-    subst (λ (t : Tree). IsSource room t ws) (some_is t.1) (first.1, others.1, words)
+    subst (λ (t : Tree). IsSource room t ws) (same_Some _ _ t.1) (first.1, others.1, words)

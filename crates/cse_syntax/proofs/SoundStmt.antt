@@ -1,6 +1,7 @@
 -- Statements that are read are of the grammar, and their words stood at the front.
-use Rattle.std.proofs.Common.{◌≡◌, ℕ, zero, suc, Bool, true, false, ◌&&◌, List, [], ◌∷◌, length, drop, Some, None, refl, sym, ap, subst, ◌∙◌, inl, inr}
+use Rattle.std.proofs.Common.{◌≡◌, ℕ, zero, suc, true, ◌&&◌, List, [], ◌∷◌, length, drop, Some, None, refl, sym, ap, subst, ◌∙◌, inl, inr}
 use Rattle.std.specs.Str.{str_eq_ignore_ascii_case}
+use Rattle.std.proofs.lemmas.Bool.{and_parts}
 use Rattle.cse_syntax_tree.specs.declared.token.Mark.{Mark}
 use Rattle.cse_syntax_tree.specs.declared.token.Mark.TheVariants as m
 use Rattle.cse_syntax_tree.specs.declared.tree.Count.{Count}
@@ -12,7 +13,7 @@ use Rattle.cse_syntax_tree.specs.Grammar.{is_name, is_within, is_text, MOST, IsN
 use Rattle.cse_syntax.specs.Reading.{Parser, sees, after, expect, ends, enter, take_name, name_before, take_number, snoc, subscripts, arguments, nested, expr_at}
 use Rattle.cse_syntax.specs.ReadingStmt.{literal, counted, fixed, limit, step, again, counting, message, assigned, has_some, called, named_stmt, putdeck, other_values, errmsg, jump, imputed, impute, visiting, visiting_at, counting_at, guarded, elseif, elseifs, body_to, otherwise, alternatives, conditional, over, repeated, marked_stmt, statement, starts_stmt, statements, body_at, statements_at}
 use Rattle.cse_syntax.proofs.Steps.{both_are, bind_some, if_some, test_some, sees_is, expect_is, ends_is, enter_is, take_name_is, name_before_is, take_number_is, after_is_spelled}
-use Rattle.cse_syntax.proofs.Sound.{Sound, SoundAfter, made, loop_sound, inner_listed, subscripts_sound, arguments_sound, nested_sound, expr_sound}
+use Rattle.cse_syntax.proofs.Sound.{Sound, SoundAfter, made, loop_sound, inner_listed, subscripts_sound, arguments_sound, nested_sound, expr_sound, Each-snoc}
 
 -- ---- the head of a `do`
 
@@ -149,10 +150,6 @@ spell_elseifs_snoc : (xs : List Arm) (x : Arm) (rest : List Word) → spell_else
 spell_elseifs_snoc [] x rest = refl
 spell_elseifs_snoc (y ∷ xs) x rest = ap (λ (r : List Word). Sign m.ElseIf ∷ spell_guarded y r) (spell_elseifs_snoc xs x rest)
 
-Each-snoc : {A : Type 0} (P : A → Type 0) (xs : List A) (x : A) → Each P xs → P x → Each P (snoc xs x)
-Each-snoc P [] x h i = (i, tt)
-Each-snoc P (y ∷ xs) x h i = (h.0, Each-snoc P xs x h.1 i)
-
 -- the `else` behind them
 spell_arms_elseifs : (xs : List Arm) (last : Arms) (rest : List Word) → spell_elseifs xs (spell_arms last rest) ≡ spell_arms (arms xs last) rest
 spell_arms_elseifs [] last rest = refl
@@ -177,11 +174,6 @@ module _ (room : ℕ) where
       made spell_stmt (Is room) (Name name ∷ spell_subscripts (exprs subs) (Sign m.Equals ∷ ws)) (Assign name (exprs subs) a.0.0) x b.0 rest b.2
       (ap (λ (r : List Word). Name name ∷ spell_subscripts (exprs subs) (Sign m.Equals ∷ r)) (value.0 ∙ ap (spell_expr a.0.0) (expect_is m.Semicolon a.0.1 b.0 b.1))) (is, h, value.1)
 
-  pub both_true : (a b : Bool) → (a && b) ≡ true → (a ≡ true) × (b ≡ true)
-  both_true true true e = (refl, refl)
-  both_true true false e = absurd cc
-  both_true false b e = absurd cc
-
   some_subscripts : (xs : List Expr) (rest : List Word) → has_some room xs ≡ true → Sign m.Open ∷ spell_exprs (exprs xs) (Sign m.Close ∷ rest) ≡ spell_subscripts (exprs xs) rest
   some_subscripts [] rest e = absurd cc
   some_subscripts (y ∷ xs) rest e = refl
@@ -191,7 +183,7 @@ module _ (room : ℕ) where
   called_sound name xs is h i ws x rest e =
       elim (if_some (sees m.Equals ws && has_some room xs) _ _ _ e) [
         | inl t ↦
-            let b = both_true (sees m.Equals ws) (has_some room xs) t.0 in
+            let b = and_parts (sees m.Equals ws) (has_some room xs) t.0 in
             let y = assigned_sound name xs is i (drop 1 ws) x rest t.1 in
             (ap (λ (r : List Word). Name name ∷ r) (ap (λ (r : List Word). Sign m.Open ∷ spell_exprs (exprs xs) (Sign m.Close ∷ r)) (sees_is m.Equals ws b.0) ∙ some_subscripts xs (Sign m.Equals ∷ drop 1 ws) b.1) ∙ y.0, y.1)
         | inr t ↦

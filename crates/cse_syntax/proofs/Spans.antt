@@ -5,6 +5,9 @@ use Rattle.std.specs.Prelude.{nat_le}
 use Rattle.std.specs.Char.{is_ascii_alphabetic, is_ascii_digit, is_ascii_alphanumeric}
 use Rattle.std.specs.Int.{is_in_range}
 use Rattle.std.proofs.lemmas.List.{take-append-drop, append-nil}
+use Rattle.std.proofs.lemmas.Bool.{or_left, and_parts}
+use Rattle.std.proofs.lemmas.Option.{same_Some}
+use Rattle.std.proofs.lemmas.List.Sums.{prefix_len-le-length}
 use Rattle.cse_syntax_tree.specs.declared.token.Kind.{Kind}
 use Rattle.cse_syntax_tree.specs.declared.token.Mark.{Mark}
 use Rattle.cse_syntax.specs.declared.lexer.Gap.{Gap}
@@ -12,8 +15,7 @@ use Rattle.cse_syntax.specs.declared.lexer.Gap.TheVariants as g
 use Rattle.cse_syntax.specs.Loop.{snoc}
 use Rattle.cse_syntax.specs.Text.{begins, is_blank, gap_after, or_else, skip, mark_len, is_word_byte, symbol, symbol_at, is_inside, is_start, text_len, token_at, Piece, goes_on, next_piece, pieces_from, pieces_of}
 use Rattle.cse_syntax.specs.Source.{Covers, IsCovered}
-use Rattle.cse_syntax.proofs.Steps.{some_is, bind_some, if_some, test_some}
-use Rattle.cse_syntax.proofs.SoundStmt.{both_true}
+use Rattle.cse_syntax.proofs.Steps.{bind_some, if_some, test_some}
 
 -- ---- gaps
 
@@ -26,7 +28,7 @@ same_turn : (after second : Gap) (p q r x y : Bool) (a b : Gap) → cond p (Some
     → cond p (Some a) (cond q (Some b) (cond (r && y) (Some second) None)) ≡ Some after
 same_turn after second true q r x y a b e s = e
 same_turn after second false true r x y a b e s = e
-same_turn after second false false true true y a b e s = rw (← s (some_is e)) e
+same_turn after second false false true true y a b e s = rw (← s (same_Some _ _ e)) e
 same_turn after second false false true false y a b e s = absurd cc
 same_turn after second false false false x y a b e s = absurd cc
 
@@ -41,7 +43,7 @@ one_more : (state after : Gap) (b : ℕ) (bs rest : List ℕ) → gap_after stat
 one_more g.Between after b bs rest t h =
     let s = same_turn after g.Slash (b == 123) (is_blank b) (b == 47) (begins 47 bs) (begins 47 h.0) (g.Braces 0) g.Between t (slash_front after h.0 rest bs h.1 h.2) in
     (b ∷ h.0, ap (λ (r : List ℕ). b ∷ r) h.1, rw s h.2)
-one_more g.Slash after b bs rest t h = (b ∷ h.0, ap (λ (r : List ℕ). b ∷ r) h.1, subst (λ (a : Gap). skip a h.0 ≡ Some []) (sym (some_is t)) h.2)
+one_more g.Slash after b bs rest t h = (b ∷ h.0, ap (λ (r : List ℕ). b ∷ r) h.1, subst (λ (a : Gap). skip a h.0 ≡ Some []) (sym (same_Some _ _ t)) h.2)
 one_more g.Line after b bs rest t h = (b ∷ h.0, ap (λ (r : List ℕ). b ∷ r) h.1, rw t h.2)
 one_more (g.Braces zero) after b bs rest t h = (b ∷ h.0, ap (λ (r : List ℕ). b ∷ r) h.1, rw t h.2)
 one_more (g.Braces (suc n)) after b bs rest t h = (b ∷ h.0, ap (λ (r : List ℕ). b ∷ r) h.1, rw t h.2)
@@ -60,13 +62,13 @@ abbrev Skips : Gap → ℕ → List ℕ → List ℕ → Option Gap → Type 0
 Skips state b bs rest o = or_else o (λ d. skip d bs) (Some (b ∷ bs)) ≡ Some rest → gap_after state b (begins 47 bs) ≡ o → GapTo state (b ∷ bs) rest
 
 gap_before : (text : List ℕ) (state : Gap) (rest : List ℕ) → skip state text ≡ Some rest → GapTo state text rest
-gap_before [] g.Between rest e = ([], some_is e, refl)
+gap_before [] g.Between rest e = ([], same_Some _ _ e, refl)
 gap_before [] g.Slash rest e = absurd cc
-gap_before [] g.Line rest e = ([], some_is e, refl)
+gap_before [] g.Line rest e = ([], same_Some _ _ e, refl)
 gap_before [] (g.Braces n) rest e = absurd cc
 gap_before (b ∷ bs) g.Between rest e =
     let by : (o : Option Gap) → Skips g.Between b bs rest o = λ o. elim o as (λ o. Skips g.Between b bs rest o) [
-      | None ↦ λ s t. ([], some_is s, refl)
+      | None ↦ λ s t. ([], same_Some _ _ s, refl)
       | Some d ↦ λ s t. one_more g.Between d b bs rest t (gap_before bs d rest s)
     ] in by (gap_after g.Between b (begins 47 bs)) e refl
 gap_before (b ∷ bs) g.Slash rest e = one_more g.Slash g.Line b bs rest refl (gap_before bs g.Line rest e)
@@ -91,22 +93,10 @@ gap_before (b ∷ bs) (g.Braces (suc n)) rest e =
 some_run : (p : ℕ → Bool) (b : ℕ) (bs : List ℕ) → p b ≡ true → 0 < prefix_len p (b ∷ bs)
 some_run p b bs h = let one : prefix_len p (b ∷ bs) ≡ 1 + prefix_len p bs = rw h refl in omega (arith, one)
 
-run_within : (p : ℕ → Bool) (bs : List ℕ) → prefix_len p bs ≤ length bs
-run_within p [] = omega arith
-run_within p (b ∷ bs) =
-    let by : (x : Bool) → cond x (1 + prefix_len p bs) 0 ≤ suc (length bs) = λ x. elim x as (λ x. cond x (1 + prefix_len p bs) 0 ≤ suc (length bs)) [
-      | true ↦ omega (arith, run_within p bs)
-      | false ↦ omega arith
-    ] in by (p b)
-
 either : (x y z : Bool) → (y || z) ≡ true → ((x || y) || z) ≡ true
 either x true z e = elim x as (λ v. ((v || true) || z) ≡ true) [ true ↦ refl | false ↦ refl ]
 either true false z e = refl
 either false false z e = e
-
-or_left : (x y : Bool) → x ≡ true → (x || y) ≡ true
-or_left true y e = refl
-or_left false y e = absurd cc
 
 pub letter_is : (b : ℕ) → is_ascii_alphabetic b ≡ true → is_word_byte b ≡ true
 letter_is b h = or_left (is_ascii_alphanumeric b) (b == 95) (either (is_in_range 48 57 b) (is_in_range 65 90 b) (is_in_range 97 122 b) h)
@@ -121,8 +111,8 @@ Fits total n = (0 < n) × (n ≤ total)
 
 symbol_fits : (b : ℕ) (bs : List ℕ) (found : ℕ × Mark) → symbol_at b bs ≡ Some found → Fits (suc (length bs)) found.0
 symbol_fits b bs found e =
-    let two : (mark : Mark) → (c : ℕ) → begins c bs ≡ true → Some (2, mark) ≡ Some found → Fits (suc (length bs)) found.0 = λ mark c h i. subst (λ (t : ℕ × Mark). Fits (suc (length bs)) t.0) (some_is i) (omega arith, omega (arith, begins_some c bs h)) in
-    let one : (mark : Mark) → Some (1, mark) ≡ Some found → Fits (suc (length bs)) found.0 = λ mark i. subst (λ (t : ℕ × Mark). Fits (suc (length bs)) t.0) (some_is i) (omega arith, omega arith) in
+    let two : (mark : Mark) → (c : ℕ) → begins c bs ≡ true → Some (2, mark) ≡ Some found → Fits (suc (length bs)) found.0 = λ mark c h i. subst (λ (t : ℕ × Mark). Fits (suc (length bs)) t.0) (same_Some _ _ i) (omega arith, omega (arith, begins_some c bs h)) in
+    let one : (mark : Mark) → Some (1, mark) ≡ Some found → Fits (suc (length bs)) found.0 = λ mark i. subst (λ (t : ℕ × Mark). Fits (suc (length bs)) t.0) (same_Some _ _ i) (omega arith, omega arith) in
     elim (if_some (b == 60) _ _ _ e) [
       | inl h ↦
           elim (if_some (begins 62 bs) _ _ _ h.1) [
@@ -140,20 +130,20 @@ text_fits : (quote : ℕ) (bs : List ℕ) (n : ℕ) → text_len quote bs ≡ So
 text_fits quote bs n e =
     let k = prefix_len (is_inside quote) bs in
     let t = test_some (begins quote (drop k bs) && nat_le (count_by is_start (take k bs)) 255) (k + 2) n e in
-    let b = both_true 0 (begins quote (drop k bs)) (nat_le (count_by is_start (take k bs)) 255) t.0 in
+    let b = and_parts (begins quote (drop k bs)) (nat_le (count_by is_start (take k bs)) 255) t.0 in
     let some : 0 < length (drop k bs) = begins_some quote (drop k bs) b.0 in
-    subst (λ (n : ℕ). Fits (suc (length bs)) n) (some_is t.1) (omega arith, omega (arith, length-drop k bs))
+    subst (λ (n : ℕ). Fits (suc (length bs)) n) (same_Some _ _ t.1) (omega arith, omega (arith, length-drop k bs))
 
 takes_some : (bs : List ℕ) (found : ℕ × Kind) → token_at bs ≡ Some found → Fits (length bs) found.0
 unfolding token_at
 takes_some [] found e = absurd cc
 takes_some (b ∷ bs) found e =
-    let as_found : (t : ℕ × Kind) → Some t ≡ Some found → Fits (suc (length bs)) t.0 → Fits (suc (length bs)) found.0 = λ t i f. subst (λ (t : ℕ × Kind). Fits (suc (length bs)) t.0) (some_is i) f in
+    let as_found : (t : ℕ × Kind) → Some t ≡ Some found → Fits (suc (length bs)) t.0 → Fits (suc (length bs)) found.0 = λ t i f. subst (λ (t : ℕ × Kind). Fits (suc (length bs)) t.0) (same_Some _ _ i) f in
     elim (if_some (is_ascii_alphabetic b) _ _ _ e) [
-      | inl h ↦ as_found _ h.1 (some_run is_word_byte b bs (letter_is b h.0), run_within is_word_byte (b ∷ bs))
+      | inl h ↦ as_found _ h.1 (some_run is_word_byte b bs (letter_is b h.0), prefix_len-le-length is_word_byte (b ∷ bs))
       | inr h ↦
           elim (if_some (is_ascii_digit b) _ _ _ h.1) [
-            | inl i ↦ as_found _ i.1 (some_run is_ascii_digit b bs i.0, run_within is_ascii_digit (b ∷ bs))
+            | inl i ↦ as_found _ i.1 (some_run is_ascii_digit b bs i.0, prefix_len-le-length is_ascii_digit (b ∷ bs))
             | inr i ↦
                 elim (if_some (b == 39 || b == 34) _ _ _ i.1) [
                   | inl k ↦ let n = bind_some (text_len b bs) _ _ k.1 in as_found _ n.2 (text_fits b bs n.0 n.1)
@@ -190,13 +180,13 @@ abbrev read : List Piece → List ℕ → Option (List Piece × List ℕ)
 read all rest = Some (all, rest)
 
 pair_is : {a x : List Piece} {b y : List ℕ} → read a b ≡ read x y → a ≡ x
-pair_is e = ap (λ (q : List Piece × List ℕ). q.0) (some_is e)
+pair_is e = ap (λ (q : List Piece × List ℕ). q.0) (same_Some _ _ e)
 
 abbrev next : Piece → List ℕ → Option (Piece × List ℕ)
 next p rest = Some (p, rest)
 
 next_is : {a x : Piece} {b y : List ℕ} → next a b ≡ next x y → (a ≡ x) × (b ≡ y)
-next_is e = let p = some_is e in (ap (λ (q : Piece × List ℕ). q.0) p, ap (λ (q : Piece × List ℕ). q.1) p)
+next_is e = let p = same_Some _ _ e in (ap (λ (q : Piece × List ℕ). q.0) p, ap (λ (q : Piece × List ℕ). q.1) p)
 
 covers_from : (n total : ℕ) (found all : List Piece) (text rest : List ℕ) → length text ≤ total → length text ≤ n → pieces_from total n found text ≡ Some (all, rest) → Ends total found text all
 unfolding next_piece
@@ -258,5 +248,9 @@ covers text ps e =
     let dropped : length (drop (mark_len text) text) ≡ length text - mark_len text = length-drop (mark_len text) text in
     let within : mark_len text ≤ length text = mark_within text in
     let go = covers_from (length first.0) (length text) [] all.0.0 first.0 all.0.1 (omega (arith, len, dropped)) (omega arith) all.1 in
-    let same : go.0 ≡ ps = sym go.1 ∙ some_is all.2 in
+    let same : go.0 ≡ ps = sym go.1 ∙ same_Some _ _ all.2 in
     subst (Covers (mark_len text) (drop (mark_len text) text)) same (after_gap (mark_len text) (length text) (drop (mark_len text) text) first.0 go.0 (omega (arith, dropped)) (omega (arith, dropped, within)) first.1 go.2)
+
+pub begins_one : (q : ℕ) (bs : List ℕ) → begins q (take 1 bs) ≡ begins q bs
+begins_one q [] = refl
+begins_one q (b ∷ bs) = refl

@@ -2,6 +2,7 @@
 use Rattle.std.proofs.Common.{◌≡◌, ℕ, zero, suc, Bool, true, false, cond, List, [], ◌∷◌, drop, Option, Some, None, refl, sym, ap, subst, ◌∙◌, inl, inr, ◌⊎◌}
 use denote.Enum.Bare.{same_true}
 use Rattle.std.proofs.Common.{rules}
+use Rattle.std.proofs.lemmas.Option.{same_Some}
 use Rattle.cse_syntax_tree.specs.contracts.token.Mark.{the_type}
 use Rattle.cse_syntax_tree.specs.declared.token.Mark.{Mark}
 use Rattle.cse_syntax_tree.specs.declared.token.Mark.TheVariants as m
@@ -10,14 +11,11 @@ use Rattle.cse_syntax_tree.specs.Tree.{Spelling}
 use Rattle.cse_syntax_tree.specs.Grammar.{is_name, is_within, IsName, HasRoom, spell_mark}
 use Rattle.cse_syntax.specs.Reading.{◌>>=◌, same, sees, after, expect, ends, enter, take_name, name_before, take_number}
 
-pub some_is : {A : Type 0} {x y : A} → Some x ≡ Some y → x ≡ y
-some_is e = cc
-
 abbrev pub read : {A : Type 0} → A → List Word → Option (A × List Word)
 read x rest = Some (x, rest)
 
 pub both_are : {A : Type 0} {a x : A} {b y : List Word} → read a b ≡ read x y → (a ≡ x) × (b ≡ y)
-both_are {A} e = let p = some_is e in (ap (λ (q : A × List Word). q.0) p, ap (λ (q : A × List Word). q.1) p)
+both_are {A} e = let p = same_Some _ _ e in (ap (λ (q : A × List Word). q.0) p, ap (λ (q : A × List Word). q.1) p)
 
 -- the value of a step that did not fail
 pub bind_some : {A B : Type 0} (o : Option A) (f : A → Option B) (y : B) → (o >>= f) ≡ Some y → (x : A) × (o ≡ Some x) × (f x ≡ Some y)
@@ -50,7 +48,7 @@ sees_is mark (Sign found ∷ ws) e = ap (λ (k : Mark). Sign k ∷ ws) (same_is 
 pub expect_is : (mark : Mark) (ws rest : List Word) → expect mark ws ≡ Some rest → ws ≡ Sign mark ∷ rest
 expect_is mark ws rest e =
     elim (if_some (sees mark ws) (Some (drop 1 ws)) None (Some rest) e) [
-      | inl h ↦ sees_is mark ws h.0 ∙ ap (λ (r : List Word). Sign mark ∷ r) (some_is h.1)
+      | inl h ↦ sees_is mark ws h.0 ∙ ap (λ (r : List Word). Sign mark ∷ r) (same_Some _ _ h.1)
       | inr h ↦ absurd cc
     ]
 

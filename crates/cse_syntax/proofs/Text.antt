@@ -1,10 +1,10 @@
 -- Where a text may be cut, and a loop over its tokens.
-use Rattle.std.proofs.Common.{◌≡◌, ℕ, ◌+◌, ◌-◌, ◌≤◌, ◌<◌, true, false, List, [], ◌∷◌, length, take, drop, get_or, slice_get, Some, None, refl, sym, ap, ◌∙◌, subst, length-drop, arith, IsUtf8}
+use Rattle.std.proofs.Common.{◌≡◌, ℕ, ◌+◌, ◌-◌, ◌≤◌, ◌<◌, true, false, List, [], ◌∷◌, length, take, drop, get_or, slice_get, Some, None, refl, sym, ap, ◌∙◌, subst, arith, IsUtf8}
 use Rattle.std.specs.Str.{IsCharBoundary}
-use Rattle.std.proofs.Math.Seq.{take-length}
 use Rattle.std.proofs.lemmas.Str.{IsCharBoundary-after_ascii, IsCharBoundary-end, IsCharBoundary-past_char}
 use Rattle.std.proofs.lemmas.Bool.{cases_lt, eqb-true}
 use Rattle.std.proofs.Common.{inl, inr}
+use Rattle.std.proofs.lemmas.List.{take_rest}
 use Rattle.cse_syntax.specs.declared.lexer.Gap.TheVariants as g
 use Rattle.cse_syntax.specs.Text.{begins, skip, mark_len, Piece, goes_on, pieces_from, pieces_of}
 
@@ -36,20 +36,17 @@ pub mark_cut : (bs : List ℕ) → IsUtf8 bs → begins 239 bs ≡ true → begi
 unfolding lib.Utf8.encode
 mark_cut bs text x y z = IsCharBoundary-past_char bs (drop 3 bs) 0 65279 (omega arith) text (mark_is bs x y z)
 
-take_rest : (n : ℕ) (bs : List ℕ) → take (length bs - n) (drop n bs) ≡ drop n bs
-take_rest n bs = let e : length bs - n ≡ length (drop n bs) = sym (length-drop n bs) in rw e (take-length (drop n bs))
-
 -- the same of what the code looks at
 pub mark_cut_at : (bs rs : List ℕ) → rs ≡ bs → IsUtf8 bs → true ≡ begins 239 rs → true ≡ begins 187 (take (length rs - 1) (drop 1 rs)) → true ≡ begins 191 (take (length rs - 2) (drop 2 rs)) → IsCharBoundary bs 3
 mark_cut_at bs rs e text x y z =
-    mark_cut bs text (ap (begins 239) (sym e) ∙ sym x) (ap (λ (r : List ℕ). begins 187 (drop 1 r)) (sym e) ∙ ap (begins 187) (sym (take_rest 1 rs)) ∙ sym y) (ap (λ (r : List ℕ). begins 191 (drop 2 r)) (sym e) ∙ ap (begins 191) (sym (take_rest 2 rs)) ∙ sym z)
+    mark_cut bs text (ap (begins 239) (sym e) ∙ sym x) (ap (λ (r : List ℕ). begins 187 (drop 1 r)) (sym e) ∙ ap (begins 187) (sym (take_rest rs 1)) ∙ sym y) (ap (λ (r : List ℕ). begins 191 (drop 2 r)) (sym e) ∙ ap (begins 191) (sym (take_rest rs 2)) ∙ sym z)
 
 -- the first byte and those behind it
 pub whole : (b : ℕ) (bs : List ℕ) → Some b ≡ slice_get bs 0 → b ∷ take (length bs - 1) (drop 1 bs) ≡ bs
 whole b [] e = absurd cc
 whole b (a ∷ bs) e =
     let p : b ≡ a = cc in
-    ap (λ (r : List ℕ). b ∷ r) (take_rest 1 (a ∷ bs)) ∙ ap (λ (x : ℕ). x ∷ bs) p
+    ap (λ (r : List ℕ). b ∷ r) (take_rest (a ∷ bs) 1) ∙ ap (λ (x : ℕ). x ∷ bs) p
 
 pub all_read : (text first rest : List ℕ) (found : List Piece) → skip g.Between (drop (mark_len text) text) ≡ Some first → pieces_from (length text) (length first) [] first ≡ Some (found, rest) → pieces_of text ≡ Some found
 unfolding pieces_of

@@ -1,2 +1,3 @@
 pub mod Digits
 pub mod Rows
+pub mod Rooms

@@ -1,6 +1,6 @@
 -- A source's tree, from its names to the typed one: what the checker's steps tell together.
 use Rattle.std.proofs.Common.{◌≡◌, ℕ, Bool, true, false, List, [], ◌∷◌, length, map, Option, Some, None, refl, sym, ap, ◌∙◌, subst, option_map}
-use Rattle.std.specs.Prelude.{◌&&◌, ◌||◌, not, Result, Ok, Err, IfOk}
+use Rattle.std.specs.Prelude.{◌&&◌, ◌||◌, not}
 use Rattle.std.proofs.lemmas.List.{length-map}
 use Rattle.std.proofs.lemmas.Bool.{false≢true}
 use Rattle.std.proofs.Math.Logic.{∥∥₁_map}
@@ -28,8 +28,8 @@ use Rattle.cse_types.proofs.FreshLaws.{fresh_sound}
 use Rattle.cse_types.proofs.TableLaws.{table_sound, table_names}
 use Rattle.cse_types.proofs.TreeRight.{tree_right}
 use Rattle.cse_types.proofs.TreeComplete.{tree_complete}
+use Rattle.cse_types.proofs.Counted.{both_noted}
 use Rattle.cse_logic_names.proofs.Walks.{there_map}
-use Rattle.cse_types.proofs.ProcedureLaws.{noted_joined}
 
 module _ {A B : Type 0} (g : A → B) (a b : Bool) (p q : Option A) (same : a ≡ true → p ≡ q) where
   found_noted : ((not a || not b) || not (is_there p)) ≡ not (is_there (only_if (a && b) (option_map g q)))
@@ -111,14 +111,10 @@ module _ (s mid : Scope) (x : syntax.Tree) (ts : List Told) (behind : mid ≡ be
 
   pub parts_noted : (first between last : Bool) → between ≡ (first || not (is_there (globals_judged s x.globals))) → last ≡ (between || not (is_there (procedures_judged mid (length ts) x.procedures))) → last ≡ (first || not (is_there (parts_judged s x)))
   parts_noted first between last h k =
-      noted_joined parts_of (globals_judged s x.globals) (procedures_judged (behind_all s 0 (all_declarations x.globals)) (length (declared_messages (all_declarations x.globals))) x.procedures) first between last h
+      both_noted parts_of (globals_judged s x.globals) (procedures_judged (behind_all s 0 (all_declarations x.globals)) (length (declared_messages (all_declarations x.globals))) x.procedures) first between last h
       (k ∙ ap (λ o. between || not (is_there o)) same_procedures)
 
 -- ---- the answer
-
-pub where_so : {A E : Type 0} (P Q : A → Type 0) (r : Result A E) → ((x : A) → P x → Q x) → IfOk r P → IfOk r Q
-where_so P Q (Ok x) f h = f x h
-where_so P Q (Err e) f h = tt
 
 -- a tree that was found and one that is right are the same
 pub same_tree : (t u : Tree) (o : Option Tree) → Some t ≡ o → o ≡ Some u → t ≡ u

@@ -1,11 +1,12 @@
 -- Lists that are judged from the left, where each member gives so many messages, and the next is judged behind them.
-use Rattle.std.specs.Prelude.{Bool, true, false, ◌&&◌, ◌||◌, not, Result, Ok, Err, OnOk}
+use Rattle.std.specs.Prelude.{Bool, true, false, ◌&&◌, ◌||◌, not}
 use Rattle.std.proofs.Common.{◌≡◌, ℕ, ◌+◌, ◌<◌, ◌≤◌, get_or, drop, List, [], ◌∷◌, ◌++◌, length, map, Option, Some, None, refl, ap, sym, ◌∙◌, arith, option_map, append_assoc, length-append}
-use Rattle.std.proofs.lemmas.List.{length-map}
+use Rattle.std.proofs.lemmas.List.{length-map, append-nil, drop_all}
+use Rattle.cse_lemmas.proofs.Lists.{drop_read}
 use Rattle.cse_types.specs.declared.told.Told.{Told}
 use Rattle.cse_types.specs.Told.{told_of}
 use Rattle.cse_logic_names.specs.Walk.{so_far, found_more, joined, is_there}
-use Rattle.cse_logic_names.proofs.Walks.{drop_is, past, append_none, map_found, there_map, turn_is, end_is}
+use Rattle.cse_logic_names.proofs.Walks.{map_found, there_map, turn_is, end_is}
 
 -- each member, where so many messages stand before it
 abbrev pub walk_from : {A B : Type 0} → (ℕ → A → Option B) → (A → ℕ) → ℕ → List A → Option (List B)
@@ -27,23 +28,23 @@ from_step f c g items i n m x b both there xs xs' y all lt is inv e more k h j =
     ∙ turn_is b (map g xs) (option_map g y) rest
     ∙ ap (λ z. so_far b (map g xs) (joined (λ y ys. y ∷ ys) z rest)) e
     ∙ ap (λ o. so_far b (map g xs) (joined (λ y ys. y ∷ ys) (f n x) (walk_from f c o (drop (i + 1) items)))) more
-    ∙ ap (λ zs. so_far b (map g xs) (walk_from f c n zs)) (sym (drop_is items i x lt is))
+    ∙ ap (λ zs. so_far b (map g xs) (walk_from f c n zs)) (sym (drop_read items i x lt is))
     ∙ inv
 
 pub from_end : {A B : Type 0} (f : ℕ → A → Option B) (c : A → ℕ) (items : List A) (i n : ℕ) (b : Bool) (xs : List B) (all : Option (List B)) → length items ≤ i → so_far b xs (walk_from f c n (drop i items)) ≡ all
     → (b ≡ true → all ≡ Some xs) × (b ≡ false → all ≡ None) × (is_there all ≡ b)
-from_end f c items i n b xs all le inv = end_is b xs all (sym (ap (λ l. so_far b xs (walk_from f c n l)) (past items i le)) ∙ inv)
+from_end f c items i n b xs all le inv = end_is b xs all (sym (ap (λ l. so_far b xs (walk_from f c n l)) (drop_all i items le)) ∙ inv)
 
 pub told_step : {A M : Type 0} (h : A → List M) (items : List A) (i : ℕ) (x : A) (old new all : List M)
     → i < length items → x ≡ get_or items i x → old ++ gathered h (drop i items) ≡ all → new ≡ old ++ h x → new ++ gathered h (drop (i + 1) items) ≡ all
 told_step h items i x old new all lt is inv e =
     ap (λ t. t ++ gathered h (drop (i + 1) items)) e
     ∙ append_assoc old (h x) (gathered h (drop (i + 1) items))
-    ∙ ap (λ zs. old ++ gathered h zs) (sym (drop_is items i x lt is))
+    ∙ ap (λ zs. old ++ gathered h zs) (sym (drop_read items i x lt is))
     ∙ inv
 
 pub told_end : {A M : Type 0} (h : A → List M) (items : List A) (i : ℕ) (old all : List M) → length items ≤ i → old ++ gathered h (drop i items) ≡ all → old ≡ all
-told_end h items i old all le inv = sym (append_none old) ∙ ap (λ zs. old ++ gathered h zs) (sym (past items i le)) ∙ inv
+told_end h items i old all le inv = sym (append-nil old) ∙ ap (λ zs. old ++ gathered h zs) (sym (drop_all i items le)) ∙ inv
 
 -- how many were told
 pub told_count : {M : Type 0} (f : Told → M) (new old : List Told) (ms : List M) → map f new ≡ map f old ++ ms → length new ≡ length old + length ms
@@ -51,32 +52,11 @@ told_count f new old ms e =
     sym (length-map new f) ∙ ap length e ∙ length-append (map f old) ms ∙ ap (λ n. n + length ms) (length-map old f)
 
 -- two parts, of which each was noted
-pub both_noted : {A B C : Type 0} (f : A → B → C) (a : Option A) (b : Option B) (before mid final : Bool) → mid ≡ (before || not (is_there a)) → final ≡ (mid || not (is_there b)) → final ≡ (before || not (is_there (joined f a b)))
-both_noted f (Some x) (Some y) before mid final e h = h ∙ ap (λ m. m || false) e ∙ or_none before
+pub both_noted : {A B C : Type 0} (g : A → B → C) (a : Option A) (b : Option B) (first mid last : Bool) → mid ≡ (first || not (is_there a)) → last ≡ (mid || not (is_there b)) → last ≡ (first || not (is_there (joined g a b)))
+both_noted {A = A} {B = B} g a b first mid last h k = k ∙ ap (λ m. m || not (is_there b)) h ∙ by a b first
   where
-    or_none : (b : Bool) → ((b || false) || false) ≡ (b || false)
-    or_none true = refl
-    or_none false = refl
-both_noted f (Some x) None before mid final e h = h ∙ ap (λ m. m || true) e ∙ or_one before
-  where
-    or_one : (b : Bool) → ((b || false) || true) ≡ (b || true)
-    or_one true = refl
-    or_one false = refl
-both_noted f None (Some y) before mid final e h = h ∙ ap (λ m. m || false) e ∙ or_none before
-  where
-    or_none : (b : Bool) → ((b || true) || false) ≡ (b || true)
-    or_none true = refl
-    or_none false = refl
-both_noted f None None before mid final e h = h ∙ ap (λ m. m || true) e ∙ or_two before
-  where
-    or_two : (b : Bool) → ((b || true) || true) ≡ (b || true)
-    or_two true = refl
-    or_two false = refl
-
-pub or_false : (b : Bool) → (b || false) ≡ b
-or_false true = refl
-or_false false = refl
-
-pub on_ok : {T E : Type 0} (r : Result T E) (P : Type 0) → P → OnOk r P
-on_ok (Ok x) P p = p
-on_ok (Err e) P p = tt
+    by : (a : Option A) (b : Option B) (first : Bool) → ((first || not (is_there a)) || not (is_there b)) ≡ (first || not (is_there (joined g a b)))
+    by a b true = refl
+    by None b false = refl
+    by (Some x) None false = refl
+    by (Some x) (Some y) false = refl

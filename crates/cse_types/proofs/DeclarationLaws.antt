@@ -1,7 +1,8 @@
 -- Declarations and procedures that are judged one after the other: what a loop over them keeps.
 use Rattle.std.proofs.Common.{◌≡◌, ℕ, ◌+◌, ◌<◌, ◌≤◌, Bool, true, false, List, [], ◌∷◌, ◌++◌, length, map, drop, get_or, Option, Some, None, refl, sym, ap, ◌∙◌, subst, arith, append_assoc, option_map}
 use Rattle.std.specs.Prelude.{◌&&◌, ◌||◌, not}
-use Rattle.std.proofs.lemmas.List.{length-map}
+use Rattle.std.proofs.lemmas.List.{length-map, append-nil, length-append}
+use Rattle.cse_lemmas.proofs.Lists.{drop_read}
 use Rattle.cse_syntax_tree.specs.Tree as syntax
 use Rattle.cse_syntax_tree.specs.declared.tree.Declaration as rust
 use Rattle.cse_types.specs.declared.told.Told.{Told}
@@ -10,18 +11,11 @@ use Rattle.cse_logic_names.specs.Scope.{Scope}
 use Rattle.cse_logic_names.specs.WellTyped.{declared_messages, messages_of}
 use Rattle.cse_types.specs.JudgeTree.{declaration_judged, behind, messages_with, messages_past, declarations_judged, behind_all}
 use Rattle.cse_logic_names.specs.Walk.{is_there, joined, so_far, found_more, only_if}
-use Rattle.cse_logic_names.proofs.Walks.{turn_is, there_map, map_found, drop_is, past, append_none}
-
-pub no_more : {A : Type 0} (xs : List A) → xs ++ [] ≡ xs
-no_more xs = append_none xs
-
-length_more : {A : Type 0} (xs ys : List A) → length (xs ++ ys) ≡ length xs + length ys
-length_more [] ys = omega arith
-length_more (x ∷ xs) ys = omega (arith, length_more xs ys)
+use Rattle.cse_logic_names.proofs.Walks.{turn_is, there_map, map_found}
 
 pub told_count : (ts ts' : List Told) (more : List (syntax.Message × Bool)) → map told_of ts' ≡ map told_of ts ++ more → length ts' ≡ length ts + length more
 told_count ts ts' more e =
-    sym (length-map ts' told_of) ∙ ap length e ∙ length_more (map told_of ts) more ∙ ap (λ n. n + length more) (length-map ts told_of)
+    sym (length-map ts' told_of) ∙ ap length e ∙ length-append (map told_of ts) more ∙ ap (λ n. n + length more) (length-map ts told_of)
 
 past_with : (n : ℕ) (d : syntax.Declaration) → n + length (messages_with d) ≡ messages_past n d
 past_with n (syntax.Numeric names) = omega arith
@@ -46,7 +40,7 @@ made_turn g b both there xs xs' y judged head rest all inv h e k t j =
 -- the list at its end
 pub made_end : {R B : Type 0} (g : R → B) (b : Bool) (xs : List R) (head all : Option (List B)) → head ≡ Some [] → so_far b (map g xs) head ≡ all → (b ≡ true → all ≡ Some (map g xs)) × (b ≡ false → all ≡ None) × (is_there all ≡ b)
 made_end g true xs head all h inv =
-    let is = sym inv ∙ ap (so_far true (map g xs)) h ∙ ap Some (append_none (map g xs)) in
+    let is = sym inv ∙ ap (so_far true (map g xs)) h ∙ ap Some (append-nil (map g xs)) in
     (λ t. is, λ f. absurd (true_not_false f), ap is_there is)
   where
     true_not_false : true ≡ false → ⊥
@@ -69,7 +63,7 @@ module _ (items : List rust.Declaration) (i : ℕ) (x : rust.Declaration) (lt : 
   d = syntax.declaration x
 
   next : drop i items ≡ x ∷ drop (i + 1) items
-  next = drop_is items i x lt is
+  next = drop_read items i x lt is
 
   pub declarations_head : (s s' : Scope) (ts ts' : List Told) → s' ≡ behind s (length ts) (syntax.declaration x) → map told_of ts' ≡ map told_of ts ++ messages_with (syntax.declaration x)
       → declarations_judged s (length ts) (map syntax.declaration (drop i items)) ≡ joined (λ y ys. y ∷ ys) (declaration_judged s (length ts) (syntax.declaration x)) (declarations_judged s' (length ts') (map syntax.declaration (drop (i + 1) items)))

@@ -11,14 +11,15 @@ use Rattle.cse_logic_names.specs.Scope.{Scope, Facts, meant}
 use Rattle.cse_logic_names.specs.Uses.{facts_of}
 use Rattle.cse_logic_names.specs.Walk.{is_there, joined}
 use Rattle.cse_logic_names.specs.WellTyped.{set_kind, size_of, rows_of, parameter_names, function_scope, messages_of}
+use Rattle.cse_logic_names.proofs.Walks.{there_map, joined_there}
 use Rattle.cse_logic_faults.specs.Faults.{Fault, unless, Counts}
 use Rattle.cse_logic_faults.specs.FaultsOfExpressions.{set_faults}
 use Rattle.cse_logic_faults.specs.FaultsOfStatements.{digits_faults, stmts_faults}
 use Rattle.cse_logic_expressions.specs.Judge.{number_set, is_number_kind}
 use Rattle.cse_logic_expressions.specs.JudgeStatement.{whole_judged, judge_block}
-use Rattle.cse_logic_expressions.proofs.Right.{For, for_map, for_joined, for_only}
+use Rattle.cse_logic_expressions.proofs.Right.{For, for_map, for_joined, for_only, for_any}
 use Rattle.cse_law_faults_are_told.specs.Counted.{ArrayIsCounted, FunctionIsCounted, IsCounted}
-use Rattle.cse_law_faults_are_told.proofs.Truths.{none, and_both, none_both, none_unless, there_map, there_if, there_both, told_both}
+use Rattle.cse_law_faults_are_told.proofs.Truths.{none, and_both, none_both, none_unless, there_if, told_both}
 use Rattle.cse_law_faults_are_told.proofs.Expressions.{set_told}
 use Rattle.cse_law_faults_are_told.proofs.Statements.{whole_told, block_told}
 use Rattle.cse_types.specs.JudgeTree.{are_new, is_free, is_new, names_of, set_rows, set_dimension, dimension_judged, dimensions_judged, cells_judged, array_of, array_judged, arrays_judged, function_of, function_judged, behind_function, alpha_of, declaration_judged, behind, messages_past, declarations_judged, behind_all}
@@ -70,14 +71,10 @@ module _ (s : Scope) where
   dimensions_told [] = refl
   dimensions_told (x ∷ xs) = told_both _ (dimension_judged s x) (dimensions_judged s xs) (dimension_faults s x) (dimensions_faults s xs) (dimension_told x) (dimensions_told xs)
 
-  any : {A : Type 0} (o : Option A) → For (λ x. Unit {0}) o
-  any None = tt
-  any (Some x) = tt
-
   dimensions_counted : (xs : List syntax.Dimension) → For (λ ys. length xs ≡ length ys) (dimensions_judged s xs)
   dimensions_counted [] = refl
   dimensions_counted (x ∷ xs) =
-      for_joined (λ y. Unit {0}) (λ ys. length xs ≡ length ys) (λ ys. length (x ∷ xs) ≡ length ys) (λ y ys. y ∷ ys) (λ y ys u h. omega (arith, h)) (dimension_judged s x) (dimensions_judged s xs) (any (dimension_judged s x)) (dimensions_counted xs)
+      for_joined (λ y. Unit {0}) (λ ys. length xs ≡ length ys) (λ ys. length (x ∷ xs) ≡ length ys) (λ y ys. y ∷ ys) (λ y ys u h. omega (arith, h)) (dimension_judged s x) (dimensions_judged s xs) (for_any (dimension_judged s x)) (dimensions_counted xs)
 
 cells_told : (xs : List syntax.Literal) → is_there (cells_judged xs) ≡ none (cells_faults xs)
 cells_told [] = refl
@@ -127,24 +124,21 @@ one_more_ended (Some g ∷ fs) (i ∷ is) rest n f h e = (h.0, one_more_ended fs
 
 -- ---- declarations
 
-both_there : {A B C : Type 0} (f : A → B → C) (a : Option A) (b : Option B) → is_there (joined f a b) ≡ true → (is_there a ≡ true) × (is_there b ≡ true)
-both_there f a b h = and_parts (is_there a) (is_there b) (sym (there_both f a b) ∙ h)
-
 both_none : (xs ys : List Fault) → none (xs ++ ys) ≡ true → (none xs ≡ true) × (none ys ≡ true)
 both_none xs ys h = and_parts (none xs) (none ys) (sym (none_both xs ys) ∙ h)
 
 -- the arrays are sound where the declarations are
 pub arrays_sound : (s : Scope) (n : ℕ) (ds : List syntax.Declaration) → is_there (declarations_judged s n ds) ≡ true → are_there (arrays_judged s ds) ≡ true
 arrays_sound s n [] h = refl
-arrays_sound s n (syntax.Numeric names ∷ ds) h = arrays_sound s n ds (both_there (λ y ys. y ∷ ys) (Some (Numeric names)) (declarations_judged s n ds) h).1
-arrays_sound s n (syntax.Alpha size names ∷ ds) h = arrays_sound s n ds (both_there (λ y ys. y ∷ ys) (option_map (alpha_of size names) (size_of 255 size)) (declarations_judged s n ds) h).1
+arrays_sound s n (syntax.Numeric names ∷ ds) h = arrays_sound s n ds (joined_there (λ y ys. y ∷ ys) (Some (Numeric names)) (declarations_judged s n ds) h).1
+arrays_sound s n (syntax.Alpha size names ∷ ds) h = arrays_sound s n ds (joined_there (λ y ys. y ∷ ys) (option_map (alpha_of size names) (size_of 255 size)) (declarations_judged s n ds) h).1
 arrays_sound s n (syntax.Array' x ∷ ds) h =
-    let parts = both_there (λ y ys. y ∷ ys) (option_map Array' (array_judged s x)) (declarations_judged s n ds) h in
-    let array = both_there (array_of x) (dimensions_judged s x.dimensions) (cells_judged x.cells) (sym (there_map Array' (array_judged s x)) ∙ parts.0) in
+    let parts = joined_there (λ y ys. y ∷ ys) (option_map Array' (array_judged s x)) (declarations_judged s n ds) h in
+    let array = joined_there (array_of x) (dimensions_judged s x.dimensions) (cells_judged x.cells) (sym (there_map Array' (array_judged s x)) ∙ parts.0) in
     and_both array.0 (arrays_sound s n ds parts.1)
 arrays_sound s n (syntax.Function' name ps body ∷ ds) h =
     let d = syntax.Function' name ps body in
-    ap are_there (sym (arrays_behind s n d ds)) ∙ arrays_sound (behind s n d) (messages_past n d) ds (both_there (λ y ys. y ∷ ys) (declaration_judged s n d) (declarations_judged (behind s n d) (messages_past n d) ds) h).1
+    ap are_there (sym (arrays_behind s n d ds)) ∙ arrays_sound (behind s n d) (messages_past n d) ds (joined_there (λ y ys. y ∷ ys) (declaration_judged s n d) (declarations_judged (behind s n d) (messages_past n d) ds) h).1
 
 -- and where these have no fault
 pub arrays_told : (c : Counts) (s : Scope) (n : ℕ) (ds : List syntax.Declaration) → none (declarations_faults c s n ds) ≡ true → are_there (arrays_judged s ds) ≡ true
@@ -162,15 +156,15 @@ arrays_told c s n (syntax.Function' name ps body ∷ ds) h =
 -- parameters are new where the declarations are sound
 pub parameters_sound : (s : Scope) (n : ℕ) (ds : List syntax.Declaration) → is_there (declarations_judged s n ds) ≡ true → are_parameters s.dictionary (names_of s.declared) ds ≡ true
 parameters_sound s n [] h = refl
-parameters_sound s n (syntax.Numeric names ∷ ds) h = parameters_sound s n ds (both_there (λ y ys. y ∷ ys) (Some (Numeric names)) (declarations_judged s n ds) h).1
-parameters_sound s n (syntax.Alpha size names ∷ ds) h = parameters_sound s n ds (both_there (λ y ys. y ∷ ys) (option_map (alpha_of size names) (size_of 255 size)) (declarations_judged s n ds) h).1
-parameters_sound s n (syntax.Array' x ∷ ds) h = parameters_sound s n ds (both_there (λ y ys. y ∷ ys) (option_map Array' (array_judged s x)) (declarations_judged s n ds) h).1
+parameters_sound s n (syntax.Numeric names ∷ ds) h = parameters_sound s n ds (joined_there (λ y ys. y ∷ ys) (Some (Numeric names)) (declarations_judged s n ds) h).1
+parameters_sound s n (syntax.Alpha size names ∷ ds) h = parameters_sound s n ds (joined_there (λ y ys. y ∷ ys) (option_map (alpha_of size names) (size_of 255 size)) (declarations_judged s n ds) h).1
+parameters_sound s n (syntax.Array' x ∷ ds) h = parameters_sound s n ds (joined_there (λ y ys. y ∷ ys) (option_map Array' (array_judged s x)) (declarations_judged s n ds) h).1
 parameters_sound s n (syntax.Function' name ps body ∷ ds) h =
     let d = syntax.Function' name ps body in
     let own = parameter_names ps in
     let new = are_new (is_new s.dictionary s.declared) [] own in
     let f = function_judged s n name ps body in
-    let parts = both_there (λ y ys. y ∷ ys) (option_map Function' f) (declarations_judged (behind s n d) (messages_past n d) ds) h in
+    let parts = joined_there (λ y ys. y ∷ ys) (option_map Function' f) (declarations_judged (behind s n d) (messages_past n d) ds) h in
     let found = and_parts new _ (sym (there_if new _) ∙ sym (there_map Function' f) ∙ parts.0) in
     and_both (sym (parameters_are_new s.dictionary s.declared [] own) ∙ found.0) (parameters_sound (behind s n d) (messages_past n d) ds parts.1)
 
@@ -205,7 +199,7 @@ module _ (c : Counts) where
 
   function_parameters : (s : Scope) (n : ℕ) (name : Spelling) (ps : List syntax.Parameter) (body : syntax.Stmts) → For (λ f. length ps ≡ length f.parameters) (function_judged s n name ps body)
   function_parameters s n name ps body =
-      for_only (λ f. length ps ≡ length f.parameters) (are_new (is_new s.dictionary s.declared) [] (parameter_names ps)) _ (λ h. for_map (λ x. Unit {0}) (λ f. length ps ≡ length f.parameters) (function_of s name ps) (λ x u. refl) _ (any s _))
+      for_only (λ f. length ps ≡ length f.parameters) (are_new (is_new s.dictionary s.declared) [] (parameter_names ps)) _ (λ h. for_map (λ x. Unit {0}) (λ f. length ps ≡ length f.parameters) (function_of s name ps) (λ x u. refl) _ (for_any _))
 
   pub declarations_told : (s : Scope) (n : ℕ) (ds : List syntax.Declaration) → IsReady s ds → AreTold s n ds
   declarations_told s n [] h = record { told = refl; counted = λ e. record { arrays = h.arrays; functions = ended_counted s.functions c.parameters [] h.functions } }
@@ -213,21 +207,21 @@ module _ (c : Counts) where
       let rest = declarations_told s n ds (record { parameters = h.parameters; arrays = h.arrays; functions = h.functions }) in
       record {
         told = told_both (λ y ys. y ∷ ys) (Some (Numeric names)) (declarations_judged s n ds) [] (declarations_faults c s n ds) refl rest.told;
-        counted = λ e. rest.counted (both_there (λ y ys. y ∷ ys) (Some (Numeric names)) (declarations_judged s n ds) e).1;
+        counted = λ e. rest.counted (joined_there (λ y ys. y ∷ ys) (Some (Numeric names)) (declarations_judged s n ds) e).1;
       }
   declarations_told s n (syntax.Alpha size names ∷ ds) h =
       let rest = declarations_told s n ds (record { parameters = h.parameters; arrays = h.arrays; functions = h.functions }) in
       let first = option_map (alpha_of size names) (size_of 255 size) in
       record {
         told = told_both (λ y ys. y ∷ ys) first (declarations_judged s n ds) (size_faults 255 size) (declarations_faults c s n ds) (there_map (alpha_of size names) (size_of 255 size) ∙ size_told 255 size) rest.told;
-        counted = λ e. rest.counted (both_there _ first (declarations_judged s n ds) e).1;
+        counted = λ e. rest.counted (joined_there _ first (declarations_judged s n ds) e).1;
       }
   declarations_told s n (syntax.Array' x ∷ ds) h =
       let rest = declarations_told s n ds (record { parameters = h.parameters; arrays = h.arrays; functions = h.functions }) in
       let first = option_map Array' (array_judged s x) in
       record {
         told = told_both (λ y ys. y ∷ ys) first (declarations_judged s n ds) (dimensions_faults s x.dimensions ++ cells_faults x.cells) (declarations_faults c s n ds) (there_map Array' (array_judged s x) ∙ array_told s x) rest.told;
-        counted = λ e. rest.counted (both_there _ first (declarations_judged s n ds) e).1;
+        counted = λ e. rest.counted (joined_there _ first (declarations_judged s n ds) e).1;
       }
   declarations_told s n (syntax.Function' name ps body ∷ ds) h =
       by (function_judged s n name ps body) (function_parameters s n name ps body) (function_told s n name ps body ds h) (λ f ready. declarations_told (behind_function s (Some f)) (n + length (messages_of body)) ds ready)
@@ -253,5 +247,5 @@ module _ (c : Counts) where
           let rest = ih y (record { parameters = parts.1; arrays = h.arrays; functions = ended }) in
           record {
             told = told_both (λ y ys. y ∷ ys) (Some (Function' y)) (rest_judged (Some y)) faults (rest_faults (Some y)) e rest.told;
-            counted = λ t. rest.counted (both_there (λ y ys. y ∷ ys) (Some (Function' y)) (rest_judged (Some y)) t).1;
+            counted = λ t. rest.counted (joined_there (λ y ys. y ∷ ys) (Some (Function' y)) (rest_judged (Some y)) t).1;
           }

@@ -1,6 +1,8 @@
 -- The messages of a source, one after the other.
 use Rattle.std.proofs.Common.{◌≡◌, ℕ, ◌+◌, ◌<◌, ◌≤◌, Bool, true, false, zero, suc, List, [], ◌∷◌, ◌++◌, length, map, drop, drop-cons, get_or, refl, sym, ap, ◌∙◌, append_assoc, arith}
 use Rattle.std.specs.Prelude.{◌&&◌}
+use Rattle.std.proofs.lemmas.List.{append-nil, drop_all}
+use Rattle.std.proofs.lemmas.Bool.{and_parts}
 use Rattle.cse_syntax_tree.specs.Tree as syntax
 use Rattle.cse_logic_tree.specs.Typed.{MessageEntry}
 use Rattle.cse_types.specs.declared.told.Told.{Told}
@@ -8,14 +10,12 @@ use Rattle.cse_types.specs.Told.{told_of}
 use Rattle.cse_types.specs.Entries.{is_said, are_said}
 use Rattle.cse_logic_names.specs.MessageFile.{MessageText}
 use Rattle.cse_logic_names.specs.WellTyped.{entry_of}
-use Rattle.cse_logic_names.proofs.Walks.{past, append_none}
-use Rattle.cse_logic_expressions.proofs.Right.{and_holds}
 
 -- the member at a place is said
 pub said_at : (items : List Told) (i : ℕ) (d : Told) → i < length items → are_said (map told_of items) ≡ true → is_said (told_of (get_or items i d)).0 ≡ true
 said_at [] i d lt h = absurd (omega (arith, lt))
-said_at (x ∷ xs) zero d lt h = (and_holds (is_said (told_of x).0) (are_said (map told_of xs)) h).0
-said_at (x ∷ xs) (suc i) d lt h = said_at xs i d (omega (arith, lt)) (and_holds (is_said (told_of x).0) (are_said (map told_of xs)) h).1
+said_at (x ∷ xs) zero d lt h = (and_parts (is_said (told_of x).0) (are_said (map told_of xs)) h).0
+said_at (x ∷ xs) (suc i) d lt h = said_at xs i d (omega (arith, lt)) (and_parts (is_said (told_of x).0) (are_said (map told_of xs)) h).1
 
 module _ (messages : List MessageText) (items : List Told) (i : ℕ) where
   pub entries_turn : (d : Told) → i < length items → (found found' total : List MessageEntry) → found ++ map (entry_of messages) (map told_of (drop i items)) ≡ total → found' ≡ found ++ entry_of messages (told_of (get_or items i d)) ∷ []
@@ -29,4 +29,4 @@ module _ (messages : List MessageText) (items : List Told) (i : ℕ) where
       ∙ inv
 
   pub entries_end : length items ≤ i → (found total : List MessageEntry) → found ++ map (entry_of messages) (map told_of (drop i items)) ≡ total → found ≡ total
-  entries_end le found total inv = sym (append_none found) ∙ ap (λ l. found ++ map (entry_of messages) (map told_of l)) (sym (past items i le)) ∙ inv
+  entries_end le found total inv = sym (append-nil found) ∙ ap (λ l. found ++ map (entry_of messages) (map told_of l)) (sym (drop_all i items le)) ∙ inv

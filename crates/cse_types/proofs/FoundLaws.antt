@@ -1,5 +1,6 @@
 -- Faults of names, declarations and procedures that are found one after the other.
 use Rattle.std.proofs.Common.{◌≡◌, ℕ, ◌+◌, ◌<◌, ◌≤◌, get_or, List, [], ◌∷◌, ◌++◌, length, map, drop, refl, ap, sym, ◌∙◌, append_assoc}
+use Rattle.std.proofs.lemmas.List.{append-nil, drop_all, drop_more}
 use Rattle.cse_dict.specs.Dictionary.{DictionaryText}
 use Rattle.cse_dict.specs.Keys.{kept_name}
 use Rattle.cse_syntax_tree.specs.Tree as syntax
@@ -11,9 +12,8 @@ use Rattle.cse_syntax_tree.specs.declared.tree.Dimension.{Dimension}
 use Rattle.cse_syntax_tree.specs.declared.tree.Literal.{Literal}
 use Rattle.cse_syntax_tree.specs.declared.tree.Procedure.{Procedure}
 use Rattle.cse_logic_names.specs.Scope.{Scope}
-use Rattle.cse_logic_names.proofs.Walks.{past, append_none}
 use Rattle.cse_logic_faults.specs.Faults.{Fault, Counts}
-use Rattle.cse_logic_faults.proofs.Lists.{next_at, turn_with, state_turn}
+use Rattle.cse_logic_faults.proofs.Lists.{turn_with, state_turn}
 use Rattle.cse_types.specs.declared.told.Told.{Told}
 use Rattle.cse_types.specs.Told.{told_of}
 use Rattle.cse_types.specs.JudgeTree.{behind, messages_past, messages_with}
@@ -30,14 +30,10 @@ pair_is a a' b b' e f = ap (λ x. pair x b) e ∙ ap (λ y. pair a' y) f
 
 -- the next member of a list, where it is copied
 next_in : {A : Type 0} (copied items : List A) → copied ≡ items → (i : ℕ) (x : A) → i < length copied → drop i items ≡ get_or copied i x ∷ drop (i + 1) items
-next_in copied items same i x lt = sym (ap (drop i) same) ∙ next_at copied i x lt ∙ ap (λ ys. get_or copied i x ∷ drop (i + 1) ys) same
-
--- nothing is left behind the last
-pub found_end : {A : Type 0} (k : List A → List Fault) → k [] ≡ [] → (items : List A) (i : ℕ) → length items ≤ i → (g total : List Fault) → g ++ k (drop i items) ≡ total → g ≡ total
-found_end k h items i le g total inv = sym (append_none g) ∙ ap (λ l. g ++ l) (sym (ap k (past items i le) ∙ h)) ∙ inv
+next_in copied items same i x lt = sym (ap (drop i) same) ∙ drop_more copied i x lt ∙ ap (λ ys. get_or copied i x ∷ drop (i + 1) ys) same
 
 pub state_end : {S A : Type 0} (k : S → List A → S) → ((s : S) → k s [] ≡ s) → (items : List A) (i : ℕ) → length items ≤ i → (s total : S) → k s (drop i items) ≡ total → s ≡ total
-state_end k h items i le s total inv = sym (h s) ∙ ap (k s) (sym (past items i le)) ∙ inv
+state_end k h items i le s total inv = sym (h s) ∙ ap (k s) (sym (drop_all i items le)) ∙ inv
 
 -- ---- names
 
@@ -126,7 +122,7 @@ pub counts_turn : (here rest : List Declaration) (x : Declaration) → here ≡ 
 counts_turn = state_turn (λ c (x : Declaration). count_behind c (syntax.declaration x)) (λ c (xs : List Declaration). counts_after c (map syntax.declaration xs)) (λ c x xs. more_counts c (syntax.declaration x) (map syntax.declaration xs))
 
 none_more : (c : Counts) → counts_after c [] ≡ c
-none_more c = ap (λ ps. record { parameters = ps; dimensions = c.dimensions ++ [] }) (append_none c.parameters) ∙ ap (λ ns. record { parameters = c.parameters; dimensions = ns }) (append_none c.dimensions)
+none_more c = ap (λ ps. record { parameters = ps; dimensions = c.dimensions ++ [] }) (append-nil c.parameters) ∙ ap (λ ns. record { parameters = c.parameters; dimensions = ns }) (append-nil c.dimensions)
 
 pub counts_end : (items : List Declaration) (i : ℕ) → length items ≤ i → (c total : Counts) → counts_after c (map syntax.declaration (drop i items)) ≡ total → c ≡ total
 counts_end = state_end (λ c (xs : List Declaration). counts_after c (map syntax.declaration xs)) none_more

@@ -5,8 +5,10 @@ use Rattle.std.specs.List.{list_any}
 use Rattle.std.specs.Str.{bytes_eq}
 use Rattle.std.specs.Char.{to_ascii_uppercase}
 use Rattle.std.proofs.lemmas.Bool.{false≢true}
-use Rattle.std.proofs.lemmas.List.{length-map}
+use Rattle.std.proofs.lemmas.List.{length-map, append-nil, drop_all}
 use Rattle.std.proofs.lemmas.Str.Ascii.{uppercase-uppercase}
+use Rattle.cse_lemmas.proofs.Booleans.{and-false, and-true, or-false, or-true}
+use Rattle.cse_lemmas.proofs.Lists.{drop_read}
 use Rattle.cse_dict.specs.Dictionary.{DictionaryText}
 use Rattle.cse_dict.specs.Keys.{kept_name}
 use Rattle.cse_syntax_tree.specs.Tree as syntax
@@ -18,7 +20,6 @@ use Rattle.cse_logic_names.specs.Scope.{Scope, in_dictionary}
 use Rattle.cse_types.specs.Fresh.{all_after, is_fresh, with_fresh, fresh_names}
 use Rattle.cse_types.specs.JudgeTree.{are_new}
 use Rattle.cse_logic_names.specs.Walk.{is_there}
-use Rattle.cse_logic_names.proofs.Walks.{drop_is, past, append_none}
 
 kept_twice : (xs : List ℕ) → kept_name (kept_name xs) ≡ kept_name xs
 kept_twice [] = refl
@@ -34,10 +35,10 @@ kept_there d kept xs e = sym (ap (in_dictionary d) e ∙ kept_in_dictionary d xs
 pub after_turn : {S A : Type 0} (step : S → A → S) (items : List A) (i : ℕ) (x : A) → i < length items → x ≡ get_or items i x → (s s' total : S) → all_after step s (drop i items) ≡ total → s' ≡ step s x
     → all_after step s' (drop (i + 1) items) ≡ total
 after_turn step items i x lt is s s' total inv e =
-    ap (λ z. all_after step z (drop (i + 1) items)) e ∙ ap (all_after step s) (sym (drop_is items i x lt is)) ∙ inv
+    ap (λ z. all_after step z (drop (i + 1) items)) e ∙ ap (all_after step s) (sym (drop_read items i x lt is)) ∙ inv
 
 pub after_end : {S A : Type 0} (step : S → A → S) (items : List A) (i : ℕ) → length items ≤ i → (s total : S) → all_after step s (drop i items) ≡ total → s ≡ total
-after_end step items i le s total inv = ap (all_after step s) (sym (past items i le)) ∙ inv
+after_end step items i le s total inv = ap (all_after step s) (sym (drop_all i items le)) ∙ inv
 
 -- the same, where the member is copied
 pub after_at : {S A : Type 0} (step : S → A → S) (items : List A) (i : ℕ) (d : A) (s s' total : S) → i < length items → all_after step s (drop i items) ≡ total → s' ≡ step s (get_or items i d)
@@ -52,16 +53,8 @@ record AreFresh (test : List ℕ → Bool) (s : Fresh) (xs : List (List ℕ)) : 
   sound : (all_after (with_fresh test) s xs).is_sound ≡ (s.is_sound && are_new test s.names xs)
   names : (all_after (with_fresh test) s xs).is_sound ≡ true → (all_after (with_fresh test) s xs).names ≡ s.names ++ xs
 
-and_false : (b : Bool) → (b && false) ≡ false
-and_false true = refl
-and_false false = refl
-
 are_fresh : (test : List ℕ → Bool) (s : Fresh) (xs : List (List ℕ)) → AreFresh test s xs
-are_fresh test s [] = record { sound = sym (and_true s.is_sound); names = λ h. sym (append_none s.names) }
-  where
-    and_true : (b : Bool) → (b && true) ≡ b
-    and_true true = refl
-    and_true false = refl
+are_fresh test s [] = record { sound = sym (and-true s.is_sound); names = λ h. sym (append-nil s.names) }
 are_fresh test s (x ∷ xs) = by (is_fresh test s.names x) refl (λ z. are_fresh test z xs)
   where
     by : (b : Bool) → is_fresh test s.names x ≡ b → ((z : Fresh) → AreFresh test z xs) → AreFresh test s (x ∷ xs)
@@ -78,7 +71,7 @@ are_fresh test s (x ∷ xs) = by (is_fresh test s.names x) refl (λ z. are_fresh
         let step : with_fresh test s x ≡ z = ap (λ b. if b then record { names = s.names ++ x ∷ []; is_sound = s.is_sound } else z) e in
         let rest = ih z in
         record {
-          sound = ap (λ (y : Fresh). (all_after (with_fresh test) y xs).is_sound) step ∙ rest.sound ∙ sym (and_false s.is_sound) ∙ ap (λ b. s.is_sound && (b && are_new test (s.names ++ x ∷ []) xs)) (sym e);
+          sound = ap (λ (y : Fresh). (all_after (with_fresh test) y xs).is_sound) step ∙ rest.sound ∙ sym (and-false s.is_sound) ∙ ap (λ b. s.is_sound && (b && are_new test (s.names ++ x ∷ []) xs)) (sym e);
           names = λ h. absurd (false≢true (sym rest.sound ∙ sym (ap (λ (y : Fresh). (all_after (with_fresh test) y xs).is_sound) step) ∙ h));
         }
 
@@ -104,18 +97,10 @@ fresh_noted test s s' x first old new e inv h = by (is_fresh test s.names x) ref
     by : (b : Bool) → is_fresh test s.names x ≡ b → new ≡ (first || not s'.is_sound)
     by true k =
         let same : s'.is_sound ≡ s.is_sound = ap (λ (z : Fresh). z.is_sound) e ∙ rw k refl in
-        h ∙ ap (λ b. old || not b) k ∙ or_false old ∙ inv ∙ ap (λ b. first || not b) (sym same)
-      where
-        or_false : (b : Bool) → (b || false) ≡ b
-        or_false true = refl
-        or_false false = refl
+        h ∙ ap (λ b. old || not b) k ∙ or-false old ∙ inv ∙ ap (λ b. first || not b) (sym same)
     by false k =
         let same : s'.is_sound ≡ false = ap (λ (z : Fresh). z.is_sound) e ∙ rw k refl in
-        h ∙ ap (λ b. old || not b) k ∙ or_true old ∙ sym (or_true first) ∙ ap (λ b. first || not b) (sym same)
-      where
-        or_true : (b : Bool) → (b || true) ≡ true
-        or_true true = refl
-        or_true false = refl
+        h ∙ ap (λ b. old || not b) k ∙ or-true old ∙ sym (or-true first) ∙ ap (λ b. first || not b) (sym same)
 
 pub parameter_turn : (test : List ℕ → Bool) (items : List Parameter) (i : ℕ) (x : Parameter) (s s' total : Fresh) → i < length items → x ≡ get_or items i x → all_after (with_parameter test) s (drop i items) ≡ total → s' ≡ with_fresh test s (kept_name x.name.text.now)
     → all_after (with_parameter test) s' (drop (i + 1) items) ≡ total

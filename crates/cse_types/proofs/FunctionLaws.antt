@@ -1,6 +1,6 @@
 -- A function, judged in the scope that its parameters make.
 use Rattle.std.proofs.Common.{◌≡◌, ℕ, Bool, true, false, List, [], ◌∷◌, ◌++◌, length, map, Option, Some, None, refl, sym, ap, ◌∙◌}
-use Rattle.std.specs.Prelude.{◌||◌, not, option_map, Result, Ok, Err, OnOk}
+use Rattle.std.specs.Prelude.{◌||◌, not, option_map}
 use Rattle.cse_syntax_tree.specs.Tree as syntax
 use Rattle.cse_syntax_tree.specs.Tree.{Spelling}
 use Rattle.cse_logic_tree.specs.Typed.{Statements, Function}
@@ -44,7 +44,3 @@ function_noted s n name ps body first mid last h k =
 pub with_facts : {A B : Type 0} (g : A → Function) (h : Function → B) (o : Option A) → option_map (λ p. h (g p)) o ≡ option_map h (option_map g o)
 with_facts g h None = refl
 with_facts g h (Some p) = refl
-
-pub where_ok : {A E : Type 0} (r : Result A E) (P : Type 0) → P → OnOk r P
-where_ok (Ok x) P p = p
-where_ok (Err e) P p = tt

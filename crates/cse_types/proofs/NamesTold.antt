@@ -3,23 +3,24 @@ use Rattle.std.specs.Prelude.{Bool, true, false, ◌&&◌, ◌||◌, not, if◌t
 use Rattle.std.specs.List.{list_any}
 use Rattle.std.specs.Map.{lookup}
 use Rattle.std.specs.Str.{bytes_eq}
-use Rattle.std.proofs.Common.{◌≡◌, ℕ, ◌+◌, List, [], ◌∷◌, ◌++◌, length, Option, Some, None, is_some, refl, sym, ap, ◌∙◌, append_assoc}
+use Rattle.std.proofs.Common.{◌≡◌, ℕ, ◌+◌, List, [], ◌∷◌, ◌++◌, length, refl, sym, ap, ◌∙◌, append_assoc}
 use Rattle.std.proofs.lemmas.Bool.{and_parts, not-true}
 use Rattle.std.proofs.lemmas.Cmp.{nat_list_eq_equiv}
 use Rattle.std.proofs.lemmas.Slice.Eq.{bytes_eq-Decides}
 use Rattle.std.proofs.lemmas.List.Folds.{list_any-append}
+use Rattle.std.proofs.lemmas.List.{append-nil}
+use Rattle.cse_lemmas.proofs.Booleans.{and_assoc, and-true}
 use Rattle.cse_dict.specs.Dictionary.{DictionaryText}
 use Rattle.cse_dict.specs.Keys.{kept_name}
 use Rattle.cse_syntax_tree.specs.Tree as syntax
 use Rattle.cse_syntax_tree.specs.Tree.{Spelling}
 use Rattle.cse_logic_names.specs.declared.meaning.Meaning.{Meaning}
 use Rattle.cse_logic_names.specs.Scope.{declared_from, numbered_from}
-use Rattle.cse_logic_names.specs.Walk.{is_there}
 use Rattle.cse_logic_names.specs.WellTyped.{parameter_names}
 use Rattle.cse_logic_names.proofs.NameLaws.{has_named}
-use Rattle.cse_logic_names.proofs.Walks.{append_none}
+use Rattle.cse_logic_names.proofs.Walks.{some_there}
 use Rattle.cse_logic_faults.specs.Faults.{Fault}
-use Rattle.cse_law_faults_are_told.proofs.Truths.{none, and_both, and_true, and_flip, and_group, and_second, and_pairs, none_both, none_beside}
+use Rattle.cse_law_faults_are_told.proofs.Truths.{none, and_both, and_flip, and_second, and_pairs, none_both, none_beside}
 use Rattle.cse_types.specs.JudgeTree.{are_new, is_free, is_new, names_of}
 use Rattle.cse_types.specs.SourceFaults.{and_name, and_names, kept_names, is_untaken, name_faults, new_names_faults, spelled, names_faults}
 
@@ -45,7 +46,7 @@ apart_of_none (x ∷ xs) = apart_of_none xs
 apart_more : (found xs ys : List (List ℕ)) → are_apart found (xs ++ ys) ≡ (are_apart found xs && are_apart found ys)
 apart_more found [] ys = refl
 apart_more found (x ∷ xs) ys =
-    ap (λ b. not (list_any (bytes_eq x) found) && b) (apart_more found xs ys) ∙ sym (and_group (not (list_any (bytes_eq x) found)) (are_apart found xs) (are_apart found ys))
+    ap (λ b. not (list_any (bytes_eq x) found) && b) (apart_more found xs ys) ∙ sym (and_assoc (not (list_any (bytes_eq x) found)) (are_apart found xs) (are_apart found ys))
 
 apart_of_both : (xs ys zs : List (List ℕ)) → are_apart (xs ++ ys) zs ≡ (are_apart xs zs && are_apart ys zs)
 apart_of_both xs ys [] = refl
@@ -71,22 +72,18 @@ apart_flip xs (y ∷ ys) = ap (λ b. not (list_any (bytes_eq y) xs) && b) (apart
 -- ---- names that are new
 
 new_more : (test : List ℕ → Bool) (found xs ys : List (List ℕ)) → are_new test found (xs ++ ys) ≡ (are_new test found xs && are_new test (found ++ xs) ys)
-new_more test found [] ys = ap (λ l. are_new test l ys) (sym (append_none found))
+new_more test found [] ys = ap (λ l. are_new test l ys) (sym (append-nil found))
 new_more test found (x ∷ xs) ys =
     let one = test x && not (list_any (bytes_eq x) found) in
     ap (λ b. one && b) (new_more test (found ++ x ∷ []) xs ys ∙ ap (λ l. are_new test (found ++ x ∷ []) xs && are_new test l ys) (append_assoc found (x ∷ []) xs))
-    ∙ sym (and_group one (are_new test (found ++ x ∷ []) xs) (are_new test (found ++ x ∷ xs) ys))
-
-some_there : {A : Type 0} (o : Option A) → is_some o ≡ is_there o
-some_there None = refl
-some_there (Some x) = refl
+    ∙ sym (and_assoc one (are_new test (found ++ x ∷ []) xs) (are_new test (found ++ x ∷ xs) ys))
 
 -- a name that nothing bears is free, and none of those declared
 new_is : (d : DictionaryText) (declared : List (List ℕ × Meaning)) (name : List ℕ) → is_new d declared name ≡ (is_free d name && not (list_any (bytes_eq name) (names_of declared)))
 new_is d declared name = ap (λ b. is_free d name && not b) (sym (has_named (λ k. k) (bytes_eq name) declared ∙ some_there (lookup (bytes_eq name) declared)))
 
 middle_last : (a b c : Bool) → ((a && b) && c) ≡ ((a && c) && b)
-middle_last a b c = and_group a b c ∙ ap (λ t. a && t) (and_flip b c) ∙ sym (and_group a c b)
+middle_last a b c = and_assoc a b c ∙ ap (λ t. a && t) (and_flip b c) ∙ sym (and_assoc a c b)
 
 pub parameters_are_new : (d : DictionaryText) (declared : List (List ℕ × Meaning)) (found xs : List (List ℕ))
     → are_new (is_new d declared) found xs ≡ (are_new (is_free d) found xs && are_apart (names_of declared) xs)
@@ -105,7 +102,7 @@ and_new : (found : List (List ℕ)) (x : List ℕ) → not (list_any (bytes_eq x
 and_new found x h = ap (λ b. if b then found else found ++ x ∷ []) (not-true (list_any (bytes_eq x) found) h)
 
 and_all_new : (test : List ℕ → Bool) (found xs : List (List ℕ)) → are_new test found xs ≡ true → and_names found xs ≡ found ++ xs
-and_all_new test found [] h = sym (append_none found)
+and_all_new test found [] h = sym (append-nil found)
 and_all_new test found (x ∷ xs) h =
     let parts = and_parts (test x && not (list_any (bytes_eq x) found)) (are_new test (found ++ x ∷ []) xs) h in
     let new = and_parts (test x) (not (list_any (bytes_eq x) found)) parts.0 in
@@ -142,12 +139,12 @@ apart_and_name found x [] = refl
 apart_and_name found x (y ∷ ys) = and_both (ap not (any_and_name x y found)) (apart_and_name found x ys)
 
 apart_and_names : (found xs ys : List (List ℕ)) → are_apart (and_names found xs) ys ≡ (are_apart found ys && are_apart xs ys)
-apart_and_names found [] ys = sym (ap (λ b. are_apart found ys && b) (apart_of_none ys) ∙ and_true (are_apart found ys))
+apart_and_names found [] ys = sym (ap (λ b. are_apart found ys && b) (apart_of_none ys) ∙ and-true (are_apart found ys))
 apart_and_names found (x ∷ xs) ys =
     let one = x ∷ [] in
     apart_and_names (and_name found x) xs ys
     ∙ ap (λ b. b && are_apart xs ys) (apart_and_name found x ys ∙ apart_of_both found one ys)
-    ∙ and_group (are_apart found ys) (are_apart one ys) (are_apart xs ys)
+    ∙ and_assoc (are_apart found ys) (are_apart one ys) (are_apart xs ys)
     ∙ ap (λ b. are_apart found ys && b) (sym (apart_of_both one xs ys))
 
 -- ---- the names of declarations
@@ -194,10 +191,10 @@ function_order : (name apart names others parameters now later rest : Bool)
     → ((name && apart) && ((parameters && now) && ((names && (others && later)) && rest))) ≡ (((name && names) && (apart && others)) && ((parameters && (now && later)) && rest))
 function_order name apart names others parameters now later rest =
     let p = parameters && now in
-    ap (λ b. (name && apart) && (p && b)) (ap (λ b. b && rest) (sym (and_group names others later)) ∙ and_group (names && others) later rest)
+    ap (λ b. (name && apart) && (p && b)) (ap (λ b. b && rest) (sym (and_assoc names others later)) ∙ and_assoc (names && others) later rest)
     ∙ ap (λ b. (name && apart) && b) (and_second p (names && others) (later && rest))
-    ∙ sym (and_group (name && apart) (names && others) (p && (later && rest)))
-    ∙ and_both (and_pairs name apart names others) (sym (and_group p later rest) ∙ ap (λ b. b && rest) (and_group parameters now later))
+    ∙ sym (and_assoc (name && apart) (names && others) (p && (later && rest)))
+    ∙ and_both (and_pairs name apart names others) (sym (and_assoc p later rest) ∙ ap (λ b. b && rest) (and_assoc parameters now later))
 
 module _ (d : DictionaryText) where
   -- a name, and what stands behind it
@@ -233,7 +230,7 @@ module _ (d : DictionaryText) where
       let others = are_new (is_free d) (names ++ new) (names_in ds) in
       let others_apart = are_apart parameters (names_in ds) in
       and_both h k
-      ∙ sym (and_group (one && apart) (others && others_apart) (are_parameters d total ds))
+      ∙ sym (and_assoc (one && apart) (others && others_apart) (are_parameters d total ds))
       ∙ ap (λ b. b && are_parameters d total ds) (and_pairs one apart others others_apart ∙ and_both (sym (new_more (is_free d) names new (names_in ds))) (sym (apart_more parameters new (names_in ds))))
 
   globals_told : (names parameters total : List (List ℕ)) (xs : List Spelling) (ds : List syntax.Declaration)
@@ -259,7 +256,7 @@ module _ (d : DictionaryText) where
       let new = is_free d kept && not (list_any (bytes_eq kept) names) in
       let other = not (list_any (bytes_eq kept) parameters) in
       name_told names parameters x.name (λ l. names_faults d l parameters ds)
-      ∙ more_told names parameters (kept ∷ []) total ds (new && other) _ (sym (and_both (and_true new) (and_true other)))
+      ∙ more_told names parameters (kept ∷ []) total ds (new && other) _ (sym (and_both (and-true new) (and-true other)))
       (names_told (names ++ kept ∷ []) parameters total ds (e ∙ sym (append_assoc names (kept ∷ []) (names_in ds))))
   names_told names parameters total (syntax.Function' name ps body ∷ ds) e =
       let kept = kept_name name.text in

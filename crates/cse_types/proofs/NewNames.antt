@@ -4,38 +4,27 @@ use Rattle.std.specs.List.{AllByRecursion, IsDistinct, list_any}
 use Rattle.std.specs.Str.{bytes_eq}
 use Rattle.std.specs.Map.{lookup}
 use Rattle.std.proofs.Common.{◌≡◌, ℕ, List, [], ◌∷◌, ◌++◌, map, Option, Some, None, refl, sym, ap, ◌∙◌}
-use Rattle.std.proofs.lemmas.Bool.{false≢true}
+use Rattle.std.proofs.lemmas.Bool.{false≢true, and_parts, not-true, or_from}
 use Rattle.std.proofs.lemmas.Cmp.{nat_list_eq_equiv}
 use Rattle.std.proofs.lemmas.List.Folds.{list_any-append}
 use Rattle.std.proofs.lemmas.Map.Keys.{IsDistinct-cons, IsDistinct-head, IsDistinct-tail}
 use Rattle.std.proofs.lemmas.Map.Made.{IsDistinct-from_count}
+use Rattle.cse_lemmas.proofs.Lists.{AllByRecursion-weaker}
 use Rattle.cse_types.specs.JudgeTree.{are_new}
 use Rattle.cse_logic_names.specs.Walk.{is_there}
-use Rattle.cse_logic_expressions.proofs.Right.{and_holds, not_holds}
 
 -- no name is one of those found
 abbrev pub AreApart : List (List ℕ) → List (List ℕ) → Type 0
 AreApart found xs = AllByRecursion (λ x. list_any (bytes_eq x) found ≡ false) xs
 
-pub all_so : {A : Type 0} (P Q : A → Type 0) → ((x : A) → P x → Q x) → (xs : List A) → AllByRecursion P xs → AllByRecursion Q xs
-all_so P Q f [] h = tt
-all_so P Q f (x ∷ xs) h = (f x h.0, all_so P Q f xs h.1)
-
 pub all_of_map : {A B : Type 0} (P : B → Type 0) (g : A → B) (xs : List A) → AllByRecursion P (map g xs) → AllByRecursion (λ x. P (g x)) xs
 all_of_map P g [] h = tt
 all_of_map P g (x ∷ xs) h = (h.0, all_of_map P g xs h.1)
-
-pub all_map : {A B : Type 0} (P : B → Type 0) (g : A → B) (xs : List A) → AllByRecursion (λ x. P (g x)) xs → AllByRecursion P (map g xs)
-all_map P g [] h = tt
-all_map P g (x ∷ xs) h = (h.0, all_map P g xs h.1)
 
 neither : (a b : Bool) → (a || (b || false)) ≡ false → (a ≡ false) × (b ≡ false)
 neither true b h = (h, absurd (false≢true (sym h)))
 neither false true h = (refl, h)
 neither false false h = (refl, refl)
-
-none_of_both : (a b : Bool) → a ≡ false → b ≡ false → (a || (b || false)) ≡ false
-none_of_both a b h k = rw (h, k) refl
 
 before : (found : List (List ℕ)) (x y : List ℕ) → list_any (bytes_eq y) (found ++ x ∷ []) ≡ false → (list_any (bytes_eq y) found ≡ false) × (bytes_eq y x ≡ false)
 before found x y h = neither (list_any (bytes_eq y) found) (bytes_eq y x) (sym (list_any-append (bytes_eq y) found (x ∷ [])) ∙ h)
@@ -46,17 +35,17 @@ flips x y = nat_list_eq_equiv.symm x y
 after_one : (found : List (List ℕ)) (x : List ℕ) (ys : List (List ℕ)) → AllByRecursion (λ y. bytes_eq x y ≡ false) ys → AreApart found ys → AreApart (found ++ x ∷ []) ys
 after_one found x [] h k = tt
 after_one found x (y ∷ ys) h k =
-    (list_any-append (bytes_eq y) found (x ∷ []) ∙ none_of_both (list_any (bytes_eq y) found) (bytes_eq y x) k.0 (flips y x ∙ h.0), after_one found x ys h.1 k.1)
+    (list_any-append (bytes_eq y) found (x ∷ []) ∙ or_from (list_any (bytes_eq y) found) ((bytes_eq y x) || false) k.0 (or_from (bytes_eq y x) false (flips y x ∙ h.0) refl), after_one found x ys h.1 k.1)
 
 pub new_right : (test : List ℕ → Bool) (found xs : List (List ℕ)) → are_new test found xs ≡ true → AllByRecursion (λ x. test x ≡ true) xs × IsDistinct bytes_eq xs × AreApart found xs
 new_right test found [] h = (tt, IsDistinct-from_count nat_list_eq_equiv [] refl, tt)
 new_right test found (x ∷ xs) h =
-    let a = and_holds (test x && not (list_any (bytes_eq x) found)) (are_new test (found ++ x ∷ []) xs) h in
-    let b = and_holds (test x) (not (list_any (bytes_eq x) found)) a.0 in
+    let a = and_parts (test x && not (list_any (bytes_eq x) found)) (are_new test (found ++ x ∷ []) xs) h in
+    let b = and_parts (test x) (not (list_any (bytes_eq x) found)) a.0 in
     let c = new_right test (found ++ x ∷ []) xs a.1 in (
       (b.0, c.0),
-      IsDistinct-cons bytes_eq x xs (all_so (λ y. list_any (bytes_eq y) (found ++ x ∷ []) ≡ false) (λ y. bytes_eq x y ≡ false) (λ y k. flips x y ∙ (before found x y k).1) xs c.2) c.1,
-      (not_holds (list_any (bytes_eq x) found) b.1, all_so (λ y. list_any (bytes_eq y) (found ++ x ∷ []) ≡ false) (λ y. list_any (bytes_eq y) found ≡ false) (λ y k. (before found x y k).0) xs c.2),
+      IsDistinct-cons bytes_eq x xs (AllByRecursion-weaker (λ y. list_any (bytes_eq y) (found ++ x ∷ []) ≡ false) (λ y. bytes_eq x y ≡ false) (λ y k. flips x y ∙ (before found x y k).1) xs c.2) c.1,
+      (not-true (list_any (bytes_eq x) found) b.1, AllByRecursion-weaker (λ y. list_any (bytes_eq y) (found ++ x ∷ []) ≡ false) (λ y. list_any (bytes_eq y) found ≡ false) (λ y k. (before found x y k).0) xs c.2),
     )
 
 pub new_complete : (test : List ℕ → Bool) (found xs : List (List ℕ)) → AllByRecursion (λ x. test x ≡ true) xs → IsDistinct bytes_eq xs → AreApart found xs → are_new test found xs ≡ true

@@ -1,34 +1,25 @@
 -- The messages of a source that is of the grammar: a text of its own is written as texts are.
-use Rattle.std.proofs.Common.{◌≡◌, ℕ, zero, suc, Bool, true, false, List, [], ◌∷◌, ◌++◌, Option, Some, None, refl, sym, ap, ◌∙◌}
+use Rattle.std.proofs.Common.{◌≡◌, ℕ, Bool, true, false, List, [], ◌∷◌, ◌++◌, Option, Some, None, refl, sym, ap, ◌∙◌}
 use Rattle.std.specs.Prelude.{◌&&◌}
-use Rattle.std.proofs.lemmas.Bool.{false≢true}
+use Rattle.std.proofs.lemmas.Bool.{false≢true, and_from}
 use Rattle.std.proofs.lemmas.Grind.{not_there}
+use Rattle.cse_lemmas.proofs.Booleans.{and_assoc}
 use Rattle.cse_syntax_tree.specs.Word.{Word}
 use Rattle.cse_syntax_tree.specs.Tree as syntax
-use Rattle.cse_syntax_tree.specs.Grammar.{Below, Each, IsSource, IsMessage, IsStmt, AreStmts, AreArms, IsDeclaration, IsBody, IsProcedure, IsExpr, IsCounting, AreGlobals}
+use Rattle.cse_syntax_tree.specs.Grammar.{Each, IsSource, IsMessage, IsStmt, AreStmts, AreArms, IsDeclaration, IsBody, IsProcedure, IsExpr, IsCounting, AreGlobals}
+use Rattle.cse_syntax_tree.proofs.Rooms.{below}
 use Rattle.cse_logic_names.specs.WellTyped.{messages_in, messages_of, messages_behind, declared_messages, body_messages, procedure_messages, tree_messages, all_declarations}
 use Rattle.cse_types.specs.Entries.{is_said, are_said}
-
-both_so : (a b : Bool) → a ≡ true → b ≡ true → (a && b) ≡ true
-both_so a b h k = rw (h, k) refl
-
-and_assoc : (a b c : Bool) → ((a && b) && c) ≡ (a && (b && c))
-and_assoc true b c = refl
-and_assoc false b c = refl
 
 said_more : (xs ys : List (syntax.Message × Bool)) → are_said (xs ++ ys) ≡ (are_said xs && are_said ys)
 said_more [] ys = refl
 said_more (x ∷ xs) ys = ap (λ b. is_said x.0 && b) (said_more xs ys) ∙ sym (and_assoc (is_said x.0) (are_said xs) (are_said ys))
 
 said_both : (xs ys : List (syntax.Message × Bool)) → are_said xs ≡ true → are_said ys ≡ true → are_said (xs ++ ys) ≡ true
-said_both xs ys h k = said_more xs ys ∙ both_so (are_said xs) (are_said ys) h k
-
-below : (room : ℕ) (P : ℕ → Type 0) → Below room P → (r : ℕ) × P r
-below zero P h = absurd h
-below (suc r) P h = (r, h)
+said_both xs ys h k = said_more xs ys ∙ and_from (are_said xs) (are_said ys) h k
 
 said_message : (m : syntax.Message) (summary : Bool) → IsMessage m → are_said ((m, summary) ∷ []) ≡ true
-said_message (syntax.Own text) summary h = both_so _ true h refl
+said_message (syntax.Own text) summary h = and_from _ true h refl
 said_message (syntax.Numbered digits) summary h = refl
 
 mutual

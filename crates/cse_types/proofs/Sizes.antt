@@ -1,11 +1,10 @@
 -- The size that digits write, and the rows of sets.
 use Rattle.std.proofs.Common.{◌≡◌, ◌≤◌, ◌<◌, ℕ, Bool, true, false, List, Option, Some, None, refl, sym, ap, ◌∙◌, arith}
 use Rattle.std.specs.Prelude.{◌&&◌, nat_le, if◌then◌else◌}
-use Rattle.std.proofs.lemmas.Bool.{leb-true, leb-false, le-leb, false≢true}
+use Rattle.std.proofs.lemmas.Bool.{leb-true, leb-false, le-leb, false≢true, and_parts}
 use Rattle.std.proofs.Common.{◌⊎◌, inl, inr, ⊎_elim}
 use Rattle.cse_syntax_tree.specs.Leaf.{is_within, is_digits, number_of, MOST}
 use Rattle.cse_logic_names.specs.WellTyped.{size_in, size_fit}
-use Rattle.cse_logic_expressions.proofs.Right.{and_holds}
 
 size_is : (most : ℕ) (digits : List ℕ) → size_in most digits ≡ (if is_digits digits && (nat_le 1 (number_of digits) && nat_le (number_of digits) most) then Some (number_of digits) else None)
 unfolding size_in is_within
@@ -17,7 +16,7 @@ within_is digits = refl
 
 pub size_there : (most : ℕ) (digits : List ℕ) → is_within 0 MOST digits ≡ true → size_fit most (number_of digits) ≡ size_in most digits
 size_there most digits h =
-    let e = (and_holds (is_digits digits) (nat_le 0 (number_of digits) && nat_le (number_of digits) MOST) (sym (within_is digits) ∙ h)).0 in
+    let e = (and_parts (is_digits digits) (nat_le 0 (number_of digits) && nat_le (number_of digits) MOST) (sym (within_is digits) ∙ h)).0 in
     sym (size_is most digits ∙ ap (λ b. if b && (nat_le 1 (number_of digits) && nat_le (number_of digits) most) then Some (number_of digits) else None) e)
 
 no_size : (n : ℕ) (a b c : Bool) → (b ≡ false) ⊎ (c ≡ false) → None ≡ (if b && (a && c) then Some n else None)

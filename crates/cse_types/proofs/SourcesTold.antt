@@ -4,6 +4,7 @@ use Rattle.std.specs.List.{list_any}
 use Rattle.std.specs.Str.{bytes_eq}
 use Rattle.std.proofs.Common.{◌≡◌, ℕ, ◌+◌, List, [], ◌∷◌, ◌++◌, length, Option, Some, None, refl, sym, ap, ◌∙◌}
 use Rattle.std.proofs.lemmas.Bool.{false≢true, and_parts, false_from_ne_true}
+use Rattle.cse_lemmas.proofs.Booleans.{and-false, and_assoc, and-true}
 use Rattle.cse_value.specs.declared.shape.ItemKind.{ItemKind}
 use Rattle.cse_value.specs.declared.shape.ItemKind.TheVariants as kind
 use Rattle.cse_dict.specs.Dictionary.{DictionaryText}
@@ -18,11 +19,12 @@ use Rattle.cse_logic_names.specs.MessageFile.{MessageText}
 use Rattle.cse_logic_names.specs.Scope.{Scope, in_dictionary, kind_and_owner}
 use Rattle.cse_logic_names.specs.Walk.{is_there, joined}
 use Rattle.cse_logic_names.specs.WellTyped.{owner_in, item_owner, owner_meant, body_messages, procedure_scope, all_declarations, declared_in, declared_messages, messages_of}
+use Rattle.cse_logic_names.proofs.Walks.{there_map}
 use Rattle.cse_logic_faults.specs.Faults.{Fault, unless, Counts, least_of}
 use Rattle.cse_logic_faults.specs.FaultsOfStatements.{stmts_faults}
 use Rattle.cse_logic_expressions.specs.JudgeStatement.{judge_block}
 use Rattle.cse_law_faults_are_told.specs.Counted.{IsCounted}
-use Rattle.cse_law_faults_are_told.proofs.Truths.{none, least_there, and_true, and_false, and_flip, and_group, and_pairs, none_both, none_unless, none_beside, there_map, there_if, there_both, told_both}
+use Rattle.cse_law_faults_are_told.proofs.Truths.{none, least_there, and_flip, and_pairs, none_both, none_unless, none_beside, there_if, there_both, told_both}
 use Rattle.cse_law_faults_are_told.proofs.Statements.{block_told}
 use Rattle.cse_types.specs.JudgeTree.{are_new, is_free, names_of, owner_names, arrays_judged, declarations_judged, behind_all, body_judged, procedure_of, owned, procedure_judged, procedures_judged, names_scope, start_scope, globals_judged, tree_of, typed_of}
 use Rattle.cse_types.specs.Checked.{start_of}
@@ -75,8 +77,8 @@ module _ (c : Counts) where
 
   procedure_order : (may own body new : Bool) → (((may && own) && body) && new) ≡ (((may && new) && own) && body)
   procedure_order may own body new =
-      and_group (may && own) body new ∙ ap (λ b. (may && own) && b) (and_flip body new) ∙ sym (and_group (may && own) new body)
-      ∙ ap (λ b. b && body) (and_group may own new ∙ ap (λ b. may && b) (and_flip own new) ∙ sym (and_group may new own))
+      and_assoc (may && own) body new ∙ ap (λ b. (may && own) && b) (and_flip body new) ∙ sym (and_assoc (may && own) new body)
+      ∙ ap (λ b. b && body) (and_assoc may own new ∙ ap (λ b. may && b) (and_flip own new) ∙ sym (and_assoc may new own))
 
   -- a procedure whose name stands once
   procedure_told : (s : Scope) → IsCounted c s → (n : ℕ) (before : List (List ℕ)) (x : syntax.Procedure)
@@ -155,7 +157,7 @@ module _ (d : DictionaryText) (messages : List MessageText) (x : syntax.Tree) wh
   names_are_told =
       let names = names_in ds in
       names_told d [] [] names ds refl
-      ∙ ap (λ b. b && are_parameters d names ds) (ap (λ b. are_new (is_free d) [] names && b) (apart_of_none names) ∙ and_true (are_new (is_free d) [] names))
+      ∙ ap (λ b. b && are_parameters d names ds) (ap (λ b. are_new (is_free d) [] names && b) (apart_of_none names) ∙ and-true (are_new (is_free d) [] names))
       ∙ ap (λ l. are_new (is_free d) [] l && are_parameters d l ds) (sym (declared_names 0 0 0 ds))
 
   -- where the names are new, each means what is declared
@@ -172,7 +174,7 @@ module _ (d : DictionaryText) (messages : List MessageText) (x : syntax.Tree) wh
       }
 
   unsound : is_there declared ≡ false → (new_owners && (is_there declared && is_there procedures)) ≡ false
-  unsound h = ap (λ b. new_owners && (b && is_there procedures)) h ∙ and_false new_owners
+  unsound h = ap (λ b. new_owners && (b && is_there procedures)) h ∙ and-false new_owners
 
   none_behind : (b : Bool) → none faults_declared ≡ b → (b && none faults_behind) ≡ (none faults_declared && none faults_behind)
   none_behind b h = ap (λ t. t && none faults_behind) (sym h)

@@ -1,7 +1,7 @@
 -- What judging gives of statements is right: it is made of the statement, and keeps each rule.
 use Rattle.std.proofs.Common.{◌≡◌, ℕ, ◌+◌, ℤ, Bool, true, false, List, [], ◌∷◌, length, map, Option, Some, None, refl, sym, ap, ◌∙◌, subst, arith}
 use Rattle.std.specs.Prelude.{◌==◌, ◌&&◌, not, if◌then◌else◌, option_map, slice_get}
-use Rattle.std.proofs.lemmas.Bool.{eqb-true, false≢true}
+use Rattle.std.proofs.lemmas.Bool.{eqb-true, false≢true, and_parts, not-true}
 use Rattle.cse_value.specs.declared.shape.ItemKind.{ItemKind}
 use Rattle.cse_value.specs.declared.shape.ItemKind.TheVariants as kind
 use Rattle.cse_image_parts.specs.declared.placeholders.ArgumentKind.{ArgumentKind}
@@ -22,7 +22,7 @@ use Rattle.cse_logic_names.specs.WellTyped.{Holds, IsField, IsWhich, AreDeckPick
 use Rattle.cse_logic_expressions.specs.Judge.{Judged, AsNumber, AsWords, Unknown, as_number, field_at, sole, is_count, picks_of, record_of, expr_count, judge, judge_all}
 use Rattle.cse_logic_expressions.specs.JudgeStatement.{as_words, free_variable, which_at, place_at, set_item, set_text_item, impute_item, assign_variable, assign_item, assign, impute_number, impute, put_deck, call_of, for_head, in_for, for_of, whole_judged, limit_judged, counting_of, counting_judged, in_do, as_argument, judge_arguments, message_of, err_msg, if_of, arm_of, judge_statement, judge_block, judge_arms}
 use Rattle.cse_logic_names.specs.Walk.{joined, only_if}
-use Rattle.cse_logic_expressions.proofs.Right.{For, for_map, for_joined, for_only, IsTyped, IsTypedWords, Right, AreTyped, IsSole, sole_right, number_right, and_holds, not_holds, is_count_holds, deck_picks_right, IsRecord, record_right, judge_right, all_right}
+use Rattle.cse_logic_expressions.proofs.Right.{For, for_map, for_joined, for_only, IsTyped, IsTypedWords, Right, AreTyped, IsSole, sole_right, number_right, is_count_holds, deck_picks_right, IsRecord, record_right, judge_right, all_right}
 
 -- ---- what is said of an answer
 
@@ -70,8 +70,8 @@ IsPlace s k item xs p = (p.0.item ≡ item) × IsField s k p.0 × IsAt s xs p.0.
 field_here : (s : Scope) (k : ItemKind) (item owner : ℕ) → kind_and_owner s.dictionary item ≡ Some (k, owner) → For (λ f. (f.item ≡ item) × IsField s k f × (f.owner ≡ owner)) (field_at s item owner)
 unfolding field_at
 field_here s k item owner h = for_only _ (has_case s.routine && not (owner == 255)) _ (λ c.
-    let d = and_holds (has_case s.routine) (not (owner == 255)) c in
-    (refl, (d.0, h, not_holds (owner == 255) d.1), refl))
+    let d = and_parts (has_case s.routine) (not (owner == 255)) c in
+    (refl, (d.0, h, not-true (owner == 255) d.1), refl))
 
 place_right : (s : Scope) (k : ItemKind) (item owner : ℕ) (xs : syntax.Exprs) (ys : Option Numbers) → kind_and_owner s.dictionary item ≡ Some (k, owner) → For (AreTyped s xs) ys → For (IsPlace s k item xs) (place_at s (expr_count xs) item owner ys)
 place_right s k item owner xs ys h a =

@@ -1,10 +1,12 @@
 -- The names of declarations that are taken one after the other: whether all are new, and that they are the declared ones then.
-use Rattle.std.proofs.Common.{◌≡◌, ℕ, ◌+◌, Bool, true, false, List, [], ◌∷◌, ◌++◌, length, map, Option, Some, None, is_some, refl, sym, ap, ◌∙◌, append_assoc, arith}
+use Rattle.std.proofs.Common.{◌≡◌, ℕ, ◌+◌, Bool, true, false, List, [], ◌∷◌, ◌++◌, length, map, refl, sym, ap, ◌∙◌, append_assoc, arith}
 use Rattle.std.specs.Prelude.{◌&&◌, not, if◌then◌else◌}
 use Rattle.std.specs.List.{list_any}
 use Rattle.std.specs.Map.{lookup}
 use Rattle.std.specs.Str.{bytes_eq}
-use Rattle.std.proofs.lemmas.Bool.{false≢true}
+use Rattle.std.proofs.lemmas.Bool.{false≢true, and_parts, not-true}
+use Rattle.std.proofs.lemmas.List.{append-nil, map_push}
+use Rattle.cse_lemmas.proofs.Booleans.{and-true, and-false}
 use Rattle.cse_dict.specs.Dictionary.{DictionaryText}
 use Rattle.cse_dict.specs.Keys.{kept_name}
 use Rattle.cse_syntax_tree.specs.Tree as syntax
@@ -20,8 +22,7 @@ use Rattle.cse_types.specs.Fresh.{all_after}
 use Rattle.cse_types.specs.Table.{with_name, with_global, with_declaration, global_meaning, no_table, table_of}
 use Rattle.cse_logic_names.specs.Walk.{is_there}
 use Rattle.cse_logic_names.proofs.NameLaws.{has_named}
-use Rattle.cse_logic_expressions.proofs.Right.{and_holds, not_holds}
-use Rattle.cse_logic_names.proofs.Walks.{map_more, append_none}
+use Rattle.cse_logic_names.proofs.Walks.{some_there}
 
 abbrev Pair : Type 0
 Pair = List ℕ × Meaning
@@ -122,10 +123,6 @@ module _ (d : DictionaryText) where
       let one = record t { functions = t.functions + 1 } in
       after_name one (kept_name name.text) (m.Function t.functions) ds _ (core_is (with_name d one (kept_name name.text) (m.Function t.functions)) ds)
 
-  some_there : {A : Type 0} (o : Option A) → is_some o ≡ is_there o
-  some_there None = refl
-  some_there (Some x) = refl
-
   -- a name is new where it is free, and none of those found
   new_is : (names : List Pair) (name : List ℕ) → (is_free d name && not (list_any (bytes_eq name) (names_of names))) ≡ is_new d names name
   new_is names name = ap (λ b. is_free d name && not b) (has_named (λ k. k) (bytes_eq name) names ∙ some_there (lookup (bytes_eq name) names))
@@ -134,16 +131,8 @@ module _ (d : DictionaryText) where
     sound : (all_after (step d) c xs).1 ≡ (c.1 && are_new (is_free d) (names_of c.0) (names_of xs))
     names : (all_after (step d) c xs).1 ≡ true → (all_after (step d) c xs).0 ≡ c.0 ++ xs
 
-  and_true : (b : Bool) → (b && true) ≡ b
-  and_true true = refl
-  and_true false = refl
-
-  and_false : (b : Bool) → (b && false) ≡ false
-  and_false true = refl
-  and_false false = refl
-
   are_sound : (c : Core) (xs : List Pair) → AreSound c xs
-  are_sound c [] = record { sound = sym (and_true c.1); names = λ h. sym (append_none c.0) }
+  are_sound c [] = record { sound = sym (and-true c.1); names = λ h. sym (append-nil c.0) }
   are_sound c (x ∷ xs) = by (is_new d c.0 x.0) refl (λ z. are_sound z xs)
     where
       by : (b : Bool) → is_new d c.0 x.0 ≡ b → ((z : Core) → AreSound z xs) → AreSound c (x ∷ xs)
@@ -153,7 +142,7 @@ module _ (d : DictionaryText) where
           let rest = ih z in
           record {
             sound = ap (λ (y : Core). (all_after (step d) y xs).1) one ∙ rest.sound
-                ∙ ap (λ ns. c.1 && are_new (is_free d) ns (names_of xs)) (map_more (λ (p : Pair). p.0) c.0 x)
+                ∙ ap (λ ns. c.1 && are_new (is_free d) ns (names_of xs)) (map_push (λ (p : Pair). p.0) c.0 x)
                 ∙ ap (λ b. c.1 && (b && are_new (is_free d) (names_of c.0 ++ x.0 ∷ []) (names_of xs))) (sym (new_is c.0 x.0 ∙ e));
             names = λ h. ap (λ (y : Core). (all_after (step d) y xs).0) one ∙ rest.names (sym (ap (λ (y : Core). (all_after (step d) y xs).1) one) ∙ h) ∙ append_assoc c.0 (x ∷ []) xs;
           }
@@ -162,7 +151,7 @@ module _ (d : DictionaryText) where
           let one : step d c x ≡ z = ap (next_if c x) e in
           let rest = ih z in
           record {
-            sound = ap (λ (y : Core). (all_after (step d) y xs).1) one ∙ rest.sound ∙ sym (and_false c.1)
+            sound = ap (λ (y : Core). (all_after (step d) y xs).1) one ∙ rest.sound ∙ sym (and-false c.1)
                 ∙ ap (λ b. c.1 && (b && are_new (is_free d) (names_of c.0 ++ x.0 ∷ []) (names_of xs))) (sym (new_is c.0 x.0 ∙ e));
             names = λ h. absurd (false≢true (sym rest.sound ∙ sym (ap (λ (y : Core). (all_after (step d) y xs).1) one) ∙ h));
           }
@@ -177,7 +166,7 @@ module _ (d : DictionaryText) where
 -- ---- one name
 
 pub new_gone : (d : DictionaryText) (names : List Pair) (name : List ℕ) (b : Bool) → b ≡ true → b ≡ is_new d names name → is_there (lookup (bytes_eq name) names) ≡ false
-new_gone d names name b h e = not_holds (is_there (lookup (bytes_eq name) names)) (and_holds (is_free d name) (not (is_there (lookup (bytes_eq name) names))) (sym e ∙ h)).1
+new_gone d names name b h e = not-true (is_there (lookup (bytes_eq name) names)) (and_parts (is_free d name) (not (is_there (lookup (bytes_eq name) names))) (sym e ∙ h)).1
 
 -- ---- loops
 

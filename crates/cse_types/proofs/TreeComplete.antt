@@ -4,6 +4,7 @@ use Rattle.std.specs.List.{AllByRecursion, IsDistinct}
 use Rattle.std.specs.Map.{lookup}
 use Rattle.std.specs.Str.{bytes_eq}
 use Rattle.std.proofs.Common.{◌≡◌, ℕ, ◌+◌, List, [], ◌∷◌, ◌++◌, length, map, Option, Some, None, refl, sym, ap, ◌∙◌, subst}
+use Rattle.cse_lemmas.proofs.Lists.{AllByRecursion-map, AllByRecursion-weaker}
 use Rattle.cse_dict.specs.Dictionary.{DictionaryText}
 use Rattle.cse_syntax_tree.specs.Tree as syntax
 use Rattle.cse_logic_tree.specs.Typed.{Whole, Dimension, Sized, Rows, Array, Function, Declaration, Numeric, Alpha, Array', Function', Body, Plain, Preproc, Both, Postproc, Procedure, Tree}
@@ -16,7 +17,7 @@ use Rattle.cse_logic_names.specs.WellTyped.{IsWhole, IsDimension, IsNew, paramet
 use Rattle.cse_logic_expressions.specs.JudgeStatement.{judge_block}
 use Rattle.cse_types.specs.JudgeTree.{are_new, is_free, is_new, names_of, owner_names, dimension_judged, dimensions_judged, cells_judged, array_judged, arrays_judged, function_judged, behind_function, declarations_judged, behind_all, body_judged, procedure_of, owned, procedures_judged, names_scope, start_scope, globals_judged, tree_of, typed_of}
 use Rattle.cse_logic_names.specs.Walk.{is_there, joined, only_if}
-use Rattle.cse_types.proofs.NewNames.{all_so, all_map, new_complete, apart_of_none, not_there}
+use Rattle.cse_types.proofs.NewNames.{new_complete, apart_of_none, not_there}
 use Rattle.cse_types.proofs.TreeRight.{arrays_alone, owner_names_are, start_of}
 use Rattle.cse_types.proofs.StatementsComplete.{block_complete}
 
@@ -53,7 +54,7 @@ new_is d declared name h = rw (not_there (in_dictionary d name) h.0, not_there (
 
 function_complete : (s : Scope) (n : ℕ) (f : Function) → IsFunction s n f → function_judged s n f.name f.parameters (erase_block f.body) ≡ Some f
 function_complete s n f h =
-    let new = new_complete (is_new s.dictionary s.declared) [] (parameter_names f.parameters) (all_so (IsNew s.dictionary s.declared) (λ x. is_new s.dictionary s.declared x ≡ true) (new_is s.dictionary s.declared) (parameter_names f.parameters) h.parameters_new) h.parameters_once (apart_of_none (parameter_names f.parameters)) in
+    let new = new_complete (is_new s.dictionary s.declared) [] (parameter_names f.parameters) (AllByRecursion-weaker (IsNew s.dictionary s.declared) (λ x. is_new s.dictionary s.declared x ≡ true) (new_is s.dictionary s.declared) (parameter_names f.parameters) h.parameters_new) h.parameters_once (apart_of_none (parameter_names f.parameters)) in
     rw (new, block_complete (function_scope s (length s.functions) f.parameters) n f.body h.body)
     (ap (λ b. Some (record { name = f.name; parameters = f.parameters; body = f.body; needs_case = b })) (sym h.needs))
 
@@ -127,8 +128,8 @@ module _ (d : DictionaryText) (messages : List MessageText) (t : Tree) (h : IsWe
   names_are_new =
       let xs = declared_in (erase_tree t) in
       new_complete (is_free d) [] (names_of xs)
-      (all_map (λ n. is_free d n ≡ true) (λ (x : List ℕ × Meaning). x.0) xs
-      (all_so (λ (x : List ℕ × Meaning). in_dictionary d x.0 ≡ None) (λ (x : List ℕ × Meaning). is_free d x.0 ≡ true) (λ x k. not_there (in_dictionary d x.0) k) xs h.names_new))
+      (AllByRecursion-map (λ n. is_free d n ≡ true) (λ (x : List ℕ × Meaning). x.0) xs
+      (AllByRecursion-weaker (λ (x : List ℕ × Meaning). in_dictionary d x.0 ≡ None) (λ (x : List ℕ × Meaning). is_free d x.0 ≡ true) (λ x k. not_there (in_dictionary d x.0) k) xs h.names_new))
       h.names_once (apart_of_none (names_of xs))
 
   owners_are_new : are_new (λ name. true) [] (owner_names (map erase_procedure t.procedures)) ≡ true

@@ -4,6 +4,8 @@ use Rattle.std.specs.List.{AllByRecursion, IsDistinct}
 use Rattle.std.specs.Map.{lookup}
 use Rattle.std.specs.Str.{bytes_eq}
 use Rattle.std.proofs.Common.{◌≡◌, ℕ, ◌+◌, List, [], ◌∷◌, ◌++◌, length, map, Option, Some, None, refl, sym, ap, ◌∙◌, subst}
+use Rattle.std.proofs.lemmas.Bool.{and_parts}
+use Rattle.cse_lemmas.proofs.Lists.{AllByRecursion-weaker}
 use Rattle.cse_dict.specs.Dictionary.{DictionaryText}
 use Rattle.cse_dict.specs.Keys.{kept_name}
 use Rattle.cse_syntax_tree.specs.Tree as syntax
@@ -23,9 +25,9 @@ use Rattle.cse_logic_expressions.specs.Judge.{number_set}
 use Rattle.cse_logic_expressions.specs.JudgeStatement.{whole_judged, judge_block}
 use Rattle.cse_types.specs.JudgeTree.{are_new, is_free, is_new, names_of, owner_names, set_rows, set_dimension, dimension_judged, dimensions_judged, cells_judged, array_of, array_judged, arrays_judged, function_of, function_judged, behind_function, alpha_of, declaration_judged, behind, messages_past, declarations_judged, behind_all, body_judged, procedure_of, owned, procedure_judged, procedures_judged, names_scope, start_scope, globals_judged, tree_of, typed_of}
 use Rattle.cse_logic_names.specs.Walk.{is_there, joined, only_if, walk}
-use Rattle.cse_logic_expressions.proofs.Right.{For, for_map, for_joined, for_only, set_right, and_holds}
+use Rattle.cse_logic_expressions.proofs.Right.{For, for_map, for_joined, for_only, set_right}
 use Rattle.cse_types.proofs.StatementsRight.{AreTypedStatements, whole_right, some_right, block_right}
-use Rattle.cse_types.proofs.NewNames.{all_so, all_of_map, new_right, none_there}
+use Rattle.cse_types.proofs.NewNames.{all_of_map, new_right, none_there}
 
 -- what is said of an answer, and that it is the answer
 remembered : {A : Type 0} (P : A → Type 0) (o : Option A) → For P o → For (λ x. P x × (o ≡ Some x)) o
@@ -103,7 +105,7 @@ arrays_behind s n (syntax.Function' name parameters body) ds =
 
 is_new_right : (d : DictionaryText) (declared : List (List ℕ × Meaning)) (name : List ℕ) → is_new d declared name ≡ true → IsNew d declared name
 is_new_right d declared name h =
-    let a = and_holds (is_free d name) (not (is_there (lookup (bytes_eq name) declared))) h in
+    let a = and_parts (is_free d name) (not (is_there (lookup (bytes_eq name) declared))) h in
     (none_there (in_dictionary d name) a.0, none_there (lookup (bytes_eq name) declared) a.1)
 
 -- the function that is made of these
@@ -117,7 +119,7 @@ function_right s n name ps body = for_only _ (are_new (is_new s.dictionary s.dec
     (λ y k. (
       (refl, refl, k.0),
       record {
-        parameters_new = all_so (λ x. is_new s.dictionary s.declared x ≡ true) (IsNew s.dictionary s.declared) (is_new_right s.dictionary s.declared) (parameter_names ps) d.0;
+        parameters_new = AllByRecursion-weaker (λ x. is_new s.dictionary s.declared x ≡ true) (IsNew s.dictionary s.declared) (is_new_right s.dictionary s.declared) (parameter_names ps) d.0;
         parameters_once = d.1;
         body = k.1;
         needs = refl;
@@ -263,7 +265,7 @@ module _ (d : DictionaryText) (messages : List MessageText) (x : syntax.Tree) wh
         erased = same;
         well = record {
           names_new = subst (λ z. AllByRecursion (λ (x : List ℕ × Meaning). in_dictionary d x.0 ≡ None) (declared_in z)) (sym same)
-              (all_so (λ (x : List ℕ × Meaning). is_free d x.0 ≡ true) (λ (x : List ℕ × Meaning). in_dictionary d x.0 ≡ None) (λ x h. none_there (in_dictionary d x.0) h) (declared_in x)
+              (AllByRecursion-weaker (λ (x : List ℕ × Meaning). is_free d x.0 ≡ true) (λ (x : List ℕ × Meaning). in_dictionary d x.0 ≡ None) (λ x h. none_there (in_dictionary d x.0) h) (declared_in x)
               (all_of_map (λ n. is_free d n ≡ true) (λ (x : List ℕ × Meaning). x.0) (declared_in x) names.0));
           names_once = subst (λ z. IsDistinct bytes_eq (map (λ (x : List ℕ × Meaning). x.0) (declared_in z))) (sym same) names.1;
           declarations = subst (λ z. AreDeclared z 0 (typed_declarations ys)) scope a.1;
@@ -277,7 +279,7 @@ module _ (d : DictionaryText) (messages : List MessageText) (x : syntax.Tree) wh
   pub tree_right : For (IsTypedAs d messages x) (typed_of d messages x)
   unfolding typed_of
   tree_right = for_only _ (are_new (is_free d) [] (names_of (declared_in x)) && are_new (λ name. true) [] (owner_names x.procedures)) _ (λ c.
-      let k = and_holds (are_new (is_free d) [] (names_of (declared_in x))) (are_new (λ name. true) [] (owner_names x.procedures)) c in
+      let k = and_parts (are_new (is_free d) [] (names_of (declared_in x))) (are_new (λ name. true) [] (owner_names x.procedures)) c in
       for_joined (AreGlobalsOf (start_scope d messages x) x.globals)
       (AreProceduresOf (behind_all (start_scope d messages x) 0 (all_declarations x.globals)) (length (declared_messages (all_declarations x.globals))) x.procedures)
       (IsTypedAs d messages x) (tree_of messages x) (λ ys ps a b. is_well ys ps k.0 k.1 a b)

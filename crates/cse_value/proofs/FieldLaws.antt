@@ -7,10 +7,10 @@ use Rattle.std.specs.Char.{is_ascii_digit}
 use Rattle.std.specs.Fmt.{decimal, signed_decimal}
 use Rattle.std.proofs.lemmas.Bool.{and_parts, and_from, not-true, cond-true, cond-false, ltb-true}
 use Rattle.std.proofs.lemmas.Bool.Decides.{nat_tests, Decides-int_eq}
-use Rattle.std.proofs.lemmas.List.{reverse-append, reverse-reverse, length-append}
-use Rattle.std.proofs.lemmas.List.Folds.{list_all-append}
+use Rattle.std.proofs.lemmas.List.{reverse-reverse, length-append}
 use Rattle.std.proofs.lemmas.Str.Parse.{IsNumeralModel, numerals_by_fold}
 use Rattle.std.proofs.lemmas.Fmt.{digits_decimal, digits_value-decimal, decimal_nonempty}
+use Rattle.cse_lemmas.proofs.Lists.{list_all-reverse}
 use Rattle.cse_value.specs.Number.{fits_i64}
 use Rattle.cse_value.specs.Texts.{blanks}
 use Rattle.cse_value.specs.declared.number.Num.TheVariants.{Whole, NotAppl, Missing, Undef}
@@ -19,20 +19,13 @@ use Rattle.cse_value.specs.Field.{without_blanks, trimmed, digits_value, digits_
 abbrev not_blank : ℕ → Bool
 not_blank c = not (eqb c 32)
 
-without_blanks-none : (cs : List ℕ) → list_all not_blank cs ≡ true → without_blanks cs ≡ cs
+pub without_blanks-none : (cs : List ℕ) → list_all not_blank cs ≡ true → without_blanks cs ≡ cs
 without_blanks-none [] h = refl
 without_blanks-none (c ∷ cs) h = cond-false (eqb c 32) (without_blanks cs) (c ∷ cs) (not-true (eqb c 32) (and_parts (not_blank c) (list_all not_blank cs) h).0)
 
 without_blanks-blanks : (k : ℕ) (cs : List ℕ) → without_blanks (blanks k ++ cs) ≡ without_blanks cs
 without_blanks-blanks zero cs = refl
 without_blanks-blanks (suc k) cs = without_blanks-blanks k cs
-
-list_all-reverse : (p : ℕ → Bool) (cs : List ℕ) → list_all p cs ≡ true → list_all p (reverse cs) ≡ true
-list_all-reverse p [] h = refl
-list_all-reverse p (c ∷ cs) h =
-    let parts = and_parts (p c) (list_all p cs) h in
-    ap (list_all p) (reverse-append (c ∷ []) cs) ∙ list_all-append p (reverse cs) (c ∷ [])
-    ∙ and_from (list_all p (reverse cs)) (list_all p (c ∷ [])) (list_all-reverse p cs parts.1) (and_from (p c) true parts.0 refl)
 
 trimmed-blanks_before : (k : ℕ) (cs : List ℕ) → trimmed (blanks k ++ cs) ≡ trimmed cs
 unfolding trimmed
@@ -49,7 +42,7 @@ unfolding trimmed
 trimmed-blanks k = ap trimmed (sym (append-nil (blanks k))) ∙ trimmed-blanks_before k []
 
 -- digits as the library counts them
-numerals : IsNumeralModel (λ ds. list_all is_ascii_digit ds ≡ true) digits_value
+pub numerals : IsNumeralModel (λ ds. list_all is_ascii_digit ds ≡ true) digits_value
 numerals = numerals_by_fold (λ ds. list_all is_ascii_digit ds ≡ true) (search rules) (λ n ds. fold (λ n c. 10 * n + (c - 48)) n ds) (search rules)
 
 pub digits_number-digits : (ds : List ℕ) → 0 < length ds → list_all is_ascii_digit ds ≡ true → digits_number ds ≡ Some (digits_value ds)
@@ -67,13 +60,13 @@ record Spells (cs : List ℕ) (z : ℤ) : Type 0 where
   none : list_all not_blank cs ≡ true
   is : numeral cs ≡ Some z
 
-digit_is_no_blank : (c : ℕ) → is_ascii_digit c ≡ true → not_blank c ≡ true
+pub digit_is_no_blank : (c : ℕ) → is_ascii_digit c ≡ true → not_blank c ≡ true
 digit_is_no_blank c h = grind (arith, nat_tests)
 
-digit_is_no_minus : (c : ℕ) → is_ascii_digit c ≡ true → eqb c 45 ≡ false
+pub digit_is_no_minus : (c : ℕ) → is_ascii_digit c ≡ true → eqb c 45 ≡ false
 digit_is_no_minus c h = grind (arith, nat_tests)
 
-digits_have_no_blank : (ds : List ℕ) → list_all is_ascii_digit ds ≡ true → list_all not_blank ds ≡ true
+pub digits_have_no_blank : (ds : List ℕ) → list_all is_ascii_digit ds ≡ true → list_all not_blank ds ≡ true
 digits_have_no_blank [] h = refl
 digits_have_no_blank (c ∷ cs) h =
     let parts = and_parts (is_ascii_digit c) (list_all is_ascii_digit cs) h in

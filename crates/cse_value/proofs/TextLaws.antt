@@ -1,10 +1,11 @@
 -- The order of two texts, character by character.
-use Rattle.std.proofs.Common.{◌≡◌, ℕ, zero, suc, ◌+◌, ◌-◌, ◌<◌, ◌≤◌, max, List, [], ◌∷◌, ◌++◌, length, get_or, drop, refl, ap, sym, ◌∙◌, arith, length-append, add-one, drop-cons}
+use Rattle.std.proofs.Common.{◌≡◌, ℕ, zero, suc, ◌+◌, ◌-◌, ◌<◌, ◌≤◌, max, List, [], ◌∷◌, ◌++◌, length, get_or, drop, refl, ap, sym, ◌∙◌, arith, add-one, drop-cons}
 use Rattle.std.proofs.lemmas.List.{length-replicate, drop_all}
 use Rattle.std.specs.declared.cmp.Ordering.{Ordering}
 use Rattle.std.specs.declared.cmp.Ordering.TheVariants.{Equal}
 use Rattle.std.specs.Ordering.{nat_cmp, ordering_then}
 use Rattle.std.specs.Cmp.Lexicographic.{slice_cmp}
+use Rattle.cse_lemmas.proofs.Lists.{length-padded}
 use Rattle.cse_value.specs.Texts.{blanks, padded, text_order}
 
 blank_at : (k i : ℕ) → get_or (blanks k) i 32 ≡ 32
@@ -18,11 +19,8 @@ padded_at [] k i = blank_at k i
 padded_at (c ∷ text) k zero = refl
 padded_at (c ∷ text) k (suc i) = padded_at text k i
 
-length-blanks : (k : ℕ) → length (blanks k) ≡ k
+pub length-blanks : (k : ℕ) → length (blanks k) ≡ k
 length-blanks k = length-replicate {A = ℕ} k 32
-
-length-padded : (n : ℕ) (text : List ℕ) → length text ≤ n → length (padded n text) ≡ n
-length-padded n text h = omega (arith, length-append text (blanks (n - length text)), length-blanks (n - length text))
 
 -- the order of what both texts have from an index on
 unfoldable pub order_from : ℕ → List ℕ → List ℕ → Ordering
@@ -41,8 +39,8 @@ pub order_from-step : (i : ℕ) (x y : List ℕ) → i < max (length x) (length 
 unfolding order_from
 order_from-step i x y h =
     let n : ℕ = max (length x) (length y) in
-    let p : i < length (padded n x) = omega (arith, length-padded n x (omega arith)) in
-    let q : i < length (padded n y) = omega (arith, length-padded n y (omega arith)) in
+    let p : i < length (padded n x) = omega (arith, length-padded n x 32 (omega arith)) in
+    let q : i < length (padded n y) = omega (arith, length-padded n y 32 (omega arith)) in
     from_drops i (padded n x) (padded n y) p q
     ∙ ap (λ v. ordering_then v (slice_cmp nat_cmp (drop (i + 1) (padded n x)) (drop (i + 1) (padded n y))))
     (ap (λ v. nat_cmp v (get_or (padded n y) i 32)) (padded_at x (n - length x) i) ∙ ap (λ v. nat_cmp (get_or x i 32) v) (padded_at y (n - length y) i))
@@ -51,8 +49,8 @@ pub order_from-end : (i : ℕ) (x y : List ℕ) → max (length x) (length y) �
 unfolding order_from
 order_from-end i x y h =
     let n : ℕ = max (length x) (length y) in
-    let p : length (padded n x) ≤ i = omega (arith, length-padded n x (omega arith)) in
-    let q : length (padded n y) ≤ i = omega (arith, length-padded n y (omega arith)) in
+    let p : length (padded n x) ≤ i = omega (arith, length-padded n x 32 (omega arith)) in
+    let q : length (padded n y) ≤ i = omega (arith, length-padded n y 32 (omega arith)) in
     rw (drop_all i (padded n x) p, drop_all i (padded n y) q) refl
 
 -- Where all before is the same, the characters at an index decide, or what follows them.

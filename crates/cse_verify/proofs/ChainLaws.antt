@@ -1,10 +1,10 @@
 -- Calls that wait for one another keep no more than the greatest depth.
-use Rattle.std.proofs.Common.{◌≡◌, ℕ, zero, suc, ◌+◌, ◌<◌, ◌≤◌, List, [], ◌∷◌, ◌++◌, length, take, drop, get_or, Option, Some, None, refl, sym, ap, ◌∙◌, subst, ⊎_elim, arith}
+use Rattle.std.proofs.Common.{◌≡◌, ℕ, zero, suc, ◌+◌, ◌<◌, ◌≤◌, List, [], ◌∷◌, ◌++◌, length, take, drop, get_or, Option, Some, None, sym, ap, ◌∙◌, subst, ⊎_elim, arith}
 use Rattle.std.specs.Prelude.{slice_get, option_map, max}
 use Rattle.std.specs.Option.{option_map_or}
 use Rattle.std.proofs.lemmas.Bool.{cases_lt}
-use Rattle.std.proofs.lemmas.List.{length_push, get_or_append_left, get_or_push}
 use Rattle.std.proofs.lemmas.Option.{same_Some, slice_get_within, slice_get-map}
+use Rattle.cse_lemmas.proofs.Lists.{slice_get_some, slice_get-take}
 use Rattle.cse_value.specs.Shape.{ShapeLists}
 use Rattle.cse_image_parts.specs.declared.instruction.Op.{Op}
 use Rattle.cse_image_parts.specs.declared.instruction.Op.TheVariants as ops
@@ -22,6 +22,7 @@ use Rattle.cse_code_typing.specs.Typing.{Stacks, IsTypingBelow}
 use Rattle.cse_code_typing.specs.Typed.{scene_of, IsTyped}
 use Rattle.cse_code_typing.specs.Depth.{no_depth, ◌⊕◌, greater, count_of, locals_depth, depth_at, or_none, call_depth, depth_by, place_depth, depth_below, AreDepths, greatest}
 use Rattle.cse_code_bounds.specs.Frames.{frames_in_call, most_frames, frames_below, frames_of, frames, greatest as greatest_number}
+use Rattle.cse_code_bounds.proofs.OpenLaws.{frames_told}
 use Rattle.cse_verify.proofs.CallLaws.{calls_below}
 use Rattle.cse_verify.specs.declared.depth.Depth.{Depth}
 use Rattle.cse_verify.specs.Depths.{IsDepthOf}
@@ -78,17 +79,6 @@ place_up routines depths code t (suc n) q lt =
 
 -- ---- tables
 
-there_or : {X : Type 0} (xs : List X) (r : ℕ) → r < length xs → (d : X) × (slice_get xs r ≡ Some d)
-there_or [] r lt = absurd (omega arith)
-there_or (x ∷ xs) zero lt = (x, refl)
-there_or (x ∷ xs) (suc r) lt = there_or xs r (omega arith)
-
-at_take : {X : Type 0} (n : ℕ) (xs : List X) (p : ℕ) → p < n → slice_get (take n xs) p ≡ slice_get xs p
-at_take zero xs p h = absurd (omega arith)
-at_take (suc n) [] p h = refl
-at_take (suc n) (x ∷ xs) zero h = refl
-at_take (suc n) (x ∷ xs) (suc p) h = at_take n xs p (omega arith)
-
 none_up : (a : Cells) → IsUpTo no_depth a
 none_up a = record { numbers = omega arith; texts = omega arith; ordinals = omega arith }
 
@@ -111,21 +101,6 @@ open_up table code (suc n) p lt =
     subst (λ k. length (around code k) + frames_in_call table (slice_get code k) ≤ max (most_frames table code n) (length (around code n) + frames_in_call table (slice_get code n))) e here)
     (cases_lt p n)
 
-length-frames : (x : Image) (n : ℕ) → length (frames_below x n) ≡ n
-unfolding frames_below
-length-frames x zero = refl
-length-frames x (suc n) = let ih = length-frames x n in length_push (frames_below x n) (frames_of x n) ∙ omega arith
-
-frames_at : (x : Image) (n r : ℕ) → r < n → get_or (frames_below x n) r 0 ≡ frames_of x r
-unfolding frames_below
-frames_at x zero r lt = absurd (omega arith)
-frames_at x (suc n) r lt =
-    let len = length-frames x n in
-    ⊎_elim
-    (λ (l : r < n). get_or_append_left (frames_below x n) (frames_of x n ∷ []) 0 r (omega arith) ∙ frames_at x n r l)
-    (λ (l : n ≤ r). let e : n ≡ r = omega arith in get_or_push (frames_below x n) (frames_of x n) 0 r (omega arith) ∙ ap (frames_of x) e)
-    (cases_lt r n)
-
 greatest_up : (xs : List ℕ) (r : ℕ) → get_or xs r 0 ≤ greatest_number xs
 greatest_up [] r = omega arith
 greatest_up (n ∷ ns) zero = omega arith
@@ -133,7 +108,7 @@ greatest_up (n ∷ ns) (suc r) = let ih = greatest_up ns r in omega arith
 
 frames_up : (x : Image) (r : ℕ) → r < length x.lists.routines → frames_of x r ≤ frames x
 frames_up x r lt =
-    let a = frames_at x (length x.lists.routines) r lt in
+    let a = frames_told x (length x.lists.routines) r lt in
     let b = greatest_up (frames_below x (length x.lists.routines)) r in
     omega arith
 
@@ -148,7 +123,7 @@ module _ (s : ShapeLists) (x : Image) (table : List Cells) (typed : IsTyped s x)
   depth_up : (c : Calling) (h : Stands s x c) → (at : slice_get x.lists.routines c.routine ≡ Some h.routine) → IsUpTo (locals_depth h.routine.locals ⊕ place_depth x.lists.routines (take c.routine table) (slice_get (code_of x c.routine) c.place) (h.stacks c.place)) (depth_at table c.routine)
   depth_up c h at =
       let lt = slice_get_within x.lists.routines c.routine h.routine at in
-      let e = there_or table c.routine (omega arith) in
+      let e = slice_get_some table c.routine (omega arith) in
       let is = depths c.routine h.routine e.0 at e.1 h.stacks h.typing in
       let up = both_up _ _ _ _ (same_up (locals_depth h.routine.locals)) (place_up x.lists.routines (take c.routine table) (code_of x c.routine) h.stacks (length (code_of x c.routine)) c.place h.within) in
       let here : IsUpTo (locals_depth h.routine.locals ⊕ place_depth x.lists.routines (take c.routine table) (slice_get (code_of x c.routine) c.place) (h.stacks c.place)) e.0 =
@@ -163,7 +138,7 @@ module _ (s : ShapeLists) (x : Image) (table : List Cells) (typed : IsTyped s x)
   run_up : (c : Calling) → Runs s x c → IsUpTo (kept_by x c) (depth_at table c.routine)
   run_up c runs =
       let h = runs.stands in
-      let i = there_or (code_of x c.routine) c.place h.within in
+      let i = slice_get_some (code_of x c.routine) c.place h.within in
       let here : IsUpTo (count_of c.kinds) (place_depth x.lists.routines (take c.routine table) (slice_get (code_of x c.routine) c.place) (h.stacks c.place)) =
       subst (λ (o : Option Instr). IsUpTo (count_of c.kinds) (place_depth x.lists.routines (take c.routine table) o (h.stacks c.place))) (sym i.1)
       (subst (λ (k : List Kind). IsUpTo (count_of k) (place_depth x.lists.routines (take c.routine table) (Some i.0) (h.stacks c.place))) (sym runs.kinds)
@@ -189,7 +164,7 @@ module _ (s : ShapeLists) (x : Image) (table : List Cells) (typed : IsTyped s x)
   wait_up : (c : Calling) (callee : ℕ) → Waits s x callee c → IsUpTo (kept_by x c ⊕ depth_at table callee) (depth_at table c.routine)
   wait_up c callee w =
       let h = w.stands in
-      let below : depth_at (take c.routine table) callee ≡ depth_at table callee = ap or_none (at_take c.routine table callee (smaller c callee w)) in
+      let below : depth_at (take c.routine table) callee ≡ depth_at table callee = ap or_none (slice_get-take c.routine table callee (smaller c callee w)) in
       let inner : IsUpTo (count_of c.kinds ⊕ depth_at table callee) (depth_by x.lists.routines (take c.routine table) w.instr.op w.instr.c (h.stacks c.place)) =
       subst (λ (d : Cells). IsUpTo (count_of c.kinds ⊕ d) (depth_by x.lists.routines (take c.routine table) w.instr.op w.instr.c (h.stacks c.place))) below
       (subst (λ (k : List Kind). IsUpTo (count_of k ⊕ depth_at (take c.routine table) callee) (depth_by x.lists.routines (take c.routine table) w.instr.op w.instr.c (h.stacks c.place))) (sym w.kinds)
@@ -232,7 +207,7 @@ module _ (s : ShapeLists) (x : Image) (table : List Cells) (typed : IsTyped s x)
   -- the same of open brackets
   place_there : (c : Calling) (h : Stands s x c) → c.place < length (skeleton_of x c.routine)
   place_there c h =
-      let i = there_or (code_of x c.routine) c.place h.within in
+      let i = slice_get_some (code_of x c.routine) c.place h.within in
       slice_get_within (skeleton_of x c.routine) c.place (control x.lists i.0) (slice_get-map (control x.lists) (code_of x c.routine) c.place ∙ ap (option_map (control x.lists)) i.1)
 
   open_waiting : (callee : ℕ) (below : List Calling) → callee < length x.lists.routines → AllWait s x callee below → frames_of x callee + open_in x below ≤ frames x
@@ -242,7 +217,7 @@ module _ (s : ShapeLists) (x : Image) (table : List Cells) (typed : IsTyped s x)
       let within = slice_get_within x.lists.routines c.routine w.stands.routine w.stands.there in
       let up = open_up (frames_below x c.routine) (skeleton_of x c.routine) (length (skeleton_of x c.routine)) c.place (place_there c w.stands) in
       let call = ap (frames_in_call (frames_below x c.routine)) (called_at c callee w) in
-      let told = frames_at x c.routine callee (smaller c callee w) in
+      let told = frames_told x c.routine callee (smaller c callee w) in
       let ih = open_waiting c.routine below within all.1 in
       omega arith
 

@@ -1,8 +1,9 @@
 -- A program has one first reason against it.
-use Rattle.std.proofs.Common.{◌≡◌, ℕ, zero, suc, ◌+◌, ◌<◌, ◌≤◌, List, [], ◌∷◌, length, Some, refl, sym, ap, ◌∙◌, subst, ⊎_elim, arith}
+use Rattle.std.proofs.Common.{◌≡◌, ℕ, suc, ◌+◌, ◌<◌, ◌≤◌, List, length, Some, sym, ap, ◌∙◌, subst, ⊎_elim, arith}
 use Rattle.std.specs.Prelude.{slice_get, false, ◌⊎◌}
 use Rattle.std.proofs.lemmas.Bool.{cases_lt, cases_order, false≢true}
 use Rattle.std.proofs.lemmas.Option.{same_Some, slice_get_within}
+use Rattle.cse_lemmas.proofs.Lists.{slice_get_some}
 use Rattle.cse_value.specs.Shape.{ShapeLists}
 use Rattle.cse_image_parts.specs.declared.instruction.Instr.{Instr}
 use Rattle.cse_image_parts.specs.Image.{Image, RoutineLists}
@@ -22,11 +23,6 @@ use Rattle.cse_verify.specs.FirstFault.{IsUntypedRoutine, IsTooLongRoutine, AreU
 
 refusal_eq : (e f : Refusal) → e.number ≡ f.number → e.routine ≡ f.routine → e.at ≡ f.at → e ≡ f
 refusal_eq e f p q r = λ i. record { number = p i; routine = q i; at = r i }
-
-there_or : {X : Type 0} (xs : List X) (r : ℕ) → r < length xs → (d : X) × (slice_get xs r ≡ Some d)
-there_or [] r lt = absurd (omega arith)
-there_or (x ∷ xs) zero lt = (x, refl)
-there_or (x ∷ xs) (suc r) lt = there_or xs r (omega arith)
 
 -- ---- the reasons against the typing of one routine, whose lists are y
 
@@ -142,7 +138,7 @@ untyped_within s x e why =
 untyped_faulty : (s : ShapeLists) (x : Image) (e : Refusal) → IsUntypedRoutine s x e → IsFaulty s x e
 untyped_faulty s x e u =
     let w = untyped_within s x e u.reason in
-    let y = there_or x.lists.routines e.routine w.0 in
+    let y = slice_get_some x.lists.routines e.routine w.0 in
     record { within = w.0; typed = w.1; bounded = u.bounded; fails = λ n lt typed bounded. untyped_never s x e y.0 y.1 u.reason (typed e.routine y.0 lt y.1) }
 
 long_faulty : (s : ShapeLists) (x : Image) (e : Refusal) → IsTooLongRoutine s x e → IsFaulty s x e
@@ -168,7 +164,7 @@ both_untyped : (s : ShapeLists) (x : Image) (e f : Refusal) → IsUntypedRoutine
 both_untyped s x e f a b =
     let same = same_routine s x e f (untyped_faulty s x e a) (untyped_faulty s x f b) in
     let w = untyped_within s x f b.reason in
-    let y = there_or x.lists.routines f.routine w.0 in
+    let y = slice_get_some x.lists.routines f.routine w.0 in
     let r = same_reason s x e f y.0 same (ap (slice_get x.lists.routines) same ∙ y.1) y.1 a.reason b.reason in
     refusal_eq e f r.0 same r.1
 
@@ -191,7 +187,7 @@ never_long : (s : ShapeLists) (x : Image) (e f : Refusal) → IsUntypedRoutine s
 never_long s x e f a b =
     let same = same_routine s x e f (untyped_faulty s x e a) (long_faulty s x f b) in
     let w = untyped_within s x e a.reason in
-    let y = there_or x.lists.routines e.routine w.0 in
+    let y = slice_get_some x.lists.routines e.routine w.0 in
     untyped_never s x e y.0 y.1 a.reason (b.routines e.routine y.0 (omega arith) y.1)
 
 -- ---- the reasons against the whole program

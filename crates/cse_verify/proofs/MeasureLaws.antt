@@ -4,6 +4,7 @@ use Rattle.std.specs.Prelude.{slice_get, ◌⊎◌}
 use Rattle.std.proofs.lemmas.Bool.{cases_lt}
 use Rattle.std.proofs.lemmas.List.{length_push, get_or_append_left, get_or_push, take-append-le, take_all}
 use Rattle.std.proofs.lemmas.Option.{slice_get_within, same_Some}
+use Rattle.cse_lemmas.proofs.Lists.{slice_get_push}
 use Rattle.cse_value.specs.Shape.{ShapeLists}
 use Rattle.cse_image_parts.specs.declared.instruction.Instr.{Instr}
 use Rattle.cse_image_parts.specs.Image.{Image, Lists, RoutineLists}
@@ -19,11 +20,12 @@ use Rattle.cse_code_typing.specs.Shapes.{shape_of}
 use Rattle.cse_code_typing.specs.Checked.{IsSound, FailsRules, FailsCalls, FailsTyping, Fails}
 use Rattle.cse_code_typing.specs.Typed.{scene_of, AreTypedBelow, IsTypedRoutine, IsOutOfMemory, BreaksRules, MayNotStand, HasNoStack}
 use Rattle.cse_code_typing.proofs.Few.{none_kept}
-use Rattle.cse_code_typing.proofs.TypedLaws.{routine_typed, typed_more}
+use Rattle.cse_code_typing.proofs.TypedLaws.{routine_typed, typed_more, routine_of}
 use Rattle.cse_code_bounds.specs.Limit.{step_limit}
 use Rattle.cse_code_bounds.specs.Bound.{partial, bounds_below, bound, AreBoundedBelow, PassesLimit, IsTooLong, CallsBelow}
 use Rattle.cse_code_bounds.specs.Frames.{most_frames, frames_below}
 use Rattle.cse_code_bounds.proofs.EventLaws.{length-bounds, table_small}
+use Rattle.cse_code_bounds.proofs.OpenLaws.{length-frames}
 use Rattle.cse_verify.proofs.CallLaws.{calls_below}
 use Rattle.cse_verify.specs.FirstFault.{IsUntypedRoutine, IsTooLongRoutine, IsFirstFault}
 use Rattle.cse_verify.specs.Measured.{AreMeasured, Exceeds}
@@ -45,11 +47,6 @@ measured_start s x bounds frames cells a b c = record {
   cells_few = subst KeepFew (sym c) none_kept;
   few = λ r lt. let none = ap (λ (l : List ℕ). length l) b in absurd (omega arith);
 }
-
-length-frames : (x : Image) (n : ℕ) → length (frames_below x n) ≡ n
-unfolding frames_below
-length-frames x zero = refl
-length-frames x (suc n) = let ih = length-frames x n in length_push (frames_below x n) _ ∙ omega arith
 
 pub bounds_length : (s : ShapeLists) (x : Image) (n : ℕ) (bounds frames : List ℕ) (cells : List Cells) → AreMeasured s x n bounds frames cells → length bounds ≡ n
 bounds_length s x n bounds frames cells m = ap (λ (l : List ℕ). length l) m.bounds_are ∙ length-bounds x n
@@ -102,12 +99,6 @@ at_left [] ys i lt = absurd (omega arith)
 at_left (x ∷ xs) ys zero lt = refl
 at_left (x ∷ xs) ys (suc i) lt = at_left xs ys i (omega arith)
 
-at_end : {X : Type 0} (xs : List X) (y : X) (i : ℕ) → i ≡ length xs → slice_get (xs ++ y ∷ []) i ≡ Some y
-at_end [] y zero e = refl
-at_end [] y (suc i) e = absurd (omega arith)
-at_end (x ∷ xs) y zero e = absurd (omega arith)
-at_end (x ∷ xs) y (suc i) e = at_end xs y i (omega arith)
-
 -- the depth of one more routine, by those of the routines before it
 pub depths_more : (s : ShapeLists) (x : Image) (n : ℕ) (y : RoutineLists) (lists : Lists) (code : List Instr) (seen cells next : List Cells) (d : Cells) → slice_get x.lists.routines n ≡ Some y → lists ≡ x.lists → code ≡ code_of x n → seen ≡ cells
     → length cells ≡ n → AreDepths s x cells → IsDepth (scene_with s lists y) seen code d → next ≡ cells ++ d ∷ [] → AreDepths s x next
@@ -122,7 +113,7 @@ depths_more s x n y lists code seen cells next d there same is all_seen count de
     subst (λ (l : List Cells). IsDepth (scene_of s x z) l (code_of x r) e) (sym front) before)
     (λ (l : n ≤ r).
     let last : n ≡ r = omega arith in
-    let e_is : d ≡ e = same_Some d e (sym (at_end cells d r (omega arith)) ∙ told) in
+    let e_is : d ≡ e = same_Some d e (sym (slice_get_push cells d r (omega arith)) ∙ told) in
     let z_is : y ≡ z = same_Some y z (sym there ∙ ap (λ k. slice_get x.lists.routines k) last ∙ routine) in
     let all : cells ≡ take r next = sym (front ∙ take_all r cells (omega arith)) in
     let h : IsDepth (scene_with s lists y) cells code d = subst (λ (l : List Cells). IsDepth (scene_with s lists y) l code d) all_seen here in
@@ -134,15 +125,7 @@ depths_more s x n y lists code seen cells next d there same is all_seen count de
     subst (λ (k : Cells). IsDepth (scene_of s x z) (take r next) (code_of x r) k) e_is g)
     (cases_lt r n)
 
-pub one_more : (cells next : List Cells) (d : Cells) (n : ℕ) → length cells ≡ n → next ≡ cells ++ d ∷ [] → length next ≡ n + 1
-one_more cells next d n count pushed = let a = ap (λ (l : List Cells). length l) pushed in let b = length_push cells d in omega arith
-
 -- ---- the first reason against a routine
-
-routine_of : (s : Scene) (r : ℕ) (code : List Instr) (e : Refusal) → Fails s r code e → e.routine ≡ r
-routine_of s r code e fails =
-    ⊎_elim (λ (f : FailsRules s r code e). f.routine)
-    (λ rest. ⊎_elim (λ (f : FailsCalls s r code e). f.routine) (λ (f : FailsTyping s r code e). f.routine) rest) fails
 
 untyped_at : (s : ShapeLists) (x : Image) (y : RoutineLists) (e : Refusal) → s ≡ shape_of x → slice_get x.lists.routines e.routine ≡ Some y → AreTypedBelow s x e.routine
     → Fails (scene_of s x y) e.routine (code_of x e.routine) e → BreaksRules s x e ⊎ (MayNotStand s x e ⊎ HasNoStack s x e)

@@ -82,7 +82,7 @@ long_never s x e b bounded =
     let grows = partial_grows (bounds_below x e.routine) (skeleton_of x e.routine) (suc e.at) (length (skeleton_of x e.routine)) (omega arith) in
     omega arith
 
-untyped_never : (s : ShapeLists) (x : Image) (e : Refusal) → BreaksRules s x e ⊎ (MayNotStand s x e ⊎ HasNoStack s x e) → Refuses s x e
+pub untyped_never : (s : ShapeLists) (x : Image) (e : Refusal) → BreaksRules s x e ⊎ (MayNotStand s x e ⊎ HasNoStack s x e) → Refuses s x e
 untyped_never s x e why =
     ⊎_elim (λ (b : BreaksRules s x e). inr (inl b))
     (λ rest. ⊎_elim (λ (b : MayNotStand s x e). inr (inr (inl b))) (λ (b : HasNoStack s x e). inr (inr (inr (inl b)))) rest) why

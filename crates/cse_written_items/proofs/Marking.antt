@@ -1,6 +1,8 @@
 -- Marks of one list of items and then of another.
-use Rattle.std.proofs.Common.{◌≡◌, ℕ, zero, suc, ◌+◌, ◌<◌, ◌≤◌, List, [], ◌∷◌, ◌++◌, length, drop, drop-cons, get_or, refl, sym, ap, ◌∙◌, append_assoc, arith}
+use Rattle.std.proofs.Common.{◌≡◌, ℕ, ◌+◌, ◌<◌, ◌≤◌, List, [], ◌∷◌, ◌++◌, length, drop, get_or, refl, sym, ap, ◌∙◌, append_assoc}
 use Rattle.std.specs.Prelude.{Bool, slice_set, true}
+use Rattle.std.proofs.lemmas.List.{drop_all}
+use Rattle.cse_lemmas.proofs.Lists.{drop_read}
 use Rattle.cse_logic_tree.specs.Typed.{Number, Statements, Arms, Procedure, Tree, no_arm, arms}
 use Rattle.cse_written_items.specs.Items.{written_by_all, written_by_arms, written_by_globals, written_by_procedures, written_by_tree}
 use Rattle.cse_written_items.specs.Marks.{marked}
@@ -14,17 +16,6 @@ pub marked_none : (marks : List Bool) → marked marks [] ≡ marks
 unfolding marked
 marked_none marks = refl
 
-drop_is : {A : Type 0} (items : List A) (i : ℕ) (x : A) → i < length items → x ≡ get_or items i x → drop i items ≡ x ∷ drop (i + 1) items
-drop_is items i x lt is =
-    let one : suc i ≡ i + 1 = omega arith in
-    drop-cons items i x lt ∙ ap (λ y. y ∷ drop (suc i) items) (sym is) ∙ ap (λ n. x ∷ drop n items) one
-
-past : {A : Type 0} → (xs : List A) (i : ℕ) → length xs ≤ i → drop i xs ≡ []
-past [] zero le = refl
-past [] (suc i) le = refl
-past (x ∷ xs) zero le = absurd (omega arith)
-past (x ∷ xs) (suc i) le = past xs i (omega arith)
-
 -- one member of a list more
 pub marked_turn : {A : Type 0} (f : A → List ℕ) (k : List A → List ℕ) → ((x : A) (xs : List A) → k (x ∷ xs) ≡ f x ++ k xs) → (items : List A) (i : ℕ) (x : A) → i < length items → x ≡ get_or items i x
     → (marks marks' total : List Bool) → marked marks (k (drop i items)) ≡ total → marks' ≡ marked marks (f x) → marked marks' (k (drop (i + 1) items)) ≡ total
@@ -32,12 +23,12 @@ marked_turn f k h items i x lt is marks marks' total inv e =
     ap (λ z. marked z (k (drop (i + 1) items))) e
     ∙ sym (marked_both marks (f x) (k (drop (i + 1) items)))
     ∙ ap (marked marks) (sym (h x (drop (i + 1) items)))
-    ∙ ap (λ l. marked marks (k l)) (sym (drop_is items i x lt is))
+    ∙ ap (λ l. marked marks (k l)) (sym (drop_read items i x lt is))
     ∙ inv
 
 pub marked_end : {A : Type 0} (k : List A → List ℕ) → k [] ≡ [] → (items : List A) (i : ℕ) → length items ≤ i → (marks total : List Bool) → marked marks (k (drop i items)) ≡ total → marks ≡ total
 marked_end k h items i le marks total inv =
-    sym (marked_none marks) ∙ ap (marked marks) (sym (ap k (past items i le) ∙ h)) ∙ inv
+    sym (marked_none marks) ∙ ap (marked marks) (sym (ap k (drop_all i items le) ∙ h)) ∙ inv
 
 -- the arms, and then the `else`
 pub arms_then : (xs : List (Number × Statements)) (last : Arms) → written_by_arms (arms xs last) ≡ written_by_arms (arms xs no_arm) ++ written_by_arms last

@@ -5,6 +5,7 @@ use Rattle.std.specs.List.{filter, list_any, range_with_len}
 use Rattle.std.proofs.lemmas.Bool.{cases_eq, eq-eqb, ne_eqb}
 use Rattle.std.proofs.lemmas.List.{get_or-set_same, get_or-set_other, get_or-replicate}
 use Rattle.std.proofs.Math.ListN.{length-set, length-replicate}
+use Rattle.cse_lemmas.proofs.Booleans.{or-false}
 use Rattle.cse_logic_tree.specs.Typed.{Tree}
 use Rattle.cse_written_items.specs.Items.{is_written, written_by_tree}
 use Rattle.cse_written_items.specs.Marks.{marked}
@@ -14,10 +15,6 @@ unfolding marked
 length_marked marks [] = refl
 length_marked marks (x ∷ xs) = length_marked (slice_set marks x true) xs ∙ length-set marks x true
 
-or_false : (b : Bool) → b ≡ (b || false)
-or_false true = refl
-or_false false = refl
-
 or_true : (b c : Bool) → true ≡ (b || (true || c))
 or_true true c = refl
 or_true false c = refl
@@ -25,7 +22,7 @@ or_true false c = refl
 -- an item is marked where it was, or is one of these
 marked_at : (marks : List Bool) (items : List ℕ) (i : ℕ) → i < length marks → get_or (marked marks items) i false ≡ (get_or marks i false || list_any (λ x. nat_eq i x) items)
 unfolding marked
-marked_at marks [] i below = or_false (get_or marks i false)
+marked_at marks [] i below = sym (or-false (get_or marks i false))
 marked_at marks (x ∷ xs) i below =
     let rest = marked_at (slice_set marks x true) xs i (omega (arith, length-set marks x true)) in
     elim (cases_eq i x) [

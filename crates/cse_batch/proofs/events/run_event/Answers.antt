@@ -1,10 +1,11 @@
 use Rattle.std.proofs.Common.{Some, [], ◌∷◌, ◌∙◌, ap, refl, subst, sym}
+use Rattle.std.proofs.lemmas.Result.{on_ok_weaker}
 use Rattle.cse_code_bounds.specs.CaseEvents.{moment}
 use Rattle.cse_code_typing.specs.Handlers.{routine_of}
 use Rattle.cse_machine.specs.Results.{AllFitFirst}
 use Rattle.cse_verify.specs.Verified.{VerifiedProgram}
 use Rattle.cse_steps.specs.State.{world_of}
-use Rattle.cse_batch.proofs.SceneLaws.{all_fit, all_ran_fits, all_ran_scene, on_ok}
+use Rattle.cse_batch.proofs.SceneLaws.{all_fit, all_ran_fits, all_ran_scene}
 use Rattle.cse_batch.proofs.events.run_event.Goals as goal
 
 pub run_handled-requires-clause-handled : goal.run_handled-requires-clause-handled
@@ -24,7 +25,7 @@ returns-clause-scene g c =
     let v = c.args.verified.now in
     let m = moment c.args.event.code c.args.event.index 0 in
     let ran = rw c.requires.machine at c.run_handled.ensures.ended in
-    on_ok c.run_handled.result (all_ran_scene v (m ∷ []) (Some c.args.case.now) (Some c.run_handled.new.case) c.args.store.now c.run_handled.new.store c.args.reports.now c.run_handled.new.reports) ran
+    on_ok_weaker c.run_handled.result (all_ran_scene v (m ∷ []) (Some c.args.case.now) (Some c.run_handled.new.case) c.args.store.now c.run_handled.new.store c.args.reports.now c.run_handled.new.reports) ran
 
 pub returns-clause-goes_on : goal.returns-clause-goes_on
 returns-clause-goes_on g c =
@@ -32,4 +33,4 @@ returns-clause-goes_on g c =
     let case = Some c.args.case.now in
     let m = moment c.args.event.code c.args.event.index 0 in
     let ran = rw c.requires.machine at c.run_handled.ensures.ended in
-    on_ok c.run_handled.result (all_ran_fits v c.event_ends.ensures c.args.case.now (m ∷ []) case (Some c.run_handled.new.case) c.args.store.now c.run_handled.new.store c.args.reports.now c.run_handled.new.reports c.requires.goes_on (c.requires.there, tt)) ran
+    on_ok_weaker c.run_handled.result (all_ran_fits v c.event_ends.ensures c.args.case.now (m ∷ []) case (Some c.run_handled.new.case) c.args.store.now c.run_handled.new.store c.args.reports.now c.run_handled.new.reports c.requires.goes_on (c.requires.there, tt)) ran

@@ -1,4 +1,5 @@
 use Rattle.std.proofs.Common.{List, Some, ap, refl, subst, sym, ◌∙◌}
+use Rattle.std.proofs.lemmas.Result.{on_ok_weaker}
 use Rattle.cse_steps.specs.Fits.{occurrences_in}
 use Rattle.cse_steps.specs.State.{world_of}
 use Rattle.cse_machine.specs.declared.handled.Handled.{Handled}
@@ -7,7 +8,7 @@ use Rattle.cse_machine.specs.Results.{AllFitFirst, in_occurrence}
 use Rattle.cse_verify.specs.Verified.{VerifiedProgram}
 use Rattle.cse_batch.specs.Scene.{scene, scene_after_all}
 use Rattle.cse_batch.proofs.HandledLaws.{all_handled, items_scene, items_there}
-use Rattle.cse_batch.proofs.SceneLaws.{all_fit, all_ran_fits, all_ran_scene, on_ok}
+use Rattle.cse_batch.proofs.SceneLaws.{all_fit, all_ran_fits, all_ran_scene}
 use Rattle.cse_batch.proofs.events.run_items.Goals as goal
 
 pub run_handled-requires-clause-handled : goal.run_handled-requires-clause-handled
@@ -38,7 +39,7 @@ returns-clause-scene g c =
     let all = items_scene v c.args.handled.now.number o before hs c.requires.handled.items in
     let same = ap (λ (l : List Handled). scene_after_all v before (in_occurrence o (events_of l))) c.deref.ensures.value in
     let ran = rw c.requires.machine at c.run_handled.ensures.ended in
-    on_ok c.run_handled.result (λ r. all_ran_scene v (in_occurrence o (events_of c.deref.result.now)) (Some c.args.case.now) (Some c.run_handled.new.case) c.args.store.now c.run_handled.new.store c.args.reports.now c.run_handled.new.reports r ∙ (same ∙ all)) ran
+    on_ok_weaker c.run_handled.result (λ r. all_ran_scene v (in_occurrence o (events_of c.deref.result.now)) (Some c.args.case.now) (Some c.run_handled.new.case) c.args.store.now c.run_handled.new.store c.args.reports.now c.run_handled.new.reports r ∙ (same ∙ all)) ran
 
 pub returns-clause-goes_on : goal.returns-clause-goes_on
 returns-clause-goes_on g c =
@@ -48,4 +49,4 @@ returns-clause-goes_on g c =
     let hs = c.args.handled.now.items.items in
     let there = items_there v.image (occurrences_in case) o c.args.handled.now.number hs c.requires.handled.items c.requires.low c.requires.high in
     let ran = rw (c.requires.machine, c.deref.ensures.value) at c.run_handled.ensures.ended in
-    on_ok c.run_handled.result (all_ran_fits v c.event_ends.ensures c.args.case.now (in_occurrence o (events_of hs)) case (Some c.run_handled.new.case) c.args.store.now c.run_handled.new.store c.args.reports.now c.run_handled.new.reports c.requires.goes_on there) ran
+    on_ok_weaker c.run_handled.result (all_ran_fits v c.event_ends.ensures c.args.case.now (in_occurrence o (events_of hs)) case (Some c.run_handled.new.case) c.args.store.now c.run_handled.new.store c.args.reports.now c.run_handled.new.reports c.requires.goes_on there) ran

@@ -1,9 +1,9 @@
 use Rattle.std.proofs.Common.{◌∙◌, ap, length, refl, inl, inr}
+use Rattle.cse_lemmas.proofs.Booleans.{bool_byte-cond}
 use Rattle.cse_output.proofs.GatherLaws.{Gathering-none}
 use Rattle.cse_lines.specs.Reader.{ReaderText}
 use Rattle.cse_report.specs.Held.{Held}
 use Rattle.cse_report.specs.declared.reports.Reports.{Reports}
-use Rattle.cse_batch.proofs.SoFarLaws.{byte_is}
 use Rattle.cse_batch.proofs.RunLaws.{halts_at_once, halts_fault, halts_memory, halts_writing, keeps_nothing, one_line, ran_all, running_case, running_none, unbegun}
 use Rattle.cse_batch.proofs.running.run_cases.Goals as goal
 use Rattle.cse_batch.proofs.running.run_cases.Goals.{then-written-via-then-written, then-written-via-else-written+then-listed}
@@ -65,7 +65,7 @@ runs-preserved g c =
     let more = running_case _ _ _ _ _ _ _ _ _ _ _ _ inv.running _ next c.in-Ok-Some.ensures.works c.edit.new.case c.edit.new.store c.edit.new.reports new _ _ c.is_case.result
     c.in-Ok-edit.ensures.edits c.put_to-in-Ok-Some.ensures c.put_beside.ensures.puts c.put_beside.ensures.held refl c.is_case.ensures c.in-Ok-Some.ensures.few in
     record {
-      running = rw (c.take_back.ensures.input, c.take_back.ensures.stream, c.from-cases.ensures ∙ byte_is _, c.lines-lines.ensures.lines, c.unseen.ensures) more;
+      running = rw (c.take_back.ensures.input, c.take_back.ensures.stream, c.from-cases.ensures ∙ bool_byte-cond _, c.lines-lines.ensures.lines, c.unseen.ensures) more;
       sound = ap (λ (s : ReaderText). s.error) c.take_back.ensures.stream ∙ c.in-Ok-Some.ensures.ok;
       same = c.take_back.ensures.same_reference ∙ c.in-Ok-Some.ensures.same_reference ∙ inv.same;
       machine = c.in-Ok-edit.ensures.same;

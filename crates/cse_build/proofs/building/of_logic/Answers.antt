@@ -1,9 +1,10 @@
 use Rattle.std.proofs.Common.{◌≡◌, ◌⊎◌, List, ℕ, inl, inr, refl, subst}
 use Rattle.std.specs.Prelude.{IfErr}
 use Rattle.std.proofs.lemmas.Str.{is_utf8-from_IsUtf8}
+use Rattle.cse_lemmas.proofs.Texts.{is_utf8_false}
 use Rattle.cse_build.specs.Fault.{out_of_memory}
 use Rattle.cse_build.specs.Build.{IsLogicFault}
-use Rattle.cse_build.proofs.Layers.{image_of_logic, no_text_is}
+use Rattle.cse_build.proofs.Layers.{image_of_logic}
 use Rattle.cse_build.proofs.building.of_logic.Goals as goal
 
 pub returns-in-Ok-clause-image : goal.returns-in-Ok-clause-image
@@ -16,4 +17,4 @@ returns-in-Ok-clause-fault c =
     subst (λ (bs : List ℕ). IfErr c.of_text.result (λ e. (e ≡ out_of_memory) ⊎ IsLogicFault c.args.dictionary.now c.args.messages.now bs e)) c.in-Ok.ensures.cases.0 c.of_text.ensures.fault
 
 pub returns-in-Err-clause-fault : goal.returns-in-Err-clause-fault
-returns-in-Err-clause-fault c = inr (inl (inl (refl, no_text_is c.args.logic.now c.in-Err.ensures.cases.0)))
+returns-in-Err-clause-fault c = inr (inl (inl (refl, is_utf8_false c.args.logic.now c.in-Err.ensures.cases.0)))

@@ -5,10 +5,10 @@ use Rattle.cse_lines.specs.declared.line.Ending.TheVariants.{FileEnd}
 use Rattle.std.specs.List.{flat_map}
 use Rattle.cse_lines.specs.Laid.{laid_line, laid_lines}
 use Rattle.cse_lines.specs.Written.{written_line}
-use Rattle.cse_lines.proofs.LaidLaws.{laid_within}
+use Rattle.cse_lines.proofs.LaidLaws.{laid_within, laid_fits}
 use Rattle.cse_output.proofs.GatherLaws.{Puts-then, Puts-as}
 use Rattle.cse_lines.specs.Bytes.{columns_lent}
-use Rattle.cse_case.proofs.CaseLaws.{laid_padded, written-more}
+use Rattle.cse_case.proofs.CaseLaws.{written-more}
 use Rattle.cse_case.proofs.write.put_lines.Goals as goal
 
 abbrev no : Line
@@ -18,7 +18,7 @@ pub put_line-requires-clause-within : goal.put_line-requires-clause-within
 put_line-requires-clause-within g c = laid_within 0 (columns_lent c.args.columns) c.args.lines.now c.lines.line-index (get_or c.args.lines.now c.lines.line-index no) c.requires c.lines-test.true (get_or_default c.args.lines.now c.lines.line-index no (get_or c.args.lines.now c.lines.line-index no) c.lines-test.true)
 
 pub put_line-requires-clause-padded : goal.put_line-requires-clause-padded
-put_line-requires-clause-padded g c = laid_padded 0 (columns_lent c.args.columns) c.args.lines.now c.lines.line-index (get_or c.args.lines.now c.lines.line-index no) c.requires c.lines-test.true (get_or_default c.args.lines.now c.lines.line-index no (get_or c.args.lines.now c.lines.line-index no) c.lines-test.true)
+put_line-requires-clause-padded g c = laid_fits 0 (columns_lent c.args.columns) c.args.lines.now c.lines.line-index (get_or c.args.lines.now c.lines.line-index no) c.requires c.lines-test.true (get_or_default c.args.lines.now c.lines.line-index no (get_or c.args.lines.now c.lines.line-index no) c.lines-test.true)
 
 pub lines-preserved : goal.lines-preserved
 lines-preserved g c =

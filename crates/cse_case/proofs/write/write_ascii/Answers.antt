@@ -1,8 +1,9 @@
 use Rattle.std.proofs.Common.{◌≡◌, ◌<◌, ◌≤◌, ℕ, length, get_or, refl, subst, arith}
 use Rattle.std.proofs.lemmas.Bool.{ltb-true}
+use Rattle.cse_lemmas.proofs.Numbers.{bit_or_bounds_more}
 use Rattle.cse_lines.specs.Bytes.{beside_lent}
 use Rattle.cse_lines.proofs.BytesLaws.{length-columns_by}
-use Rattle.cse_case.proofs.WriteLaws.{bits_more, bytes_more, own_bytes}
+use Rattle.cse_case.proofs.WriteLaws.{bytes_more, own_bytes}
 use Rattle.cse_case.proofs.write.write_ascii.Goals as goal
 
 pub bounds-bytes-i : goal.bounds-bytes-i
@@ -13,7 +14,7 @@ columns-preserved c =
     let ascii = c.args.columns.bytes.now in
     record {
       same = bytes_more ascii c.columns.bytes c.columns.i (bounds-bytes-i c) c.columns.invariant.same;
-      low = bits_more ascii c.columns.i c.columns.bits (get_or ascii c.columns.i 0) refl c.columns.invariant.low;
+      low = bit_or_bounds_more ascii c.columns.i c.columns.bits (get_or ascii c.columns.i 0) refl c.columns.invariant.low;
     }
 
 pub returns : goal.returns

@@ -1,7 +1,9 @@
 use Rattle.std.proofs.Common.{◌≡◌, ◌<◌, ◌-◌, ◌++◌, length, take, ap, sym, ◌∙◌, arith}
 use Rattle.std.specs.Prelude.{encode_utf8_all}
+use Rattle.std.proofs.lemmas.List.{get_or_default}
+use Rattle.cse_lemmas.proofs.Texts.{encodes_take_more}
 use Rattle.cse_lines.specs.Bytes.{columns_lent}
-use Rattle.cse_case.proofs.WriteLaws.{encode-more, get_or_any, length-rest, put_after}
+use Rattle.cse_case.proofs.WriteLaws.{length-rest, put_after}
 use Rattle.cse_case.proofs.write.write_utf8.Goals as goal
 
 pub columns-preserved : goal.columns-preserved
@@ -19,5 +21,5 @@ columns-preserved c =
           (omega (arith, c.columns.invariant.few, c.requires, within, c.columns.auto.bytes))
           (omega (arith, room, c.columns.invariant.few, c.write_column-n.ensures.few, c.requires, within, c.columns.auto.bytes))
           ∙ ap (λ l. l ++ take n new) c.columns.invariant.bytes ∙ ap (λ l. encode_utf8_all (take i columns) ++ l) c.write_column-n.ensures.bytes
-          ∙ sym (encode-more columns i c.at.result within (c.at.ensures ∙ get_or_any columns i 0 c.at.result within));
+          ∙ sym (encodes_take_more columns i c.at.result within (c.at.ensures ∙ get_or_default columns i 0 c.at.result within));
     }

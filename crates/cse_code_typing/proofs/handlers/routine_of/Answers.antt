@@ -1,6 +1,7 @@
-use Rattle.std.proofs.Common.{◌≡◌, ℕ, ◌+◌, ◌-◌, ◌/◌, ◌<◌, ◌≤◌, List, Option, Some, None, refl, sym, ap, ◌∙◌, arith}
+use Rattle.std.proofs.Common.{◌≡◌, ℕ, ◌+◌, ◌-◌, ◌/◌, ◌<◌, ◌≤◌, List, Some, None, refl, sym, ap, ◌∙◌, arith}
 use Rattle.std.proofs.lemmas.Option.{same_Some}
 use Rattle.std.specs.Prelude.{slice_get}
+use Rattle.cse_lemmas.proofs.Options.{none_and_some}
 use Rattle.cse_image_parts.specs.declared.entries.EventEntry.{EventEntry}
 use Rattle.cse_code_typing.specs.Handlers.{is_of, event_order}
 use Rattle.cse_code_typing.proofs.HandlerLaws.{order_at, events_ascend, upper_half, lower_half, found_at, not_there}
@@ -32,16 +33,13 @@ halves-preserved g c =
     lower_half events (event_order c.args.event.code c.args.event.index) c.halves.from c.halves.to middle c.in-Some.entry
     (events_ascend c.args.program.now events c.tables-ascend.ensures.fits refl) c.halves.invariant at le later
 
-no_entry : {X : Type 0} (o : Option X) (x : X) → o ≡ None → o ≡ Some x → ⊥
-no_entry o x h k = cc
-
 pub returns-in_err-entry : goal.returns-in_err-entry
 returns-in_err-entry g c =
     let events = c.args.program.now.lists.events in
     let none : slice_get events c.halves.from ≡ None = ap (λ (l : List EventEntry). slice_get l c.halves.from) (sym c.events-events.ensures) ∙ sym c.entry_at-2.ensures ∙ c.in_err-entry.was in
     c.from_residual.ensures
     ∙ not_there events c.args.event c.halves.from c.halves.to (events_ascend c.args.program.now events c.tables-ascend.ensures.fits refl) c.halves.invariant c.halves-test.false
-    (λ entry at. absurd (no_entry (slice_get events c.halves.from) entry none at))
+    (λ entry at. absurd (none_and_some (slice_get events c.halves.from) entry none at))
 
 pub returns-then-is_of : goal.returns-then-is_of
 returns-then-is_of g c =

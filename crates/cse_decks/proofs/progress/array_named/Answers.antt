@@ -1,7 +1,7 @@
 use Rattle.std.proofs.Common.{sym, ◌∙◌}
 use Rattle.std.specs.Str.{bytes_eq}
+use Rattle.cse_lemmas.proofs.Lists.{position-map}
 use Rattle.cse_image_parts.specs.Image.{ArrayLists, array_lists}
-use Rattle.cse_decks.proofs.InsideLaws.{position-map}
 use Rattle.cse_decks.proofs.progress.array_named.Goals as goal
 
 pub returns : goal.returns

@@ -1,7 +1,8 @@
 use Rattle.std.proofs.Common.{ap, refl, arith, length}
 use Rattle.std.specs.Str.{chars}
 use Rattle.std.proofs.lemmas.Str.{is_utf8-from_IsUtf8}
-use Rattle.cse_lines.proofs.DecodeLaws.{chars_fit, not_utf8}
+use Rattle.cse_lemmas.proofs.Texts.{is_utf8_false}
+use Rattle.cse_lines.proofs.DecodeLaws.{chars_fit}
 use Rattle.cse_lines.proofs.beyond.put_any.Goals as goal
 
 pub put_text-requires : goal.put_text-requires
@@ -14,4 +15,4 @@ pub returns-in-Ok-clause-utf8 : goal.returns-in-Ok-clause-utf8
 returns-in-Ok-clause-utf8 c = is_utf8-from_IsUtf8 c.args.text.now c.in-Ok.ensures.cases.1
 
 pub returns-in-Err-clause-err : goal.returns-in-Err-clause-err
-returns-in-Err-clause-err c = (refl, not_utf8 c.args.text.now c.in-Err.ensures.cases.0)
+returns-in-Err-clause-err c = (refl, is_utf8_false c.args.text.now c.in-Err.ensures.cases.0)

@@ -1,14 +1,10 @@
 use Rattle.std.proofs.Common.{◌+◌, ◌-◌, ◌≤◌, ◌∙◌, ℕ, length, sym, arith, take, drop, inl, inr, length-drop}
 use Rattle.std.proofs.lemmas.Bool.{cases_lt, false≢true}
 use Rattle.std.proofs.lemmas.List.{ext_get_or, length-take-le}
-use Rattle.cse_lines.proofs.AlikeLaws.{Done, plain_all, plain_here, plain_more, put_more, put_over}
+use Rattle.cse_lines.proofs.AlikeLaws.{Done, plain_all, plain_here, plain_more, put_more, put_over, past_end}
 use Rattle.cse_lines.proofs.LaidLaws.{length-with_columns}
 use Rattle.cse_lines.proofs.fill.put_sixteens.Goals as goal
 use Rattle.cse_lines.proofs.fill.put_sixteens.Goals.{then-is_next, else-is_next}
-
-past : (last k : ℕ) → Done 0 last k → last ≤ k
-past last k (inl low) = absurd (omega arith)
-past last k (inr high) = high
 
 pub sixteens-init : goal.sixteens-init
 sixteens-init c =
@@ -21,8 +17,8 @@ sixteens-init c =
       all = omega (arith, c.requires.some);
       low = omega arith;
       len = rw c.put_sixteen_at-is_plain.ensures.columns (length-with_columns last (take 16 (drop last text)) columns (omega (arith, n, c.requires.fits)) ∙ c.requires.fits);
-      same = λ k done below. rw c.put_sixteen_at-is_plain.ensures.columns (put_over 16 columns text last k c.requires.fits fits (past last k done) (omega (arith, c.requires.some)));
-      plain = λ ok k done below. plain_here 16 text last k fits (c.put_sixteen_at-is_plain.ensures.plain ok) (past last k done) (omega (arith, c.requires.some));
+      same = λ k done below. rw c.put_sixteen_at-is_plain.ensures.columns (put_over 16 columns text last k c.requires.fits fits (past_end last k done) (omega (arith, c.requires.some)));
+      plain = λ ok k done below. plain_here 16 text last k fits (c.put_sixteen_at-is_plain.ensures.plain ok) (past_end last k done) (omega (arith, c.requires.some));
     }
 
 pub sixteens-preserved : goal.sixteens-preserved

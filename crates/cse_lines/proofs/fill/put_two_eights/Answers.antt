@@ -1,19 +1,10 @@
-use Rattle.std.proofs.Common.{◌≡◌, ◌+◌, ◌-◌, ◌<◌, ◌≤◌, ◌∙◌, ℕ, Bool, true, false, List, length, get_or, refl, ap, arith, take, drop, inl, inr, length-drop}
-use Rattle.std.specs.Prelude.{◌&&◌}
-use Rattle.std.proofs.lemmas.Bool.{cases_lt, false≢true}
+use Rattle.std.proofs.Common.{◌≡◌, ◌+◌, ◌-◌, ◌<◌, ◌≤◌, ◌∙◌, ℕ, List, length, get_or, ap, arith, take, drop, inl, inr, length-drop}
+use Rattle.std.proofs.lemmas.Bool.{cases_lt, and_parts}
 use Rattle.std.proofs.lemmas.List.{ext_get_or, length-take-le}
 use Rattle.cse_lines.specs.Run.{with_columns}
-use Rattle.cse_lines.proofs.AlikeLaws.{Done, PlainAt, plain_all, plain_here, plain_more, put_more, put_over}
+use Rattle.cse_lines.proofs.AlikeLaws.{Done, PlainAt, plain_all, plain_here, plain_more, put_more, put_over, past_end}
 use Rattle.cse_lines.proofs.LaidLaws.{length-with_columns}
 use Rattle.cse_lines.proofs.fill.put_two_eights.Goals as goal
-
-past : (last k : ℕ) → Done 0 last k → last ≤ k
-past last k (inl low) = absurd (omega arith)
-past last k (inr high) = high
-
-both : (a b : Bool) → a && b ≡ true → (a ≡ true) × (b ≡ true)
-both true b h = (refl, h)
-both false b h = absurd (false≢true h)
 
 pub returns : goal.returns
 returns c =
@@ -28,7 +19,7 @@ returns c =
     let len : length end ≡ length text = length-with_columns last (take 8 (drop last text)) columns (omega (arith, n, c.requires.fits)) ∙ c.requires.fits in
     let wide : length (with_columns 0 (take 8 (drop 0 text)) end) ≡ length text = length-with_columns 0 (take 8 (drop 0 text)) end (omega (arith, m, len, front_fits)) ∙ len in
     let same : (k : ℕ) → Done 0 last k → k < length text → get_or end k 0 ≡ get_or text k 0 =
-    λ k done below. put_over 8 columns text last k c.requires.fits end_fits (past last k done) (omega (arith, c.requires.some)) in
+    λ k done below. put_over 8 columns text last k c.requires.fits end_fits (past_end last k done) (omega (arith, c.requires.some)) in
     let all : (k : ℕ) → Done (0 + 8) last k = λ k. elim (cases_lt k 8) [
       | inl low ↦ inl (omega arith)
       | inr high ↦ inr (omega (arith, c.requires.few))
@@ -38,8 +29,8 @@ returns c =
     record {
       columns = is ∙ ext_get_or 0 _ _ wide (λ k below. put_more 8 end text 0 last len front_fits same k (all k) (omega (arith, wide)));
       plain = λ ok.
-          let plains = both c.put_eight_at-is_end_plain.result c.put_eight_at-is_front_plain.result ok in
+          let plains = and_parts c.put_eight_at-is_end_plain.result c.put_eight_at-is_front_plain.result ok in
           let end_plain : (k : ℕ) → Done 0 last k → k < length text → PlainAt text k =
-          λ k done below. plain_here 8 text last k end_fits (c.put_eight_at-is_end_plain.ensures.plain plains.0) (past last k done) (omega (arith, c.requires.some)) in
+          λ k done below. plain_here 8 text last k end_fits (c.put_eight_at-is_end_plain.ensures.plain plains.0) (past_end last k done) (omega (arith, c.requires.some)) in
           plain_all text (λ k below. plain_more 8 text 0 last front_fits (c.put_eight_at-is_front_plain.ensures.plain plains.1) end_plain k (all k) below);
     }

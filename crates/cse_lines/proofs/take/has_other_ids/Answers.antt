@@ -1,10 +1,11 @@
 use Rattle.std.proofs.Common.{arith, subst}
+use Rattle.std.proofs.lemmas.Bool.{not-true, not-false}
 use Rattle.cse_lines.specs.Bytes.{columns_lent}
 use Rattle.cse_lines.specs.declared.decode.Beginning.{Beginning}
 use Rattle.cse_lines.specs.Field.{ids_of}
 use Rattle.cse_lines.specs.Taking.{BeginsAsLast, run_id}
 use Rattle.cse_lines.proofs.LastLaws.{alike_ids, apart_ids}
-use Rattle.cse_lines.proofs.TakeLaws.{ids_fit, ids_test, not_false, not_true, other_ids, same_ids}
+use Rattle.cse_lines.proofs.TakeLaws.{ids_fit, ids_test, other_ids, same_ids}
 use Rattle.cse_lines.proofs.take.has_other_ids.Goals as goal
 
 pub has_same_ids-requires-clause-left : goal.has_same_ids-requires-clause-left
@@ -33,7 +34,7 @@ returns-in-Unknown-clause-same c = λ e.
     let run = c.args.run.now in
     let columns = columns_lent c.args.columns in
     same_ids (run_id d run) (ids_of d columns) c.has_same_ids.result (ids_test d run c.args.layout.now (columns_lent c.first_columns.result) columns c.has_same_ids.result c.has_same_ids.ensures c.requires.layout c.first_columns.ensures)
-    (not_false c.has_same_ids.result e)
+    (not-false c.has_same_ids.result e)
 
 pub returns-in-Unknown-clause-other : goal.returns-in-Unknown-clause-other
 returns-in-Unknown-clause-other c = λ e.
@@ -41,4 +42,4 @@ returns-in-Unknown-clause-other c = λ e.
     let run = c.args.run.now in
     let columns = columns_lent c.args.columns in
     other_ids (run_id d run) (ids_of d columns) c.has_same_ids.result (ids_test d run c.args.layout.now (columns_lent c.first_columns.result) columns c.has_same_ids.result c.has_same_ids.ensures c.requires.layout c.first_columns.ensures)
-    (not_true c.has_same_ids.result e)
+    (not-true c.has_same_ids.result e)

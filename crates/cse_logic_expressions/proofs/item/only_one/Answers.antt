@@ -1,8 +1,8 @@
 use Rattle.std.proofs.Common.{◌∙◌, ap, sym, arith}
 use Rattle.std.specs.Prelude.{◌||◌, not}
+use Rattle.cse_lemmas.proofs.Booleans.{or-true}
 use Rattle.cse_logic_tree.specs.Typed.{number}
 use Rattle.cse_logic_names.specs.Walk.{is_there}
-use Rattle.cse_logic_names.proofs.Walks.{or_true}
 use Rattle.cse_logic_expressions.proofs.Subscripts.{sole_else}
 use Rattle.cse_logic_expressions.proofs.item.only_one.Goals as goal
 
@@ -11,5 +11,5 @@ returns-then-len-ne1-clause-value c = sym (sole_else number c.args.subscripts.it
 
 pub returns-then-len-ne1-clause-noted : goal.returns-then-len-ne1-clause-noted
 returns-then-len-ne1-clause-noted c =
-    c.note.ensures ∙ sym (or_true (c.args.faults.now.found))
+    c.note.ensures ∙ sym (or-true (c.args.faults.now.found))
     ∙ ap (λ o. c.args.faults.now.found || not (is_there o)) (sym (sole_else number c.args.subscripts.items (λ e. omega (arith, e, c.len.ensures, c.if-len-ne1.true))))

@@ -3,8 +3,8 @@ use Rattle.std.specs.Prelude.{IfSome, nat_eq, position}
 use Rattle.std.proofs.lemmas.List.{length-map}
 use Rattle.cse_value.specs.declared.shape.SetShape.{SetShape}
 use Rattle.cse_dict.specs.Dictionary.{SetText}
-use Rattle.cse_logic_expressions.proofs.Sets.{first_set_is}
 use Rattle.cse_logic_expressions.proofs.set.place_of_set.Goals as goal
+use Rattle.cse_logic_names.proofs.Sets.{first_set_is}
 
 few : (o : Option ℕ) (n : ℕ) → IfSome o (λ k. k < n) → n ≤ 10000 → IfSome o (λ k. k ≤ 10000)
 few None n h le = tt

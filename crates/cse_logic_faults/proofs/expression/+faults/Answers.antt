@@ -5,7 +5,7 @@ use Rattle.cse_syntax_tree.specs.declared.tree.Operation.{Operation}
 use Rattle.cse_syntax_tree.specs.Tree.{written, expr, exprs, operations, operation_tree}
 use Rattle.cse_logic_names.specs.Scope.{meant}
 use Rattle.cse_logic_faults.specs.FaultsOfExpressions.{expr_faults, number_faults, numbers_faults, operations_faults, indexed_faults}
-use Rattle.cse_logic_faults.proofs.Lists.{behind, turn, end}
+use Rattle.cse_logic_faults.proofs.Lists.{behind, turn, found_end}
 use Rattle.cse_logic_faults.proofs.Nodes.{indexed_found, chain_found, numbers_more, numbers_none, operations_turn, operations_end}
 use Rattle.cse_logic_faults.proofs.expression.+faults.Goals as goal
 
@@ -23,7 +23,7 @@ pub numbers-returns : goal.numbers-returns
 numbers-returns t c =
     let items = c.args.all.now.items in
     let le : length items ≤ c.all.x-index = subst (λ (xs : List Expression). length xs ≤ c.all.x-index) c.deref-x-items.ensures.value c.all-test.false in
-    end (λ (ys : List Expression). numbers_faults c.args.counts.now c.args.scope.now (exprs (map expr ys))) (numbers_none c.args.counts.now c.args.scope.now) items c.all.x-index le _ _ c.all.invariant
+    found_end (λ (ys : List Expression). numbers_faults c.args.counts.now c.args.scope.now (exprs (map expr ys))) (numbers_none c.args.counts.now c.args.scope.now) items c.all.x-index le _ _ c.all.invariant
 
 pub operations_in-all-preserved : goal.operations_in-all-preserved
 operations_in-all-preserved t c =
@@ -39,7 +39,7 @@ pub operations_in-returns : goal.operations_in-returns
 operations_in-returns t c =
     let items = c.args.all.now.items in
     let le : length items ≤ c.all.x-index = subst (λ (xs : List Operation). length xs ≤ c.all.x-index) c.deref-x-items.ensures.value c.all-test.false in
-    end (λ (ys : List Operation). operations_faults c.args.counts.now c.args.scope.now c.args.top (operations (map operation_tree ys))) (operations_end c.args.counts.now c.args.scope.now c.args.top) items c.all.x-index le _ _ c.all.invariant.found
+    found_end (λ (ys : List Operation). operations_faults c.args.counts.now c.args.scope.now c.args.top (operations (map operation_tree ys))) (operations_end c.args.counts.now c.args.scope.now c.args.top) items c.all.x-index le _ _ c.all.invariant.found
 
 pub expression-returns-in_ok-numbers-in-Indexed : goal.expression-returns-in_ok-numbers-in-Indexed
 expression-returns-in_ok-numbers-in-Indexed t c =

@@ -4,7 +4,7 @@ use Rattle.cse_syntax_tree.specs.declared.tree.Expression.{Expression}
 use Rattle.cse_syntax_tree.specs.Tree.{expr, exprs}
 use Rattle.cse_logic_faults.specs.FaultsOfExpressions.{expr_faults}
 use Rattle.cse_logic_faults.specs.FaultsOfStatements.{values_faults}
-use Rattle.cse_logic_faults.proofs.Lists.{turn, end}
+use Rattle.cse_logic_faults.proofs.Lists.{turn, found_end}
 use Rattle.cse_logic_faults.proofs.message.values_in.Goals as goal
 
 pub all-preserved : goal.all-preserved
@@ -21,4 +21,4 @@ pub returns : goal.returns
 returns c =
     let items = c.args.all.now.items in
     let le : length items ≤ c.all.x-index = subst (λ (xs : List Expression). length xs ≤ c.all.x-index) c.deref-x-items.ensures.value c.all-test.false in
-    end (λ (ys : List Expression). values_faults c.args.counts.now c.args.scope.now (exprs (map expr ys))) refl items c.all.x-index le _ _ c.all.invariant
+    found_end (λ (ys : List Expression). values_faults c.args.counts.now c.args.scope.now (exprs (map expr ys))) refl items c.all.x-index le _ _ c.all.invariant

@@ -2,8 +2,8 @@ use Rattle.std.proofs.Common.{◌≡◌, ◌∙◌, ap, map}
 use Rattle.std.specs.Prelude.{nat_eq, position}
 use Rattle.cse_value.specs.declared.shape.SetShape.{SetShape}
 use Rattle.cse_dict.specs.Dictionary.{SetText}
-use Rattle.cse_logic_faults.proofs.Sets.{first_set_is}
 use Rattle.cse_logic_faults.proofs.set.place_of_set.Goals as goal
+use Rattle.cse_logic_names.proofs.Sets.{first_set_is}
 
 pub returns-clause-place : goal.returns-clause-place
 returns-clause-place c =

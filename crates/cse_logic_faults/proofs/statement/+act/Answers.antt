@@ -1,12 +1,12 @@
 use Rattle.std.proofs.Common.{◌≡◌, ◌∙◌, ap, sym, ◌<◌, ◌≤◌, length, get_or, map, subst, List, [], ◌++◌}
+use Rattle.std.proofs.lemmas.List.{append-nil}
 use Rattle.cse_syntax_tree.specs.declared.tree.Statement.{Statement}
 use Rattle.cse_syntax_tree.specs.declared.tree.Arm.{Arm}
 use Rattle.cse_syntax_tree.specs.Tree as syntax
 use Rattle.cse_syntax_tree.specs.Tree.{written, stmt, block, arms, arm_tree, no_arm, otherwise_tree}
-use Rattle.cse_logic_names.proofs.Walks.{append_none}
 use Rattle.cse_logic_faults.specs.FaultsOfStatements.{stmt_faults, stmts_faults, arms_faults, for_faults, for_scope, counting_faults, do_scope}
 use Rattle.cse_logic_faults.specs.Operators.{arm_faults}
-use Rattle.cse_logic_faults.proofs.Lists.{behind, turn, end}
+use Rattle.cse_logic_faults.proofs.Lists.{behind, turn, found_end}
 use Rattle.cse_logic_faults.proofs.Blocks.{block_more, block_none, arms_more, arms_none, choice_found, else_found, for_found, do_found}
 use Rattle.cse_logic_faults.proofs.statement.+act.Goals as goal
 
@@ -31,7 +31,7 @@ block-returns-clause-found t c =
     let s = c.args.scope.now in
     let items = c.args.all.now.items in
     let le : length items ≤ c.all.x-index = subst (λ (xs : List Statement). length xs ≤ c.all.x-index) c.deref-x-items.ensures.value c.all-test.false in
-    end (λ (ys : List Statement). stmts_faults cs s (block ys)) (block_none cs s) items c.all.x-index le _ _ c.all.invariant.found
+    found_end (λ (ys : List Statement). stmts_faults cs s (block ys)) (block_none cs s) items c.all.x-index le _ _ c.all.invariant.found
 
 pub arms-all-preserved : goal.arms-all-preserved
 arms-all-preserved t c =
@@ -54,7 +54,7 @@ arms-returns-clause-found t c =
     let s = c.args.scope.now in
     let items = c.args.all.now.items in
     let le : length items ≤ c.all.x-index = subst (λ (xs : List Arm). length xs ≤ c.all.x-index) c.deref-x-items.ensures.value c.all-test.false in
-    end (λ (ys : List Arm). arms_faults cs s (arms (map arm_tree ys) no_arm)) (arms_none cs s) items c.all.x-index le _ _ c.all.invariant.found
+    found_end (λ (ys : List Arm). arms_faults cs s (arms (map arm_tree ys) no_arm)) (arms_none cs s) items c.all.x-index le _ _ c.all.invariant.found
 
 -- ---- statements that hold others
 
@@ -66,7 +66,7 @@ statement-returns-in-None-clause-found t c =
     let first = c.in-If.first in
     let others = c.in-If.others in
     let last : arms_faults cs s (otherwise_tree c.in-If.otherwise) ≡ [] = ap (λ o. arms_faults cs s (otherwise_tree o)) c.in-None.is ∙ arms_none cs s in
-    sym (append_none c.arms.new.found)
+    sym (append-nil c.arms.new.found)
     ∙ ap (λ z. c.arms.new.found ++ z) (sym last)
     ∙ choice_found cs s first others c.in-If.otherwise g c.arm.new.found c.arms.new.found c.arm.new.scope c.in_ok-arm-in-If.ensures.found c.in_ok-arm-in-If.ensures.same c.in_ok-arms-in-If.ensures.found
     ∙ ap (λ (x : Statement). g ++ stmt_faults cs s (stmt x)) (sym c.in-If.is)

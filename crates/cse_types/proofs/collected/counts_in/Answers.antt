@@ -1,6 +1,6 @@
 use Rattle.std.proofs.Common.{◌≡◌, ◌<◌, ◌≤◌, get_or, length, subst, List}
+use Rattle.cse_lemmas.proofs.Lists.{drop_read}
 use Rattle.cse_syntax_tree.specs.declared.tree.Declaration.{Declaration}
-use Rattle.cse_logic_names.proofs.Walks.{drop_is}
 use Rattle.cse_types.proofs.FoundLaws.{counts_turn, counts_end}
 use Rattle.cse_types.proofs.collected.counts_in.Goals as goal
 
@@ -11,7 +11,7 @@ all-preserved c =
     let whole = c.deref-x-items.ensures.value in
     let lt : c.all.x-index < length items = subst (λ (xs : List Declaration). c.all.x-index < length xs) whole c.all-test.true in
     let is : x ≡ get_or items c.all.x-index x = subst (λ (xs : List Declaration). x ≡ get_or xs c.all.x-index x) whole c.x-item.is in
-    counts_turn _ _ x (drop_is items c.all.x-index x lt is) _ _ _ c.all.invariant c.in_ok-count.ensures
+    counts_turn _ _ x (drop_read items c.all.x-index x lt is) _ _ _ c.all.invariant c.in_ok-count.ensures
 
 pub returns : goal.returns
 returns c =

@@ -1,5 +1,6 @@
 use Rattle.std.proofs.Common.{◌≡◌, ap, ◌∙◌, sym, subst, ◌<◌, ◌≤◌, ◌+◌, ◌++◌, length, get_or, map, List}
 use Rattle.std.specs.Prelude.{◌||◌, not}
+use Rattle.std.proofs.lemmas.List.{append-nil, drop_all}
 use Rattle.cse_syntax_tree.specs.declared.tree.Declaration.{Declaration}
 use Rattle.cse_syntax_tree.specs.Tree as syntax
 use Rattle.cse_logic_tree.specs.Typed as typed
@@ -7,8 +8,8 @@ use Rattle.cse_logic_names.specs.WellTyped.{declared_messages}
 use Rattle.cse_types.specs.JudgeTree as spec
 use Rattle.cse_types.specs.Told.{told_of}
 use Rattle.cse_logic_names.specs.Walk.{is_there}
-use Rattle.cse_logic_names.proofs.Walks.{past, step_noted_made}
-use Rattle.cse_types.proofs.DeclarationLaws.{no_more, made_turn, made_end, declarations_head, behind_turn, told_turn}
+use Rattle.cse_logic_names.proofs.Walks.{step_noted_made}
+use Rattle.cse_types.proofs.DeclarationLaws.{made_turn, made_end, declarations_head, behind_turn, told_turn}
 use Rattle.cse_types.proofs.declaration.declarations.Goals as goal
 
 pub all-preserved : goal.all-preserved
@@ -31,7 +32,7 @@ pub returns-then-is_sound-clause-value : goal.returns-then-is_sound-clause-value
 returns-then-is_sound-clause-value c =
     let items = c.args.all.now.items in
     let le : length items ≤ c.all.x-index = subst (λ (xs : List Declaration). length xs ≤ c.all.x-index) c.deref-x-items.ensures.value c.all-test.false in
-    let none = ap (map syntax.declaration) (past items c.all.x-index le) in
+    let none = ap (map syntax.declaration) (drop_all c.all.x-index items le) in
     let n = length c.all.told.items in
     let e = made_end typed.declaration c.all.is_sound c.all.found.items _ _ (ap (spec.declarations_judged c.all.scope n) none) c.all.invariant.value in
     sym (e.0 c.if-is_sound.true)
@@ -40,7 +41,7 @@ pub returns-then-is_sound-clause-noted : goal.returns-then-is_sound-clause-noted
 returns-then-is_sound-clause-noted c =
     let items = c.args.all.now.items in
     let le : length items ≤ c.all.x-index = subst (λ (xs : List Declaration). length xs ≤ c.all.x-index) c.deref-x-items.ensures.value c.all-test.false in
-    let none = ap (map syntax.declaration) (past items c.all.x-index le) in
+    let none = ap (map syntax.declaration) (drop_all c.all.x-index items le) in
     let n = length c.all.told.items in
     let e = made_end typed.declaration c.all.is_sound c.all.found.items _ _ (ap (spec.declarations_judged c.all.scope n) none) c.all.invariant.value in
     c.all.invariant.noted ∙ ap (λ b. c.args.faults.now.found || not b) (sym e.2)
@@ -49,15 +50,15 @@ pub returns-then-is_sound-clause-told : goal.returns-then-is_sound-clause-told
 returns-then-is_sound-clause-told c =
     let items = c.args.all.now.items in
     let le : length items ≤ c.all.x-index = subst (λ (xs : List Declaration). length xs ≤ c.all.x-index) c.deref-x-items.ensures.value c.all-test.false in
-    let none = ap (map syntax.declaration) (past items c.all.x-index le) in
+    let none = ap (map syntax.declaration) (drop_all c.all.x-index items le) in
     let n = length c.all.told.items in
-    sym (no_more (map told_of c.all.told.items)) ∙ ap (λ ds. map told_of c.all.told.items ++ declared_messages ds) (sym none) ∙ c.all.invariant.told
+    sym (append-nil (map told_of c.all.told.items)) ∙ ap (λ ds. map told_of c.all.told.items ++ declared_messages ds) (sym none) ∙ c.all.invariant.told
 
 pub returns-then-is_sound-clause-behind : goal.returns-then-is_sound-clause-behind
 returns-then-is_sound-clause-behind c =
     let items = c.args.all.now.items in
     let le : length items ≤ c.all.x-index = subst (λ (xs : List Declaration). length xs ≤ c.all.x-index) c.deref-x-items.ensures.value c.all-test.false in
-    let none = ap (map syntax.declaration) (past items c.all.x-index le) in
+    let none = ap (map syntax.declaration) (drop_all c.all.x-index items le) in
     let n = length c.all.told.items in
     sym (ap (spec.behind_all c.all.scope n) none) ∙ c.all.invariant.behind
 
@@ -65,7 +66,7 @@ pub returns-clause-value : goal.returns-clause-value
 returns-clause-value c =
     let items = c.args.all.now.items in
     let le : length items ≤ c.all.x-index = subst (λ (xs : List Declaration). length xs ≤ c.all.x-index) c.deref-x-items.ensures.value c.all-test.false in
-    let none = ap (map syntax.declaration) (past items c.all.x-index le) in
+    let none = ap (map syntax.declaration) (drop_all c.all.x-index items le) in
     let n = length c.all.told.items in
     let e = made_end typed.declaration c.all.is_sound c.all.found.items _ _ (ap (spec.declarations_judged c.all.scope n) none) c.all.invariant.value in
     sym (e.1 c.if-is_sound.false)
@@ -74,7 +75,7 @@ pub returns-clause-noted : goal.returns-clause-noted
 returns-clause-noted c =
     let items = c.args.all.now.items in
     let le : length items ≤ c.all.x-index = subst (λ (xs : List Declaration). length xs ≤ c.all.x-index) c.deref-x-items.ensures.value c.all-test.false in
-    let none = ap (map syntax.declaration) (past items c.all.x-index le) in
+    let none = ap (map syntax.declaration) (drop_all c.all.x-index items le) in
     let n = length c.all.told.items in
     let e = made_end typed.declaration c.all.is_sound c.all.found.items _ _ (ap (spec.declarations_judged c.all.scope n) none) c.all.invariant.value in
     c.all.invariant.noted ∙ ap (λ b. c.args.faults.now.found || not b) (sym e.2)
@@ -83,14 +84,14 @@ pub returns-clause-told : goal.returns-clause-told
 returns-clause-told c =
     let items = c.args.all.now.items in
     let le : length items ≤ c.all.x-index = subst (λ (xs : List Declaration). length xs ≤ c.all.x-index) c.deref-x-items.ensures.value c.all-test.false in
-    let none = ap (map syntax.declaration) (past items c.all.x-index le) in
+    let none = ap (map syntax.declaration) (drop_all c.all.x-index items le) in
     let n = length c.all.told.items in
-    sym (no_more (map told_of c.all.told.items)) ∙ ap (λ ds. map told_of c.all.told.items ++ declared_messages ds) (sym none) ∙ c.all.invariant.told
+    sym (append-nil (map told_of c.all.told.items)) ∙ ap (λ ds. map told_of c.all.told.items ++ declared_messages ds) (sym none) ∙ c.all.invariant.told
 
 pub returns-clause-behind : goal.returns-clause-behind
 returns-clause-behind c =
     let items = c.args.all.now.items in
     let le : length items ≤ c.all.x-index = subst (λ (xs : List Declaration). length xs ≤ c.all.x-index) c.deref-x-items.ensures.value c.all-test.false in
-    let none = ap (map syntax.declaration) (past items c.all.x-index le) in
+    let none = ap (map syntax.declaration) (drop_all c.all.x-index items le) in
     let n = length c.all.told.items in
     sym (ap (spec.behind_all c.all.scope n) none) ∙ c.all.invariant.behind

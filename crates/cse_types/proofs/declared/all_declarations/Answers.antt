@@ -1,12 +1,14 @@
 use Rattle.std.proofs.Common.{◌≡◌, ◌∙◌, ap, sym, ◌<◌, ◌≤◌, get_or, length, map, refl, subst, List}
+use Rattle.std.proofs.lemmas.List.{drop_all}
+use Rattle.cse_lemmas.proofs.Lists.{drop_read}
 use Rattle.cse_syntax_tree.specs.declared.tree.Declaration.{Declaration}
 use Rattle.cse_syntax_tree.specs.Tree as syntax
-use Rattle.cse_logic_names.proofs.Walks.{drop_is, past}
 use Rattle.cse_types.specs.JudgeTree.{behind, behind_all}
 use Rattle.cse_types.specs.SourceFaults.{declarations_faults}
 use Rattle.cse_types.proofs.DeclarationLaws.{behind_turn}
-use Rattle.cse_types.proofs.FoundLaws.{declarations_turn, found_end}
+use Rattle.cse_types.proofs.FoundLaws.{declarations_turn}
 use Rattle.cse_types.proofs.declared.all_declarations.Goals as goal
+use Rattle.cse_logic_faults.proofs.Lists.{found_end}
 
 pub all-preserved : goal.all-preserved
 all-preserved c =
@@ -18,7 +20,7 @@ all-preserved c =
     let e = c.in_ok-behind.ensures in
     let own = e.behind ∙ ap (λ z. behind z (length c.all.told.items) (syntax.declaration x)) c.in_ok-one.ensures.same in
     record {
-      found = declarations_turn c.args.counts.now _ _ x (drop_is items c.all.x-index x lt is) c.all.scope _ c.all.told.items _ _ _ _ c.all.invariant.found own e.told c.in_ok-one.ensures.found;
+      found = declarations_turn c.args.counts.now _ _ x (drop_read items c.all.x-index x lt is) c.all.scope _ c.all.told.items _ _ _ _ c.all.invariant.found own e.told c.in_ok-one.ensures.found;
       behind = behind_turn items c.all.x-index x lt is c.all.scope _ _ c.all.told.items _ own e.told c.all.invariant.behind;
     }
 
@@ -32,4 +34,4 @@ pub returns-clause-behind : goal.returns-clause-behind
 returns-clause-behind c =
     let items = c.args.all.now.items in
     let le : length items ≤ c.all.x-index = subst (λ (xs : List Declaration). length xs ≤ c.all.x-index) c.deref-x-items.ensures.value c.all-test.false in
-    sym (ap (λ (xs : List Declaration). behind_all c.all.scope (length c.all.told.items) (map syntax.declaration xs)) (past items c.all.x-index le)) ∙ c.all.invariant.behind
+    sym (ap (λ (xs : List Declaration). behind_all c.all.scope (length c.all.told.items) (map syntax.declaration xs)) (drop_all c.all.x-index items le)) ∙ c.all.invariant.behind

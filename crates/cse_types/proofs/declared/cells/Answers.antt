@@ -2,8 +2,9 @@ use Rattle.std.proofs.Common.{◌≤◌, length, map, refl, subst, List}
 use Rattle.cse_syntax_tree.specs.declared.tree.Literal.{Literal}
 use Rattle.cse_syntax_tree.specs.Tree as syntax
 use Rattle.cse_types.specs.SourceFaults.{cells_faults}
-use Rattle.cse_types.proofs.FoundLaws.{cells_turn, found_end}
+use Rattle.cse_types.proofs.FoundLaws.{cells_turn}
 use Rattle.cse_types.proofs.declared.cells.Goals as goal
+use Rattle.cse_logic_faults.proofs.Lists.{found_end}
 
 pub all-preserved : goal.all-preserved
 all-preserved c =

@@ -2,8 +2,9 @@ use Rattle.std.proofs.Common.{◌≤◌, length, map, refl, subst, List}
 use Rattle.cse_syntax_tree.specs.declared.tree.Dimension.{Dimension}
 use Rattle.cse_syntax_tree.specs.Tree as syntax
 use Rattle.cse_types.specs.SourceFaults.{dimensions_faults}
-use Rattle.cse_types.proofs.FoundLaws.{dimensions_turn, found_end}
+use Rattle.cse_types.proofs.FoundLaws.{dimensions_turn}
 use Rattle.cse_types.proofs.declared.dimensions.Goals as goal
+use Rattle.cse_logic_faults.proofs.Lists.{found_end}
 
 pub all-preserved : goal.all-preserved
 all-preserved c =

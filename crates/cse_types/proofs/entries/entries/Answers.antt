@@ -1,11 +1,11 @@
 use Rattle.std.proofs.Common.{◌≡◌, ◌+◌, ◌++◌, ◌∷◌, [], drop, ap, ◌∙◌, sym, subst, ◌≤◌, length, map, List, true}
+use Rattle.std.proofs.lemmas.List.{map_push}
 use Rattle.cse_logic_tree.specs.Typed as typed
 use Rattle.cse_types.specs.declared.told.Told.{Told}
 use Rattle.cse_types.specs.Entries.{are_said}
 use Rattle.cse_types.specs.Told.{told_of}
 use Rattle.cse_logic_names.specs.WellTyped.{entry_of}
 use Rattle.cse_types.proofs.EntryLaws.{said_at, entries_turn, entries_end}
-use Rattle.cse_logic_names.proofs.Walks.{map_more}
 use Rattle.cse_types.proofs.entries.entries.Goals as goal
 
 pub entry-requires : goal.entry-requires
@@ -20,7 +20,7 @@ all-preserved c =
     subst (λ (xs : List Told). map typed.entry c.push.new.self.items ++ map (entry_of messages) (map told_of (drop (c.all.x-index + 1) xs)) ≡ map (entry_of messages) (map told_of items)) whole
     (entries_turn messages c.deref-x-items.result.now c.all.x-index _ c.all-test.true old _ _
     (subst (λ (xs : List Told). old ++ map (entry_of messages) (map told_of (drop c.all.x-index xs)) ≡ map (entry_of messages) (map told_of items)) (sym whole) c.all.invariant)
-    (ap (map typed.entry) c.in_ok-push.ensures.items ∙ map_more typed.entry c.all.found.items c.entry.result ∙ ap (λ y. old ++ y ∷ []) c.entry.ensures))
+    (ap (map typed.entry) c.in_ok-push.ensures.items ∙ map_push typed.entry c.all.found.items c.entry.result ∙ ap (λ y. old ++ y ∷ []) c.entry.ensures))
 
 pub returns : goal.returns
 returns c =

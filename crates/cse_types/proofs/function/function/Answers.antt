@@ -1,5 +1,6 @@
 use Rattle.std.proofs.Common.{◌≡◌, ap, ◌∙◌, subst, ◌++◌, ◌∷◌, [], length, map, Option}
 use Rattle.std.specs.Prelude.{◌||◌, not, option_map, IfOk, OnOk}
+use Rattle.cse_lemmas.proofs.Results.{OnOk_from}
 use Rattle.cse_syntax_tree.specs.Tree as syntax
 use Rattle.cse_syntax_tree.specs.Tree.{written}
 use Rattle.cse_logic_tree.specs.Typed as typed
@@ -11,7 +12,7 @@ use Rattle.cse_logic_expressions.specs.JudgeStatement.{judge_block}
 use Rattle.cse_types.specs.JudgeTree as spec
 use Rattle.cse_types.specs.Fresh.{body_scope}
 use Rattle.cse_logic_names.specs.Walk.{is_there, only_if}
-use Rattle.cse_types.proofs.FunctionLaws.{function_is, function_noted, with_facts, where_ok}
+use Rattle.cse_types.proofs.FunctionLaws.{function_is, function_noted, with_facts}
 use Rattle.cse_types.proofs.function.function.Goals as goal
 use Rattle.cse_types.proofs.function.function.Goals.{After-ended}
 
@@ -49,5 +50,5 @@ returns-clause-noted c =
     let name = written c.args.name in
     let ps = map syntax.parameter c.args.all.now.items in
     let body = syntax.block c.args.body.now.items in
-    where_ok c.ended.result _ (function_noted s n name ps body (c.args.faults.now.found) (c.parameters.new.faults.found) (c.body_in.new.faults.found) c.in_ok-fresh.ensures.noted
+    OnOk_from c.ended.result _ (function_noted s n name ps body (c.args.faults.now.found) (c.parameters.new.faults.found) (c.body_in.new.faults.found) c.in_ok-fresh.ensures.noted
     (c.in_ok-found.ensures.noted ∙ ap (λ (f : Fresh). c.parameters.new.faults.found || not (is_there (judge_block (body_scope s f.names) n body))) c.in_ok-fresh.ensures.value))

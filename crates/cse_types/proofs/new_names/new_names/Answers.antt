@@ -2,8 +2,9 @@ use Rattle.std.proofs.Common.{◌≤◌, length, map, refl, subst, List}
 use Rattle.cse_syntax_tree.specs.declared.tree.Lexeme.{Lexeme}
 use Rattle.cse_syntax_tree.specs.Tree.{written}
 use Rattle.cse_types.specs.SourceFaults.{new_names_faults, and_names, kept_names}
-use Rattle.cse_types.proofs.FoundLaws.{names_turn, known_turn, found_end, state_end}
+use Rattle.cse_types.proofs.FoundLaws.{names_turn, known_turn, state_end}
 use Rattle.cse_types.proofs.new_names.new_names.Goals as goal
+use Rattle.cse_logic_faults.proofs.Lists.{found_end}
 
 pub all-preserved : goal.all-preserved
 all-preserved c =

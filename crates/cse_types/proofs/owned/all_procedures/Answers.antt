@@ -1,10 +1,11 @@
 use Rattle.std.proofs.Common.{◌≡◌, ◌∙◌, ap, ◌<◌, ◌≤◌, ◌++◌, get_or, length, map, refl, List}
+use Rattle.cse_lemmas.proofs.Lists.{drop_read}
 use Rattle.cse_syntax_tree.specs.declared.tree.Procedure.{Procedure}
 use Rattle.cse_syntax_tree.specs.Tree as syntax
-use Rattle.cse_logic_names.proofs.Walks.{drop_is}
 use Rattle.cse_types.specs.SourceFaults.{procedure_faults, procedures_faults}
-use Rattle.cse_types.proofs.FoundLaws.{procedures_turn, found_end}
+use Rattle.cse_types.proofs.FoundLaws.{procedures_turn}
 use Rattle.cse_types.proofs.owned.all_procedures.Goals as goal
+use Rattle.cse_logic_faults.proofs.Lists.{found_end}
 
 pub all-preserved : goal.all-preserved
 all-preserved c =
@@ -15,7 +16,7 @@ all-preserved c =
     let e = c.in_ok-one.ensures in
     let own = e.found ∙ ap (λ z. c.all.found ++ procedure_faults c.args.counts.now z c.all.before (syntax.procedure x)) c.all.invariant.same in
     record {
-      found = procedures_turn c.args.counts.now c.args.scope.now _ _ x (drop_is items c.all.x-index x lt is) _ _ _ _ _ c.all.invariant.found e.before own;
+      found = procedures_turn c.args.counts.now c.args.scope.now _ _ x (drop_read items c.all.x-index x lt is) _ _ _ _ _ c.all.invariant.found e.before own;
       same = e.same ∙ c.all.invariant.same;
     }
 

@@ -1,5 +1,7 @@
 use Rattle.std.proofs.Common.{ap, ◌∙◌, map, List, true}
 use Rattle.std.specs.Prelude.{◌||◌, not, option_map}
+use Rattle.std.proofs.lemmas.Result.{IfOk-weaker}
+use Rattle.cse_lemmas.proofs.Results.{OnOk_from}
 use Rattle.cse_syntax_tree.specs.Tree as syntax
 use Rattle.cse_syntax_tree.specs.declared.tree.Procedure.{Procedure}
 use Rattle.cse_logic_tree.specs.Typed as typed
@@ -12,8 +14,7 @@ use Rattle.cse_types.specs.Parts.{parts_tree}
 use Rattle.cse_logic_names.specs.Scope.{Scope}
 use Rattle.cse_logic_names.specs.WellTyped.{all_declarations, tree_messages}
 use Rattle.cse_logic_names.specs.Walk.{is_there}
-use Rattle.cse_types.proofs.CheckLaws.{judged_noted, judged_value, where_so}
-use Rattle.cse_types.proofs.FunctionLaws.{where_ok}
+use Rattle.cse_types.proofs.CheckLaws.{judged_noted, judged_value}
 use Rattle.cse_types.proofs.parts.judged.Goals as goal
 
 pub tree_of-requires : goal.tree_of-requires
@@ -23,7 +24,7 @@ pub returns-clause-noted : goal.returns-clause-noted
 returns-clause-noted c =
     let x = syntax.tree c.args.tree.now in
     let named = c.in_ok-_owners.ensures.noted ∙ ap (λ (ps : List Procedure). c.declared_names.new.faults.found || not (fresh_names (λ name. true) (owner_names (map syntax.procedure ps))).is_sound) c.procedures_in-all.ensures in
-    where_ok c.tree_of.result _ (judged_noted c.args.dictionary.now c.args.messages.now x _ _ _ c.in_ok-table.ensures.noted named
+    OnOk_from c.tree_of.result _ (judged_noted c.args.dictionary.now c.args.messages.now x _ _ _ c.in_ok-table.ensures.noted named
     (c.in_ok-parts.ensures.noted ∙ ap (λ (s : Scope). c.owners.new.faults.found || not (is_there (parts_judged s x))) (c.in_ok-scope.ensures ∙ ap (λ (t : Table). start_of c.args.dictionary.now c.args.messages.now t.names (all_declarations x.globals)) c.in_ok-table.ensures.value)))
 
 pub returns-clause-value : goal.returns-clause-value
@@ -32,7 +33,7 @@ returns-clause-value c =
     let m = c.args.messages.now in
     let x = syntax.tree c.args.tree.now in
     let named = c.in_ok-_owners.ensures.noted ∙ ap (λ (ps : List Procedure). c.declared_names.new.faults.found || not (fresh_names (λ name. true) (owner_names (map syntax.procedure ps))).is_sound) c.procedures_in-all.ensures in
-    where_so _ _ c.tree_of.result (λ r e h.
+    IfOk-weaker c.tree_of.result _ _ (λ r e h.
     e
     ∙ ap (λ ms. option_map (with_entries m ms) (option_map parts_tree c.in_ok-parts.parts)) c.in_ok-parts.ensures.told
     ∙ ap (option_map (with_entries m (tree_messages x))) (c.in_ok-parts.ensures.value ∙ ap (λ (s : Scope). parts_judged s x) (c.in_ok-scope.ensures ∙ ap (λ (t : Table). start_of c.args.dictionary.now c.args.messages.now t.names (all_declarations x.globals)) c.in_ok-table.ensures.value))

@@ -7,9 +7,9 @@ use Rattle.cse_logic_names.specs.WellTyped.{messages_of}
 use Rattle.cse_logic_expressions.specs.JudgeStatement.{judge_block}
 use Rattle.cse_logic_names.specs.Walk.{is_there, joined}
 use Rattle.cse_types.proofs.DeclarationLaws.{told_count}
-use Rattle.cse_types.proofs.ProcedureLaws.{noted_joined}
 use Rattle.cse_types.proofs.procedure.both_parts.Goals as goal
 use Rattle.cse_types.proofs.procedure.both_parts.Goals.{After-around}
+use Rattle.cse_types.proofs.Counted.{both_noted}
 
 -- the second part, judged where the first left the scope and the messages
 behind_is : (c : After-around) → judge_block c.block.new.scope (length c.block.new.told.items) (syntax.block c.args.ys.now.items) ≡ judge_block c.args.scope.now (length c.args.told.now.items + length (messages_of (syntax.block c.args.xs.now.items))) (syntax.block c.args.ys.now.items)
@@ -25,5 +25,5 @@ returns-clause-value c =
 
 pub returns-clause-noted : goal.returns-clause-noted
 returns-clause-noted c =
-    noted_joined typed.Both _ _ (c.args.faults.now.found) (c.block.new.faults.found) (c.block-2.new.faults.found) c.in_ok-before.ensures.noted
+    both_noted typed.Both _ _ (c.args.faults.now.found) (c.block.new.faults.found) (c.block-2.new.faults.found) c.in_ok-before.ensures.noted
     (c.in_ok-after.ensures.noted ∙ ap (λ (o : Option typed.Statements). c.block.new.faults.found || not (is_there o)) (behind_is c))

@@ -1,13 +1,13 @@
 use Rattle.std.proofs.Common.{◌≡◌, ap, ◌∙◌, sym, ◌<◌, ◌≤◌, ◌+◌, ◌++◌, length, get_or, map}
 use Rattle.std.specs.Prelude.{◌||◌, not}
+use Rattle.std.proofs.lemmas.List.{append-nil, drop_all}
 use Rattle.cse_syntax_tree.specs.Tree as syntax
 use Rattle.cse_logic_tree.specs.Typed as typed
 use Rattle.cse_logic_names.specs.WellTyped.{procedure_messages}
 use Rattle.cse_types.specs.JudgeTree as spec
 use Rattle.cse_types.specs.Told.{told_of}
 use Rattle.cse_logic_names.specs.Walk.{is_there}
-use Rattle.cse_logic_names.proofs.Walks.{past}
-use Rattle.cse_types.proofs.DeclarationLaws.{no_more, made_end}
+use Rattle.cse_types.proofs.DeclarationLaws.{made_end}
 use Rattle.cse_types.proofs.ProcedureLaws.{procedures_head, procedures_told, judged_turn, judged_noted}
 use Rattle.cse_types.proofs.procedure.procedures.Goals as goal
 
@@ -30,7 +30,7 @@ pub returns-then-is_sound-clause-value : goal.returns-then-is_sound-clause-value
 returns-then-is_sound-clause-value c =
     let items = c.args.all.now in
     let le : length items ≤ c.all.x-index = c.all-test.false in
-    let none = ap (map syntax.procedure) (past items c.all.x-index le) in
+    let none = ap (map syntax.procedure) (drop_all c.all.x-index items le) in
     let n = length c.all.told.items in
     let e = made_end typed.procedure c.all.is_sound c.all.found.items _ _ (ap (spec.procedures_judged c.all.scope n) none) c.all.invariant.value in
     sym (e.0 c.if-is_sound.true)
@@ -39,7 +39,7 @@ pub returns-then-is_sound-clause-noted : goal.returns-then-is_sound-clause-noted
 returns-then-is_sound-clause-noted c =
     let items = c.args.all.now in
     let le : length items ≤ c.all.x-index = c.all-test.false in
-    let none = ap (map syntax.procedure) (past items c.all.x-index le) in
+    let none = ap (map syntax.procedure) (drop_all c.all.x-index items le) in
     let n = length c.all.told.items in
     let e = made_end typed.procedure c.all.is_sound c.all.found.items _ _ (ap (spec.procedures_judged c.all.scope n) none) c.all.invariant.value in
     c.all.invariant.noted ∙ ap (λ b. c.args.faults.now.found || not b) (sym e.2)
@@ -48,15 +48,15 @@ pub returns-then-is_sound-clause-told : goal.returns-then-is_sound-clause-told
 returns-then-is_sound-clause-told c =
     let items = c.args.all.now in
     let le : length items ≤ c.all.x-index = c.all-test.false in
-    let none = ap (map syntax.procedure) (past items c.all.x-index le) in
+    let none = ap (map syntax.procedure) (drop_all c.all.x-index items le) in
     let n = length c.all.told.items in
-    sym (no_more (map told_of c.all.told.items)) ∙ ap (λ ds. map told_of c.all.told.items ++ procedure_messages ds) (sym none) ∙ c.all.invariant.told
+    sym (append-nil (map told_of c.all.told.items)) ∙ ap (λ ds. map told_of c.all.told.items ++ procedure_messages ds) (sym none) ∙ c.all.invariant.told
 
 pub returns-clause-value : goal.returns-clause-value
 returns-clause-value c =
     let items = c.args.all.now in
     let le : length items ≤ c.all.x-index = c.all-test.false in
-    let none = ap (map syntax.procedure) (past items c.all.x-index le) in
+    let none = ap (map syntax.procedure) (drop_all c.all.x-index items le) in
     let n = length c.all.told.items in
     let e = made_end typed.procedure c.all.is_sound c.all.found.items _ _ (ap (spec.procedures_judged c.all.scope n) none) c.all.invariant.value in
     sym (e.1 c.if-is_sound.false)
@@ -65,7 +65,7 @@ pub returns-clause-noted : goal.returns-clause-noted
 returns-clause-noted c =
     let items = c.args.all.now in
     let le : length items ≤ c.all.x-index = c.all-test.false in
-    let none = ap (map syntax.procedure) (past items c.all.x-index le) in
+    let none = ap (map syntax.procedure) (drop_all c.all.x-index items le) in
     let n = length c.all.told.items in
     let e = made_end typed.procedure c.all.is_sound c.all.found.items _ _ (ap (spec.procedures_judged c.all.scope n) none) c.all.invariant.value in
     c.all.invariant.noted ∙ ap (λ b. c.args.faults.now.found || not b) (sym e.2)
@@ -74,6 +74,6 @@ pub returns-clause-told : goal.returns-clause-told
 returns-clause-told c =
     let items = c.args.all.now in
     let le : length items ≤ c.all.x-index = c.all-test.false in
-    let none = ap (map syntax.procedure) (past items c.all.x-index le) in
+    let none = ap (map syntax.procedure) (drop_all c.all.x-index items le) in
     let n = length c.all.told.items in
-    sym (no_more (map told_of c.all.told.items)) ∙ ap (λ ds. map told_of c.all.told.items ++ procedure_messages ds) (sym none) ∙ c.all.invariant.told
+    sym (append-nil (map told_of c.all.told.items)) ∙ ap (λ ds. map told_of c.all.told.items ++ procedure_messages ds) (sym none) ∙ c.all.invariant.told

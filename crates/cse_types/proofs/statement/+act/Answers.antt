@@ -1,5 +1,8 @@
 use Rattle.std.proofs.Common.{◌≡◌, ap, ◌∙◌, refl, sym, subst, map, ◌+◌, ◌<◌, ◌≤◌, length, get_or, List}
 use Rattle.std.specs.Prelude.{◌||◌, ◌++◌, not, false, option_map}
+use Rattle.std.proofs.lemmas.List.{append-nil}
+use Rattle.cse_lemmas.proofs.Results.{OnOk_from}
+use Rattle.cse_lemmas.proofs.Booleans.{or-false}
 use Rattle.cse_syntax_tree.specs.declared.tree.Statement as rusts
 use Rattle.cse_syntax_tree.specs.declared.tree.Arm as rustarm
 use Rattle.cse_syntax_tree.specs.Tree as syntax
@@ -11,8 +14,8 @@ use Rattle.cse_logic_expressions.specs.Judge.{as_number, judge}
 use Rattle.cse_logic_expressions.specs.JudgeStatement.{judge_statement, judge_block, messages_each, for_of, guarded, opened}
 use Rattle.cse_types.specs.Told.{told_of}
 use Rattle.cse_logic_names.specs.Walk.{is_there, joined}
-use Rattle.cse_logic_names.proofs.Walks.{step_noted_made, there_map, append_none}
-use Rattle.cse_types.proofs.Counted.{from_step, from_end, told_step, told_end, told_count, or_false, both_noted, on_ok}
+use Rattle.cse_logic_names.proofs.Walks.{step_noted_made, there_map}
+use Rattle.cse_types.proofs.Counted.{from_step, from_end, told_step, told_end, told_count, both_noted}
 use Rattle.cse_types.proofs.Blocks.{statement_at, messages_at, count_at, block_walked, block_gathered, arm_at, arm_messages, arm_count, arms_walked, arms_gathered, choice_value, choice_noted, choice_told, none_judged, else_judged, for_judged, for_noted, do_judged, do_noted}
 use Rattle.cse_types.proofs.statement.+act.Goals as goal
 
@@ -213,7 +216,7 @@ statement-returns-in-None-clause-noted t c =
     let xs = map parsed_arm c.in-If.others.items in
     let same = ap stmt c.in-If.is ∙ if_is first c.in-If.others c.in-If.otherwise ∙ ap (λ o. syntax.If (syntax.expr first.condition) (syntax.block first.body.items) (syntax.arms xs (syntax.otherwise_tree o))) c.in-None.is in
     let k = length c.arm.new.told.items in
-    let none = sym (or_false (c.arms.new.faults.found)) ∙ ap (λ o. c.arms.new.faults.found || not (is_there o)) (none_judged s (k + length (messages_each xs))) in
+    let none = sym (or-false (c.arms.new.faults.found)) ∙ ap (λ o. c.arms.new.faults.found || not (is_there o)) (none_judged s (k + length (messages_each xs))) in
     choice_noted s (parsed_arm first) xs syntax.no_arm n k (k + length (messages_each xs)) c.arm.new.scope _ _ _ _
     (told_count told_of c.arm.new.told.items c.args.told.now.items (messages_of (parsed_arm first).1) c.in_ok-start-in-If.ensures.told) refl c.in_ok-start-in-If.ensures.same
     c.in_ok-start-in-If.ensures.noted c.in_ok-middle-in-If.ensures.noted none
@@ -224,7 +227,7 @@ statement-returns-in-None-clause-told t c =
     let first = c.in-If.first in
     let xs = map parsed_arm c.in-If.others.items in
     let same = ap stmt c.in-If.is ∙ if_is first c.in-If.others c.in-If.otherwise ∙ ap (λ o. syntax.If (syntax.expr first.condition) (syntax.block first.body.items) (syntax.arms xs (syntax.otherwise_tree o))) c.in-None.is in
-    choice_told c.args.scope.now (parsed_arm first) xs syntax.no_arm _ _ _ _ c.in_ok-start-in-If.ensures.told c.in_ok-middle-in-If.ensures.told (sym (append_none (map told_of c.arms.new.told.items)))
+    choice_told c.args.scope.now (parsed_arm first) xs syntax.no_arm _ _ _ _ c.in_ok-start-in-If.ensures.told c.in_ok-middle-in-If.ensures.told (sym (append-nil (map told_of c.arms.new.told.items)))
     ∙ ap (λ y. map told_of c.args.told.now.items ++ messages_in y) (sym same)
 
 pub statement-returns-in_ok-last-in-Some-clause-value : goal.statement-returns-in_ok-last-in-Some-clause-value
@@ -277,22 +280,22 @@ statement-returns-in_ok-last-in-Some-clause-told t c =
 -- ---- statements that hold no others
 
 pub statement-returns-in-Empty-clause-told : goal.statement-returns-in-Empty-clause-told
-statement-returns-in-Empty-clause-told t c = sym (append_none (map told_of c.args.told.now.items)) ∙ ap (λ y. map told_of c.args.told.now.items ++ messages_in (stmt y)) (sym c.in-Empty.is)
+statement-returns-in-Empty-clause-told t c = sym (append-nil (map told_of c.args.told.now.items)) ∙ ap (λ y. map told_of c.args.told.now.items ++ messages_in (stmt y)) (sym c.in-Empty.is)
 
 pub statement-returns-in-Assign-clause-told : goal.statement-returns-in-Assign-clause-told
-statement-returns-in-Assign-clause-told t c = on_ok c.assignment.result _ (sym (append_none (map told_of c.args.told.now.items)) ∙ ap (λ y. map told_of c.args.told.now.items ++ messages_in (stmt y)) (sym c.in-Assign.is))
+statement-returns-in-Assign-clause-told t c = OnOk_from c.assignment.result _ (sym (append-nil (map told_of c.args.told.now.items)) ∙ ap (λ y. map told_of c.args.told.now.items ++ messages_in (stmt y)) (sym c.in-Assign.is))
 
 pub statement-returns-in-Call-clause-told : goal.statement-returns-in-Call-clause-told
-statement-returns-in-Call-clause-told t c = on_ok c.alone.result _ (sym (append_none (map told_of c.args.told.now.items)) ∙ ap (λ y. map told_of c.args.told.now.items ++ messages_in (stmt y)) (sym c.in-Call.is))
+statement-returns-in-Call-clause-told t c = OnOk_from c.alone.result _ (sym (append-nil (map told_of c.args.told.now.items)) ∙ ap (λ y. map told_of c.args.told.now.items ++ messages_in (stmt y)) (sym c.in-Call.is))
 
 pub statement-returns-in-Jump-clause-told : goal.statement-returns-in-Jump-clause-told
-statement-returns-in-Jump-clause-told t c = sym (append_none (map told_of c.args.told.now.items)) ∙ ap (λ y. map told_of c.args.told.now.items ++ messages_in (stmt y)) (sym c.in-Jump.is)
+statement-returns-in-Jump-clause-told t c = sym (append-nil (map told_of c.args.told.now.items)) ∙ ap (λ y. map told_of c.args.told.now.items ++ messages_in (stmt y)) (sym c.in-Jump.is)
 
 pub statement-returns-in-Impute-clause-told : goal.statement-returns-in-Impute-clause-told
-statement-returns-in-Impute-clause-told t c = on_ok c.imputation.result _ (sym (append_none (map told_of c.args.told.now.items)) ∙ ap (λ y. map told_of c.args.told.now.items ++ messages_in (stmt y)) (sym c.in-Impute.is))
+statement-returns-in-Impute-clause-told t c = OnOk_from c.imputation.result _ (sym (append-nil (map told_of c.args.told.now.items)) ∙ ap (λ y. map told_of c.args.told.now.items ++ messages_in (stmt y)) (sym c.in-Impute.is))
 
 pub statement-returns-in-PutDeck-clause-told : goal.statement-returns-in-PutDeck-clause-told
-statement-returns-in-PutDeck-clause-told t c = on_ok c.deck_value.result _ (sym (append_none (map told_of c.args.told.now.items)) ∙ ap (λ y. map told_of c.args.told.now.items ++ messages_in (stmt y)) (sym c.in-PutDeck.is))
+statement-returns-in-PutDeck-clause-told t c = OnOk_from c.deck_value.result _ (sym (append-nil (map told_of c.args.told.now.items)) ∙ ap (λ y. map told_of c.args.told.now.items ++ messages_in (stmt y)) (sym c.in-PutDeck.is))
 
 -- ---- an arm, and the body of a loop
 

@@ -1,4 +1,5 @@
 use Rattle.std.proofs.Common.{◌≡◌, ◌+◌, ◌*◌, ◌<◌, ◌^◌, List, length, refl, sym, ap, ◌∙◌, subst, arith, rules}
+use Rattle.cse_lemmas.proofs.Lists.{length_after_push}
 use Rattle.cse_value.specs.Shape.{shape_lists}
 use Rattle.cse_image_parts.specs.declared.instruction.Instr.{Instr}
 use Rattle.cse_image_parts.specs.Image.{Lists, lists_of, routine_lists}
@@ -9,7 +10,7 @@ use Rattle.cse_code_typing.specs.Depth.{IsAtMost, KeepFew, most_kept}
 use Rattle.cse_code_typing.proofs.Few.{few_more}
 use Rattle.cse_code_typing.proofs.Fitting.{routine_small}
 use Rattle.cse_code_typing.proofs.TypedLaws.{routine_typed, handed_on}
-use Rattle.cse_verify.proofs.MeasureLaws.{measured_start, measured_more, depths_more, one_more, bounds_length, frames_length, untyped_here, too_long_here, keeps_here, calls_here, bounds_small, skeleton_here, all_measured}
+use Rattle.cse_verify.proofs.MeasureLaws.{measured_start, measured_more, depths_more, bounds_length, frames_length, untyped_here, too_long_here, keeps_here, calls_here, bounds_small, skeleton_here, all_measured}
 use Rattle.cse_verify.proofs.routines.check_routines.Goals as goal
 
 pub routines-init : goal.routines-init
@@ -148,7 +149,7 @@ routines-preserved g c =
           c.in_ok-add_bound.ensures.added c.in_ok-add_bound.ensures.small c.in_ok-add_frames.ensures.added c.in_ok-add_frames.ensures.small
           (depths_more (shape_lists c.args.shape.now) c.args.program.now c.routines.routine-index y (lists_of c.tables-tables.result.now) _ _ _ _ _ there c.tables-tables.ensures.lists code c.deref.ensures.value
           c.routines.invariant.measured.cells_of c.routines.invariant.measured.cells_are c.in_ok-kept.ensures.depth c.in_ok-append.ensures)
-          (one_more _ _ _ _ c.routines.invariant.measured.cells_of c.in_ok-append.ensures)
+          (length_after_push _ _ _ _ c.routines.invariant.measured.cells_of c.in_ok-append.ensures)
           (few_more _ _ _ c.routines.invariant.measured.cells_few (subst (λ (l : List Cells). IsAtMost (most_kept * (length l + 1)) c.in_ok-kept.kept) c.deref.ensures.value c.in_ok-kept.ensures.few) c.in_ok-append.ensures);
     }
 

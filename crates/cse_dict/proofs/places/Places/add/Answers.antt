@@ -4,7 +4,8 @@ use Rattle.std.specs.String.{string_bytes}
 use Rattle.std.specs.Str.{bytes_eq}
 use Rattle.std.proofs.lemmas.List.{map-append}
 use Rattle.indexmap.proofs.CallerLemmas.{insert_entry-new}
-use Rattle.cse_dict.proofs.PlaceLaws.{named, lookup-named, is_some-copied, none_there, with_place-new, with_place-there}
+use Rattle.cse_lemmas.proofs.Options.{none_from_is_some}
+use Rattle.cse_dict.proofs.PlaceLaws.{named, lookup-named, is_some-copied, with_place-new, with_place-there}
 use Rattle.cse_dict.proofs.places.Places.add.Goals as goal
 
 pub returns-then-is_some : goal.returns-then-is_some
@@ -26,7 +27,7 @@ returns c =
     let absent : is_some (lookup (λ k. bytes_eq name k.items) es) ≡ false =
     ap (λ b. is_some (lookup (λ k. bytes_eq b k.items) es)) (sym c.as_bytes-bytes.ensures.value)
     ∙ ap is_some (sym c.get.ensures.value) ∙ is_some-copied c.get.result ∙ sym c.is_some.ensures ∙ c.if-is_some.false in
-    let new = ap (λ b. lookup (λ k. bytes_eq b k.items) es) is ∙ none_there (lookup (λ k. bytes_eq name k.items) es) absent in
+    let new = ap (λ b. lookup (λ k. bytes_eq b k.items) es) is ∙ none_from_is_some (lookup (λ k. bytes_eq name k.items) es) absent in
     ap (named (λ k. k.items)) (c.in_ok-insert.ensures.entries ∙ insert_entry-new (λ x y. bytes_eq x.items y.items) c.self.inside.table key c.args.place new)
     ∙ map-append (λ e. (e.0.items, e.1)) es ((key, c.args.place) ∷ [])
     ∙ ap (λ b. named (λ k. k.items) es ++ (b, c.args.place) ∷ []) is

@@ -1,21 +1,16 @@
-use Rattle.std.proofs.Common.{◌≡◌, ◌+◌, ◌≤◌, ◌∙◌, ℕ, List, Bool, true, false, None, ap, length, refl, take, arith, to_z, of_z, w64}
+use Rattle.std.proofs.Common.{◌≡◌, ◌+◌, ◌≤◌, ◌∙◌, ℕ, List, Bool, true, false, ap, length, refl, take, arith, to_z, of_z, w64}
 use Rattle.std.proofs.lemmas.Int.{to_z-of_z}
 use Rattle.std.specs.Prelude.{ℤ}
-use Rattle.cse_value.specs.Field.{put, put_whole}
-use Rattle.cse_value.proofs.WidthLaws.{length-put}
-use Rattle.cse_value.specs.declared.number.Num.TheVariants.{Whole}
+use Rattle.cse_value.specs.Field.{put_whole}
+use Rattle.cse_value.proofs.WidthLaws.{length-put_whole}
 use Rattle.cse_lines.specs.Bytes.{columns_by}
 use Rattle.cse_lines.specs.Run.{with_columns}
 use Rattle.cse_lines.proofs.BytesLaws.{ascii_view, taken_len}
 use Rattle.cse_lines.proofs.LaidLaws.{length-with_columns}
 use Rattle.cse_lines.proofs.filled.Filled.put_few.Goals as goal
 
-whole_wide : (width : ℕ) (fill : Bool) (z : ℤ) → length (put_whole width fill z) ≡ width
-unfolding put
-whole_wide width fill z = length-put width (Whole z) fill None
-
 bytes_len : (done : Bool) (at len : ℕ) (fill : Bool) (z : ℤ) (old new : List ℕ) → (done ≡ true → new ≡ with_columns at (put_whole len fill z) old) → (done ≡ false → new ≡ old) → at + len ≤ length old → length new ≡ length old
-bytes_len true at len fill z old new wrote same fits = ap length (wrote refl) ∙ length-with_columns at (put_whole len fill z) old (omega (arith, whole_wide len fill z, fits))
+bytes_len true at len fill z old new wrote same fits = ap length (wrote refl) ∙ length-with_columns at (put_whole len fill z) old (omega (arith, length-put_whole len fill z, fits))
 bytes_len false at len fill z old new wrote same fits = ap length (same refl)
 
 pub invariant_of-self : goal.invariant_of-self
@@ -37,6 +32,6 @@ returns-clause-columns c done =
     let field = put_whole n fill z in
     let here = taken_len len own.bytes.items own.beside.items c.self.invariant.0 in
     ap (λ l. take len (columns_by l own.beside.items)) (c.put_few_in.ensures.bytes done)
-    ∙ ascii_view len at field own.bytes.items own.beside.items (c.put_few_in.ensures.ascii done) (omega (arith, whole_wide n fill z, c.requires, here, ap length c.self.view_is)) c.self.invariant.0
+    ∙ ascii_view len at field own.bytes.items own.beside.items (c.put_few_in.ensures.ascii done) (omega (arith, length-put_whole n fill z, c.requires, here, ap length c.self.view_is)) c.self.invariant.0
     ∙ ap (with_columns at field) c.self.view_is
     ∙ ap (λ y. with_columns at (put_whole n fill y) c.args.self.now) same

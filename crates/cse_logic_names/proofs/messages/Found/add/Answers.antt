@@ -4,7 +4,8 @@ use Rattle.std.specs.List.{list_any}
 use Rattle.std.specs.Map.{lookup}
 use Rattle.std.specs.String.{string_bytes}
 use Rattle.indexmap.proofs.CallerLemmas.{insert_entry-new}
-use Rattle.cse_dict.proofs.PlaceLaws.{is_some-copied, none_there}
+use Rattle.cse_lemmas.proofs.Options.{none_from_is_some}
+use Rattle.cse_dict.proofs.PlaceLaws.{is_some-copied}
 use Rattle.cse_logic_names.specs.MessageFile.{MessageText}
 use Rattle.cse_logic_names.proofs.MessageLaws.{any_told, made, told, told_more, with_message-there, with_message-new}
 use Rattle.cse_logic_names.proofs.messages.Found.add.Goals as goal
@@ -24,7 +25,7 @@ returns c =
     let n : ℕ = c.message.inside.number in
     let es = c.self.inside.table.entries in
     let absent : is_some (lookup (nat_eq n) es) ≡ false = ap is_some (sym c.get.ensures.value) ∙ is_some-copied c.get.result ∙ sym c.is_some.ensures ∙ c.if-is_some.false in
-    let new = none_there (lookup (nat_eq n) es) absent in
+    let new = none_from_is_some (lookup (nat_eq n) es) absent in
     let is : made n (string_bytes c.in_ok-text.text) ≡ c.args.message = ap (made n) c.in_ok-text.ensures.ok ∙ c.message.view_is in
     ap (told string_bytes) (c.in_ok-insert.ensures.entries ∙ insert_entry-new nat_eq c.self.inside.table n c.in_ok-text.text new)
     ∙ told_more string_bytes es n c.in_ok-text.text

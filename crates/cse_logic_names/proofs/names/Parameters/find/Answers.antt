@@ -2,7 +2,7 @@ use Rattle.std.proofs.Common.{◌∙◌, sym, ap}
 use Rattle.std.specs.Prelude.{position}
 use Rattle.std.specs.Map.{keys_of}
 use Rattle.std.specs.Str.{bytes_eq}
-use Rattle.cse_dict.proofs.NameLaws.{position-map}
+use Rattle.cse_lemmas.proofs.Lists.{position-map}
 use Rattle.cse_logic_names.proofs.NameLaws.{keys_named}
 use Rattle.cse_logic_names.proofs.names.Parameters.find.Goals as goal
 
