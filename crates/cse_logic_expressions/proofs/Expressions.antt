@@ -1,12 +1,11 @@
 -- What a node of an expression that holds others is judged to be.
-use Rattle.std.proofs.Common.{◌≡◌, ℕ, ◌+◌, ◌≤◌, Bool, true, false, List, [], ◌∷◌, length, map, Option, Some, None, refl, ap, sym, ◌∙◌, subst, arith}
-use Rattle.std.specs.Prelude.{◌&&◌, ◌||◌, not, option_map}
+use Rattle.std.proofs.Common.{◌≡◌, ℕ, ◌≤◌, Bool, true, false, List, [], ◌∷◌, length, map, Option, Some, None, refl, ap, ◌∙◌, arith}
+use Rattle.std.specs.Prelude.{option_map}
 use Rattle.std.proofs.lemmas.List.{length-map}
 use Rattle.std.proofs.lemmas.Bool.{leb-true, and_parts}
 use Rattle.std.specs.Global.{Vec, Box}
 use Rattle.cse_syntax_tree.specs.declared.tree.Lexeme.{Lexeme}
 use Rattle.cse_syntax_tree.specs.declared.tree.Operator.{Operator}
-use Rattle.cse_syntax_tree.specs.declared.tree.Relation.{Relation}
 use Rattle.cse_syntax_tree.specs.declared.tree.Operation as rustop
 use Rattle.cse_syntax_tree.specs.declared.tree.Expression as rust
 use Rattle.cse_syntax_tree.specs.declared.tree.Expression.TheVariants as e
@@ -17,9 +16,9 @@ use Rattle.cse_syntax_tree.proofs.Rows.{indexed_is, chain_is}
 use Rattle.cse_logic_tree.specs.Typed as typed
 use Rattle.cse_logic_names.specs.Scope.{Scope, meant}
 use Rattle.cse_logic_names.specs.WellTyped.{may_divide}
-use Rattle.cse_logic_expressions.specs.Judge.{Judged, AsNumber, AsWords, Unknown, is_sound, compared, as_number, expr_count, indexed, is_end, judge, judge_all, judge_operation, judge_operations}
-use Rattle.cse_logic_names.specs.Walk.{is_there, joined, only_if, walk}
-use Rattle.cse_logic_names.proofs.Walks.{walk_made, is_none, or_parts, or_same}
+use Rattle.cse_logic_expressions.specs.Judge.{AsNumber, as_number, expr_count, indexed, is_end, judge, judge_all, judge_operation, judge_operations}
+use Rattle.cse_logic_names.specs.Walk.{joined, only_if, walk}
+use Rattle.cse_logic_names.proofs.Walks.{walk_made, is_none}
 
 pub count_is : (xs : List syntax.Expr) → expr_count (exprs xs) ≡ length xs
 count_is [] = refl
@@ -75,65 +74,3 @@ operations_walked s top (x ∷ xs) =
     ap (λ b. only_if (may_divide top x.operator b) (joined (typed.operation_and x.operator) (as_number (judge s false (expr x.operand))) (judge_operations s top (syntax.operations (map operation_tree xs))))) (end_of xs)
     ∙ ap (λ r. only_if (may_divide top x.operator (is_none xs)) (joined (typed.operation_and x.operator) (as_number (judge s false (expr x.operand))) r)) (operations_walked s top xs)
     ∙ one_walked (may_divide top x.operator (is_none xs)) x.operator (as_number (judge s false (expr x.operand))) (walk (λ x rest. judge_operation s top (operation_tree x) (is_none rest)) xs)
-
-absorbed_parts : (relation : Relation) (a b : Judged) (before : Bool)
-    → (((before || not (is_sound a)) || not (is_sound b)) || not (is_there (compared relation a b))) ≡ (before || not (is_there (compared relation a b)))
-absorbed_parts relation a b true = refl
-absorbed_parts relation (AsNumber (Some x)) (AsNumber (Some y)) false = refl
-absorbed_parts relation (AsNumber (Some x)) (AsNumber None) false = refl
-absorbed_parts relation (AsNumber None) (AsNumber y) false = refl
-absorbed_parts relation (AsNumber (Some x)) (AsWords (Some y)) false = refl
-absorbed_parts relation (AsNumber (Some x)) (AsWords None) false = refl
-absorbed_parts relation (AsNumber None) (AsWords y) false = refl
-absorbed_parts relation (AsNumber (Some x)) Unknown false = refl
-absorbed_parts relation (AsNumber None) Unknown false = refl
-absorbed_parts relation (AsWords (Some x)) (AsWords (Some y)) false = refl
-absorbed_parts relation (AsWords (Some x)) (AsWords None) false = refl
-absorbed_parts relation (AsWords None) (AsWords y) false = refl
-absorbed_parts relation (AsWords (Some x)) (AsNumber (Some y)) false = refl
-absorbed_parts relation (AsWords (Some x)) (AsNumber None) false = refl
-absorbed_parts relation (AsWords None) (AsNumber y) false = refl
-absorbed_parts relation (AsWords (Some x)) Unknown false = refl
-absorbed_parts relation (AsWords None) Unknown false = refl
-absorbed_parts relation Unknown b false = refl
-
--- the faults of both sides of a comparison were noted before
-pub after_parts : (relation : Relation) (a b : Judged) (before mid both final : Bool) → mid ≡ (before || not (is_sound a)) → both ≡ (mid || not (is_sound b))
-    → ((both || (not (is_sound a) || not (is_sound b))) ≡ both → final ≡ (both || not (is_there (compared relation a b))))
-    → final ≡ (before || not (is_there (compared relation a b)))
-after_parts relation a b before mid both final e f h =
-    let g = f ∙ ap (λ m. m || not (is_sound b)) e in
-    h (ap (λ m. m || (not (is_sound a) || not (is_sound b))) g ∙ or_parts before (not (is_sound a)) (not (is_sound b)) ∙ sym g)
-    ∙ ap (λ m. m || not (is_there (compared relation a b))) g
-    ∙ absorbed_parts relation a b before
-
-abbrev pub NotedParts : Relation → Judged → Judged → Bool → Bool → Type 0
-NotedParts relation a b both final = (both || (not (is_sound a) || not (is_sound b))) ≡ both → final ≡ (both || not (is_there (compared relation a b)))
-
-pub after_made_parts : (relation : Relation) (a b a' b' : Judged) (before mid both final : Bool) → a' ≡ a → b' ≡ b → mid ≡ (before || not (is_sound a)) → both ≡ (mid || not (is_sound b)) → NotedParts relation a' b' both final
-    → final ≡ (before || not (is_there (compared relation a b)))
-after_made_parts relation a b a' b' before mid both final u v e f h =
-    after_parts relation a b before mid both final e f (subst (λ z. NotedParts relation a z both final) v (subst (λ z. NotedParts relation z b' both final) u h))
-
-absorbed_number : (j : Judged) (before : Bool) → ((before || not (is_sound j)) || not (is_there (as_number j))) ≡ (before || not (is_there (as_number j)))
-absorbed_number j true = refl
-absorbed_number (AsNumber (Some x)) false = refl
-absorbed_number (AsNumber None) false = refl
-absorbed_number (AsWords (Some x)) false = refl
-absorbed_number (AsWords None) false = refl
-absorbed_number Unknown false = refl
-
--- the faults of what is judged were noted before a number was wanted
-pub number_noted : (j k : Judged) (before mid final : Bool) → k ≡ j → mid ≡ (before || not (is_sound j))
-    → ((mid || not (is_sound k)) ≡ mid → final ≡ (mid || not (is_there (as_number k))))
-    → final ≡ (before || not (is_there (as_number j)))
-number_noted j k before mid final u e h =
-    let wanted = subst (λ z. (mid || not (is_sound z)) ≡ mid → final ≡ (mid || not (is_there (as_number z)))) u h in
-    wanted (ap (λ m. m || not (is_sound j)) e ∙ or_same before (not (is_sound j)) ∙ sym e)
-    ∙ ap (λ m. m || not (is_there (as_number j))) e
-    ∙ absorbed_number j before
-
-pub compare_judged : (s : Scope) (top : Bool) (left : Box rust.Expression) (relation : Relation) (right : Box rust.Expression)
-    → judge s top (expr (e.Compare left relation right)) ≡ AsNumber (compared relation (judge s false (expr left.value)) (judge s false (expr right.value)))
-unfolding judge
-compare_judged s top left relation right = refl

@@ -1,5 +1,5 @@
 -- Words for the clauses: what is judged of names, places and lists as they were read.
-use Rattle.std.specs.Prelude.{◌≡◌, ℕ, Bool, ◌||◌, not, List, map, Option}
+use Rattle.std.specs.Prelude.{ℕ, List, map, Option}
 use Rattle.std.specs.Global.{Vec}
 use Rattle.std.specs.Option.{option_map}
 use Rattle.cse_syntax_tree.specs.declared.tree.Expression as rustexpression
@@ -8,10 +8,8 @@ use Rattle.cse_syntax_tree.specs.declared.tree.Place.{Place}
 use Rattle.cse_syntax_tree.specs.Tree.{Spelling, expr, exprs, written}
 use Rattle.cse_logic_tree.specs.declared.tree.Number as rustnumber
 use Rattle.cse_logic_tree.specs.Typed.{Numbers, number, numbers}
-use Rattle.cse_logic_names.specs.declared.faults.Faults.{Faults}
 use Rattle.cse_logic_names.specs.declared.meaning.Meaning.{Meaning}
 use Rattle.cse_logic_names.specs.Scope.{Scope, meant}
-use Rattle.cse_logic_names.specs.Walk.{IsNoted}
 use Rattle.cse_logic_expressions.specs.Judge.{expr_count, judge_all}
 
 -- what is judged of a name, by what it is written and what it means
@@ -33,7 +31,3 @@ all_judged s xs = judge_all s (exprs (map expr xs))
 -- the numbers that were made, if all were
 abbrev pub numbers_made : Option (Vec rustnumber.Number) → Option Numbers
 numbers_made made = option_map (λ v. numbers (map number v.items)) made
-
--- a fault was noted, unless what was judged is sound, where a fault of each of two parts that isn't there was noted before
-abbrev pub IsNotedAfterBoth : Bool → Bool → Faults → Faults → Bool → Type 0
-IsNotedAfterBoth first second old new sound = (old.found || (not first || not second)) ≡ old.found → IsNoted old new sound

@@ -1,6 +1,6 @@
 //! Statements that hold no others.
 
-ghost use Rattle.std.specs.Prelude.{◌≡◌, false, Some, IfOk, OnOk};
+ghost use Rattle.std.specs.Prelude.{◌≡◌, false, Some, IfOk};
 ghost use Rattle.std.specs.Option.{option_map};
 ghost use Rattle.cse_syntax_tree.specs.Tree.{expr};
 ghost use Rattle.cse_logic_tree.specs.Typed as typed;
@@ -8,12 +8,11 @@ ghost use Rattle.cse_logic_tree.specs.Typed.{statement};
 ghost use Rattle.cse_logic_names.specs.WellTyped as well;
 ghost use Rattle.cse_logic_expressions.specs.Judge.{as_number, judge};
 ghost use Rattle.cse_logic_expressions.specs.JudgeStatement as spec;
-ghost use Rattle.cse_logic_names.specs.Walk.{is_there, only_if, IsNoted};
+ghost use Rattle.cse_logic_names.specs.Walk.{only_if};
 ghost use Rattle.cse_logic_expressions.specs.Clauses.{by_name, by_name_with, by_place};
 
 use crate::assign::{assign, call_of, impute, put_deck};
 use crate::expression::{all_values, expression, value};
-use cse_logic_names::faults::Faults;
 use cse_logic_names::scope::Scope;
 use cse_logic_tree::{Statement, Variable};
 use cse_syntax_tree::{Expression, Jump, Lexeme, Place};
@@ -23,66 +22,56 @@ use std::alloc::{AllocError, Global};
 pub fn assignment<'a>(
     alloc: Global,
     scope: &Scope<'_>,
-    faults: &mut Faults,
     place: &Place<'a>,
     x: &Expression<'a>,
 ) -> Result<Option<Statement<'a>>, AllocError>
-    ensures value { IfOk result (λ r. option_map statement r ≡ by_place spec.assign scope.now place.now (judge scope.now false (expr x.now))) }
-    ensures noted { OnOk result (IsNoted faults.old faults.new (is_there (by_place spec.assign scope.now place.now (judge scope.now false (expr x.now))))) }
+    ensures { IfOk result (λ r. option_map statement r ≡ by_place spec.assign scope.now place.now (judge scope.now false (expr x.now))) }
 {
     let count = place.subscripts.len();
-    let subscripts = all_values(alloc, scope, faults, &place.subscripts)?;
-    let found = expression(alloc, scope, faults, false, x)?;
-    Ok(assign(scope, faults, place.name, count, subscripts, found))
+    let subscripts = all_values(alloc, scope, &place.subscripts)?;
+    let found = expression(alloc, scope, false, x)?;
+    Ok(assign(scope, place.name, count, subscripts, found))
 }
 
 /// An imputation.
 pub fn imputation<'a>(
     alloc: Global,
     scope: &Scope<'_>,
-    faults: &mut Faults,
     place: &Place<'a>,
     x: &Expression<'a>,
 ) -> Result<Option<Statement<'a>>, AllocError>
-    ensures value { IfOk result (λ r. option_map statement r ≡ by_place spec.impute scope.now place.now (as_number (judge scope.now false (expr x.now)))) }
-    ensures noted { OnOk result
-        (IsNoted faults.old faults.new (is_there (by_place spec.impute scope.now place.now (as_number (judge scope.now false (expr x.now)))))) }
+    ensures { IfOk result (λ r. option_map statement r ≡ by_place spec.impute scope.now place.now (as_number (judge scope.now false (expr x.now)))) }
 {
     let count = place.subscripts.len();
-    let subscripts = all_values(alloc, scope, faults, &place.subscripts)?;
-    let found = value(alloc, scope, faults, false, x)?;
-    Ok(impute(scope, faults, place.name, count, subscripts, found))
+    let subscripts = all_values(alloc, scope, &place.subscripts)?;
+    let found = value(alloc, scope, false, x)?;
+    Ok(impute(scope, place.name, count, subscripts, found))
 }
 
 /// A call that stands alone.
 pub fn alone<'a>(
     alloc: Global,
     scope: &Scope<'_>,
-    faults: &mut Faults,
     name: Lexeme<'a>,
     arguments: &Vec<Expression<'a>>,
 ) -> Result<Option<Statement<'a>>, AllocError>
-    ensures value { IfOk result (λ r. option_map statement r ≡ by_name_with spec.call_of scope.now name.entry arguments.now.items) }
-    ensures noted { OnOk result (IsNoted faults.old faults.new (is_there (by_name_with spec.call_of scope.now name.entry arguments.now.items))) }
+    ensures { IfOk result (λ r. option_map statement r ≡ by_name_with spec.call_of scope.now name.entry arguments.now.items) }
 {
-    let found = all_values(alloc, scope, faults, arguments)?;
-    Ok(call_of(scope, faults, name, arguments.len(), found))
+    let found = all_values(alloc, scope, arguments)?;
+    Ok(call_of(scope, name, arguments.len(), found))
 }
 
 /// A value that is put into a hot deck.
 pub fn deck_value<'a>(
     alloc: Global,
     scope: &Scope<'_>,
-    faults: &mut Faults,
     deck: Lexeme<'a>,
     x: &Expression<'a>,
 ) -> Result<Option<Statement<'a>>, AllocError>
-    ensures value { IfOk result (λ r. option_map statement r ≡ by_name spec.put_deck scope.now deck.entry (as_number (judge scope.now false (expr x.now)))) }
-    ensures noted { OnOk result
-        (IsNoted faults.old faults.new (is_there (by_name spec.put_deck scope.now deck.entry (as_number (judge scope.now false (expr x.now)))))) }
+    ensures { IfOk result (λ r. option_map statement r ≡ by_name spec.put_deck scope.now deck.entry (as_number (judge scope.now false (expr x.now)))) }
 {
-    let found = value(alloc, scope, faults, false, x)?;
-    put_deck(alloc, scope, faults, deck, found)
+    let found = value(alloc, scope, false, x)?;
+    put_deck(alloc, scope, deck, found)
 }
 
 /// Whether a jump may stand in these loops.
@@ -99,19 +88,12 @@ fn may_jump(loops: &[(Option<u16>, Variable)], jump: Jump) -> bool
 }
 
 /// A jump; one out of a loop or a turn stands in a loop (49).
-pub fn jump<'a>(
-    scope: &Scope<'_>,
-    faults: &mut Faults,
-    token: usize,
-    jump: Jump,
-) -> Option<Statement<'a>>
-    ensures value { option_map statement result ≡ only_if (well.may_jump scope.now.loops jump) (Some (typed.Jump' token jump)) }
-    ensures noted { IsNoted faults.old faults.new (is_there (only_if (well.may_jump scope.now.loops jump) (Some (typed.Jump' token jump)))) }
+pub fn jump<'a>(scope: &Scope<'_>, token: usize, jump: Jump) -> Option<Statement<'a>>
+    ensures { option_map statement result ≡ only_if (well.may_jump scope.now.loops jump) (Some (typed.Jump' token jump)) }
 {
     if may_jump(&scope.loops, jump) {
         Some(Statement::Jump(token, jump))
     } else {
-        faults.note();
         None
     }
 }

@@ -1,25 +1,23 @@
 //! Assignments, imputations, values put into hot decks, and calls that stand alone.
 
-ghost use Rattle.std.specs.Prelude.{◌≡◌, ◌==◌, Some, None, IfOk, OnOk};
+ghost use Rattle.std.specs.Prelude.{◌≡◌, ◌==◌, Some, None, IfOk};
 ghost use Rattle.std.specs.Option.{option_map};
 ghost use Rattle.cse_syntax_tree.specs.Tree.{written};
 ghost use Rattle.cse_logic_tree.specs.Typed as typed;
 ghost use Rattle.cse_logic_tree.specs.Typed.{number, words, statement};
-ghost use Rattle.cse_logic_names.specs.Scope.{meant, kind_and_owner};
+ghost use Rattle.cse_logic_names.specs.Scope.{kind_and_owner};
 ghost use Rattle.cse_logic_names.specs.WellTyped.{dimensions_of, may_call};
 ghost use Rattle.cse_logic_expressions.specs.Judge as judge;
-ghost use Rattle.cse_logic_expressions.specs.Judge.{judged, as_number, is_sound};
+ghost use Rattle.cse_logic_expressions.specs.Judge.{judged, as_number};
 ghost use Rattle.cse_logic_expressions.specs.JudgeStatement as spec;
 ghost use Rattle.cse_logic_expressions.specs.JudgeStatement.{as_words, placed};
-ghost use Rattle.cse_logic_names.specs.Walk.{is_there, joined, only_if, IsNoted, IsNotedAfter};
-ghost use Rattle.cse_logic_expressions.specs.Clauses.{IsNotedAfterBoth, by_name, numbers_made};
+ghost use Rattle.cse_logic_names.specs.Walk.{joined, only_if};
+ghost use Rattle.cse_logic_expressions.specs.Clauses.{by_name, numbers_made};
 
 use crate::call::{has_dimensions, is_free, may_call};
 use crate::deck::picks;
-use crate::item::{field_at, needs_case};
 use crate::judged::Judged;
 use crate::place::place_at;
-use cse_logic_names::faults::Faults;
 use cse_logic_names::meaning::Meaning;
 use cse_logic_names::scope::{Scope, kind_and_owner, own_result};
 use cse_logic_tree::{Field, Number, Pick, Statement, Variable, Which, Words};
@@ -27,58 +25,33 @@ use cse_syntax_tree::Lexeme;
 use cse_value::shape::ItemKind;
 use std::alloc::{AllocError, Global};
 
-/// A number, or the fault 44.
-pub fn number_in<'a>(faults: &mut Faults, x: Judged<'a>) -> Option<Number<'a>>
-    ensures value { option_map number result ≡ as_number (judged x.entry) }
-    ensures noted { IsNotedAfter (is_sound (judged x.entry)) faults.old faults.new (is_there (as_number (judged x.entry))) }
+/// A number, or none.
+pub fn number_in<'a>(x: Judged<'a>) -> Option<Number<'a>>
+    ensures { option_map number result ≡ as_number (judged x.entry) }
 {
     match x {
         Judged::Number(x) => x,
-        Judged::Words(_) => {
-            faults.note();
-            None
-        }
-        Judged::Unknown => None,
+        _ => None,
     }
 }
 
-/// A text, or the fault 44.
-pub fn words_in<'a>(faults: &mut Faults, x: Judged<'a>) -> Option<Words<'a>>
-    ensures value { option_map words result ≡ as_words (judged x.entry) }
-    ensures noted { IsNotedAfter (is_sound (judged x.entry)) faults.old faults.new (is_there (as_words (judged x.entry))) }
+/// A text, or none.
+pub fn words_in<'a>(x: Judged<'a>) -> Option<Words<'a>>
+    ensures { option_map words result ≡ as_words (judged x.entry) }
 {
     match x {
-        Judged::Number(_) => {
-            faults.note();
-            None
-        }
         Judged::Words(x) => x,
-        Judged::Unknown => None,
+        _ => None,
     }
 }
 
-/// A variable that no open loop is over; else the fault 47, or 40 where there is none.
-pub fn free_variable(
-    scope: &Scope<'_>,
-    faults: &mut Faults,
-    variable: Option<Variable>,
-) -> Option<Variable>
-    ensures value { result ≡ spec.free_variable scope.now.loops variable }
-    ensures noted { IsNoted faults.old faults.new (is_there (spec.free_variable scope.now.loops variable)) }
+/// A variable that no open loop is over; else none.
+pub fn free_variable(scope: &Scope<'_>, variable: Option<Variable>) -> Option<Variable>
+    ensures { result ≡ spec.free_variable scope.now.loops variable }
 {
     match variable {
-        None => {
-            faults.note();
-            None
-        }
-        Some(variable) => {
-            if is_free(&scope.loops, variable) {
-                Some(variable)
-            } else {
-                faults.note();
-                None
-            }
-        }
+        Some(variable) if is_free(&scope.loops, variable) => Some(variable),
+        _ => None,
     }
 }
 
@@ -95,46 +68,20 @@ fn set<'a>(
     }
 }
 
-/// An assignment of a variable, behind which so many subscripts stand.
+/// An assignment of a variable, or of the result of a function in its own body, behind which so many subscripts stand.
 fn assign_variable<'a>(
     scope: &Scope<'_>,
-    faults: &mut Faults,
     name: Lexeme<'a>,
     variable: Option<Variable>,
     count: usize,
     value: Judged<'a>,
 ) -> Option<Statement<'a>>
-    ensures value { option_map statement result ≡ spec.assign_variable scope.now (written name.entry) variable count (judged value.entry) }
-    ensures noted { IsNotedAfter (is_sound (judged value.entry)) faults.old faults.new
-        (is_there (spec.assign_variable scope.now (written name.entry) variable count (judged value.entry))) }
+    ensures { option_map statement result ≡ spec.assign_variable scope.now (written name.entry) variable count (judged value.entry) }
 {
     if count != 0 {
-        faults.note();
         return None;
     }
-    let variable = free_variable(scope, faults, variable);
-    let value = number_in(faults, value);
-    set(name, variable, value)
-}
-
-/// An assignment of the result of a function in its own body: by its name alone, since a call is no place (40).
-fn assign_result<'a>(
-    scope: &Scope<'_>,
-    faults: &mut Faults,
-    name: Lexeme<'a>,
-    own: Option<Variable>,
-    count: usize,
-    value: Judged<'a>,
-) -> Option<Statement<'a>>
-    ensures value { option_map statement result ≡ spec.assign_variable scope.now (written name.entry) own count (judged value.entry) }
-    ensures noted { IsNotedAfter (is_sound (judged value.entry)) faults.old faults.new
-        (is_there (spec.assign_variable scope.now (written name.entry) own count (judged value.entry))) }
-{
-    if count != 0 {
-        faults.note();
-        return None;
-    }
-    assign_variable(scope, faults, name, own, count, value)
+    set(name, free_variable(scope, variable), number_in(value))
 }
 
 fn set_text<'a>(name: Lexeme<'a>, global: usize, value: Option<Words<'a>>) -> Option<Statement<'a>>
@@ -148,23 +95,18 @@ fn set_text<'a>(name: Lexeme<'a>, global: usize, value: Option<Words<'a>>) -> Op
 
 /// An assignment of a text variable, which is the text at fault where the value is none.
 fn assign_text<'a>(
-    faults: &mut Faults,
     name: Lexeme<'a>,
     global: usize,
     count: usize,
     value: Judged<'a>,
 ) -> Option<Statement<'a>>
-    ensures value { option_map statement result
+    ensures { option_map statement result
         ≡ only_if (count == 0) (option_map (typed.SetText (written name.entry) global) (as_words (judged value.entry))) }
-    ensures noted { IsNotedAfter (is_sound (judged value.entry)) faults.old faults.new
-        (is_there (only_if (count == 0) (option_map (typed.SetText (written name.entry) global) (as_words (judged value.entry))))) }
 {
     if count != 0 {
-        faults.note();
         return None;
     }
-    let value = words_in(faults, value);
-    set_text(name, global, value)
+    set_text(name, global, words_in(value))
 }
 
 fn set_cell<'a>(
@@ -251,190 +193,123 @@ fn call<'a>(
 /// A call that stands alone, with so many arguments.
 pub fn call_of<'a>(
     scope: &Scope<'_>,
-    faults: &mut Faults,
     name: Lexeme<'a>,
     count: usize,
     arguments: Option<Vec<Number<'a>>>,
 ) -> Option<Statement<'a>>
-    ensures value { option_map statement result ≡ by_name spec.call_of scope.now name.entry count (numbers_made arguments.entry) }
-    ensures noted { IsNotedAfter (is_there arguments.entry) faults.old faults.new
-        (is_there (by_name spec.call_of scope.now name.entry count (numbers_made arguments.entry))) }
+    ensures { option_map statement result ≡ by_name spec.call_of scope.now name.entry count (numbers_made arguments.entry) }
 {
     match scope.meant(name) {
-        Some(Meaning::Function(function)) => {
-            if may_call(scope, faults, count, function) {
-                call(name, function, arguments)
-            } else {
-                None
-            }
+        Some(Meaning::Function(function)) if may_call(scope, count, function) => {
+            call(name, function, arguments)
         }
-        _ => {
-            faults.note();
-            None
-        }
+        _ => None,
     }
 }
 
 /// An assignment of an item.
 fn assign_item<'a>(
     scope: &Scope<'_>,
-    faults: &mut Faults,
     name: Lexeme<'a>,
     count: usize,
     number: u16,
     subscripts: Option<Vec<Number<'a>>>,
     value: Judged<'a>,
 ) -> Option<Statement<'a>>
-    ensures value { option_map statement result ≡ spec.assign_item scope.now (written name.entry) count number (kind_and_owner scope.now.dictionary number)
+    ensures { option_map statement result ≡ spec.assign_item scope.now (written name.entry) count number (kind_and_owner scope.now.dictionary number)
         (numbers_made subscripts.entry) (judged value.entry) }
-    ensures noted { IsNotedAfterBoth (is_there subscripts.entry) (is_sound (judged value.entry)) faults.old faults.new (is_there (spec.assign_item scope.now
-        (written name.entry) count number (kind_and_owner scope.now.dictionary number) (numbers_made subscripts.entry) (judged value.entry))) }
 {
     match kind_and_owner(scope.dictionary, number) {
-        None => {
-            faults.note();
-            None
+        Some((ItemKind::Number, owner)) => {
+            let place = place_at(scope, count, number, owner, subscripts);
+            set_item(name, place, number_in(value))
         }
-        Some((kind, owner)) => match kind {
-            ItemKind::Opaque => {
-                faults.note();
-                None
-            }
-            ItemKind::Number => {
-                let place = place_at(scope, faults, count, number, owner, subscripts);
-                let value = number_in(faults, value);
-                set_item(name, place, value)
-            }
-            ItemKind::Text => {
-                let place = place_at(scope, faults, count, number, owner, subscripts);
-                let value = words_in(faults, value);
-                set_text_item(name, place, value)
-            }
-        },
+        Some((ItemKind::Text, owner)) => {
+            let place = place_at(scope, count, number, owner, subscripts);
+            set_text_item(name, place, words_in(value))
+        }
+        _ => None,
     }
 }
 
 /// An assignment of a cell.
 fn assign_cell<'a>(
     scope: &Scope<'_>,
-    faults: &mut Faults,
     name: Lexeme<'a>,
     count: usize,
     array: usize,
     subscripts: Option<Vec<Number<'a>>>,
     value: Judged<'a>,
 ) -> Option<Statement<'a>>
-    ensures value { option_map statement result ≡ only_if (judge.is_count count (dimensions_of scope.now array))
+    ensures { option_map statement result ≡ only_if (judge.is_count count (dimensions_of scope.now array))
         (joined (typed.SetCell (written name.entry) array) (numbers_made subscripts.entry) (as_number (judged value.entry))) }
-    ensures noted { IsNotedAfterBoth (is_there subscripts.entry) (is_sound (judged value.entry)) faults.old faults.new
-        (is_there (only_if (judge.is_count count (dimensions_of scope.now array))
-        (joined (typed.SetCell (written name.entry) array) (numbers_made subscripts.entry) (as_number (judged value.entry))))) }
 {
-    if !has_dimensions(scope, faults, count, array) {
-        // The array may be declared behind the value.
-        number_in(faults, value);
+    if !has_dimensions(scope, count, array) {
         return None;
     }
-    let value = number_in(faults, value);
-    set_cell(name, array, subscripts, value)
+    set_cell(name, array, subscripts, number_in(value))
 }
 
 /// A value, assigned to what a name means; so many subscripts stand behind it.
 pub fn assign<'a>(
     scope: &Scope<'_>,
-    faults: &mut Faults,
     name: Lexeme<'a>,
     count: usize,
     subscripts: Option<Vec<Number<'a>>>,
     value: Judged<'a>,
 ) -> Option<Statement<'a>>
-    ensures value { option_map statement result ≡ by_name spec.assign scope.now name.entry count (numbers_made subscripts.entry) (judged value.entry) }
-    ensures noted { IsNotedAfterBoth (is_there subscripts.entry) (is_sound (judged value.entry)) faults.old faults.new
-        (is_there (by_name spec.assign scope.now name.entry count (numbers_made subscripts.entry) (judged value.entry))) }
+    ensures { option_map statement result ≡ by_name spec.assign scope.now name.entry count (numbers_made subscripts.entry) (judged value.entry) }
 {
     match scope.meant(name) {
         Some(Meaning::Variable(variable)) => {
-            assign_variable(scope, faults, name, Some(variable), count, value)
+            assign_variable(scope, name, Some(variable), count, value)
         }
-        Some(Meaning::Text(global)) => assign_text(faults, name, global, count, value),
-        Some(Meaning::Array(array)) => {
-            assign_cell(scope, faults, name, count, array, subscripts, value)
-        }
+        Some(Meaning::Text(global)) => assign_text(name, global, count, value),
+        Some(Meaning::Array(array)) => { assign_cell(scope, name, count, array, subscripts, value) }
         Some(Meaning::Function(function)) => {
+            // By its name alone, since a call is no place.
             let own = own_result(scope.routine, function);
-            assign_result(scope, faults, name, own, count, value)
+            assign_variable(scope, name, own, count, value)
         }
-        Some(Meaning::Item(item)) => {
-            assign_item(scope, faults, name, count, item, subscripts, value)
-        }
-        _ => {
-            faults.note();
-            None
-        }
+        Some(Meaning::Item(item)) => { assign_item(scope, name, count, item, subscripts, value) }
+        _ => None,
     }
 }
 
 /// An imputation of a numeric item.
 fn impute_number<'a>(
     scope: &Scope<'_>,
-    faults: &mut Faults,
     name: Lexeme<'a>,
     count: usize,
     item: u16,
     subscripts: Option<Vec<Number<'a>>>,
     value: Option<Number<'a>>,
 ) -> Option<Statement<'a>>
-    ensures value { option_map statement result ≡ spec.impute_number scope.now (written name.entry) count item (kind_and_owner scope.now.dictionary item)
+    ensures { option_map statement result ≡ spec.impute_number scope.now (written name.entry) count item (kind_and_owner scope.now.dictionary item)
         (numbers_made subscripts.entry) (option_map number value.entry) }
-    ensures noted { IsNotedAfterBoth (is_there subscripts.entry) (is_there value.entry) faults.old faults.new (is_there (spec.impute_number scope.now
-        (written name.entry) count item (kind_and_owner scope.now.dictionary item) (numbers_made subscripts.entry) (option_map number value.entry))) }
 {
     match kind_and_owner(scope.dictionary, item) {
-        None => {
-            faults.note();
-            None
+        Some((ItemKind::Number, owner)) => {
+            imputed(name, place_at(scope, count, item, owner, subscripts), value)
         }
-        Some((kind, owner)) => match kind {
-            ItemKind::Opaque => {
-                faults.note();
-                None
-            }
-            ItemKind::Number => {
-                let place = place_at(scope, faults, count, item, owner, subscripts);
-                imputed(name, place, value)
-            }
-            ItemKind::Text => {
-                faults.note();
-                // Of an id item 43 is the lesser.
-                field_at(scope, faults, item, owner);
-                None
-            }
-        },
+        _ => None,
     }
 }
 
 /// An imputation.
 pub fn impute<'a>(
     scope: &Scope<'_>,
-    faults: &mut Faults,
     name: Lexeme<'a>,
     count: usize,
     subscripts: Option<Vec<Number<'a>>>,
     value: Option<Number<'a>>,
 ) -> Option<Statement<'a>>
-    ensures value { option_map statement result
+    ensures { option_map statement result
         ≡ by_name spec.impute scope.now name.entry count (numbers_made subscripts.entry) (option_map number value.entry) }
-    ensures noted { IsNotedAfterBoth (is_there subscripts.entry) (is_there value.entry) faults.old faults.new
-        (is_there (by_name spec.impute scope.now name.entry count (numbers_made subscripts.entry) (option_map number value.entry))) }
 {
     match scope.meant(name) {
-        Some(Meaning::Item(item)) => {
-            impute_number(scope, faults, name, count, item, subscripts, value)
-        }
-        _ => {
-            faults.note();
-            None
-        }
+        Some(Meaning::Item(item)) => { impute_number(scope, name, count, item, subscripts, value) }
+        _ => None,
     }
 }
 
@@ -442,23 +317,16 @@ pub fn impute<'a>(
 pub fn put_deck<'a>(
     alloc: Global,
     scope: &Scope<'_>,
-    faults: &mut Faults,
     name: Lexeme<'a>,
     value: Option<Number<'a>>,
 ) -> Result<Option<Statement<'a>>, AllocError>
-    ensures value { IfOk result (λ r. option_map statement r ≡ by_name spec.put_deck scope.now name.entry (option_map number value.entry)) }
-    ensures noted { OnOk result
-        (IsNotedAfter (is_there value.entry) faults.old faults.new (is_there (by_name spec.put_deck scope.now name.entry (option_map number value.entry)))) }
+    ensures { IfOk result (λ r. option_map statement r ≡ by_name spec.put_deck scope.now name.entry (option_map number value.entry)) }
 {
     match scope.meant(name) {
         Some(Meaning::Array(array)) => {
-            let picks = picks(alloc, scope, faults, array)?;
+            let picks = picks(alloc, scope, array)?;
             Ok(put(name, array, picks, value))
         }
-        _ => {
-            faults.note();
-            needs_case(scope, faults);
-            Ok(None)
-        }
+        _ => Ok(None),
     }
 }

@@ -9,10 +9,8 @@ ghost use Rattle.cse_logic_tree.specs.Typed.{number};
 ghost use Rattle.cse_logic_names.specs.Scope as scope_of;
 ghost use Rattle.cse_logic_names.specs.WellTyped as well;
 ghost use Rattle.cse_logic_expressions.specs.Judge as spec;
-ghost use Rattle.cse_logic_names.specs.Walk.{IsNoted};
 ghost use Rattle.cse_logic_expressions.specs.Clauses.{numbers_made};
 
-use cse_logic_names::faults::Faults;
 use cse_logic_names::names::Globals;
 use cse_logic_names::scope::{Facts, Scope, has_case};
 use cse_logic_tree::{Number, Variable};
@@ -59,42 +57,18 @@ pub fn dimensions_of(scope: &Scope<'_>, array: usize) -> Option<usize>
     ensures { result ≡ well.dimensions_of scope.now array }
 {
     match scope.arrays.get(array) {
-        None => None,
-        Some(dimensions) => match dimensions {
-            None => None,
-            Some(dimensions) => Some(dimensions.len()),
-        },
+        Some(Some(dimensions)) => Some(dimensions.len()),
+        _ => None,
     }
 }
 
-/// The fault 44, where this number isn't the one that is declared.
-fn same_count(faults: &mut Faults, count: usize, declared: Option<&usize>) {
-    match declared {
-        Some(declared) if *declared != count => faults.note(),
-        _ => {}
-    }
-}
-
-/// Whether an array has so many dimensions, or the fault 44.
-pub fn has_dimensions(scope: &Scope<'_>, faults: &mut Faults, count: usize, array: usize) -> bool
-    ensures value { result ≡ spec.is_count count (well.dimensions_of scope.now array) }
-    ensures noted { IsNoted faults.old faults.new (spec.is_count count (well.dimensions_of scope.now array)) }
+/// Whether an array has so many dimensions.
+pub fn has_dimensions(scope: &Scope<'_>, count: usize, array: usize) -> bool
+    ensures { result ≡ spec.is_count count (well.dimensions_of scope.now array) }
 {
     match dimensions_of(scope, array) {
-        None => {
-            // Its declaration is at fault, maybe behind this place.
-            same_count(faults, count, scope.counts.dimensions.get(array));
-            faults.note();
-            false
-        }
-        Some(dimensions) => {
-            if dimensions == count {
-                true
-            } else {
-                faults.note();
-                false
-            }
-        }
+        None => false,
+        Some(dimensions) => dimensions == count,
     }
 }
 
@@ -149,49 +123,22 @@ fn are_free(loops: &[(Option<u16>, Variable)], globals: &Globals) -> bool
     !is_any_among(loops, globals)
 }
 
-/// Whether a function that has ended may be called here with so many arguments; else a fault.
+/// Whether a function that has ended may be called here with so many arguments.
 #[tactic(auto, unfolding(cse_logic_names::specs::WellTyped::suits))]
-fn suits(scope: &Scope<'_>, faults: &mut Faults, arguments: usize, facts: &Facts) -> bool
-    ensures value { result ≡ well.suits scope.now arguments facts.now }
-    ensures noted { IsNoted faults.old faults.new (well.suits scope.now arguments facts.now) }
+fn suits(scope: &Scope<'_>, arguments: usize, facts: &Facts) -> bool
+    ensures { result ≡ well.suits scope.now arguments facts.now }
 {
-    if facts.parameters != arguments {
-        faults.note();
-        return false;
-    }
-    if !are_free(&scope.loops, &facts.assigned) {
-        faults.note();
-        return false;
-    }
-    if facts.needs_case {
-        if !has_case(scope.routine) {
-            faults.note();
-            return false;
-        }
-    }
-    true
+    facts.parameters == arguments
+        && (has_case(scope.routine) || !facts.needs_case)
+        && are_free(&scope.loops, &facts.assigned)
 }
 
-/// Whether a function may be called here with so many arguments; else a fault.
-pub fn may_call(scope: &Scope<'_>, faults: &mut Faults, arguments: usize, function: usize) -> bool
-    ensures value { result ≡ well.may_call scope.now arguments (slice_get scope.now.functions function) }
-    ensures noted { IsNoted faults.old faults.new (well.may_call scope.now arguments (slice_get scope.now.functions function)) }
+/// Whether a function may be called here with so many arguments.
+pub fn may_call(scope: &Scope<'_>, arguments: usize, function: usize) -> bool
+    ensures { result ≡ well.may_call scope.now arguments (slice_get scope.now.functions function) }
 {
-    let declared = scope.counts.parameters.get(function);
     match scope.functions.get(function) {
-        None => {
-            same_count(faults, arguments, declared);
-            faults.note();
-            false
-        }
-        Some(facts) => match facts {
-            None => {
-                // Its own fault may stand behind this place: that of a parameter's name stands at the later of two.
-                same_count(faults, arguments, declared);
-                faults.note();
-                false
-            }
-            Some(facts) => suits(scope, faults, arguments, facts),
-        },
+        Some(Some(facts)) => suits(scope, arguments, facts),
+        _ => false,
     }
 }

@@ -1,6 +1,6 @@
 //! What `errmsg` says: its message, and a value for each placeholder.
 
-ghost use Rattle.std.specs.Prelude.{◌≡◌, ◌==◌, false, map, length, Some, None, IfOk, OnOk};
+ghost use Rattle.std.specs.Prelude.{◌≡◌, ◌==◌, false, map, length, Some, None, IfOk};
 ghost use Rattle.std.specs.Option.{option_map};
 ghost use Rattle.cse_image_parts.specs.Placeholders.{message_kinds};
 ghost use Rattle.cse_syntax_tree.specs.Leaf as leaf;
@@ -12,14 +12,13 @@ ghost use Rattle.cse_logic_names.specs.WellTyped.{kinds_of, message_meant, messa
 ghost use Rattle.cse_logic_expressions.specs.Judge.{expr_count, judge};
 ghost use Rattle.cse_logic_expressions.specs.JudgeStatement as spec;
 ghost use Rattle.cse_logic_expressions.specs.JudgeStatement.{as_argument, as_words, judge_arguments, ranged};
-ghost use Rattle.cse_logic_names.specs.Walk.{is_there, IsNoted};
+ghost use Rattle.cse_logic_names.specs.Walk.{is_there};
 
 use crate::assign::number_in;
 use crate::expression::{expression, written_number};
 use crate::judged::Judged;
 use crate::list::{both_hold, keep};
 use cse_image_parts::placeholders::{ArgumentKind, Kinds, count_placeholders};
-use cse_logic_names::faults::Faults;
 use cse_logic_names::messages::Messages;
 use cse_logic_names::scope::Scope;
 use cse_logic_tree::{Argument, Number, Statement, Words};
@@ -82,23 +81,17 @@ fn text_meant<'m>(messages: &'m Messages, said: Message<'m>) -> Option<&'m [u8]>
     }
 }
 
-/// A text, or the fault 44.
+/// A text, or none.
 fn text<'a>(
     alloc: Global,
     scope: &Scope<'_>,
-    faults: &mut Faults,
     x: &Expression<'a>,
 ) -> Result<Option<Words<'a>>, AllocError>
-    ensures value { IfOk result (λ r. option_map words r ≡ as_words (judge scope.now false (expr x.now))) }
-    ensures noted { OnOk result (IsNoted faults.old faults.new (is_there (as_words (judge scope.now false (expr x.now))))) }
+    ensures { IfOk result (λ r. option_map words r ≡ as_words (judge scope.now false (expr x.now))) }
 {
-    match expression(alloc, scope, faults, false, x)? {
-        Judged::Number(_) => {
-            faults.note();
-            Ok(None)
-        }
+    match expression(alloc, scope, false, x)? {
         Judged::Words(text) => Ok(text),
-        Judged::Unknown => Ok(None),
+        _ => Ok(None),
     }
 }
 
@@ -120,30 +113,22 @@ fn of_words<'a>(x: Option<Words<'a>>) -> Option<Argument<'a>>
     }
 }
 
-/// A value for a placeholder of this kind, or a fault.
+/// A value for a placeholder of this kind.
 fn one_argument<'a>(
     alloc: Global,
     scope: &Scope<'_>,
-    faults: &mut Faults,
     kind: Option<ArgumentKind>,
     x: &Expression<'a>,
 ) -> Result<Option<Argument<'a>>, AllocError>
-    ensures value { IfOk result (λ r. option_map argument r ≡ as_argument kind (judge scope.now false (expr x.now))) }
-    ensures noted { OnOk result (IsNoted faults.old faults.new (is_there (as_argument kind (judge scope.now false (expr x.now))))) }
+    ensures { IfOk result (λ r. option_map argument r ≡ as_argument kind (judge scope.now false (expr x.now))) }
 {
     match kind {
-        None => {
-            faults.note();
-            Ok(None)
-        }
+        None => Ok(None),
         Some(ArgumentKind::Number) => {
-            let found = expression(alloc, scope, faults, false, x)?;
-            Ok(of_number(number_in(faults, found)))
+            let found = expression(alloc, scope, false, x)?;
+            Ok(of_number(number_in(found)))
         }
-        Some(ArgumentKind::Text) => {
-            let found = text(alloc, scope, faults, x)?;
-            Ok(of_words(found))
-        }
+        Some(ArgumentKind::Text) => { Ok(of_words(text(alloc, scope, x)?)) }
     }
 }
 
@@ -151,21 +136,18 @@ fn one_argument<'a>(
 fn arguments<'a>(
     alloc: Global,
     scope: &Scope<'_>,
-    faults: &mut Faults,
     text: &[u8],
     values: &Vec<Expression<'a>>,
 ) -> Result<Option<Vec<Argument<'a>>>, AllocError>
-    ensures value { IfOk result (λ r. option_map (λ v. map argument v.items) r
+    ensures { IfOk result (λ r. option_map (λ v. map argument v.items) r
         ≡ judge_arguments scope.now (message_kinds text.now) (exprs (map expr values.now.items))) }
-    ensures noted { OnOk result
-        (IsNoted faults.old faults.new (is_there (judge_arguments scope.now (message_kinds text.now) (exprs (map expr values.now.items))))) }
 {
     let mut kinds = Kinds::new(text);
     let mut found = Vec::new(alloc);
     let mut is_sound = true;
     'all: for x in values {
         let kind = kinds.next();
-        let next = one_argument(alloc, scope, faults, kind, x)?;
+        let next = one_argument(alloc, scope, kind, x)?;
         let is_there = keep(&mut found, next)?;
         is_sound = both_hold(is_sound, is_there);
     }
@@ -199,47 +181,37 @@ fn has_values(text: &[u8], values: &Vec<Expression<'_>>) -> bool
 fn filled<'a>(
     alloc: Global,
     scope: &Scope<'_>,
-    faults: &mut Faults,
     text: &[u8],
     said: Message<'a>,
     index: usize,
     is_summary: bool,
     values: &Vec<Expression<'a>>,
 ) -> Result<Option<Statement<'a>>, AllocError>
-    ensures value { IfOk result (λ r. option_map statement r
+    ensures { IfOk result (λ r. option_map statement r
         ≡ spec.err_msg scope.now (Some (message_kinds text.now)) (message said.entry) index is_summary (exprs (map expr values.now.items))) }
-    ensures noted { OnOk result (IsNoted faults.old faults.new
-        (is_there (spec.err_msg scope.now (Some (message_kinds text.now)) (message said.entry) index is_summary (exprs (map expr values.now.items))))) }
 {
     if !has_values(text, values) {
-        faults.note();
         return Ok(None);
     }
-    let found = arguments(alloc, scope, faults, text, values)?;
+    let found = arguments(alloc, scope, text, values)?;
     Ok(message_of(said, index, is_summary, found))
 }
 
-/// The message of this index among those of the source: an unknown number (40), a count of values that isn't that of
-/// its placeholders (48), or a value of another kind (44).
+/// The message of this index among those of the source, where its number is known and each of its placeholders has a value of
+/// its kind.
 pub fn err_msg<'a>(
     alloc: Global,
     scope: &Scope<'_>,
-    faults: &mut Faults,
     said: Message<'a>,
     index: usize,
     is_summary: bool,
     values: &Vec<Expression<'a>>,
 ) -> Result<Option<Statement<'a>>, AllocError>
-    ensures value { IfOk result (λ r. option_map statement r ≡ spec.err_msg scope.now (kinds_of scope.now.messages (message said.entry))
+    ensures { IfOk result (λ r. option_map statement r ≡ spec.err_msg scope.now (kinds_of scope.now.messages (message said.entry))
         (message said.entry) index is_summary (exprs (map expr values.now.items))) }
-    ensures noted { OnOk result (IsNoted faults.old faults.new (is_there (spec.err_msg scope.now (kinds_of scope.now.messages (message said.entry))
-        (message said.entry) index is_summary (exprs (map expr values.now.items))))) }
 {
     match text_meant(scope.messages, said) {
-        None => {
-            faults.note();
-            Ok(None)
-        }
-        Some(text) => filled(alloc, scope, faults, text, said, index, is_summary, values),
+        None => Ok(None),
+        Some(text) => filled(alloc, scope, text, said, index, is_summary, values),
     }
 }

@@ -9,12 +9,11 @@ ghost use Rattle.cse_logic_names.specs.Scope as scope_of;
 ghost use Rattle.cse_logic_names.specs.WellTyped.{step_of, value_of};
 ghost use Rattle.cse_logic_expressions.specs.JudgeStatement as spec;
 ghost use Rattle.cse_logic_expressions.specs.JudgeStatement.{limit_pair, limits_of, with_step};
-ghost use Rattle.cse_logic_names.specs.Walk.{is_there, joined, IsNoted};
+ghost use Rattle.cse_logic_names.specs.Walk.{joined};
 
 use crate::assign::free_variable;
 use crate::expression::written_number;
 use crate::set::record_of;
-use cse_logic_names::faults::Faults;
 use cse_logic_names::meaning::Meaning;
 use cse_logic_names::scope::Scope;
 use cse_logic_tree::{Counting, Limit, Variable, Whole};
@@ -45,30 +44,22 @@ fn head(variable: Option<Variable>, over: Option<u8>) -> Option<(Variable, u8)>
 /// The variable and the record of a `for`.
 pub fn for_head(
     scope: &Scope<'_>,
-    faults: &mut Faults,
     variable: Lexeme<'_>,
     record_name: Lexeme<'_>,
 ) -> Option<(Variable, u8)>
-    ensures value { result ≡ spec.for_head scope.now (written variable.entry) (written record_name.entry) }
-    ensures noted { IsNoted faults.old faults.new (is_there (spec.for_head scope.now (written variable.entry) (written record_name.entry))) }
+    ensures { result ≡ spec.for_head scope.now (written variable.entry) (written record_name.entry) }
 {
-    let found = loop_variable(scope, variable);
-    let free = free_variable(scope, faults, found);
-    let over = record_of(scope, faults, record_name);
-    head(free, over)
+    let free = free_variable(scope, loop_variable(scope, variable));
+    head(free, record_of(scope, record_name))
 }
 
 /// A literal with its value.
 #[tactic(auto, unfolding(cse_logic_names::specs::WellTyped::value_of))]
-pub fn whole<'a>(faults: &mut Faults, x: Literal<'a>) -> Option<Whole<'a>>
-    ensures value { option_map typed.whole result ≡ spec.whole_judged (syntax.literal x.entry) }
-    ensures noted { IsNoted faults.old faults.new (is_there (spec.whole_judged (syntax.literal x.entry))) }
+pub fn whole<'a>(x: Literal<'a>) -> Option<Whole<'a>>
+    ensures { option_map typed.whole result ≡ spec.whole_judged (syntax.literal x.entry) }
 {
     match written_number(x.digits.text) {
-        None => {
-            faults.note();
-            None
-        }
+        None => None,
         Some(value) => {
             let value = value as i64;
             Some(Whole {
@@ -80,16 +71,15 @@ pub fn whole<'a>(faults: &mut Faults, x: Literal<'a>) -> Option<Whole<'a>>
 }
 
 /// Where a `do` begins or ends.
-fn limit<'a>(scope: &Scope<'_>, faults: &mut Faults, x: ParsedLimit<'a>) -> Option<Limit<'a>>
-    ensures value { option_map typed.limit result ≡ spec.limit_judged scope.now (syntax.limit x.entry) }
-    ensures noted { IsNoted faults.old faults.new (is_there (spec.limit_judged scope.now (syntax.limit x.entry))) }
+fn limit<'a>(scope: &Scope<'_>, x: ParsedLimit<'a>) -> Option<Limit<'a>>
+    ensures { option_map typed.limit result ≡ spec.limit_judged scope.now (syntax.limit x.entry) }
 {
     match x {
-        ParsedLimit::Literal(literal) => match whole(faults, literal) {
+        ParsedLimit::Literal(literal) => match whole(literal) {
             None => None,
             Some(value) => Some(Limit::Literal(value)),
         },
-        ParsedLimit::Count(count, name) => match record_of(scope, faults, name) {
+        ParsedLimit::Count(count, name) => match record_of(scope, name) {
             None => None,
             Some(over) => Some(Limit::Count(count, name, over)),
         },
@@ -108,34 +98,22 @@ fn both_limits<'a>(from: Option<Limit<'a>>, to: Option<Limit<'a>>) -> Option<(Li
     }
 }
 
-fn limits<'a>(
-    scope: &Scope<'_>,
-    faults: &mut Faults,
-    x: Parsed<'a>,
-) -> Option<(Limit<'a>, Limit<'a>)>
-    ensures value { option_map limits_of result
+fn limits<'a>(scope: &Scope<'_>, x: Parsed<'a>) -> Option<(Limit<'a>, Limit<'a>)>
+    ensures { option_map limits_of result
         ≡ joined limit_pair (spec.limit_judged scope.now (syntax.limit x.entry.from)) (spec.limit_judged scope.now (syntax.limit x.entry.to)) }
-    ensures noted { IsNoted faults.old faults.new
-        (is_there (joined limit_pair (spec.limit_judged scope.now (syntax.limit x.entry.from)) (spec.limit_judged scope.now (syntax.limit x.entry.to)))) }
 {
-    let from = limit(scope, faults, x.from);
-    let to = limit(scope, faults, x.to);
-    both_limits(from, to)
+    both_limits(limit(scope, x.from), limit(scope, x.to))
 }
 
 /// What each turn of a `do` adds.
 #[tactic(auto, unfolding(cse_logic_names::specs::WellTyped::value_of))]
-fn step(faults: &mut Faults, by: Option<Lexeme<'_>>) -> Option<i64>
-    ensures value { result ≡ step_of (option_map written by.entry) }
-    ensures noted { IsNoted faults.old faults.new (is_there (step_of (option_map written by.entry))) }
+fn step(by: Option<Lexeme<'_>>) -> Option<i64>
+    ensures { result ≡ step_of (option_map written by.entry) }
 {
     match by {
         None => Some(1),
         Some(digits) => match written_number(digits.text) {
-            None => {
-                faults.note();
-                None
-            }
+            None => None,
             Some(value) => Some(value as i64),
         },
     }
@@ -154,20 +132,12 @@ fn stepped(variable: Option<Variable>, step: Option<i64>) -> Option<(Variable, i
 }
 
 /// The variable of a `do`, and what each turn adds.
-fn variable_and_step(
-    scope: &Scope<'_>,
-    faults: &mut Faults,
-    x: Parsed<'_>,
-) -> Option<(Variable, i64)>
-    ensures value { result ≡ joined with_step (spec.free_variable scope.now.loops (scope_of.loop_variable scope.now (written x.entry.variable)))
+fn variable_and_step(scope: &Scope<'_>, x: Parsed<'_>) -> Option<(Variable, i64)>
+    ensures { result ≡ joined with_step (spec.free_variable scope.now.loops (scope_of.loop_variable scope.now (written x.entry.variable)))
         (step_of (option_map written x.entry.by)) }
-    ensures noted { IsNoted faults.old faults.new (is_there (joined with_step
-        (spec.free_variable scope.now.loops (scope_of.loop_variable scope.now (written x.entry.variable))) (step_of (option_map written x.entry.by)))) }
 {
-    let found = loop_variable(scope, x.variable);
-    let free = free_variable(scope, faults, found);
-    let step = step(faults, x.by);
-    stepped(free, step)
+    let free = free_variable(scope, loop_variable(scope, x.variable));
+    stepped(free, step(x.by))
 }
 
 fn counting_of<'a>(
@@ -195,11 +165,8 @@ fn counting_of<'a>(
 }
 
 /// The head of a `do`.
-pub fn counting<'a>(scope: &Scope<'_>, faults: &mut Faults, x: Parsed<'a>) -> Option<Counting<'a>>
-    ensures value { option_map typed.counting result ≡ spec.counting_judged scope.now (syntax.counting x.entry) }
-    ensures noted { IsNoted faults.old faults.new (is_there (spec.counting_judged scope.now (syntax.counting x.entry))) }
+pub fn counting<'a>(scope: &Scope<'_>, x: Parsed<'a>) -> Option<Counting<'a>>
+    ensures { option_map typed.counting result ≡ spec.counting_judged scope.now (syntax.counting x.entry) }
 {
-    let variable = variable_and_step(scope, faults, x);
-    let limits = limits(scope, faults, x);
-    counting_of(x, variable, limits)
+    counting_of(x, variable_and_step(scope, x), limits(scope, x))
 }

@@ -1,18 +1,17 @@
 //! Items, value sets, hot decks and records in expressions.
 
-ghost use Rattle.std.specs.Prelude.{◌≡◌, ◌≤◌, map, Some, None, IfOk, OnOk};
+ghost use Rattle.std.specs.Prelude.{◌≡◌, map, Some, None, IfOk};
 ghost use Rattle.std.specs.Option.{option_map};
 ghost use Rattle.cse_syntax_tree.specs.Tree.{written};
 ghost use Rattle.cse_logic_tree.specs.Typed as typed;
 ghost use Rattle.cse_logic_tree.specs.Typed.{number, numbers, words};
 ghost use Rattle.cse_logic_names.specs.Scope.{kind_and_owner, has_case};
 ghost use Rattle.cse_logic_expressions.specs.Judge as spec;
-ghost use Rattle.cse_logic_expressions.specs.Judge.{judged, is_sound, number_present};
-ghost use Rattle.cse_logic_names.specs.Walk.{is_there, joined, IsNoted, IsNotedAfter};
+ghost use Rattle.cse_logic_expressions.specs.Judge.{judged, number_present};
+ghost use Rattle.cse_logic_names.specs.Walk.{joined};
 ghost use Rattle.cse_logic_expressions.specs.Clauses.{numbers_made};
 
 use crate::judged::Judged;
-use cse_logic_names::faults::Faults;
 use cse_logic_names::meaning::Meaning;
 use cse_logic_names::scope::{Scope, has_case, kind_and_owner};
 use cse_logic_tree::{Field, Number, Present, Words};
@@ -25,50 +24,30 @@ const IDS: u8 = 255;
 
 /// An item without a subscript, by its record's number.
 #[tactic(auto, unfolding(crate::specs::Judge::present_at))]
-pub fn present_at(scope: &Scope<'_>, faults: &mut Faults, item: u16, owner: u8) -> Option<Present>
-    ensures value { result ≡ spec.present_at scope.now item owner }
-    ensures noted { IsNoted faults.old faults.new (is_there (spec.present_at scope.now item owner)) }
+pub fn present_at(scope: &Scope<'_>, item: u16, owner: u8) -> Option<Present>
+    ensures { result ≡ spec.present_at scope.now item owner }
 {
     if !has_case(scope.routine) {
-        faults.note();
         return None;
     }
     if owner == IDS {
         return Some(Present::Id(item));
     }
     match scope.found(u16::from(owner)) {
-        None => {
-            faults.note();
-            None
-        }
+        None => None,
         Some(found) => Some(Present::Here(Field { owner, item }, found)),
     }
 }
 
 /// An item of a record, by its record's number. An id item has no subscript and is not assigned.
 #[tactic(auto, unfolding(crate::specs::Judge::field_at))]
-pub fn field_at(scope: &Scope<'_>, faults: &mut Faults, item: u16, owner: u8) -> Option<Field>
-    ensures value { result ≡ spec.field_at scope.now item owner }
-    ensures noted { IsNoted faults.old faults.new (is_there (spec.field_at scope.now item owner)) }
+pub fn field_at(scope: &Scope<'_>, item: u16, owner: u8) -> Option<Field>
+    ensures { result ≡ spec.field_at scope.now item owner }
 {
-    if owner == IDS {
-        faults.note();
-        return None;
-    }
-    if !has_case(scope.routine) {
-        faults.note();
+    if owner == IDS || !has_case(scope.routine) {
         return None;
     }
     Some(Field { owner, item })
-}
-
-/// The fault 49, where there is no case.
-pub fn needs_case(scope: &Scope<'_>, faults: &mut Faults)
-    ensures { IsNoted faults.old faults.new (has_case scope.now.routine) }
-{
-    if !has_case(scope.routine) {
-        faults.note();
-    }
 }
 
 fn number_item<'a>(name: Lexeme<'a>, item: Option<Present>) -> Option<Number<'a>>
@@ -90,29 +69,17 @@ fn text_item<'a>(name: Lexeme<'a>, item: Option<Present>) -> Option<Words<'a>>
 }
 
 /// An item that is named without a subscript.
-pub fn item<'a>(scope: &Scope<'_>, faults: &mut Faults, name: Lexeme<'a>, item: u16) -> Judged<'a>
-    ensures value { judged result ≡ spec.item_judged scope.now (written name.entry) item (kind_and_owner scope.now.dictionary item) }
-    ensures noted { IsNoted faults.old faults.new (is_sound (spec.item_judged scope.now (written name.entry) item (kind_and_owner scope.now.dictionary item))) }
+pub fn item<'a>(scope: &Scope<'_>, name: Lexeme<'a>, item: u16) -> Judged<'a>
+    ensures { judged result ≡ spec.item_judged scope.now (written name.entry) item (kind_and_owner scope.now.dictionary item) }
 {
     match kind_and_owner(scope.dictionary, item) {
-        None => {
-            faults.note();
-            Judged::Unknown
+        Some((ItemKind::Number, owner)) => {
+            Judged::Number(number_item(name, present_at(scope, item, owner)))
         }
-        Some((kind, owner)) => match kind {
-            ItemKind::Opaque => {
-                faults.note();
-                Judged::Unknown
-            }
-            ItemKind::Number => {
-                let present = present_at(scope, faults, item, owner);
-                Judged::Number(number_item(name, present))
-            }
-            ItemKind::Text => {
-                let present = present_at(scope, faults, item, owner);
-                Judged::Words(text_item(name, present))
-            }
-        },
+        Some((ItemKind::Text, owner)) => {
+            Judged::Words(text_item(name, present_at(scope, item, owner)))
+        }
+        _ => Judged::Unknown,
     }
 }
 
@@ -150,99 +117,57 @@ fn text_item_at<'a>(
     }
 }
 
-/// The only subscript of so many, or the fault 44, which is told also where one of them isn't sound.
-pub fn sole<'a>(
-    faults: &mut Faults,
-    count: usize,
-    subscripts: Option<Vec<Number<'a>>>,
-) -> Option<Number<'a>>
-    ensures value { option_map number result ≡ spec.sole (numbers_made subscripts.entry) }
-    ensures noted { IsNotedAfter (is_there subscripts.entry) faults.old faults.new (is_there (spec.sole (numbers_made subscripts.entry))) }
+/// The only one of some subscripts.
+pub fn sole<'a>(subscripts: Option<Vec<Number<'a>>>) -> Option<Number<'a>>
+    ensures { option_map number result ≡ spec.sole (numbers_made subscripts.entry) }
 {
     match subscripts {
-        None => {
-            if count != 1 {
-                faults.note();
-            }
-            None
-        }
-        Some(subscripts) => only_one(faults, subscripts),
+        None => None,
+        Some(subscripts) => only_one(subscripts),
     }
 }
 
-fn only_one<'a>(faults: &mut Faults, subscripts: Vec<Number<'a>>) -> Option<Number<'a>>
-    ensures value { option_map number result ≡ spec.sole (Some (numbers (map number subscripts.entry.items))) }
-    ensures noted { IsNoted faults.old faults.new (is_there (spec.sole (Some (numbers (map number subscripts.entry.items))))) }
+fn only_one<'a>(subscripts: Vec<Number<'a>>) -> Option<Number<'a>>
+    ensures { option_map number result ≡ spec.sole (Some (numbers (map number subscripts.entry.items))) }
 {
     let mut subscripts = subscripts;
     if subscripts.len() != 1 {
-        faults.note();
         return None;
     }
     subscripts.pop()
 }
 
-/// An item with so many subscripts.
+/// An item with subscripts.
 pub fn item_at<'a>(
     alloc: Global,
     scope: &Scope<'_>,
-    faults: &mut Faults,
     name: Lexeme<'a>,
-    count: usize,
     item: u16,
     subscripts: Option<Vec<Number<'a>>>,
 ) -> Result<Judged<'a>, AllocError>
-    ensures value { IfOk result (λ r. judged r
+    ensures { IfOk result (λ r. judged r
         ≡ spec.item_at_judged scope.now (written name.entry) item (kind_and_owner scope.now.dictionary item) (numbers_made subscripts.entry)) }
-    ensures noted { OnOk result (IsNotedAfter (is_there subscripts.entry) faults.old faults.new
-        (is_sound (spec.item_at_judged scope.now (written name.entry) item (kind_and_owner scope.now.dictionary item) (numbers_made subscripts.entry)))) }
 {
+    let place = sole(subscripts);
     match kind_and_owner(scope.dictionary, item) {
-        None => {
-            faults.note();
-            Ok(Judged::Unknown)
+        Some((ItemKind::Number, owner)) => {
+            let field = field_at(scope, item, owner);
+            Ok(Judged::Number(number_item_at(alloc, name, field, place)?))
         }
-        Some((kind, owner)) => match kind {
-            ItemKind::Opaque => {
-                faults.note();
-                Ok(Judged::Unknown)
-            }
-            ItemKind::Number => {
-                let place = sole(faults, count, subscripts);
-                let field = field_at(scope, faults, item, owner);
-                let found = number_item_at(alloc, name, field, place)?;
-                Ok(Judged::Number(found))
-            }
-            ItemKind::Text => {
-                let place = sole(faults, count, subscripts);
-                let field = field_at(scope, faults, item, owner);
-                let found = text_item_at(alloc, name, field, place)?;
-                Ok(Judged::Words(found))
-            }
-        },
+        Some((ItemKind::Text, owner)) => {
+            let field = field_at(scope, item, owner);
+            Ok(Judged::Words(text_item_at(alloc, name, field, place)?))
+        }
+        _ => Ok(Judged::Unknown),
     }
 }
 
-/// A numeric item without a subscript, or a fault.
-pub fn number_present(scope: &Scope<'_>, faults: &mut Faults, item: u16) -> Option<Present>
-    ensures value { result ≡ number_present scope.now item }
-    ensures noted { IsNoted faults.old faults.new (is_there (number_present scope.now item)) }
+/// A numeric item without a subscript.
+pub fn number_present(scope: &Scope<'_>, item: u16) -> Option<Present>
+    ensures { result ≡ number_present scope.now item }
 {
     match kind_and_owner(scope.dictionary, item) {
-        None => {
-            faults.note();
-            None
-        }
-        Some((kind, owner)) => match kind {
-            ItemKind::Opaque => {
-                faults.note();
-                None
-            }
-            ItemKind::Number => present_at(scope, faults, item, owner),
-            ItemKind::Text => {
-                faults.note();
-                None
-            }
-        },
+        Some((ItemKind::Number, owner)) => present_at(scope, item, owner),
+        _ => None,
     }
 }

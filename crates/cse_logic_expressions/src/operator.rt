@@ -1,16 +1,14 @@
 //! What operators make of their operands.
 
-ghost use Rattle.std.specs.Prelude.{◌≡◌, not, map, IfOk, OnOk};
+ghost use Rattle.std.specs.Prelude.{◌≡◌, not, map, IfOk};
 ghost use Rattle.std.specs.Option.{option_map};
 ghost use Rattle.cse_logic_tree.specs.Typed as typed;
 ghost use Rattle.cse_logic_tree.specs.Typed.{number, words, operations, operation_tree};
 ghost use Rattle.cse_logic_expressions.specs.Judge as spec;
-ghost use Rattle.cse_logic_expressions.specs.Judge.{judged, is_sound, compared};
-ghost use Rattle.cse_logic_names.specs.Walk.{is_there, joined};
-ghost use Rattle.cse_logic_expressions.specs.Clauses.{IsNotedAfterBoth};
+ghost use Rattle.cse_logic_expressions.specs.Judge.{judged, compared};
+ghost use Rattle.cse_logic_names.specs.Walk.{joined};
 
 use crate::judged::Judged;
-use cse_logic_names::faults::Faults;
 use cse_logic_tree::{Number, Operation, Words};
 use cse_syntax_tree::Relation;
 use std::alloc::{AllocError, Global};
@@ -120,36 +118,19 @@ fn compared_texts<'a>(
     }
 }
 
-/// Two values of one kind; else the fault 44.
+/// Two values of one kind; else none.
 pub fn compared<'a>(
     alloc: Global,
-    faults: &mut Faults,
     relation: Relation,
     x: Judged<'a>,
     y: Judged<'a>,
 ) -> Result<Option<Number<'a>>, AllocError>
-    ensures value { IfOk result (λ r. option_map number r ≡ compared relation (judged x.entry) (judged y.entry)) }
-    ensures noted { OnOk result (IsNotedAfterBoth (is_sound (judged x.entry)) (is_sound (judged y.entry)) faults.old faults.new
-        (is_there (compared relation (judged x.entry) (judged y.entry)))) }
+    ensures { IfOk result (λ r. option_map number r ≡ compared relation (judged x.entry) (judged y.entry)) }
 {
-    match x {
-        Judged::Unknown => Ok(None),
-        Judged::Number(x) => match y {
-            Judged::Unknown => Ok(None),
-            Judged::Number(y) => compared_numbers(alloc, relation, x, y),
-            Judged::Words(_) => {
-                faults.note();
-                Ok(None)
-            }
-        },
-        Judged::Words(x) => match y {
-            Judged::Unknown => Ok(None),
-            Judged::Number(_) => {
-                faults.note();
-                Ok(None)
-            }
-            Judged::Words(y) => compared_texts(alloc, relation, x, y),
-        },
+    match (x, y) {
+        (Judged::Number(x), Judged::Number(y)) => compared_numbers(alloc, relation, x, y),
+        (Judged::Words(x), Judged::Words(y)) => compared_texts(alloc, relation, x, y),
+        _ => Ok(None),
     }
 }
 

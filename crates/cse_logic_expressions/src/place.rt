@@ -6,24 +6,19 @@ ghost use Rattle.cse_logic_tree.specs.Typed as typed;
 ghost use Rattle.cse_logic_tree.specs.Typed.{number};
 ghost use Rattle.cse_logic_expressions.specs.JudgeStatement as spec;
 ghost use Rattle.cse_logic_expressions.specs.JudgeStatement.{placed};
-ghost use Rattle.cse_logic_names.specs.Walk.{is_there, joined, IsNoted, IsNotedAfter};
+ghost use Rattle.cse_logic_names.specs.Walk.{joined};
 ghost use Rattle.cse_logic_expressions.specs.Clauses.{numbers_made};
 
 use crate::item::{field_at, sole};
-use cse_logic_names::faults::Faults;
 use cse_logic_names::scope::Scope;
 use cse_logic_tree::{Field, Found, Number, Which};
 
-/// The occurrence that is found, or the fault 49.
-fn here<'a>(faults: &mut Faults, found: Option<Found>) -> Option<Which<'a>>
-    ensures value { option_map typed.which result ≡ option_map typed.Here found }
-    ensures noted { IsNoted faults.old faults.new (is_there (option_map typed.Here found)) }
+/// The occurrence that is found.
+fn here<'a>(found: Option<Found>) -> Option<Which<'a>>
+    ensures { option_map typed.which result ≡ option_map typed.Here found }
 {
     match found {
-        None => {
-            faults.note();
-            None
-        }
+        None => None,
         Some(found) => Some(Which::Here(found)),
     }
 }
@@ -39,18 +34,16 @@ fn at<'a>(place: Option<Number<'a>>) -> Option<Which<'a>>
 
 /// Which occurrence is meant.
 fn which_at<'a>(
-    faults: &mut Faults,
     count: usize,
     found: Option<Found>,
     subscripts: Option<Vec<Number<'a>>>,
 ) -> Option<Which<'a>>
-    ensures value { option_map typed.which result ≡ spec.which_at count found (numbers_made subscripts.entry) }
-    ensures noted { IsNotedAfter (is_there subscripts.entry) faults.old faults.new (is_there (spec.which_at count found (numbers_made subscripts.entry))) }
+    ensures { option_map typed.which result ≡ spec.which_at count found (numbers_made subscripts.entry) }
 {
     if count == 0 {
-        here(faults, found)
+        here(found)
     } else {
-        at(sole(faults, count, subscripts))
+        at(sole(subscripts))
     }
 }
 
@@ -69,18 +62,15 @@ fn place_of<'a>(field: Option<Field>, which: Option<Which<'a>>) -> Option<(Field
 /// A place of an item of this record.
 pub fn place_at<'a>(
     scope: &Scope<'_>,
-    faults: &mut Faults,
     count: usize,
     item: u16,
     owner: u8,
     subscripts: Option<Vec<Number<'a>>>,
 ) -> Option<(Field, Which<'a>)>
-    ensures value { option_map placed result ≡ spec.place_at scope.now count item owner (numbers_made subscripts.entry) }
-    ensures noted { IsNotedAfter (is_there subscripts.entry) faults.old faults.new
-        (is_there (spec.place_at scope.now count item owner (numbers_made subscripts.entry))) }
+    ensures { option_map placed result ≡ spec.place_at scope.now count item owner (numbers_made subscripts.entry) }
 {
-    let field = field_at(scope, faults, item, owner);
+    let field = field_at(scope, item, owner);
     let found = scope.found(owner as u16);
-    let which = which_at(faults, count, found, subscripts);
+    let which = which_at(count, found, subscripts);
     place_of(field, which)
 }

@@ -8,11 +8,10 @@ ghost use Rattle.cse_logic_tree.specs.Typed.{number};
 ghost use Rattle.cse_logic_names.specs.Scope.{meant};
 ghost use Rattle.cse_logic_names.specs.WellTyped as well;
 ghost use Rattle.cse_logic_expressions.specs.Judge as spec;
-ghost use Rattle.cse_logic_names.specs.Walk.{is_there, joined, IsNoted, IsNotedAfter};
+ghost use Rattle.cse_logic_names.specs.Walk.{joined};
 
-use crate::item::{needs_case, number_present};
+use crate::item::number_present;
 use cse_dict::Dictionary;
-use cse_logic_names::faults::Faults;
 use cse_logic_names::meaning::Meaning;
 use cse_logic_names::scope::{Scope, has_case, kind_and_owner};
 use cse_logic_tree::{Number, Present};
@@ -49,18 +48,11 @@ fn set_kind(dictionary: &Dictionary, set: u16) -> Option<ItemKind>
     kind_of(dictionary, whole_set(dictionary, set))
 }
 
-/// Whether this is a whole set of a numeric item, or a fault.
-pub fn is_number_set(scope: &Scope<'_>, faults: &mut Faults, set: u16) -> bool
-    ensures value { result ≡ spec.is_number_kind (well.set_kind scope.now.dictionary set) }
-    ensures noted { IsNoted faults.old faults.new (spec.is_number_kind (well.set_kind scope.now.dictionary set)) }
+/// Whether this is a whole set of a numeric item.
+pub fn is_number_set(scope: &Scope<'_>, set: u16) -> bool
+    ensures { result ≡ spec.is_number_kind (well.set_kind scope.now.dictionary set) }
 {
-    match set_kind(scope.dictionary, set) {
-        Some(ItemKind::Number) => true,
-        _ => {
-            faults.note();
-            false
-        }
-    }
+    matches!(set_kind(scope.dictionary, set), Some(ItemKind::Number))
 }
 
 fn place_among(sets: &[SetShape], item: u16) -> Option<usize>
@@ -101,23 +93,13 @@ fn set_meant(scope: &Scope<'_>, item: u16, set_name: Option<Lexeme<'_>>) -> Opti
     }
 }
 
-/// The number of the whole set of a numeric item that is meant; else a fault: 40 where no set is meant, 41, 42 or 44 by its item.
-pub fn number_set(scope: &Scope<'_>, faults: &mut Faults, meaning: Option<Meaning>) -> Option<u16>
-    ensures value { result ≡ spec.number_set scope.now meaning }
-    ensures noted { IsNoted faults.old faults.new (is_there (spec.number_set scope.now meaning)) }
+/// The number of the whole set of a numeric item that is meant.
+pub fn number_set(scope: &Scope<'_>, meaning: Option<Meaning>) -> Option<u16>
+    ensures { result ≡ spec.number_set scope.now meaning }
 {
     match meaning {
-        Some(Meaning::Set(set)) => {
-            if is_number_set(scope, faults, set) {
-                Some(set)
-            } else {
-                None
-            }
-        }
-        _ => {
-            faults.note();
-            None
-        }
+        Some(Meaning::Set(set)) if is_number_set(scope, set) => Some(set),
+        _ => None,
     }
 }
 
@@ -141,67 +123,40 @@ fn in_set<'a>(
 /// Whether an item's value is in a set.
 pub fn member<'a>(
     scope: &Scope<'_>,
-    faults: &mut Faults,
     name: Lexeme<'a>,
     set_name: Option<Lexeme<'a>>,
 ) -> Option<Number<'a>>
-    ensures value { option_map number result
+    ensures { option_map number result
         ≡ spec.member scope.now (written name.entry) (option_map written set_name.entry) (meant scope.now (written name.entry)) }
-    ensures noted { IsNoted faults.old faults.new
-        (is_there (spec.member scope.now (written name.entry) (option_map written set_name.entry) (meant scope.now (written name.entry)))) }
 {
     match scope.meant(name) {
         Some(Meaning::Item(item)) => {
-            let present = number_present(scope, faults, item);
-            let set = number_set(scope, faults, set_meant(scope, item, set_name));
+            let present = number_present(scope, item);
+            let set = number_set(scope, set_meant(scope, item, set_name));
             in_set(name, set_name, present, set)
         }
-        _ => {
-            faults.note();
-            None
-        }
+        _ => None,
     }
 }
 
-/// The record that a name means, where there is a case; else the fault 40, or 49 where there is none.
-pub fn record_of(scope: &Scope<'_>, faults: &mut Faults, name: Lexeme<'_>) -> Option<u8>
-    ensures value { result ≡ spec.record_of scope.now (meant scope.now (written name.entry)) }
-    ensures noted { IsNoted faults.old faults.new (is_there (spec.record_of scope.now (meant scope.now (written name.entry)))) }
+/// The record that a name means, where there is a case.
+pub fn record_of(scope: &Scope<'_>, name: Lexeme<'_>) -> Option<u8>
+    ensures { result ≡ spec.record_of scope.now (meant scope.now (written name.entry)) }
 {
     match scope.meant(name) {
-        Some(Meaning::Record(found)) => {
-            if has_case(scope.routine) {
-                Some(found)
-            } else {
-                faults.note();
-                None
-            }
-        }
-        _ => {
-            faults.note();
-            needs_case(scope, faults);
-            None
-        }
+        Some(Meaning::Record(found)) if has_case(scope.routine) => Some(found),
+        _ => None,
     }
 }
 
-/// `curocc` of a record; 49 where no occurrence is meant.
-pub fn current<'a>(
-    scope: &Scope<'_>,
-    faults: &mut Faults,
-    name: Lexeme<'a>,
-    over: Option<u8>,
-) -> Option<Number<'a>>
-    ensures value { option_map number result ≡ spec.current scope.now (written name.entry) over }
-    ensures noted { IsNotedAfter (is_there over) faults.old faults.new (is_there (spec.current scope.now (written name.entry) over)) }
+/// `curocc` of a record, where an occurrence is meant.
+pub fn current<'a>(scope: &Scope<'_>, name: Lexeme<'a>, over: Option<u8>) -> Option<Number<'a>>
+    ensures { option_map number result ≡ spec.current scope.now (written name.entry) over }
 {
     match over {
         None => None,
         Some(over) => match scope.found(u16::from(over)) {
-            None => {
-                faults.note();
-                None
-            }
+            None => None,
             Some(found) => Some(Number::CurOcc(name, over, found)),
         },
     }

@@ -1,10 +1,10 @@
 -- Lists that are judged from the left.
-use Rattle.std.specs.Prelude.{Bool, true, false, ◌&&◌, ◌||◌, not, ◌==◌}
-use Rattle.std.proofs.Common.{subst, ◌-◌, zero, ◌≤◌, ◌<◌, get_or, drop, ◌≡◌, ℕ, suc, ◌+◌, List, [], ◌∷◌, ◌++◌, length, map, Option, Some, None, refl, ap, sym, ◌∙◌, arith, option_map, append_assoc, is_some}
+use Rattle.std.specs.Prelude.{Bool, true, false, ◌&&◌, ◌==◌}
+use Rattle.std.proofs.Common.{◌-◌, zero, ◌≤◌, ◌<◌, get_or, drop, ◌≡◌, ℕ, suc, ◌+◌, List, [], ◌∷◌, ◌++◌, length, map, Option, Some, None, refl, ap, sym, ◌∙◌, arith, option_map, append_assoc, is_some}
 use Rattle.std.proofs.lemmas.Bool.{false≢true, eqb-true}
 use Rattle.std.proofs.lemmas.List.{append-nil, drop_all, map_push}
 use Rattle.cse_lemmas.proofs.Lists.{drop_read}
-use Rattle.cse_logic_names.specs.Walk.{walk, so_far, found_more, joined, only_if, is_there}
+use Rattle.cse_logic_names.specs.Walk.{walk, so_far, found_more, joined, is_there}
 
 more_found : {B : Type 0} (xs : List B) (y : B) (rest : Option (List B)) → option_map (λ ys. (xs ++ y ∷ []) ++ ys) rest ≡ option_map (λ ys. xs ++ ys) (joined (λ y ys. y ∷ ys) (Some y) rest)
 more_found xs y None = refl
@@ -15,11 +15,6 @@ pub turn_is : {B : Type 0} (b : Bool) (xs : List B) (y : Option B) (rest : Optio
 turn_is true xs (Some y) rest = more_found xs y rest
 turn_is true xs None rest = refl
 turn_is false xs y rest = refl
-
-flags_are : (w b y : Bool) → ((w || not b) || not y) ≡ (w || not (b && y))
-flags_are true b y = refl
-flags_are false true y = refl
-flags_are false false y = refl
 
 -- the invariant of a loop, after one member
 pub step_value : {A B : Type 0} (f : A → List A → Option B) (items : List A) (i : ℕ) (x : A) (b there : Bool) (xs xs' : List B) (y : Option B) (all : Option (List B))
@@ -33,9 +28,6 @@ step_value f items i x b there xs xs' y all lt is inv e g h =
     ∙ ap (λ z. so_far b xs (joined (λ y ys. y ∷ ys) z rest)) e
     ∙ ap (λ l. so_far b xs (walk f l)) (sym (drop_read items i x lt is))
     ∙ inv
-
-pub step_noted : (new old first b there : Bool) (y : Bool) → old ≡ (first || not b) → new ≡ (old || not y) → there ≡ y → new ≡ (first || not (b && there))
-step_noted new old first b there y inv e h = e ∙ ap (λ o. o || not y) inv ∙ flags_are first b y ∙ ap (λ k. first || not (b && k)) (sym h)
 
 pub end_is : {B : Type 0} (b : Bool) (xs : List B) (o : Option (List B)) → so_far b xs (Some []) ≡ o → (b ≡ true → o ≡ Some xs) × (b ≡ false → o ≡ None) × (is_there o ≡ b)
 end_is true xs o e = (λ t. sym e ∙ ap Some (append-nil xs), λ t. absurd (false≢true (sym t)), ap is_there (sym e))
@@ -67,11 +59,6 @@ step_made f g items i x b both there xs xs' y all lt is inv e k h j =
     ap (λ c. so_far c (map g xs') (walk f (drop (i + 1) items))) j
     ∙ step_value f items i x b there (map g xs) (map g xs') (option_map g y) all lt is inv e (ap (map g) k ∙ map_found g xs y) (h ∙ sym (there_map g y))
 
-pub step_noted_made : {R B : Type 0} (g : R → B) (new old first b both there : Bool) (y : Option R) (z : Option B) → old ≡ (first || not b) → new ≡ (old || not (is_there z)) → option_map g y ≡ z → there ≡ is_there y → both ≡ (b && there)
-    → new ≡ (first || not both)
-step_noted_made g new old first b both there y z inv e k h j =
-    step_noted new old first b there (is_there z) inv e (h ∙ sym (there_map g y) ∙ ap is_there k) ∙ ap (λ c. first || not c) (sym j)
-
 abbrev pub is_none : {A : Type 0} → List A → Bool
 is_none [] = true
 is_none (x ∷ xs) = false
@@ -92,36 +79,6 @@ none_left [] (suc n) (suc k) h = absurd (omega (arith, h))
 none_left (x ∷ xs) zero zero h = absurd (omega (arith, h))
 none_left (x ∷ xs) zero (suc k) h = not_eqb (suc k) 0 (λ e. absurd (omega (arith, e)))
 none_left (x ∷ xs) (suc n) left h = none_left xs n left (omega (arith, h))
-
-pub or_same : (b c : Bool) → ((b || c) || c) ≡ (b || c)
-or_same true c = refl
-or_same false true = refl
-or_same false false = refl
-
-pub absorbed : {A B C : Type 0} (f : A → B → C) (a : Option A) (b : Option B) (before : Bool) → ((before || not (is_there a)) || not (is_there (joined f a b))) ≡ (before || not (is_there (joined f a b)))
-absorbed f a b true = refl
-absorbed f None b false = refl
-absorbed f (Some x) b false = refl
-
--- a fault of the first of two parts was noted before
-pub after_part : {A B C : Type 0} (f : A → B → C) (a : Option A) (b : Option B) (before mid final : Bool) → mid ≡ (before || not (is_there a)) → ((mid || not (is_there a)) ≡ mid → final ≡ (mid || not (is_there (joined f a b))))
-    → final ≡ (before || not (is_there (joined f a b)))
-after_part f a b before mid final e h =
-    h (ap (λ m. m || not (is_there a)) e ∙ or_same before (not (is_there a)) ∙ sym e)
-    ∙ ap (λ m. m || not (is_there (joined f a b))) e
-    ∙ absorbed f a b before
-
-pub or_parts : (b x y : Bool) → (((b || x) || y) || (x || y)) ≡ ((b || x) || y)
-or_parts true x y = refl
-or_parts false true y = refl
-or_parts false false true = refl
-or_parts false false false = refl
-
--- the same, of a part that is made of another
-pub after_made_part : {R A B C : Type 0} (g : R → A) (f : A → B → C) (y : Option R) (a : Option A) (b : Option B) (before mid final : Bool) → option_map g y ≡ a → mid ≡ (before || not (is_there a))
-    → ((mid || not (is_there y)) ≡ mid → final ≡ (mid || not (is_there (joined f (option_map g y) b)))) → final ≡ (before || not (is_there (joined f a b)))
-after_made_part {A = A} g f y a b before mid final u e h =
-    after_part f a b before mid final e (subst (λ (z : Option A). (mid || not (is_there z)) ≡ mid → final ≡ (mid || not (is_there (joined f z b)))) u (λ k. h (ap (λ p. mid || not p) (sym (there_map g y)) ∙ k)))
 
 pub step_left : (l k i n : ℕ) → k ≡ l - 1 → l + i ≡ n → i < n → k + (i + 1) ≡ n
 step_left l k i n e h lt = omega (arith, e, h, lt)

@@ -1,6 +1,5 @@
 -- A list that is judged from the left: each member with those behind it; all of them, or none where one is unsound.
-use Rattle.std.specs.Prelude.{◌≡◌, Bool, true, false, ◌||◌, not, List, [], ◌∷◌, ◌++◌, Option, Some, None, option_map}
-use Rattle.cse_logic_names.specs.declared.faults.Faults.{Faults}
+use Rattle.std.specs.Prelude.{Bool, true, false, List, [], ◌∷◌, ◌++◌, Option, Some, None, option_map}
 
 abbrev pub is_there : {A : Type 0} → Option A → Bool
 is_there None = false
@@ -28,11 +27,3 @@ so_far sound found rest = only_if sound (option_map (λ ys. found ++ ys) rest)
 abbrev pub found_more : {B : Type 0} → List B → Option B → List B
 found_more found None = found
 found_more found (Some x) = found ++ x ∷ []
-
--- a fault was noted, unless what was judged is sound
-abbrev pub IsNoted : Faults → Faults → Bool → Type 0
-IsNoted old new sound = new.found ≡ (old.found || not sound)
-
--- the same, where a fault of each part that isn't there was noted before
-abbrev pub IsNotedAfter : Bool → Faults → Faults → Bool → Type 0
-IsNotedAfter parts old new sound = (old.found || not parts) ≡ old.found → IsNoted old new sound

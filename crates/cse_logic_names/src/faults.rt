@@ -1,4 +1,4 @@
-//! A fault of logic, and whether there is one.
+//! A fault of logic.
 
 ghost use Rattle.std.specs.Prelude.{◌≤◌};
 
@@ -11,22 +11,4 @@ pub struct Fault {
     pub token: usize,
     pub ghost least: { 40 ≤ number },
     pub ghost most: { number ≤ 49 },
-}
-
-/// Whether a fault was found so far.
-#[derive(Clone, Copy)]
-pub struct Faults {
-    /// Whether one was.
-    pub found: bool,
-}
-
-impl Faults {
-    ghost use Rattle.std.specs.Prelude.{◌≡◌, true};
-
-    /// Notes that there is a fault.
-    pub fn note(&mut self)
-        ensures { self.new.found ≡ true }
-    {
-        self.found = true;
-    }
 }

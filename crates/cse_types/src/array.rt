@@ -9,29 +9,24 @@ ghost use Rattle.cse_logic_names.specs.Scope.{meant};
 ghost use Rattle.cse_logic_names.specs.WellTyped as well;
 ghost use Rattle.cse_logic_expressions.specs.JudgeStatement.{whole_judged};
 ghost use Rattle.cse_types.specs.JudgeTree as spec;
-ghost use Rattle.cse_logic_names.specs.Walk.{is_there, joined, IsNoted, IsNotedAfter};
+ghost use Rattle.cse_logic_names.specs.Walk.{is_there, joined};
 
 use cse_dict::Dictionary;
 use cse_logic_expressions::expression::written_number;
 use cse_logic_expressions::head::whole;
 use cse_logic_expressions::list::{both_hold, keep};
 use cse_logic_expressions::set::number_set;
-use cse_logic_names::faults::Faults;
 use cse_logic_names::scope::Scope;
 use cse_logic_tree::{Array, Dimension, Whole};
 use cse_syntax::{Array as Parsed, Dimension as ParsedDimension, Lexeme, Literal};
 use std::alloc::{AllocError, Global};
 
 /// The size that digits write: from 1 to the most.
-pub fn size_of(faults: &mut Faults, most: u16, digits: Lexeme<'_>) -> Option<u16>
-    ensures value { result ≡ well.size_of most (written digits.entry) }
-    ensures noted { IsNoted faults.old faults.new (is_there (well.size_of most (written digits.entry))) }
+pub fn size_of(most: u16, digits: Lexeme<'_>) -> Option<u16>
+    ensures { result ≡ well.size_of most (written digits.entry) }
 {
     match written_size(most, digits.text) {
-        None => {
-            faults.note();
-            None
-        }
+        None => { None }
         Some(size) => Some(size),
     }
 }
@@ -57,15 +52,11 @@ fn fitting(most: u16, size: u64) -> Option<u16>
 }
 
 /// The rows of a set, with one more where `(+)` stands; else the fault 49.
-fn set_rows(scope: &Scope<'_>, faults: &mut Faults, set: u16, one_more: bool) -> Option<u16>
-    ensures value { result ≡ spec.set_rows scope.now set one_more }
-    ensures noted { IsNoted faults.old faults.new (is_there (spec.set_rows scope.now set one_more)) }
+fn set_rows(scope: &Scope<'_>, set: u16, one_more: bool) -> Option<u16>
+    ensures { result ≡ spec.set_rows scope.now set one_more }
 {
     match rows_with(scope.dictionary, set, one_more) {
-        None => {
-            faults.note();
-            None
-        }
+        None => { None }
         Some(rows) => Some(rows),
     }
 }
@@ -99,17 +90,15 @@ fn rows_of(dictionary: &Dictionary, set: u16) -> Option<u16>
 
 fn set_dimension<'a>(
     scope: &Scope<'_>,
-    faults: &mut Faults,
     name: Lexeme<'a>,
     one_more: bool,
     set: Option<u16>,
 ) -> Option<Dimension<'a>>
-    ensures value { option_map typed.dimension result ≡ spec.set_dimension scope.now (written name.entry) one_more set }
-    ensures noted { IsNotedAfter (is_there set) faults.old faults.new (is_there (spec.set_dimension scope.now (written name.entry) one_more set)) }
+    ensures { option_map typed.dimension result ≡ spec.set_dimension scope.now (written name.entry) one_more set }
 {
     match set {
         None => None,
-        Some(set) => match set_rows(scope, faults, set, one_more) {
+        Some(set) => match set_rows(scope, set, one_more) {
             None => None,
             Some(size) => Some(Dimension::Set(name, set, one_more, size)),
         },
@@ -117,22 +106,17 @@ fn set_dimension<'a>(
 }
 
 /// The size of an array in one direction.
-fn dimension<'a>(
-    scope: &Scope<'_>,
-    faults: &mut Faults,
-    x: &ParsedDimension<'a>,
-) -> Option<Dimension<'a>>
-    ensures value { option_map typed.dimension result ≡ spec.dimension_judged scope.now (syntax.dimension x.now) }
-    ensures noted { IsNoted faults.old faults.new (is_there (spec.dimension_judged scope.now (syntax.dimension x.now))) }
+fn dimension<'a>(scope: &Scope<'_>, x: &ParsedDimension<'a>) -> Option<Dimension<'a>>
+    ensures { option_map typed.dimension result ≡ spec.dimension_judged scope.now (syntax.dimension x.now) }
 {
     match *x {
-        ParsedDimension::Number(digits) => match size_of(faults, 65_535, digits) {
+        ParsedDimension::Number(digits) => match size_of(65_535, digits) {
             None => None,
             Some(size) => Some(Dimension::Number(digits, size)),
         },
         ParsedDimension::Set(name, one_more) => {
-            let set = number_set(scope, faults, scope.meant(name));
-            set_dimension(scope, faults, name, one_more, set)
+            let set = number_set(scope, scope.meant(name));
+            set_dimension(scope, name, one_more, set)
         }
     }
 }
@@ -141,16 +125,14 @@ fn dimension<'a>(
 pub fn dimensions<'a>(
     alloc: Global,
     scope: &Scope<'_>,
-    faults: &mut Faults,
     all: &Vec<ParsedDimension<'a>>,
 ) -> Result<Option<Vec<Dimension<'a>>>, AllocError>
-    ensures value { IfOk result (λ r. option_map (λ v. map typed.dimension v.items) r ≡ spec.dimensions_judged scope.now (map syntax.dimension all.now.items)) }
-    ensures noted { OnOk result (IsNoted faults.old faults.new (is_there (spec.dimensions_judged scope.now (map syntax.dimension all.now.items)))) }
+    ensures { IfOk result (λ r. option_map (λ v. map typed.dimension v.items) r ≡ spec.dimensions_judged scope.now (map syntax.dimension all.now.items)) }
 {
     let mut found = Vec::new(alloc);
     let mut is_sound = true;
     'all: for x in all {
-        let next = dimension(scope, faults, x);
+        let next = dimension(scope, x);
         let is_there = keep(&mut found, next)?;
         is_sound = both_hold(is_sound, is_there);
     }
@@ -158,26 +140,20 @@ pub fn dimensions<'a>(
 }
 
 /// A cell at the start.
-fn cell<'a>(faults: &mut Faults, x: &Literal<'a>) -> Option<Whole<'a>>
-    ensures value { option_map typed.whole result ≡ whole_judged (syntax.literal x.now) }
-    ensures noted { IsNoted faults.old faults.new (is_there (whole_judged (syntax.literal x.now))) }
+fn cell<'a>(x: &Literal<'a>) -> Option<Whole<'a>>
+    ensures { option_map typed.whole result ≡ whole_judged (syntax.literal x.now) }
 {
-    whole(faults, *x)
+    whole(*x)
 }
 
 /// The cells at the start, or none where one isn't sound.
-fn cells<'a>(
-    alloc: Global,
-    faults: &mut Faults,
-    all: &Vec<Literal<'a>>,
-) -> Result<Option<Vec<Whole<'a>>>, AllocError>
-    ensures value { IfOk result (λ r. option_map (λ v. map typed.whole v.items) r ≡ spec.cells_judged (map syntax.literal all.now.items)) }
-    ensures noted { OnOk result (IsNoted faults.old faults.new (is_there (spec.cells_judged (map syntax.literal all.now.items)))) }
+fn cells<'a>(alloc: Global, all: &Vec<Literal<'a>>) -> Result<Option<Vec<Whole<'a>>>, AllocError>
+    ensures { IfOk result (λ r. option_map (λ v. map typed.whole v.items) r ≡ spec.cells_judged (map syntax.literal all.now.items)) }
 {
     let mut found = Vec::new(alloc);
     let mut is_sound = true;
     'all: for x in all {
-        let next = cell(faults, x);
+        let next = cell(x);
         let is_there = keep(&mut found, next)?;
         is_sound = both_hold(is_sound, is_there);
     }
@@ -209,13 +185,11 @@ fn array_of<'a>(
 pub fn array<'a>(
     alloc: Global,
     scope: &Scope<'_>,
-    faults: &mut Faults,
     x: &Parsed<'a>,
 ) -> Result<Option<Array<'a>>, AllocError>
-    ensures value { IfOk result (λ r. option_map typed.array r ≡ spec.array_judged scope.now (syntax.array x.now)) }
-    ensures noted { OnOk result (IsNoted faults.old faults.new (is_there (spec.array_judged scope.now (syntax.array x.now)))) }
+    ensures { IfOk result (λ r. option_map typed.array r ≡ spec.array_judged scope.now (syntax.array x.now)) }
 {
-    let dimensions = dimensions(alloc, scope, faults, &x.dimensions)?;
-    let cells = cells(alloc, faults, &x.cells)?;
+    let dimensions = dimensions(alloc, scope, &x.dimensions)?;
+    let cells = cells(alloc, &x.cells)?;
     Ok(array_of(x, dimensions, cells))
 }

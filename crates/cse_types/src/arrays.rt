@@ -7,7 +7,6 @@ ghost use Rattle.cse_logic_tree.specs.Typed as typed;
 ghost use Rattle.cse_types.specs.JudgeTree as spec;
 
 use crate::array::dimensions;
-use cse_logic_names::faults::Faults;
 use cse_logic_names::scope::Scope;
 use cse_logic_tree::Dimension;
 use cse_syntax::{Array, Declaration};

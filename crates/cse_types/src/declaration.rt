@@ -8,13 +8,12 @@ ghost use Rattle.cse_logic_tree.specs.Typed as typed;
 ghost use Rattle.cse_logic_names.specs.WellTyped.{declared_messages};
 ghost use Rattle.cse_types.specs.JudgeTree as spec;
 ghost use Rattle.cse_types.specs.Told.{told_of};
-ghost use Rattle.cse_logic_names.specs.Walk.{is_there, IsNoted};
+ghost use Rattle.cse_logic_names.specs.Walk.{is_there};
 
 use crate::array::{array, size_of};
 use crate::function::function;
 use crate::told::Told;
 use cse_logic_expressions::list::{both_hold, keep};
-use cse_logic_names::faults::Faults;
 use cse_logic_names::scope::Scope;
 use cse_logic_tree::{Array, Declaration, Function};
 use cse_syntax::{Declaration as Parsed, Lexeme};
@@ -65,24 +64,22 @@ fn of_function<'a>(x: Option<Function<'a>>) -> Option<Declaration<'a>>
 pub fn declaration<'a>(
     alloc: Global,
     scope: &mut Scope<'_>,
-    faults: &mut Faults,
     told: &mut Vec<Told<'a>>,
     x: &Parsed<'a>,
 ) -> Result<Option<Declaration<'a>>, AllocError>
     ensures value { IfOk result (λ r. option_map typed.declaration r ≡ spec.declaration_judged scope.old (length told.old.items) (syntax.declaration x.now)) }
     ensures behind { OnOk result (scope.new ≡ spec.behind scope.old (length told.old.items) (syntax.declaration x.now)) }
-    ensures noted { OnOk result (IsNoted faults.old faults.new (is_there (spec.declaration_judged scope.old (length told.old.items) (syntax.declaration x.now)))) }
     ensures told { OnOk result (map told_of told.new.items ≡ map told_of told.old.items ++ spec.messages_with (syntax.declaration x.now)) }
 {
     match x {
         Parsed::Numeric(names) => Ok(Some(numeric(alloc, names)?)),
         Parsed::Alpha(digits, names) => {
-            let size = size_of(faults, 255, *digits);
+            let size = size_of(255, *digits);
             alpha(alloc, *digits, names, size)
         }
-        Parsed::Array(x) => Ok(of_array(array(alloc, scope, faults, x)?)),
+        Parsed::Array(x) => Ok(of_array(array(alloc, scope, x)?)),
         Parsed::Function(name, parameters, body) => {
-            let made = function(alloc, scope, faults, told, *name, parameters, body)?;
+            let made = function(alloc, scope, told, *name, parameters, body)?;
             Ok(of_function(made))
         }
     }
@@ -92,19 +89,17 @@ pub fn declaration<'a>(
 pub fn declarations<'a>(
     alloc: Global,
     scope: &mut Scope<'_>,
-    faults: &mut Faults,
     told: &mut Vec<Told<'a>>,
     all: &Vec<Parsed<'a>>,
 ) -> Result<Option<Vec<Declaration<'a>>>, AllocError>
     ensures value { IfOk result (λ r. option_map (λ v. map typed.declaration v.items) r ≡ spec.declarations_judged scope.old (length told.old.items) (map syntax.declaration all.now.items)) }
     ensures behind { OnOk result (scope.new ≡ spec.behind_all scope.old (length told.old.items) (map syntax.declaration all.now.items)) }
-    ensures noted { OnOk result (IsNoted faults.old faults.new (is_there (spec.declarations_judged scope.old (length told.old.items) (map syntax.declaration all.now.items)))) }
     ensures told { OnOk result (map told_of told.new.items ≡ map told_of told.old.items ++ declared_messages (map syntax.declaration all.now.items)) }
 {
     let mut found = Vec::new(alloc);
     let mut is_sound = true;
     'all: for x in all {
-        let next = declaration(alloc, scope, faults, told, x)?;
+        let next = declaration(alloc, scope, told, x)?;
         let is_there = keep(&mut found, next)?;
         is_sound = both_hold(is_sound, is_there);
     }

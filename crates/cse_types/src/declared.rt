@@ -21,7 +21,6 @@ use cse_logic_faults::digits;
 use cse_logic_faults::found::Found;
 use cse_logic_faults::set::set;
 use cse_logic_faults::statement::block;
-use cse_logic_names::faults::Faults;
 use cse_logic_names::meaning::{Meaning, Routine};
 use cse_logic_names::names::Parameters;
 use cse_logic_names::scope::Scope;

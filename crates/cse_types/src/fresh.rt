@@ -7,10 +7,9 @@ ghost use Rattle.cse_logic_names.specs.Scope as scopes;
 ghost use Rattle.cse_dict.specs.Keys.{kept_name};
 ghost use Rattle.cse_types.specs.JudgeTree as spec;
 ghost use Rattle.cse_types.specs.Fresh.{is_fresh, no_names, with_fresh};
-ghost use Rattle.cse_logic_names.specs.Walk.{is_there, IsNoted};
+ghost use Rattle.cse_logic_names.specs.Walk.{is_there};
 
 use cse_dict::Dictionary;
-use cse_logic_names::faults::Faults;
 use cse_logic_names::meaning::Meaning;
 use cse_logic_names::names::{Names, Parameters};
 use cse_logic_names::scope::in_dictionary;
@@ -34,17 +33,10 @@ impl Fresh {
     }
 
     /// One name more, if it passes and isn't there; else the fault 40.
-    pub fn add(
-        &mut self,
-        faults: &mut Faults,
-        name: Vec<u8>,
-        passes: bool,
-    ) -> Result<(), AllocError>
-        ensures value { OnOk result (self.new ≡ with_fresh (λ x. passes) self.old name.items) }
-        ensures noted { OnOk result (IsNoted faults.old faults.new (is_fresh (λ x. passes) self.old.names name.items)) }
+    pub fn add(&mut self, name: Vec<u8>, passes: bool) -> Result<(), AllocError>
+        ensures { OnOk result (self.new ≡ with_fresh (λ x. passes) self.old name.items) }
     {
         if !passes || self.names.has(&name) {
-            faults.note();
             self.is_sound = false;
             return Ok(());
         }

@@ -12,13 +12,12 @@ ghost use Rattle.cse_logic_names.specs.WellTyped.{messages_of, parameter_names};
 ghost use Rattle.cse_logic_expressions.specs.JudgeStatement.{judge_block};
 ghost use Rattle.cse_types.specs.JudgeTree as spec;
 ghost use Rattle.cse_types.specs.Fresh.{body_scope, fresh_names, is_fresh, with_fresh};
-ghost use Rattle.cse_logic_names.specs.Walk.{is_there, only_if, IsNoted};
+ghost use Rattle.cse_logic_names.specs.Walk.{is_there, only_if};
 
 use crate::fresh::{Fresh, is_new};
 use crate::statement::block;
 use crate::told::Told;
 use cse_logic_names::facts::facts_of;
-use cse_logic_names::faults::Faults;
 use cse_logic_names::meaning::Routine;
 use cse_logic_names::names::{Parameters, kept};
 use cse_logic_names::scope::{Facts, Scope};
@@ -30,16 +29,14 @@ use std::alloc::{AllocError, Global};
 fn parameter(
     alloc: Global,
     scope: &Scope<'_>,
-    faults: &mut Faults,
     fresh: &mut Fresh,
     x: &Parameter<'_>,
 ) -> Result<(), AllocError>
-    ensures value { OnOk result (fresh.new ≡ with_fresh (spec.is_new scope.now.dictionary scope.now.declared) fresh.old (kept_name x.now.name.text.now)) }
-    ensures noted { OnOk result (IsNoted faults.old faults.new (is_fresh (spec.is_new scope.now.dictionary scope.now.declared) fresh.old.names (kept_name x.now.name.text.now))) }
+    ensures { OnOk result (fresh.new ≡ with_fresh (spec.is_new scope.now.dictionary scope.now.declared) fresh.old (kept_name x.now.name.text.now)) }
 {
     let name = kept(alloc, x.name.text)?;
     let passes = is_new(scope.dictionary, &scope.declared, x.name.text, &name);
-    fresh.add(faults, name, passes)
+    fresh.add(name, passes)
 }
 
 /// The names of parameters: each is new.
@@ -47,15 +44,13 @@ fn parameter(
 pub fn parameters(
     alloc: Global,
     scope: &Scope<'_>,
-    faults: &mut Faults,
     all: &Vec<Parameter<'_>>,
 ) -> Result<Fresh, AllocError>
-    ensures value { IfOk result (λ r. r ≡ fresh_names (spec.is_new scope.now.dictionary scope.now.declared) (parameter_names (map syntax.parameter all.now.items))) }
-    ensures noted { OnOk result (IsNoted faults.old faults.new (fresh_names (spec.is_new scope.now.dictionary scope.now.declared) (parameter_names (map syntax.parameter all.now.items))).is_sound) }
+    ensures { IfOk result (λ r. r ≡ fresh_names (spec.is_new scope.now.dictionary scope.now.declared) (parameter_names (map syntax.parameter all.now.items))) }
 {
     let mut fresh = Fresh::new(alloc);
     'all: for x in all {
-        parameter(alloc, scope, faults, &mut fresh, x)?;
+        parameter(alloc, scope, &mut fresh, x)?;
     }
     Ok(fresh)
 }
@@ -64,20 +59,18 @@ pub fn parameters(
 fn body_in<'a>(
     alloc: Global,
     scope: &mut Scope<'_>,
-    faults: &mut Faults,
     told: &mut Vec<Told<'a>>,
     names: Parameters,
     body: &Vec<Parsed<'a>>,
 ) -> Result<Option<Vec<Statement<'a>>>, AllocError>
     ensures value { IfOk result (λ r. option_map (λ v. typed.block v.items) r ≡ judge_block (body_scope scope.old names) (length told.old.items) (syntax.block body.now.items)) }
-    ensures noted { OnOk result (IsNoted faults.old faults.new (is_there (judge_block (body_scope scope.old names) (length told.old.items) (syntax.block body.now.items)))) }
     ensures told { OnOk result (map told_of told.new.items ≡ map told_of told.old.items ++ messages_of (syntax.block body.now.items)) }
     ensures same { OnOk result (scope.new ≡ scope.old) }
 {
     let routine = scope.routine;
     scope.routine = Routine::Function(scope.functions.len());
     let outer = std::mem::replace(&mut scope.parameters, names);
-    let found = block(alloc, scope, faults, told, body)?;
+    let found = block(alloc, scope, told, body)?;
     scope.routine = routine;
     scope.parameters = outer;
     Ok(found)
@@ -137,7 +130,6 @@ fn ended<'a>(
 pub fn function<'a>(
     alloc: Global,
     scope: &mut Scope<'_>,
-    faults: &mut Faults,
     told: &mut Vec<Told<'a>>,
     name: Lexeme<'a>,
     all: &Vec<Parameter<'a>>,
@@ -145,12 +137,11 @@ pub fn function<'a>(
 ) -> Result<Option<Function<'a>>, AllocError>
     ensures value { IfOk result (λ r. option_map typed.function r ≡ spec.function_judged scope.old (length told.old.items) (written name.entry) (map syntax.parameter all.now.items) (syntax.block body.now.items)) }
     ensures behind { OnOk result (scope.new ≡ spec.behind_function scope.old (spec.function_judged scope.old (length told.old.items) (written name.entry) (map syntax.parameter all.now.items) (syntax.block body.now.items))) }
-    ensures noted { OnOk result (IsNoted faults.old faults.new (is_there (spec.function_judged scope.old (length told.old.items) (written name.entry) (map syntax.parameter all.now.items) (syntax.block body.now.items)))) }
     ensures told { OnOk result (map told_of told.new.items ≡ map told_of told.old.items ++ messages_of (syntax.block body.now.items)) }
 {
-    let fresh = parameters(alloc, scope, faults, all)?;
+    let fresh = parameters(alloc, scope, all)?;
     let is_sound = fresh.is_sound;
-    let found = body_in(alloc, scope, faults, told, fresh.names, body)?;
+    let found = body_in(alloc, scope, told, fresh.names, body)?;
     let made = made(alloc, scope, is_sound, name, all, found)?;
     ended(scope, made)
 }

@@ -12,7 +12,7 @@ ghost use Rattle.cse_types.specs.Parts.{parts_tree};
 ghost use Rattle.cse_types.specs.Table as tables;
 ghost use Rattle.cse_types.specs.Told.{told_of};
 ghost use Rattle.cse_logic_names.specs.WellTyped.{all_declarations, declared_messages, tree_messages};
-ghost use Rattle.cse_logic_names.specs.Walk.{is_there, joined, IsNoted};
+ghost use Rattle.cse_logic_names.specs.Walk.{is_there, joined};
 
 use crate::arrays::arrays;
 use crate::counts::counts_of;
@@ -23,7 +23,6 @@ use crate::procedure::procedures;
 use crate::table::{Table, table_of};
 use crate::told::Told;
 use cse_dict::Dictionary;
-use cse_logic_names::faults::Faults;
 use cse_logic_names::meaning::Routine;
 use cse_logic_names::messages::Messages;
 use cse_logic_names::names::{Names, Parameters};
@@ -43,16 +42,14 @@ pub struct Parts<'a> {
 pub fn declared_names(
     alloc: Global,
     dictionary: &Dictionary,
-    faults: &mut Faults,
     tree: &Parsed<'_>,
 ) -> Result<Table, AllocError>
     requires { faults.old.found ≡ false }
-    ensures value { IfOk result (λ t. t ≡ tables.table_of dictionary.now (all_declarations (syntax.tree tree.now).globals)) }
-    ensures noted { OnOk result (faults.new.found ≡ not (tables.table_of dictionary.now (all_declarations (syntax.tree tree.now).globals)).is_sound) }
+    ensures { IfOk result (λ t. t ≡ tables.table_of dictionary.now (all_declarations (syntax.tree tree.now).globals)) }
 {
     match &tree.globals {
         None => Ok(Table::new(alloc)),
-        Some(all) => table_of(alloc, dictionary, faults, all),
+        Some(all) => table_of(alloc, dictionary, all),
     }
 }
 
@@ -122,19 +119,17 @@ fn present<'a>(found: Option<Vec<Declaration<'a>>>) -> Option<Option<Vec<Declara
 fn globals<'a>(
     alloc: Global,
     scope: &mut Scope<'_>,
-    faults: &mut Faults,
     told: &mut Vec<Told<'a>>,
     tree: &Parsed<'a>,
 ) -> Result<Option<Option<Vec<Declaration<'a>>>>, AllocError>
     requires { told.old.items ≡ [] }
     ensures value { IfOk result (λ r. option_map (option_map (λ v. map typed.declaration v.items)) r ≡ judge.globals_judged scope.old (syntax.tree tree.now).globals) }
     ensures behind { OnOk result (scope.new ≡ judge.behind_all scope.old 0 (all_declarations (syntax.tree tree.now).globals)) }
-    ensures noted { OnOk result (IsNoted faults.old faults.new (is_there (judge.globals_judged scope.old (syntax.tree tree.now).globals))) }
     ensures told { OnOk result (map told_of told.new.items ≡ declared_messages (all_declarations (syntax.tree tree.now).globals)) }
 {
     match &tree.globals {
         None => Ok(Some(None)),
-        Some(all) => Ok(present(declarations(alloc, scope, faults, told, all)?)),
+        Some(all) => Ok(present(declarations(alloc, scope, told, all)?)),
     }
 }
 
@@ -167,18 +162,16 @@ pub fn procedures_in<'t, 'a>(tree: &'t Parsed<'a>) -> &'t [ParsedProcedure<'a>]
 fn all_parts<'a>(
     alloc: Global,
     scope: &mut Scope<'_>,
-    faults: &mut Faults,
     told: &mut Vec<Told<'a>>,
     tree: &Parsed<'a>,
 ) -> Result<Option<Parts<'a>>, AllocError>
     requires { told.old.items ≡ [] }
     ensures value { IfOk result (λ r. option_map parts_tree r ≡ parts_judged scope.old (syntax.tree tree.now)) }
-    ensures noted { OnOk result (IsNoted faults.old faults.new (is_there (parts_judged scope.old (syntax.tree tree.now)))) }
     ensures told { OnOk result (map told_of told.new.items ≡ tree_messages (syntax.tree tree.now)) }
 {
-    let globals = globals(alloc, scope, faults, told, tree)?;
+    let globals = globals(alloc, scope, told, tree)?;
     let all = procedures_in(tree);
-    let procedures = procedures(alloc, scope, faults, told, all)?;
+    let procedures = procedures(alloc, scope, told, all)?;
     Ok(parts_of(globals, procedures))
 }
 
@@ -220,19 +213,17 @@ pub fn judged<'a>(
     alloc: Global,
     dictionary: &'a Dictionary,
     messages: &'a Messages,
-    faults: &mut Faults,
     tree: &Parsed<'a>,
 ) -> Result<Option<Tree<'a>>, AllocError>
     requires said { are_said (tree_messages (syntax.tree tree.now)) ≡ true }
     requires first { faults.old.found ≡ false }
-    ensures value { IfOk result (λ r. faults.new.found ≡ false → option_map typed.tree r ≡ judge.typed_of dictionary.now messages.now (syntax.tree tree.now)) }
-    ensures noted { OnOk result (faults.new.found ≡ not (is_there (judge.typed_of dictionary.now messages.now (syntax.tree tree.now)))) }
+    ensures { IfOk result (λ r. faults.new.found ≡ false → option_map typed.tree r ≡ judge.typed_of dictionary.now messages.now (syntax.tree tree.now)) }
 {
-    let table = declared_names(alloc, dictionary, faults, tree)?;
+    let table = declared_names(alloc, dictionary, tree)?;
     let all = procedures_in(tree);
-    let _owners = owners(alloc, faults, all)?;
+    let _owners = owners(alloc, all)?;
     let mut scope = start(alloc, dictionary, messages, table.names, tree)?;
     let mut told = Vec::new(alloc);
-    let parts = all_parts(alloc, &mut scope, faults, &mut told, tree)?;
+    let parts = all_parts(alloc, &mut scope, &mut told, tree)?;
     tree_of(alloc, messages, &told, parts)
 }

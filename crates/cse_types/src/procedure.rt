@@ -10,13 +10,12 @@ ghost use Rattle.cse_logic_names.specs.WellTyped as well;
 ghost use Rattle.cse_logic_names.specs.WellTyped.{body_messages, procedure_messages, procedure_scope};
 ghost use Rattle.cse_types.specs.JudgeTree as spec;
 ghost use Rattle.cse_types.specs.Told.{told_of};
-ghost use Rattle.cse_logic_names.specs.Walk.{is_there, joined, found_more, IsNoted};
+ghost use Rattle.cse_logic_names.specs.Walk.{is_there, joined, found_more};
 
 use crate::statement::block;
 use crate::told::Told;
 use cse_dict::Dictionary;
 use cse_logic_expressions::list::{both_hold, keep};
-use cse_logic_names::faults::Faults;
 use cse_logic_names::meaning::{Meaning, Routine};
 use cse_logic_names::names::kept;
 use cse_logic_names::scope::{Scope, in_dictionary, kind_and_owner};
@@ -80,18 +79,13 @@ pub fn meant_by(
 fn owner_named(
     alloc: Global,
     dictionary: &Dictionary,
-    faults: &mut Faults,
     name: Lexeme<'_>,
 ) -> Result<Option<Owner>, AllocError>
-    ensures value { IfOk result (λ r. r ≡ well.owner_meant dictionary.now (scopes.in_dictionary dictionary.now name.entry.text.now)) }
-    ensures noted { OnOk result (IsNoted faults.old faults.new (is_there (well.owner_meant dictionary.now (scopes.in_dictionary dictionary.now name.entry.text.now)))) }
+    ensures { IfOk result (λ r. r ≡ well.owner_meant dictionary.now (scopes.in_dictionary dictionary.now name.entry.text.now)) }
 {
     let meaning = meant_by(alloc, dictionary, name)?;
     match owner_meant(dictionary, meaning) {
-        None => {
-            faults.note();
-            Ok(None)
-        }
+        None => { Ok(None) }
         Some(owner) => Ok(Some(owner)),
     }
 }
@@ -144,18 +138,16 @@ fn around<'a>(
 fn both_parts<'a>(
     alloc: Global,
     scope: &mut Scope<'_>,
-    faults: &mut Faults,
     told: &mut Vec<Told<'a>>,
     xs: &Vec<ParsedStatement<'a>>,
     ys: &Vec<ParsedStatement<'a>>,
 ) -> Result<Option<Body<'a>>, AllocError>
     ensures value { IfOk result (λ r. option_map typed.body_tree r ≡ spec.body_judged scope.old (length told.old.items) (syntax.Both (syntax.block xs.now.items) (syntax.block ys.now.items))) }
-    ensures noted { OnOk result (IsNoted faults.old faults.new (is_there (spec.body_judged scope.old (length told.old.items) (syntax.Both (syntax.block xs.now.items) (syntax.block ys.now.items))))) }
     ensures told { OnOk result (map told_of told.new.items ≡ map told_of told.old.items ++ body_messages (syntax.Both (syntax.block xs.now.items) (syntax.block ys.now.items))) }
     ensures same { OnOk result (scope.new ≡ scope.old) }
 {
-    let before = block(alloc, scope, faults, told, xs)?;
-    let after = block(alloc, scope, faults, told, ys)?;
+    let before = block(alloc, scope, told, xs)?;
+    let after = block(alloc, scope, told, ys)?;
     Ok(around(before, after))
 }
 
@@ -163,20 +155,18 @@ fn both_parts<'a>(
 fn body<'a>(
     alloc: Global,
     scope: &mut Scope<'_>,
-    faults: &mut Faults,
     told: &mut Vec<Told<'a>>,
     x: &ParsedBody<'a>,
 ) -> Result<Option<Body<'a>>, AllocError>
     ensures value { IfOk result (λ r. option_map typed.body_tree r ≡ spec.body_judged scope.old (length told.old.items) (syntax.body_tree x.now)) }
-    ensures noted { OnOk result (IsNoted faults.old faults.new (is_there (spec.body_judged scope.old (length told.old.items) (syntax.body_tree x.now)))) }
     ensures told { OnOk result (map told_of told.new.items ≡ map told_of told.old.items ++ body_messages (syntax.body_tree x.now)) }
     ensures same { OnOk result (scope.new ≡ scope.old) }
 {
     match x {
-        ParsedBody::Plain(xs) => Ok(plain(block(alloc, scope, faults, told, xs)?)),
-        ParsedBody::Preproc(xs) => Ok(preproc(block(alloc, scope, faults, told, xs)?)),
-        ParsedBody::Both(xs, ys) => both_parts(alloc, scope, faults, told, xs, ys),
-        ParsedBody::Postproc(xs) => Ok(postproc(block(alloc, scope, faults, told, xs)?)),
+        ParsedBody::Plain(xs) => Ok(plain(block(alloc, scope, told, xs)?)),
+        ParsedBody::Preproc(xs) => Ok(preproc(block(alloc, scope, told, xs)?)),
+        ParsedBody::Both(xs, ys) => both_parts(alloc, scope, told, xs, ys),
+        ParsedBody::Postproc(xs) => Ok(postproc(block(alloc, scope, told, xs)?)),
     }
 }
 
@@ -184,19 +174,17 @@ fn body<'a>(
 fn body_of<'a>(
     alloc: Global,
     scope: &mut Scope<'_>,
-    faults: &mut Faults,
     told: &mut Vec<Told<'a>>,
     owner: Owner,
     x: &ParsedBody<'a>,
 ) -> Result<Option<Body<'a>>, AllocError>
     ensures value { IfOk result (λ r. option_map typed.body_tree r ≡ spec.body_judged (procedure_scope scope.old owner) (length told.old.items) (syntax.body_tree x.now)) }
-    ensures noted { OnOk result (IsNoted faults.old faults.new (is_there (spec.body_judged (procedure_scope scope.old owner) (length told.old.items) (syntax.body_tree x.now)))) }
     ensures told { OnOk result (map told_of told.new.items ≡ map told_of told.old.items ++ body_messages (syntax.body_tree x.now)) }
     ensures same { OnOk result (scope.new ≡ scope.old) }
 {
     let routine = scope.routine;
     scope.routine = Routine::Procedure(owner);
-    let found = body(alloc, scope, faults, told, x)?;
+    let found = body(alloc, scope, told, x)?;
     scope.routine = routine;
     Ok(found)
 }
@@ -214,23 +202,21 @@ fn owned<'a>(name: Lexeme<'a>, owner: Owner, body: Option<Body<'a>>) -> Option<P
 fn procedure<'a>(
     alloc: Global,
     scope: &mut Scope<'_>,
-    faults: &mut Faults,
     told: &mut Vec<Told<'a>>,
     x: &Parsed<'a>,
 ) -> Result<Option<Procedure<'a>>, AllocError>
     ensures value { IfOk result (λ r. option_map typed.procedure r ≡ spec.procedure_judged scope.old (length told.old.items) (syntax.procedure x.now)) }
-    ensures noted { OnOk result (IsNoted faults.old faults.new (is_there (spec.procedure_judged scope.old (length told.old.items) (syntax.procedure x.now)))) }
     ensures told { OnOk result (map told_of told.new.items ≡ map told_of told.old.items ++ body_messages (syntax.body_tree x.now.body)) }
     ensures same { OnOk result (scope.new ≡ scope.old) }
 {
-    match owner_named(alloc, scope.dictionary, faults, x.name)? {
+    match owner_named(alloc, scope.dictionary, x.name)? {
         None => {
             // Its statements are counted as messages, and their faults come later than that of its name.
-            let _found = body_of(alloc, scope, faults, told, Owner::Level, &x.body)?;
+            let _found = body_of(alloc, scope, told, Owner::Level, &x.body)?;
             Ok(None)
         }
         Some(owner) => {
-            let found = body_of(alloc, scope, faults, told, owner, &x.body)?;
+            let found = body_of(alloc, scope, told, owner, &x.body)?;
             Ok(owned(x.name, owner, found))
         }
     }
@@ -241,18 +227,16 @@ fn procedure<'a>(
 fn one_more<'a>(
     alloc: Global,
     scope: &mut Scope<'_>,
-    faults: &mut Faults,
     told: &mut Vec<Told<'a>>,
     found: &mut Vec<Procedure<'a>>,
     x: &Parsed<'a>,
 ) -> Result<bool, AllocError>
     ensures found { OnOk result (map typed.procedure found.new.items ≡ found_more (map typed.procedure found.old.items) (spec.procedure_judged scope.old (length told.old.items) (syntax.procedure x.now))) }
     ensures there { IfOk result (λ b. b ≡ is_there (spec.procedure_judged scope.old (length told.old.items) (syntax.procedure x.now))) }
-    ensures noted { OnOk result (IsNoted faults.old faults.new (is_there (spec.procedure_judged scope.old (length told.old.items) (syntax.procedure x.now)))) }
     ensures told { OnOk result (map told_of told.new.items ≡ map told_of told.old.items ++ body_messages (syntax.body_tree x.now.body)) }
     ensures same { OnOk result (scope.new ≡ scope.old) }
 {
-    let next = procedure(alloc, scope, faults, told, x)?;
+    let next = procedure(alloc, scope, told, x)?;
     keep(found, next)
 }
 
@@ -260,19 +244,17 @@ fn one_more<'a>(
 pub fn procedures<'a>(
     alloc: Global,
     scope: &mut Scope<'_>,
-    faults: &mut Faults,
     told: &mut Vec<Told<'a>>,
     all: &[Parsed<'a>],
 ) -> Result<Option<Vec<Procedure<'a>>>, AllocError>
     ensures value { IfOk result (λ r. option_map (λ v. map typed.procedure v.items) r ≡ spec.procedures_judged scope.old (length told.old.items) (map syntax.procedure all.now)) }
-    ensures noted { OnOk result (IsNoted faults.old faults.new (is_there (spec.procedures_judged scope.old (length told.old.items) (map syntax.procedure all.now)))) }
     ensures told { OnOk result (map told_of told.new.items ≡ map told_of told.old.items ++ procedure_messages (map syntax.procedure all.now)) }
     ensures same { OnOk result (scope.new ≡ scope.old) }
 {
     let mut found = Vec::new(alloc);
     let mut is_sound = true;
     'all: for x in all {
-        let is_there = one_more(alloc, scope, faults, told, &mut found, x)?;
+        let is_there = one_more(alloc, scope, told, &mut found, x)?;
         is_sound = both_hold(is_sound, is_there);
     }
     if is_sound { Ok(Some(found)) } else { Ok(None) }

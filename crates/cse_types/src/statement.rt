@@ -10,7 +10,7 @@ ghost use Rattle.cse_logic_names.specs.WellTyped.{messages_in, messages_of};
 ghost use Rattle.cse_logic_expressions.specs.JudgeStatement as spec;
 ghost use Rattle.cse_logic_expressions.specs.JudgeStatement.{judge_statement, judge_block, judge_arm, judge_each, messages_each, for_head, counting_judged, opened};
 ghost use Rattle.cse_types.specs.Told.{told_of};
-ghost use Rattle.cse_logic_names.specs.Walk.{is_there, joined, IsNoted};
+ghost use Rattle.cse_logic_names.specs.Walk.{is_there, joined};
 
 use crate::told::Told;
 use cse_logic_expressions::action::{alone, assignment, deck_value, imputation, jump};
@@ -18,7 +18,6 @@ use cse_logic_expressions::errmsg::err_msg;
 use cse_logic_expressions::expression::value;
 use cse_logic_expressions::head::{counting, for_head};
 use cse_logic_expressions::list::{both_hold, keep};
-use cse_logic_names::faults::Faults;
 use cse_logic_names::scope::Scope;
 use cse_logic_tree::{Arm, Counting, Number, Statement, Variable};
 use cse_syntax::{
@@ -125,14 +124,12 @@ fn do_of<'a>(head: Option<Counting<'a>>, body: Option<Vec<Statement<'a>>>) -> Op
 fn one_message<'a>(
     alloc: Global,
     scope: &Scope<'_>,
-    faults: &mut Faults,
     told: &mut Vec<Told<'a>>,
     message: Message<'a>,
     values: &Vec<Expression<'a>>,
     is_summary: bool,
 ) -> Result<Option<Statement<'a>>, AllocError>
     ensures value { IfOk result (λ r. option_map statement r ≡ judge_statement scope.now (length told.old.items) (syntax.ErrMsg (syntax.message message.entry) (syntax.exprs (map syntax.expr values.now.items)) is_summary)) }
-    ensures noted { OnOk result (IsNoted faults.old faults.new (is_there (judge_statement scope.now (length told.old.items) (syntax.ErrMsg (syntax.message message.entry) (syntax.exprs (map syntax.expr values.now.items)) is_summary)))) }
     ensures told { OnOk result (map told_of told.new.items ≡ map told_of told.old.items ++ (syntax.message message.entry, is_summary) ∷ []) }
 {
     let index = told.len();
@@ -140,7 +137,7 @@ fn one_message<'a>(
         message,
         is_summary,
     })?;
-    err_msg(alloc, scope, faults, message, index, is_summary, values)
+    err_msg(alloc, scope, message, index, is_summary, values)
 }
 
 /// A statement, or none where it isn't sound.
@@ -149,45 +146,43 @@ fn one_message<'a>(
 fn statement<'a>(
     alloc: Global,
     scope: &mut Scope<'_>,
-    faults: &mut Faults,
     told: &mut Vec<Told<'a>>,
     x: &Parsed<'a>,
 ) -> Result<Option<Statement<'a>>, AllocError>
     ensures value { IfOk result (λ r. option_map statement r ≡ judge_statement scope.old (length told.old.items) (stmt x.now)) }
-    ensures noted { OnOk result (IsNoted faults.old faults.new (is_there (judge_statement scope.old (length told.old.items) (stmt x.now)))) }
     ensures told { OnOk result (map told_of told.new.items ≡ map told_of told.old.items ++ messages_in (stmt x.now)) }
     ensures same { OnOk result (scope.new ≡ scope.old) }
 {
     match x {
         Parsed::Empty => Ok(Some(Statement::Empty)),
-        Parsed::Assign(place, value) => assignment(alloc, scope, faults, place, value),
-        Parsed::Call(name, arguments) => alone(alloc, scope, faults, *name, arguments),
+        Parsed::Assign(place, value) => assignment(alloc, scope, place, value),
+        Parsed::Call(name, arguments) => alone(alloc, scope, *name, arguments),
         Parsed::If(first, others, otherwise) => {
-            let start = arm(alloc, scope, faults, told, first)?;
-            let middle = arms(alloc, scope, faults, told, others)?;
+            let start = arm(alloc, scope, told, first)?;
+            let middle = arms(alloc, scope, told, others)?;
             match otherwise {
                 None => Ok(chosen(start, middle, Some(None))),
                 Some(body) => {
-                    let last = block(alloc, scope, faults, told, body)?;
+                    let last = block(alloc, scope, told, body)?;
                     Ok(chosen(start, middle, behind(last)))
                 }
             }
         }
         Parsed::For(variable, record_name, body) => {
-            let head = for_head(scope, faults, *variable, *record_name);
-            let inner = body_of(alloc, scope, faults, told, for_loop(head), body)?;
+            let head = for_head(scope, *variable, *record_name);
+            let inner = body_of(alloc, scope, told, for_loop(head), body)?;
             Ok(for_of(*variable, *record_name, head, inner))
         }
         Parsed::Do(head, body) => {
-            let head = counting(scope, faults, *head);
-            let inner = body_of(alloc, scope, faults, told, do_loop(&head), body)?;
+            let head = counting(scope, *head);
+            let inner = body_of(alloc, scope, told, do_loop(&head), body)?;
             Ok(do_of(head, inner))
         }
-        Parsed::Jump(token, leaving) => Ok(jump(scope, faults, *token, *leaving)),
-        Parsed::Impute(place, value) => imputation(alloc, scope, faults, place, value),
-        Parsed::PutDeck(deck, value) => deck_value(alloc, scope, faults, *deck, value),
+        Parsed::Jump(token, leaving) => Ok(jump(scope, *token, *leaving)),
+        Parsed::Impute(place, value) => imputation(alloc, scope, place, value),
+        Parsed::PutDeck(deck, value) => deck_value(alloc, scope, *deck, value),
         Parsed::ErrMsg(message, values, is_summary) => {
-            one_message(alloc, scope, faults, told, *message, values, *is_summary)
+            one_message(alloc, scope, told, *message, values, *is_summary)
         }
     }
 }
@@ -199,19 +194,17 @@ fn statement<'a>(
 pub fn block<'a>(
     alloc: Global,
     scope: &mut Scope<'_>,
-    faults: &mut Faults,
     told: &mut Vec<Told<'a>>,
     statements: &Vec<Parsed<'a>>,
 ) -> Result<Option<Vec<Statement<'a>>>, AllocError>
     ensures value { IfOk result (λ r. option_map (λ v. typed.block v.items) r ≡ judge_block scope.old (length told.old.items) (syntax.block statements.now.items)) }
-    ensures noted { OnOk result (IsNoted faults.old faults.new (is_there (judge_block scope.old (length told.old.items) (syntax.block statements.now.items)))) }
     ensures told { OnOk result (map told_of told.new.items ≡ map told_of told.old.items ++ messages_of (syntax.block statements.now.items)) }
     ensures same { OnOk result (scope.new ≡ scope.old) }
 {
     let mut found = Vec::new(alloc);
     let mut is_sound = true;
     'all: for x in statements {
-        let next = statement(alloc, scope, faults, told, x)?;
+        let next = statement(alloc, scope, told, x)?;
         let is_there = keep(&mut found, next)?;
         is_sound = both_hold(is_sound, is_there);
     }
@@ -223,21 +216,19 @@ pub fn block<'a>(
 fn body_of<'a>(
     alloc: Global,
     scope: &mut Scope<'_>,
-    faults: &mut Faults,
     told: &mut Vec<Told<'a>>,
     turns: Option<(Option<u16>, Variable)>,
     body: &Vec<Parsed<'a>>,
 ) -> Result<Option<Vec<Statement<'a>>>, AllocError>
     ensures value { IfOk result (λ r. option_map (λ v. typed.block v.items) r ≡ judge_block (opened scope.old turns) (length told.old.items) (syntax.block body.now.items)) }
-    ensures noted { OnOk result (IsNoted faults.old faults.new (is_there (judge_block (opened scope.old turns) (length told.old.items) (syntax.block body.now.items)))) }
     ensures told { OnOk result (map told_of told.new.items ≡ map told_of told.old.items ++ messages_of (syntax.block body.now.items)) }
     ensures same { OnOk result (scope.new ≡ scope.old) }
 {
     match turns {
-        None => block(alloc, scope, faults, told, body),
+        None => block(alloc, scope, told, body),
         Some(turns) => {
             scope.begin(turns)?;
-            let inner = block(alloc, scope, faults, told, body)?;
+            let inner = block(alloc, scope, told, body)?;
             scope.end();
             Ok(inner)
         }
@@ -249,17 +240,15 @@ fn body_of<'a>(
 fn arm<'a>(
     alloc: Global,
     scope: &mut Scope<'_>,
-    faults: &mut Faults,
     told: &mut Vec<Told<'a>>,
     x: &ParsedArm<'a>,
 ) -> Result<Option<Arm<'a>>, AllocError>
     ensures value { IfOk result (λ r. option_map arm_tree r ≡ judge_arm scope.old (length told.old.items) (parsed_arm x.now)) }
-    ensures noted { OnOk result (IsNoted faults.old faults.new (is_there (judge_arm scope.old (length told.old.items) (parsed_arm x.now)))) }
     ensures told { OnOk result (map told_of told.new.items ≡ map told_of told.old.items ++ messages_of (parsed_arm x.now).1) }
     ensures same { OnOk result (scope.new ≡ scope.old) }
 {
-    let condition = value(alloc, scope, faults, false, &x.condition)?;
-    let body = block(alloc, scope, faults, told, &x.body)?;
+    let condition = value(alloc, scope, false, &x.condition)?;
+    let body = block(alloc, scope, told, &x.body)?;
     Ok(guarded(condition, body))
 }
 
@@ -268,19 +257,17 @@ fn arm<'a>(
 fn arms<'a>(
     alloc: Global,
     scope: &mut Scope<'_>,
-    faults: &mut Faults,
     told: &mut Vec<Told<'a>>,
     others: &Vec<ParsedArm<'a>>,
 ) -> Result<Option<Vec<Arm<'a>>>, AllocError>
     ensures value { IfOk result (λ r. option_map (λ v. map arm_tree v.items) r ≡ judge_each scope.old (length told.old.items) (map parsed_arm others.now.items)) }
-    ensures noted { OnOk result (IsNoted faults.old faults.new (is_there (judge_each scope.old (length told.old.items) (map parsed_arm others.now.items)))) }
     ensures told { OnOk result (map told_of told.new.items ≡ map told_of told.old.items ++ messages_each (map parsed_arm others.now.items)) }
     ensures same { OnOk result (scope.new ≡ scope.old) }
 {
     let mut found = Vec::new(alloc);
     let mut is_sound = true;
     'all: for x in others {
-        let next = arm(alloc, scope, faults, told, x)?;
+        let next = arm(alloc, scope, told, x)?;
         let is_there = keep(&mut found, next)?;
         is_sound = both_hold(is_sound, is_there);
     }

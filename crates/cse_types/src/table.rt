@@ -9,7 +9,6 @@ ghost use Rattle.cse_types.specs.Table as spec;
 
 use crate::fresh::is_new;
 use cse_dict::Dictionary;
-use cse_logic_names::faults::Faults;
 use cse_logic_names::meaning::Meaning;
 use cse_logic_names::names::{Names, kept};
 use cse_logic_tree::Variable;
@@ -56,18 +55,15 @@ fn declare(
     alloc: Global,
     dictionary: &Dictionary,
     table: &mut Table,
-    faults: &mut Faults,
     name: Lexeme<'_>,
     meaning: Meaning,
 ) -> Result<(), AllocError>
-    ensures value { OnOk result (table.new ≡ spec.with_name dictionary.now table.old (kept_name name.entry.text.now) meaning) }
-    ensures noted { OnOk result (faults.old.found ≡ not table.old.is_sound → faults.new.found ≡ not table.new.is_sound) }
+    ensures { OnOk result (table.new ≡ spec.with_name dictionary.now table.old (kept_name name.entry.text.now) meaning) }
 {
     let kept = kept(alloc, name.text)?;
     if is_new(dictionary, &table.names, name.text, &kept) {
         table.names.add(kept, meaning)
     } else {
-        faults.note();
         table.is_sound = false;
         Ok(())
     }
@@ -88,16 +84,14 @@ fn global(
     alloc: Global,
     dictionary: &Dictionary,
     table: &mut Table,
-    faults: &mut Faults,
     is_text: bool,
     name: &Lexeme<'_>,
 ) -> Result<(), AllocError>
-    ensures value { OnOk result (table.new ≡ spec.with_global dictionary.now is_text table.old (written name.now)) }
-    ensures noted { OnOk result (faults.old.found ≡ not table.old.is_sound → faults.new.found ≡ not table.new.is_sound) }
+    ensures { OnOk result (table.new ≡ spec.with_global dictionary.now is_text table.old (written name.now)) }
 {
     let meaning = global_meaning(is_text, table.globals);
     table.globals = next(table.globals)?;
-    declare(alloc, dictionary, table, faults, *name, meaning)
+    declare(alloc, dictionary, table, *name, meaning)
 }
 
 /// The names of globals.
@@ -105,15 +99,13 @@ fn globals(
     alloc: Global,
     dictionary: &Dictionary,
     table: &mut Table,
-    faults: &mut Faults,
     is_text: bool,
     names: &Vec<Lexeme<'_>>,
 ) -> Result<(), AllocError>
-    ensures value { OnOk result (table.new ≡ all_after (spec.with_global dictionary.now is_text) table.old (map written names.now.items)) }
-    ensures noted { OnOk result (faults.old.found ≡ not table.old.is_sound → faults.new.found ≡ not table.new.is_sound) }
+    ensures { OnOk result (table.new ≡ all_after (spec.with_global dictionary.now is_text) table.old (map written names.now.items)) }
 {
     'all: for x in names {
-        global(alloc, dictionary, table, faults, is_text, x)?;
+        global(alloc, dictionary, table, is_text, x)?;
     }
     Ok(())
 }
@@ -123,24 +115,22 @@ fn declaration(
     alloc: Global,
     dictionary: &Dictionary,
     table: &mut Table,
-    faults: &mut Faults,
     x: &Declaration<'_>,
 ) -> Result<(), AllocError>
-    ensures value { OnOk result (table.new ≡ spec.with_declaration dictionary.now table.old (syntax.declaration x.now)) }
-    ensures noted { OnOk result (faults.old.found ≡ not table.old.is_sound → faults.new.found ≡ not table.new.is_sound) }
+    ensures { OnOk result (table.new ≡ spec.with_declaration dictionary.now table.old (syntax.declaration x.now)) }
 {
     match x {
-        Declaration::Numeric(names) => { globals(alloc, dictionary, table, faults, false, names) }
-        Declaration::Alpha(_, names) => globals(alloc, dictionary, table, faults, true, names),
+        Declaration::Numeric(names) => { globals(alloc, dictionary, table, false, names) }
+        Declaration::Alpha(_, names) => globals(alloc, dictionary, table, true, names),
         Declaration::Array(x) => {
             let meaning = Meaning::Array(table.arrays);
             table.arrays = next(table.arrays)?;
-            declare(alloc, dictionary, table, faults, x.name, meaning)
+            declare(alloc, dictionary, table, x.name, meaning)
         }
         Declaration::Function(name, _, _) => {
             let meaning = Meaning::Function(table.functions);
             table.functions = next(table.functions)?;
-            declare(alloc, dictionary, table, faults, *name, meaning)
+            declare(alloc, dictionary, table, *name, meaning)
         }
     }
 }
@@ -149,15 +139,13 @@ fn declaration(
 pub fn table_of(
     alloc: Global,
     dictionary: &Dictionary,
-    faults: &mut Faults,
     all: &Vec<Declaration<'_>>,
 ) -> Result<Table, AllocError>
-    ensures value { IfOk result (λ t. t ≡ spec.table_of dictionary.now (map syntax.declaration all.now.items)) }
-    ensures noted { OnOk result (faults.old.found ≡ not true → faults.new.found ≡ not (spec.table_of dictionary.now (map syntax.declaration all.now.items)).is_sound) }
+    ensures { IfOk result (λ t. t ≡ spec.table_of dictionary.now (map syntax.declaration all.now.items)) }
 {
     let mut table = Table::new(alloc);
     'all: for x in all {
-        declaration(alloc, dictionary, &mut table, faults, x)?;
+        declaration(alloc, dictionary, &mut table, x)?;
     }
     Ok(table)
 }

@@ -1,5 +1,4 @@
 use Rattle.std.proofs.Common.{◌≡◌, map, drop}
-use Rattle.std.specs.Prelude.{◌||◌, not}
 use Rattle.cse_image_parts.specs.Pieces.{kinds_left}
 use Rattle.cse_image_parts.specs.Placeholders.{message_kinds}
 use Rattle.cse_syntax_tree.specs.Tree.{expr, exprs}
@@ -9,7 +8,4 @@ use Rattle.cse_logic_names.specs.Walk.{so_far}
 use Rattle.cse_logic_expressions.proofs.errmsg.arguments.Given as goal
 
 abbrev pub invariant-all : goal.invariant-all
-invariant-all l = record {
-  value : so_far l.is_sound (map argument l.found.items) (judge_arguments l.scope (kinds_left l.kinds) (exprs (map expr (drop l.x-index l.values.items)))) ≡ judge_arguments l.scope (message_kinds l.text) (exprs (map expr l.values.items));
-  noted : l.faults.found ≡ (l.initial.faults.found || not l.is_sound);
-}
+invariant-all l = so_far l.is_sound (map argument l.found.items) (judge_arguments l.scope (kinds_left l.kinds) (exprs (map expr (drop l.x-index l.values.items)))) ≡ judge_arguments l.scope (message_kinds l.text) (exprs (map expr l.values.items))

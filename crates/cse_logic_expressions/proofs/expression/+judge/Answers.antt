@@ -1,91 +1,45 @@
 use Rattle.std.proofs.Common.{◌≡◌, ap, ◌∙◌, sym, subst, map, ◌+◌, ◌<◌, ◌≤◌, length, get_or, List}
-use Rattle.std.specs.Prelude.{◌||◌, not, false, Option, IfOk, option_map}
-use Rattle.std.proofs.lemmas.Result.{on_ok_weaker}
+use Rattle.std.specs.Prelude.{false, Option, IfOk, option_map}
 use Rattle.cse_syntax_tree.specs.declared.tree.Expression.{Expression}
 use Rattle.cse_syntax_tree.specs.declared.tree.Operation.{Operation}
 use Rattle.cse_syntax_tree.specs.Tree as syntax
 use Rattle.cse_syntax_tree.specs.Tree.{expr}
 use Rattle.cse_logic_tree.specs.Typed as typed
 use Rattle.cse_logic_tree.specs.Typed.{Number, number}
-use Rattle.cse_logic_expressions.specs.Judge.{AsNumber, judged, compared, judge, as_number, judge_operation, judge_operations}
-use Rattle.cse_logic_names.specs.Walk.{is_there, joined}
-use Rattle.cse_logic_names.proofs.Walks.{step_made, step_noted_made, at_end, there_map, is_none, none_left, after_made_part, step_left}
-use Rattle.cse_logic_expressions.proofs.Expressions.{indexed_judged, chain_judged, compare_judged, after_made_parts, values_walked, operations_walked, number_noted}
+use Rattle.cse_logic_expressions.specs.Judge.{AsNumber, judged, judge, as_number, judge_operation, judge_operations}
+use Rattle.cse_logic_names.specs.Walk.{joined}
+use Rattle.cse_logic_names.proofs.Walks.{step_made, at_end, is_none, none_left, step_left}
+use Rattle.cse_logic_expressions.proofs.Expressions.{indexed_judged, chain_judged, values_walked, operations_walked}
 use Rattle.cse_logic_expressions.proofs.expression.+judge.Goals as goal
 
-pub expression-returns-in-Indexed-clause-value : goal.expression-returns-in-Indexed-clause-value
-expression-returns-in-Indexed-clause-value t c =
+pub expression-returns-in-Indexed : goal.expression-returns-in-Indexed
+expression-returns-in-Indexed t c =
     let same = ap (λ x. judge c.args.scope.now c.args.top (expr x)) c.in-Indexed.is ∙ indexed_judged c.args.scope.now c.args.top c.in-Indexed.name c.in-Indexed.arguments in
-    rw same c.indexed.ensures.value
+    rw same c.indexed.ensures
 
-pub expression-returns-in-Indexed-clause-noted : goal.expression-returns-in-Indexed-clause-noted
-expression-returns-in-Indexed-clause-noted t c =
-    let same = ap (λ x. judge c.args.scope.now c.args.top (expr x)) c.in-Indexed.is ∙ indexed_judged c.args.scope.now c.args.top c.in-Indexed.name c.in-Indexed.arguments in
-    rw same c.indexed.ensures.noted
-
-pub expression-returns-in_ok-made-in-Compare-clause-noted : goal.expression-returns-in_ok-made-in-Compare-clause-noted
-expression-returns-in_ok-made-in-Compare-clause-noted t c =
-    let s = c.args.scope.now in
-    let relation = c.in-Compare.relation in
-    let left = c.deref-in-Compare.result.now in
-    let right = c.deref-in-Compare-2.result.now in
-    let same = ap (λ x. judge s c.args.top (expr x)) c.in-Compare.is ∙ compare_judged s c.args.top c.in-Compare.left relation c.in-Compare.right
-    ∙ ap (λ (x : Expression). AsNumber (compared relation (judge s false (expr x)) (judge s false (expr c.in-Compare.right.value)))) (sym c.deref-in-Compare.ensures)
-    ∙ ap (λ (x : Expression). AsNumber (compared relation (judge s false (expr left)) (judge s false (expr x)))) (sym c.deref-in-Compare-2.ensures) in
-    rw same (after_made_parts relation (judge s false (expr left)) (judge s false (expr right)) _ _ _ _ _ _ c.in_ok-earlier-in-Compare.ensures.value c.in_ok-later-in-Compare.ensures.value c.in_ok-earlier-in-Compare.ensures.noted c.in_ok-later-in-Compare.ensures.noted c.in_ok-made-in-Compare.ensures.noted)
-
-pub expression-returns-in_ok-start-in-Chain-clause-value : goal.expression-returns-in_ok-start-in-Chain-clause-value
-expression-returns-in_ok-start-in-Chain-clause-value t c =
+pub expression-returns-in_ok-start-in-Chain : goal.expression-returns-in_ok-start-in-Chain
+expression-returns-in_ok-start-in-Chain t c =
     let s = c.args.scope.now in
     let others = judge_operations s c.args.top (syntax.operations (map syntax.operation_tree c.in-Chain.others.items)) in
     let same = ap (λ x. judge s c.args.top (expr x)) c.in-Chain.is ∙ chain_judged s c.args.top c.in-Chain.first c.in-Chain.others
     ∙ ap (λ (x : Expression). AsNumber (joined typed.Chain (as_number (judge s false (expr x))) others)) (sym c.deref-in-Chain.ensures) in
-    rw same (subst (λ (y : Option Number). IfOk c.chain.result (λ r. judged r ≡ AsNumber (joined typed.Chain y others))) c.in_ok-start-in-Chain.ensures.value c.chain.ensures.value)
+    rw same (subst (λ (y : Option Number). IfOk c.chain.result (λ r. judged r ≡ AsNumber (joined typed.Chain y others))) c.in_ok-start-in-Chain.ensures c.chain.ensures)
 
-pub expression-returns-in_ok-start-in-Chain-clause-noted : goal.expression-returns-in_ok-start-in-Chain-clause-noted
-expression-returns-in_ok-start-in-Chain-clause-noted t c =
-    let s = c.args.scope.now in
-    let first = c.deref-in-Chain.result.now in
-    let others = judge_operations s c.args.top (syntax.operations (map syntax.operation_tree c.in-Chain.others.items)) in
-    let same = ap (λ x. judge s c.args.top (expr x)) c.in-Chain.is ∙ chain_judged s c.args.top c.in-Chain.first c.in-Chain.others
-    ∙ ap (λ (x : Expression). AsNumber (joined typed.Chain (as_number (judge s false (expr x))) others)) (sym c.deref-in-Chain.ensures) in
-    rw same (on_ok_weaker c.chain.result (after_made_part number typed.Chain _ (as_number (judge s false (expr first))) others _ _ _ c.in_ok-start-in-Chain.ensures.value c.in_ok-start-in-Chain.ensures.noted) c.chain.ensures.noted)
-
-pub value-returns-clause-noted : goal.value-returns-clause-noted
-value-returns-clause-noted t c =
-    number_noted (judge c.args.scope.now c.args.top (expr c.args.x.now)) _ _ _ _ c.in_ok-found.ensures.value c.in_ok-found.ensures.noted c.number_in.ensures.noted
-
-pub all_values-returns-then-is_sound-clause-value : goal.all_values-returns-then-is_sound-clause-value
-all_values-returns-then-is_sound-clause-value t c =
+pub all_values-returns-then-is_sound : goal.all_values-returns-then-is_sound
+all_values-returns-then-is_sound t c =
     let s = c.args.scope.now in
     let items = c.args.inner.now.items in
     let le : length items ≤ c.all.x-index = subst (λ (xs : List Expression). length xs ≤ c.all.x-index) c.deref-x-items.ensures.value c.all-test.false in
-    let e = at_end (λ x rest. as_number (judge s false (expr x))) items c.all.x-index c.all.is_sound (map number c.all.found.items) _ le c.all.invariant.value in
+    let e = at_end (λ x rest. as_number (judge s false (expr x))) items c.all.x-index c.all.is_sound (map number c.all.found.items) _ le c.all.invariant in
     sym (values_walked s items ∙ ap (option_map typed.numbers) (e.0 c.if-is_sound.true))
 
-pub all_values-returns-then-is_sound-clause-noted : goal.all_values-returns-then-is_sound-clause-noted
-all_values-returns-then-is_sound-clause-noted t c =
+pub all_values-returns : goal.all_values-returns
+all_values-returns t c =
     let s = c.args.scope.now in
     let items = c.args.inner.now.items in
     let le : length items ≤ c.all.x-index = subst (λ (xs : List Expression). length xs ≤ c.all.x-index) c.deref-x-items.ensures.value c.all-test.false in
-    let e = at_end (λ x rest. as_number (judge s false (expr x))) items c.all.x-index c.all.is_sound (map number c.all.found.items) _ le c.all.invariant.value in
-    c.all.invariant.noted ∙ ap (λ b. c.args.faults.now.found || not b) (sym (ap is_there (values_walked s items) ∙ there_map typed.numbers _ ∙ e.2))
-
-pub all_values-returns-clause-value : goal.all_values-returns-clause-value
-all_values-returns-clause-value t c =
-    let s = c.args.scope.now in
-    let items = c.args.inner.now.items in
-    let le : length items ≤ c.all.x-index = subst (λ (xs : List Expression). length xs ≤ c.all.x-index) c.deref-x-items.ensures.value c.all-test.false in
-    let e = at_end (λ x rest. as_number (judge s false (expr x))) items c.all.x-index c.all.is_sound (map number c.all.found.items) _ le c.all.invariant.value in
+    let e = at_end (λ x rest. as_number (judge s false (expr x))) items c.all.x-index c.all.is_sound (map number c.all.found.items) _ le c.all.invariant in
     sym (values_walked s items ∙ ap (option_map typed.numbers) (e.1 c.if-is_sound.false))
-
-pub all_values-returns-clause-noted : goal.all_values-returns-clause-noted
-all_values-returns-clause-noted t c =
-    let s = c.args.scope.now in
-    let items = c.args.inner.now.items in
-    let le : length items ≤ c.all.x-index = subst (λ (xs : List Expression). length xs ≤ c.all.x-index) c.deref-x-items.ensures.value c.all-test.false in
-    let e = at_end (λ x rest. as_number (judge s false (expr x))) items c.all.x-index c.all.is_sound (map number c.all.found.items) _ le c.all.invariant.value in
-    c.all.invariant.noted ∙ ap (λ b. c.args.faults.now.found || not b) (sym (ap is_there (values_walked s items) ∙ there_map typed.numbers _ ∙ e.2))
 
 pub all_values-all-preserved : goal.all_values-all-preserved
 all_values-all-preserved t c =
@@ -95,42 +49,23 @@ all_values-all-preserved t c =
     let whole = c.deref-x-items.ensures.value in
     let lt : c.all.x-index < length items = subst (λ (xs : List Expression). c.all.x-index < length xs) whole c.all-test.true in
     let is : x ≡ get_or items c.all.x-index x = subst (λ (xs : List Expression). x ≡ get_or xs c.all.x-index x) whole c.x-item.is in
-    record {
-      value = step_made (λ (x : Expression) (rest : List Expression). as_number (judge s false (expr x))) number items c.all.x-index x c.all.is_sound _ c.in_ok-is_there.is_there c.all.found.items _ c.in_ok-next.next _ lt is c.all.invariant.value c.in_ok-next.ensures.value c.in_ok-is_there.ensures.found c.in_ok-is_there.ensures.there c.both_hold-is_sound.ensures;
-      noted = step_noted_made number _ _ _ c.all.is_sound _ c.in_ok-is_there.is_there c.in_ok-next.next _ c.all.invariant.noted c.in_ok-next.ensures.noted c.in_ok-next.ensures.value c.in_ok-is_there.ensures.there c.both_hold-is_sound.ensures;
-    }
+    step_made (λ (x : Expression) (rest : List Expression). as_number (judge s false (expr x))) number items c.all.x-index x c.all.is_sound _ c.in_ok-is_there.is_there c.all.found.items _ c.in_ok-next.next _ lt is c.all.invariant c.in_ok-next.ensures c.in_ok-is_there.ensures.found c.in_ok-is_there.ensures.there c.both_hold-is_sound.ensures
 
-pub all_operations-returns-then-is_sound-clause-value : goal.all_operations-returns-then-is_sound-clause-value
-all_operations-returns-then-is_sound-clause-value t c =
+pub all_operations-returns-then-is_sound : goal.all_operations-returns-then-is_sound
+all_operations-returns-then-is_sound t c =
     let s = c.args.scope.now in
     let items = c.args.others.now.items in
     let le : length items ≤ c.all.x-index = subst (λ (xs : List Operation). length xs ≤ c.all.x-index) c.deref-x-items.ensures.value c.all-test.false in
     let e = at_end (λ x rest. judge_operation s c.args.top (syntax.operation_tree x) (is_none rest)) items c.all.x-index c.all.is_sound (map typed.operation_tree c.all.found.items) _ le c.all.invariant.value in
     sym (operations_walked s c.args.top items ∙ ap (option_map typed.operations) (e.0 c.if-is_sound.true))
 
-pub all_operations-returns-then-is_sound-clause-noted : goal.all_operations-returns-then-is_sound-clause-noted
-all_operations-returns-then-is_sound-clause-noted t c =
-    let s = c.args.scope.now in
-    let items = c.args.others.now.items in
-    let le : length items ≤ c.all.x-index = subst (λ (xs : List Operation). length xs ≤ c.all.x-index) c.deref-x-items.ensures.value c.all-test.false in
-    let e = at_end (λ x rest. judge_operation s c.args.top (syntax.operation_tree x) (is_none rest)) items c.all.x-index c.all.is_sound (map typed.operation_tree c.all.found.items) _ le c.all.invariant.value in
-    c.all.invariant.noted ∙ ap (λ b. c.args.faults.now.found || not b) (sym (ap is_there (operations_walked s c.args.top items) ∙ there_map typed.operations _ ∙ e.2))
-
-pub all_operations-returns-clause-value : goal.all_operations-returns-clause-value
-all_operations-returns-clause-value t c =
+pub all_operations-returns : goal.all_operations-returns
+all_operations-returns t c =
     let s = c.args.scope.now in
     let items = c.args.others.now.items in
     let le : length items ≤ c.all.x-index = subst (λ (xs : List Operation). length xs ≤ c.all.x-index) c.deref-x-items.ensures.value c.all-test.false in
     let e = at_end (λ x rest. judge_operation s c.args.top (syntax.operation_tree x) (is_none rest)) items c.all.x-index c.all.is_sound (map typed.operation_tree c.all.found.items) _ le c.all.invariant.value in
     sym (operations_walked s c.args.top items ∙ ap (option_map typed.operations) (e.1 c.if-is_sound.false))
-
-pub all_operations-returns-clause-noted : goal.all_operations-returns-clause-noted
-all_operations-returns-clause-noted t c =
-    let s = c.args.scope.now in
-    let items = c.args.others.now.items in
-    let le : length items ≤ c.all.x-index = subst (λ (xs : List Operation). length xs ≤ c.all.x-index) c.deref-x-items.ensures.value c.all-test.false in
-    let e = at_end (λ x rest. judge_operation s c.args.top (syntax.operation_tree x) (is_none rest)) items c.all.x-index c.all.is_sound (map typed.operation_tree c.all.found.items) _ le c.all.invariant.value in
-    c.all.invariant.noted ∙ ap (λ b. c.args.faults.now.found || not b) (sym (ap is_there (operations_walked s c.args.top items) ∙ there_map typed.operations _ ∙ e.2))
 
 pub all_operations-all-preserved : goal.all_operations-all-preserved
 all_operations-all-preserved t c =
@@ -142,9 +77,8 @@ all_operations-all-preserved t c =
     let is : x ≡ get_or items c.all.x-index x = subst (λ (xs : List Operation). x ≡ get_or xs c.all.x-index x) whole c.x-item.is in
     let left = step_left _ _ c.all.x-index (length items) c.decremented-left.ensures c.all.invariant.left lt in
     let none = none_left items (c.all.x-index + 1) _ left in
-    let v = c.in_ok-next.ensures.value ∙ ap (λ b. judge_operation s c.args.top (syntax.operation_tree x) b) none in
+    let v = c.in_ok-next.ensures ∙ ap (λ b. judge_operation s c.args.top (syntax.operation_tree x) b) none in
     record {
       value = step_made (λ (x : Operation) (rest : List Operation). judge_operation s c.args.top (syntax.operation_tree x) (is_none rest)) typed.operation_tree items c.all.x-index x c.all.is_sound _ c.in_ok-is_there.is_there c.all.found.items _ c.in_ok-next.next _ lt is c.all.invariant.value v c.in_ok-is_there.ensures.found c.in_ok-is_there.ensures.there c.both_hold-is_sound.ensures;
-      noted = step_noted_made typed.operation_tree _ _ _ c.all.is_sound _ c.in_ok-is_there.is_there c.in_ok-next.next _ c.all.invariant.noted c.in_ok-next.ensures.noted c.in_ok-next.ensures.value c.in_ok-is_there.ensures.there c.both_hold-is_sound.ensures;
       left = left;
     }

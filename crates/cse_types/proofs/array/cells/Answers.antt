@@ -16,23 +16,9 @@ returns-then-is_sound-clause-value c =
     let e = at_end (λ (x : Literal) (rest : List Literal). whole_judged (syntax.literal x)) items c.all.x-index c.all.is_sound (map typed.whole c.all.found.items) _ le c.all.invariant.value in
     sym (walk_made (λ c. whole_judged c) syntax.literal items ∙ e.0 c.if-is_sound.true)
 
-pub returns-then-is_sound-clause-noted : goal.returns-then-is_sound-clause-noted
-returns-then-is_sound-clause-noted c =
-    let items = c.args.all.now.items in
-    let le : length items ≤ c.all.x-index = subst (λ (xs : List Literal). length xs ≤ c.all.x-index) c.deref-x-items.ensures.value c.all-test.false in
-    let e = at_end (λ (x : Literal) (rest : List Literal). whole_judged (syntax.literal x)) items c.all.x-index c.all.is_sound (map typed.whole c.all.found.items) _ le c.all.invariant.value in
-    c.all.invariant.noted ∙ ap (λ b. c.args.faults.now.found || not b) (sym (ap is_there (walk_made (λ c. whole_judged c) syntax.literal items) ∙ e.2))
-
 pub returns-clause-value : goal.returns-clause-value
 returns-clause-value c =
     let items = c.args.all.now.items in
     let le : length items ≤ c.all.x-index = subst (λ (xs : List Literal). length xs ≤ c.all.x-index) c.deref-x-items.ensures.value c.all-test.false in
     let e = at_end (λ (x : Literal) (rest : List Literal). whole_judged (syntax.literal x)) items c.all.x-index c.all.is_sound (map typed.whole c.all.found.items) _ le c.all.invariant.value in
     sym (walk_made (λ c. whole_judged c) syntax.literal items ∙ e.1 c.if-is_sound.false)
-
-pub returns-clause-noted : goal.returns-clause-noted
-returns-clause-noted c =
-    let items = c.args.all.now.items in
-    let le : length items ≤ c.all.x-index = subst (λ (xs : List Literal). length xs ≤ c.all.x-index) c.deref-x-items.ensures.value c.all-test.false in
-    let e = at_end (λ (x : Literal) (rest : List Literal). whole_judged (syntax.literal x)) items c.all.x-index c.all.is_sound (map typed.whole c.all.found.items) _ le c.all.invariant.value in
-    c.all.invariant.noted ∙ ap (λ b. c.args.faults.now.found || not b) (sym (ap is_there (walk_made (λ c. whole_judged c) syntax.literal items) ∙ e.2))

@@ -11,5 +11,4 @@ use Rattle.cse_types.proofs.array.cells.Given as goal
 abbrev pub invariant-all : goal.invariant-all
 invariant-all l = record {
   value : so_far l.is_sound (map typed.whole l.found.items) (walk (λ (x : Literal) (rest : List Literal). whole_judged (syntax.literal x)) (drop l.x-index l.all.items)) ≡ walk (λ (x : Literal) (rest : List Literal). whole_judged (syntax.literal x)) l.all.items;
-  noted : l.faults.found ≡ (l.initial.faults.found || not l.is_sound);
 }

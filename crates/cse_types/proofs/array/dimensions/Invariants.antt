@@ -10,5 +10,4 @@ use Rattle.cse_types.proofs.array.dimensions.Given as goal
 abbrev pub invariant-all : goal.invariant-all
 invariant-all l = record {
   value : so_far l.is_sound (map typed.dimension l.found.items) (walk (λ (x : Dimension) (rest : List Dimension). spec.dimension_judged l.scope (syntax.dimension x)) (drop l.x-index l.all.items)) ≡ walk (λ (x : Dimension) (rest : List Dimension). spec.dimension_judged l.scope (syntax.dimension x)) l.all.items;
-  noted : l.faults.found ≡ (l.initial.faults.found || not l.is_sound);
 }

@@ -24,7 +24,6 @@ all-preserved c =
       value = made_turn typed.declaration c.all.is_sound _ c.in_ok-is_there.is_there c.all.found.items _ c.in_ok-next.next _ _ _ _ c.all.invariant.value
           (declarations_head items c.all.x-index x lt is c.all.scope _ c.all.told.items _ e.behind e.told) e.value c.in_ok-is_there.ensures.found c.in_ok-is_there.ensures.there c.both_hold-is_sound.ensures;
       behind = behind_turn items c.all.x-index x lt is c.all.scope _ _ c.all.told.items _ e.behind e.told c.all.invariant.behind;
-      noted = step_noted_made typed.declaration _ _ _ c.all.is_sound _ c.in_ok-is_there.is_there c.in_ok-next.next _ c.all.invariant.noted e.noted e.value c.in_ok-is_there.ensures.there c.both_hold-is_sound.ensures;
       told = told_turn items c.all.x-index x lt is c.all.told.items _ _ e.told c.all.invariant.told;
     }
 
@@ -36,15 +35,6 @@ returns-then-is_sound-clause-value c =
     let n = length c.all.told.items in
     let e = made_end typed.declaration c.all.is_sound c.all.found.items _ _ (ap (spec.declarations_judged c.all.scope n) none) c.all.invariant.value in
     sym (e.0 c.if-is_sound.true)
-
-pub returns-then-is_sound-clause-noted : goal.returns-then-is_sound-clause-noted
-returns-then-is_sound-clause-noted c =
-    let items = c.args.all.now.items in
-    let le : length items ≤ c.all.x-index = subst (λ (xs : List Declaration). length xs ≤ c.all.x-index) c.deref-x-items.ensures.value c.all-test.false in
-    let none = ap (map syntax.declaration) (drop_all c.all.x-index items le) in
-    let n = length c.all.told.items in
-    let e = made_end typed.declaration c.all.is_sound c.all.found.items _ _ (ap (spec.declarations_judged c.all.scope n) none) c.all.invariant.value in
-    c.all.invariant.noted ∙ ap (λ b. c.args.faults.now.found || not b) (sym e.2)
 
 pub returns-then-is_sound-clause-told : goal.returns-then-is_sound-clause-told
 returns-then-is_sound-clause-told c =
@@ -70,15 +60,6 @@ returns-clause-value c =
     let n = length c.all.told.items in
     let e = made_end typed.declaration c.all.is_sound c.all.found.items _ _ (ap (spec.declarations_judged c.all.scope n) none) c.all.invariant.value in
     sym (e.1 c.if-is_sound.false)
-
-pub returns-clause-noted : goal.returns-clause-noted
-returns-clause-noted c =
-    let items = c.args.all.now.items in
-    let le : length items ≤ c.all.x-index = subst (λ (xs : List Declaration). length xs ≤ c.all.x-index) c.deref-x-items.ensures.value c.all-test.false in
-    let none = ap (map syntax.declaration) (drop_all c.all.x-index items le) in
-    let n = length c.all.told.items in
-    let e = made_end typed.declaration c.all.is_sound c.all.found.items _ _ (ap (spec.declarations_judged c.all.scope n) none) c.all.invariant.value in
-    c.all.invariant.noted ∙ ap (λ b. c.args.faults.now.found || not b) (sym e.2)
 
 pub returns-clause-told : goal.returns-clause-told
 returns-clause-told c =

@@ -12,6 +12,5 @@ abbrev pub invariant-all : goal.invariant-all
 invariant-all l = record {
   value : so_far l.is_sound (map typed.declaration l.found.items) (spec.declarations_judged l.scope (length l.told.items) (map syntax.declaration (drop l.x-index l.all.items))) ≡ spec.declarations_judged l.initial.scope (length l.initial.told.items) (map syntax.declaration l.all.items);
   behind : spec.behind_all l.scope (length l.told.items) (map syntax.declaration (drop l.x-index l.all.items)) ≡ spec.behind_all l.initial.scope (length l.initial.told.items) (map syntax.declaration l.all.items);
-  noted : l.faults.found ≡ (l.initial.faults.found || not l.is_sound);
   told : map told_of l.told.items ++ declared_messages (map syntax.declaration (drop l.x-index l.all.items)) ≡ map told_of l.initial.told.items ++ declared_messages (map syntax.declaration l.all.items);
 }

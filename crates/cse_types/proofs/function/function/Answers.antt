@@ -42,13 +42,3 @@ returns-clause-behind c =
     subst (λ (z : Scope). OnOk c.ended.result (c.ended.new.scope ≡ z))
     (ap (λ (z : Scope). record z { functions = z.functions ++ option_map (λ p. p.1) c.in_ok-made.made ∷ [] }) c.in_ok-found.ensures.same ∙ ap (λ (o : Option Facts). record s { functions = s.functions ++ o ∷ [] }) facts)
     c.ended.ensures.behind
-
-pub returns-clause-noted : goal.returns-clause-noted
-returns-clause-noted c =
-    let s = c.args.scope.now in
-    let n = length c.args.told.now.items in
-    let name = written c.args.name in
-    let ps = map syntax.parameter c.args.all.now.items in
-    let body = syntax.block c.args.body.now.items in
-    OnOk_from c.ended.result _ (function_noted s n name ps body (c.args.faults.now.found) (c.parameters.new.faults.found) (c.body_in.new.faults.found) c.in_ok-fresh.ensures.noted
-    (c.in_ok-found.ensures.noted ∙ ap (λ (f : Fresh). c.parameters.new.faults.found || not (is_there (judge_block (body_scope s f.names) n body))) c.in_ok-fresh.ensures.value))

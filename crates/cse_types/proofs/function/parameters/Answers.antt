@@ -15,14 +15,6 @@ returns-clause-value c =
     let le : length items ≤ c.all.x-index = subst (λ (xs : List Parameter). length xs ≤ c.all.x-index) c.deref-x-items.ensures.value c.all-test.false in
     after_end (with_parameter test) items c.all.x-index le c.all.fresh _ c.all.invariant.value ∙ parameters_after test no_names items
 
-pub returns-clause-noted : goal.returns-clause-noted
-returns-clause-noted c =
-    let test = is_new c.args.scope.now.dictionary c.args.scope.now.declared in
-    let items = c.args.all.now.items in
-    let le : length items ≤ c.all.x-index = subst (λ (xs : List Parameter). length xs ≤ c.all.x-index) c.deref-x-items.ensures.value c.all-test.false in
-    c.all.invariant.noted
-    ∙ ap (λ (f : Fresh). c.args.faults.now.found || not f.is_sound) (after_end (with_parameter test) items c.all.x-index le c.all.fresh _ c.all.invariant.value ∙ parameters_after test no_names items)
-
 pub all-preserved : goal.all-preserved
 all-preserved c =
     let test = is_new c.args.scope.now.dictionary c.args.scope.now.declared in
@@ -32,5 +24,4 @@ all-preserved c =
       value = subst (λ (xs : List Parameter). all_after (with_parameter test) c.parameter.new.fresh (drop (c.all.x-index + 1) xs) ≡ all_after (with_parameter test) no_names c.args.all.now.items) whole
           (parameter_at test c.deref-x-items.result.now c.all.x-index _ c.all.fresh c.parameter.new.fresh _ c.all-test.true
           (subst (λ (xs : List Parameter). all_after (with_parameter test) c.all.fresh (drop c.all.x-index xs) ≡ all_after (with_parameter test) no_names c.args.all.now.items) (sym whole) c.all.invariant.value) e.value);
-      noted = fresh_noted test c.all.fresh c.parameter.new.fresh (kept_name (get_or c.deref-x-items.result.now c.all.x-index _).name.text.now) (c.args.faults.now.found) (c.all.faults.found) (c.parameter.new.faults.found) e.value c.all.invariant.noted e.noted;
     }

@@ -8,5 +8,4 @@ use Rattle.cse_types.proofs.function.parameters.Given as goal
 abbrev pub invariant-all : goal.invariant-all
 invariant-all l = record {
   value : all_after (with_parameter (is_new l.scope.dictionary l.scope.declared)) l.fresh (drop l.x-index l.all.items) ≡ all_after (with_parameter (is_new l.scope.dictionary l.scope.declared)) no_names l.all.items;
-  noted : l.faults.found ≡ (l.initial.faults.found || not l.fresh.is_sound);
 }

@@ -16,7 +16,6 @@ all-preserved c =
     let e = c.in_ok-owner.ensures in
     record {
       value = after_turn with_owner items c.all.x-index x lt is c.all.fresh c.owner.new.fresh _ c.all.invariant.value e.value;
-      noted = fresh_noted (λ name. true) c.all.fresh c.owner.new.fresh (kept_name x.name.text.now) (c.args.faults.now.found) (c.all.faults.found) (c.owner.new.faults.found) e.value c.all.invariant.noted e.noted;
     }
 
 pub returns-clause-value : goal.returns-clause-value
@@ -24,10 +23,3 @@ returns-clause-value c =
     let items = c.args.all.now in
     let le : length items ≤ c.all.x-index = c.all-test.false in
     after_end with_owner items c.all.x-index le c.all.fresh _ c.all.invariant.value ∙ owners_after no_names items
-
-pub returns-clause-noted : goal.returns-clause-noted
-returns-clause-noted c =
-    let items = c.args.all.now in
-    let le : length items ≤ c.all.x-index = c.all-test.false in
-    c.all.invariant.noted
-    ∙ ap (λ (f : Fresh). c.args.faults.now.found || not f.is_sound) (after_end with_owner items c.all.x-index le c.all.fresh _ c.all.invariant.value ∙ owners_after no_names items)

@@ -7,5 +7,4 @@ use Rattle.cse_types.proofs.owners.owners.Given as goal
 abbrev pub invariant-all : goal.invariant-all
 invariant-all l = record {
   value : all_after with_owner l.fresh (drop l.x-index l.all) ≡ all_after with_owner no_names l.all;
-  noted : l.faults.found ≡ (l.initial.faults.found || not l.fresh.is_sound);
 }

@@ -16,13 +16,6 @@ returns-clause-value c =
     c.parts_of.ensures ∙ parts_value c.args.scope.now c.globals.new.scope (syntax.tree c.args.tree.now) c.globals.new.told.items e.behind e.told _ _ e.value
     (c.in_ok-procedures.ensures.value ∙ ap (λ (ps : List Procedure). procedures_judged c.globals.new.scope n (map syntax.procedure ps)) c.procedures_in-all.ensures)
 
-pub returns-clause-noted : goal.returns-clause-noted
-returns-clause-noted c =
-    let e = c.in_ok-globals.ensures in
-    let n = length c.globals.new.told.items in
-    parts_noted c.args.scope.now c.globals.new.scope (syntax.tree c.args.tree.now) c.globals.new.told.items e.behind e.told (c.args.faults.now.found) _ _ e.noted
-    (c.in_ok-procedures.ensures.noted ∙ ap (λ (ps : List Procedure). c.globals.new.faults.found || not (is_there (procedures_judged c.globals.new.scope n (map syntax.procedure ps)))) c.procedures_in-all.ensures)
-
 pub returns-clause-told : goal.returns-clause-told
 returns-clause-told c =
     c.in_ok-procedures.ensures.told

@@ -20,13 +20,6 @@ use Rattle.cse_types.proofs.parts.judged.Goals as goal
 pub tree_of-requires : goal.tree_of-requires
 tree_of-requires c = ap are_said c.in_ok-parts.ensures.told ∙ c.requires.said
 
-pub returns-clause-noted : goal.returns-clause-noted
-returns-clause-noted c =
-    let x = syntax.tree c.args.tree.now in
-    let named = c.in_ok-_owners.ensures.noted ∙ ap (λ (ps : List Procedure). c.declared_names.new.faults.found || not (fresh_names (λ name. true) (owner_names (map syntax.procedure ps))).is_sound) c.procedures_in-all.ensures in
-    OnOk_from c.tree_of.result _ (judged_noted c.args.dictionary.now c.args.messages.now x _ _ _ c.in_ok-table.ensures.noted named
-    (c.in_ok-parts.ensures.noted ∙ ap (λ (s : Scope). c.owners.new.faults.found || not (is_there (parts_judged s x))) (c.in_ok-scope.ensures ∙ ap (λ (t : Table). start_of c.args.dictionary.now c.args.messages.now t.names (all_declarations x.globals)) c.in_ok-table.ensures.value)))
-
 pub returns-clause-value : goal.returns-clause-value
 returns-clause-value c =
     let d = c.args.dictionary.now in

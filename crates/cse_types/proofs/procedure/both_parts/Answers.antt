@@ -22,8 +22,3 @@ returns-clause-value c =
     c.around.ensures
     ∙ ap (λ (o : Option typed.Statements). joined typed.Both o (option_map (λ v. typed.block v.items) c.in_ok-after.after)) c.in_ok-before.ensures.value
     ∙ ap (λ (o : Option typed.Statements). joined typed.Both (judge_block c.args.scope.now (length c.args.told.now.items) (syntax.block c.args.xs.now.items)) o) (c.in_ok-after.ensures.value ∙ behind_is c)
-
-pub returns-clause-noted : goal.returns-clause-noted
-returns-clause-noted c =
-    both_noted typed.Both _ _ (c.args.faults.now.found) (c.block.new.faults.found) (c.block-2.new.faults.found) c.in_ok-before.ensures.noted
-    (c.in_ok-after.ensures.noted ∙ ap (λ (o : Option typed.Statements). c.block.new.faults.found || not (is_there o)) (behind_is c))

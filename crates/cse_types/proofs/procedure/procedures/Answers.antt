@@ -22,7 +22,6 @@ all-preserved c =
       value = judged_turn typed.procedure c.all.is_sound _ c.in_ok-is_there.is_there c.all.found.items _ _ _ _ _ c.all.invariant.value
           (procedures_head items c.all.x-index x lt is c.all.scope _ c.all.told.items _ e.same e.told) e.found e.there c.both_hold-is_sound.ensures;
       same = e.same ∙ c.all.invariant.same;
-      noted = judged_noted _ _ _ c.all.is_sound _ c.in_ok-is_there.is_there _ c.all.invariant.noted e.noted e.there c.both_hold-is_sound.ensures;
       told = procedures_told items c.all.x-index x lt is c.all.told.items _ _ e.told c.all.invariant.told;
     }
 
@@ -34,15 +33,6 @@ returns-then-is_sound-clause-value c =
     let n = length c.all.told.items in
     let e = made_end typed.procedure c.all.is_sound c.all.found.items _ _ (ap (spec.procedures_judged c.all.scope n) none) c.all.invariant.value in
     sym (e.0 c.if-is_sound.true)
-
-pub returns-then-is_sound-clause-noted : goal.returns-then-is_sound-clause-noted
-returns-then-is_sound-clause-noted c =
-    let items = c.args.all.now in
-    let le : length items ≤ c.all.x-index = c.all-test.false in
-    let none = ap (map syntax.procedure) (drop_all c.all.x-index items le) in
-    let n = length c.all.told.items in
-    let e = made_end typed.procedure c.all.is_sound c.all.found.items _ _ (ap (spec.procedures_judged c.all.scope n) none) c.all.invariant.value in
-    c.all.invariant.noted ∙ ap (λ b. c.args.faults.now.found || not b) (sym e.2)
 
 pub returns-then-is_sound-clause-told : goal.returns-then-is_sound-clause-told
 returns-then-is_sound-clause-told c =
@@ -60,15 +50,6 @@ returns-clause-value c =
     let n = length c.all.told.items in
     let e = made_end typed.procedure c.all.is_sound c.all.found.items _ _ (ap (spec.procedures_judged c.all.scope n) none) c.all.invariant.value in
     sym (e.1 c.if-is_sound.false)
-
-pub returns-clause-noted : goal.returns-clause-noted
-returns-clause-noted c =
-    let items = c.args.all.now in
-    let le : length items ≤ c.all.x-index = c.all-test.false in
-    let none = ap (map syntax.procedure) (drop_all c.all.x-index items le) in
-    let n = length c.all.told.items in
-    let e = made_end typed.procedure c.all.is_sound c.all.found.items _ _ (ap (spec.procedures_judged c.all.scope n) none) c.all.invariant.value in
-    c.all.invariant.noted ∙ ap (λ b. c.args.faults.now.found || not b) (sym e.2)
 
 pub returns-clause-told : goal.returns-clause-told
 returns-clause-told c =

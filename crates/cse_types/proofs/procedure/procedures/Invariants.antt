@@ -12,6 +12,5 @@ abbrev pub invariant-all : goal.invariant-all
 invariant-all l = record {
   value : so_far l.is_sound (map typed.procedure l.found.items) (spec.procedures_judged l.scope (length l.told.items) (map syntax.procedure (drop l.x-index l.all))) ≡ spec.procedures_judged l.initial.scope (length l.initial.told.items) (map syntax.procedure l.all);
   same : l.scope ≡ l.initial.scope;
-  noted : l.faults.found ≡ (l.initial.faults.found || not l.is_sound);
   told : map told_of l.told.items ++ procedure_messages (map syntax.procedure (drop l.x-index l.all)) ≡ map told_of l.initial.told.items ++ procedure_messages (map syntax.procedure l.all);
 }

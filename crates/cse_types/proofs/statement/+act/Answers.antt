@@ -29,14 +29,6 @@ block-returns-then-is_sound-clause-value t c =
     let e = from_end (statement_at s) count_at items c.all.x-index _ c.all.is_sound (map statement c.all.found.items) _ le c.all.invariant.value in
     sym (block_walked s (length c.args.told.now.items) items ∙ ap (option_map statements) (e.0 c.if-is_sound.true))
 
-pub block-returns-then-is_sound-clause-noted : goal.block-returns-then-is_sound-clause-noted
-block-returns-then-is_sound-clause-noted t c =
-    let s = c.args.scope.now in
-    let items = c.args.statements.now.items in
-    let le : length items ≤ c.all.x-index = subst (λ (xs : List rusts.Statement). length xs ≤ c.all.x-index) c.deref-x-items.ensures.value c.all-test.false in
-    let e = from_end (statement_at s) count_at items c.all.x-index _ c.all.is_sound (map statement c.all.found.items) _ le c.all.invariant.value in
-    c.all.invariant.noted ∙ ap (λ b. c.args.faults.now.found || not b) (sym (ap is_there (block_walked s (length c.args.told.now.items) items) ∙ there_map statements _ ∙ e.2))
-
 pub block-returns-then-is_sound-clause-told : goal.block-returns-then-is_sound-clause-told
 block-returns-then-is_sound-clause-told t c =
     let items = c.args.statements.now.items in
@@ -50,14 +42,6 @@ block-returns-clause-value t c =
     let le : length items ≤ c.all.x-index = subst (λ (xs : List rusts.Statement). length xs ≤ c.all.x-index) c.deref-x-items.ensures.value c.all-test.false in
     let e = from_end (statement_at s) count_at items c.all.x-index _ c.all.is_sound (map statement c.all.found.items) _ le c.all.invariant.value in
     sym (block_walked s (length c.args.told.now.items) items ∙ ap (option_map statements) (e.1 c.if-is_sound.false))
-
-pub block-returns-clause-noted : goal.block-returns-clause-noted
-block-returns-clause-noted t c =
-    let s = c.args.scope.now in
-    let items = c.args.statements.now.items in
-    let le : length items ≤ c.all.x-index = subst (λ (xs : List rusts.Statement). length xs ≤ c.all.x-index) c.deref-x-items.ensures.value c.all-test.false in
-    let e = from_end (statement_at s) count_at items c.all.x-index _ c.all.is_sound (map statement c.all.found.items) _ le c.all.invariant.value in
-    c.all.invariant.noted ∙ ap (λ b. c.args.faults.now.found || not b) (sym (ap is_there (block_walked s (length c.args.told.now.items) items) ∙ there_map statements _ ∙ e.2))
 
 pub block-returns-clause-told : goal.block-returns-clause-told
 block-returns-clause-told t c =
@@ -76,7 +60,6 @@ block-all-preserved t c =
     let at = ap (λ k. statement_at k (length c.all.told.items) x) c.all.invariant.same in
     record {
       value = from_step (statement_at s) count_at statement items c.all.x-index _ _ x c.all.is_sound _ c.in_ok-is_there.is_there c.all.found.items _ c.in_ok-next.next _ lt is c.all.invariant.value (c.in_ok-next.ensures.value ∙ at) (told_count told_of _ _ (messages_at x) c.in_ok-next.ensures.told) c.in_ok-is_there.ensures.found c.in_ok-is_there.ensures.there c.both_hold-is_sound.ensures;
-      noted = step_noted_made statement _ _ _ c.all.is_sound _ c.in_ok-is_there.is_there c.in_ok-next.next _ c.all.invariant.noted c.in_ok-next.ensures.noted c.in_ok-next.ensures.value c.in_ok-is_there.ensures.there c.both_hold-is_sound.ensures;
       told = told_step messages_at items c.all.x-index x _ _ _ lt is c.all.invariant.told c.in_ok-next.ensures.told;
       same = c.in_ok-next.ensures.same ∙ c.all.invariant.same;
     }
@@ -91,14 +74,6 @@ arms-returns-then-is_sound-clause-value t c =
     let e = from_end (arm_at s) arm_count items c.all.x-index _ c.all.is_sound (map arm_tree c.all.found.items) _ le c.all.invariant.value in
     sym (arms_walked s (length c.args.told.now.items) items ∙ e.0 c.if-is_sound.true)
 
-pub arms-returns-then-is_sound-clause-noted : goal.arms-returns-then-is_sound-clause-noted
-arms-returns-then-is_sound-clause-noted t c =
-    let s = c.args.scope.now in
-    let items = c.args.others.now.items in
-    let le : length items ≤ c.all.x-index = subst (λ (xs : List rustarm.Arm). length xs ≤ c.all.x-index) c.deref-x-items.ensures.value c.all-test.false in
-    let e = from_end (arm_at s) arm_count items c.all.x-index _ c.all.is_sound (map arm_tree c.all.found.items) _ le c.all.invariant.value in
-    c.all.invariant.noted ∙ ap (λ b. c.args.faults.now.found || not b) (sym (ap is_there (arms_walked s (length c.args.told.now.items) items) ∙ e.2))
-
 pub arms-returns-then-is_sound-clause-told : goal.arms-returns-then-is_sound-clause-told
 arms-returns-then-is_sound-clause-told t c =
     let items = c.args.others.now.items in
@@ -112,14 +87,6 @@ arms-returns-clause-value t c =
     let le : length items ≤ c.all.x-index = subst (λ (xs : List rustarm.Arm). length xs ≤ c.all.x-index) c.deref-x-items.ensures.value c.all-test.false in
     let e = from_end (arm_at s) arm_count items c.all.x-index _ c.all.is_sound (map arm_tree c.all.found.items) _ le c.all.invariant.value in
     sym (arms_walked s (length c.args.told.now.items) items ∙ e.1 c.if-is_sound.false)
-
-pub arms-returns-clause-noted : goal.arms-returns-clause-noted
-arms-returns-clause-noted t c =
-    let s = c.args.scope.now in
-    let items = c.args.others.now.items in
-    let le : length items ≤ c.all.x-index = subst (λ (xs : List rustarm.Arm). length xs ≤ c.all.x-index) c.deref-x-items.ensures.value c.all-test.false in
-    let e = from_end (arm_at s) arm_count items c.all.x-index _ c.all.is_sound (map arm_tree c.all.found.items) _ le c.all.invariant.value in
-    c.all.invariant.noted ∙ ap (λ b. c.args.faults.now.found || not b) (sym (ap is_there (arms_walked s (length c.args.told.now.items) items) ∙ e.2))
 
 pub arms-returns-clause-told : goal.arms-returns-clause-told
 arms-returns-clause-told t c =
@@ -138,7 +105,6 @@ arms-all-preserved t c =
     let at = ap (λ k. arm_at k (length c.all.told.items) x) c.all.invariant.same in
     record {
       value = from_step (arm_at s) arm_count arm_tree items c.all.x-index _ _ x c.all.is_sound _ c.in_ok-is_there.is_there c.all.found.items _ c.in_ok-next.next _ lt is c.all.invariant.value (c.in_ok-next.ensures.value ∙ at) (told_count told_of _ _ (arm_messages x) c.in_ok-next.ensures.told) c.in_ok-is_there.ensures.found c.in_ok-is_there.ensures.there c.both_hold-is_sound.ensures;
-      noted = step_noted_made arm_tree _ _ _ c.all.is_sound _ c.in_ok-is_there.is_there c.in_ok-next.next _ c.all.invariant.noted c.in_ok-next.ensures.noted c.in_ok-next.ensures.value c.in_ok-is_there.ensures.there c.both_hold-is_sound.ensures;
       told = told_step arm_messages items c.all.x-index x _ _ _ lt is c.all.invariant.told c.in_ok-next.ensures.told;
       same = c.in_ok-next.ensures.same ∙ c.all.invariant.same;
     }
@@ -156,16 +122,6 @@ statement-returns-in_ok-inner-in-For-clause-value t c =
     ∙ for_judged s (length c.args.told.now.items) v r (syntax.block c.in-For.body.items) h c.for_loop.result c.for_head-head.ensures.value c.for_loop.ensures
     ∙ ap (judge_statement s (length c.args.told.now.items)) (sym same)
 
-pub statement-returns-in_ok-inner-in-For-clause-noted : goal.statement-returns-in_ok-inner-in-For-clause-noted
-statement-returns-in_ok-inner-in-For-clause-noted t c =
-    let s = c.args.scope.now in
-    let n = length c.args.told.now.items in
-    let v = written c.in-For.variable in
-    let r = written c.in-For.record_name in
-    let same = ap stmt c.in-For.is ∙ for_is c.in-For.variable c.in-For.record_name c.in-For.body in
-    for_noted s n v r (syntax.block c.in-For.body.items) c.for_head-head.result c.for_loop.result c.for_head-head.ensures.value c.for_loop.ensures _ _ _ c.for_head-head.ensures.noted c.in_ok-inner-in-For.ensures.noted
-    ∙ ap (λ y. c.args.faults.now.found || not (is_there (judge_statement s n y))) (sym same)
-
 pub statement-returns-in_ok-inner-in-For-clause-told : goal.statement-returns-in_ok-inner-in-For-clause-told
 statement-returns-in_ok-inner-in-For-clause-told t c =
     let same = ap stmt c.in-For.is ∙ for_is c.in-For.variable c.in-For.record_name c.in-For.body in
@@ -180,15 +136,6 @@ statement-returns-in_ok-inner-in-Do-clause-value t c =
     c.do_of.ensures ∙ ap (joined Do h) c.in_ok-inner-in-Do.ensures.value
     ∙ do_judged s n (syntax.counting c.in-Do.head) (syntax.block c.in-Do.body.items) h c.do_loop.result c.counting-head.ensures.value c.do_loop.ensures
     ∙ ap (judge_statement s n) (sym same)
-
-pub statement-returns-in_ok-inner-in-Do-clause-noted : goal.statement-returns-in_ok-inner-in-Do-clause-noted
-statement-returns-in_ok-inner-in-Do-clause-noted t c =
-    let s = c.args.scope.now in
-    let n = length c.args.told.now.items in
-    let h = option_map counting c.counting-head.result in
-    let same = ap stmt c.in-Do.is ∙ do_is c.in-Do.head c.in-Do.body in
-    do_noted s n (syntax.counting c.in-Do.head) (syntax.block c.in-Do.body.items) h c.do_loop.result c.counting-head.ensures.value c.do_loop.ensures _ _ _ c.counting-head.ensures.noted c.in_ok-inner-in-Do.ensures.noted
-    ∙ ap (λ y. c.args.faults.now.found || not (is_there (judge_statement s n y))) (sym same)
 
 pub statement-returns-in_ok-inner-in-Do-clause-told : goal.statement-returns-in_ok-inner-in-Do-clause-told
 statement-returns-in_ok-inner-in-Do-clause-told t c =
@@ -207,20 +154,6 @@ statement-returns-in-None-clause-value t c =
     (told_count told_of c.arm.new.told.items c.args.told.now.items (messages_of (parsed_arm first).1) c.in_ok-start-in-If.ensures.told) refl c.in_ok-start-in-If.ensures.same
     c.in_ok-start-in-If.ensures.value c.in_ok-middle-in-If.ensures.value (none_judged s (k + length (messages_each xs))) c.chosen.ensures
     ∙ ap (judge_statement s n) (sym same)
-
-pub statement-returns-in-None-clause-noted : goal.statement-returns-in-None-clause-noted
-statement-returns-in-None-clause-noted t c =
-    let s = c.args.scope.now in
-    let n = length c.args.told.now.items in
-    let first = c.in-If.first in
-    let xs = map parsed_arm c.in-If.others.items in
-    let same = ap stmt c.in-If.is ∙ if_is first c.in-If.others c.in-If.otherwise ∙ ap (λ o. syntax.If (syntax.expr first.condition) (syntax.block first.body.items) (syntax.arms xs (syntax.otherwise_tree o))) c.in-None.is in
-    let k = length c.arm.new.told.items in
-    let none = sym (or-false (c.arms.new.faults.found)) ∙ ap (λ o. c.arms.new.faults.found || not (is_there o)) (none_judged s (k + length (messages_each xs))) in
-    choice_noted s (parsed_arm first) xs syntax.no_arm n k (k + length (messages_each xs)) c.arm.new.scope _ _ _ _
-    (told_count told_of c.arm.new.told.items c.args.told.now.items (messages_of (parsed_arm first).1) c.in_ok-start-in-If.ensures.told) refl c.in_ok-start-in-If.ensures.same
-    c.in_ok-start-in-If.ensures.noted c.in_ok-middle-in-If.ensures.noted none
-    ∙ ap (λ y. c.args.faults.now.found || not (is_there (judge_statement s n y))) (sym same)
 
 pub statement-returns-in-None-clause-told : goal.statement-returns-in-None-clause-told
 statement-returns-in-None-clause-told t c =
@@ -247,26 +180,6 @@ statement-returns-in_ok-last-in-Some-clause-value t c =
     (told_count told_of c.arms.new.told.items c.arm.new.told.items (messages_each xs) c.in_ok-middle-in-If.ensures.told) c.in_ok-start-in-If.ensures.same
     c.in_ok-start-in-If.ensures.value c.in_ok-middle-in-If.ensures.value last c.chosen-in-Some.ensures
     ∙ ap (judge_statement s n) (sym same)
-
-pub statement-returns-in_ok-last-in-Some-clause-noted : goal.statement-returns-in_ok-last-in-Some-clause-noted
-statement-returns-in_ok-last-in-Some-clause-noted t c =
-    let s = c.args.scope.now in
-    let n = length c.args.told.now.items in
-    let first = c.in-If.first in
-    let xs = map parsed_arm c.in-If.others.items in
-    let body = syntax.block c.in-Some.body.items in
-    let same = ap stmt c.in-If.is ∙ if_is first c.in-If.others c.in-If.otherwise ∙ ap (λ o. syntax.If (syntax.expr first.condition) (syntax.block first.body.items) (syntax.arms xs (syntax.otherwise_tree o))) c.in-Some.is in
-    let k = length c.arm.new.told.items in
-    let m = length c.arms.new.told.items in
-    let where_at = c.in_ok-middle-in-If.ensures.same ∙ c.in_ok-start-in-If.ensures.same in
-    let last = c.in_ok-last-in-Some.ensures.noted ∙ ap (λ z. c.arms.new.faults.found || not (is_there (judge_block z m body))) where_at
-    ∙ ap (λ b. c.arms.new.faults.found || not b) (sym (there_map else_of (judge_block s m body)))
-    ∙ ap (λ o. c.arms.new.faults.found || not (is_there o)) (else_judged s m body) in
-    choice_noted s (parsed_arm first) xs (syntax.else_of body) n k m c.arm.new.scope _ _ _ _
-    (told_count told_of c.arm.new.told.items c.args.told.now.items (messages_of (parsed_arm first).1) c.in_ok-start-in-If.ensures.told)
-    (told_count told_of c.arms.new.told.items c.arm.new.told.items (messages_each xs) c.in_ok-middle-in-If.ensures.told) c.in_ok-start-in-If.ensures.same
-    c.in_ok-start-in-If.ensures.noted c.in_ok-middle-in-If.ensures.noted last
-    ∙ ap (λ y. c.args.faults.now.found || not (is_there (judge_statement s n y))) (sym same)
 
 pub statement-returns-in_ok-last-in-Some-clause-told : goal.statement-returns-in_ok-last-in-Some-clause-told
 statement-returns-in_ok-last-in-Some-clause-told t c =
@@ -299,24 +212,11 @@ statement-returns-in-PutDeck-clause-told t c = OnOk_from c.deck_value.result _ (
 
 -- ---- an arm, and the body of a loop
 
-pub arm-returns-clause-noted : goal.arm-returns-clause-noted
-arm-returns-clause-noted t c =
-    let s = c.args.scope.now in
-    let x = parsed_arm c.args.x.now in
-    both_noted guarded (as_number (judge s false x.0)) (judge_block s (length c.args.told.now.items) x.1) _ _ _ c.in_ok-condition.ensures.noted c.in_ok-body.ensures.noted
-
 pub body_of-returns-in_ok-inner-in-Some-clause-value : goal.body_of-returns-in_ok-inner-in-Some-clause-value
 body_of-returns-in_ok-inner-in-Some-clause-value t c =
     let n = length c.args.told.now.items in
     let b = syntax.block c.args.body.now.items in
     c.in_ok-inner-in-Some.ensures.value ∙ ap (λ z. judge_block z n b) c.in_ok-begin-in-Some.ensures ∙ ap (λ o. judge_block (opened c.args.scope.now o) n b) (sym c.in-Some.is)
-
-pub body_of-returns-in_ok-inner-in-Some-clause-noted : goal.body_of-returns-in_ok-inner-in-Some-clause-noted
-body_of-returns-in_ok-inner-in-Some-clause-noted t c =
-    let n = length c.args.told.now.items in
-    let b = syntax.block c.args.body.now.items in
-    c.in_ok-inner-in-Some.ensures.noted
-    ∙ ap (λ o. c.args.faults.now.found || not (is_there o)) (ap (λ z. judge_block z n b) c.in_ok-begin-in-Some.ensures ∙ ap (λ o. judge_block (opened c.args.scope.now o) n b) (sym c.in-Some.is))
 
 pub body_of-returns-in_ok-inner-in-Some-clause-same : goal.body_of-returns-in_ok-inner-in-Some-clause-same
 body_of-returns-in_ok-inner-in-Some-clause-same t c = c.end.ensures c.args.scope.now c.in-Some.turns (c.in_ok-inner-in-Some.ensures.same ∙ c.in_ok-begin-in-Some.ensures)

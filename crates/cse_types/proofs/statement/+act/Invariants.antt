@@ -10,7 +10,6 @@ use Rattle.cse_types.proofs.statement.+act.Given as goal
 abbrev pub invariant-block-all : goal.invariant-block-all
 invariant-block-all l = record {
   value : so_far l.is_sound (map statement l.found.items) (walk_from (statement_at l.initial.scope) count_at (length l.told.items) (drop l.x-index l.statements.items)) ≡ walk_from (statement_at l.initial.scope) count_at (length l.initial.told.items) l.statements.items;
-  noted : l.faults.found ≡ (l.initial.faults.found || not l.is_sound);
   told : map told_of l.told.items ++ gathered messages_at (drop l.x-index l.statements.items) ≡ map told_of l.initial.told.items ++ gathered messages_at l.statements.items;
   same : l.scope ≡ l.initial.scope;
 }
@@ -18,7 +17,6 @@ invariant-block-all l = record {
 abbrev pub invariant-arms-all : goal.invariant-arms-all
 invariant-arms-all l = record {
   value : so_far l.is_sound (map arm_tree l.found.items) (walk_from (arm_at l.initial.scope) arm_count (length l.told.items) (drop l.x-index l.others.items)) ≡ walk_from (arm_at l.initial.scope) arm_count (length l.initial.told.items) l.others.items;
-  noted : l.faults.found ≡ (l.initial.faults.found || not l.is_sound);
   told : map told_of l.told.items ++ gathered arm_messages (drop l.x-index l.others.items) ≡ map told_of l.initial.told.items ++ gathered arm_messages l.others.items;
   same : l.scope ≡ l.initial.scope;
 }

@@ -14,7 +14,6 @@ all-preserved c =
       value = subst (λ (xs : List Lexeme). all_after step c.global.new.table (drop (c.all.x-index + 1) xs) ≡ all_after step c.args.table.now c.args.names.now.items) whole
           (after_at step c.deref-x-items.result.now c.all.x-index _ c.all.table c.global.new.table _ c.all-test.true
           (subst (λ (xs : List Lexeme). all_after step c.all.table (drop c.all.x-index xs) ≡ all_after step c.args.table.now c.args.names.now.items) (sym whole) c.all.invariant.value) e.value);
-      noted = λ h. e.noted (c.all.invariant.noted h);
     }
 
 pub returns-clause-value : goal.returns-clause-value

@@ -7,5 +7,4 @@ use Rattle.cse_types.proofs.table.globals.Given as goal
 abbrev pub invariant-all : goal.invariant-all
 invariant-all l = record {
   value : all_after (with_written l.dictionary l.is_text) l.table (drop l.x-index l.names.items) ≡ all_after (with_written l.dictionary l.is_text) l.initial.table l.names.items;
-  noted : l.initial.faults.found ≡ not l.initial.table.is_sound → l.faults.found ≡ not l.table.is_sound;
 }

@@ -17,7 +17,6 @@ all-preserved c =
     let e = c.in_ok-declaration.ensures in
     record {
       value = after_turn (with_parsed c.args.dictionary.now) items c.all.x-index x lt is c.all.table c.declaration.new.table _ c.all.invariant.value e.value;
-      noted = λ h. e.noted (c.all.invariant.noted h);
     }
 
 pub returns-clause-value : goal.returns-clause-value
@@ -25,9 +24,3 @@ returns-clause-value c =
     let items = c.args.all.now.items in
     let le : length items ≤ c.all.x-index = subst (λ (xs : List Declaration). length xs ≤ c.all.x-index) c.deref-x-items.ensures.value c.all-test.false in
     after_end (with_parsed c.args.dictionary.now) items c.all.x-index le c.all.table _ c.all.invariant.value ∙ parsed_after c.args.dictionary.now no_table items
-
-pub returns-clause-noted : goal.returns-clause-noted
-returns-clause-noted c = λ h.
-    let items = c.args.all.now.items in
-    let le : length items ≤ c.all.x-index = subst (λ (xs : List Declaration). length xs ≤ c.all.x-index) c.deref-x-items.ensures.value c.all-test.false in
-    c.all.invariant.noted h ∙ ap (λ (t : Table). not t.is_sound) (after_end (with_parsed c.args.dictionary.now) items c.all.x-index le c.all.table _ c.all.invariant.value ∙ parsed_after c.args.dictionary.now no_table items)

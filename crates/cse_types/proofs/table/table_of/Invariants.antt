@@ -8,5 +8,4 @@ use Rattle.cse_types.proofs.table.table_of.Given as goal
 abbrev pub invariant-all : goal.invariant-all
 invariant-all l = record {
   value : all_after (with_parsed l.dictionary) l.table (drop l.x-index l.all.items) ≡ all_after (with_parsed l.dictionary) no_table l.all.items;
-  noted : l.initial.faults.found ≡ not true → l.faults.found ≡ not l.table.is_sound;
 }
