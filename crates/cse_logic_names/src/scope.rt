@@ -38,26 +38,6 @@ impl Model for Facts {
     ghost view = { λ f. record { parameters = f.parameters; needs_case = f.needs_case; assigned = f.assigned } };
 }
 
-/// How many parameters each function is declared with, and how many dimensions each array, sound or not. They tell no
-/// more than which fault is the least.
-#[derive(Drop)]
-pub struct Counts {
-    /// Of each function.
-    pub parameters: Vec<usize>,
-    /// Of each array.
-    pub dimensions: Vec<usize>,
-}
-
-impl Counts {
-    /// No function and no array.
-    pub fn new(alloc: Global) -> Counts {
-        Counts {
-            parameters: Vec::new(alloc),
-            dimensions: Vec::new(alloc),
-        }
-    }
-}
-
 /// What is known at a place of logic.
 #[derive(Drop)]
 pub struct Scope<'a> {
@@ -67,8 +47,6 @@ pub struct Scope<'a> {
     pub messages: &'a Messages,
     /// The names of all declarations.
     pub declared: Names,
-    /// What the source declares of functions and arrays.
-    pub counts: Counts,
     /// The dimensions of each array, if they are sound.
     pub arrays: Vec<Option<Vec<Dimension<'a>>>>,
     /// Each function that has ended, if it is sound.

@@ -64,3 +64,8 @@ parts_judged s x =
 -- the parts as a tree, with the messages of the source
 abbrev pub with_entries : List MessageText → List (syntax.Message × Bool) → Option (List Declaration) × List Procedure → Tree
 with_entries messages said parts = record { globals = parts.0; procedures = parts.1; messages = map (entry_of messages) said }
+
+-- the typed tree of a source whose declarations have these names, if its parts are sound
+abbrev pub tree_over : DictionaryText → List MessageText → List (List ℕ × Meaning) → syntax.Tree → Option Tree
+tree_over d messages names x =
+    option_map (with_entries messages (tree_messages x)) (parts_judged (start_of d messages names (all_declarations x.globals)) x)

@@ -51,7 +51,7 @@ fn fitting(most: u16, size: u64) -> Option<u16>
     }
 }
 
-/// The rows of a set, with one more where `(+)` stands; else the fault 49.
+/// The rows of a set, with one more where `(+)` stands.
 fn set_rows(scope: &Scope<'_>, set: u16, one_more: bool) -> Option<u16>
     ensures { result ≡ spec.set_rows scope.now set one_more }
 {

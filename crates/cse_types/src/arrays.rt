@@ -12,7 +12,7 @@ use cse_logic_tree::Dimension;
 use cse_syntax::{Array, Declaration};
 use std::alloc::{AllocError, Global};
 
-/// The dimensions of an array. Their faults are told where it is judged as a whole.
+/// The dimensions of an array.
 fn dimensions_alone<'a>(
     alloc: Global,
     scope: &Scope<'_>,
@@ -20,8 +20,7 @@ fn dimensions_alone<'a>(
 ) -> Result<Option<Vec<Dimension<'a>>>, AllocError>
     ensures { IfOk result (λ r. option_map (λ v. map typed.dimension v.items) r ≡ spec.dimensions_judged scope.now (map syntax.dimension x.now.dimensions.items)) }
 {
-    let mut told_elsewhere = Faults { found: false };
-    dimensions(alloc, scope, &mut told_elsewhere, &x.dimensions)
+    dimensions(alloc, scope, &x.dimensions)
 }
 
 /// Those of a declaration, if it is an array.

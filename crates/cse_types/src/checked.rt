@@ -1,6 +1,6 @@
 //! Sources that are checked: each name stands beside what it names, and each rule of 40 to 49 is kept.
 
-ghost use Rattle.std.specs.Prelude.{◌≡◌, ◌≤◌, ◌⊎◌, not, false, IfOk, IfErr};
+ghost use Rattle.std.specs.Prelude.{◌≡◌, ◌≤◌, ◌⊎◌, false, IfOk, IfErr};
 ghost use Rattle.std.specs.Option.{option_map};
 ghost use Rattle.cse_syntax_tree.specs.Tree as syntax;
 ghost use Rattle.cse_syntax_tree.specs.Grammar.{spell_tree};
@@ -23,7 +23,7 @@ use crate::typed::Typed;
 use cse_dict::Dictionary;
 use cse_logic_faults::least;
 use cse_logic_names::error::TypeError;
-use cse_logic_names::faults::{Fault, Faults};
+use cse_logic_names::faults::Fault;
 use cse_logic_names::messages::Messages;
 use cse_logic_names::order::Order;
 use cse_logic_tree::Tree;
@@ -95,33 +95,28 @@ fn made_for<'a>(
     }
 }
 
-/// The answer, where a fault was noted, or there is none and the tree was found.
+/// The answer, where this tree was found, or none.
 fn answer<'a>(
     alloc: Global,
     dictionary: &'a Dictionary,
     source: &Source<'a>,
     messages: &'a Messages,
     order: &'a Order,
-    is_faulty: bool,
     found: Option<Tree<'a>>,
 ) -> Result<Typed<'a>, TypeError>
     requires order { IsOrderOf dictionary.now order.now }
-    requires noted { is_faulty ≡ not (is_there (typed_of dictionary.now messages.now (syntax.tree source.now.tree))) }
     requires utf8 { ∥ AreUtf8 (spell_tree (syntax.tree source.now.tree)) ∥₁ }
     requires texts { AreTexts messages.now }
-    requires found { is_faulty ≡ false → option_map typed.tree found ≡ typed_of dictionary.now messages.now (syntax.tree source.now.tree) }
+    requires found { option_map typed.tree found ≡ typed_of dictionary.now messages.now (syntax.tree source.now.tree) }
     ensures sound { IfOk result (λ t. IsTypedAs dictionary.now messages.now (syntax.tree source.now.tree) (checked t).tree) }
     ensures made_for { IfOk result (λ t. ((checked t).dictionary ≡ dictionary.now) × ((checked t).messages ≡ messages.now) × ((checked t).order ≡ order.now)) }
     ensures only { (t : typed.Tree) → IsTypedAs dictionary.now messages.now (syntax.tree source.now.tree) t → IsAnswer result t }
     ensures cause { IfErr result (λ e. ((40 ≤ e.number) × (e.number ≤ 49)) ⊎ (e ≡ out_of_memory)) }
     ensures fault { IfErr result (IsLeast dictionary.now messages.now (syntax.tree source.now.tree) source.now.text.now source.now.tokens.items) }
 {
-    if is_faulty {
-        return Err(told(alloc, dictionary, source, messages));
-    }
     match found {
+        None => Err(told(alloc, dictionary, source, messages)),
         Some(tree) => Ok(made_for(dictionary, messages, order, tree)),
-        None => unreachable!(),
     }
 }
 
@@ -148,17 +143,8 @@ pub fn check<'a>(
 {
     read_tokens(&source.tokens);
     messages.count();
-    let mut noted = Faults { found: false };
-    match judged(alloc, dictionary, messages, &mut noted, &source.tree) {
+    match judged(alloc, dictionary, messages, &source.tree) {
         Err(_) => Err(memory()),
-        Ok(found) => answer(
-            alloc,
-            dictionary,
-            source,
-            messages,
-            order,
-            noted.found,
-            found,
-        ),
+        Ok(found) => answer(alloc, dictionary, source, messages, order, found),
     }
 }

@@ -16,7 +16,7 @@ use crate::told::Told;
 use cse_dict::Dictionary;
 use cse_logic_faults::counts::Counts;
 use cse_logic_faults::found::Found;
-use cse_logic_names::faults::{Fault, Faults};
+use cse_logic_names::faults::Fault;
 use cse_logic_names::messages::Messages;
 use cse_logic_names::scope::Scope;
 use cse_syntax::{Declaration, Tree};
@@ -104,8 +104,7 @@ fn known<'a>(
 ) -> Result<Scope<'a>, AllocError>
     ensures { IfOk result (λ s. s ≡ spec.first_known dictionary.now messages.now (well.all_declarations (syntax.tree tree.now).globals)) }
 {
-    let mut told_elsewhere = Faults { found: false };
-    let table = declared_names(alloc, dictionary, &mut told_elsewhere, tree)?;
+    let table = declared_names(alloc, dictionary, tree)?;
     start(alloc, dictionary, messages, table.names, tree)
 }
 

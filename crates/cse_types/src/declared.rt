@@ -159,8 +159,7 @@ fn function_body(
     ensures found { OnOk result (found.new ≡ found.old ++ stmts_faults counts.now (spec.parameters_scope scope.old (map syntax.parameter all.now.items)) (syntax.block body.now.items)) }
     ensures same { OnOk result (scope.new ≡ scope.old) }
 {
-    let mut told_elsewhere = Faults { found: false };
-    let fresh = parameters(alloc, scope, &mut told_elsewhere, all)?;
+    let fresh = parameters(alloc, scope, all)?;
     body_in(scope, counts, found, fresh.names, body)
 }
 
@@ -197,8 +196,7 @@ fn behind<'a>(
     ensures behind { OnOk result (scope.new ≡ judge.behind scope.old (length told.old.items) (syntax.declaration x.now)) }
     ensures told { OnOk result (map told_of told.new.items ≡ map told_of told.old.items ++ judge.messages_with (syntax.declaration x.now)) }
 {
-    let mut told_elsewhere = Faults { found: false };
-    let _judged = declaration(alloc, scope, &mut told_elsewhere, told, x)?;
+    let _judged = declaration(alloc, scope, told, x)?;
     Ok(())
 }
 

@@ -32,7 +32,7 @@ impl Fresh {
         }
     }
 
-    /// One name more, if it passes and isn't there; else the fault 40.
+    /// One name more, if it passes and isn't there.
     pub fn add(&mut self, name: Vec<u8>, passes: bool) -> Result<(), AllocError>
         ensures { OnOk result (self.new ≡ with_fresh (λ x. passes) self.old name.items) }
     {

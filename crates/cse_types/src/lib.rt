@@ -7,7 +7,6 @@
 //! - `function`, `declaration`, `procedure`: functions, declarations and procedures, one after the other.
 //! - `new_names`, `declared`, `owned`, `collected`: all faults of a source that is refused.
 //! - `entries`: the messages of a source with their numbers and texts.
-//! - `counts`: how many parameters and dimensions are declared.
 //! - `reading`: what the types of tokens hold.
 //! - `parts`, `checked`, `typed`: a whole source, from its names to the typed tree.
 //! - `laws`: laws of the definitions.
@@ -17,7 +16,6 @@ mod array;
 mod arrays;
 mod checked;
 mod collected;
-mod counts;
 mod declaration;
 mod declared;
 mod entries;

@@ -5,7 +5,8 @@ ghost use Rattle.std.specs.Option.{option_map};
 ghost use Rattle.cse_syntax_tree.specs.Tree as syntax;
 ghost use Rattle.cse_logic_tree.specs.Typed as typed;
 ghost use Rattle.cse_types.specs.Checked as spec;
-ghost use Rattle.cse_types.specs.Checked.{parts_judged, with_entries};
+ghost use Rattle.cse_types.specs.Checked.{parts_judged, tree_over, with_entries};
+ghost use Rattle.cse_types.specs.Fresh.{fresh_names};
 ghost use Rattle.cse_types.specs.Entries.{are_said};
 ghost use Rattle.cse_types.specs.JudgeTree as judge;
 ghost use Rattle.cse_types.specs.Parts.{parts_tree};
@@ -15,7 +16,6 @@ ghost use Rattle.cse_logic_names.specs.WellTyped.{all_declarations, declared_mes
 ghost use Rattle.cse_logic_names.specs.Walk.{is_there, joined};
 
 use crate::arrays::arrays;
-use crate::counts::counts_of;
 use crate::declaration::declarations;
 use crate::entries::entries;
 use crate::owners::owners;
@@ -23,10 +23,11 @@ use crate::procedure::procedures;
 use crate::table::{Table, table_of};
 use crate::told::Told;
 use cse_dict::Dictionary;
+use cse_logic_expressions::list::both_hold;
 use cse_logic_names::meaning::Routine;
 use cse_logic_names::messages::Messages;
 use cse_logic_names::names::{Names, Parameters};
-use cse_logic_names::scope::{Counts, Scope};
+use cse_logic_names::scope::Scope;
 use cse_logic_tree::{Declaration, Dimension, Owner, Procedure, Tree};
 use cse_syntax::{Procedure as ParsedProcedure, Tree as Parsed};
 use std::alloc::{AllocError, Global};
@@ -44,7 +45,6 @@ pub fn declared_names(
     dictionary: &Dictionary,
     tree: &Parsed<'_>,
 ) -> Result<Table, AllocError>
-    requires { faults.old.found ≡ false }
     ensures { IfOk result (λ t. t ≡ tables.table_of dictionary.now (all_declarations (syntax.tree tree.now).globals)) }
 {
     match &tree.globals {
@@ -59,7 +59,6 @@ fn first_scope<'a>(
     dictionary: &'a Dictionary,
     messages: &'a Messages,
     declared: Names,
-    counts: Counts,
 ) -> Scope<'a>
     ensures { result ≡ spec.names_of dictionary.now messages.now declared }
 {
@@ -67,7 +66,6 @@ fn first_scope<'a>(
         dictionary,
         messages,
         declared,
-        counts,
         arrays: Vec::new(alloc),
         functions: Vec::new(alloc),
         parameters: Parameters::new(alloc),
@@ -100,8 +98,7 @@ pub fn start<'a>(
 ) -> Result<Scope<'a>, AllocError>
     ensures { IfOk result (λ s. s ≡ spec.start_of dictionary.now messages.now declared (all_declarations (syntax.tree tree.now).globals)) }
 {
-    let counts = counts_of(alloc, tree)?;
-    let mut scope = first_scope(alloc, dictionary, messages, declared, counts);
+    let mut scope = first_scope(alloc, dictionary, messages, declared);
     scope.arrays = all_arrays(alloc, &scope, tree)?;
     Ok(scope)
 }
@@ -208,22 +205,47 @@ fn tree_of<'a>(
     }
 }
 
-/// The typed tree of a source's tree. Where a fault was noted, it is none that can be told of.
+/// Whether each procedure has a name of its own.
+fn are_apart(alloc: Global, tree: &Parsed<'_>) -> Result<bool, AllocError>
+    ensures { IfOk result (λ b. b ≡ (fresh_names (λ name. true) (judge.owner_names (syntax.tree tree.now).procedures)).is_sound) }
+{
+    let fresh = owners(alloc, procedures_in(tree))?;
+    Ok(fresh.is_sound)
+}
+
+/// The typed tree of a source's tree whose declarations have these names, or none where a part isn't sound.
+fn tree_with<'a>(
+    alloc: Global,
+    dictionary: &'a Dictionary,
+    messages: &'a Messages,
+    names: Names,
+    tree: &Parsed<'a>,
+) -> Result<Option<Tree<'a>>, AllocError>
+    requires { are_said (tree_messages (syntax.tree tree.now)) ≡ true }
+    ensures { IfOk result (λ r. option_map typed.tree r ≡ tree_over dictionary.now messages.now names (syntax.tree tree.now)) }
+{
+    let mut scope = start(alloc, dictionary, messages, names, tree)?;
+    let mut told = Vec::new(alloc);
+    let parts = all_parts(alloc, &mut scope, &mut told, tree)?;
+    tree_of(alloc, messages, &told, parts)
+}
+
+/// The typed tree of a source's tree, or none where a rule is broken.
 pub fn judged<'a>(
     alloc: Global,
     dictionary: &'a Dictionary,
     messages: &'a Messages,
     tree: &Parsed<'a>,
 ) -> Result<Option<Tree<'a>>, AllocError>
-    requires said { are_said (tree_messages (syntax.tree tree.now)) ≡ true }
-    requires first { faults.old.found ≡ false }
-    ensures { IfOk result (λ r. faults.new.found ≡ false → option_map typed.tree r ≡ judge.typed_of dictionary.now messages.now (syntax.tree tree.now)) }
+    requires { are_said (tree_messages (syntax.tree tree.now)) ≡ true }
+    ensures { IfOk result (λ r. option_map typed.tree r ≡ judge.typed_of dictionary.now messages.now (syntax.tree tree.now)) }
 {
     let table = declared_names(alloc, dictionary, tree)?;
-    let all = procedures_in(tree);
-    let _owners = owners(alloc, all)?;
-    let mut scope = start(alloc, dictionary, messages, table.names, tree)?;
-    let mut told = Vec::new(alloc);
-    let parts = all_parts(alloc, &mut scope, &mut told, tree)?;
-    tree_of(alloc, messages, &told, parts)
+    let are_apart = are_apart(alloc, tree)?;
+    let is_sound = both_hold(table.is_sound, are_apart);
+    if is_sound {
+        tree_with(alloc, dictionary, messages, table.names, tree)
+    } else {
+        Ok(None)
+    }
 }

@@ -75,7 +75,7 @@ pub fn meant_by(
     Ok(in_dictionary(dictionary, name.text, &kept))
 }
 
-/// What a procedure belongs to, by its name; else a fault.
+/// What a procedure belongs to, by its name.
 fn owner_named(
     alloc: Global,
     dictionary: &Dictionary,
@@ -84,10 +84,7 @@ fn owner_named(
     ensures { IfOk result (λ r. r ≡ well.owner_meant dictionary.now (scopes.in_dictionary dictionary.now name.entry.text.now)) }
 {
     let meaning = meant_by(alloc, dictionary, name)?;
-    match owner_meant(dictionary, meaning) {
-        None => { Ok(None) }
-        Some(owner) => Ok(Some(owner)),
-    }
+    Ok(owner_meant(dictionary, meaning))
 }
 
 // ---- bodies
@@ -211,7 +208,7 @@ fn procedure<'a>(
 {
     match owner_named(alloc, scope.dictionary, x.name)? {
         None => {
-            // Its statements are counted as messages, and their faults come later than that of its name.
+            // Its messages are counted.
             let _found = body_of(alloc, scope, told, Owner::Level, &x.body)?;
             Ok(None)
         }

@@ -49,7 +49,7 @@ fn next(number: usize) -> Result<usize, AllocError>
     }
 }
 
-/// One name more, if nothing else bears it; else the fault 40.
+/// One name more, if nothing else bears it.
 #[tactic(auto, using(crate::proofs::TableLaws::new_gone))]
 fn declare(
     alloc: Global,
