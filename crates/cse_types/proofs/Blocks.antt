@@ -1,5 +1,5 @@
 -- What statements that hold others are judged to be, and the messages that stand in them.
-use Rattle.std.specs.Prelude.{Bool, true, false, ◌||◌, not}
+use Rattle.std.specs.Prelude.{Bool, false}
 use Rattle.std.proofs.Common.{◌≡◌, ℕ, ◌+◌, List, [], ◌∷◌, ◌++◌, length, map, Option, Some, None, refl, ap, sym, ◌∙◌, arith, option_map, append_assoc, length-append}
 use Rattle.cse_syntax_tree.specs.declared.tree.Statement as rusts
 use Rattle.cse_syntax_tree.specs.declared.tree.Arm as rustarm
@@ -7,13 +7,13 @@ use Rattle.cse_syntax_tree.specs.Tree as syntax
 use Rattle.cse_syntax_tree.specs.Tree.{Spelling, stmt, arm_tree}
 use Rattle.cse_logic_tree.specs.declared.tree.Variable.{Variable}
 use Rattle.cse_logic_tree.specs.Typed as typed
-use Rattle.cse_logic_tree.specs.Typed.{Number, Statement, Statements, Arms, Counting, If, Do, statement_and, statements, arms, arm, no_arm, else_of}
+use Rattle.cse_logic_tree.specs.Typed.{Number, Statement, Statements, Arms, Counting, If, Do, statement_and, statements, arms, no_arm, else_of}
 use Rattle.cse_logic_names.specs.Scope.{Scope}
 use Rattle.cse_logic_names.specs.WellTyped.{messages_in, messages_of, messages_behind, kinds_of}
 use Rattle.cse_logic_expressions.specs.Judge.{as_number, judge}
 use Rattle.cse_logic_expressions.specs.JudgeStatement.{err_msg, if_of, arm_of, judge_statement, judge_block, judge_arms, guarded, judge_arm, judge_each, messages_each, chosen, opened, for_loop, do_loop, for_head, for_of, counting_judged}
-use Rattle.cse_logic_names.specs.Walk.{joined, is_there}
-use Rattle.cse_types.proofs.Counted.{walk_from, gathered, both_noted}
+use Rattle.cse_logic_names.specs.Walk.{joined}
+use Rattle.cse_types.proofs.Counted.{walk_from, gathered}
 
 -- ---- blocks and arms as walks
 
@@ -100,12 +100,6 @@ arms_judged s n (x ∷ xs) last =
     ∙ arm_grouped a b e (judge_arms s (k + length (messages_each xs)) last)
     ∙ ap (λ m. joined arms (joined (λ y ys. y ∷ ys) (joined guarded a b) e) (judge_arms s m last)) more
 
-pub chosen_noted : (first : Option (Number × Statements)) (others : Option (List (Number × Statements))) (last : Option Arms) (before one two three : Bool)
-    → one ≡ (before || not (is_there first)) → two ≡ (one || not (is_there others)) → three ≡ (two || not (is_there last))
-    → three ≡ (before || not (is_there (chosen first others last)))
-chosen_noted first others last before one two three a b c =
-    both_noted (λ (x : Number × Statements) (rest : Arms). If x.0 x.1 rest) first (joined arms others last) before one three a (both_noted arms others last one two three b c)
-
 module _ (s : Scope) (x : syntax.Expr × syntax.Stmts) (xs : List (syntax.Expr × syntax.Stmts)) (last : syntax.Arms) where
   pub choice_judged : (n k m : ℕ) → k ≡ n + length (messages_of x.1) → m ≡ k + length (messages_each xs)
       → chosen (judge_arm s n x) (judge_each s k xs) (judge_arms s m last) ≡ judge_statement s n (syntax.If x.0 x.1 (syntax.arms xs last))
@@ -140,14 +134,6 @@ module _ (s : Scope) (x : syntax.Expr × syntax.Stmts) (xs : List (syntax.Expr �
       ∙ ap (chosen (judge_arm s n x) (judge_each s k xs)) l_is
       ∙ choice_judged n k m k_is m_is
 
-  pub choice_noted : (n k m : ℕ) (s1 : Scope) (before one two three : Bool)
-      → k ≡ n + length (messages_of x.1) → m ≡ k + length (messages_each xs) → s1 ≡ s
-      → one ≡ (before || not (is_there (judge_arm s n x))) → two ≡ (one || not (is_there (judge_each s1 k xs))) → three ≡ (two || not (is_there (judge_arms s m last)))
-      → three ≡ (before || not (is_there (judge_statement s n (syntax.If x.0 x.1 (syntax.arms xs last)))))
-  choice_noted n k m s1 before one two three k_is m_is s_is a b c =
-      chosen_noted (judge_arm s n x) (judge_each s k xs) (judge_arms s m last) before one two three a (b ∙ ap (λ z. one || not (is_there (judge_each z k xs))) s_is) c
-      ∙ ap (λ o. before || not (is_there o)) (choice_judged n k m k_is m_is)
-
 -- a message
 pub message_judged : (s : Scope) (n k : ℕ) (message : syntax.Message) (values : syntax.Exprs) (summary : Bool) → k ≡ n → err_msg s (kinds_of s.messages message) message k summary values ≡ judge_statement s n (syntax.ErrMsg message values summary)
 unfolding judge_statement
@@ -174,21 +160,9 @@ module _ (s : Scope) (n : ℕ) (variable record_name : Spelling) (body : syntax.
       ap (joined (for_of variable record_name) h) inner_is
       ∙ ap (λ o. joined (for_of variable record_name) o (judge_block (opened s (option_map for_loop o)) n body)) h_is
 
-  pub for_noted : (before mid final : Bool) → mid ≡ (before || not (is_there (for_head s variable record_name))) → final ≡ (mid || not (is_there (judge_block (opened s l) n body)))
-      → final ≡ (before || not (is_there (judge_statement s n (syntax.For variable record_name body))))
-  for_noted before mid final a b =
-      both_noted (for_of variable record_name) h (judge_block (opened s l) n body) before mid final (a ∙ ap (λ o. before || not (is_there o)) (sym h_is)) b
-      ∙ ap (λ o. before || not (is_there o)) for_judged
-
 module _ (s : Scope) (n : ℕ) (x : syntax.Counting) (body : syntax.Stmts) (h : Option Counting) (l : Option (Option ℕ × Variable)) (h_is : h ≡ counting_judged s x) (l_is : l ≡ option_map do_loop h) where
   pub do_judged : joined Do h (judge_block (opened s l) n body) ≡ judge_statement s n (syntax.Do x body)
   unfolding judge_statement
   do_judged =
       ap (λ o. joined Do h (judge_block (opened s o) n body)) l_is
       ∙ ap (λ o. joined Do o (judge_block (opened s (option_map do_loop o)) n body)) h_is
-
-  pub do_noted : (before mid final : Bool) → mid ≡ (before || not (is_there (counting_judged s x))) → final ≡ (mid || not (is_there (judge_block (opened s l) n body)))
-      → final ≡ (before || not (is_there (judge_statement s n (syntax.Do x body))))
-  do_noted before mid final a b =
-      both_noted Do h (judge_block (opened s l) n body) before mid final (a ∙ ap (λ o. before || not (is_there o)) (sym h_is)) b
-      ∙ ap (λ o. before || not (is_there o)) do_judged

@@ -1,16 +1,14 @@
 -- A source's tree, from its names to the typed one: what the checker's steps tell together.
-use Rattle.std.proofs.Common.{◌≡◌, ℕ, Bool, true, false, List, [], ◌∷◌, length, map, Option, Some, None, refl, sym, ap, ◌∙◌, subst, option_map}
-use Rattle.std.specs.Prelude.{◌&&◌, ◌||◌, not}
+use Rattle.std.proofs.Common.{◌≡◌, ℕ, Bool, true, false, List, [], length, map, Option, Some, None, refl, sym, ap, ◌∙◌, subst, option_map}
+use Rattle.std.specs.Prelude.{◌&&◌, not}
 use Rattle.std.proofs.lemmas.List.{length-map}
-use Rattle.std.proofs.lemmas.Bool.{false≢true}
+use Rattle.std.proofs.lemmas.Bool.{and_parts, false≢true}
 use Rattle.std.proofs.Math.Logic.{∥∥₁_map}
 use Rattle.cse_dict.specs.Dictionary.{DictionaryText}
 use Rattle.cse_syntax_tree.specs.Word.{Word}
 use Rattle.cse_syntax_tree.specs.Grammar.{IsSource, spell_tree}
 use Rattle.cse_syntax_tree.specs.Tree as syntax
 use Rattle.cse_logic_tree.specs.Typed.{Declaration, Procedure, Tree}
-use Rattle.cse_logic_tree.specs.Erase.{erase_tree}
-use Rattle.cse_logic_names.specs.declared.error.TypeError.{TypeError}
 use Rattle.cse_logic_names.specs.MessageFile.{MessageText}
 use Rattle.cse_logic_names.specs.WellTyped.{all_declarations, declared_in, tree_messages, declared_messages, IsTypedAs}
 use Rattle.cse_types.specs.JudgeTree.{typed_of, tree_of, are_new, is_free, names_of, owner_names, start_scope, globals_judged, procedures_judged, behind_all}
@@ -19,34 +17,16 @@ use Rattle.cse_types.specs.declared.told.Told.{Told}
 use Rattle.cse_types.specs.Told.{told_of}
 use Rattle.cse_logic_names.specs.Scope.{Scope}
 use Rattle.cse_types.specs.Table.{table_of}
+use Rattle.cse_types.specs.declared.table.Table.{Table}
 use Rattle.cse_logic_names.specs.OrderFile.{IsOrderOf}
 use Rattle.cse_logic_names.specs.Texts.{AreTexts, AreUtf8}
-use Rattle.cse_types.specs.Checked.{Checked, IsChecked, start_of, parts_of, parts_judged, with_entries}
+use Rattle.cse_types.specs.Checked.{IsChecked, start_of, parts_of, parts_judged, tree_over, with_entries}
 use Rattle.cse_logic_names.specs.Walk.{is_there, joined, only_if}
 use Rattle.cse_logic_expressions.proofs.Right.{For}
 use Rattle.cse_types.proofs.FreshLaws.{fresh_sound}
 use Rattle.cse_types.proofs.TableLaws.{table_sound, table_names}
 use Rattle.cse_types.proofs.TreeRight.{tree_right}
 use Rattle.cse_types.proofs.TreeComplete.{tree_complete}
-use Rattle.cse_types.proofs.Counted.{both_noted}
-use Rattle.cse_logic_names.proofs.Walks.{there_map}
-
-module _ {A B : Type 0} (g : A → B) (a b : Bool) (p q : Option A) (same : a ≡ true → p ≡ q) where
-  found_noted : ((not a || not b) || not (is_there p)) ≡ not (is_there (only_if (a && b) (option_map g q)))
-  found_noted = by a b same
-    where
-      by : (a b : Bool) → (a ≡ true → p ≡ q) → ((not a || not b) || not (is_there p)) ≡ not (is_there (only_if (a && b) (option_map g q)))
-      by true true h = ap (λ o. not (is_there o)) (h refl) ∙ ap not (sym (there_map g q))
-      by true false h = refl
-      by false b h = refl
-
-  found_value : ((not a || not b) || not (is_there p)) ≡ false → option_map g p ≡ only_if (a && b) (option_map g q)
-  found_value = by a b same
-    where
-      by : (a b : Bool) → (a ≡ true → p ≡ q) → ((not a || not b) || not (is_there p)) ≡ false → option_map g p ≡ only_if (a && b) (option_map g q)
-      by true true h k = ap (option_map g) (h refl)
-      by true false h k = absurd (false≢true (sym k))
-      by false b h k = absurd (false≢true (sym k))
 
 module _ (d : DictionaryText) (messages : List MessageText) (x : syntax.Tree) where
   abbrev ds : List syntax.Declaration
@@ -71,26 +51,26 @@ module _ (d : DictionaryText) (messages : List MessageText) (x : syntax.Tree) wh
   same_parts : new_names ≡ true → parts_judged (start_of d messages (table_of d ds).names ds) x ≡ parts_judged (start_scope d messages x) x
   same_parts h = ap (λ names. parts_judged (start_of d messages names ds) x) (table_names d ds (table_sound d ds ∙ h))
 
-  flags : (after_names after_owners last : Bool) → after_names ≡ not (table_of d ds).is_sound → after_owners ≡ (after_names || not (fresh_names (λ name. true) (owner_names x.procedures)).is_sound)
-      → last ≡ (after_owners || not (is_there (parts_judged (start_of d messages (table_of d ds).names ds) x)))
-      → last ≡ ((not new_names || not new_owners) || not (is_there (parts_judged (start_of d messages (table_of d ds).names ds) x)))
-  flags after_names after_owners last h k l =
-      l ∙ ap (λ o. o || not (is_there (parts_judged (start_of d messages (table_of d ds).names ds) x)))
-      (k ∙ ap (λ n. n || not (fresh_names (λ name. true) (owner_names x.procedures)).is_sound) (h ∙ ap not (table_sound d ds)) ∙ ap (λ o. not new_names || not o) (fresh_sound (λ name. true) (owner_names x.procedures)))
+  abbrev AreApart : Bool → Type 0
+  AreApart apart = apart ≡ (fresh_names (λ name. true) (owner_names x.procedures)).is_sound
 
-  pub judged_noted : (after_names after_owners last : Bool) → after_names ≡ not (table_of d ds).is_sound → after_owners ≡ (after_names || not (fresh_names (λ name. true) (owner_names x.procedures)).is_sound)
-      → last ≡ (after_owners || not (is_there (parts_judged (start_of d messages (table_of d ds).names ds) x))) → last ≡ not (is_there (typed_of d messages x))
-  judged_noted after_names after_owners last h k l =
-      flags after_names after_owners last h k l
-      ∙ found_noted (with_entries messages (tree_messages x)) new_names new_owners (parts_judged (start_of d messages (table_of d ds).names ds) x) (parts_judged (start_scope d messages x) x) same_parts
-      ∙ ap (λ o. not (is_there o)) (sym typed_is)
+  same_flags : (t : Table) (apart both : Bool) → t ≡ table_of d ds → AreApart apart → both ≡ (t.is_sound && apart) → both ≡ (new_names && new_owners)
+  same_flags t apart both e f g =
+      g ∙ ap (λ (z : Table). z.is_sound && apart) e ∙ ap (λ b. b && apart) (table_sound d ds)
+      ∙ ap (λ b. new_names && b) (f ∙ fresh_sound (λ name. true) (owner_names x.procedures))
 
-  pub judged_value : (after_names after_owners last : Bool) → after_names ≡ not (table_of d ds).is_sound → after_owners ≡ (after_names || not (fresh_names (λ name. true) (owner_names x.procedures)).is_sound)
-      → last ≡ (after_owners || not (is_there (parts_judged (start_of d messages (table_of d ds).names ds) x))) → last ≡ false
-      → option_map (with_entries messages (tree_messages x)) (parts_judged (start_of d messages (table_of d ds).names ds) x) ≡ typed_of d messages x
-  judged_value after_names after_owners last h k l e =
-      found_value (with_entries messages (tree_messages x)) new_names new_owners (parts_judged (start_of d messages (table_of d ds).names ds) x) (parts_judged (start_scope d messages x) x) same_parts
-      (sym (flags after_names after_owners last h k l) ∙ e)
+  -- the tree over the names that the table has, where each is new and each procedure has its own
+  pub sound_value : (t : Table) (apart both : Bool) → t ≡ table_of d ds → AreApart apart → both ≡ (t.is_sound && apart) → both ≡ true → tree_over d messages t.names x ≡ typed_of d messages x
+  sound_value t apart both e f g h =
+      let all = sym (same_flags t apart both e f g) ∙ h in
+      ap (option_map (with_entries messages (tree_messages x))) (ap (λ (z : Table). parts_judged (start_of d messages z.names ds) x) e ∙ same_parts (and_parts new_names new_owners all).0)
+      ∙ ap (λ b. only_if b (option_map (with_entries messages (tree_messages x)) (parts_judged (start_scope d messages x) x))) (sym all)
+      ∙ sym typed_is
+
+  -- no tree, where a name is not new
+  pub unsound_value : (t : Table) (apart both : Bool) → t ≡ table_of d ds → AreApart apart → both ≡ (t.is_sound && apart) → both ≡ false → None ≡ typed_of d messages x
+  unsound_value t apart both e f g h =
+      ap (λ b. only_if b (option_map (with_entries messages (tree_messages x)) (parts_judged (start_scope d messages x) x))) (sym (sym (same_flags t apart both e f g) ∙ h))
       ∙ sym typed_is
 
 -- the words of a tree of a source are those that it spells
@@ -109,11 +89,6 @@ module _ (s mid : Scope) (x : syntax.Tree) (ts : List Told) (behind : mid ≡ be
   pub parts_value : (g : Option (Option (List Declaration))) (ps : Option (List Procedure)) → g ≡ globals_judged s x.globals → ps ≡ procedures_judged mid (length ts) x.procedures → joined parts_of g ps ≡ parts_judged s x
   parts_value g ps h k = ap (λ z. joined parts_of z ps) h ∙ ap (joined parts_of (globals_judged s x.globals)) (k ∙ same_procedures)
 
-  pub parts_noted : (first between last : Bool) → between ≡ (first || not (is_there (globals_judged s x.globals))) → last ≡ (between || not (is_there (procedures_judged mid (length ts) x.procedures))) → last ≡ (first || not (is_there (parts_judged s x)))
-  parts_noted first between last h k =
-      both_noted parts_of (globals_judged s x.globals) (procedures_judged (behind_all s 0 (all_declarations x.globals)) (length (declared_messages (all_declarations x.globals))) x.procedures) first between last h
-      (k ∙ ap (λ o. between || not (is_there o)) same_procedures)
-
 -- ---- the answer
 
 -- a tree that was found and one that is right are the same
@@ -124,13 +99,9 @@ same_tree t u o h k = ap (or_this t) (h ∙ k)
     or_this z None = z
     or_this z (Some y) = y
 
--- no fault, and no tree
-pub no_tree : (w : Bool) (o : Option Tree) → w ≡ false → w ≡ not (is_there o) → None ≡ o → ⊥
-no_tree w o h k e = false≢true (sym h ∙ k ∙ ap (λ z. not (is_there z)) (sym e))
-
--- a fault, and a tree that is right
-pub no_fault : (w : Bool) (o : Option Tree) (t : Tree) → w ≡ true → w ≡ not (is_there o) → o ≡ Some t → ⊥
-no_fault w o t h k e = false≢true (sym (ap (λ z. not (is_there z)) e) ∙ sym k ∙ h)
+-- no tree, and one that is right
+pub no_tree : (o : Option Tree) (t : Tree) → o ≡ None → o ≡ Some t → ⊥
+no_tree o t h k = false≢true (ap is_there (sym h ∙ k))
 
 pub checked_so : (d : DictionaryText) (messages : List MessageText) (order : List ℕ) (x : syntax.Tree) (ws : List Word) (t : Tree) → IsTypedAs d messages x t → ∥ IsSource 64 x ws ∥₁ → IsOrderOf d order
     → ∥ AreUtf8 (spell_tree x) ∥₁ → AreTexts messages

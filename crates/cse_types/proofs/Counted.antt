@@ -1,10 +1,9 @@
 -- Lists that are judged from the left, where each member gives so many messages, and the next is judged behind them.
-use Rattle.std.specs.Prelude.{Bool, true, false, ◌&&◌, ◌||◌, not}
-use Rattle.std.proofs.Common.{◌≡◌, ℕ, ◌+◌, ◌<◌, ◌≤◌, get_or, drop, List, [], ◌∷◌, ◌++◌, length, map, Option, Some, None, refl, ap, sym, ◌∙◌, arith, option_map, append_assoc, length-append}
+use Rattle.std.specs.Prelude.{Bool, true, false, ◌&&◌}
+use Rattle.std.proofs.Common.{◌≡◌, ℕ, ◌+◌, ◌<◌, ◌≤◌, get_or, drop, List, [], ◌∷◌, ◌++◌, length, map, Option, Some, None, ap, sym, ◌∙◌, option_map, append_assoc, length-append}
 use Rattle.std.proofs.lemmas.List.{length-map, append-nil, drop_all}
 use Rattle.cse_lemmas.proofs.Lists.{drop_read}
 use Rattle.cse_types.specs.declared.told.Told.{Told}
-use Rattle.cse_types.specs.Told.{told_of}
 use Rattle.cse_logic_names.specs.Walk.{so_far, found_more, joined, is_there}
 use Rattle.cse_logic_names.proofs.Walks.{map_found, there_map, turn_is, end_is}
 
@@ -50,13 +49,3 @@ told_end h items i old all le inv = sym (append-nil old) ∙ ap (λ zs. old ++ g
 pub told_count : {M : Type 0} (f : Told → M) (new old : List Told) (ms : List M) → map f new ≡ map f old ++ ms → length new ≡ length old + length ms
 told_count f new old ms e =
     sym (length-map new f) ∙ ap length e ∙ length-append (map f old) ms ∙ ap (λ n. n + length ms) (length-map old f)
-
--- two parts, of which each was noted
-pub both_noted : {A B C : Type 0} (g : A → B → C) (a : Option A) (b : Option B) (first mid last : Bool) → mid ≡ (first || not (is_there a)) → last ≡ (mid || not (is_there b)) → last ≡ (first || not (is_there (joined g a b)))
-both_noted {A = A} {B = B} g a b first mid last h k = k ∙ ap (λ m. m || not (is_there b)) h ∙ by a b first
-  where
-    by : (a : Option A) (b : Option B) (first : Bool) → ((first || not (is_there a)) || not (is_there b)) ≡ (first || not (is_there (joined g a b)))
-    by a b true = refl
-    by None b false = refl
-    by (Some x) None false = refl
-    by (Some x) (Some y) false = refl

@@ -1,25 +1,21 @@
 -- Names that are taken one after the other: whether all were new, and that they are the names then.
-use Rattle.std.proofs.Common.{◌≡◌, ℕ, ◌+◌, ◌<◌, ◌≤◌, Bool, true, false, List, [], ◌∷◌, ◌++◌, length, map, drop, get_or, Option, Some, None, refl, sym, ap, ◌∙◌, append_assoc, arith, suc, drop-cons}
-use Rattle.std.specs.Prelude.{◌&&◌, ◌||◌, not, if◌then◌else◌, nat_le, option_map}
-use Rattle.std.specs.List.{list_any}
-use Rattle.std.specs.Str.{bytes_eq}
+use Rattle.std.proofs.Common.{◌≡◌, ℕ, ◌+◌, ◌<◌, ◌≤◌, Bool, true, false, List, [], ◌∷◌, ◌++◌, length, map, drop, get_or, refl, sym, ap, ◌∙◌, append_assoc, arith, suc, drop-cons}
+use Rattle.std.specs.Prelude.{◌&&◌, if◌then◌else◌}
 use Rattle.std.specs.Char.{to_ascii_uppercase}
 use Rattle.std.proofs.lemmas.Bool.{false≢true}
 use Rattle.std.proofs.lemmas.List.{length-map, append-nil, drop_all}
 use Rattle.std.proofs.lemmas.Str.Ascii.{uppercase-uppercase}
-use Rattle.cse_lemmas.proofs.Booleans.{and-false, and-true, or-false, or-true}
+use Rattle.cse_lemmas.proofs.Booleans.{and-false, and-true}
 use Rattle.cse_lemmas.proofs.Lists.{drop_read}
 use Rattle.cse_dict.specs.Dictionary.{DictionaryText}
 use Rattle.cse_dict.specs.Keys.{kept_name}
 use Rattle.cse_syntax_tree.specs.Tree as syntax
-use Rattle.cse_syntax_tree.specs.Tree.{Spelling}
 use Rattle.cse_syntax_tree.specs.declared.tree.Parameter.{Parameter}
 use Rattle.cse_logic_names.specs.WellTyped.{parameter_names}
 use Rattle.cse_types.specs.declared.fresh.Fresh.{Fresh}
-use Rattle.cse_logic_names.specs.Scope.{Scope, in_dictionary}
+use Rattle.cse_logic_names.specs.Scope.{in_dictionary}
 use Rattle.cse_types.specs.Fresh.{all_after, is_fresh, with_fresh, fresh_names}
 use Rattle.cse_types.specs.JudgeTree.{are_new}
-use Rattle.cse_logic_names.specs.Walk.{is_there}
 
 kept_twice : (xs : List ℕ) → kept_name (kept_name xs) ≡ kept_name xs
 kept_twice [] = refl
@@ -89,18 +85,6 @@ with_parameter test s x = with_fresh test s (kept_name x.name.text.now)
 pub parameters_after : (test : List ℕ → Bool) (s : Fresh) (xs : List Parameter) → all_after (with_parameter test) s xs ≡ all_after (with_fresh test) s (parameter_names (map syntax.parameter xs))
 parameters_after test s [] = refl
 parameters_after test s (x ∷ xs) = parameters_after test (with_parameter test s x) xs
-
--- a fault was noted unless all were new so far, after one more
-pub fresh_noted : (test : List ℕ → Bool) (s s' : Fresh) (x : List ℕ) (first old new : Bool) → s' ≡ with_fresh test s x → old ≡ (first || not s.is_sound) → new ≡ (old || not (is_fresh test s.names x)) → new ≡ (first || not s'.is_sound)
-fresh_noted test s s' x first old new e inv h = by (is_fresh test s.names x) refl
-  where
-    by : (b : Bool) → is_fresh test s.names x ≡ b → new ≡ (first || not s'.is_sound)
-    by true k =
-        let same : s'.is_sound ≡ s.is_sound = ap (λ (z : Fresh). z.is_sound) e ∙ rw k refl in
-        h ∙ ap (λ b. old || not b) k ∙ or-false old ∙ inv ∙ ap (λ b. first || not b) (sym same)
-    by false k =
-        let same : s'.is_sound ≡ false = ap (λ (z : Fresh). z.is_sound) e ∙ rw k refl in
-        h ∙ ap (λ b. old || not b) k ∙ or-true old ∙ sym (or-true first) ∙ ap (λ b. first || not b) (sym same)
 
 pub parameter_turn : (test : List ℕ → Bool) (items : List Parameter) (i : ℕ) (x : Parameter) (s s' total : Fresh) → i < length items → x ≡ get_or items i x → all_after (with_parameter test) s (drop i items) ≡ total → s' ≡ with_fresh test s (kept_name x.name.text.now)
     → all_after (with_parameter test) s' (drop (i + 1) items) ≡ total

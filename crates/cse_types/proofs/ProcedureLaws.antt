@@ -1,19 +1,16 @@
 -- Procedures that are judged one after the other: what a loop over them keeps.
-use Rattle.std.proofs.Common.{◌≡◌, ℕ, ◌+◌, ◌<◌, List, [], ◌∷◌, ◌++◌, length, map, drop, get_or, Option, None, refl, sym, ap, ◌∙◌, append_assoc, option_map}
-use Rattle.std.specs.Prelude.{Bool, true, false, ◌||◌, ◌&&◌, not}
+use Rattle.std.proofs.Common.{◌≡◌, ℕ, ◌+◌, ◌<◌, List, ◌∷◌, ◌++◌, length, map, drop, get_or, Option, sym, ap, ◌∙◌, append_assoc, option_map}
+use Rattle.std.specs.Prelude.{Bool, ◌&&◌}
 use Rattle.cse_lemmas.proofs.Lists.{drop_read}
-use Rattle.cse_logic_tree.specs.declared.tree.Owner.{Owner}
 use Rattle.cse_syntax_tree.specs.Tree as syntax
 use Rattle.cse_syntax_tree.specs.declared.tree.Procedure as rust
 use Rattle.cse_types.specs.declared.told.Told.{Told}
 use Rattle.cse_types.specs.Told.{told_of}
 use Rattle.cse_logic_names.specs.Scope.{Scope}
-use Rattle.cse_logic_tree.specs.Typed.{Statements, Both}
-use Rattle.cse_logic_names.specs.WellTyped.{body_messages, procedure_messages, messages_of}
-use Rattle.cse_logic_expressions.specs.JudgeStatement.{judge_block}
-use Rattle.cse_types.specs.JudgeTree.{owned, procedure_judged, procedures_judged, body_judged}
+use Rattle.cse_logic_names.specs.WellTyped.{body_messages, procedure_messages}
+use Rattle.cse_types.specs.JudgeTree.{procedure_judged, procedures_judged}
 use Rattle.cse_logic_names.specs.Walk.{is_there, joined, so_far, found_more}
-use Rattle.cse_logic_names.proofs.Walks.{turn_is, step_noted, map_found, there_map}
+use Rattle.cse_logic_names.proofs.Walks.{turn_is, map_found, there_map}
 use Rattle.cse_types.proofs.DeclarationLaws.{told_count}
 
 module _ (items : List rust.Procedure) (i : ℕ) (x : rust.Procedure) (lt : i < length items) (is : x ≡ get_or items i x) where
@@ -35,14 +32,6 @@ module _ (items : List rust.Procedure) (i : ℕ) (x : rust.Procedure) (lt : i < 
       ∙ ap (λ l. map told_of ts ++ procedure_messages (map syntax.procedure l)) (sym next)
       ∙ inv
 
-pub unowned_noted : (s : Scope) (n : ℕ) (x : syntax.Procedure) (owner : Option Owner) → owner ≡ None → (first mid last b : Bool) → mid ≡ (first || not (is_there owner)) → last ≡ (mid || b) → last ≡ (first || not (is_there (owned s n x owner)))
-unowned_noted s n x owner e first mid last b h k =
-    k ∙ ap (λ m. m || b) (h ∙ ap (λ (o : Option Owner). first || not (is_there o)) e) ∙ by first b ∙ ap (λ (o : Option Owner). first || not (is_there (owned s n x o))) (sym e)
-  where
-    by : (first b : Bool) → ((first || true) || b) ≡ (first || true)
-    by true b = refl
-    by false b = refl
-
 -- one member of a list more, where a call kept it
 pub judged_turn : {R B : Type 0} (g : R → B) (b both there : Bool) (xs xs' : List R) (judged : Option B) (head rest all : Option (List B)) → so_far b (map g xs) head ≡ all → head ≡ joined (λ y ys. y ∷ ys) judged rest → map g xs' ≡ found_more (map g xs) judged
     → there ≡ is_there judged → both ≡ (b && there) → so_far both (map g xs') rest ≡ all
@@ -52,9 +41,6 @@ judged_turn g b both there xs xs' judged head rest all inv h k t j =
     ∙ turn_is b (map g xs) judged rest
     ∙ ap (so_far b (map g xs)) (sym h)
     ∙ inv
-
-pub judged_noted : (new old first b both there y : Bool) → old ≡ (first || not b) → new ≡ (old || not y) → there ≡ y → both ≡ (b && there) → new ≡ (first || not both)
-judged_noted new old first b both there y inv e h j = step_noted new old first b there y inv e h ∙ ap (λ c. first || not c) (sym j)
 
 -- what is kept of what is made
 pub kept_made : {R B : Type 0} (g : R → B) (xs xs' : List R) (y : Option R) (judged : Option B) → xs' ≡ found_more xs y → option_map g y ≡ judged → map g xs' ≡ found_more (map g xs) judged

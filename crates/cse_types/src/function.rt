@@ -11,8 +11,8 @@ ghost use Rattle.cse_logic_names.specs.Uses.{facts_of};
 ghost use Rattle.cse_logic_names.specs.WellTyped.{messages_of, parameter_names};
 ghost use Rattle.cse_logic_expressions.specs.JudgeStatement.{judge_block};
 ghost use Rattle.cse_types.specs.JudgeTree as spec;
-ghost use Rattle.cse_types.specs.Fresh.{body_scope, fresh_names, is_fresh, with_fresh};
-ghost use Rattle.cse_logic_names.specs.Walk.{is_there, only_if};
+ghost use Rattle.cse_types.specs.Fresh.{body_scope, fresh_names, with_fresh};
+ghost use Rattle.cse_logic_names.specs.Walk.{only_if};
 
 use crate::fresh::{Fresh, is_new};
 use crate::statement::block;
@@ -40,7 +40,7 @@ fn parameter(
 }
 
 /// The names of parameters: each is new.
-#[tactic(auto, using(crate::proofs::FreshLaws::parameter_turn, crate::proofs::FreshLaws::fresh_noted))]
+#[tactic(auto, using(crate::proofs::FreshLaws::parameter_turn))]
 pub fn parameters(
     alloc: Global,
     scope: &Scope<'_>,

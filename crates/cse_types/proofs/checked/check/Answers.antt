@@ -8,8 +8,8 @@ use Rattle.cse_types.proofs.SaidLaws.{source_said}
 use Rattle.cse_types.proofs.Utf8.{are_utf8}
 use Rattle.cse_types.proofs.checked.check.Goals as goal
 
-pub judged-requires-clause-said : goal.judged-requires-clause-said
-judged-requires-clause-said c = source_said (syntax.tree c.args.source.now.tree) _ c.args.source.now.is_source
+pub judged-requires : goal.judged-requires
+judged-requires c = source_said (syntax.tree c.args.source.now.tree) _ c.args.source.now.is_source
 
 pub answer-requires-clause-utf8 : goal.answer-requires-clause-utf8
 answer-requires-clause-utf8 c =

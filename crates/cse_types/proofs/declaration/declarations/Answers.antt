@@ -8,7 +8,6 @@ use Rattle.cse_logic_names.specs.WellTyped.{declared_messages}
 use Rattle.cse_types.specs.JudgeTree as spec
 use Rattle.cse_types.specs.Told.{told_of}
 use Rattle.cse_logic_names.specs.Walk.{is_there}
-use Rattle.cse_logic_names.proofs.Walks.{step_noted_made}
 use Rattle.cse_types.proofs.DeclarationLaws.{made_turn, made_end, declarations_head, behind_turn, told_turn}
 use Rattle.cse_types.proofs.declaration.declarations.Goals as goal
 

@@ -1,6 +1,5 @@
 use Rattle.std.proofs.Common.{◌≡◌, ap, ◌∙◌, subst, ◌++◌, ◌∷◌, [], length, map, Option}
-use Rattle.std.specs.Prelude.{◌||◌, not, option_map, IfOk, OnOk}
-use Rattle.cse_lemmas.proofs.Results.{OnOk_from}
+use Rattle.std.specs.Prelude.{option_map, IfOk, OnOk}
 use Rattle.cse_syntax_tree.specs.Tree as syntax
 use Rattle.cse_syntax_tree.specs.Tree.{written}
 use Rattle.cse_logic_tree.specs.Typed as typed
@@ -11,8 +10,8 @@ use Rattle.cse_logic_names.specs.Uses.{facts_of}
 use Rattle.cse_logic_expressions.specs.JudgeStatement.{judge_block}
 use Rattle.cse_types.specs.JudgeTree as spec
 use Rattle.cse_types.specs.Fresh.{body_scope}
-use Rattle.cse_logic_names.specs.Walk.{is_there, only_if}
-use Rattle.cse_types.proofs.FunctionLaws.{function_is, function_noted, with_facts}
+use Rattle.cse_logic_names.specs.Walk.{only_if}
+use Rattle.cse_types.proofs.FunctionLaws.{function_is, with_facts}
 use Rattle.cse_types.proofs.function.function.Goals as goal
 use Rattle.cse_types.proofs.function.function.Goals.{After-ended}
 
@@ -26,7 +25,7 @@ made_is c =
     c.in_ok-made.ensures.function
     ∙ ap (λ (z : Scope). only_if c.in_ok-fresh.fresh.is_sound (option_map (spec.function_of z name ps) (option_map (λ v. typed.block v.items) c.in_ok-found.found))) c.in_ok-found.ensures.same
     ∙ ap (λ (o : Option Statements). only_if c.in_ok-fresh.fresh.is_sound (option_map (spec.function_of s name ps) o)) c.in_ok-found.ensures.value
-    ∙ ap (λ (f : Fresh). only_if f.is_sound (option_map (spec.function_of s name ps) (judge_block (body_scope s f.names) n body))) c.in_ok-fresh.ensures.value
+    ∙ ap (λ (f : Fresh). only_if f.is_sound (option_map (spec.function_of s name ps) (judge_block (body_scope s f.names) n body))) c.in_ok-fresh.ensures
     ∙ function_is s n name ps body
 
 pub returns-clause-value : goal.returns-clause-value

@@ -1,9 +1,6 @@
-use Rattle.std.proofs.Common.{◌≡◌, ap, ◌∙◌, ◌<◌, ◌≤◌, length, get_or, true}
-use Rattle.std.specs.Prelude.{◌||◌, not}
-use Rattle.cse_dict.specs.Keys.{kept_name}
-use Rattle.cse_types.specs.declared.fresh.Fresh.{Fresh}
+use Rattle.std.proofs.Common.{◌≡◌, ◌∙◌, ◌<◌, ◌≤◌, length, get_or}
 use Rattle.cse_types.specs.Fresh.{no_names}
-use Rattle.cse_types.proofs.FreshLaws.{fresh_noted, after_turn, after_end}
+use Rattle.cse_types.proofs.FreshLaws.{after_turn, after_end}
 use Rattle.cse_types.proofs.OwnerLaws.{with_owner, owners_after}
 use Rattle.cse_types.proofs.owners.owners.Goals as goal
 
@@ -14,12 +11,10 @@ all-preserved c =
     let lt : c.all.x-index < length items = c.all-test.true in
     let is : x ≡ get_or items c.all.x-index x = c.x-item.is in
     let e = c.in_ok-owner.ensures in
-    record {
-      value = after_turn with_owner items c.all.x-index x lt is c.all.fresh c.owner.new.fresh _ c.all.invariant.value e.value;
-    }
+    after_turn with_owner items c.all.x-index x lt is c.all.fresh c.owner.new.fresh _ c.all.invariant e
 
-pub returns-clause-value : goal.returns-clause-value
-returns-clause-value c =
+pub returns : goal.returns
+returns c =
     let items = c.args.all.now in
     let le : length items ≤ c.all.x-index = c.all-test.false in
-    after_end with_owner items c.all.x-index le c.all.fresh _ c.all.invariant.value ∙ owners_after no_names items
+    after_end with_owner items c.all.x-index le c.all.fresh _ c.all.invariant ∙ owners_after no_names items

@@ -6,7 +6,7 @@ use Rattle.cse_types.specs.JudgeTree.{procedures_judged}
 use Rattle.cse_types.specs.Told.{told_of}
 use Rattle.cse_logic_names.specs.WellTyped.{procedure_messages}
 use Rattle.cse_logic_names.specs.Walk.{is_there}
-use Rattle.cse_types.proofs.CheckLaws.{parts_value, parts_noted}
+use Rattle.cse_types.proofs.CheckLaws.{parts_value}
 use Rattle.cse_types.proofs.parts.all_parts.Goals as goal
 
 pub returns-clause-value : goal.returns-clause-value

@@ -9,7 +9,6 @@ use Rattle.cse_logic_names.specs.Walk.{is_there, joined}
 use Rattle.cse_types.proofs.DeclarationLaws.{told_count}
 use Rattle.cse_types.proofs.procedure.both_parts.Goals as goal
 use Rattle.cse_types.proofs.procedure.both_parts.Goals.{After-around}
-use Rattle.cse_types.proofs.Counted.{both_noted}
 
 -- the second part, judged where the first left the scope and the messages
 behind_is : (c : After-around) → judge_block c.block.new.scope (length c.block.new.told.items) (syntax.block c.args.ys.now.items) ≡ judge_block c.args.scope.now (length c.args.told.now.items + length (messages_of (syntax.block c.args.xs.now.items))) (syntax.block c.args.ys.now.items)

@@ -8,7 +8,7 @@ use Rattle.cse_types.specs.JudgeTree as spec
 use Rattle.cse_types.specs.Told.{told_of}
 use Rattle.cse_logic_names.specs.Walk.{is_there}
 use Rattle.cse_types.proofs.DeclarationLaws.{made_end}
-use Rattle.cse_types.proofs.ProcedureLaws.{procedures_head, procedures_told, judged_turn, judged_noted}
+use Rattle.cse_types.proofs.ProcedureLaws.{procedures_head, procedures_told, judged_turn}
 use Rattle.cse_types.proofs.procedure.procedures.Goals as goal
 
 pub all-preserved : goal.all-preserved

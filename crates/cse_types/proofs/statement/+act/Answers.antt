@@ -1,8 +1,7 @@
 use Rattle.std.proofs.Common.{◌≡◌, ap, ◌∙◌, refl, sym, subst, map, ◌+◌, ◌<◌, ◌≤◌, length, get_or, List}
-use Rattle.std.specs.Prelude.{◌||◌, ◌++◌, not, false, option_map}
+use Rattle.std.specs.Prelude.{◌++◌, option_map}
 use Rattle.std.proofs.lemmas.List.{append-nil}
 use Rattle.cse_lemmas.proofs.Results.{OnOk_from}
-use Rattle.cse_lemmas.proofs.Booleans.{or-false}
 use Rattle.cse_syntax_tree.specs.declared.tree.Statement as rusts
 use Rattle.cse_syntax_tree.specs.declared.tree.Arm as rustarm
 use Rattle.cse_syntax_tree.specs.Tree as syntax
@@ -10,13 +9,11 @@ use Rattle.cse_syntax_tree.specs.Tree.{written, stmt, arm_tree as parsed_arm}
 use Rattle.cse_syntax_tree.proofs.Rows.{if_is, for_is, do_is}
 use Rattle.cse_logic_tree.specs.Typed.{statement, statements, arm_tree, counting, Do, else_of}
 use Rattle.cse_logic_names.specs.WellTyped.{messages_in, messages_of}
-use Rattle.cse_logic_expressions.specs.Judge.{as_number, judge}
-use Rattle.cse_logic_expressions.specs.JudgeStatement.{judge_statement, judge_block, messages_each, for_of, guarded, opened}
+use Rattle.cse_logic_expressions.specs.JudgeStatement.{judge_statement, judge_block, messages_each, for_of, opened}
 use Rattle.cse_types.specs.Told.{told_of}
-use Rattle.cse_logic_names.specs.Walk.{is_there, joined}
-use Rattle.cse_logic_names.proofs.Walks.{step_noted_made, there_map}
-use Rattle.cse_types.proofs.Counted.{from_step, from_end, told_step, told_end, told_count, both_noted}
-use Rattle.cse_types.proofs.Blocks.{statement_at, messages_at, count_at, block_walked, block_gathered, arm_at, arm_messages, arm_count, arms_walked, arms_gathered, choice_value, choice_noted, choice_told, none_judged, else_judged, for_judged, for_noted, do_judged, do_noted}
+use Rattle.cse_logic_names.specs.Walk.{joined}
+use Rattle.cse_types.proofs.Counted.{from_step, from_end, told_step, told_end, told_count}
+use Rattle.cse_types.proofs.Blocks.{statement_at, messages_at, count_at, block_walked, block_gathered, arm_at, arm_messages, arm_count, arms_walked, arms_gathered, choice_value, choice_told, none_judged, else_judged, for_judged, do_judged}
 use Rattle.cse_types.proofs.statement.+act.Goals as goal
 
 -- ---- blocks
@@ -119,7 +116,7 @@ statement-returns-in_ok-inner-in-For-clause-value t c =
     let h = c.for_head-head.result in
     let same = ap stmt c.in-For.is ∙ for_is c.in-For.variable c.in-For.record_name c.in-For.body in
     c.for_of.ensures ∙ ap (joined (for_of v r) h) c.in_ok-inner-in-For.ensures.value
-    ∙ for_judged s (length c.args.told.now.items) v r (syntax.block c.in-For.body.items) h c.for_loop.result c.for_head-head.ensures.value c.for_loop.ensures
+    ∙ for_judged s (length c.args.told.now.items) v r (syntax.block c.in-For.body.items) h c.for_loop.result c.for_head-head.ensures c.for_loop.ensures
     ∙ ap (judge_statement s (length c.args.told.now.items)) (sym same)
 
 pub statement-returns-in_ok-inner-in-For-clause-told : goal.statement-returns-in_ok-inner-in-For-clause-told
@@ -134,7 +131,7 @@ statement-returns-in_ok-inner-in-Do-clause-value t c =
     let h = option_map counting c.counting-head.result in
     let same = ap stmt c.in-Do.is ∙ do_is c.in-Do.head c.in-Do.body in
     c.do_of.ensures ∙ ap (joined Do h) c.in_ok-inner-in-Do.ensures.value
-    ∙ do_judged s n (syntax.counting c.in-Do.head) (syntax.block c.in-Do.body.items) h c.do_loop.result c.counting-head.ensures.value c.do_loop.ensures
+    ∙ do_judged s n (syntax.counting c.in-Do.head) (syntax.block c.in-Do.body.items) h c.do_loop.result c.counting-head.ensures c.do_loop.ensures
     ∙ ap (judge_statement s n) (sym same)
 
 pub statement-returns-in_ok-inner-in-Do-clause-told : goal.statement-returns-in_ok-inner-in-Do-clause-told
