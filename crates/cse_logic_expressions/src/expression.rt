@@ -1,6 +1,6 @@
 //! Expressions: from trees of syntax to typed ones.
 
-ghost use Rattle.std.specs.Prelude.{◌≡◌, ◌&&◌, ◌≤◌, ◌==◌, MatchOption, IfSome, true, false, map, length, Some, None, IfOk};
+ghost use Rattle.std.specs.Prelude.{◌≡◌, ◌&&◌, ◌≤◌, ◌==◌, MatchOption, IfSome, true, false, map, length, Some, None, IfOk, slice_get};
 ghost use Rattle.std.specs.Option.{option_map};
 ghost use Rattle.cse_syntax_tree.specs.Leaf as leaf;
 ghost use Rattle.cse_syntax_tree.specs.Leaf.{is_within, MOST};
@@ -8,9 +8,9 @@ ghost use Rattle.cse_syntax_tree.specs.Tree as syntax;
 ghost use Rattle.cse_syntax_tree.specs.Tree.{written, expr, operations as operations_of, operation_tree as parsed};
 ghost use Rattle.cse_logic_tree.specs.Typed as typed;
 ghost use Rattle.cse_logic_tree.specs.Typed.{number, operations, operation_tree};
-ghost use Rattle.cse_logic_names.specs.WellTyped.{may_call, value_of, may_divide};
+ghost use Rattle.cse_logic_names.specs.WellTyped.{may_call, value_of, may_divide, dimensions_of};
 ghost use Rattle.cse_logic_expressions.specs.Judge as spec;
-ghost use Rattle.cse_logic_expressions.specs.Judge.{judged, judge, judge_operations, as_number, is_sound, indexed, queried, bare, compared};
+ghost use Rattle.cse_logic_expressions.specs.Judge.{judged, judge, judge_operations, as_number, is_sound, indexed, queried, bare, compared, is_count};
 ghost use Rattle.cse_logic_names.specs.Walk.{is_there, joined, only_if};
 ghost use Rattle.cse_logic_expressions.specs.Clauses.{all_judged, by_name, numbers_made};
 

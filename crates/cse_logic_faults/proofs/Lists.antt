@@ -4,6 +4,10 @@ use Rattle.std.proofs.lemmas.List.{append-nil, drop_all}
 use Rattle.cse_lemmas.proofs.Lists.{drop_read}
 use Rattle.cse_logic_faults.specs.Faults.{Fault}
 
+-- none more
+pub append_none : {X : Type 0} (xs : List X) → xs ++ [] ≡ xs
+append_none xs = append-nil xs
+
 -- two lists, one behind the other
 pub behind : (old us vs : List Fault) → old ++ (us ++ vs) ≡ (old ++ us) ++ vs
 behind old us vs = sym (append_assoc old us vs)

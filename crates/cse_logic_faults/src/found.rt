@@ -32,7 +32,7 @@ impl Found {
     }
 
     /// One fault more, of this number, from 40 to 49, at this token.
-    #[tactic(auto, using(cse_logic_names::proofs::Walks::map_more))]
+    #[tactic(auto, using(std::proofs::lemmas::List::map_push))]
     pub fn add(&mut self, number: u8, token: usize) -> Result<(), AllocError>
         requires least { 40 ≤ number }
         requires most { number ≤ 49 }
@@ -43,7 +43,7 @@ impl Found {
     }
 
     /// The same, unless the test holds.
-    #[tactic(auto, unfolding(crate::specs::Faults::unless), using(cse_logic_names::proofs::Walks::append_none))]
+    #[tactic(auto, unfolding(crate::specs::Faults::unless), using(crate::proofs::Lists::append_none))]
     pub fn unless(&mut self, holds: bool, number: u8, token: usize) -> Result<(), AllocError>
         requires least { 40 ≤ number }
         requires most { number ≤ 49 }
@@ -56,7 +56,7 @@ impl Found {
     }
 
     /// No fault more.
-    #[tactic(auto, using(cse_logic_names::proofs::Walks::append_none))]
+    #[tactic(auto, using(crate::proofs::Lists::append_none))]
     pub fn none(&mut self) -> Result<(), AllocError>
         ensures { OnOk result (self.new ≡ self.old ++ []) }
     {

@@ -24,7 +24,7 @@ fn dimensions_alone<'a>(
 }
 
 /// Those of a declaration, if it is an array.
-#[tactic(auto, using(crate::proofs::DeclarationLaws::no_more, cse_logic_names::proofs::Walks::map_more))]
+#[tactic(auto, using(cse_logic_faults::proofs::Lists::append_none, std::proofs::lemmas::List::map_push))]
 fn add<'a>(
     alloc: Global,
     scope: &Scope<'_>,

@@ -60,7 +60,7 @@ fn of_function<'a>(x: Option<Function<'a>>) -> Option<Declaration<'a>>
 }
 
 /// One declaration; behind a function stands what is known of it.
-#[tactic(auto, using(crate::proofs::DeclarationLaws::no_more))]
+#[tactic(auto, using(cse_logic_faults::proofs::Lists::append_none))]
 pub fn declaration<'a>(
     alloc: Global,
     scope: &mut Scope<'_>,
