@@ -1,14 +1,11 @@
 -- What a statement that holds expressions is, by what they are.
-use Rattle.std.specs.Prelude.{true, false}
 use Rattle.std.proofs.Common.{◌≡◌, ℕ, List, length, map, Option, ap, sym, ◌∙◌}
 use Rattle.std.proofs.lemmas.List.{length-map}
-use Rattle.cse_value.specs.declared.shape.ItemKind.TheVariants as kind
 use Rattle.cse_syntax_tree.specs.Tree as syntax
 use Rattle.cse_syntax_tree.specs.declared.tree.Expression.{Expression}
 use Rattle.cse_syntax_tree.specs.Tree.{Spelling, expr, exprs}
 use Rattle.cse_logic_tree.specs.Typed.{Number, Numbers, Statement}
 use Rattle.cse_logic_names.specs.declared.meaning.Meaning.{Meaning}
-use Rattle.cse_logic_names.specs.declared.meaning.Meaning.TheVariants as m
 use Rattle.cse_logic_names.specs.Scope.{Scope}
 use Rattle.cse_logic_expressions.specs.Judge.{Judged, expr_count, judge_all}
 use Rattle.cse_logic_expressions.specs.JudgeStatement.{assign, impute, call_of}

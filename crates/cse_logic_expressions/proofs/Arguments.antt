@@ -1,6 +1,6 @@
 -- The values of a message, each beside its placeholder's kind.
 use Rattle.std.specs.Prelude.{Bool, true, false, ◌&&◌, MatchOption}
-use Rattle.std.proofs.Common.{◌≡◌, ℕ, ◌+◌, ◌<◌, ◌≤◌, get_or, drop, List, [], ◌∷◌, length, map, Option, Some, None, refl, ap, sym, ◌∙◌, option_map}
+use Rattle.std.proofs.Common.{◌≡◌, ℕ, ◌+◌, ◌<◌, ◌≤◌, get_or, drop, List, [], ◌∷◌, length, map, Option, Some, None, ap, sym, ◌∙◌, option_map}
 use Rattle.std.proofs.lemmas.List.{drop_all}
 use Rattle.cse_lemmas.proofs.Lists.{drop_read}
 use Rattle.cse_image_parts.specs.declared.placeholders.ArgumentKind.{ArgumentKind}

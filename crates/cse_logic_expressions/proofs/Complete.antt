@@ -1,13 +1,10 @@
 -- Each sound expression is judged to be itself.
-use Rattle.std.proofs.Common.{◌≡◌, ℕ, ◌+◌, Bool, true, false, List, [], ◌∷◌, Option, Some, None, refl, sym, ap, ◌∙◌, subst}
-use Rattle.std.specs.Prelude.{◌==◌, ◌&&◌, not, if◌then◌else◌, option_map, slice_get}
+use Rattle.std.proofs.Common.{◌≡◌, ℕ, ◌+◌, Bool, true, false, List, [], ◌∷◌, Option, Some, None, refl, sym, ap, ◌∙◌}
+use Rattle.std.specs.Prelude.{option_map, slice_get}
 use Rattle.std.proofs.lemmas.Bool.{eq-eqb}
 use Rattle.std.proofs.lemmas.Option.{none-some}
 use Rattle.cse_value.specs.declared.shape.ItemKind.{ItemKind}
 use Rattle.cse_value.specs.declared.shape.ItemKind.TheVariants as kind
-use Rattle.cse_syntax_tree.specs.declared.tree.Operator.{Operator}
-use Rattle.cse_syntax_tree.specs.declared.tree.Query.TheVariants as q
-use Rattle.cse_syntax_tree.specs.Tree as syntax
 use Rattle.cse_syntax_tree.specs.Tree.{Spelling}
 use Rattle.cse_logic_tree.specs.declared.tree.Variable.{Variable}
 use Rattle.cse_logic_tree.specs.declared.tree.Field.{Field}
@@ -20,10 +17,10 @@ use Rattle.cse_logic_tree.specs.Typed.{Dimension, Sized, Rows}
 use Rattle.cse_logic_tree.specs.Erase.{erase, erase_words, erase_all, erase_operations}
 use Rattle.cse_logic_names.specs.declared.meaning.Meaning.{Meaning}
 use Rattle.cse_logic_names.specs.declared.meaning.Meaning.TheVariants as m
-use Rattle.cse_logic_names.specs.Scope.{Scope, Facts, meant, variable_meant, own_result, has_case, kind_and_owner, found}
-use Rattle.cse_logic_names.specs.WellTyped.{Holds, IsField, IsPresent, item_of, whole_set, set_kind, set_meant, IsNumberSet, ArePicks, AreDeckPicks, dimensions_of, may_call, may_divide, is_last, count, value_of, IsNumber, IsWords, AreNumbers, AreOperands}
-use Rattle.cse_logic_expressions.specs.Judge.{Judged, AsNumber, AsWords, Unknown, as_number, present_at, field_at, item_judged, item_at_judged, result_judged, bare, is_count, indexed, present_if, number_present, pick, set_present, picks_for, picks_of, record_of, is_number_kind, number_set, member, expr_count, is_end, judge, judge_all, judge_operations}
-use Rattle.cse_logic_names.specs.Walk.{joined, only_if, is_there}
+use Rattle.cse_logic_names.specs.Scope.{Scope, meant, variable_meant, has_case, kind_and_owner}
+use Rattle.cse_logic_names.specs.WellTyped.{IsField, IsPresent, item_of, whole_set, ArePicks, AreDeckPicks, is_last, count, IsNumber, IsWords, AreNumbers, AreOperands}
+use Rattle.cse_logic_expressions.specs.Judge.{AsNumber, AsWords, present_at, field_at, result_judged, bare, present_if, pick, set_present, picks_for, picks_of, expr_count, is_end, judge, judge_all, judge_operations}
+use Rattle.cse_logic_names.specs.Walk.{joined}
 
 -- ---- items
 

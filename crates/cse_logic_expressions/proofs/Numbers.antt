@@ -1,6 +1,6 @@
 -- The numbers of messages, as digits write them.
 use Rattle.std.specs.Prelude.{true, ◌&&◌, nat_le, if◌then◌else◌}
-use Rattle.std.proofs.Common.{◌≡◌, ℕ, List, Option, Some, None, ap, sym, ◌∙◌}
+use Rattle.std.proofs.Common.{◌≡◌, ℕ, List, Some, None, ap, sym, ◌∙◌}
 use Rattle.std.proofs.lemmas.Bool.{and_parts}
 use Rattle.cse_syntax_tree.specs.Leaf.{is_within, is_digits, number_of, MOST}
 use Rattle.cse_logic_names.specs.WellTyped.{message_number}

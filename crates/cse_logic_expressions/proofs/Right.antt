@@ -1,12 +1,10 @@
 -- What judging gives is right: it is made of the expression, and keeps each rule.
 use Rattle.std.proofs.Common.{◌≡◌, ℕ, ◌+◌, Bool, true, false, List, [], ◌∷◌, Option, Some, None, refl, sym, ap, ◌∙◌, subst}
 use Rattle.std.specs.Prelude.{◌==◌, ◌&&◌, not, if◌then◌else◌, option_map, slice_get}
-use Rattle.std.specs.Option.{option_and_then}
 use Rattle.std.proofs.lemmas.Bool.{eqb-true, false≢true, and_parts, not-true}
 use Rattle.std.proofs.lemmas.Iterator.Adapters.{option_map_id}
 use Rattle.cse_value.specs.declared.shape.ItemKind.{ItemKind}
 use Rattle.cse_value.specs.declared.shape.ItemKind.TheVariants as kind
-use Rattle.cse_syntax_tree.specs.declared.tree.Operator.{Operator}
 use Rattle.cse_syntax_tree.specs.declared.tree.Relation.{Relation}
 use Rattle.cse_syntax_tree.specs.declared.tree.Function.TheVariants as f
 use Rattle.cse_syntax_tree.specs.declared.tree.Query.{Query}
@@ -15,17 +13,16 @@ use Rattle.cse_syntax_tree.specs.Tree as syntax
 use Rattle.cse_syntax_tree.specs.Tree.{Spelling}
 use Rattle.cse_logic_tree.specs.declared.tree.Variable.{Variable}
 use Rattle.cse_logic_tree.specs.declared.tree.Found.{Found}
-use Rattle.cse_logic_tree.specs.declared.tree.Field.{Field}
 use Rattle.cse_logic_tree.specs.declared.tree.Present.{Present}
 use Rattle.cse_logic_tree.specs.declared.tree.Present.TheVariants as p
 use Rattle.cse_logic_tree.specs.declared.tree.Pick.{Pick}
-use Rattle.cse_logic_tree.specs.Typed.{Number, Words, Numbers, Operations, Constant, Special', Variable', Item, ItemAt, Cell, Call, Group, Int, IsSpecial, Deck, TotOcc, MaxOcc, CurOcc, InSet, Minus, Not, Compare, CompareTexts, Chain}
-use Rattle.cse_logic_tree.specs.Typed.{Quoted, TextGlobal, TextItem, TextItemAt, TextGroup, no_number, number_and, no_operation, operation_and}
+use Rattle.cse_logic_tree.specs.Typed.{Number, Words, Numbers, Operations, Constant, Item, ItemAt, Cell, Call, Group, Int, IsSpecial, Deck, TotOcc, MaxOcc, CurOcc, InSet, Minus, Not, Compare, CompareTexts, Chain}
+use Rattle.cse_logic_tree.specs.Typed.{TextItem, TextItemAt, TextGroup, no_number, number_and, operation_and}
 use Rattle.cse_logic_tree.specs.Typed.{Dimension, Sized, Rows}
 use Rattle.cse_logic_tree.specs.Erase.{erase, erase_words, erase_all, erase_operations, subscript}
 use Rattle.cse_logic_names.specs.declared.meaning.Meaning.{Meaning}
 use Rattle.cse_logic_names.specs.declared.meaning.Meaning.TheVariants as m
-use Rattle.cse_logic_names.specs.Scope.{Scope, Facts, meant, variable_meant, own_result, has_case, kind_and_owner, found}
+use Rattle.cse_logic_names.specs.Scope.{Scope, meant, variable_meant, own_result, has_case, kind_and_owner, found}
 use Rattle.cse_logic_names.specs.WellTyped.{Holds, IsField, IsPresent, item_of, whole_set, set_kind, set_meant, IsNumberSet, ArePicks, AreDeckPicks, dimensions_of, may_call, may_divide, is_last, count, value_of, IsNumber, IsWords, AreNumbers, AreOperands}
 use Rattle.cse_logic_expressions.specs.Judge.{Judged, AsNumber, AsWords, Unknown, as_number, present_at, field_at, item_judged, sole, item_at_judged, result_judged, bare, is_count, indexed, present_if, number_present, pick, set_present, picks_for, picks_of, deck_of, record_of, current, queried, is_number_kind, number_set, member, grouped, compared, expr_count, is_end, is_allowed, judge, judge_all, judge_operations}
 use Rattle.cse_logic_names.specs.Walk.{joined, only_if}

@@ -1,6 +1,6 @@
 -- What an expression of syntax is as a typed one, and where it is none: the tool that the checker follows.
-use Rattle.std.specs.Prelude.{ℕ, ◌+◌, ℤ, Bool, true, false, ◌&&◌, not, ◌==◌, if◌then◌else◌, List, [], ◌∷◌, ◌++◌, slice_get, Option, Some, None}
-use Rattle.std.specs.Option.{option_map, option_and_then}
+use Rattle.std.specs.Prelude.{ℕ, ◌+◌, Bool, true, false, ◌&&◌, not, ◌==◌, if◌then◌else◌, List, slice_get, Option, Some, None}
+use Rattle.std.specs.Option.{option_map}
 use Rattle.cse_value.specs.declared.shape.ItemKind.{ItemKind}
 use Rattle.cse_value.specs.declared.shape.ItemKind.TheVariants as kind
 use Rattle.cse_syntax_tree.specs.declared.tree.Operator.{Operator}

@@ -1,6 +1,5 @@
 use Rattle.std.proofs.Common.{◌∙◌, map}
 use Rattle.cse_syntax_tree.specs.Tree.{written, expr, exprs}
-use Rattle.cse_logic_tree.specs.declared.tree.Number as rust
 use Rattle.cse_logic_names.specs.Scope.{meant}
 use Rattle.cse_logic_expressions.proofs.Actions.{values_count, assigned_value}
 use Rattle.cse_logic_expressions.proofs.action.assignment.Goals as goal
