@@ -1,4 +1,4 @@
-use Rattle.std.proofs.Common.{Option, subst}
+use Rattle.std.proofs.Common.{◌≡◌, Option, subst}
 use Rattle.std.specs.Prelude.{IfOk, option_map}
 use Rattle.cse_syntax_tree.specs.Tree as syntax
 use Rattle.cse_logic_tree.specs.Typed as typed
