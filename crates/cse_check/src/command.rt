@@ -1,5 +1,7 @@
 //! `csbatch check` and `csbatch explain`: what their words ask for, their files and their statuses.
 
+ghost use Rattle.std.specs.Prelude.{◌≡◌, ◌≤◌, IfNone, IfOk, IfSome};
+
 use crate::report::{File, Files, Report, report_of};
 use crate::said::section_of;
 use crate::words::{CheckWords, check_words};
@@ -118,7 +120,9 @@ fn print<R: Print>(rt: &R, bytes: &[u8]) -> Result<(), Stop<'static>> {
 }
 
 /// `check`. Answers the status.
-fn check<'a, R: Opens + Print + AllocGlobal>(rt: &R, words: &'a [String]) -> Result<u8, Stop<'a>> {
+fn check<'a, R: Opens + Print + AllocGlobal>(rt: &R, words: &'a [String]) -> Result<u8, Stop<'a>>
+    ensures { IfOk result (λ status. status ≤ 1) }
+{
     let Some(words) = check_words(words) else {
         return Err(Stop::Usage);
     };
@@ -133,7 +137,9 @@ fn check<'a, R: Opens + Print + AllocGlobal>(rt: &R, words: &'a [String]) -> Res
 }
 
 /// `explain`. Answers the status.
-fn explain<'a, R: Print>(rt: &R, words: &'a [String]) -> Result<u8, Stop<'a>> {
+fn explain<'a, R: Print>(rt: &R, words: &'a [String]) -> Result<u8, Stop<'a>>
+    ensures { IfOk result (λ status. status ≤ 1) }
+{
     let [word] = words else {
         return Err(Stop::Usage);
     };
@@ -159,20 +165,34 @@ fn reason(fault: ReadFault) -> &'static [u8] {
     }
 }
 
-/// What is told of a command that has not printed all: words, the path behind them, and the status.
-fn told<'a>(stop: Stop<'a>, usage: &'a str) -> (&'a [u8], &'a str, u8) {
+/// What is told of a command that has not printed all: words, and the path behind them.
+fn told<'a>(stop: Stop<'a>, usage: &'a str) -> (&'a [u8], &'a str) {
     match stop {
-        Stop::Usage => (usage.as_bytes(), "", 2),
-        Stop::NotRead(path, fault) => (reason(fault), path, 3),
-        Stop::TooLong(path) => (b"error[64]: more than 268435456 bytes in ", path, 1),
-        Stop::NotWritten => (b"error[71]: standard output takes no more", "", 3),
-        Stop::Memory => (b"error[90]: not enough memory", "", 3),
+        Stop::Usage => (usage.as_bytes(), ""),
+        Stop::NotRead(path, fault) => (reason(fault), path),
+        Stop::TooLong(path) => (b"error[64]: more than 268435456 bytes in ", path),
+        Stop::NotWritten => (b"error[71]: standard output takes no more", ""),
+        Stop::Memory => (b"error[90]: not enough memory", ""),
+    }
+}
+
+/// The status of a command that has not printed all.
+fn status_of(stop: Stop<'_>) -> u8
+    ensures { result ≤ 3 }
+{
+    match stop {
+        Stop::Usage => 2,
+        Stop::TooLong(_) => 1,
+        Stop::NotRead(_, _) | Stop::NotWritten | Stop::Memory => 3,
     }
 }
 
 /// Tells why a command has not printed all, and answers the status.
-fn tell<W: Output>(stop: Stop<'_>, usage: &str, errors: &mut W) -> u8 {
-    let (words, path, status) = told(stop, usage);
+fn tell<W: Output>(stop: Stop<'_>, usage: &str, errors: &mut W) -> u8
+    ensures { result ≤ 3 }
+{
+    let (words, path) = told(stop, usage);
+    let status = status_of(stop);
     let end: &[u8] = if status == 2 { b"" } else { b"\n" };
     let _ = write_all(errors, words);
     let _ = write_all(errors, path.as_bytes());
@@ -181,12 +201,15 @@ fn tell<W: Output>(stop: Stop<'_>, usage: &str, errors: &mut W) -> u8 {
 }
 
 /// Does what the words ask for, if the first is `check` or `explain`. Answers the status.
-fn carry_out<R: Opens + Print + AllocGlobal, W: Output>(
+fn carry_out_words<R: Opens + Print + AllocGlobal, W: Output>(
     rt: &R,
     words: &[String],
     usage: &str,
     errors: &mut W,
-) -> Option<u8> {
+) -> Option<u8>
+    ensures status { IfSome result (λ status. status ≤ 3) }
+    ensures nothing { IfNone result (W.taken errors.new ≡ W.taken errors.old) }
+{
     let [first, rest @ ..] = words else {
         return None;
     };
@@ -210,14 +233,26 @@ fn words_given<R: Env + AllocGlobal>(rt: &R) -> io::Result<Vec<String>> {
     Ok(words)
 }
 
-/// Does what the words ask for, if the first is `check` or `explain`; else nothing is done. Other words behind these are told by
-/// the usage.
+/// Does what the words ask for, if the first is `check` or `explain`, and answers the exit status, 3 at most. Else nothing is done
+/// or told, and none is answered. Other words behind these are told by the usage.
+pub fn carry_out<R: Env + Opens + Print + AllocGlobal, W: Output>(
+    rt: &R,
+    usage: &str,
+    errors: &mut W,
+) -> Option<u8>
+    ensures status { IfSome result (λ status. status ≤ 3) }
+    ensures nothing { IfNone result (W.taken errors.new ≡ W.taken errors.old) }
+{
+    match words_given(rt) {
+        Ok(words) => carry_out_words(rt, &words, usage, errors),
+        Err(_) => None,
+    }
+}
+
+/// The same of the program, as the exit code.
 pub fn start(rt: &HostRuntime, usage: &str) -> Option<ExitCode> {
-    let Ok(words) = words_given(rt) else {
-        return None;
-    };
     let mut errors = Writes::new(rt.stderr());
-    match carry_out(rt, &words, usage, &mut errors) {
+    match carry_out(rt, usage, &mut errors) {
         Some(status) => Some(ExitCode::from(status)),
         None => None,
     }

@@ -1,24 +1,18 @@
-//! Worked rows of the commands: tests of their public calls, of what no clause says. They stand apart so that the commands
-//! are proved once, and not a second time with their tests. What the commands do with files, and print of it, is shown by
-//! cse_test_files.
+//! Worked rows of the commands: tests of their public calls, of what no clause says and no row of cse_test_files can show. They
+//! stand apart so that the commands are proved once, and not a second time with their tests.
 //!
-//! - `printed`, `codes`, `tries`: what `try` prints of images. `turned`: images in which one bit was turned.
-//! - `verdicts`: what `verify` tells of programs.
-//! - `faults`: words, statuses and faults.
+//! - `failing`: devices that move few bytes in a call, and that fail. `turned`: images in which one bit was turned.
+//! - `hello`: the image that both look at. `statuses`: the status of each number.
 //! - `told`: how what is told is compared.
 #![tactic(auto)]
 
 #[cfg(test)]
-mod codes;
+mod failing;
 #[cfg(test)]
-mod faults;
+mod hello;
 #[cfg(test)]
-mod printed;
+mod statuses;
 #[cfg(test)]
 mod told;
 #[cfg(test)]
-mod tries;
-#[cfg(test)]
 mod turned;
-#[cfg(test)]
-mod verdicts;

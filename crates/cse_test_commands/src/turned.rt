@@ -1,13 +1,15 @@
 //! Images in which one bit was turned. Each byte with each other value: `examples/fuzz`.
 
-use crate::printed::{HELLO, put_hello};
+use crate::hello::{HELLO, put_hello};
 use crate::told::assert_count;
-use crate::verdicts::EMPTY;
 use cse_batch::check_image;
 use cse_commands::try_image::try_to;
 use cse_dict::Dictionary;
 use cse_value::Writes;
 use std::alloc::Global;
+
+/// The dictionary with neither records nor items.
+const EMPTY: &str = "[Dictionary]\nName=T\n[Level]\nName=L\n";
 
 /// The steps that the program of an image may take, where it may run.
 fn most_steps(alloc: Global, dictionary: &Dictionary, image: &[u8]) -> Option<u64> {

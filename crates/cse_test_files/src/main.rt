@@ -1,96 +1,88 @@
-//! What the commands do with files: rows of tables, each carried out from its words to its status in a folder of its own.
+//! What the commands do with files: rows of tables, each carried out from its words to its status in the folder in which the program runs.
 //! The files that are opened, in their order, all files after it, what is printed, what is told and the status are
 //! compared with those that the formats and the rules of the language say.
 //!
-//! The tables are texts in `data/rows`, in the form that `table` says. They are read when the program runs, so that a row
-//! costs no proof.
+//! The tables are texts in `data/rows`, in the form that `block` and `text` say. They are read when the program runs, so that a
+//! row costs no proof. `data/rows/tables.txt` names them.
 //!
 //! The files of `data/sample`, `data/household` and `data/hello` are those of `examples`. Those of `data/wanted` were
 //! derived from the rules, as those of the household sample were, but for `AGE.img`: as `HOUSEHOLD.img` it is what the
 //! compiler gave, read field by field.
 //!
-//! - `row`: what a row is, and how it is shown. `table`: how it is read. `desk`: the runtime that a row is carried out
-//!   over. `sheet`: an open file of it.
+//! - `block`: what a row is, and how it is read. `text`: texts that stand in rows. `row`: how a row is carried out. `desk`: the
+//!   runtime that it is carried out over. `amiss`: what may be amiss there. `sheet`: an open file of it.
 //!
 //! Behind the rows the program starts as csbatch does, with the words that it was given. These name an image that is
 //! refused, so the status is 1, and nothing more is printed.
 #![tactic(auto)]
 
+mod amiss;
+mod block;
 mod desk;
 mod row;
 mod sheet;
-mod table;
+mod text;
 
-use crate::row::{invalid, show};
-use crate::table::{Lines, has_words, is_row, row_of};
+use crate::block::{Row, has_words, is_row};
+use crate::row::is_right;
 use cse_commands::start::start;
+use std::fs;
 use std::process::ExitCode;
 use std::rt::Files;
-use std::{fs, io};
 
-/// The samples, from their logic to their outputs.
-const SAMPLES: &str = "rows/samples.txt";
-
-/// Faults of `compile`.
-const TEXTS: &str = "rows/texts.txt";
-
-/// Faults of `verify` and `try`.
-const IMAGES: &str = "rows/images.txt";
-
-/// Words that are no command.
-const WORDS: &str = "rows/words.txt";
-
-/// Faults of `run`.
-const RUNS: &str = "rows/runs.txt";
-
-/// `edit` of the samples, and its faults.
-const EDITS: &str = "rows/edits.txt";
-
-/// Words that lead to one file.
-const APART: &str = "rows/apart.txt";
-
-/// What stays after a fault, what a disk refuses late, inputs that never end, steps of a case, and the version.
-const SAFE: &str = "rows/safe.txt";
+/// The tables, a path a line.
+const TABLES: &str = "rows/tables.txt";
 
 fn main(rt: HostRuntime) -> ExitCode {
-    match show_all(&rt) {
-        Ok(()) => start(rt),
-        Err(_) => ExitCode::from(9),
+    show_tables(&rt);
+    start(rt)
+}
+
+/// Carries out the rows of all tables.
+fn show_tables<R: Files + Print + AllocGlobal + Clone + Drop>(rt: &R) {
+    if let Ok(paths) = fs::read_to_string(rt, TABLES) {
+        for path in paths.lines() {
+            show_table(rt, path);
+        }
     }
 }
 
-/// Shows the rows of all tables.
-fn show_all<R: Files + Print + AllocGlobal + Clone + Drop>(rt: &R) -> io::Result<()> {
-    for path in [SAMPLES, TEXTS, IMAGES, WORDS, RUNS, EDITS, APART, SAFE] {
-        let text = fs::read_to_string(rt, path)?;
-        show_rows(rt, &text)?;
-    }
-    Ok(())
+/// Carries out the rows of a table, and prints how many are as they should be.
+fn show_table<R: Files + Print + AllocGlobal + Clone + Drop>(rt: &R, path: &str) {
+    let right = match fs::read_to_string(rt, path) {
+        Ok(text) => right_rows(rt, &text),
+        Err(_) => 0,
+    };
+    let _ = println!(rt; "{path}: {right} rows");
 }
 
-/// Shows the rows of a text, which begins with what all of them share.
-fn show_rows<R: Files + Print + AllocGlobal + Clone + Drop>(rt: &R, text: &str) -> io::Result<()> {
-    let (all, _) = text.split_once("\n\n").ok_or(invalid())?;
+/// How many rows of a text are as they should be. It begins with what all of them share.
+fn right_rows<R: Files + Print + AllocGlobal + Clone + Drop>(rt: &R, text: &str) -> usize {
+    let (all, _) = text.split_once("\n\n").unwrap_or((text, ""));
+    let mut right = 0usize;
     for rows in text.split("\n\n#") {
-        show_part(rt, all, rows)?;
+        if let Some((part, rows)) = rows.split_once("\n\n") {
+            right = right.saturating_add(right_below(rt, all, part, rows));
+        }
     }
-    Ok(())
+    right
 }
 
-/// Shows the rows below a comment.
-fn show_part<R: Files + Print + AllocGlobal + Clone + Drop>(
+/// How many rows below a comment are as they should be.
+fn right_below<R: Files + Print + AllocGlobal + Clone + Drop>(
     rt: &R,
     all: &str,
-    text: &str,
-) -> io::Result<()> {
-    let Some((part, rows)) = text.split_once("\n\n") else {
-        return Ok(());
-    };
+    part: &str,
+    rows: &str,
+) -> usize {
+    let mut right = 0usize;
     for own in rows.split("\n\n") {
-        if !is_row(own) || !has_words(part) {
-            return Err(invalid());
+        let row = Row { own, part, all };
+        if is_row(own) && has_words(part) && is_right(rt, &row) {
+            right = right.saturating_add(1);
+        } else {
+            let _ = println!(rt; "{}: not as it should be", row.name());
         }
-        show(rt, &row_of(&Lines { own, part, all })?)?;
     }
-    Ok(())
+    right
 }

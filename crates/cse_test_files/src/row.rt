@@ -1,253 +1,225 @@
-//! A row: a command over the files of a folder, and what it comes to.
+//! A row is carried out: commands over the files of the folder in which the program runs, and what they come to.
 
-use crate::desk::{Amiss, Desk};
+use crate::amiss::{Amiss, amiss_of};
+use crate::block::{AMISS, FILES, MADE, OPENED, PRINTED, Row, STATUS, TOLD, WORDS};
+use crate::desk::{Desk, Notes};
+use crate::text::{put, put_lines, put_text};
+use cse_check::command::carry_out;
 use cse_commands::start::{USAGE, carry_out_and_tell};
-use cse_value::Writes;
-use std::alloc::AllocError;
+use cse_value::{Output, Writes};
 use std::cell::RefCell;
-use std::io::ErrorKind;
-use std::os::unix::fs::symlink;
+use std::fs;
 use std::rt::Files;
-use std::{fs, io};
 
-/// The folder in which a row's files lie while it is shown.
-const ROOM: &str = "room";
-
-/// A command over the files of a folder, and what it comes to.
-#[derive(Drop)]
-pub struct Row<'a> {
-    pub name: &'a str,
-    /// The stored files of `files` and `made` whose words say none.
-    pub stored: &'a str,
-    /// The words after the program's name, with blanks between them.
-    pub words: &'a str,
-    /// The files that are there before, with blanks between them: each by its path, and by the stored file that has its bytes.
-    pub files: &'a str,
-    pub amiss: Amiss<'a>,
-    /// The files that it opens, in this order, with `>` before each that is written, and blanks between them.
-    pub opened: &'a str,
-    /// The files that it makes, or makes anew, and those that are another one by a link or a second name. All others stay,
-    /// and no other is made.
-    pub made: &'a str,
-    /// Lines, perhaps indented, each of which ends with a line end where it is printed.
-    pub printed: &'a str,
-    /// The lines on standard error; `usage` stands for the usage.
-    pub told: &'a str,
-    pub status: u8,
+/// Carries out the commands of a row, and answers whether all is as it should be. Prints what is not.
+pub fn is_right<R: Files + Print + AllocGlobal + Clone + Drop>(rt: &R, row: &Row<'_>) -> bool {
+    let before = files_in(rt);
+    let well = match amiss_of(row.of(AMISS)) {
+        Some(amiss) => lay_out(rt, row) && amiss.tie(rt) && is_carried_out(rt, row, amiss),
+        None => false,
+    };
+    let well = has_its_files(rt, row, before) && well;
+    clear(rt, row);
+    well
 }
 
-/// What a command came to, but for its files.
-#[derive(Drop)]
-struct Found {
-    opened: String,
-    printed: String,
-    told: String,
-    status: u8,
+/// Prints what is not as it should be, and what it is. Answers that it isn't.
+fn tell<R: Print>(rt: &R, row: &Row<'_>, what: &str, found: &[u8]) -> bool {
+    let _ = println!(rt; "{}: {what} is not as it should be", row.name());
+    let _ = rt.write_all(found);
+    false
 }
 
-/// Carries out the command of a row in a folder of its own, and prints whether all is as it should be, or what is not.
-pub fn show<R: Files + Print + AllocGlobal + Clone + Drop>(
+/// Puts the bytes of a file of a row: those of texts and stored files, with `+` between them.
+fn put_bytes<R: Files + AllocGlobal>(
     rt: &R,
     row: &Row<'_>,
-) -> io::Result<()> {
-    fs::create_dir(rt, ROOM)?;
-    for file in row.files.split_ascii_whitespace() {
-        let (path, stored) = kept(row, file)?;
-        let place = place(rt, path)?;
-        fs::copy(rt, stored, place.as_str())?;
+    stored: &str,
+    into: &mut Vec<u8>,
+) -> bool {
+    let mut well = true;
+    for name in stored.split('+') {
+        well &= match row.text(name) {
+            Some(text) => put_text(into, text),
+            None => put_file(rt, name, into),
+        };
     }
-    tie(rt, row.amiss)?;
-    let found = carry_out(rt, row)?;
-    let mut well = is_as_told(rt, row, &found)?;
-    well &= has_its_files(rt, row)?;
-    if well {
-        println!(rt; "{}: as it should be", row.name)?;
-    }
-    fs::remove_dir_all(rt, ROOM)
+    well
 }
 
-/// What no row says.
-pub fn invalid() -> io::Error {
-    io::Error::from(ErrorKind::InvalidData)
+/// Puts the bytes of a stored file.
+fn put_file<R: Files + AllocGlobal>(rt: &R, path: &str, into: &mut Vec<u8>) -> bool {
+    match fs::read(rt, path) {
+        Ok(bytes) => into.extend_from_slice(&bytes).is_ok(),
+        Err(_) => false,
+    }
 }
 
-/// A file of a row: its path there, and the stored file that has its bytes.
-fn kept<'a>(row: &Row<'a>, file: &'a str) -> io::Result<(&'a str, &'a str)> {
-    if let Some(kept) = file.split_once('=') {
-        return Ok(kept);
-    }
-    for stored in row.stored.split_ascii_whitespace() {
-        if let Some(kept) = stored.split_once('=') {
-            if kept.0 == file {
-                return Ok(kept);
-            }
+/// Makes a file.
+fn make<R: Files + AllocGlobal>(rt: &R, row: &Row<'_>, path: &str, stored: &str) -> bool {
+    let mut bytes = Vec::new(rt.alloc());
+    put_bytes(rt, row, stored, &mut bytes) && fs::write(rt, path, bytes.as_slice()).is_ok()
+}
+
+/// Makes the files of a row.
+fn lay_out<R: Files + Print + AllocGlobal>(rt: &R, row: &Row<'_>) -> bool {
+    let mut well = true;
+    for file in row.files(FILES) {
+        let (path, stored) = row.kept(file);
+        if !make(rt, row, path, stored) {
+            well = tell(rt, row, path, b"");
         }
     }
-    Err(invalid())
+    well
 }
 
-/// Makes the link, or the second name, that a row has.
-fn tie<R: Files + AllocGlobal>(rt: &R, amiss: Amiss<'_>) -> io::Result<()> {
-    match amiss {
-        Amiss::Link(file, other) => {
-            let place = place(rt, file)?;
-            symlink(rt, other, place.as_str())
-        }
-        Amiss::Name(file, other) => {
-            let place = place(rt, file)?;
-            let other = self::place(rt, other)?;
-            fs::hard_link(rt, other.as_str(), place.as_str())
-        }
-        _ => Ok(()),
+/// What the command answers.
+fn status_of<R: Files + AllocGlobal, W: Output>(desk: &Desk<'_, R>, errors: &mut W) -> u8 {
+    match carry_out(desk, USAGE, errors) {
+        Some(status) => status,
+        None => carry_out_and_tell(desk, errors),
     }
 }
 
-/// Where a file of a row lies.
-fn place<R: AllocGlobal>(rt: &R, path: &str) -> Result<String, AllocError> {
-    format!(in rt.alloc(); "{ROOM}/{path}")
-}
-
-/// Carries out the command.
-fn carry_out<R: Files + AllocGlobal>(rt: &R, row: &Row<'_>) -> io::Result<Found> {
-    let desk = Desk {
-        files: rt,
-        alloc: rt.alloc(),
-        room: ROOM,
-        words: row.words,
-        amiss: row.amiss,
-        opened: RefCell::new(String::new(rt.alloc())),
+/// Carries out the commands, and answers whether the files were opened in their order, and the lines and the status are the row's.
+fn is_carried_out<R: Files + Print + AllocGlobal>(rt: &R, row: &Row<'_>, amiss: Amiss<'_>) -> bool {
+    let notes = Notes {
+        opened: RefCell::new(Vec::new(rt.alloc())),
         printed: RefCell::new(Vec::new(rt.alloc())),
     };
     let mut errors = Writes::new(Vec::new(rt.alloc()));
-    let status = carry_out_and_tell(&desk, &mut errors);
-    let Desk {
-        opened,
-        printed,
-        ..
-    } = desk;
-    let printed = printed.into_inner();
-    let told = errors.into_inner();
-    Ok(Found {
-        opened: opened.into_inner(),
-        printed: String::from_utf8_lossy(rt.alloc(), &printed)?,
-        told: String::from_utf8_lossy(rt.alloc(), &told)?,
-        status,
-    })
-}
-
-/// Whether the files were opened in their order, and the lines and the status are the row's. Prints what is not.
-fn is_as_told<R: Print>(rt: &R, row: &Row<'_>, found: &Found) -> io::Result<bool> {
-    let mut well = found.opened.as_str() == row.opened;
-    if !well {
-        show_other(rt, row, "opened", &found.opened, row.opened)?;
-    }
-    if !has_lines(&found.printed, row.printed) {
-        show_other(rt, row, "printed", &found.printed, row.printed)?;
-        well = false;
-    }
-    if !is_told(&found.told, row.told) {
-        show_other(rt, row, "told", &found.told, row.told)?;
-        well = false;
-    }
-    if found.status != row.status {
-        println!(rt;
-            "{}: status {}, and not {}",
-            row.name, found.status, row.status
-        )?;
-        well = false;
-    }
-    Ok(well)
-}
-
-/// Whether a text is the usage, or has these lines.
-fn is_told(found: &str, wanted: &str) -> bool {
-    if wanted == "usage" {
-        found == USAGE
-    } else {
-        has_lines(found, wanted)
-    }
-}
-
-/// Whether a text has these lines, each with its end, and no other.
-fn has_lines(found: &str, wanted: &str) -> bool {
-    let mut rest = found;
-    for line in wanted.lines() {
-        let Some(behind) = rest.strip_prefix(line.trim_start()) else {
-            return false;
+    let mut status = 0u8;
+    for words in row.of(WORDS).split('\n') {
+        let desk = Desk {
+            files: rt,
+            alloc: rt.alloc(),
+            words,
+            amiss,
+            notes: &notes,
         };
-        let Some(next) = behind.strip_prefix('\n') else {
-            return false;
-        };
-        rest = next;
+        status = status.max(status_of(&desk, &mut errors));
     }
-    rest.is_empty()
+    let mut well = is_noted(rt, row, &notes);
+    well &= is_said(rt, row, TOLD, "told", &errors.into_inner());
+    well &= has_status(rt, row, status);
+    well
 }
 
-/// Prints a text that is not the one that is wanted.
-fn show_other<R: Print>(
+/// Whether this status is the row's.
+fn has_status<R: Print>(rt: &R, row: &Row<'_>, status: u8) -> bool {
+    row.of(STATUS).parse::<u8>() == Ok(status)
+        || tell(rt, row, "status", &[b'0'.saturating_add(status), b'\n'])
+}
+
+/// Whether what was opened and printed is the row's.
+fn is_noted<R: Print + AllocGlobal>(rt: &R, row: &Row<'_>, notes: &Notes) -> bool {
+    let (Ok(opened), Ok(printed)) = (notes.opened.try_borrow(), notes.printed.try_borrow()) else {
+        return false;
+    };
+    let mut well = opened.as_slice().trim_ascii_start() == row.of(OPENED).as_bytes()
+        || tell(rt, row, "opened", &opened);
+    well &= is_said(rt, row, PRINTED, "printed", &printed);
+    well
+}
+
+/// Puts what a row says behind a word, or by the text of this name.
+fn put_said(row: &Row<'_>, word: &str, name: &str, into: &mut Vec<u8>) -> bool {
+    if let Some(text) = row.own_text(name) {
+        return put_text(into, text);
+    }
+    match row.of(word) {
+        "usage" => put(into, USAGE),
+        lines => put_lines(into, lines),
+    }
+}
+
+/// Whether bytes are what the row says.
+fn is_said<R: Print + AllocGlobal>(
     rt: &R,
     row: &Row<'_>,
-    what: &str,
-    found: &str,
-    wanted: &str,
-) -> io::Result<()> {
-    println!(rt; "{}: {what} {found:?}, and not {wanted:?}", row.name)
+    word: &str,
+    name: &str,
+    found: &[u8],
+) -> bool {
+    let mut wanted = Vec::new(rt.alloc());
+    put_said(row, word, name, &mut wanted) && wanted.as_slice() == found
+        || tell(rt, row, name, found)
 }
 
 /// Whether a file of a row is made anew.
-fn is_made<'a>(row: &Row<'a>, file: &'a str) -> io::Result<bool> {
-    let (path, _) = kept(row, file)?;
-    for made in row.made.split_ascii_whitespace() {
-        if kept(row, made)?.0 == path {
-            return Ok(true);
+fn is_made(row: &Row<'_>, path: &str) -> bool {
+    for made in row.files(MADE) {
+        if row.kept(made).0 == path {
+            return true;
         }
     }
-    Ok(false)
+    false
 }
 
-/// Whether the folder has the files that it should have, and no other. Prints what it has not.
+/// Whether a file has its bytes.
+fn has_bytes<R: Files + AllocGlobal>(rt: &R, row: &Row<'_>, path: &str, stored: &str) -> bool {
+    let mut wanted = Vec::new(rt.alloc());
+    let mut found = Vec::new(rt.alloc());
+    put_bytes(rt, row, stored, &mut wanted)
+        && put_file(rt, path, &mut found)
+        && found.as_slice() == wanted.as_slice()
+}
+
+/// Whether a file is as it should be.
+fn is_file<R: Files + Print + AllocGlobal>(rt: &R, row: &Row<'_>, file: &str) -> bool {
+    let (path, stored) = row.kept(file);
+    has_bytes(rt, row, path, stored) || tell_file(rt, row, path)
+}
+
+/// Prints a file that is not as it should be.
+fn tell_file<R: Files + Print + AllocGlobal>(rt: &R, row: &Row<'_>, path: &str) -> bool {
+    let mut found = Vec::new(rt.alloc());
+    let _ = put_file(rt, path, &mut found);
+    tell(rt, row, path, &found)
+}
+
+/// How many files and folders there are.
+fn files_in<R: Files + AllocGlobal + Clone + Drop>(rt: &R) -> usize {
+    match fs::read_dir(rt, ".") {
+        Ok(entries) => entries.count(),
+        Err(_) => 0,
+    }
+}
+
+/// Whether the files that a row makes are as they should be, and those that it leaves.
+fn are_files<R: Files + Print + AllocGlobal>(rt: &R, row: &Row<'_>) -> Option<usize> {
+    let mut count = 0usize;
+    for file in row.files(MADE) {
+        is_file(rt, row, file).then_some(())?;
+        count = count.saturating_add(1);
+    }
+    for file in row.files(FILES) {
+        if !is_made(row, row.kept(file).0) {
+            is_file(rt, row, file).then_some(())?;
+            count = count.saturating_add(1);
+        }
+    }
+    Some(count)
+}
+
+/// Whether the folder has the files that it should have, and no other beside those that were there before.
 fn has_its_files<R: Files + Print + AllocGlobal + Clone + Drop>(
     rt: &R,
     row: &Row<'_>,
-) -> io::Result<bool> {
-    let mut wanted = 0u64;
-    let mut well = true;
-    for made in row.made.split_ascii_whitespace() {
-        wanted = wanted.saturating_add(1);
-        well &= is_file(rt, row, made)?;
+    before: usize,
+) -> bool {
+    match are_files(rt, row) {
+        Some(count) => files_in(rt) == before.saturating_add(count),
+        None => false,
     }
-    for file in row.files.split_ascii_whitespace() {
-        if !is_made(row, file)? {
-            wanted = wanted.saturating_add(1);
-            well &= is_file(rt, row, file)?;
-        }
-    }
-    let mut found = 0u64;
-    for entry in fs::read_dir(rt, ROOM)? {
-        entry?;
-        found = found.saturating_add(1);
-    }
-    if found != wanted {
-        println!(rt; "{}: {found} files, and not {wanted}", row.name)?;
-    }
-    Ok(well && found == wanted)
 }
 
-/// Whether a file has the bytes of a stored one.
-fn is_file<'a, R: Files + Print + AllocGlobal>(
-    rt: &R,
-    row: &Row<'a>,
-    file: &'a str,
-) -> io::Result<bool> {
-    let (path, stored) = kept(row, file)?;
-    let wanted = fs::read(rt, stored)?;
-    let place = place(rt, path)?;
-    let well = match fs::read(rt, place.as_str()) {
-        Ok(found) => found.as_slice() == wanted.as_slice(),
-        Err(_) => false,
-    };
-    if !well {
-        println!(rt; "{}: {path} is not as it should be", row.name)?;
+/// Removes the files of a row.
+fn clear<R: Files>(rt: &R, row: &Row<'_>) {
+    for file in row.files(MADE) {
+        let _ = fs::remove_file(rt, row.kept(file).0);
     }
-    Ok(well)
+    for file in row.files(FILES) {
+        let _ = fs::remove_file(rt, row.kept(file).0);
+    }
 }

@@ -68,10 +68,13 @@ impl<F: OpenFile> OpenFile for Sheet<F> {
     }
 
     fn try_clone(&self) -> io::Result<Sheet<F>> {
-        Ok(Sheet {
-            file: self.file.try_clone()?,
-            is_full: self.is_full,
-            is_late: self.is_late,
-        })
+        match self.file.try_clone() {
+            Ok(file) => Ok(Sheet {
+                file,
+                is_full: self.is_full,
+                is_late: self.is_late,
+            }),
+            Err(error) => Err(error),
+        }
     }
 }

@@ -1,28 +1,7 @@
 //! Parts of programs, added one by one: for tests whose programs depend on the test.
 
-use crate::outline::Line;
-use cse_image_parts::entries::{
-    Ambient, Array, EventCode, EventEntry, Gift, Local, Message, Parts, Routine,
-};
-use cse_image_parts::instruction::Instr;
+use cse_image_parts::entries::{Array, Message, Parts};
 use std::alloc::{AllocError, Global};
-
-/// A routine without its code.
-#[derive(Clone, Copy)]
-pub struct Head<'a> {
-    pub ambient: Ambient,
-    pub gives: Gift,
-    pub parameters: u8,
-    pub locals: &'a [Local],
-}
-
-/// A routine of the whole run that has no locals and gives nothing.
-pub const PLAIN: Head<'static> = Head {
-    ambient: Ambient::Run,
-    gives: Gift::Nothing,
-    parameters: 0,
-    locals: &[],
-};
 
 /// No parts.
 pub fn no_parts(alloc: Global) -> Parts {
@@ -77,71 +56,4 @@ pub fn add_message(
         text,
     })?;
     Ok(())
-}
-
-/// Adds an event, which runs a routine.
-pub fn add_event(
-    parts: &mut Parts,
-    code: EventCode,
-    index: u16,
-    routine: u32,
-) -> Result<(), AllocError> {
-    parts.events.push(EventEntry {
-        code,
-        index,
-        routine,
-    })?;
-    Ok(())
-}
-
-pub(crate) fn add_head(
-    alloc: Global,
-    parts: &mut Parts,
-    head: &Head<'_>,
-    instructions: usize,
-) -> Result<(), AllocError> {
-    let locals = Vec::from_slice(alloc, head.locals)?;
-    parts.routines.push(Routine {
-        ambient: head.ambient,
-        gives: head.gives,
-        parameters: head.parameters,
-        locals,
-        instructions: u32::try_from(instructions).unwrap_or(0),
-    })?;
-    Ok(())
-}
-
-/// Adds a routine with this code.
-pub fn add_routine(
-    alloc: Global,
-    parts: &mut Parts,
-    head: &Head<'_>,
-    code: &[Instr],
-) -> Result<(), AllocError> {
-    add_head(alloc, parts, head, code.len())?;
-    parts.code.extend_from_slice(code)
-}
-
-/// Adds instructions as they are written: the b of a counting loop is a place in the table of limits.
-pub fn add_instructions(code: &mut Vec<Instr>, lines: &[Line]) -> Result<(), AllocError> {
-    for (op, a, b, c) in lines {
-        code.push(Instr {
-            op: *op,
-            a: *a,
-            b: *b,
-            c: *c,
-        })?;
-    }
-    Ok(())
-}
-
-/// Adds a routine with these instructions as they are written.
-pub fn add_lines(
-    alloc: Global,
-    parts: &mut Parts,
-    head: &Head<'_>,
-    lines: &[Line],
-) -> Result<(), AllocError> {
-    add_head(alloc, parts, head, lines.len())?;
-    add_instructions(&mut parts.code, lines)
 }

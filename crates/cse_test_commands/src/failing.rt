@@ -1,0 +1,42 @@
+//! What is told of a device that moves few bytes in a call, or that fails.
+
+use crate::hello::HELLO;
+use crate::told::assert_count;
+use cse_commands::try_image::{TryFault, try_to};
+use cse_test_fixtures::device::Slow;
+use cse_value::Writes;
+use std::alloc::Global;
+
+/// Whether it is told right that a writer took these bytes, where it takes at most so many in a call and fails at a call.
+fn is_told(tried: Result<u64, TryFault>, taken: &[u8], most: usize, fails_at: u64) -> bool {
+    let text = b"Hi\n2 steps\n".as_slice();
+    match tried {
+        Ok(steps) => steps == 2 && taken == text,
+        Err(TryFault::Write) => (most == 0 || fails_at > 0) && text.starts_with(taken),
+        Err(_) => false,
+    }
+}
+
+/// Whether it is told right that such a writer fails, or doesn't.
+fn is_failure_told(alloc: Global, most: usize, fails_at: u64) -> bool {
+    let mut out = Writes::new(Slow::new(alloc, most, fails_at, 0));
+    let tried = try_to(alloc, &HELLO, &mut out);
+    is_told(tried, out.into_inner().taken(), most, fails_at)
+}
+
+/// How many of the first calls may fail, with this told right, where at most so many bytes are taken in a call.
+fn count_told(alloc: Global, most: usize) -> Option<usize> {
+    for fails_at in 0..20 {
+        if !is_failure_told(alloc, most, fails_at) {
+            return usize::try_from(fails_at).ok();
+        }
+    }
+    Some(20)
+}
+
+#[test]
+fn tells_failed_writes(rt: HostRuntime) {
+    for most in 0..3 {
+        assert_count(&rt, count_told(rt.alloc(), most), 20);
+    }
+}

@@ -1,0 +1,146 @@
+//! Rows in a text: blocks of lines with an empty line between two of them. In a block a line begins with a word and a
+//! colon, and goes on in lines that are indented by four blanks.
+//!
+//! A block whose first line is a comment (`#`) says what rows share: the first block what all rows of the text do, and
+//! another one what those below it do. Each other block is a row, and its first line is the row's name. What it doesn't say
+//! is as those below the comment above it share it, or else as all do, or else empty.
+//!
+//! `words`, `files`, `amiss`, `opened`, `made`, `printed`, `told` and `status` are those of a row. In `files` and `made`
+//! `DICT=sample/SAMPLE.dcf` is a file and the stored one that has its bytes. `DICT` alone is the text `DICT` of the row, or else
+//! that of `stored`, or else a text that it shares. `LOGIC=FRONT+REST` is one behind the other. `words` has a line for each command; the greatest status counts.
+//!
+//! `text DICT:` is a text, and `DICT` may stand for a stored file. Its lines are indented by four blanks and `|` (`text`).
+//! `text printed:` and `text told:` are what a row prints and tells, byte by byte.
+
+use std::str::SplitAsciiWhitespace;
+
+pub const STORED: &str = "\nstored:";
+
+pub const WORDS: &str = "\nwords:";
+
+pub const FILES: &str = "\nfiles:";
+
+pub const AMISS: &str = "\namiss:";
+
+pub const OPENED: &str = "\nopened:";
+
+pub const MADE: &str = "\nmade:";
+
+pub const PRINTED: &str = "\nprinted:";
+
+pub const TOLD: &str = "\ntold:";
+
+pub const STATUS: &str = "\nstatus:";
+
+const TEXT: &str = "\ntext ";
+
+/// The lines of a row, those that it shares with rows below a comment, and those that it shares with all.
+#[derive(Clone, Copy)]
+pub struct Row<'a> {
+    pub own: &'a str,
+    pub part: &'a str,
+    pub all: &'a str,
+}
+
+/// What stands behind a word of a block.
+fn said<'a>(block: &'a str, word: &str) -> Option<&'a str> {
+    let (_, behind) = block.split_once(word)?;
+    for (end, _) in behind.match_indices('\n') {
+        let (value, rest) = behind.split_at_checked(end)?;
+        if !rest.starts_with("\n    ") {
+            return Some(value.trim());
+        }
+    }
+    Some(behind.trim())
+}
+
+/// What stands behind the first line of a text of a block.
+fn text_in<'a>(block: &'a str, name: &str) -> Option<&'a str> {
+    for piece in block.split(TEXT) {
+        if let Some((found, lines)) = piece.split_once(':')
+            && found == name
+        {
+            return Some(lines);
+        }
+    }
+    None
+}
+
+impl<'a> Row<'a> {
+    /// What stands behind a word: that of the row, or else of what it shares.
+    pub fn of(&self, word: &str) -> &'a str {
+        said(self.own, word)
+            .or(said(self.part, word))
+            .or(said(self.all, word))
+            .unwrap_or("")
+    }
+
+    /// The files behind a word.
+    pub fn files(&self, word: &str) -> SplitAsciiWhitespace<'a> {
+        self.of(word).split_ascii_whitespace()
+    }
+
+    /// The text of a name: that of the row, or else of what it shares.
+    pub fn text(&self, name: &str) -> Option<&'a str> {
+        text_in(self.own, name)
+            .or(text_in(self.part, name))
+            .or(text_in(self.all, name))
+    }
+
+    /// The text of a name that the row alone has.
+    pub fn own_text(&self, name: &str) -> Option<&'a str> {
+        text_in(self.own, name)
+    }
+
+    pub fn name(&self) -> &'a str {
+        self.own.lines().next().unwrap_or("")
+    }
+
+    /// A file: its path there, and the stored file or the text that has its bytes.
+    pub fn kept(&self, file: &'a str) -> (&'a str, &'a str) {
+        if let Some(kept) = file.split_once('=') {
+            return kept;
+        }
+        if self.own_text(file).is_some() {
+            return (file, file);
+        }
+        for stored in self.files(STORED) {
+            if let Some(kept) = stored.split_once('=')
+                && kept.0 == file
+            {
+                return kept;
+            }
+        }
+        (file, file)
+    }
+}
+
+/// How many words of rows a block has, each counted once, and texts.
+fn words_in(block: &str) -> usize {
+    let mut words = block.matches(TEXT).count();
+    for word in [
+        STORED, WORDS, FILES, AMISS, OPENED, MADE, PRINTED, TOLD, STATUS,
+    ] {
+        if block.contains(word) {
+            words = words.saturating_add(1);
+        }
+    }
+    words
+}
+
+/// Whether each line of a block, but for its first, is a comment or indented, or begins with a word of rows, which no other does,
+/// or a text.
+pub fn has_words(block: &str) -> bool {
+    let mut lines = 0usize;
+    for line in block.lines().skip(1) {
+        if !line.starts_with('#') && !line.starts_with("    ") {
+            lines = lines.saturating_add(1);
+        }
+    }
+    lines == words_in(block)
+}
+
+/// Whether a block is a row: a name, and words.
+pub fn is_row(block: &str) -> bool {
+    !block.starts_with(['\n', ' ']) && has_words(block)
+}
