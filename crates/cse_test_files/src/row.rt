@@ -27,6 +27,7 @@ pub fn is_right<R: Files + Print + AllocGlobal + Clone + Drop>(rt: &R, row: &Row
 fn tell<R: Print>(rt: &R, row: &Row<'_>, what: &str, found: &[u8]) -> bool {
     let _ = println!(rt; "{}: {what} is not as it should be", row.name());
     let _ = rt.write_all(found);
+    let _ = rt.write_all(b"\n");
     false
 }
 
@@ -99,7 +100,8 @@ fn is_carried_out<R: Files + Print + AllocGlobal>(rt: &R, row: &Row<'_>, amiss: 
         };
         status = status.max(status_of(&desk, &mut errors));
     }
-    let mut well = is_noted(rt, row, &notes);
+    let mut well = is_opened(rt, row, &notes);
+    well &= is_printed(rt, row, &notes);
     well &= is_said(rt, row, TOLD, "told", &errors.into_inner());
     well &= has_status(rt, row, status);
     well
@@ -108,18 +110,26 @@ fn is_carried_out<R: Files + Print + AllocGlobal>(rt: &R, row: &Row<'_>, amiss: 
 /// Whether this status is the row's.
 fn has_status<R: Print>(rt: &R, row: &Row<'_>, status: u8) -> bool {
     row.of(STATUS).parse::<u8>() == Ok(status)
-        || tell(rt, row, "status", &[b'0'.saturating_add(status), b'\n'])
+        || tell(rt, row, "status", &[b'0'.saturating_add(status)])
 }
 
-/// Whether what was opened and printed is the row's.
-fn is_noted<R: Print + AllocGlobal>(rt: &R, row: &Row<'_>, notes: &Notes) -> bool {
-    let (Ok(opened), Ok(printed)) = (notes.opened.try_borrow(), notes.printed.try_borrow()) else {
-        return false;
-    };
-    let mut well = opened.as_slice().trim_ascii_start() == row.of(OPENED).as_bytes()
-        || tell(rt, row, "opened", &opened);
-    well &= is_said(rt, row, PRINTED, "printed", &printed);
-    well
+/// Whether the files that were opened are the row's.
+fn is_opened<R: Print>(rt: &R, row: &Row<'_>, notes: &Notes) -> bool {
+    match notes.opened.try_borrow() {
+        Ok(opened) => {
+            opened.as_slice().trim_ascii_start() == row.of(OPENED).as_bytes()
+                || tell(rt, row, "opened", &opened)
+        }
+        Err(_) => false,
+    }
+}
+
+/// Whether what was printed is the row's.
+fn is_printed<R: Print + AllocGlobal>(rt: &R, row: &Row<'_>, notes: &Notes) -> bool {
+    match notes.printed.try_borrow() {
+        Ok(printed) => is_said(rt, row, PRINTED, "printed", &printed),
+        Err(_) => false,
+    }
 }
 
 /// Puts what a row says behind a word, or by the text of this name.
@@ -190,12 +200,16 @@ fn files_in<R: Files + AllocGlobal + Clone + Drop>(rt: &R) -> usize {
 fn are_files<R: Files + Print + AllocGlobal>(rt: &R, row: &Row<'_>) -> Option<usize> {
     let mut count = 0usize;
     for file in row.files(MADE) {
-        is_file(rt, row, file).then_some(())?;
+        if !is_file(rt, row, file) {
+            return None;
+        }
         count = count.saturating_add(1);
     }
     for file in row.files(FILES) {
         if !is_made(row, row.kept(file).0) {
-            is_file(rt, row, file).then_some(())?;
+            if !is_file(rt, row, file) {
+                return None;
+            }
             count = count.saturating_add(1);
         }
     }
