@@ -137,8 +137,6 @@ told: error[71]: standard output takes no more
 status: 3
 """
 
-EXPLAINED = (10, 17, 20, 30, 34, 40, 44, 49, 50, 60, 64, 67, 70, 72, 90, 101, 109, 111)
-
 EXPLAIN = """
 # `explain`: a number that no fault has.
 files:
@@ -164,6 +162,12 @@ status: 0
 def plain(cell):
     cell = cell.replace("<code>&#124;</code>", "`|`")
     return re.sub(r"\[([^\]]*)\]\([^)]*\)", r"\1", cell).strip()
+
+
+def all_numbers():
+    """Each number of docs/FAULTS.md."""
+    with open(os.path.join(ROOT, "docs/FAULTS.md"), encoding="utf-8") as file:
+        return sorted({int(number) for number in re.findall(r"(?m)^\| (\d+) \|", file.read())})
 
 
 def explained(number):
@@ -299,7 +303,7 @@ def table():
         raise ValueError(f"no row of {sorted(NUMBERS - numbers)}")
     made.append(CALLS[1:])
     made.append(EXPLAIN[1:])
-    for number in EXPLAINED:
+    for number in all_numbers():
         made.append("\n".join([f"explain {number}", f"words: explain {number}", text_of("printed", explained(number).encode())]) + "\n")
     return "\n".join(made)
 
