@@ -181,9 +181,9 @@ def explained(number):
     for line in front.split("\n"):
         if line.startswith("## "):
             heading = plain(line[3:]).split(":")[0]
-        found = re.match(r"\| (\d+) \| (.*) \| (.*) \| (.*) \|$", line)
+        found = re.match(r"\| (\d+) \| (.*) \| (.*) \| (?:(.*) )?\|$", line)
         if found and int(found[1]) == number:
-            cause, place, remedy = map(plain, found.groups()[1:])
+            cause, place, remedy = (plain(cell or "") for cell in found.groups()[1:])
             said = said or f"{number}  {heading}\n"
             said += f"- {cause}\n  told at: {place}\n" + (f"  what to do: {remedy}\n" if remedy else "")
     return said

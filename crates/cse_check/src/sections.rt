@@ -224,7 +224,13 @@ pub const SECTIONS: &[u8] = b"10  Dictionary
   told at: ` byte B`, the first of them
   what to do: the file has something more than an image
 
+63  Image
+- a field has another form (IMAGE.md says which)
+  told at: ` byte B`, the field's first
+
 64  Image
+- a count is over its limit
+  told at: ` byte B`, the field's first
 - logic, a message file or an order file has more than 268,435,456 bytes
   told at: nothing
   what to do: name another file: this one may never end
