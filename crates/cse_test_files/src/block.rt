@@ -5,9 +5,10 @@
 //! another one what those below it do. Each other block is a row, and its first line is the row's name. What it doesn't say
 //! is as those below the comment above it share it, or else as all do, or else empty.
 //!
-//! `words`, `files`, `amiss`, `opened`, `made`, `printed`, `told` and `status` are those of a row. In `files` and `made`
-//! `DICT=sample/SAMPLE.dcf` is a file and the stored one that has its bytes. `DICT` alone is the text `DICT` of the row, or else
-//! that of `stored`, or else a text that it shares. `LOGIC=FRONT+REST` is one behind the other. `words` has a line for each command; the greatest status counts.
+//! `words`, `files`, `amiss`, `opened`, `made`, `printed`, `told` and `status` are those of a row. `words` has a line for each
+//! command; the greatest status counts. In `files` and `made` `DICT=sample/SAMPLE.dcf` is a file and the stored one that has its
+//! bytes. `DICT` alone is the text `DICT` of the row, or else that of `stored`, or else a text that it shares. `LOGIC=FRONT+REST`
+//! is one text behind the other.
 //!
 //! `text DICT:` is a text, and `DICT` may stand for a stored file. Its lines are indented by four blanks and `|` (`text`).
 //! `text printed:` and `text told:` are what a row prints and tells, byte by byte.
