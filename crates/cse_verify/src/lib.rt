@@ -8,7 +8,7 @@
 //! - `same_shape`: whether a program was made for a dictionary, without memory.
 //! - `routine_of`: which routine an event runs.
 //!
-//! Its tests are rows of cse_test_files.
+//! Its tests are those of cse_test_checks.
 #![tactic(auto)]
 
 mod depth;
