@@ -1,16 +1,9 @@
 //! Programs as slices, and the parts that they describe.
 
 use crate::pieces::{add_message, no_parts};
-use cse_image_parts::entries::{
-    Ambient, Array, EventEntry, Gift, GlobalVariable, Local, Parts, Routine,
-};
-use cse_image_parts::instruction::{Instr, Op};
+use cse_image_parts::entries::{Array, EventEntry, GlobalVariable, Parts};
 use cse_value::shape::Shape;
 use std::alloc::{AllocError, Global};
-
-/// An instruction: its opcode and its fields a, b and c. The b of a counting loop is its limit, which becomes
-/// an entry of the table of limits.
-pub type Line = (Op, u8, u16, u32);
 
 /// An array and its starting cells.
 #[derive(Clone, Copy)]
@@ -29,17 +22,7 @@ pub struct MessageOutline {
     pub text: &'static str,
 }
 
-/// A routine and its code.
-#[derive(Clone, Copy)]
-pub struct RoutineOutline {
-    pub ambient: Ambient,
-    pub gives: Gift,
-    pub parameters: u8,
-    pub locals: &'static [Local],
-    pub code: &'static [Line],
-}
-
-/// The sections of a program, without its shape.
+/// The sections of a program, without its shape and its routines.
 #[derive(Clone, Copy)]
 pub struct Outline<'a> {
     pub constants: &'a [i64],
@@ -47,7 +30,6 @@ pub struct Outline<'a> {
     pub globals: &'a [GlobalVariable],
     pub arrays: &'a [ArrayOutline],
     pub messages: &'a [MessageOutline],
-    pub routines: &'a [RoutineOutline],
     pub events: &'a [EventEntry],
 }
 
@@ -58,7 +40,6 @@ pub const NOTHING: Outline<'static> = Outline {
     globals: &[],
     arrays: &[],
     messages: &[],
-    routines: &[],
     events: &[],
 };
 
@@ -113,68 +94,12 @@ fn add_messages(
     Ok(())
 }
 
-fn add_heads(
-    alloc: Global,
-    routines: &mut Vec<Routine>,
-    from: &[RoutineOutline],
-) -> Result<(), AllocError> {
-    for routine in from {
-        routines.push(Routine {
-            ambient: routine.ambient,
-            gives: routine.gives,
-            parameters: routine.parameters,
-            locals: Vec::from_slice(alloc, routine.locals)?,
-            instructions: u32::try_from(routine.code.len()).unwrap_or(0),
-        })?;
-    }
-    Ok(())
-}
-
-/// What b stands for: a limit joins the table, and b becomes its place.
-fn place_of_limit(limits: &mut Vec<u32>, op: Op, b: u16) -> Result<u16, AllocError> {
-    if op != Op::LoopCount {
-        return Ok(b);
-    }
-    let place = u16::try_from(limits.len()).unwrap_or(0);
-    limits.push(u32::from(b))?;
-    Ok(place)
-}
-
-fn add_code(
-    code: &mut Vec<Instr>,
-    limits: &mut Vec<u32>,
-    lines: &[Line],
-) -> Result<(), AllocError> {
-    for (op, a, b, c) in lines {
-        code.push(Instr {
-            op: *op,
-            a: *a,
-            b: place_of_limit(limits, *op, *b)?,
-            c: *c,
-        })?;
-    }
-    Ok(())
-}
-
-fn add_codes(
-    code: &mut Vec<Instr>,
-    limits: &mut Vec<u32>,
-    from: &[RoutineOutline],
-) -> Result<(), AllocError> {
-    for routine in from {
-        add_code(code, limits, routine.code)?;
-    }
-    Ok(())
-}
-
 /// Adds what an outline describes.
 fn add_outline(alloc: Global, parts: &mut Parts, outline: &Outline<'_>) -> Result<(), AllocError> {
     add_values(parts, outline)?;
     add_texts(alloc, &mut parts.texts, outline.texts)?;
     add_arrays(alloc, &mut parts.arrays, outline.arrays)?;
-    add_messages(alloc, parts, outline.messages)?;
-    add_heads(alloc, &mut parts.routines, outline.routines)?;
-    add_codes(&mut parts.code, &mut parts.limits, outline.routines)
+    add_messages(alloc, parts, outline.messages)
 }
 
 /// The parts that an outline describes, without a shape.

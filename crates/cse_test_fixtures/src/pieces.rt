@@ -1,7 +1,25 @@
 //! Parts of programs, added one by one: for tests whose programs depend on the test.
 
-use cse_image_parts::entries::{Array, Message, Parts};
+use cse_image_parts::entries::{Ambient, Array, Gift, Local, Message, Parts, Routine};
+use cse_image_parts::instruction::Instr;
 use std::alloc::{AllocError, Global};
+
+/// A routine without its code.
+#[derive(Clone, Copy)]
+pub struct Head<'a> {
+    pub ambient: Ambient,
+    pub gives: Gift,
+    pub parameters: u8,
+    pub locals: &'a [Local],
+}
+
+/// A routine of the whole run that has no locals and gives nothing.
+pub const PLAIN: Head<'static> = Head {
+    ambient: Ambient::Run,
+    gives: Gift::Nothing,
+    parameters: 0,
+    locals: &[],
+};
 
 /// No parts.
 pub fn no_parts(alloc: Global) -> Parts {
@@ -56,4 +74,32 @@ pub fn add_message(
         text,
     })?;
     Ok(())
+}
+
+pub(crate) fn add_head(
+    alloc: Global,
+    parts: &mut Parts,
+    head: &Head<'_>,
+    instructions: usize,
+) -> Result<(), AllocError> {
+    let locals = Vec::from_slice(alloc, head.locals)?;
+    parts.routines.push(Routine {
+        ambient: head.ambient,
+        gives: head.gives,
+        parameters: head.parameters,
+        locals,
+        instructions: u32::try_from(instructions).unwrap_or(0),
+    })?;
+    Ok(())
+}
+
+/// Adds a routine with this code.
+pub fn add_routine(
+    alloc: Global,
+    parts: &mut Parts,
+    head: &Head<'_>,
+    code: &[Instr],
+) -> Result<(), AllocError> {
+    add_head(alloc, parts, head, code.len())?;
+    parts.code.extend_from_slice(code)
 }

@@ -1,7 +1,6 @@
 use Rattle.std.proofs.Common.{◌≡◌, refl, ap, ◌∙◌}
-use Rattle.std.proofs.lemmas.Bool.{OnTrue_at}
 use Rattle.cse_case.specs.Case.{CaseText}
-use Rattle.cse_test_runs.proofs.machine.next_steps.Goals as goal
+use Rattle.cse_test_calls.proofs.machine.next_steps.Goals as goal
 
 pub run_event-requires-clause-fits : goal.run_event-requires-clause-fits
 run_event-requires-clause-fits g c =
@@ -9,7 +8,7 @@ run_event-requires-clause-fits g c =
     let gives = next.answers in
     rw c.requires.machine (record {
       present = λ _. refl;
-      there = OnTrue_at c.if-is_there.true c.is_there.ensures;
+      there = tt;
       case_fits = gives.fits;
       dictionary = ap (λ (t : CaseText). t.dictionary) gives.is ∙ c.requires.dictionary;
       store_fits = c.requires.store;

@@ -5,41 +5,13 @@ ghost use Rattle.std.specs.Prelude.{◌≡◌, true};
 ghost use Rattle.std.specs.Coded.{→_prop, Coded-set, coded_bool};
 ghost use Rattle.cse_value.specs.Device.{IsAtEnd};
 
+use crate::device::Device;
 use crate::rows::{file_of, first_wrong};
 use cse_dict::Dictionary;
 use cse_lines::{Columns, DataError, Run, RunReader};
 use cse_test_fixtures::rows::{cut, number};
 use cse_value::{Input, Reads};
 use std::alloc::{AllocError, Global};
-use std::io;
-
-/// Gives bytes in small pieces, and fails before byte `breaks`.
-#[derive(Drop)]
-struct Pieces<'a> {
-    bytes: &'a [u8],
-    size: usize,
-    breaks: usize,
-}
-
-impl io::Read for Pieces<'_> {
-    fn read(&mut self, buf: &mut [u8]) -> io::Result<usize> {
-        let n = self
-            .size
-            .min(buf.len())
-            .min(self.bytes.len())
-            .min(self.breaks);
-        if self.breaks == 0 {
-            return Err(io::Error::from(io::ErrorKind::TimedOut));
-        }
-        buf[..n].copy_from_slice(&self.bytes[..n]);
-        self.bytes = &self.bytes[n..];
-        self.breaks -= n;
-        Ok(n)
-    }
-}
-
-const PERSONS: &str =
-    "[Dictionary]\nName=D\nRecordTypeStart=1\nRecordTypeLen=1\n[Level]\nName=L\n[IdItems]\n[Item]\nName=HH\nStart=2\nLen=3\n[Record]\nName=PERSON\nRecordTypeValue='P'\nRecordLen=6\nMaxRecords=2\n";
 
 /// A piece of a file, so often; how many bytes a read gives at most, and how many runs are read at most. What comes of it: the
 /// number and the line of the fault at which the file ends, or 0 and how many runs were read; how many reads gave bytes until
@@ -50,28 +22,31 @@ const PERSONS: &str =
 /// - many runs;
 /// - a line of as many columns and bytes as may be, and of one more (four rows).
 const ROWS: &str = "\
-read|FILE|1|1|1|0 1|31|-;\
-read|FILE|1|2|1|0 1|16|-;\
-read|FILE|1|3|1|0 1|11|-;\
-read|FILE|1|7|1|0 1|5|-;\
-read|FILE|1|65536|1|0 1|1|-;\
-read|P0011\nP001\n|1|4|1|0 1|3|-;\
-read|MIDDLE|1|65536|200000|20 2|-|-;\
-read|P001\n|10000|65536|200000|0 1|-|-;\
-read|P001\n|10001|65536|200000|22 10001|-|-;\
-read|P00111\nP00211\r\n|50000|65536|200000|0 100000|-|-;\
-read|\u{e9}|65536|65536|200000|0 1|-|-;\
-read|\u{e9}|65537|65536|200000|21 1|-|-;\
-read|BYTE|262144|65536|200000|20 1|-|-;\
-read|BYTE|262145|65536|200000|21 1|-|-";
+bare|read|FILE|1|1|1|0 1|31|-#\
+bare|read|FILE|1|2|1|0 1|16|-#\
+bare|read|FILE|1|3|1|0 1|11|-#\
+bare|read|FILE|1|7|1|0 1|5|-#\
+bare|read|FILE|1|65536|1|0 1|1|-#\
+bare|read|P0011\nP001\n|1|4|1|0 1|3|-#\
+bare|read|MIDDLE|1|65536|200000|20 2|-|-#\
+bare|read|P001\n|10000|65536|200000|0 1|-|-#\
+bare|read|P001\n|10001|65536|200000|22 10001|-|-#\
+bare|read|P00111\nP00211\r\n|50000|65536|200000|0 100000|-|-#\
+bare|read|\u{e9}|65536|65536|200000|0 1|-|-#\
+bare|read|\u{e9}|65537|65536|200000|21 1|-|-#\
+bare|read|BYTE|262144|65536|200000|20 1|-|-#\
+bare|read|BYTE|262145|65536|200000|21 1|-|-";
 
 /// Letters beyond ASCII late in a line, behind lines of ASCII; lines of ASCII that are read over one beyond; a text that has
 /// more bytes than the line before has columns; lines of blanks alone, which are padded as far as ids reach.
 const LAID: &str = "\
-read|P001234\nP001abcdefghijklmnopqrstuvwxyzabcdefghijklmn\u{e9}o\nP0015\nP001\u{20ac}\n|1|3|99|0 1|-|P001234/P001abcdefghijklmnopqrstuvwxyzabcdefghijklmn\u{e9}o/P0015 /P001\u{20ac} /;\
-read|P001\u{e9}\u{e9}12\nP00134567\nP002abc\nP003\n|1|3|99|0 3|-|P001\u{e9}\u{e9}12/P00134567/P002abc/P003  /;\
-read|P001\nP001\u{1f600}\u{1f600}\u{1f600}\nP001x|1|3|99|0 1|-|P001  /P001\u{1f600}\u{1f600}\u{1f600}/P001x /;\
-read|\n  \n      \nP00\u{e9}\n|1|3|99|0 2|-|    /    /      /P00\u{e9}  /";
+bare|read|P001234\nP001abcdefghijklmnopqrstuvwxyzabcdefghijklmn\u{e9}o\nP0015\nP001\u{20ac}\n|1|3|99|0 1|-|P001234/P001abcdefghijklmnopqrstuvwxyzabcdefghijklmn\u{e9}o/P0015 /P001\u{20ac} /#\
+bare|read|P001\u{e9}\u{e9}12\nP00134567\nP002abc\nP003\n|1|3|99|0 3|-|P001\u{e9}\u{e9}12/P00134567/P002abc/P003  /#\
+bare|read|P001\nP001\u{1f600}\u{1f600}\u{1f600}\nP001x|1|3|99|0 1|-|P001  /P001\u{1f600}\u{1f600}\u{1f600}/P001x /#\
+bare|read|\n  \n      \nP00\u{e9}\n|1|3|99|0 2|-|    /    /      /P00\u{e9}  /";
+
+/// A device that fails at each call: where it gives a byte in each, and where it gives three.
+const BROKEN: &str = "bare|broken|FILE|1|51#bare|broken|FILE|3|17";
 
 /// An input that gives its runs one by one.
 #[derive(Drop)]
@@ -141,12 +116,12 @@ fn told_of<'c, R: Input>(
 fn outcome<'c>(
     alloc: Global,
     dictionary: &Dictionary,
-    pieces: Pieces<'_>,
+    device: Device<'_>,
     most: u64,
     columns: &'c str,
 ) -> ((u64, u64, &'c str), u64) {
     let mut source = Source {
-        input: Reads::new(pieces),
+        input: Reads::new(device),
         reader: RunReader::new(alloc, dictionary),
     };
     let told = told_of(&mut source, most, columns);
@@ -154,15 +129,15 @@ fn outcome<'c>(
 }
 
 /// Whether a file is read as it is told: by at most so many runs, what comes of it, how many reads gave bytes, and its columns.
-fn is_told(alloc: Global, dictionary: &Dictionary, pieces: Pieces<'_>, row: &str) -> bool {
+fn is_told(alloc: Global, dictionary: &Dictionary, device: Device<'_>, row: &str) -> bool {
     let (most, rest) = cut(row, '|');
     let (wanted, rest) = cut(rest, '|');
     let (fault, line) = cut(wanted, ' ');
     let (wanted_reads, columns) = cut(rest, '|');
-    let (told, reads) = outcome(alloc, dictionary, pieces, number(most), columns);
+    let (told, reads) = outcome(alloc, dictionary, device, number(most), columns);
     let behind = if columns == "-" { "-" } else { "" };
-    told == (number(fault), number(line), behind)
-        && (wanted_reads == "-" || number(wanted_reads) == reads)
+    (told == (number(fault), number(line), behind))
+        & ((wanted_reads == "-") | (number(wanted_reads) == reads))
 }
 
 /// The bytes of a piece, so often.
@@ -176,12 +151,8 @@ fn push_times(bytes: &mut Vec<u8>, piece: &[u8], times: u64) -> Result<(), Alloc
 /// Whether a file of these bytes is read as the row tells.
 fn is_read_by(alloc: Global, dictionary: &Dictionary, bytes: &[u8], row: &str) -> bool {
     let (size, rest) = cut(row, '|');
-    let pieces = Pieces {
-        bytes,
-        size: number(size) as usize,
-        breaks: usize::MAX,
-    };
-    is_told(alloc, dictionary, pieces, rest)
+    let device = Device::new(bytes, number(size) as usize, 0, 0);
+    is_told(alloc, dictionary, device, rest)
 }
 
 pub(crate) fn is_read(alloc: Global, dictionary: &Dictionary, row: &str) -> bool {
@@ -194,34 +165,24 @@ pub(crate) fn is_read(alloc: Global, dictionary: &Dictionary, row: &str) -> bool
     }
 }
 
-/// Whether it is told of a device that it fails, before whichever byte of a file of so many it does.
+/// Whether it is told of a device that it fails, whichever of the calls it is that give bytes of a file: so many, with at most so
+/// many bytes in each.
 pub(crate) fn is_broken(alloc: Global, dictionary: &Dictionary, row: &str) -> bool {
-    let (file, len) = cut(row, '|');
-    let bytes = file_of(file);
-    for breaks in 0..bytes.len() {
-        let pieces = Pieces {
-            bytes,
-            size: 3,
-            breaks,
-        };
-        if !is_told(alloc, dictionary, pieces, "99|70 0|-|-") {
+    let (file, rest) = cut(row, '|');
+    let (size, calls) = cut(rest, '|');
+    let (bytes, size) = (file_of(file), number(size) as usize);
+    for call in 0..number(calls) {
+        let device = Device::new(bytes, size, call + 1, 0);
+        if !is_told(alloc, dictionary, device, "99|70 0|-|-") {
             return false;
         }
     }
-    number(len) == bytes.len() as u64
+    number(calls) > 0
 }
 
 #[test]
-fn limits_of_runs_and_lines(rt: HostRuntime) {
-    assert!(rt; first_wrong(rt.alloc(), PERSONS, ROWS) == Some(14));
-}
-
-#[test]
-fn columns_of_lines(rt: HostRuntime) {
-    assert!(rt; first_wrong(rt.alloc(), PERSONS, LAID) == Some(4));
-}
-
-#[test]
-fn a_device_that_fails(rt: HostRuntime) {
-    assert!(rt; first_wrong(rt.alloc(), PERSONS, "broken|FILE|51") == Some(1));
+fn lines(rt: HostRuntime) {
+    assert!(rt; first_wrong(rt.alloc(), ROWS) == 14);
+    assert!(rt; first_wrong(rt.alloc(), LAID) == 4);
+    assert!(rt; first_wrong(rt.alloc(), BROKEN) == 2);
 }

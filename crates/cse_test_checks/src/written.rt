@@ -1,6 +1,5 @@
 //! The items that logic may change, of a tree that is made here: the call gives them where memory is ample.
 
-use crate::changes::PERSONS;
 use crate::rows::first_wrong;
 use cse_dict::Dictionary;
 use cse_logic_tree::{Body, Field, Found, Number, Owner, Procedure, Statement, Tree, Which};
@@ -40,7 +39,7 @@ fn add<'a>(alloc: Global, procedures: &mut Vec<Procedure<'a>>, text: &'a str) ->
         owner: Owner::Item(AGE),
         body: Body::Plain(body),
     };
-    is_pushed(procedures, procedure) && is_filled
+    is_pushed(procedures, procedure) & is_filled
 }
 
 /// Whether AGE, by this name, is the one item that logic may change which imputes it.
@@ -52,12 +51,12 @@ pub(crate) fn is_written<'a>(alloc: Global, dictionary: &Dictionary, text: &'a s
     };
     let is_made = add(alloc, &mut tree.procedures, text);
     match items_written(alloc, &tree, dictionary) {
-        Ok(items) => is_made && items.as_slice() == [2u16].as_slice(),
+        Ok(items) => is_made & (items.as_slice() == [2u16].as_slice()),
         Err(_) => false,
     }
 }
 
 #[test]
 fn an_item_that_is_imputed(rt: HostRuntime) {
-    assert!(rt; first_wrong(rt.alloc(), PERSONS, "written|AGE") == Some(1));
+    assert!(rt; first_wrong(rt.alloc(), "ages|written|AGE") == 1);
 }
