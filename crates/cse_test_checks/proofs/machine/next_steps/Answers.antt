@@ -1,6 +1,6 @@
 use Rattle.std.proofs.Common.{◌≡◌, refl, ap, ◌∙◌}
 use Rattle.cse_case.specs.Case.{CaseText}
-use Rattle.cse_test_calls.proofs.machine.next_steps.Goals as goal
+use Rattle.cse_test_checks.proofs.machine.next_steps.Goals as goal
 
 pub run_event-requires-clause-fits : goal.run_event-requires-clause-fits
 run_event-requires-clause-fits g c =
