@@ -18,6 +18,8 @@ from checking import FILES, ROOT, count_text, rows, tables, unmarked
 from texts import text_of
 
 TO = os.path.join(ROOT, "crates/cse_test_files/data/rows/checks.txt")
+HERE = os.path.dirname(os.path.realpath(__file__))
+AFTER = "habits.after.apc"
 # What is said of a whole line, and of no token.
 OF_LINES = re.compile(r"the line |the number of a message|no logic has the number")
 NUMBERS = {*range(10, 19), *range(30, 36), *range(40, 50), *range(101, 112)}
@@ -299,6 +301,8 @@ def table():
         text, told = row_text(*row)
         made.append(text)
         numbers |= told
+    with open(os.path.join(HERE, AFTER), encoding="utf-8") as file:
+        made.append(row_text("a page of CSPro's habits, after one round of doing what was said", [], {"logic": file.read()}, [], set())[0])
     if numbers != NUMBERS:
         raise ValueError(f"no row of {sorted(NUMBERS - numbers)}")
     made.append(CALLS[1:])
