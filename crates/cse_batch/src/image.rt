@@ -5,6 +5,7 @@ ghost use Rattle.cse_dict.specs.Dictionary.{shape_of};
 ghost use Rattle.cse_batch.specs.Checked.{IsAccepted, IsRefused, IsNoFault, of_reading, of_verifying};
 
 use cse_dict::Dictionary;
+use cse_fault_numbers::WANT_OF_MEMORY;
 use cse_image::{CodeView, ImageError, Program, view_image};
 use cse_verify::{Refusal, Verified, verify};
 use std::alloc::Global;
@@ -28,7 +29,7 @@ pub enum CheckFault {
 fn of_reading(error: ImageError) -> CheckFault
     ensures { result ≡ of_reading error }
 {
-    if error.number == 90 {
+    if error.number == WANT_OF_MEMORY {
         CheckFault::Memory
     } else {
         CheckFault::Image(error)
@@ -39,7 +40,7 @@ fn of_reading(error: ImageError) -> CheckFault
 fn of_verifying(refusal: Refusal) -> CheckFault
     ensures { result ≡ of_verifying refusal }
 {
-    if refusal.number == 90 {
+    if refusal.number == WANT_OF_MEMORY {
         CheckFault::Memory
     } else {
         CheckFault::Refused(refusal)

@@ -16,6 +16,7 @@ use crate::machine::Runs;
 use crate::totals::{RunFault, Totals};
 use cse_case::CaseReader;
 use cse_decks::{Store, save};
+use cse_fault_numbers::{WANT_OF_MEMORY, WRITE_FAILED};
 use cse_image::{Code, EventCode};
 use cse_machine::Machine;
 use cse_output::Gatherer;
@@ -26,13 +27,13 @@ use std::alloc::Global;
 
 /// An output has failed.
 const WRITE_FAULT: RunFault = RunFault {
-    number: 71,
+    number: WRITE_FAILED,
     line: 0,
 };
 
 /// Want of memory.
 const MEMORY_FAULT: RunFault = RunFault {
-    number: 90,
+    number: WANT_OF_MEMORY,
     line: 0,
 };
 

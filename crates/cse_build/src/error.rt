@@ -4,6 +4,7 @@ ghost use Rattle.std.specs.Prelude.{◌≡◌};
 ghost use Rattle.cse_build.specs.Fault.{of_syntax, of_type, at_no_place};
 
 use cse_compile::CompileError;
+use cse_fault_numbers::UNREADABLE;
 use cse_syntax::SyntaxError;
 use cse_types::TypeError;
 use thiserror::Error;
@@ -30,14 +31,14 @@ pub struct BuildFault {
 
 /// Logic that isn't UTF-8.
 pub const NO_TEXT: BuildFault = BuildFault {
-    number: 30,
+    number: UNREADABLE,
     line: 0,
     column: 0,
 };
 
 /// Want of memory, which tells no place.
 pub const WANT_OF_MEMORY: BuildFault = BuildFault {
-    number: 90,
+    number: cse_fault_numbers::WANT_OF_MEMORY,
     line: 0,
     column: 0,
 };

@@ -46,7 +46,7 @@ impl<'a> Drop for CaseStream<'a> {
 
 /// Want of memory.
 const WANT_OF_MEMORY: DataError = DataError {
-    number: 90,
+    number: cse_fault_numbers::WANT_OF_MEMORY,
     line: 0,
 };
 

@@ -6,6 +6,7 @@ ghost use Rattle.cse_code_typing.specs.Rules.{AllKeepRules, FailsJumps};
 use crate::brackets::check_code;
 use crate::refusal::Refusal;
 use crate::routine_code::RoutineCode;
+use cse_fault_numbers::BAD_JUMP;
 use cse_image::{Code, Program};
 
 /// Whether each routine keeps the rules of jumps and brackets (own). An opener and a later END that
@@ -28,7 +29,7 @@ pub fn check_jumps_and_brackets<C: Code>(program: &Program<C>) -> Result<(), Ref
         let skeleton = RoutineCode::new(code, tables, start, head.instructions);
         if let Some(at) = check_code(&skeleton, None) {
             return Err(Refusal {
-                number: 65,
+                number: BAD_JUMP,
                 routine,
                 at,
             });

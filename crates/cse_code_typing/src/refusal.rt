@@ -3,6 +3,7 @@
 ghost use Rattle.std.specs.Prelude.{◌≡◌};
 ghost use Rattle.cse_code_typing.specs.Typed.{IsNowhere, IsOutOfMemory};
 
+use cse_fault_numbers::WANT_OF_MEMORY;
 use std::alloc::AllocError;
 use std::error::Error;
 use std::fmt;
@@ -40,7 +41,7 @@ impl From<AllocError> for Refusal {
     ghost from_gives = { λ _ e. IsOutOfMemory e };
 
     fn from(_e: AllocError) -> Refusal {
-        nowhere(90)
+        nowhere(WANT_OF_MEMORY)
     }
 }
 

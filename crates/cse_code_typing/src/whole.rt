@@ -17,6 +17,7 @@ use crate::refusal::{Refusal, nowhere};
 use crate::routine_code::RoutineCode;
 use crate::shape::same_shape;
 use crate::walk::{WalkFault, judge};
+use cse_fault_numbers::{BAD_CALL, BAD_JUMP, NO_STACK, OTHER_SHAPE};
 use cse_image::{Code, Program};
 use cse_value::shape::Shape;
 use std::alloc::Global;
@@ -47,7 +48,7 @@ pub fn check_routine<C: Code>(
     let skeleton = RoutineCode::new(code, around.tables, start, size);
     if let Some(at) = first_break(alloc, &skeleton)? {
         return Err(Refusal {
-            number: 65,
+            number: BAD_JUMP,
             routine: number,
             at,
         });
@@ -55,12 +56,12 @@ pub fn check_routine<C: Code>(
     match judge(alloc, around, code, start, number, smaller)? {
         Ok(depth) => Ok(depth),
         Err(WalkFault::MayNotStand(at)) => Err(Refusal {
-            number: 69,
+            number: BAD_CALL,
             routine: number,
             at,
         }),
         Err(WalkFault::NoStack(at)) => Err(Refusal {
-            number: 66,
+            number: NO_STACK,
             routine: number,
             at,
         }),
@@ -105,7 +106,7 @@ pub fn check_events<C: Code>(shape: &Shape, program: &Program<C>) -> Result<(), 
     let tables = program.tables();
     let count = program.records().len() as u32;
     if !names_each_once(program.order(), count) || !all_events_fit(shape, tables) {
-        return Err(nowhere(69));
+        return Err(nowhere(BAD_CALL));
     }
     Ok(())
 }
@@ -127,7 +128,7 @@ pub fn typed<C: Code>(alloc: Global, shape: &Shape, program: &Program<C>) -> Res
     ensures never { IfErr result (λ e. IsOutOfMemory e ⊎ (IsTyped (shape_lists shape.now) program.now → ⊥)) }
 {
     if !same_shape(shape, program) {
-        return Err(nowhere(68));
+        return Err(nowhere(OTHER_SHAPE));
     }
     check_routines(alloc, shape, program)?;
     check_events(shape, program)

@@ -3,6 +3,7 @@
 ghost use Rattle.std.specs.Prelude.{◌≡◌};
 ghost use Rattle.cse_compile.specs.Fault.{out_of_memory};
 
+use cse_fault_numbers::TOO_LARGE;
 use std::alloc::AllocError;
 use thiserror::Error;
 
@@ -20,10 +21,12 @@ pub struct CompileError {
 }
 
 /// More than an image can hold.
-pub const BEYOND: CompileError = CompileError { number: 64 };
+pub const BEYOND: CompileError = CompileError { number: TOO_LARGE };
 
 /// Want of memory.
-pub const WANT_OF_MEMORY: CompileError = CompileError { number: 90 };
+pub const WANT_OF_MEMORY: CompileError = CompileError {
+    number: cse_fault_numbers::WANT_OF_MEMORY,
+};
 
 impl From<AllocError> for CompileError {
     ghost from_gives = { λ _ e. e ≡ out_of_memory };

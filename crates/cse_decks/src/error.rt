@@ -3,6 +3,7 @@
 ghost use Rattle.std.specs.Prelude.{◌≡◌};
 ghost use Rattle.cse_decks.specs.Loading.{error_of};
 
+use cse_fault_numbers::WANT_OF_MEMORY;
 use thiserror::Error;
 
 /// The first line that is wrong, counted from 1, and what is wrong with it.
@@ -32,7 +33,7 @@ pub fn error_at(stop: DeckStop, line: u64) -> DeckError
 {
     match stop {
         DeckStop::Memory => DeckError {
-            number: 90,
+            number: WANT_OF_MEMORY,
             line: 0,
         },
         DeckStop::Fault(number) => DeckError { number, line },

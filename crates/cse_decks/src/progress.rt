@@ -16,6 +16,7 @@ use crate::due::Due;
 use crate::error::DeckStop;
 use crate::lines::{cell_of, is_array_line, word};
 use crate::store::put_cell;
+use cse_fault_numbers::{BAD_DECK_LINE, BAD_DECK_VALUE, OTHER_DECK_SIZES, UNKNOWN_ARRAY};
 use cse_image::Array;
 use itoa::Buffer;
 use std::alloc::{AllocError, Global};
@@ -116,10 +117,10 @@ impl Progress {
         ensures { Reads result (array_read (map array_lists arrays.now) self.old line.now) self.new }
     {
         let Some(i) = array_named(arrays, word(&line[6..])) else {
-            return Err(DeckStop::Fault(53));
+            return Err(DeckStop::Fault(UNKNOWN_ARRAY));
         };
         let Some(array) = arrays.get(i) else {
-            return Err(DeckStop::Fault(53));
+            return Err(DeckStop::Fault(UNKNOWN_ARRAY));
         };
         self.open(alloc, i, array, line)
     }
@@ -130,7 +131,7 @@ impl Progress {
         ensures { Reads result (cell_read self.old array place (value_of line.now)) self.new }
     {
         let Some(value) = cell_of(line) else {
-            return Err(DeckStop::Fault(51));
+            return Err(DeckStop::Fault(BAD_DECK_VALUE));
         };
         let count = self.arrays[array].len();
         put_cell(&mut self.arrays, array, place, value);
@@ -143,7 +144,7 @@ impl Progress {
         ensures { Reads result (heading_read self.old line.now) self.new }
     {
         if line != b"CSEB DECKS 1".as_slice() {
-            return Err(DeckStop::Fault(50));
+            return Err(DeckStop::Fault(BAD_DECK_LINE));
         }
         self.due = Due::Opening;
         Ok(())
@@ -158,7 +159,7 @@ impl Progress {
             return Ok(());
         }
         if !is_array_line(line) {
-            return Err(DeckStop::Fault(50));
+            return Err(DeckStop::Fault(BAD_DECK_LINE));
         }
         self.read_array(alloc, arrays, line)
     }
@@ -177,7 +178,7 @@ impl Progress {
             Due::Cell(array, place) => self.read_cell(array, place, line),
             Due::Heading => self.read_heading(line),
             Due::Opening => self.read_opening(alloc, arrays, line),
-            Due::Nothing => Err(DeckStop::Fault(50)),
+            Due::Nothing => Err(DeckStop::Fault(BAD_DECK_LINE)),
         }
     }
 
@@ -243,13 +244,13 @@ fn opening(
         Err(_) => return Err(DeckStop::Memory),
     };
     if line != own.as_slice() {
-        return Err(DeckStop::Fault(52));
+        return Err(DeckStop::Fault(OTHER_DECK_SIZES));
     }
     if !array.saved {
-        return Err(DeckStop::Fault(53));
+        return Err(DeckStop::Fault(UNKNOWN_ARRAY));
     }
     if !is_open(came, i) {
-        return Err(DeckStop::Fault(53));
+        return Err(DeckStop::Fault(UNKNOWN_ARRAY));
     }
     Ok(first_due(arrays, i))
 }

@@ -13,6 +13,7 @@ use crate::keys::{DataType, Kind, entry_of, kind_of};
 use crate::names::Names;
 use crate::pairs::{is_value, pairs_after};
 use crate::seen::{Filled, Seen};
+use cse_fault_numbers::{ITEM_PAST_RECORD, KEY_LACKS, NUMBER_UNREADABLE, TOO_MANY};
 use cse_sections::number::{fits_columns, whole_of};
 use cse_sections::sections::{Entry, Section};
 use std::alloc::{AllocError, Global};
@@ -37,7 +38,7 @@ fn check_record_head(
     ensures found { OnOk result (found.new ≡ note_all found.old (record_head_faults seen.old section.now)) }
     ensures seen { OnOk result (seen.new ≡ record seen.old { names = names_after seen.old.names section.now }) }
 {
-    note_if(found, seen.context.records >= 200, section.line, 17);
+    note_if(found, seen.context.records >= 200, section.line, TOO_MANY);
     check_name(alloc, section, &mut seen.names, found)?;
     check_record_numbers(section, found);
     Ok(())
@@ -67,12 +68,12 @@ fn check_record(
 fn check_item_limits(context: Context, section: &Section<'_>, found: &mut Option<DictError>)
     ensures { found.new ≡ note_all found.old (item_limit_faults context section.now) }
 {
-    note_if(found, context.items >= 10000, section.line, 17);
+    note_if(found, context.items >= 10000, section.line, TOO_MANY);
     note_if(
         found,
         is_ids(context.owner) && context.ids >= 50,
         section.line,
-        17,
+        TOO_MANY,
     );
 }
 
@@ -131,9 +132,14 @@ fn is_too_far(owner: Owner, columns: Option<Columns>) -> bool
 fn check_item_place(owner: Owner, section: &Section<'_>, found: &mut Option<DictError>)
     ensures { found.new ≡ note_all found.old (item_place_faults owner section.now) }
 {
-    note_if(found, is_homeless(owner), section.line, 12);
+    note_if(found, is_homeless(owner), section.line, KEY_LACKS);
     let columns = columns_of(section);
-    note_if(found, is_too_far(owner, columns), section.line, 15);
+    note_if(
+        found,
+        is_too_far(owner, columns),
+        section.line,
+        ITEM_PAST_RECORD,
+    );
 }
 
 /// Whether a code isn't readable or is too long for its item.
@@ -174,7 +180,7 @@ fn check_code(
         return;
     };
     let is_bad = has_bad_code(covered, owner, field, entry.value);
-    note_if(found, is_bad, entry.line, 14);
+    note_if(found, is_bad, entry.line, NUMBER_UNREADABLE);
 }
 
 /// An item.
@@ -222,8 +228,13 @@ fn check_value(
 {
     let after = filled_after(data_type, filled, entry);
     let is_value = is_value(entry);
-    note_if(found, is_value && after.rows > 65534, entry.line, 17);
-    note_if(found, is_value && after.pairs > 100_000, entry.line, 17);
+    note_if(found, is_value && after.rows > 65534, entry.line, TOO_MANY);
+    note_if(
+        found,
+        is_value && after.pairs > 100_000,
+        entry.line,
+        TOO_MANY,
+    );
     after
 }
 
@@ -255,8 +266,8 @@ fn check_set_head(
     ensures found { OnOk result (found.new ≡ note_all found.old (set_head_faults seen.old section.now)) }
     ensures seen { OnOk result (seen.new ≡ record seen.old { names = names_after seen.old.names section.now }) }
 {
-    note_if(found, seen.context.items == 0, section.line, 12);
-    note_if(found, seen.context.sets >= 10000, section.line, 17);
+    note_if(found, seen.context.items == 0, section.line, KEY_LACKS);
+    note_if(found, seen.context.sets >= 10000, section.line, TOO_MANY);
     check_name(alloc, section, &mut seen.names, found)?;
     Ok(())
 }

@@ -20,6 +20,7 @@ use crate::parts::{Item, Record, Set, items_of, name_at, records_of, sets_of};
 use crate::places::{Places, item_places, record_places, set_places};
 use crate::record_type::type_len_of;
 use crate::whole::{is_level, least_fault, read_len};
+use cse_fault_numbers::DICTIONARY_NOT_UTF8;
 use cse_sections::sections::{Section, sections_of};
 use cse_sections::text::is_utf8;
 use cse_value::shape::{ItemShape, RecordShape, SetShape, Shape};
@@ -296,7 +297,7 @@ fn dictionary_of(alloc: Global, sections: &[Section<'_>]) -> Result<Dictionary, 
 
 /// Want of memory.
 const WANT_OF_MEMORY: DictError = DictError {
-    number: 90,
+    number: cse_fault_numbers::WANT_OF_MEMORY,
     line: 0,
 };
 
@@ -309,7 +310,7 @@ fn sound_sections(alloc: Global, text: &[u8]) -> Result<Vec<Section<'_>>, DictEr
 {
     if !is_utf8(text) {
         return Err(DictError {
-            number: 10,
+            number: DICTIONARY_NOT_UTF8,
             line: 0,
         });
     }

@@ -8,6 +8,7 @@ use crate::fault::{DictError, note_if};
 use crate::keys::{entry_of, is_name};
 use crate::names::{Names, Types};
 use crate::record_type::{is_too_long, type_of};
+use cse_fault_numbers::{KEY_LACKS, NAME_TWICE, NUMBER_UNREADABLE, RECORD_TYPE_TWICE, TOO_MANY};
 use cse_sections::number::number_between;
 use cse_sections::sections::{Entry, Section};
 use std::alloc::{AllocError, Global};
@@ -22,7 +23,7 @@ fn needed<'s, 'a>(
     ensures found { found.new ≡ note_all found.old (lacking section.now (entry_of key.now section.now)) }
 {
     let entry = entry_of(section, key);
-    note_if(found, entry.is_none(), section.line, 12);
+    note_if(found, entry.is_none(), section.line, KEY_LACKS);
     entry
 }
 
@@ -41,7 +42,7 @@ pub fn check_number(
         return;
     };
     let number = number_between(low, high, entry.value);
-    note_if(found, number.is_none(), entry.line, 14);
+    note_if(found, number.is_none(), entry.line, NUMBER_UNREADABLE);
 }
 
 /// A number that may stand at its key.
@@ -59,7 +60,7 @@ pub fn check_optional(
         return;
     };
     let number = number_between(low, high, entry.value);
-    note_if(found, number.is_none(), entry.line, 14);
+    note_if(found, number.is_none(), entry.line, NUMBER_UNREADABLE);
 }
 
 /// The columns of an item.
@@ -103,9 +104,9 @@ pub fn check_name(
     let Some(entry) = needed(section, b"Name", found) else {
         return Ok(());
     };
-    note_if(found, !is_name(entry.value), entry.line, 17);
+    note_if(found, !is_name(entry.value), entry.line, TOO_MANY);
     let is_new = names.add(entry.value.to_ascii_uppercase(alloc)?)?;
-    note_if(found, !is_new, section.line, 16);
+    note_if(found, !is_new, section.line, NAME_TWICE);
     Ok(())
 }
 
@@ -123,11 +124,11 @@ pub fn check_type(
         return Ok(());
     };
     let Some(entry) = entry_of(section, b"RecordTypeValue") else {
-        note_if(found, 0 < len, section.line, 12);
+        note_if(found, 0 < len, section.line, KEY_LACKS);
         return Ok(());
     };
     let is_too_long = is_too_long(alloc, len, entry.value)?;
-    note_if(found, is_too_long, entry.line, 14);
+    note_if(found, is_too_long, entry.line, NUMBER_UNREADABLE);
     Ok(())
 }
 
@@ -147,6 +148,6 @@ pub fn check_twice(
         return Ok(());
     };
     let is_new = types.add(record_type)?;
-    note_if(found, !is_new, section.line, 18);
+    note_if(found, !is_new, section.line, RECORD_TYPE_TWICE);
     Ok(())
 }

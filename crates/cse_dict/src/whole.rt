@@ -12,6 +12,7 @@ use crate::keys::{Kind, kind_of};
 use crate::names::{Names, Types};
 use crate::record_type::type_len_of;
 use crate::seen::Seen;
+use cse_fault_numbers::{KEY_LACKS, SECOND_LEVEL};
 use cse_sections::sections::Section;
 use std::alloc::{AllocError, Global};
 
@@ -127,7 +128,7 @@ fn check_second(unread: &[Section<'_>], found: &mut Option<DictError>)
     ensures { found.new ≡ note_all found.old (second_level unread.now) }
 {
     if let [second, ..] = unread {
-        note_if(found, true, second.line, 13);
+        note_if(found, true, second.line, SECOND_LEVEL);
     }
 }
 
@@ -150,7 +151,7 @@ fn check_behind(
         pairs: 0,
     };
     let len = read_len(rest);
-    note_if(found, !has_level(&rest[..len]), first.line, 12);
+    note_if(found, !has_level(&rest[..len]), first.line, KEY_LACKS);
     check_rest(alloc, first, &rest[..len], &mut seen, found)?;
     check_second(&rest[len..], found);
     Ok(())
@@ -158,7 +159,7 @@ fn check_behind(
 
 /// No dictionary at all.
 const NO_DICTIONARY: DictError = DictError {
-    number: 11,
+    number: cse_fault_numbers::NO_DICTIONARY,
     line: 0,
 };
 

@@ -21,7 +21,7 @@ use cse_verify::Verified;
 use std::alloc::Global;
 
 /// The number of a want of memory.
-const MEMORY: u8 = 90;
+const MEMORY: u8 = cse_fault_numbers::WANT_OF_MEMORY;
 
 /// The store that a program starts with: a new one, or that which the text of the hot decks says, where there is one. The
 /// faults are that of its first faulty line (`Decks`) and want of memory.

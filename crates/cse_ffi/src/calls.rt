@@ -19,7 +19,7 @@ use std::alloc::Global;
 /// The number of an output that failed, and that of a want of memory.
 const WRITE: u32 = 71;
 
-const MEMORY: u8 = 90;
+const MEMORY: u8 = cse_fault_numbers::WANT_OF_MEMORY;
 
 /// The dictionary of a text.
 fn dictionary_of(alloc: Global, text: &[u8]) -> Result<Dictionary, CsbFault>

@@ -5,6 +5,7 @@ ghost use Rattle.cse_ffi.specs.Fault.{counts_of, fault_at, of_check, status_of, 
 
 use crate::calls::Texts;
 use cse_batch::{CheckFault, Totals};
+use cse_fault_numbers::WANT_OF_MEMORY;
 
 /// Why there is nothing: a number of docs/FAULTS.md, and its place, as far as the number knows of one. Line and column count
 /// from 1; 0 means none.
@@ -56,7 +57,7 @@ pub(crate) fn of_check(error: CheckFault) -> CsbFault
     match error {
         CheckFault::Image(error) => fault_at(error.number, 0, 0),
         CheckFault::Refused(refusal) => fault_at(refusal.number, 0, 0),
-        CheckFault::Memory => fault_at(90, 0, 0),
+        CheckFault::Memory => fault_at(WANT_OF_MEMORY, 0, 0),
     }
 }
 

@@ -3,6 +3,7 @@
 ghost use Rattle.std.specs.Prelude.{◌≡◌};
 ghost use Rattle.cse_image.specs.Place.{number_of, error_of};
 
+use cse_fault_numbers::WANT_OF_MEMORY;
 use cse_image_codec::{ReadStop, Rule};
 use std::error::Error;
 use std::fmt;
@@ -32,7 +33,10 @@ pub fn error_within(stop: ReadStop, len: usize) -> ImageError
     ensures { result ≡ error_of stop len }
 {
     match stop {
-        ReadStop::Memory => ImageError { number: 90, at: 0 },
+        ReadStop::Memory => ImageError {
+            number: WANT_OF_MEMORY,
+            at: 0,
+        },
         ReadStop::Fault(fault) => ImageError {
             number: rule_number(fault.rule),
             at: len.saturating_sub(fault.left),

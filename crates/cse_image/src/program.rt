@@ -15,6 +15,7 @@ use crate::fitting::{each_instr_fits, is_code_of, tables_fit};
 use crate::sections::put_tables;
 use crate::view::{CodeView, view_image};
 use crate::writing::{put_header, put_instr};
+use cse_fault_numbers::WANT_OF_MEMORY;
 use cse_image_parts::entries::{
     Array, EventEntry, GlobalVariable, Message, Parts, Routine, Tables,
 };
@@ -179,7 +180,10 @@ fn owned(alloc: Global, program: Program<CodeView>) -> Result<Program, ImageErro
 {
     match instructions_of(alloc, program.code()) {
         Ok(code) => Ok(with_code(into_tables(program), code)),
-        Err(_) => Err(ImageError { number: 90, at: 0 }),
+        Err(_) => Err(ImageError {
+            number: WANT_OF_MEMORY,
+            at: 0,
+        }),
     }
 }
 
@@ -207,7 +211,10 @@ pub fn write_image<C: Code>(alloc: Global, program: &Program<C>) -> Result<Vec<u
 {
     match put_program(alloc, program) {
         Ok(bytes) => Ok(bytes),
-        Err(_) => Err(ImageError { number: 90, at: 0 }),
+        Err(_) => Err(ImageError {
+            number: WANT_OF_MEMORY,
+            at: 0,
+        }),
     }
 }
 

@@ -12,6 +12,7 @@ use crate::columns::{piece, put_at};
 use crate::copy::put_piece;
 use crate::decode::LineStop;
 use crate::fill::put_blanks;
+use cse_fault_numbers::LINE_NOT_UTF8;
 use std::simd::prelude::*;
 
 /// Writes the characters of a text over the first of the columns, and tells how many there are.
@@ -247,7 +248,7 @@ fn put_any(bytes: &mut [u8], beside: &mut [char], text: &[u8]) -> Result<usize, 
 {
     match str::from_utf8(text) {
         Ok(text) => Ok(put_text(bytes, beside, text)),
-        Err(_) => Err(LineStop::Fault(20)),
+        Err(_) => Err(LineStop::Fault(LINE_NOT_UTF8)),
     }
 }
 

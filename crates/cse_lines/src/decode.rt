@@ -17,6 +17,7 @@ use crate::layout::{ColumnSpan, Layout, field_at, is_same_at};
 use crate::line::Ending;
 use crate::same::is_same;
 use cse_dict::Dictionary;
+use cse_fault_numbers::LINE_TOO_LONG;
 use std::alloc::AllocError;
 
 /// The most columns of a line.
@@ -187,11 +188,11 @@ pub fn decode(
     let (bytes, ending) = split_end(line);
     let (marked, text) = split_mark(bytes, front);
     if text.len() > MOST_BYTES {
-        return Err(LineStop::Fault(21));
+        return Err(LineStop::Fault(LINE_TOO_LONG));
     }
     let len = columns.read(text)?;
     if len > MOST_COLUMNS {
-        return Err(LineStop::Fault(21));
+        return Err(LineStop::Fault(LINE_TOO_LONG));
     }
     let (record_number, beginning) = widen(dictionary, layout, columns, len, last)?;
     Ok(Head {

@@ -13,6 +13,7 @@ use crate::gather::gather;
 use crate::layout::Layout;
 use crate::run::{Lines, Run, keep_lines};
 use cse_dict::Dictionary;
+use cse_fault_numbers::{READ_FAILED, WANT_OF_MEMORY};
 use cse_value::Input;
 use std::alloc::{AllocError, Global};
 use std::mem;
@@ -83,20 +84,20 @@ fn next_run<R: Input>(
             Ok(Some(given)) => return Ok(Some(given)),
             Ok(None) if *ended => return Ok(take_rest(alloc, run)),
             Ok(None) => {}
-            Err(LineStop::Memory) => return Err(error(90)),
+            Err(LineStop::Memory) => return Err(error(WANT_OF_MEMORY)),
             Err(LineStop::Fault(number)) => return Err(DataError {
                 number,
                 line: lines + run.len() as u64 + 1,
             }),
         }
         if *reads == MOST_READS {
-            return Err(error(70));
+            return Err(error(READ_FAILED));
         }
         match buffer.read_from(alloc, input) {
             Ok(0) => *ended = true,
             Ok(_) => *reads += 1,
-            Err(ReadFault::Device) => return Err(error(70)),
-            Err(ReadFault::Memory) => return Err(error(90)),
+            Err(ReadFault::Device) => return Err(error(READ_FAILED)),
+            Err(ReadFault::Memory) => return Err(error(WANT_OF_MEMORY)),
         }
     }
 }
@@ -146,13 +147,13 @@ pub fn next_by_layout<R: Input>(
     ensures sound { IfErr result (λ error. error.number ≢ 70 → IsUnfailing (R.given input.old) (R.given input.new)) }
 {
     let Ok(()) = keep_layout(alloc, dictionary, layout) else {
-        return Err(error(90));
+        return Err(error(WANT_OF_MEMORY));
     };
     let Some(known) = layout else {
         unreachable!();
     };
     let Ok(()) = keep_lines(alloc, read) else {
-        return Err(error(90));
+        return Err(error(WANT_OF_MEMORY));
     };
     let Some(read) = read else {
         unreachable!();

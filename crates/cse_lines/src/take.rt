@@ -14,6 +14,7 @@ use crate::filled::Filled;
 use crate::layout::Layout;
 use crate::run::{Lines, Run, new_lines};
 use cse_dict::Dictionary;
+use cse_fault_numbers::RUN_TOO_LONG;
 use std::alloc::{AllocError, Global};
 use std::mem;
 
@@ -68,7 +69,7 @@ pub fn take_line(
         return Ok(Some(head));
     }
     if len == MOST_LINES {
-        return Err(LineStop::Fault(22));
+        return Err(LineStop::Fault(RUN_TOO_LONG));
     }
     run.push(columns, head, line)?;
     Ok(None)

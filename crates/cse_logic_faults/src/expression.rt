@@ -18,6 +18,7 @@ use crate::found::Found;
 use crate::kind::{Kind, is_text, kind_of, text_token};
 use crate::name::{bare, indexed};
 use crate::set::{member, queried};
+use cse_fault_numbers::{MISPLACED_DIVISION, OTHER_KIND};
 use cse_logic_names::scope::Scope;
 use cse_syntax_tree::{Expression, Function, Lexeme, Operation, Operator, is_within};
 use std::alloc::AllocError;
@@ -34,14 +35,14 @@ fn has_value(digits: Lexeme<'_>) -> bool
 pub fn digits(found: &mut Found, digits: Lexeme<'_>) -> Result<(), AllocError>
     ensures { OnOk result (found.new ≡ found.old ++ digits_faults (written digits.entry)) }
 {
-    found.unless(has_value(digits), 44, digits.token)
+    found.unless(has_value(digits), OTHER_KIND, digits.token)
 }
 
 /// A text, where a number is to stand.
 pub fn text(found: &mut Found, kind: Kind, token: usize) -> Result<(), AllocError>
     ensures { OnOk result (found.new ≡ found.old ++ spec.text_faults (sort kind) token) }
 {
-    found.unless(!is_text(kind), 44, token)
+    found.unless(!is_text(kind), OTHER_KIND, token)
 }
 
 /// Two values of one kind; else the fault stands at the text.
@@ -59,11 +60,11 @@ fn kinds(
         Kind::Number => match right {
             Kind::Unknown => found.none(),
             Kind::Number => found.none(),
-            Kind::Text => found.add(44, later),
+            Kind::Text => found.add(OTHER_KIND, later),
         },
         Kind::Text => match right {
             Kind::Unknown => found.none(),
-            Kind::Number => found.add(44, earlier),
+            Kind::Number => found.add(OTHER_KIND, earlier),
             Kind::Text => found.none(),
         },
     }
@@ -195,7 +196,11 @@ fn operation(
 ) -> Result<(), AllocError>
     ensures { OnOk result (found.new ≡ found.old ++ operation_faults counts.now scope.now top (operation_tree x.now) is_last) }
 {
-    found.unless(may_stand(top, x.operator, is_last), 46, x.token())?;
+    found.unless(
+        may_stand(top, x.operator, is_last),
+        MISPLACED_DIVISION,
+        x.token(),
+    )?;
     number(scope, counts, found, false, &x.operand)
 }
 

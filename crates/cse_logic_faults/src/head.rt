@@ -13,6 +13,7 @@ use crate::expression::digits;
 use crate::found::Found;
 use crate::place::free;
 use crate::set::record_named;
+use cse_fault_numbers::UNUSABLE_HERE;
 use cse_logic_names::meaning::Meaning;
 use cse_logic_names::scope::Scope;
 use cse_logic_tree::Variable;
@@ -146,5 +147,5 @@ pub fn jump(
 ) -> Result<(), AllocError>
     ensures { OnOk result (found.new ≡ found.old ++ faults.unless (well.may_jump scope.now.loops jump) 49 token) }
 {
-    found.unless(may_jump(&scope.loops, jump), 49, token)
+    found.unless(may_jump(&scope.loops, jump), UNUSABLE_HERE, token)
 }

@@ -19,6 +19,7 @@ use crate::counts::Counts;
 use crate::expression::expression;
 use crate::found::Found;
 use crate::kind::{Kind, is_number, is_text, kind_of};
+use cse_fault_numbers::{OTHER_KIND, OTHER_PLACEHOLDERS, UNKNOWN_NAME};
 use cse_image_parts::placeholders::{ArgumentKind, Kinds, count_placeholders};
 use cse_logic_names::messages::Messages;
 use cse_logic_names::scope::Scope;
@@ -121,7 +122,7 @@ fn argument(
         None => expression(scope, counts, found, false, x),
         Some(kind) => {
             expression(scope, counts, found, false, x)?;
-            found.unless(is_of(kind, kind_of(scope, x)), 44, x.token())
+            found.unless(is_of(kind, kind_of(scope, x)), OTHER_KIND, x.token())
         }
     }
 }
@@ -184,7 +185,7 @@ fn filled(
     if has_values(text, values) {
         arguments(scope, counts, found, text, values)
     } else {
-        unfilled(scope, counts, found, 48, token, values)
+        unfilled(scope, counts, found, OTHER_PLACEHOLDERS, token, values)
     }
 }
 
@@ -199,7 +200,7 @@ pub fn err_msg(
     ensures { OnOk result (found.new ≡ found.old ++ spec.message_faults counts.now scope.now (message_token (message said.entry)) (well.kinds_of scope.now.messages (message said.entry)) (exprs (map expr values.now.items))) }
 {
     match text_meant(scope.messages, said) {
-        None => unfilled(scope, counts, found, 40, said.token(), values),
+        None => unfilled(scope, counts, found, UNKNOWN_NAME, said.token(), values),
         Some(text) => filled(scope, counts, found, text, said.token(), values),
     }
 }

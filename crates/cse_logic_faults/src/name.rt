@@ -9,6 +9,9 @@ ghost use Rattle.cse_logic_names.specs.Walk.{is_there};
 
 use crate::counts::{Counts, is_count};
 use crate::found::Found;
+use cse_fault_numbers::{
+    BEFORE_ITS_END, LOOP_VARIABLE, OPAQUE_ITEM, OTHER_KIND, UNKNOWN_NAME, UNUSABLE_HERE,
+};
 use cse_logic_names::meaning::Meaning;
 use cse_logic_names::names::Globals;
 use cse_logic_names::scope::{Facts, Scope, has_case, kind_and_owner, own_result};
@@ -44,11 +47,11 @@ fn item(scope: &Scope<'_>, found: &mut Found, token: usize, item: u16) -> Result
     ensures { OnOk result (found.new ≡ found.old ++ spec.item_faults scope.now token (scopes.kind_and_owner scope.now.dictionary item)) }
 {
     match kind_and_owner(scope.dictionary, item) {
-        None => found.add(40, token),
+        None => found.add(UNKNOWN_NAME, token),
         Some((kind, owner)) => match kind {
-            ItemKind::Opaque => found.add(41, token),
-            ItemKind::Number => found.unless(is_present(scope, owner), 49, token),
-            ItemKind::Text => found.unless(is_present(scope, owner), 49, token),
+            ItemKind::Opaque => found.add(OPAQUE_ITEM, token),
+            ItemKind::Number => found.unless(is_present(scope, owner), UNUSABLE_HERE, token),
+            ItemKind::Text => found.unless(is_present(scope, owner), UNUSABLE_HERE, token),
         },
     }
 }
@@ -64,8 +67,8 @@ fn field(
 ) -> Result<(), AllocError>
     ensures { OnOk result (found.new ≡ found.old ++ spec.field_faults scope.now token count owner) }
 {
-    found.unless(count == 1 && !(owner == IDS), 44, token)?;
-    found.unless(has_case(scope.routine), 49, token)
+    found.unless(count == 1 && !(owner == IDS), OTHER_KIND, token)?;
+    found.unless(has_case(scope.routine), UNUSABLE_HERE, token)
 }
 
 /// An item with so many subscripts.
@@ -79,9 +82,9 @@ fn item_at(
     ensures { OnOk result (found.new ≡ found.old ++ spec.item_at_faults scope.now token count (scopes.kind_and_owner scope.now.dictionary item)) }
 {
     match kind_and_owner(scope.dictionary, item) {
-        None => found.add(40, token),
+        None => found.add(UNKNOWN_NAME, token),
         Some((kind, owner)) => match kind {
-            ItemKind::Opaque => found.add(41, token),
+            ItemKind::Opaque => found.add(OPAQUE_ITEM, token),
             ItemKind::Number => field(scope, found, token, count, owner),
             ItemKind::Text => field(scope, found, token, count, owner),
         },
@@ -98,11 +101,11 @@ pub fn number_item(
     ensures { OnOk result (found.new ≡ found.old ++ spec.number_item_faults scope.now token (scopes.kind_and_owner scope.now.dictionary item)) }
 {
     match kind_and_owner(scope.dictionary, item) {
-        None => found.add(40, token),
+        None => found.add(UNKNOWN_NAME, token),
         Some((kind, owner)) => match kind {
-            ItemKind::Opaque => found.add(41, token),
-            ItemKind::Number => found.unless(is_present(scope, owner), 49, token),
-            ItemKind::Text => found.add(44, token),
+            ItemKind::Opaque => found.add(OPAQUE_ITEM, token),
+            ItemKind::Number => found.unless(is_present(scope, owner), UNUSABLE_HERE, token),
+            ItemKind::Text => found.add(OTHER_KIND, token),
         },
     }
 }
@@ -143,8 +146,16 @@ fn ended(
 ) -> Result<(), AllocError>
     ensures { OnOk result (found.new ≡ found.old ++ spec.ended_faults scope.now token (Some (Some facts.now))) }
 {
-    found.unless(are_free(&scope.loops, &facts.assigned), 47, token)?;
-    found.unless(has_case(scope.routine) || !facts.needs_case, 49, token)
+    found.unless(
+        are_free(&scope.loops, &facts.assigned),
+        LOOP_VARIABLE,
+        token,
+    )?;
+    found.unless(
+        has_case(scope.routine) || !facts.needs_case,
+        UNUSABLE_HERE,
+        token,
+    )
 }
 
 /// A call of a function that has ended, sound or not, or has not.
@@ -157,7 +168,7 @@ fn called(
     ensures { OnOk result (found.new ≡ found.old ++ spec.ended_faults scope.now token (slice_get scope.now.functions function)) }
 {
     match scope.functions.get(function) {
-        None => found.add(45, token),
+        None => found.add(BEFORE_ITS_END, token),
         Some(facts) => match facts {
             None => found.none(),
             Some(facts) => ended(scope, found, token, facts),
@@ -177,7 +188,11 @@ pub fn call(
 ) -> Result<(), AllocError>
     ensures { OnOk result (found.new ≡ found.old ++ spec.call_faults counts.now scope.now token count function) }
 {
-    found.unless(is_count(&counts.parameters, function, count), 44, token)?;
+    found.unless(
+        is_count(&counts.parameters, function, count),
+        OTHER_KIND,
+        token,
+    )?;
     called(scope, found, token, function)
 }
 
@@ -191,7 +206,11 @@ pub fn cell(
 ) -> Result<(), AllocError>
     ensures { OnOk result (found.new ≡ found.old ++ spec.cell_faults counts.now token count array) }
 {
-    found.unless(is_count(&counts.dimensions, array, count), 44, token)
+    found.unless(
+        is_count(&counts.dimensions, array, count),
+        OTHER_KIND,
+        token,
+    )
 }
 
 // ---- names
@@ -211,17 +230,21 @@ pub fn bare(scope: &Scope<'_>, found: &mut Found, name: Lexeme<'_>) -> Result<()
     ensures { OnOk result (found.new ≡ found.old ++ spec.bare_faults scope.now name.entry.token (scopes.meant scope.now (written name.entry))) }
 {
     match scope.meant(name) {
-        None => found.add(40, name.token),
+        None => found.add(UNKNOWN_NAME, name.token),
         Some(meaning) => match meaning {
             Meaning::Variable(_) => found.none(),
             Meaning::Text(_) => found.none(),
-            Meaning::Array(_) => found.add(44, name.token),
-            Meaning::Function(function) => found.unless(is_own(scope, function), 40, name.token),
-            Meaning::Record(_) => found.add(40, name.token),
+            Meaning::Array(_) => found.add(OTHER_KIND, name.token),
+            Meaning::Function(function) => found.unless(
+                is_own(scope, function),
+                UNKNOWN_NAME,
+                name.token,
+            ),
+            Meaning::Record(_) => found.add(UNKNOWN_NAME, name.token),
             Meaning::Item(number) => item(scope, found, name.token, number),
-            Meaning::Set(_) => found.add(40, name.token),
-            Meaning::Application => found.add(40, name.token),
-            Meaning::Level => found.add(40, name.token),
+            Meaning::Set(_) => found.add(UNKNOWN_NAME, name.token),
+            Meaning::Application => found.add(UNKNOWN_NAME, name.token),
+            Meaning::Level => found.add(UNKNOWN_NAME, name.token),
         },
     }
 }
@@ -237,19 +260,19 @@ pub fn indexed(
     ensures { OnOk result (found.new ≡ found.old ++ spec.indexed_faults counts.now scope.now name.entry.token count (scopes.meant scope.now (written name.entry))) }
 {
     match scope.meant(name) {
-        None => found.add(40, name.token),
+        None => found.add(UNKNOWN_NAME, name.token),
         Some(meaning) => match meaning {
-            Meaning::Variable(_) => found.add(44, name.token),
-            Meaning::Text(_) => found.add(44, name.token),
+            Meaning::Variable(_) => found.add(OTHER_KIND, name.token),
+            Meaning::Text(_) => found.add(OTHER_KIND, name.token),
             Meaning::Array(array) => cell(counts, found, name.token, count, array),
             Meaning::Function(function) => {
                 call(scope, counts, found, name.token, count, function)
             }
-            Meaning::Record(_) => found.add(40, name.token),
+            Meaning::Record(_) => found.add(UNKNOWN_NAME, name.token),
             Meaning::Item(item) => item_at(scope, found, name.token, count, item),
-            Meaning::Set(_) => found.add(40, name.token),
-            Meaning::Application => found.add(40, name.token),
-            Meaning::Level => found.add(40, name.token),
+            Meaning::Set(_) => found.add(UNKNOWN_NAME, name.token),
+            Meaning::Application => found.add(UNKNOWN_NAME, name.token),
+            Meaning::Level => found.add(UNKNOWN_NAME, name.token),
         },
     }
 }

@@ -14,6 +14,9 @@ use crate::expression::text;
 use crate::found::Found;
 use crate::kind::{Kind, is_number};
 use crate::name::{IDS, call, cell, is_found};
+use cse_fault_numbers::{
+    ID_ITEM, LOOP_VARIABLE, OPAQUE_ITEM, OTHER_KIND, UNKNOWN_NAME, UNUSABLE_HERE,
+};
 use cse_logic_names::meaning::Meaning;
 use cse_logic_names::scope::{Scope, has_case, kind_and_owner, own_result};
 use cse_logic_tree::Variable;
@@ -66,8 +69,8 @@ pub fn free(
     ensures { OnOk result (found.new ≡ found.old ++ spec.free_faults scope.now token variable) }
 {
     match variable {
-        None => found.add(40, token),
-        Some(variable) => found.unless(is_free(&scope.loops, variable), 47, token),
+        None => found.add(UNKNOWN_NAME, token),
+        Some(variable) => found.unless(is_free(&scope.loops, variable), LOOP_VARIABLE, token),
     }
 }
 
@@ -90,10 +93,10 @@ fn place(
     ensures { OnOk result (found.new ≡ found.old ++ spec.place_faults scope.now token count owner) }
 {
     if owner == IDS {
-        return found.add(43, token);
+        return found.add(ID_ITEM, token);
     }
-    found.unless(stands(scope, count, owner), 49, token)?;
-    found.unless(count <= 1, 44, token)
+    found.unless(stands(scope, count, owner), UNUSABLE_HERE, token)?;
+    found.unless(count <= 1, OTHER_KIND, token)
 }
 
 /// A numeric item, assigned a value of this kind, which stands at the last token where it is a text.
@@ -125,7 +128,7 @@ fn text_item(
     ensures { OnOk result (found.new ≡ found.old ++ (spec.place_faults scope.now token count owner ++ faults.unless (not (faults.is_number (sort kind))) 44 token)) }
 {
     place(scope, found, token, count, owner)?;
-    found.unless(!is_number(kind), 44, token)
+    found.unless(!is_number(kind), OTHER_KIND, token)
 }
 
 /// An item, assigned a value of this kind.
@@ -140,9 +143,9 @@ fn assign_item(
     ensures { OnOk result (found.new ≡ found.old ++ spec.assign_item_faults scope.now tokens.0 count (scopes.kind_and_owner scope.now.dictionary item) (sort kind) tokens.1) }
 {
     match kind_and_owner(scope.dictionary, item) {
-        None => found.add(40, tokens.0),
+        None => found.add(UNKNOWN_NAME, tokens.0),
         Some((of, owner)) => match of {
-            ItemKind::Opaque => found.add(41, tokens.0),
+            ItemKind::Opaque => found.add(OPAQUE_ITEM, tokens.0),
             ItemKind::Number => number_item(scope, found, tokens, count, owner, kind),
             ItemKind::Text => text_item(scope, found, tokens.0, count, owner, kind),
         },
@@ -161,8 +164,8 @@ fn assign_variable(
 ) -> Result<(), AllocError>
     ensures { OnOk result (found.new ≡ found.old ++ ((faults.unless (count == 0) 44 tokens.0 ++ faults.unless (scopes.is_free scope.now.loops variable) 47 tokens.0) ++ expressions.text_faults (sort kind) tokens.1)) }
 {
-    found.unless(count == 0, 44, tokens.0)?;
-    found.unless(is_free(&scope.loops, variable), 47, tokens.0)?;
+    found.unless(count == 0, OTHER_KIND, tokens.0)?;
+    found.unless(is_free(&scope.loops, variable), LOOP_VARIABLE, tokens.0)?;
     text(found, kind, tokens.1)
 }
 
@@ -178,10 +181,10 @@ fn own(
     ensures { OnOk result (found.new ≡ found.old ++ spec.assign_result_faults scope.now token count variable) }
 {
     match variable {
-        None => found.add(40, token),
+        None => found.add(UNKNOWN_NAME, token),
         Some(variable) => {
-            found.unless(count == 0, 40, token)?;
-            found.unless(is_free(&scope.loops, variable), 47, token)
+            found.unless(count == 0, UNKNOWN_NAME, token)?;
+            found.unless(is_free(&scope.loops, variable), LOOP_VARIABLE, token)
         }
     }
 }
@@ -238,21 +241,25 @@ pub fn assign(
 {
     let tokens = (name.token, token);
     match scope.meant(name) {
-        None => found.add(40, name.token),
+        None => found.add(UNKNOWN_NAME, name.token),
         Some(meaning) => match meaning {
             Meaning::Variable(variable) => {
                 assign_variable(scope, found, tokens, count, variable, kind)
             }
-            Meaning::Text(_) => found.unless(count == 0 && !is_number(kind), 44, name.token),
+            Meaning::Text(_) => found.unless(
+                count == 0 && !is_number(kind),
+                OTHER_KIND,
+                name.token,
+            ),
             Meaning::Array(array) => assign_cell(counts, found, tokens, count, array, kind),
             Meaning::Function(function) => {
                 assign_result(scope, found, tokens, count, function, kind)
             }
-            Meaning::Record(_) => found.add(40, name.token),
+            Meaning::Record(_) => found.add(UNKNOWN_NAME, name.token),
             Meaning::Item(item) => assign_item(scope, found, tokens, count, item, kind),
-            Meaning::Set(_) => found.add(40, name.token),
-            Meaning::Application => found.add(40, name.token),
-            Meaning::Level => found.add(40, name.token),
+            Meaning::Set(_) => found.add(UNKNOWN_NAME, name.token),
+            Meaning::Application => found.add(UNKNOWN_NAME, name.token),
+            Meaning::Level => found.add(UNKNOWN_NAME, name.token),
         },
     }
 }
@@ -268,7 +275,7 @@ fn impute_text(
 ) -> Result<(), AllocError>
     ensures { OnOk result (found.new ≡ found.old ++ (faults.only 44 token ++ spec.place_faults scope.now token count owner)) }
 {
-    found.add(44, token)?;
+    found.add(OTHER_KIND, token)?;
     place(scope, found, token, count, owner)
 }
 
@@ -282,9 +289,9 @@ fn impute_item(
     ensures { OnOk result (found.new ≡ found.old ++ spec.impute_item_faults scope.now token count (scopes.kind_and_owner scope.now.dictionary item)) }
 {
     match kind_and_owner(scope.dictionary, item) {
-        None => found.add(40, token),
+        None => found.add(UNKNOWN_NAME, token),
         Some((kind, owner)) => match kind {
-            ItemKind::Opaque => found.add(41, token),
+            ItemKind::Opaque => found.add(OPAQUE_ITEM, token),
             ItemKind::Number => place(scope, found, token, count, owner),
             ItemKind::Text => impute_text(scope, found, token, count, owner),
         },
@@ -302,7 +309,7 @@ pub fn impute(
 {
     match scope.meant(name) {
         Some(Meaning::Item(item)) => impute_item(scope, found, name.token, count, item),
-        _ => found.add(40, name.token),
+        _ => found.add(UNKNOWN_NAME, name.token),
     }
 }
 
@@ -320,6 +327,6 @@ pub fn alone(
         Some(Meaning::Function(function)) => {
             call(scope, counts, found, name.token, count, function)
         }
-        _ => found.add(40, name.token),
+        _ => found.add(UNKNOWN_NAME, name.token),
     }
 }

@@ -13,6 +13,7 @@ ghost use Rattle.cse_logic_faults.specs.Decks as decks;
 use crate::found::Found;
 use crate::name::{is_found, is_present, number_item};
 use cse_dict::Dictionary;
+use cse_fault_numbers::{OPAQUE_ITEM, OTHER_KIND, PARTIAL_SET, UNKNOWN_NAME, UNUSABLE_HERE};
 use cse_logic_names::meaning::Meaning;
 use cse_logic_names::scope::{Scope, has_case, kind_and_owner};
 use cse_logic_tree::Dimension;
@@ -49,11 +50,11 @@ fn of_kind(found: &mut Found, token: usize, kind: Option<ItemKind>) -> Result<()
     ensures { OnOk result (found.new ≡ found.old ++ spec.set_kind_faults token kind) }
 {
     match kind {
-        None => found.add(44, token),
+        None => found.add(OTHER_KIND, token),
         Some(kind) => match kind {
-            ItemKind::Opaque => found.add(41, token),
+            ItemKind::Opaque => found.add(OPAQUE_ITEM, token),
             ItemKind::Number => found.none(),
-            ItemKind::Text => found.add(44, token),
+            ItemKind::Text => found.add(OTHER_KIND, token),
         },
     }
 }
@@ -68,7 +69,7 @@ fn number_set(
 ) -> Result<(), AllocError>
     ensures { OnOk result (found.new ≡ found.old ++ spec.number_set_faults dictionary.now token (slice_get dictionary.now.sets set)) }
 {
-    found.unless(is_whole(dictionary, set), 42, token)?;
+    found.unless(is_whole(dictionary, set), PARTIAL_SET, token)?;
     of_kind(found, token, item_kind(dictionary, set))
 }
 
@@ -83,7 +84,7 @@ pub fn set(
 {
     match meaning {
         Some(Meaning::Set(set)) => number_set(dictionary, found, token, set),
-        _ => found.add(40, token),
+        _ => found.add(UNKNOWN_NAME, token),
     }
 }
 
@@ -154,7 +155,7 @@ pub fn member(
             set(scope.dictionary, found, set_token(name, set_name), meaning)
         }
         _ => {
-            found.add(40, name.token)?;
+            found.add(UNKNOWN_NAME, name.token)?;
             named_set(scope, found, set_name)
         }
     }
@@ -180,8 +181,8 @@ pub fn record_named(
 ) -> Result<(), AllocError>
     ensures { OnOk result (found.new ≡ found.old ++ spec.record_faults scope.now name.entry.token (scopes.meant scope.now (written name.entry))) }
 {
-    found.unless(is_record(scope.meant(name)), 40, name.token)?;
-    found.unless(has_case(scope.routine), 49, name.token)
+    found.unless(is_record(scope.meant(name)), UNKNOWN_NAME, name.token)?;
+    found.unless(has_case(scope.routine), UNUSABLE_HERE, name.token)
 }
 
 fn is_known(scope: &Scope<'_>, meaning: Option<Meaning>) -> bool
@@ -199,11 +200,11 @@ fn current(scope: &Scope<'_>, found: &mut Found, name: Lexeme<'_>) -> Result<(),
     ensures { OnOk result (found.new ≡ found.old ++ spec.current_faults scope.now name.entry.token (scopes.meant scope.now (written name.entry))) }
 {
     let meaning = scope.meant(name);
-    found.unless(is_record(meaning), 40, name.token)?;
+    found.unless(is_record(meaning), UNKNOWN_NAME, name.token)?;
     let word = name.token.saturating_sub(2);
     found.unless(
         has_case(scope.routine) && is_known(scope, meaning),
-        49,
+        UNUSABLE_HERE,
         word,
     )
 }
@@ -296,9 +297,9 @@ fn picks(
 ) -> Result<(), AllocError>
     ensures { OnOk result (found.new ≡ found.old ++ spec.picks_faults scope.now token (Some (Some (map dimension directions.now)))) }
 {
-    found.unless(is_deck(directions), 40, token)?;
+    found.unless(is_deck(directions), UNKNOWN_NAME, token)?;
     let is_sound = has_case(scope.routine) && are_picked(scope, directions);
-    found.unless(is_sound, 49, token.saturating_sub(2))
+    found.unless(is_sound, UNUSABLE_HERE, token.saturating_sub(2))
 }
 
 /// What stands there is no array.
@@ -306,8 +307,12 @@ fn picks(
 fn no_deck(scope: &Scope<'_>, found: &mut Found, token: usize) -> Result<(), AllocError>
     ensures { OnOk result (found.new ≡ found.old ++ spec.picks_faults scope.now token None) }
 {
-    found.add(40, token)?;
-    found.unless(has_case(scope.routine), 49, token.saturating_sub(2))
+    found.add(UNKNOWN_NAME, token)?;
+    found.unless(
+        has_case(scope.routine),
+        UNUSABLE_HERE,
+        token.saturating_sub(2),
+    )
 }
 
 /// A hot deck; the word of its function or statement stands two tokens before.
@@ -331,7 +336,11 @@ fn array_deck(
     match scope.arrays.get(array) {
         None => no_deck(scope, found, token),
         Some(directions) => match directions {
-            None => found.unless(has_case(scope.routine), 49, token.saturating_sub(2)),
+            None => found.unless(
+                has_case(scope.routine),
+                UNUSABLE_HERE,
+                token.saturating_sub(2),
+            ),
             Some(directions) => picks(scope, found, token, directions),
         },
     }

@@ -3,6 +3,7 @@
 ghost use Rattle.std.specs.Prelude.{◌≡◌};
 ghost use Rattle.cse_logic_names.specs.Fault.{error_of};
 
+use cse_fault_numbers::WANT_OF_MEMORY;
 use thiserror::Error;
 
 /// The fault that is told, with its line and column, both counted from 1: of a message file or an order file that of its
@@ -48,7 +49,7 @@ pub fn error_at(stop: FileStop, line: u64) -> TypeError
 {
     match stop {
         FileStop::Memory => TypeError {
-            number: 90,
+            number: WANT_OF_MEMORY,
             line: 0,
             column: 0,
         },

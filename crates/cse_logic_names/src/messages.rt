@@ -10,6 +10,7 @@ ghost use Rattle.cse_logic_names.specs.MessageFile.{MessageText, ReadsMessages, 
 
 use crate::error::{FileStop, TypeError, error_at};
 use crate::gaps::{begins_with_gap, digit_count, without_gaps};
+use cse_fault_numbers::{OUT_OF_RANGE, UNREADABLE};
 use cse_image_parts::texts::{is_short_text, plain_text};
 use cse_sections::number::number_between;
 use cse_sections::sections::{after_mark, first_line};
@@ -71,18 +72,18 @@ fn line_of(line: &[u8]) -> Result<Option<MessageLine<'_>>, u8>
     ensures { result ≡ line_of line.now }
 {
     if !is_utf8(line) {
-        return Err(30);
+        return Err(UNREADABLE);
     }
     if is_skipped(line) {
         return Ok(None);
     }
     let digits = digit_count(line);
     let Some(text) = text_of(line, digits) else {
-        return Err(30);
+        return Err(UNREADABLE);
     };
     match number_between(1, MOST_NUMBER, &line[..digits]) {
         Some(number) => Ok(Some(MessageLine { number, text })),
-        None => Err(35),
+        None => Err(OUT_OF_RANGE),
     }
 }
 

@@ -8,6 +8,7 @@ ghost use Rattle.cse_logic_names.specs.OrderFile.{IsOrderOf, ReadsOrder, TakesRe
 
 use crate::error::{FileStop, TypeError, error_at};
 use cse_dict::Dictionary;
+use cse_fault_numbers::UNKNOWN_NAME;
 use cse_sections::sections::{after_mark, first_line};
 use std::alloc::Global;
 use std::marker::Model;
@@ -51,10 +52,10 @@ impl Order {
             return Ok(());
         }
         let Some(record) = record_in(dictionary, line) else {
-            return Err(FileStop::Fault(40));
+            return Err(FileStop::Fault(UNKNOWN_NAME));
         };
         if self.has(record) {
-            return Err(FileStop::Fault(40));
+            return Err(FileStop::Fault(UNKNOWN_NAME));
         }
         match self.records.push(record) {
             Ok(()) => Ok(()),

@@ -4,6 +4,7 @@ use crate::clause::{Clause, Form, clauses_of};
 use crate::cut::{Kind, Piece};
 use crate::mend::{Mending, before_piece};
 use crate::token::{Role, tokens_in};
+use cse_fault_numbers::UNEXPECTED;
 
 /// A loop that is open: where its head begins, and whether that is at fault.
 #[derive(Clone, Copy)]
@@ -80,7 +81,7 @@ impl Mending<'_> {
         match token.role {
             Role::EndIf | Role::EndDo | Role::End => {
                 let next = self.start(clause.last);
-                self.tell(32, next);
+                self.tell(UNEXPECTED, next);
                 if token.end >= self.mended.len() && self.mended.push(b' ').is_err() {
                     self.found.give_up();
                 }

@@ -3,6 +3,7 @@
 use crate::found::Finding;
 use crate::gathered::Gathered;
 use crate::token::part;
+use cse_fault_numbers::UNREADABLE;
 use cse_sections::text::is_utf8;
 use std::alloc::{AllocError, Global};
 
@@ -83,7 +84,7 @@ pub fn as_utf8(
         if !is_utf8(bytes) {
             found.add(Finding {
                 start: first_beyond(bytes, line.start),
-                number: 30,
+                number: UNREADABLE,
             });
             blank_beyond(&mut kept, line.start, line.end);
         }

@@ -5,6 +5,7 @@ use crate::found::Finding;
 use crate::gathered::Gathered;
 use crate::syntax::{WANT_OF_MEMORY, fault_between};
 use crate::token::{Role, Sort, Token, part, tokens_in};
+use cse_fault_numbers::{LEFT_OUT, NO_END, UNEXPECTED, UNREADABLE};
 use std::alloc::{AllocError, Global};
 
 /// A text of logic, what is left of it, and the faults of syntax that were found.
@@ -31,13 +32,13 @@ pub fn before_piece(kind: Kind) -> &'static [u8] {
 /// The number of what no text of logic may have; `in` is one, but in the head of a loop.
 fn odd_number(token: &Token, is_loop: bool) -> Option<u8> {
     match token.sort {
-        Sort::Odd => return Some(30),
-        Sort::OpenComment | Sort::OpenText => return Some(31),
+        Sort::Odd => return Some(UNREADABLE),
+        Sort::OpenComment | Sort::OpenText => return Some(NO_END),
         _ => {}
     }
     match token.role {
-        Role::While | Role::Table | Role::LeftOut => Some(33),
-        Role::In if !is_loop => Some(32),
+        Role::While | Role::Table | Role::LeftOut => Some(LEFT_OUT),
+        Role::In if !is_loop => Some(UNEXPECTED),
         _ => None,
     }
 }
@@ -136,7 +137,7 @@ impl<'a> Mending<'a> {
             };
             let sign = token.of(self.text);
             let follows = is_open && (sign == b":".as_slice() || sign == b"]".as_slice());
-            is_open = is_open || number == 32 || sign == b"[".as_slice();
+            is_open = is_open || number == UNEXPECTED || sign == b"[".as_slice();
             if !follows {
                 self.tell(number, token.start);
             }
@@ -203,7 +204,7 @@ impl<'a> Mending<'a> {
     fn take_late(&mut self, piece: &Piece) {
         if piece.kind == Kind::Globals {
             let global = self.start(piece.first.saturating_add(1));
-            self.tell(32, global);
+            self.tell(UNEXPECTED, global);
         }
         self.leave_out(piece);
     }

@@ -22,7 +22,7 @@ use std::alloc::Global;
 pub const LIMIT: usize = 64;
 
 /// The number of want of memory.
-const MEMORY: u8 = 90;
+const MEMORY: u8 = cse_fault_numbers::WANT_OF_MEMORY;
 
 /// A text, its tokens, in its order, and its tree.
 ///

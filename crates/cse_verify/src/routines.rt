@@ -13,6 +13,7 @@ ghost use Rattle.cse_verify.specs.Measured.{AreMeasured, Exceeds};
 
 use cse_code_bounds::{bound_of, frames_of};
 use cse_code_typing::{Depth as Cells, NONE, Refusal, RoutineCode, Surroundings, check_routine};
+use cse_fault_numbers::TOO_MANY_STEPS;
 use cse_image::{Code, Program};
 use cse_value::shape::Shape;
 use std::alloc::{AllocError, Global};
@@ -66,7 +67,7 @@ fn add_bound<C: Code>(
             Ok(())
         }
         Err(at) => Err(Refusal {
-            number: 67,
+            number: TOO_MANY_STEPS,
             routine,
             at,
         }),

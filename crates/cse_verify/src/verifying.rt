@@ -13,6 +13,7 @@ use crate::verified::Verified;
 use cse_code_bounds::{case_steps, run_steps};
 use cse_code_typing::{Refusal, check_events};
 use cse_dict::Dictionary;
+use cse_fault_numbers::{OTHER_SHAPE, TOO_MANY_STEPS};
 use cse_image::{Code, Program};
 use std::alloc::Global;
 
@@ -35,7 +36,7 @@ pub fn verify<'a, C: Code + Drop>(
     ensures never { IfErr result (λ e. IsOutOfMemory e ⊎ (IsTyped (shape_of dictionary.now) program → IsBounded program → ⊥)) }
 {
     if !same_shape(dictionary, &program) {
-        return Err(nowhere(68));
+        return Err(nowhere(OTHER_SHAPE));
     }
     let shape = dictionary.shape();
     let measured = check_routines(alloc, shape, &program)?;
@@ -43,7 +44,7 @@ pub fn verify<'a, C: Code + Drop>(
     let depth = depth_of(&measured.cells, &measured.frames);
     let bounds = measured.bounds;
     let Some(of_case) = case_steps(&program, &bounds) else {
-        return Err(nowhere(67));
+        return Err(nowhere(TOO_MANY_STEPS));
     };
     let of_run = run_steps(&program, &bounds);
     Ok(Verified::with(dictionary, program, bounds, of_case, of_run, depth))
