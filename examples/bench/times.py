@@ -17,7 +17,7 @@ import sys
 HERE = os.path.dirname(os.path.realpath(__file__))
 ROOT = os.path.dirname(os.path.dirname(HERE))
 NAME = "cse_bench"
-USES = "cse_value cse_test_fixtures cse_image_parts cse_image cse_dict cse_case cse_decks cse_report cse_verify cse_machine cse_batch"
+USES = "cse_value cse_image_parts cse_image cse_dict cse_case cse_decks cse_report cse_verify cse_machine cse_batch"
 
 
 def used():

@@ -1,9 +1,9 @@
 //! What is told of a device that moves few bytes in a call, or that fails.
 
+use crate::device::Slow;
 use crate::hello::HELLO;
 use crate::told::assert_count;
 use cse_commands::try_image::{TryFault, try_to};
-use cse_test_fixtures::device::Slow;
 use cse_value::Writes;
 use std::alloc::Global;
 

@@ -5,7 +5,7 @@ use std::io;
 
 /// A writer that takes at most so many bytes in a call, and fails at a call or takes none.
 #[derive(Drop)]
-pub struct Slow {
+pub(crate) struct Slow {
     taken: Vec<u8>,
     at_most: usize,
     calls: u64,
@@ -16,7 +16,7 @@ pub struct Slow {
 impl Slow {
     /// A writer that takes at most `at_most` bytes in a call, fails at call `fails_at` and takes none at call
     /// `takes_none_at`. Calls are numbered from 1; at 0 it does neither.
-    pub fn new(alloc: Global, at_most: usize, fails_at: u64, takes_none_at: u64) -> Slow {
+    pub(crate) fn new(alloc: Global, at_most: usize, fails_at: u64, takes_none_at: u64) -> Slow {
         Slow {
             taken: Vec::new(alloc),
             at_most,
@@ -27,7 +27,7 @@ impl Slow {
     }
 
     /// The bytes that it took.
-    pub fn taken(&self) -> &[u8] {
+    pub(crate) fn taken(&self) -> &[u8] {
         &self.taken
     }
 }
