@@ -1,14 +1,14 @@
 -- What a command printed, and what it came to.
 use Rattle.std.proofs.Common.{◌≡◌, inl, inr, refl, sym, subst, ℕ, List, Result, Ok, Err, IfOk, IfErr}
 use Rattle.cse_value.specs.Writing.{WritesAll}
-use Rattle.cse_commands.specs.declared.judged.TriedFile.{TriedFile}
-use Rattle.cse_commands.specs.declared.judged.VerifiedFiles.{VerifiedFiles}
-use Rattle.cse_commands.specs.declared.outcome.Stop.{Stop}
-use Rattle.cse_commands.specs.declared.plan.Command.{Command}
+use Rattle.cse_command_parts.specs.declared.judged.TriedFile.{TriedFile}
+use Rattle.cse_command_parts.specs.declared.judged.VerifiedFiles.{VerifiedFiles}
+use Rattle.cse_command_parts.specs.declared.outcome.Stop.{Stop}
+use Rattle.cse_command_line.specs.declared.plan.Command.{Command}
 use Rattle.cse_commands.specs.Does.{CarriesOut, DoesTry, DoesUnlessMemory, DoesVerify, Prints, PrintsTrial, PrintsVerdict, ended, printing}
-use Rattle.cse_commands.specs.Halts.{StopsTry, StopsVerify}
-use Rattle.cse_commands.specs.Ran.{Told}
-use Rattle.cse_commands.specs.Words.{IsAsked}
+use Rattle.cse_command_parts.specs.Halts.{StopsTry, StopsVerify}
+use Rattle.cse_command_parts.specs.Ran.{Told}
+use Rattle.cse_command_line.specs.Words.{IsAsked}
 
 -- what a writing call took
 prints : {E : Type 0} (text : List ℕ) (written : Result (Unit {0}) E) (old new : List ℕ) → WritesAll written old new text → Prints text (printing written) old new

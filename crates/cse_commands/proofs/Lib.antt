@@ -1,15 +1,2 @@
-pub mod ApartLaws
-pub mod CompiledLaws
 pub mod DoesLaws
 pub mod EditedLaws
-pub mod FaultLaws
-pub mod FaultyLaws
-pub mod FileLaws
-pub mod HaltLaws
-pub mod OutcomeLaws
-pub mod PrintLaws
-pub mod RanLaws
-pub mod TriedLaws
-pub mod VerdictLaws
-pub mod VettedLaws
-pub mod WordLaws

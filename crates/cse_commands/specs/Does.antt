@@ -3,31 +3,32 @@ use Rattle.std.specs.Prelude.{◌≡◌, ◌⊎◌, ℕ, List, [], Result, Ok, E
 use Rattle.cse_value.specs.Device.{Appends}
 use Rattle.cse_value.specs.Writing.{AppendsFront}
 use Rattle.cse_batch.specs.declared.totals.Totals.{Totals}
-use Rattle.cse_commands.specs.declared.compiled.CompiledFiles.{CompiledFiles}
+use Rattle.cse_command_parts.specs.declared.compiled.CompiledFiles.{CompiledFiles}
 use Rattle.cse_commands.specs.declared.edited.EditedFiles.{EditedFiles}
-use Rattle.cse_commands.specs.declared.judged.TriedFile.{TriedFile}
-use Rattle.cse_commands.specs.declared.judged.VerifiedFiles.{VerifiedFiles}
-use Rattle.cse_commands.specs.declared.outcome.Stop.{Stop}
-use Rattle.cse_commands.specs.declared.outcome.Stop.TheVariants.{Usage, Refused}
-use Rattle.cse_commands.specs.declared.plan.Command.{Command}
-use Rattle.cse_commands.specs.declared.plan.Command.TheVariants as commands
-use Rattle.cse_commands.specs.declared.plan.CompilePaths.{CompilePaths}
-use Rattle.cse_commands.specs.declared.plan.EditPaths.{EditPaths}
-use Rattle.cse_commands.specs.declared.plan.RunPaths.{RunPaths}
-use Rattle.cse_commands.specs.declared.printing.TheConstants.{VERSION}
-use Rattle.cse_commands.specs.declared.ran.RanFiles.{RanFiles}
-use Rattle.cse_commands.specs.declared.ran.RanFrom.{RanFrom}
-use Rattle.cse_commands.specs.Compiled.{AreCompilePaths, CompilesFiles}
-use Rattle.cse_commands.specs.Counted.{counted}
+use Rattle.cse_command_parts.specs.declared.judged.TriedFile.{TriedFile}
+use Rattle.cse_command_parts.specs.declared.judged.VerifiedFiles.{VerifiedFiles}
+use Rattle.cse_command_parts.specs.declared.outcome.Stop.{Stop}
+use Rattle.cse_command_parts.specs.declared.outcome.Stop.TheVariants.{Usage, Refused}
+use Rattle.cse_command_line.specs.declared.plan.Command.{Command}
+use Rattle.cse_command_line.specs.declared.plan.Command.TheVariants as commands
+use Rattle.cse_command_line.specs.declared.plan.CompilePaths.{CompilePaths}
+use Rattle.cse_command_line.specs.declared.plan.EditPaths.{EditPaths}
+use Rattle.cse_command_line.specs.declared.plan.RunPaths.{RunPaths}
+use Rattle.cse_command_parts.specs.declared.printing.TheConstants.{VERSION}
+use Rattle.cse_command_parts.specs.declared.ran.RanFiles.{RanFiles}
+use Rattle.cse_command_parts.specs.declared.ran.RanFrom.{RanFrom}
+use Rattle.cse_command_parts.specs.Compiled.{AreCompilePaths, CompilesFiles}
+use Rattle.cse_command_parts.specs.Counted.{counted}
 use Rattle.cse_commands.specs.Edited.{AreEditPaths, EditsFiles}
-use Rattle.cse_commands.specs.Ending.{plain_fault}
-use Rattle.cse_commands.specs.Halts.{StopsCompile, StopsEdit, StopsRun, StopsTry, StopsVerify}
-use Rattle.cse_commands.specs.Judged.{TriesFile, VerifiesFiles}
-use Rattle.cse_commands.specs.Printed.{compiled_line, totals_line, version_line}
-use Rattle.cse_commands.specs.Ran.{AreRunPaths, RunsFiles, Told}
-use Rattle.cse_commands.specs.Tried.{text_of}
-use Rattle.cse_commands.specs.Vetted.{told}
-use Rattle.cse_commands.specs.Words.{IsAsked}
+use Rattle.cse_command_parts.specs.Ending.{plain_fault}
+use Rattle.cse_command_parts.specs.Halts.{StopsCompile, StopsRun, StopsTry, StopsVerify}
+use Rattle.cse_commands.specs.EditHalts.{StopsEdit}
+use Rattle.cse_command_parts.specs.Judged.{TriesFile, VerifiesFiles}
+use Rattle.cse_command_parts.specs.Printed.{compiled_line, totals_line, version_line}
+use Rattle.cse_command_parts.specs.Ran.{AreRunPaths, RunsFiles, Told}
+use Rattle.cse_command_parts.specs.Tried.{text_of}
+use Rattle.cse_command_parts.specs.Vetted.{told}
+use Rattle.cse_command_line.specs.Words.{IsAsked}
 
 -- a device that failed
 abbrev pub write_failed : Stop

@@ -1,7 +1,6 @@
 -- What an edit over files comes to: by which paths they were opened, what they gave, and what they took.
-use Rattle.std.specs.Prelude.{◌≡◌, ℕ, Bool, List, [], Option, None, Some, option_map, Result, Ok, Err}
+use Rattle.std.specs.Prelude.{◌≡◌, ℕ, Bool, List, [], Option, option_map, Result, Ok, Err}
 use Rattle.cse_value.specs.Device.{Given, IsAtEnd}
-use Rattle.cse_files.specs.declared.whole.WholeFile.{WholeFile}
 use Rattle.cse_memory.specs.declared.gathered.Gathered.{Gathered}
 use Rattle.cse_dict.specs.Dictionary.{DictionaryText}
 use Rattle.cse_batch.specs.declared.totals.Totals.{Totals}
@@ -10,13 +9,13 @@ use Rattle.cse_batch.specs.RunClauses.{Contents, Failures}
 use Rattle.cse_edit.specs.declared.fault.EditFault.TheVariants as faults
 use Rattle.cse_edit.specs.Edit.{EditsWhole, EditStops, devices}
 use Rattle.cse_commands.specs.declared.edited.EditedFiles.{EditedFiles}
-use Rattle.cse_commands.specs.declared.outcome.Stop.{Stop}
-use Rattle.cse_commands.specs.declared.plan.EditPaths.{EditPaths}
-use Rattle.cse_commands.specs.declared.ran.Ran.{Ran}
-use Rattle.cse_commands.specs.declared.ran.RanFrom.{RanFrom}
-use Rattle.cse_commands.specs.Named.{text_or_none}
-use Rattle.cse_commands.specs.Ran.{AreOpenedFrom, Told, decks_given, have_failed, none_taken, took, unread}
-use Rattle.cse_commands.specs.Stops.{told_of}
+use Rattle.cse_command_parts.specs.declared.outcome.Stop.{Stop}
+use Rattle.cse_command_line.specs.declared.plan.EditPaths.{EditPaths}
+use Rattle.cse_command_parts.specs.declared.ran.Ran.{Ran}
+use Rattle.cse_command_parts.specs.declared.ran.RanFrom.{RanFrom}
+use Rattle.cse_command_parts.specs.Ran.{AreOpenedFrom, Told, decks_given, have_failed, none_taken, took, unread}
+use Rattle.cse_command_parts.specs.Stops.{told_of}
+use Rattle.cse_command_parts.specs.TextsGiven.{EndsWhereNamed, text_given}
 
 -- It tells the fault of an edit that stopped behind its texts, whose outputs took fronts. The deck text was gathered beside them.
 pub record TellsEditFault (text logic messages order : List ℕ) (decks : Option (List ℕ)) (after : Given) (taken : List ℕ → Contents) (failed : Bool → Failures) (stop : Stop) : Type 0 where
@@ -40,14 +39,6 @@ EditsTexts t text logic messages order decks ran = TellsEdit text logic messages
 -- with what the deck file gave
 abbrev pub EditsFrom : {F : Type 0} → Told F → List ℕ → List ℕ → List ℕ → List ℕ → RanFrom F → Type 0
 EditsFrom t text logic messages order ran = EditsTexts t text logic messages order (decks_given t ran.decks) ran.ran
-
--- what a file gave, to its end; nothing, where it is not named
-abbrev pub text_given : {F : Type 0} → Told F → Option (WholeFile F) → List ℕ
-text_given t file = text_or_none (option_map (λ f. (t.given f.input.device).bytes) file)
-
-abbrev pub EndsWhereNamed : {F : Type 0} → Told F → Option (WholeFile F) → Type 0
-EndsWhereNamed t None = Unit {0}
-EndsWhereNamed t (Some f) = IsAtEnd (t.given f.input.device)
 
 -- The files of the texts were read to their ends, and this is an edit by what they gave.
 pub record EditsFiles {F : Type 0} (t : Told F) (ran : EditedFiles F) : Type 0 where

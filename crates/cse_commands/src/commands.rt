@@ -1,26 +1,26 @@
 //! From the words of the command line to what is done.
 
 ghost use Rattle.std.specs.Prelude.{◌≡◌, IfErr, IfOk};
-ghost use Rattle.cse_commands.specs.declared.printing.TheConstants.{VERSION};
+ghost use Rattle.cse_command_parts.specs.declared.printing.TheConstants.{VERSION};
 ghost use Rattle.cse_commands.specs.Does.{CarriesOut, Does, DoesCompile, DoesEdit, DoesRun, DoesUnlessMemory, Prints, PrintsTotals, PrintsTrial, PrintsVerdict, ended, printing};
-ghost use Rattle.cse_commands.specs.Halts.{StopsTry, StopsVerify};
-ghost use Rattle.cse_commands.specs.Printed.{version_line};
-ghost use Rattle.cse_commands.specs.Ran.{told_by};
+ghost use Rattle.cse_command_parts.specs.Halts.{StopsTry, StopsVerify};
+ghost use Rattle.cse_command_parts.specs.Printed.{version_line};
+ghost use Rattle.cse_command_parts.specs.Ran.{told_by};
 
-use crate::compile_image::compile_files;
 use crate::edit_data::edit_files;
 use crate::edited::EditedFiles;
-use crate::fault::{Fault, NO_MEMORY, TOO_MANY, WRITE_FAILED};
-use crate::files::{MOST_IMAGE, file_bytes, file_text};
-use crate::judged::{TriedFile, VerifiedFiles};
-use crate::outcome::Stop;
-use crate::plan::{Command, CompilePaths, EditPaths, PlanFault, RunPaths, plan};
-use crate::printing::{write_compiled, write_totals, write_version};
-use crate::ran::{RanFiles, RanImage};
-use crate::run_image::run_files;
-use crate::try_image::try_to;
-use crate::verify_image::verify_to;
 use cse_batch::Totals;
+use cse_command_line::plan::{Command, CompilePaths, EditPaths, PlanFault, RunPaths, plan};
+use cse_command_parts::compile_image::compile_files;
+use cse_command_parts::fault::{Fault, NO_MEMORY, TOO_MANY, WRITE_FAILED};
+use cse_command_parts::files::{MOST_IMAGE, file_bytes, file_text};
+use cse_command_parts::judged::{TriedFile, VerifiedFiles};
+use cse_command_parts::outcome::Stop;
+use cse_command_parts::printing::{write_compiled, write_totals, write_version};
+use cse_command_parts::ran::{RanFiles, RanImage};
+use cse_command_parts::run_image::run_files;
+use cse_command_parts::try_image::try_to;
+use cse_command_parts::verify_image::verify_to;
 use cse_value::{Failed, Input, Output, Reads, Writes};
 use std::env;
 use std::io::{self, BufWriter, ErrorKind, Write};

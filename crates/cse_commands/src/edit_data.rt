@@ -7,22 +7,25 @@ ghost use Rattle.cse_build.specs.Build.{IsBuilt};
 ghost use Rattle.cse_decks.specs.Store.{StoreFits};
 ghost use Rattle.cse_edit.specs.Edit.{IsRead, IsStartOf};
 ghost use Rattle.cse_commands.specs.Edited.{AreEditPaths, EditsFiles, EditsFrom, EditsTexts};
-ghost use Rattle.cse_commands.specs.Ran.{AreOpened, AreOpenedFrom, told_by};
-ghost use Rattle.cse_commands.specs.Allowed.{KeepsToSteps};
-ghost use Rattle.cse_commands.specs.Stops.{HasNumber, IsNotOpened};
-ghost use Rattle.cse_commands.specs.Halts.{StopsBuilt, StopsEdit, StopsFrom, StopsStart, StopsWithin};
+ghost use Rattle.cse_command_parts.specs.Ran.{AreOpened, AreOpenedFrom, told_by};
+ghost use Rattle.cse_command_parts.specs.Allowed.{KeepsToSteps};
+ghost use Rattle.cse_command_parts.specs.Stops.{HasNumber, IsNotOpened};
+ghost use Rattle.cse_command_parts.specs.Halts.{StopsFrom, StopsWithin};
+ghost use Rattle.cse_commands.specs.EditHalts.{StopsBuilt, StopsEdit, StopsStart};
 ghost use Rattle.cse_code_bounds.specs.EventBound.{case_bound};
 
-use crate::apart::{see_apart, uses_of_edit};
-use crate::compile_image::image_of;
 use crate::edited::EditedFiles;
-use crate::fault::{Fault, NO_MEMORY, TOO_LARGE, TOO_MANY};
-use crate::files::{MOST_DECKS, bytes_of, bytes_where_there, file_text, text_of, text_where_named};
-use crate::outcome::Stop;
-use crate::plan::{EditPaths, RunPaths};
-use crate::ran::{Ran, RanFrom};
-use crate::run_image::{allow_steps, keep_decks, run_over};
 use cse_batch::check_image;
+use cse_command_line::plan::{EditPaths, RunPaths};
+use cse_command_parts::apart::{see_apart, uses_of_edit};
+use cse_command_parts::compile_image::image_of;
+use cse_command_parts::fault::{Fault, NO_MEMORY, TOO_LARGE, TOO_MANY};
+use cse_command_parts::files::{
+    MOST_DECKS, bytes_of, bytes_where_there, file_text, text_of, text_where_named,
+};
+use cse_command_parts::outcome::Stop;
+use cse_command_parts::ran::{Ran, RanFrom};
+use cse_command_parts::run_image::{allow_steps, keep_decks, run_over};
 use cse_decks::Store;
 use cse_dict::Dictionary;
 use cse_edit::{EditFault, batches_mean, starting_store};

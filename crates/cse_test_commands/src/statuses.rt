@@ -1,8 +1,8 @@
 //! Statuses of faults.
 
 use crate::told::assert_count;
-use cse_commands::fault::{NO_MEMORY, ending};
-use cse_commands::outcome::{Stop, exit_status};
+use cse_command_parts::fault::{NO_MEMORY, ending};
+use cse_command_parts::outcome::{Stop, exit_status};
 
 /// The first number of a fault that ends with another status than it should, or 256.
 fn first_wrong_ending() -> Option<usize> {

@@ -3,7 +3,7 @@
 use crate::hello::{HELLO, put_hello};
 use crate::told::assert_count;
 use cse_batch::check_image;
-use cse_commands::try_image::try_to;
+use cse_command_parts::try_image::try_to;
 use cse_dict::Dictionary;
 use cse_value::Writes;
 use std::alloc::Global;

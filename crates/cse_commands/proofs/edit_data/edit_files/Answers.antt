@@ -1,14 +1,14 @@
 use Rattle.std.proofs.Common.{◌∙◌, List, inl, inr, option_map, refl, subst, sym}
 use Rattle.cse_value.specs.contracts.device.ReadsInput.TheImpl as reads
 use Rattle.cse_value.specs.contracts.device.WritesOutput.TheImpl as writes
-use Rattle.cse_commands.specs.Ran.{told_by}
+use Rattle.cse_command_parts.specs.Ran.{told_by}
 use Rattle.cse_commands.proofs.EditedLaws.{edits_same}
-use Rattle.cse_commands.proofs.FileLaws.{text_ends, text_is}
+use Rattle.cse_command_parts.proofs.FileLaws.{text_ends, text_is}
 use Rattle.std.proofs.lemmas.Result.{err_from_is_err_and}
-use Rattle.cse_commands.proofs.HaltLaws.{at_messages, at_order, behind_texts, dict_fault, gave_all, gave_named}
-use Rattle.cse_commands.specs.declared.role.Use.{Use}
-use Rattle.cse_commands.specs.Apart.{TellsOneFile}
-use Rattle.cse_commands.specs.Named.{text_or_none}
+use Rattle.cse_command_parts.proofs.HaltLaws.{at_messages, at_order, behind_texts, dict_fault, gave_all, gave_named}
+use Rattle.cse_command_parts.specs.declared.role.Use.{Use}
+use Rattle.cse_command_parts.specs.Apart.{TellsOneFile}
+use Rattle.cse_command_parts.specs.Named.{text_or_none}
 use Rattle.cse_commands.proofs.edit_data.edit_files.Goals as goal
 
 pub returns-clause-edits : goal.returns-clause-edits

@@ -1,4 +1,4 @@
-use Rattle.cse_commands.proofs.OutcomeLaws.{front_written, whole_written}
+use Rattle.cse_command_parts.proofs.OutcomeLaws.{front_written, whole_written}
 use Rattle.cse_commands.proofs.start.tell.Goals as goal
 
 pub returns-clause-front : goal.returns-clause-front

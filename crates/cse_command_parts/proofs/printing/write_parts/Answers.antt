@@ -1,0 +1,8 @@
+use Rattle.std.proofs.lemmas.Result.{err_from_is_err_and}
+use Rattle.cse_command_parts.proofs.PrintLaws.{front_or}
+use Rattle.cse_command_parts.proofs.printing.write_parts.Goals as goal
+
+pub returns-in_err-write_all-clause-bytes : goal.returns-in_err-write_all-clause-bytes
+returns-in_err-write_all-clause-bytes g c =
+    let p = err_from_is_err_and c.from_residual.result c.from_residual.ensures.1 in
+    rw (p.1) (front_or (λ part. part.now) c.args.parts.now c.loop-part.part-index _ _ _ _ c.loop-part-test.true c.loop-part.invariant.bytes c.in_err-write_all.ensures.bytes)
