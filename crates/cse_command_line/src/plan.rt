@@ -10,7 +10,7 @@ use clap::{ArgMatches, Error};
 use std::alloc::{AllocError, Global};
 
 /// What the program is asked to do, with the paths that it is given.
-#[derive(Clone, Copy, Debug, PartialEq, Eq)]
+#[derive(Clone, Copy)]
 pub enum Command<'a> {
     /// `csbatch try IMAGE`: run an image's preproc.
     Try { image: &'a str },
@@ -28,7 +28,7 @@ pub enum Command<'a> {
 }
 
 /// The files of `compile`.
-#[derive(Clone, Copy, Debug, PartialEq, Eq)]
+#[derive(Clone, Copy)]
 pub struct CompilePaths<'a> {
     pub dict: &'a str,
     pub logic: &'a str,
@@ -40,7 +40,7 @@ pub struct CompilePaths<'a> {
 }
 
 /// The files of `run`, and what is asked beside them.
-#[derive(Clone, Copy, Debug, PartialEq, Eq)]
+#[derive(Clone, Copy)]
 pub struct RunPaths<'a> {
     pub dict: &'a str,
     pub image: &'a str,
@@ -57,7 +57,7 @@ pub struct RunPaths<'a> {
 }
 
 /// The files of `edit`: those of `compile` and of `run`, with no image between.
-#[derive(Clone, Copy, Debug, PartialEq, Eq)]
+#[derive(Clone, Copy)]
 pub struct EditPaths<'a> {
     pub logic: &'a str,
     /// The messages that logic names by number.
@@ -69,7 +69,7 @@ pub struct EditPaths<'a> {
 }
 
 /// Why there is no command.
-#[derive(Clone, Copy, Debug, PartialEq, Eq)]
+#[derive(Clone, Copy)]
 pub enum PlanFault {
     /// The words are no command.
     Usage,

@@ -33,7 +33,7 @@ pub const NOT_OPENED: u8 = 72;
 pub const NO_MEMORY: u8 = 90;
 
 /// A fault: its number, and what it tells of its place.
-#[derive(Clone, Copy, Debug, PartialEq, Eq)]
+#[derive(Clone, Copy)]
 pub struct Fault {
     pub number: u8,
     /// The line, from 1.

@@ -12,7 +12,7 @@ use std::alloc::AllocError;
 use std::io::ErrorKind;
 
 /// Why a command has not done its work.
-#[derive(Clone, Copy, Debug, PartialEq, Eq)]
+#[derive(Clone, Copy)]
 pub enum Stop {
     /// The words are no command.
     Usage,
@@ -25,7 +25,7 @@ pub enum Stop {
 }
 
 /// What is asked of a file or a device.
-#[derive(Clone, Copy, Debug, PartialEq, Eq)]
+#[derive(Clone, Copy)]
 pub enum Asked {
     Open,
     Read,

@@ -4,7 +4,7 @@ ghost use Rattle.std.specs.Prelude.{◌≡◌};
 ghost use Rattle.cse_command_parts.specs.Roles.{reads, word_of, writes};
 
 /// What a file is to a command.
-#[derive(Clone, Copy, Debug, PartialEq, Eq)]
+#[derive(Clone, Copy)]
 pub enum Role {
     Dictionary,
     Image,
@@ -39,7 +39,7 @@ impl Role {
 }
 
 /// A file of a command: what it is to it, its path, and what is done with it.
-#[derive(Clone, Copy, Debug, PartialEq, Eq)]
+#[derive(Clone, Copy)]
 pub struct Use<'a> {
     pub role: Role,
     pub path: &'a str,

@@ -31,7 +31,7 @@ const PREPROC: Event = Event {
 };
 
 /// Why `try` could not run, or not print.
-#[derive(Clone, Copy, Debug, PartialEq, Eq, Error)]
+#[derive(Clone, Copy, Debug, Error)]
 pub enum TryFault {
     /// The bytes are no image (60 to 64).
     #[error("{0}")]

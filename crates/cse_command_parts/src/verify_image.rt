@@ -12,7 +12,7 @@ use std::alloc::Global;
 use thiserror::Error;
 
 /// Why `verify` could not accept an image, or not print.
-#[derive(Clone, Copy, Debug, PartialEq, Eq, Error)]
+#[derive(Clone, Copy, Debug, Error)]
 pub enum VerifyFault {
     /// The text is no dictionary (10 to 18), or memory ran out (90).
     #[error("{0}")]
