@@ -6,9 +6,9 @@ use crate::report::{File, Files, Report, report_of};
 use crate::said::section_of;
 use crate::words::{CheckWords, check_words};
 use cse_files::{ReadFault, open_input, read_all};
-use cse_value::{Output, Writes, write_all};
+use cse_value::{Input, Output, Writes, write_all};
 use itoa::Buffer;
-use std::alloc::AllocError;
+use std::alloc::Global;
 use std::env;
 use std::io::{self, ErrorKind};
 use std::process::ExitCode;
@@ -32,43 +32,52 @@ enum Stop<'a> {
     Memory,
 }
 
-impl From<AllocError> for Stop<'_> {
-    fn from(_refused: AllocError) -> Self {
-        Stop::Memory
+/// What stops a command where a file can't be opened.
+fn not_opened(path: &str, kind: ErrorKind) -> Stop<'_> {
+    match kind {
+        ErrorKind::OutOfMemory => Stop::Memory,
+        _ => Stop::NotRead(path, ReadFault::NotOpened),
+    }
+}
+
+/// What stops it where one can't be read.
+fn not_read(path: &str, fault: ReadFault) -> Stop<'_> {
+    match fault {
+        ReadFault::Memory => Stop::Memory,
+        fault => Stop::NotRead(path, fault),
+    }
+}
+
+/// The bytes that a file gives.
+fn bytes_given<'a, I: Input>(
+    alloc: Global,
+    path: &'a str,
+    input: &mut I,
+) -> Result<Vec<u8>, Stop<'a>> {
+    match read_all(alloc, input, MOST_TEXT) {
+        Ok(bytes) if bytes.len() as u64 > MOST_TEXT => Err(Stop::TooLong(path)),
+        Ok(bytes) => Ok(bytes),
+        Err(fault) => Err(not_read(path, fault)),
     }
 }
 
 /// The bytes of a file.
 fn bytes_of<'a, R: Opens + AllocGlobal>(rt: &R, path: &'a str) -> Result<Vec<u8>, Stop<'a>> {
-    let mut input = match open_input(rt, path) {
-        Ok(input) => input,
-        Err(error) if error.kind() == ErrorKind::OutOfMemory => return Err(Stop::Memory),
-        Err(_) => return Err(Stop::NotRead(path, ReadFault::NotOpened)),
-    };
-    match read_all(rt.alloc(), &mut input.device, MOST_TEXT) {
-        Ok(bytes) if bytes.len() as u64 > MOST_TEXT => Err(Stop::TooLong(path)),
-        Ok(bytes) => Ok(bytes),
-        Err(ReadFault::Memory) => Err(Stop::Memory),
-        Err(fault) => Err(Stop::NotRead(path, fault)),
+    match open_input(rt, path) {
+        Ok(mut input) => bytes_given(rt.alloc(), path, &mut input.device),
+        Err(error) => Err(not_opened(path, error.kind())),
     }
 }
 
-/// The bytes of the files, none of one that isn't named.
-fn all_bytes<'a, R: Opens + AllocGlobal>(
+/// The bytes of a file, none of one that isn't named.
+fn bytes_if<'a, R: Opens + AllocGlobal>(
     rt: &R,
-    paths: [Option<&'a str>; 4],
-) -> Result<Vec<Vec<u8>>, Stop<'a>> {
-    let mut all = Vec::new(rt.alloc());
-    for path in paths {
-        let bytes = match path {
-            Some(path) => bytes_of(rt, path)?,
-            None => Vec::new(rt.alloc()),
-        };
-        if all.push(bytes).is_err() {
-            return Err(Stop::Memory);
-        }
+    path: Option<&'a str>,
+) -> Result<Vec<u8>, Stop<'a>> {
+    match path {
+        Some(path) => bytes_of(rt, path),
+        None => Ok(Vec::new(rt.alloc())),
     }
-    Ok(all)
 }
 
 /// A file that may be named, with its bytes.
@@ -79,21 +88,9 @@ fn file_if<'a>(path: Option<&'a str>, bytes: &'a [u8]) -> Option<File<'a>> {
     }
 }
 
-/// All faults of the files.
-fn report_files<'a, R: Opens + AllocGlobal>(
-    rt: &R,
-    words: &CheckWords<'a>,
-) -> Result<Report, Stop<'a>> {
-    let paths = [
-        Some(words.dict),
-        Some(words.logic),
-        words.messages,
-        words.order,
-    ];
-    let all = all_bytes(rt, paths)?;
-    let [dict, logic, messages, order] = all.as_slice() else {
-        return Err(Stop::Memory);
-    };
+/// All faults of the files. These have the bytes of the dictionary, of logic, of the messages and of the order.
+fn report_on(alloc: Global, words: &CheckWords<'_>, bytes: [&[u8]; 4]) -> Report {
+    let [dict, logic, messages, order] = bytes;
     let files = Files {
         dict: File {
             path: words.dict,
@@ -107,7 +104,57 @@ fn report_files<'a, R: Opens + AllocGlobal>(
         order: file_if(words.order, order),
         has_warnings: words.has_warnings,
     };
-    Ok(report_of(rt.alloc(), &files, words.is_json))
+    report_of(alloc, &files, words.is_json)
+}
+
+/// The same with the bytes of the first three.
+fn report_with_messages<'a, R: Opens + AllocGlobal>(
+    rt: &R,
+    words: &CheckWords<'a>,
+    dict: &[u8],
+    logic: &[u8],
+    messages: &[u8],
+) -> Result<Report, Stop<'a>> {
+    match bytes_if(rt, words.order) {
+        Ok(order) => Ok(report_on(rt.alloc(), words, [dict, logic, messages, &order])),
+        Err(stop) => Err(stop),
+    }
+}
+
+/// The same with the bytes of the first two.
+fn report_with_logic<'a, R: Opens + AllocGlobal>(
+    rt: &R,
+    words: &CheckWords<'a>,
+    dict: &[u8],
+    logic: &[u8],
+) -> Result<Report, Stop<'a>> {
+    match bytes_if(rt, words.messages) {
+        Ok(messages) => report_with_messages(rt, words, dict, logic, &messages),
+        Err(stop) => Err(stop),
+    }
+}
+
+/// The same with the bytes of the dictionary.
+fn report_with_dictionary<'a, R: Opens + AllocGlobal>(
+    rt: &R,
+    words: &CheckWords<'a>,
+    dict: &[u8],
+) -> Result<Report, Stop<'a>> {
+    match bytes_of(rt, words.logic) {
+        Ok(logic) => report_with_logic(rt, words, dict, &logic),
+        Err(stop) => Err(stop),
+    }
+}
+
+/// All faults of the files, which are read one after the other.
+fn report_files<'a, R: Opens + AllocGlobal>(
+    rt: &R,
+    words: &CheckWords<'a>,
+) -> Result<Report, Stop<'a>> {
+    match bytes_of(rt, words.dict) {
+        Ok(dict) => report_with_dictionary(rt, words, &dict),
+        Err(stop) => Err(stop),
+    }
 }
 
 /// Prints bytes.
@@ -119,6 +166,32 @@ fn print<R: Print>(rt: &R, bytes: &[u8]) -> Result<(), Stop<'static>> {
     }
 }
 
+/// Prints bytes, and answers this status.
+fn print_with<'a, R: Print>(rt: &R, bytes: &[u8], status: u8) -> Result<u8, Stop<'a>>
+    ensures { IfOk result (λ answer. answer ≡ status) }
+{
+    match print(rt, bytes) {
+        Ok(()) => Ok(status),
+        Err(stop) => Err(stop),
+    }
+}
+
+/// Prints what a report has, and answers the status.
+fn print_report<'a, R: Print>(rt: &R, report: Report) -> Result<u8, Stop<'a>>
+    ensures { IfOk result (λ status. status ≤ 1) }
+{
+    let Report {
+        printed,
+        faults,
+        warnings: _,
+    } = report;
+    let status = if faults == 0 { 0 } else { 1 };
+    match printed.finish() {
+        Ok(bytes) => print_with(rt, &bytes, status),
+        Err(_) => Err(Stop::Memory),
+    }
+}
+
 /// `check`. Answers the status.
 fn check<'a, R: Opens + Print + AllocGlobal>(rt: &R, words: &'a [String]) -> Result<u8, Stop<'a>>
     ensures { IfOk result (λ status. status ≤ 1) }
@@ -126,14 +199,10 @@ fn check<'a, R: Opens + Print + AllocGlobal>(rt: &R, words: &'a [String]) -> Res
     let Some(words) = check_words(words) else {
         return Err(Stop::Usage);
     };
-    let Report {
-        printed,
-        faults,
-        warnings: _,
-    } = report_files(rt, &words)?;
-    let bytes = printed.finish()?;
-    print(rt, &bytes)?;
-    Ok(if faults == 0 { 0 } else { 1 })
+    match report_files(rt, &words) {
+        Ok(report) => print_report(rt, report),
+        Err(stop) => Err(stop),
+    }
 }
 
 /// `explain`. Answers the status.
@@ -149,11 +218,10 @@ fn explain<'a, R: Print>(rt: &R, words: &'a [String]) -> Result<u8, Stop<'a>>
     let mut buffer = Buffer::new();
     let section = section_of(buffer.format(number).as_bytes());
     if section.is_empty() {
-        print(rt, b"no fault has this number\n")?;
-        return Ok(1);
+        print_with(rt, b"no fault has this number\n", 1)
+    } else {
+        print_with(rt, section, 0)
     }
-    print(rt, section)?;
-    Ok(0)
 }
 
 /// Why a file was not read.

@@ -205,8 +205,75 @@ fn tell_unused(
     }
 }
 
-/// The faults of the pieces of logic behind some that were found, which are told, and its warnings, if they are wanted.
+/// The warnings of logic, if they are wanted.
+fn add_warnings(
+    alloc: Global,
+    files: &Files<'_>,
+    dictionary: Option<&Dictionary>,
+    spot: &Spot<'_>,
+    pieces: &[Piece],
+    found: &mut Gathered<Finding>,
+) {
+    if let (true, Some(dictionary)) = (files.has_warnings, dictionary) {
+        let source = files.dict.bytes;
+        warnings_of(
+            alloc,
+            dictionary,
+            source,
+            spot.text,
+            spot.tokens,
+            pieces,
+            found,
+        );
+    }
+}
+
+/// What was found in logic, which is told.
+fn tell_found(
+    alloc: Global,
+    file: &File<'_>,
+    dictionary: Option<&Dictionary>,
+    spot: &mut Spot<'_>,
+    pieces: &[Piece],
+    found: &[Finding],
+    report: &mut Report,
+) -> Result<(), AllocError> {
+    let (text, tokens) = (spot.text, spot.tokens);
+    match Known::new(alloc, dictionary, text, tokens, pieces) {
+        Ok(mut known) => {
+            tell_logic(file, spot, found, &mut known, report);
+            Ok(())
+        }
+        Err(refused) => Err(refused),
+    }
+}
+
+/// The faults of the pieces of logic behind some that were found, which are told.
 fn read_pieces(
+    alloc: Global,
+    files: &Files<'_>,
+    beside: &Beside<'_>,
+    spot: &mut Spot<'_>,
+    pieces: &[Piece],
+    found: Gathered<Finding>,
+    report: &mut Report,
+) -> Result<(), AllocError> {
+    match logic_faults(alloc, spot.text, spot.tokens, pieces, beside, found) {
+        Ok(found) => tell_found(
+            alloc,
+            &files.logic,
+            beside.dictionary,
+            spot,
+            pieces,
+            &found,
+            report,
+        ),
+        Err(refused) => Err(refused),
+    }
+}
+
+/// The same of its tokens and pieces, and its warnings, if they are wanted.
+fn read_tokens(
     alloc: Global,
     files: &Files<'_>,
     beside: &Beside<'_>,
@@ -217,14 +284,27 @@ fn read_pieces(
 ) -> Result<(), AllocError> {
     let (text, tokens) = (spot.text, spot.tokens);
     let mut found = found;
-    if let (true, Some(dictionary)) = (files.has_warnings, beside.dictionary) {
-        let source = files.dict.bytes;
-        warnings_of(alloc, dictionary, source, text, tokens, pieces, &mut found);
+    add_warnings(alloc, files, beside.dictionary, spot, pieces, &mut found);
+    let done = read_pieces(alloc, files, beside, spot, pieces, found, report);
+    if let (true, Some(messages)) = (files.has_warnings, &files.messages) {
+        tell_unused(alloc, text, tokens, messages, report);
     }
-    let found = logic_faults(alloc, text, tokens, pieces, beside, found)?;
-    let mut known = Known::new(alloc, beside.dictionary, text, tokens, pieces)?;
-    tell_logic(&files.logic, spot, &found, &mut known, report);
-    Ok(())
+    done
+}
+
+/// The same of its text with its tokens.
+fn read_with(
+    alloc: Global,
+    files: &Files<'_>,
+    beside: &Beside<'_>,
+    spot: &mut Spot<'_>,
+    found: Gathered<Finding>,
+    report: &mut Report,
+) -> Result<(), AllocError> {
+    match pieces_of(alloc, spot.tokens) {
+        Ok(pieces) => read_tokens(alloc, files, beside, spot, &pieces, found, report),
+        Err(refused) => Err(refused),
+    }
 }
 
 /// The faults of logic without what is no UTF-8, behind some that were found, which are told, and its warnings, if they are
@@ -237,18 +317,17 @@ fn read_text(
     found: Gathered<Finding>,
     report: &mut Report,
 ) -> Result<(), AllocError> {
-    let tokens = tokens_of(alloc, text)?;
-    let pieces = pieces_of(alloc, &tokens)?;
-    let mut spot = Spot {
-        text,
-        tokens: &tokens,
-        index: 0,
-    };
-    read_pieces(alloc, files, beside, &mut spot, &pieces, found, report)?;
-    if let (true, Some(messages)) = (files.has_warnings, &files.messages) {
-        tell_unused(alloc, text, &tokens, messages, report);
+    match tokens_of(alloc, text) {
+        Ok(tokens) => {
+            let mut spot = Spot {
+                text,
+                tokens: &tokens,
+                index: 0,
+            };
+            read_with(alloc, files, beside, &mut spot, found, report)
+        }
+        Err(refused) => Err(refused),
     }
-    Ok(())
 }
 
 /// All faults of logic, which are told, and its warnings, if they are wanted.
@@ -263,6 +342,40 @@ fn read_logic(alloc: Global, files: &Files<'_>, beside: &Beside<'_>, report: &mu
     }
 }
 
+/// The faults of the files beside a dictionary, if it has none, which are told.
+fn tell_beside(
+    alloc: Global,
+    files: &Files<'_>,
+    dictionary: Option<&Dictionary>,
+    report: &mut Report,
+) {
+    let mut kept = Gathered::new(alloc);
+    let lacks_messages = match &files.messages {
+        Some(file) => read_messages(alloc, file, &mut kept, report),
+        None => false,
+    };
+    if let (Some(file), Some(dictionary)) = (&files.order, dictionary) {
+        read_order(alloc, file, dictionary, report);
+    }
+    match Messages::read(alloc, kept.items()) {
+        Ok(messages) => {
+            let beside = Beside {
+                dictionary,
+                messages: &messages,
+                lacks_messages,
+            };
+            read_logic(alloc, files, &beside, report);
+        }
+        Err(_) => report.printed.give_up(),
+    }
+}
+
+/// All faults of the files, which are told.
+fn tell_files(alloc: Global, files: &Files<'_>, report: &mut Report) {
+    let dictionary = read_dictionary(alloc, &files.dict, report);
+    tell_beside(alloc, files, dictionary.as_ref(), report);
+}
+
 /// All faults of the files.
 pub fn report_of(alloc: Global, files: &Files<'_>, is_json: bool) -> Report {
     let mut report = Report {
@@ -270,26 +383,7 @@ pub fn report_of(alloc: Global, files: &Files<'_>, is_json: bool) -> Report {
         faults: 0,
         warnings: 0,
     };
-    let dictionary = read_dictionary(alloc, &files.dict, &mut report);
-    let mut kept = Gathered::new(alloc);
-    let lacks_messages = match &files.messages {
-        Some(file) => read_messages(alloc, file, &mut kept, &mut report),
-        None => false,
-    };
-    if let (Some(file), Some(dictionary)) = (&files.order, &dictionary) {
-        read_order(alloc, file, dictionary, &mut report);
-    }
-    match Messages::read(alloc, kept.items()) {
-        Ok(messages) => {
-            let beside = Beside {
-                dictionary: dictionary.as_ref(),
-                messages: &messages,
-                lacks_messages,
-            };
-            read_logic(alloc, files, &beside, &mut report);
-        }
-        Err(_) => report.printed.give_up(),
-    }
+    tell_files(alloc, files, &mut report);
     let (faults, warnings) = (report.faults, report.warnings);
     report.printed.tell_count(faults, warnings);
     report
