@@ -4,52 +4,63 @@ use std::fs;
 use std::os::unix::fs::symlink;
 use std::rt::Files;
 
-/// What is amiss at a desk.
-#[derive(Clone, Copy)]
-pub enum Amiss<'a> {
+/// What may be amiss at a desk.
+#[derive(Clone, Copy, PartialEq, Eq)]
+enum Kind {
     Nothing,
     /// A file may not be opened.
-    Closed(&'a str),
+    Closed,
     /// A file may be opened to be read, and not to be written.
-    Kept(&'a str),
+    Kept,
     /// A folder stands where a file should.
-    Folder(&'a str),
+    Folder,
     /// What is written to a file, or beside it, finds no room.
-    Full(&'a str),
+    Full,
     /// What is written to a file, or beside it, is taken, and the disk has no room for it.
-    Late(&'a str),
+    Late,
     /// A file is a link to another one.
-    Link(&'a str, &'a str),
+    Link,
     /// A file is another one by a second name.
-    Name(&'a str, &'a str),
+    Name,
     /// Nothing can be made beside a file.
-    Alone(&'a str),
-    /// No more bytes than these can be printed.
-    Mute(usize),
+    Alone,
+    /// No more bytes than a number, which stands in place of a file, can be printed.
+    Mute,
 }
 
-/// What is amiss, by a word and the files of it; nothing where no word is known.
-pub fn amiss_of(said: &str) -> Option<Amiss<'_>> {
-    let (kind, files) = said.split_once(' ').unwrap_or((said, ""));
-    let (file, other) = files.split_once(' ').unwrap_or((files, ""));
-    match kind {
-        "" => Some(Amiss::Nothing),
-        "closed" => Some(Amiss::Closed(file)),
-        "kept" => Some(Amiss::Kept(file)),
-        "folder" => Some(Amiss::Folder(file)),
-        "full" => Some(Amiss::Full(file)),
-        "late" => Some(Amiss::Late(file)),
-        "link" => Some(Amiss::Link(file, other)),
-        "name" => Some(Amiss::Name(file, other)),
-        "alone" => Some(Amiss::Alone(file)),
-        "mute" => Some(Amiss::Mute(file.parse::<usize>().unwrap_or(0))),
+/// What is amiss at a desk, with the file that it is amiss of, and another one.
+#[derive(Clone, Copy)]
+pub struct Amiss<'a> {
+    kind: Kind,
+    file: &'a str,
+    other: &'a str,
+}
+
+/// What is amiss by its word; nothing where no word is known.
+fn kind_of(word: &str) -> Option<Kind> {
+    match word {
+        "" => Some(Kind::Nothing),
+        "closed" => Some(Kind::Closed),
+        "kept" => Some(Kind::Kept),
+        "folder" => Some(Kind::Folder),
+        "full" => Some(Kind::Full),
+        "late" => Some(Kind::Late),
+        "link" => Some(Kind::Link),
+        "name" => Some(Kind::Name),
+        "alone" => Some(Kind::Alone),
+        "mute" => Some(Kind::Mute),
         _ => None,
     }
 }
 
-/// Whether a path is that of a file, or of a new one beside it.
-fn is_by(path: &str, file: &str) -> bool {
-    path == file || is_beside(path, file)
+/// What is amiss, by a word and the files of it; nothing where no word is known.
+pub fn amiss_of(said: &str) -> Option<Amiss<'_>> {
+    let (word, files) = said.split_once(' ').unwrap_or((said, ""));
+    let (file, other) = files.split_once(' ').unwrap_or((files, ""));
+    match kind_of(word) {
+        Some(kind) => Some(Amiss { kind, file, other }),
+        None => None,
+    }
 }
 
 /// Whether a path is that of a new file beside another one.
@@ -60,45 +71,56 @@ fn is_beside(path: &str, file: &str) -> bool {
     }
 }
 
+/// Whether a path is that of a file, or of a new one beside it.
+fn is_by(path: &str, file: &str) -> bool {
+    (path == file) | is_beside(path, file)
+}
+
 impl Amiss<'_> {
     /// Makes the link, or the second name.
     pub fn tie<R: Files>(&self, rt: &R) -> bool {
-        match self {
-            Amiss::Link(file, other) => symlink(rt, *other, *file).is_ok(),
-            Amiss::Name(file, other) => fs::hard_link(rt, *other, *file).is_ok(),
+        match self.kind {
+            Kind::Link => symlink(rt, self.other, self.file).is_ok(),
+            Kind::Name => fs::hard_link(rt, self.other, self.file).is_ok(),
             _ => true,
         }
     }
 
+    /// Whether this is amiss of a file.
+    fn is(&self, kind: Kind, path: &str) -> bool {
+        (self.kind == kind) & (path == self.file)
+    }
+
+    /// Whether this is amiss of a file that is written, or of the file that it is made beside.
+    fn is_by(&self, kind: Kind, path: &str, writes: bool) -> bool {
+        (self.kind == kind) & writes & is_by(path, self.file)
+    }
+
     /// Whether a file may not be opened.
     pub fn denies(&self, path: &str, writes: bool) -> bool {
-        match self {
-            Amiss::Closed(file) => path == *file,
-            Amiss::Kept(file) => writes && path == *file,
-            Amiss::Alone(file) => is_beside(path, file),
-            _ => false,
-        }
+        let is_alone = (self.kind == Kind::Alone) & is_beside(path, self.file);
+        self.is(Kind::Closed, path) | (self.is(Kind::Kept, path) & writes) | is_alone
     }
 
     /// Whether a file is a folder.
     pub fn is_folder(&self, path: &str) -> bool {
-        matches!(self, Amiss::Folder(file) if path == *file)
+        self.is(Kind::Folder, path)
     }
 
     /// Whether what is written to a file finds no room.
     pub fn is_full(&self, path: &str, writes: bool) -> bool {
-        matches!(self, Amiss::Full(file) if writes && is_by(path, file))
+        self.is_by(Kind::Full, path, writes)
     }
 
     /// Whether what is written to a file is taken, and the disk has no room for it.
     pub fn is_late(&self, path: &str, writes: bool) -> bool {
-        matches!(self, Amiss::Late(file) if writes && is_by(path, file))
+        self.is_by(Kind::Late, path, writes)
     }
 
     /// How many bytes can be printed.
     pub fn most_printed(&self) -> usize {
-        match self {
-            Amiss::Mute(most) => *most,
+        match self.kind {
+            Kind::Mute => self.file.parse::<usize>().unwrap_or(0),
             _ => usize::MAX,
         }
     }

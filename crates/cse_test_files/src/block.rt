@@ -43,16 +43,28 @@ pub struct Row<'a> {
     pub all: &'a str,
 }
 
-/// What stands behind a word of a block.
-fn said<'a>(block: &'a str, word: &str) -> Option<&'a str> {
-    let (_, behind) = block.split_once(word)?;
-    for (end, _) in behind.match_indices('\n') {
-        let (value, rest) = behind.split_at_checked(end)?;
-        if !rest.starts_with("\n    ") {
-            return Some(value.trim());
+/// How many bytes a value has: its first line, and those behind it that are indented.
+fn value_len(behind: &str) -> usize {
+    let mut len = 0usize;
+    let mut goes_on = true;
+    for line in behind.split('\n') {
+        goes_on &= (len == 0) | line.starts_with("    ");
+        if goes_on {
+            len = len.saturating_add(line.len()).saturating_add(1);
         }
     }
-    Some(behind.trim())
+    len.saturating_sub(1)
+}
+
+/// What stands behind a word of a block.
+fn said<'a>(block: &'a str, word: &str) -> Option<&'a str> {
+    match block.split_once(word) {
+        Some((_, behind)) => match behind.split_at_checked(value_len(behind)) {
+            Some((value, _)) => Some(value.trim()),
+            None => None,
+        },
+        None => None,
+    }
 }
 
 /// What stands behind the first line of a text of a block.
@@ -99,34 +111,54 @@ impl<'a> Row<'a> {
 
     /// A file: its path there, and the stored file or the text that has its bytes.
     pub fn kept(&self, file: &'a str) -> (&'a str, &'a str) {
-        if let Some(kept) = file.split_once('=') {
-            return kept;
+        match file.split_once('=') {
+            Some(kept) => kept,
+            None => (file, self.stored(file)),
         }
-        if self.own_text(file).is_some() {
-            return (file, file);
-        }
-        for stored in self.files(STORED) {
-            if let Some(kept) = stored.split_once('=')
-                && kept.0 == file
-            {
-                return kept;
-            }
-        }
-        (file, file)
     }
+
+    /// The stored file or the text that has the bytes of a file for which none is named.
+    fn stored(&self, file: &'a str) -> &'a str {
+        match self.own_text(file) {
+            Some(_) => file,
+            None => stored_in(self.files(STORED), file),
+        }
+    }
+}
+
+/// The stored file of a file among several; the file itself where none has its name.
+fn stored_in<'a>(files: SplitAsciiWhitespace<'a>, file: &'a str) -> &'a str {
+    let mut found = file;
+    for stored in files {
+        let (name, path) = stored.split_once('=').unwrap_or((stored, stored));
+        if name == file {
+            found = path;
+        }
+    }
+    found
+}
+
+/// 1 where a block has a word, and else 0.
+fn has(block: &str, word: &str) -> u8 {
+    u8::from(block.contains(word))
+}
+
+/// How many words of rows a block has, each counted once.
+fn kinds_in(block: &str) -> u8 {
+    has(block, STORED)
+        .saturating_add(has(block, WORDS))
+        .saturating_add(has(block, FILES))
+        .saturating_add(has(block, AMISS))
+        .saturating_add(has(block, OPENED))
+        .saturating_add(has(block, MADE))
+        .saturating_add(has(block, PRINTED))
+        .saturating_add(has(block, TOLD))
+        .saturating_add(has(block, STATUS))
 }
 
 /// How many words of rows a block has, each counted once, and texts.
 fn words_in(block: &str) -> usize {
-    let mut words = block.matches(TEXT).count();
-    for word in [
-        STORED, WORDS, FILES, AMISS, OPENED, MADE, PRINTED, TOLD, STATUS,
-    ] {
-        if block.contains(word) {
-            words = words.saturating_add(1);
-        }
-    }
-    words
+    usize::from(kinds_in(block)).saturating_add(block.matches(TEXT).count())
 }
 
 /// Whether each line of a block, but for its first, is a comment or indented, or begins with a word of rows, which no other does,

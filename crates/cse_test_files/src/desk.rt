@@ -8,7 +8,9 @@ use std::cell::RefCell;
 use std::env::FillError;
 use std::fmt::Display;
 use std::fs::{Metadata, OpenOptions, Permissions};
-use std::io::{self, ErrorKind};
+use std::io::{self, ErrorKind, PipeReader, PipeWriter};
+use std::os::fd::BorrowedFd;
+use std::os::unix::net::SocketAddr;
 use std::path::PathBuf;
 use std::rt::{Env, Files};
 
@@ -31,7 +33,30 @@ pub struct Desk<'a, R> {
     pub notes: &'a Notes,
 }
 
+impl<R: Files> Desk<'_, R> {
+    /// Opens a file of the folder, unless it may not be opened.
+    fn open_by(&self, how: &OpenOptions, path: &str) -> io::Result<R::File> {
+        let place = if self.amiss.is_folder(path) {
+            "."
+        } else {
+            path
+        };
+        if self.admits(path, how.asks_write()) {
+            self.files.open_file(how, place)
+        } else {
+            Err(io::Error::from(ErrorKind::PermissionDenied))
+        }
+    }
+}
+
 impl<R> Desk<'_, R> {
+    /// Notes a file that is to be opened, and answers whether it may be.
+    fn admits(&self, path: &str, writes: bool) -> bool {
+        let sign: &[u8] = if writes { b" >" } else { b" " };
+        let is_noted = note(&self.notes.opened, sign, path.as_bytes()).is_ok();
+        is_noted & !self.amiss.denies(path, writes)
+    }
+
     /// How many bytes more can be printed.
     fn room_to_print(&self) -> usize {
         match self.notes.printed.try_borrow() {
@@ -131,18 +156,13 @@ impl<R: Files> Files for Desk<'_, R> {
 
     fn open_file(&self, how: &OpenOptions, path: &str) -> io::Result<Sheet<R::File>> {
         let writes = how.asks_write();
-        let amiss = self.amiss;
-        let sign: &[u8] = if writes { b" >" } else { b" " };
-        note(&self.notes.opened, sign, path.as_bytes())?;
-        if amiss.denies(path, writes) {
-            return Err(io::Error::from(ErrorKind::PermissionDenied));
-        }
-        let place = if amiss.is_folder(path) { "." } else { path };
-        match self.files.open_file(how, place) {
+        let is_full = self.amiss.is_full(path, writes);
+        let is_late = self.amiss.is_late(path, writes);
+        match self.open_by(how, path) {
             Ok(file) => Ok(Sheet {
                 file,
-                is_full: amiss.is_full(path, writes),
-                is_late: amiss.is_late(path, writes),
+                is_full,
+                is_late,
             }),
             Err(error) => Err(error),
         }
@@ -181,6 +201,34 @@ impl<R: Files> Files for Desk<'_, R> {
     }
 
     fn remove_dir_all<B: Allocator>(&self, _alloc: B, _path: &str) -> io::Result<()> {
+        unsupported()
+    }
+
+    fn read_link<B: Allocator>(&self, _alloc: B, _path: &str) -> io::Result<PathBuf<B>> {
+        unsupported()
+    }
+
+    fn hard_link(&self, _original: &str, _link: &str) -> io::Result<()> {
+        unsupported()
+    }
+
+    fn symlink(&self, _original: &str, _link: &str) -> io::Result<()> {
+        unsupported()
+    }
+
+    fn pipe(&self) -> io::Result<(PipeReader, PipeWriter)> {
+        unsupported()
+    }
+
+    fn lchown(&self, _path: &str, _uid: Option<u32>, _gid: Option<u32>) -> io::Result<()> {
+        unsupported()
+    }
+
+    fn create_dir_with_mode(&self, _path: &str, _mode: u32) -> io::Result<()> {
+        unsupported()
+    }
+
+    fn bind_unix(&self, _socket: BorrowedFd<'_>, _addr: &SocketAddr) -> io::Result<()> {
         unsupported()
     }
 

@@ -139,23 +139,38 @@ fn put_line(into: &mut Vec<u8>, line: &str) -> bool {
     }
 }
 
-/// Puts the text that stands behind its first line, up to the next word. Answers whether it is one.
-pub fn put_text(into: &mut Vec<u8>, lines: &str) -> bool {
+/// Puts the line that a piece of a text begins with. Answers whether no indented line stands behind it.
+fn put_front(into: &mut Vec<u8>, piece: &str) -> bool {
+    let (line, rest) = piece.split_once('\n').unwrap_or((piece, ""));
+    put_line(into, line) & !rest.starts_with(' ')
+}
+
+/// Puts the lines of a text, which begins with the first of them.
+fn put_all(into: &mut Vec<u8>, text: &str) -> bool {
     let mut well = true;
-    for line in lines.lines().skip(1) {
-        match line.strip_prefix("    |") {
-            Some(line) => well &= put_line(into, line),
-            None => return well && !line.starts_with(' '),
-        }
+    for piece in text.split("\n    |") {
+        well &= put_front(into, piece);
     }
     well
+}
+
+/// Puts the text that stands behind its first line, up to the next word. Answers whether it is one.
+pub fn put_text(into: &mut Vec<u8>, lines: &str) -> bool {
+    let (front, text) = lines.split_once("\n    |").unwrap_or((lines, ""));
+    let (_, rest) = front.split_once('\n').unwrap_or((front, ""));
+    !rest.starts_with(' ') && (front.len() == lines.len() || put_all(into, text))
+}
+
+/// Puts a line, perhaps indented, with a line end.
+fn put_indented(into: &mut Vec<u8>, line: &str) -> bool {
+    put(into, line.trim_start()) && put_byte(into, b'\n')
 }
 
 /// Puts lines, perhaps indented, each with a line end.
 pub fn put_lines(into: &mut Vec<u8>, lines: &str) -> bool {
     let mut well = true;
     for line in lines.lines() {
-        well &= put(into, line.trim_start()) && put_byte(into, b'\n');
+        well &= put_indented(into, line);
     }
     well
 }
