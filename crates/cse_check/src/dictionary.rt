@@ -2,6 +2,7 @@
 //! out then.
 
 use cse_dict::{DictError, Dictionary};
+use cse_fault_numbers::{TOO_MANY, WANT_OF_MEMORY};
 use cse_pieces::{Finding, Gathered, mark_len};
 use cse_sections::sections::{Section, sections_of};
 use cse_sections::text::is_same;
@@ -9,9 +10,6 @@ use std::alloc::{AllocError, Global};
 
 /// How many faults of a dictionary are told.
 const MOST: u32 = 50;
-
-/// The number of want of memory.
-const WANT_OF_MEMORY: u8 = 90;
 
 /// Lines from one up to another, from 1.
 #[derive(Clone, Copy)]
@@ -86,7 +84,7 @@ fn leave_out(alloc: Global, text: &mut Vec<u8>, number: u8, line: u64) -> bool {
     };
     match lines {
         // There is too much of something, and what is left out makes room for one more.
-        Some(lines) if number == 17 && lines.first == line => false,
+        Some(lines) if number == TOO_MANY && lines.first == line => false,
         Some(lines) => {
             blank(text, lines);
             true

@@ -1,12 +1,10 @@
 //! Faults of the files beside logic: the messages and the edit order. Each is told by its line.
 
 use cse_dict::Dictionary;
+use cse_fault_numbers::{UNKNOWN_NAME, WANT_OF_MEMORY};
 use cse_pieces::{Finding, Gathered, lines_of, part};
 use cse_types::Messages;
 use std::alloc::{AllocError, Global};
-
-/// The number of want of memory.
-const WANT_OF_MEMORY: u8 = 90;
 
 /// The fault of a line of a message file; 0 where there is none.
 fn fault_of(alloc: Global, line: &[u8]) -> u8 {
@@ -67,7 +65,7 @@ pub fn order_faults(
             None if name.is_empty() => {}
             _ => found.add(Finding {
                 start: line.start,
-                number: 40,
+                number: UNKNOWN_NAME,
             }),
         }
     }

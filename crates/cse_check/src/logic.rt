@@ -1,6 +1,7 @@
 //! All faults of a text of logic.
 
 use cse_dict::Dictionary;
+use cse_fault_numbers::{OTHER_KIND, OTHER_PLACEHOLDERS, UNKNOWN_NAME, WANT_OF_MEMORY};
 use cse_pieces::{Finding, Gathered, Mending, Piece, Token, byte_of, in_order, is_among};
 use cse_syntax::{Kind, Mark, Source, SyntaxError, Token as Read, parse};
 use cse_types::{Messages, faults};
@@ -37,15 +38,15 @@ fn arguments_end(tokens: &[Read<'_>], name: usize) -> usize {
 fn is_argument(dictionary: &Dictionary, number: u8, token: &Read<'_>) -> bool {
     let names_other = dictionary.find_record(token.text).is_some()
         || dictionary.find_set(token.text).is_some();
-    number == 44 || (number == 40 && names_other)
+    number == OTHER_KIND || (number == UNKNOWN_NAME && names_other)
 }
 
 /// Whether a fault of a name follows from that of a declaration, of which these are the names, or of a message.
 fn follows(beside: &Beside<'_>, excused: &[&[u8]], number: u8, token: &Read<'_>) -> bool {
     if token.kind == Kind::Number {
-        return beside.lacks_messages && (number == 40 || number == 48);
+        return beside.lacks_messages && (number == UNKNOWN_NAME || number == OTHER_PLACEHOLDERS);
     }
-    number == 40 && is_among(excused, token.text.as_bytes())
+    number == UNKNOWN_NAME && is_among(excused, token.text.as_bytes())
 }
 
 /// Those faults of names and kinds that follow from no other. What stands for the place of each is its token.
@@ -66,7 +67,7 @@ fn add_named(
         if place < unknown_end && is_argument(dictionary, number, token) {
             continue;
         }
-        if number == 40 && unknown_end <= place {
+        if number == UNKNOWN_NAME && unknown_end <= place {
             unknown_end = arguments_end(tokens, place);
         }
         if !follows(beside, excused, number, token) {
@@ -104,7 +105,7 @@ fn named_faults<'a>(
 
 /// A fault of what was thought to be without one.
 fn add_error(text: &[u8], error: SyntaxError, found: &mut Gathered<Finding>) {
-    if error.number == 90 {
+    if error.number == WANT_OF_MEMORY {
         found.give_up();
         return;
     }

@@ -5,10 +5,10 @@ ghost use Rattle.cse_command_parts.specs.Apart.{AreApart, AreOf, TellsOneFile, a
 ghost use Rattle.cse_command_parts.specs.declared.role.Use.{Use};
 ghost use Rattle.cse_command_parts.specs.Roles.{compile_uses, edit_uses, edited_uses, reads_named, run_uses};
 
-use crate::fault::NO_MEMORY;
 use crate::outcome::Stop;
 use crate::role::{Role, Use};
 use cse_command_line::plan::{CompilePaths, EditPaths, RunPaths};
+use cse_fault_numbers::WANT_OF_MEMORY;
 use cse_files::{Named, first_clash, place_of};
 use std::alloc::{AllocError, Global};
 use std::rt::Files;
@@ -90,7 +90,7 @@ pub fn see_apart<R: Files + AllocGlobal>(rt: &R, uses: &[Use<'_>]) -> Result<(),
     ensures one_file { IfErr result (TellsOneFile uses.now) }
 {
     let Ok(files) = named_files(rt, uses) else {
-        return Err(Stop::of_number(NO_MEMORY));
+        return Err(Stop::of_number(WANT_OF_MEMORY));
     };
     match first_clash(&files) {
         Some((earlier, later)) => Err(Stop::OneFile(role_at(uses, earlier), role_at(uses, later))),

@@ -10,12 +10,13 @@ ghost use Rattle.cse_command_parts.specs.Stops.{TellsBuildFault};
 
 use crate::apart::{see_apart, uses_of_compile};
 use crate::compiled::CompiledFiles;
-use crate::fault::{Fault, TOO_LARGE, TOO_MANY};
+use crate::fault::Fault;
 use crate::files::{file_text, text_of, text_where_named, write_file};
 use crate::outcome::Stop;
 use cse_build::build;
 use cse_command_line::plan::CompilePaths;
 use cse_dict::Dictionary;
+use cse_fault_numbers::{TOO_LARGE, TOO_MANY};
 use cse_value::{Input, Output, Reads, Writes};
 use std::alloc::Global;
 use std::rt::Files;

@@ -14,23 +14,11 @@ use cse_batch::{CheckFault, RunFault};
 use cse_build::BuildFault;
 use cse_decks::DeckError;
 use cse_dict::DictError;
+use cse_fault_numbers::{NOT_OPENED, READ_FAILED, WANT_OF_MEMORY, WRITE_FAILED};
 use cse_image::ImageError;
 use cse_value::{Failed, Output, write_all};
 use cse_verify::{NONE, Refusal};
 use itoa::Buffer;
-
-/// The number of a dictionary that has too much of something.
-pub const TOO_MANY: u8 = 17;
-/// The number of logic, or of messages or an edit order beside it, that is too large.
-pub const TOO_LARGE: u8 = 64;
-/// The number of a failed read.
-pub const READ_FAILED: u8 = 70;
-/// The number of a failed write.
-pub const WRITE_FAILED: u8 = 71;
-/// The number of a file that can't be opened.
-pub const NOT_OPENED: u8 = 72;
-/// The number of want of memory.
-pub const NO_MEMORY: u8 = 90;
 
 /// A fault: its number, and what it tells of its place.
 #[derive(Clone, Copy)]
@@ -108,7 +96,7 @@ impl Fault {
         match fault {
             CheckFault::Image(error) => Fault::of_image(error),
             CheckFault::Refused(refusal) => Fault::of_refusal(refusal),
-            CheckFault::Memory => Fault::of_number(NO_MEMORY),
+            CheckFault::Memory => Fault::of_number(WANT_OF_MEMORY),
         }
     }
 
@@ -156,7 +144,7 @@ impl Fault {
             TryFault::Image(error) => Fault::of_image(*error),
             TryFault::Refused(refusal) => Fault::of_refusal(*refusal),
             TryFault::Write => Fault::of_number(WRITE_FAILED),
-            TryFault::Memory => Fault::of_number(NO_MEMORY),
+            TryFault::Memory => Fault::of_number(WANT_OF_MEMORY),
         }
     }
 }
@@ -182,7 +170,7 @@ pub fn ending(number: u8) -> u8
     ensures { result ≡ status_of number }
 {
     match number {
-        READ_FAILED | WRITE_FAILED | NOT_OPENED | NO_MEMORY => 3,
+        READ_FAILED | WRITE_FAILED | NOT_OPENED | WANT_OF_MEMORY => 3,
         _ => 1,
     }
 }

@@ -5,8 +5,9 @@ ghost use Rattle.std.specs.declared.io.ErrorKind.TheVariants.{OutOfMemory};
 ghost use Rattle.cse_command_parts.specs.Stops.{HasNumber};
 ghost use Rattle.cse_command_parts.specs.Ending.{exit_status, number_asked, number_of_read, number_of_write, plain_fault};
 
-use crate::fault::{Fault, NO_MEMORY, NOT_OPENED, READ_FAILED, WRITE_FAILED, ending};
+use crate::fault::{Fault, ending};
 use crate::role::Role;
+use cse_fault_numbers::{NOT_OPENED, READ_FAILED, WANT_OF_MEMORY, WRITE_FAILED};
 use cse_files::{ReadFault, WriteFault};
 use std::alloc::AllocError;
 use std::io::ErrorKind;
@@ -48,7 +49,7 @@ impl Stop {
         ensures fault { HasNumber result }
     {
         match kind {
-            ErrorKind::OutOfMemory => Stop::of_number(NO_MEMORY),
+            ErrorKind::OutOfMemory => Stop::of_number(WANT_OF_MEMORY),
             _ => Stop::of_number(number_asked(asked)),
         }
     }
@@ -60,7 +61,7 @@ impl Stop {
         match fault {
             ReadFault::NotOpened => Stop::of_number(NOT_OPENED),
             ReadFault::NotRead => Stop::of_number(READ_FAILED),
-            ReadFault::Memory => Stop::of_number(NO_MEMORY),
+            ReadFault::Memory => Stop::of_number(WANT_OF_MEMORY),
         }
     }
 
@@ -71,7 +72,7 @@ impl Stop {
         match fault {
             WriteFault::NotOpened => Stop::of_number(NOT_OPENED),
             WriteFault::NotWritten => Stop::of_number(WRITE_FAILED),
-            WriteFault::Memory => Stop::of_number(NO_MEMORY),
+            WriteFault::Memory => Stop::of_number(WANT_OF_MEMORY),
         }
     }
 }
@@ -82,7 +83,7 @@ impl From<AllocError> for Stop {
     ghost from_gives = { λ _ stop. stop ≡ Refused (plain_fault 90) };
 
     fn from(_refused: AllocError) -> Stop {
-        Stop::of_number(NO_MEMORY)
+        Stop::of_number(WANT_OF_MEMORY)
     }
 }
 

@@ -11,7 +11,7 @@ ghost use Rattle.cse_command_parts.specs.Ran.{AreOpened, AreOpenedFrom, AreRunPa
 ghost use Rattle.cse_command_parts.specs.Allowed.{KeepsToSteps, steps_allowed};
 
 use crate::apart::{see_apart, uses_of_run};
-use crate::fault::{Fault, NO_MEMORY, TOO_MANY};
+use crate::fault::Fault;
 use crate::files::{
     MOST_DECKS, MOST_IMAGE, bytes_of, bytes_where_there, created, file_bytes, file_text, opened,
     write_file,
@@ -22,6 +22,7 @@ use cse_batch::{Totals, check_image, run};
 use cse_command_line::plan::RunPaths;
 use cse_decks::{Store, load};
 use cse_dict::Dictionary;
+use cse_fault_numbers::{TOO_MANY, WANT_OF_MEMORY};
 use cse_files::{OpenedOutput, Replaced};
 use cse_image::{Code, Program};
 use cse_memory::Gathered;
@@ -185,7 +186,7 @@ pub fn store_of<C: Code>(
     let Some(text) = text else {
         return match Store::new(alloc, program) {
             Ok(store) => Ok(store),
-            Err(_) => Err(Stop::of_number(NO_MEMORY)),
+            Err(_) => Err(Stop::of_number(WANT_OF_MEMORY)),
         };
     };
     store_said(alloc, program, text)
@@ -277,7 +278,7 @@ pub fn run_on<C: Code, R: Input, O: Output, L: Output, F: Output>(
     );
     match ran {
         Ok(totals) => Ok((totals, decks)),
-        Err(_) if decks.has_failed() => Err(Stop::of_number(NO_MEMORY)),
+        Err(_) if decks.has_failed() => Err(Stop::of_number(WANT_OF_MEMORY)),
         Err(fault) => Err(Stop::Refused(Fault::of_run(fault))),
     }
 }

@@ -12,7 +12,7 @@ use crate::edited::EditedFiles;
 use cse_batch::Totals;
 use cse_command_line::plan::{Command, CompilePaths, EditPaths, PlanFault, RunPaths, plan};
 use cse_command_parts::compile_image::compile_files;
-use cse_command_parts::fault::{Fault, NO_MEMORY, TOO_MANY, WRITE_FAILED};
+use cse_command_parts::fault::Fault;
 use cse_command_parts::files::{MOST_IMAGE, file_bytes, file_text};
 use cse_command_parts::judged::{TriedFile, VerifiedFiles};
 use cse_command_parts::outcome::Stop;
@@ -21,6 +21,7 @@ use cse_command_parts::ran::{RanFiles, RanImage};
 use cse_command_parts::run_image::run_files;
 use cse_command_parts::try_image::try_to;
 use cse_command_parts::verify_image::verify_to;
+use cse_fault_numbers::{TOO_MANY, WANT_OF_MEMORY, WRITE_FAILED};
 use cse_value::{Failed, Input, Output, Reads, Writes};
 use std::env;
 use std::io::{self, BufWriter, ErrorKind, Write};
@@ -35,12 +36,12 @@ pub fn carry_out<R: Env + Files + Print + AllocGlobal>(rt: &R) -> Result<(), Sto
     let given = match words_given(rt) {
         Ok(given) => given,
         Err(error) if error.kind() == ErrorKind::OutOfMemory => {
-            return Err(Stop::of_number(NO_MEMORY));
+            return Err(Stop::of_number(WANT_OF_MEMORY));
         }
         Err(_) => return Err(Stop::Usage),
     };
     let Ok(words) = given.iter().map(|word| word.as_str()).collect(rt.alloc()) else {
-        return Err(Stop::of_number(NO_MEMORY));
+        return Err(Stop::of_number(WANT_OF_MEMORY));
     };
     let words: Vec<&str> = words;
     do_asked(rt, &words)
@@ -54,7 +55,7 @@ fn do_asked<R: Files + Print + AllocGlobal>(rt: &R, words: &[&str]) -> Result<()
     match plan(rt.alloc(), words) {
         Ok(command) => do_and_flush(rt, command),
         Err(PlanFault::Usage) => Err(Stop::Usage),
-        Err(PlanFault::Memory) => Err(Stop::of_number(NO_MEMORY)),
+        Err(PlanFault::Memory) => Err(Stop::of_number(WANT_OF_MEMORY)),
     }
 }
 
@@ -73,7 +74,7 @@ fn do_and_flush<R: Files + Print + AllocGlobal>(rt: &R, command: Command<'_>) ->
         (⟦<Writes<R::File> as Output>⟧.taken) (⟦<Writes<R::File> as Output>⟧.has_failed)) command.entry result }
 {
     let Ok(buffer) = BufWriter::new(rt.alloc(), io::writer(rt)) else {
-        return Err(Stop::of_number(NO_MEMORY));
+        return Err(Stop::of_number(WANT_OF_MEMORY));
     };
     let mut out = Writes::new(buffer);
     match do_command(rt, command, &mut out) {

@@ -19,7 +19,7 @@ use cse_batch::check_image;
 use cse_command_line::plan::{EditPaths, RunPaths};
 use cse_command_parts::apart::{see_apart, uses_of_edit};
 use cse_command_parts::compile_image::image_of;
-use cse_command_parts::fault::{Fault, NO_MEMORY, TOO_LARGE, TOO_MANY};
+use cse_command_parts::fault::Fault;
 use cse_command_parts::files::{
     MOST_DECKS, bytes_of, bytes_where_there, file_text, text_of, text_where_named,
 };
@@ -29,6 +29,7 @@ use cse_command_parts::run_image::{allow_steps, keep_decks, run_over};
 use cse_decks::Store;
 use cse_dict::Dictionary;
 use cse_edit::{EditFault, batches_mean, starting_store};
+use cse_fault_numbers::{TOO_LARGE, TOO_MANY, WANT_OF_MEMORY};
 use cse_image::Code;
 use cse_value::{Input, Output, Reads, Writes};
 use cse_verify::Verified;
@@ -203,7 +204,7 @@ pub fn edit_texts<'a, R: Files + AllocGlobal, C: Code>(
             rt, verified, store, text, logic, messages, order, decks, image, paths,
         ),
         Err(EditFault::Decks(error)) => Err(Stop::Refused(Fault::of_decks(error))),
-        Err(_) => Err(Stop::of_number(NO_MEMORY)),
+        Err(_) => Err(Stop::of_number(WANT_OF_MEMORY)),
     }
 }
 

@@ -3,9 +3,9 @@
 use crate::cut::{Kind, Piece};
 use crate::found::Finding;
 use crate::gathered::Gathered;
-use crate::syntax::{WANT_OF_MEMORY, fault_between};
+use crate::syntax::fault_between;
 use crate::token::{Role, Sort, Token, part, tokens_in};
-use cse_fault_numbers::{LEFT_OUT, NO_END, UNEXPECTED, UNREADABLE};
+use cse_fault_numbers::{LEFT_OUT, NO_END, UNEXPECTED, UNREADABLE, WANT_OF_MEMORY};
 use std::alloc::{AllocError, Global};
 
 /// A text of logic, what is left of it, and the faults of syntax that were found.

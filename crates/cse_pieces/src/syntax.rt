@@ -3,11 +3,9 @@
 use crate::cursor::byte_of;
 use crate::found::Finding;
 use crate::gathered::Gathered;
+use cse_fault_numbers::WANT_OF_MEMORY;
 use cse_syntax::parse;
 use std::alloc::{AllocError, Global};
-
-/// The number of want of memory.
-pub const WANT_OF_MEMORY: u8 = 90;
 
 /// The first fault of a text.
 fn fault_of(alloc: Global, text: &[u8]) -> Option<Finding> {
