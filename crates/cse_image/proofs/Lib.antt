@@ -1,3 +1,4 @@
+pub mod SectionLaws
 pub mod Sizes
 pub mod Totals
 pub mod Codes

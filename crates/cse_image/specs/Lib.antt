@@ -1,5 +1,6 @@
 pub mod Spelling
 pub mod Reading
+pub mod Sections
 pub mod Place
 pub mod View
 pub use Rattle.cse_image_parts.specs.Image

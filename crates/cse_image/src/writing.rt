@@ -1,7 +1,7 @@
 //! The spelling of each entry of a program, written at the end of a list of bytes.
 
-ghost use Rattle.std.specs.Prelude.{◌≡◌, ◌<◌, ◌^◌, ◌++◌, length, OnOk};
-ghost use Rattle.std.specs.List.{flat_map};
+ghost use Rattle.std.specs.Prelude.{◌≡◌, ◌<◌, ◌^◌, ◌++◌, ℕ, List, length, OnOk, ⊤};
+ghost use Rattle.std.specs.List.{flat_map, All};
 ghost use Rattle.std.specs.String.{string_bytes};
 ghost use Rattle.cse_image_codec.specs.Spelling.{u16 as u16_spelling};
 ghost use Rattle.cse_image_parts.specs.declared.version.Version.TheVariants as versions;
@@ -29,128 +29,180 @@ pub fn put_header(out: &mut Vec<u8>) -> Result<(), AllocError>
     put_u16(out, 0)
 }
 
-/// A record: eight bytes.
-pub fn put_record(out: &mut Vec<u8>, shape: &RecordShape) -> Result<(), AllocError>
-    ensures { OnOk result (out.new.items ≡ out.old.items ++ record_shape shape.now) }
+/// An entry of a section.
+pub trait Entry {
+    // Its lengths have room in the fields that tell them.
+    ghost fits: { Self → Type 0 };
+
+    ghost spelling: { Self → List ℕ };
+
+    /// Writes it at the end.
+    fn put(&self, out: &mut Vec<u8>) -> Result<(), AllocError>
+        requires { fits self.now }
+        ensures { OnOk result (out.new.items ≡ out.old.items ++ spelling self.now) };
+}
+
+/// Writes entries, one after another.
+pub fn put_entries<E: Entry>(out: &mut Vec<u8>, entries: &[E]) -> Result<(), AllocError>
+    requires { All E.fits entries.now }
+    ensures { OnOk result (out.new.items ≡ out.old.items ++ flat_map E.spelling entries.now) }
 {
-    put_u16(out, shape.max_records)?;
-    put_u16(out, 0)?;
-    put_u32(out, shape.record_len)
+    for entry in entries {
+        entry.put(out)?;
+    }
+    Ok(())
+}
+
+/// A record: eight bytes.
+impl Entry for RecordShape {
+    ghost fits = { λ _. ⊤ };
+
+    ghost spelling = { record_shape };
+
+    fn put(&self, out: &mut Vec<u8>) -> Result<(), AllocError> {
+        put_u16(out, self.max_records)?;
+        put_u16(out, 0)?;
+        put_u32(out, self.record_len)
+    }
 }
 
 /// An item: eight bytes.
-pub fn put_item(out: &mut Vec<u8>, item: &ItemShape) -> Result<(), AllocError>
-    ensures { OnOk result (out.new.items ≡ out.old.items ++ item_shape item.now) }
-{
-    put_u8(out, item.owner)?;
-    put_u8(out, item_kind_number(item.kind))?;
-    put_u16(out, item.len)?;
-    put_u32(out, item.start)
+impl Entry for ItemShape {
+    ghost fits = { λ _. ⊤ };
+
+    ghost spelling = { item_shape };
+
+    fn put(&self, out: &mut Vec<u8>) -> Result<(), AllocError> {
+        put_u8(out, self.owner)?;
+        put_u8(out, item_kind_number(self.kind))?;
+        put_u16(out, self.len)?;
+        put_u32(out, self.start)
+    }
 }
 
 /// A value set: eight bytes.
-pub fn put_set(out: &mut Vec<u8>, set: &SetShape) -> Result<(), AllocError>
-    ensures { OnOk result (out.new.items ≡ out.old.items ++ set_shape set.now) }
-{
-    put_u16(out, set.item)?;
-    put_u16(out, set.rows)?;
-    put_u8(out, flag_number(set.partial))?;
-    put_bytes(out, &[0, 0, 0])
+impl Entry for SetShape {
+    ghost fits = { λ _. ⊤ };
+
+    ghost spelling = { set_shape };
+
+    fn put(&self, out: &mut Vec<u8>) -> Result<(), AllocError> {
+        put_u16(out, self.item)?;
+        put_u16(out, self.rows)?;
+        put_u8(out, flag_number(self.partial))?;
+        put_bytes(out, &[0, 0, 0])
+    }
 }
 
 /// A text: its length in bytes, in two, then the bytes of its UTF-8.
-pub fn put_text(out: &mut Vec<u8>, text: &str) -> Result<(), AllocError>
-    requires { length text.now < 2 ^ 16 }
-    ensures { OnOk result (out.new.items ≡ out.old.items ++ text_spelling text.now) }
-{
-    put_u16(out, text.len() as u16)?;
-    put_bytes(out, text.as_bytes())
+impl Entry for String {
+    ghost fits = { λ t. length (string_bytes t) < 2 ^ 16 };
+
+    ghost spelling = { λ t. text_spelling (string_bytes t) };
+
+    fn put(&self, out: &mut Vec<u8>) -> Result<(), AllocError> {
+        put_u16(out, self.len() as u16)?;
+        put_bytes(out, self.as_bytes())
+    }
 }
 
 /// A global: four bytes.
-pub fn put_global(out: &mut Vec<u8>, global: &GlobalVariable) -> Result<(), AllocError>
-    ensures { OnOk result (out.new.items ≡ out.old.items ++ global_spelling global.now) }
-{
-    put_u8(out, global_kind_number(global.kind))?;
-    put_u8(out, 0)?;
-    put_u16(out, global.length)
+impl Entry for GlobalVariable {
+    ghost fits = { λ _. ⊤ };
+
+    ghost spelling = { global_spelling };
+
+    fn put(&self, out: &mut Vec<u8>) -> Result<(), AllocError> {
+        put_u8(out, global_kind_number(self.kind))?;
+        put_u8(out, 0)?;
+        put_u16(out, self.length)
+    }
 }
 
-fn put_dimensions(out: &mut Vec<u8>, dimensions: &[u16]) -> Result<(), AllocError>
-    ensures { OnOk result (out.new.items ≡ out.old.items ++ flat_map u16_spelling dimensions.now) }
-{
-    for dimension in dimensions {
-        put_u16(out, *dimension)?;
+/// A dimension of an array: two bytes.
+impl Entry for u16 {
+    ghost fits = { λ _. ⊤ };
+
+    ghost spelling = { u16_spelling };
+
+    fn put(&self, out: &mut Vec<u8>) -> Result<(), AllocError> {
+        put_u16(out, *self)
     }
-    Ok(())
 }
 
 /// An array: its flags and lengths, its dimensions, its name, then the cells that it begins with.
-pub fn put_array(out: &mut Vec<u8>, array: &Array) -> Result<(), AllocError>
-    requires dimensions { length array.now.dimensions.items < 2 ^ 8 }
-    requires name { length (string_bytes array.now.name) < 2 ^ 8 }
-    requires cells { length array.now.cells.items < 2 ^ 32 }
-    ensures { OnOk result (out.new.items ≡ out.old.items ++ array_spelling (array_lists array.now)) }
-{
-    put_u8(out, flag_number(array.saved))?;
-    put_u8(out, array.dimensions.len() as u8)?;
-    put_u8(out, array.name.len() as u8)?;
-    put_u8(out, 0)?;
-    put_dimensions(out, &array.dimensions)?;
-    put_bytes(out, array.name.as_bytes())?;
-    put_u32(out, array.cells.len() as u32)?;
-    put_i64s(out, &array.cells)
+impl Entry for Array {
+    ghost fits = { λ x. (length x.dimensions.items < 2 ^ 8) × (length (string_bytes x.name) < 2 ^ 8) × (length x.cells.items < 2 ^ 32) };
+
+    ghost spelling = { λ x. array_spelling (array_lists x) };
+
+    fn put(&self, out: &mut Vec<u8>) -> Result<(), AllocError> {
+        put_u8(out, flag_number(self.saved))?;
+        put_u8(out, self.dimensions.len() as u8)?;
+        put_u8(out, self.name.len() as u8)?;
+        put_u8(out, 0)?;
+        put_entries(out, &self.dimensions)?;
+        put_bytes(out, self.name.as_bytes())?;
+        put_u32(out, self.cells.len() as u32)?;
+        put_i64s(out, &self.cells)
+    }
 }
 
 /// A message: its number, whether it is a summary, then its text.
-pub fn put_message(out: &mut Vec<u8>, message: &Message) -> Result<(), AllocError>
-    requires { length (string_bytes message.now.text) < 2 ^ 16 }
-    ensures { OnOk result (out.new.items ≡ out.old.items ++ message_spelling (message_lists message.now)) }
-{
-    put_u32(out, message.number)?;
-    put_u8(out, flag_number(message.summary))?;
-    put_u8(out, 0)?;
-    put_text(out, &message.text)
-}
+impl Entry for Message {
+    ghost fits = { λ x. length (string_bytes x.text) < 2 ^ 16 };
 
-fn put_local(out: &mut Vec<u8>, local: &Local) -> Result<(), AllocError>
-    ensures { OnOk result (out.new.items ≡ out.old.items ++ local_spelling local.now) }
-{
-    put_u8(out, local_kind_number(local.kind))?;
-    put_u8(out, local.owner)?;
-    put_u16(out, local.length)
-}
+    ghost spelling = { λ x. message_spelling (message_lists x) };
 
-fn put_locals(out: &mut Vec<u8>, locals: &[Local]) -> Result<(), AllocError>
-    ensures { OnOk result (out.new.items ≡ out.old.items ++ flat_map local_spelling locals.now) }
-{
-    for local in locals {
-        put_local(out, local)?;
+    fn put(&self, out: &mut Vec<u8>) -> Result<(), AllocError> {
+        put_u32(out, self.number)?;
+        put_u8(out, flag_number(self.summary))?;
+        put_u8(out, 0)?;
+        self.text.put(out)
     }
-    Ok(())
+}
+
+/// A local of a routine: four bytes.
+impl Entry for Local {
+    ghost fits = { λ _. ⊤ };
+
+    ghost spelling = { local_spelling };
+
+    fn put(&self, out: &mut Vec<u8>) -> Result<(), AllocError> {
+        put_u8(out, local_kind_number(self.kind))?;
+        put_u8(out, self.owner)?;
+        put_u16(out, self.length)
+    }
 }
 
 /// A routine: its head, its locals, then how many instructions it has.
-pub fn put_routine(out: &mut Vec<u8>, routine: &Routine) -> Result<(), AllocError>
-    requires { length routine.now.locals.items < 2 ^ 8 }
-    ensures { OnOk result (out.new.items ≡ out.old.items ++ routine_spelling (routine_lists routine.now)) }
-{
-    put_u8(out, ambient_number(routine.ambient))?;
-    put_u8(out, gift_number(routine.gives))?;
-    put_u8(out, routine.parameters)?;
-    put_u8(out, routine.locals.len() as u8)?;
-    put_locals(out, &routine.locals)?;
-    put_u32(out, routine.instructions)
+impl Entry for Routine {
+    ghost fits = { λ x. length x.locals.items < 2 ^ 8 };
+
+    ghost spelling = { λ x. routine_spelling (routine_lists x) };
+
+    fn put(&self, out: &mut Vec<u8>) -> Result<(), AllocError> {
+        put_u8(out, ambient_number(self.ambient))?;
+        put_u8(out, gift_number(self.gives))?;
+        put_u8(out, self.parameters)?;
+        put_u8(out, self.locals.len() as u8)?;
+        put_entries(out, &self.locals)?;
+        put_u32(out, self.instructions)
+    }
 }
 
 /// An event: eight bytes.
-pub fn put_event(out: &mut Vec<u8>, event: &EventEntry) -> Result<(), AllocError>
-    ensures { OnOk result (out.new.items ≡ out.old.items ++ event_spelling event.now) }
-{
-    put_u8(out, event_code_number(event.code))?;
-    put_u8(out, 0)?;
-    put_u16(out, event.index)?;
-    put_u32(out, event.routine)
+impl Entry for EventEntry {
+    ghost fits = { λ _. ⊤ };
+
+    ghost spelling = { event_spelling };
+
+    fn put(&self, out: &mut Vec<u8>) -> Result<(), AllocError> {
+        put_u8(out, event_code_number(self.code))?;
+        put_u8(out, 0)?;
+        put_u16(out, self.index)?;
+        put_u32(out, self.routine)
+    }
 }
 
 /// An instruction: eight bytes.
