@@ -10,6 +10,7 @@ pub mod CompleteSource
 pub mod Spans
 pub mod WrittenAsKind
 pub mod TokenNumbers
+pub mod Words
 pub mod Whole
 pub mod LongestToken
 pub mod QuotedText

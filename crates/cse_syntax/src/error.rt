@@ -1,7 +1,7 @@
 //! Why a text is no source.
 
 ghost use Rattle.std.specs.Prelude.{◌≡◌};
-ghost use Rattle.cse_syntax.specs.declared.error.ReadError.TheVariants.{Memory, Found};
+ghost use Rattle.cse_syntax.specs.declared.error.ReadError.TheVariants.{Memory};
 
 use std::alloc::{AllocError, AllocFailed};
 use thiserror::Error;
@@ -28,7 +28,7 @@ pub struct SyntaxError {
 }
 
 /// What is wrong, with its number.
-#[derive(Clone, Copy, PartialEq, Eq)]
+#[derive(Clone, Copy)]
 pub enum Cause {
     Character = 30,
     Comment = 31,
@@ -50,14 +50,6 @@ pub struct SourceFault {
 pub enum ReadError {
     Memory,
     Found(SourceFault),
-}
-
-impl From<SourceFault> for ReadError {
-    ghost from_gives = { λ f e. e ≡ Found f };
-
-    fn from(fault: SourceFault) -> ReadError {
-        ReadError::Found(fault)
-    }
 }
 
 impl From<AllocError> for ReadError {

@@ -14,7 +14,7 @@ use cse_syntax_tree::{Kind, Mark, Token};
 use std::alloc::{AllocError, Global};
 
 /// Where a byte of blanks and comments is.
-#[derive(Clone, Copy, PartialEq, Eq)]
+#[derive(Clone, Copy)]
 pub enum Gap {
     /// In none.
     Between,
@@ -85,7 +85,7 @@ fn gap_len(bytes: &[u8]) -> Result<usize, usize>
     let mut gap = Gap::Between;
     let mut outermost = 0;
     for (i, byte) in bytes.iter().enumerate() {
-        if gap == Gap::Between {
+        if matches!(gap, Gap::Between) {
             outermost = i;
         }
         match gap_after(gap, *byte, begins(b'/', &bytes[i + 1..])) {
