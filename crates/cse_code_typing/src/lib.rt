@@ -33,6 +33,7 @@ mod whole;
 pub use control::{Control, control_of};
 pub use depth::Depth;
 pub use handlers::routine_of;
+pub use in_loop::{instr_at, loops_at};
 pub use jumps::check_jumps_and_brackets;
 pub use kind::{Kind, is_same_kind, kind_of_argument, kind_of_global, kind_of_local};
 pub use laws::{edges_lead_inside, events_run_handlers, growth_is_told, typing_is_one};
