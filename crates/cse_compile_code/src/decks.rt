@@ -95,16 +95,16 @@ impl Emitter<'_> {
         ensures code { OnOk result (self.new ≡ self.old ++ spec.deck_code array place picks.now) }
         ensures behind { IfOk result (λ n. n ≡ place + spec.deck_size picks.now) }
     {
-        self.with_c(Op::LoadCell, array)?;
         if !can_fail(picks) {
-            return Ok(place + 1);
+            return self.one(place, Wide::Plain(Op::LoadCell, 0, 0, array));
         }
         let count = deepest(picks);
+        self.with_c(Op::LoadCell, array)?;
         self.with_c(Op::Jump, place + count + 3)?;
         self.pops(count)?;
-        self.put(UNDEFINED)?;
-        Ok(place + count + 3)
+        self.one(place + count + 2, UNDEFINED)
     }
+
     /// The number in a hot deck's cell: an index for each pick, and the cell that they pick.
     pub(crate) fn number_of_deck(
         &mut self,
@@ -118,7 +118,6 @@ impl Emitter<'_> {
         ensures behind { IfOk result (λ n. n ≡ place + (spec.picks_size picks.now + spec.deck_size picks.now)) }
     {
         let at = self.picks(place + picks_size(picks) + 2, place, picks)?;
-        let last = self.deck(at, array, picks)?;
-        Ok(last)
+        self.deck(at, array, picks)
     }
 }

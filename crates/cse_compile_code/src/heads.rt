@@ -2,6 +2,7 @@
 
 ghost use Rattle.std.specs.Prelude.{◌≡◌, [], ◌∷◌, ◌++◌, OnOk};
 ghost use Rattle.cse_logic_tree.specs.Typed.{counting, limit};
+ghost use Rattle.cse_image_parts.specs.declared.instruction.Op.TheVariants as ops;
 ghost use Rattle.cse_compile_code.specs.Wide as wide;
 ghost use Rattle.cse_compile_code.specs.Setting.{setting};
 ghost use Rattle.cse_compile_code.specs.Statements as spec;
@@ -105,16 +106,29 @@ impl Emitter<'_> {
         match (known(s, &x.from), known(s, &x.to)) {
             (Some(first), Some(last)) => self.value(turns(first, last, x.step)),
             _ => {
-                self.limit(s, &x.to)?;
-                self.limit(s, &x.from)?;
-                self.bare(Op::Subtract)?;
-                self.put(Wide::Constant(x.step))?;
-                self.bare(Op::Add)?;
-                self.put(Wide::Constant(x.step))?;
-                self.bare(Op::Quotient)?;
-                Ok(())
+                self.span(s, &x.from, &x.to)?;
+                self.by(Op::Add, x.step)?;
+                self.by(Op::Quotient, x.step)
             }
         }
+    }
+
+    /// How far the end is from the start.
+    fn span(&mut self, s: &Setting, from: &Limit, to: &Limit) -> Result<(), AllocError>
+        ensures { OnOk result (self.new ≡ self.old ++ (spec.limit_code (setting s.now).records (limit to.now)
+            ∷ spec.limit_code (setting s.now).records (limit from.now) ∷ wide.bare ops.Subtract ∷ [])) }
+    {
+        self.limit(s, to)?;
+        self.limit(s, from)?;
+        self.bare(Op::Subtract)
+    }
+
+    /// An operation with a constant.
+    fn by(&mut self, op: Op, constant: i64) -> Result<(), AllocError>
+        ensures { OnOk result (self.new ≡ self.old ++ (wide.Constant constant ∷ wide.bare op ∷ [])) }
+    {
+        self.put(Wide::Constant(constant))?;
+        self.bare(op)
     }
 
     /// The variable is set to its start, and the number of turns is laid down.
@@ -123,8 +137,7 @@ impl Emitter<'_> {
     {
         self.limit(s, &x.from)?;
         self.store(s, x.variable)?;
-        self.turns(s, x)?;
-        Ok(())
+        self.turns(s, x)
     }
 
     /// The variable is counted on.
@@ -132,9 +145,7 @@ impl Emitter<'_> {
         ensures { OnOk result (self.new ≡ self.old ++ spec.step_code (setting s.now) (counting x.now)) }
     {
         self.load(s, x.variable)?;
-        self.put(Wide::Constant(x.step))?;
-        self.bare(Op::Add)?;
-        self.store(s, x.variable)?;
-        Ok(())
+        self.by(Op::Add, x.step)?;
+        self.store(s, x.variable)
     }
 }

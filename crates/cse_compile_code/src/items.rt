@@ -110,8 +110,7 @@ impl<'a> Emitter<'a> {
         self.put(Wide::Plain(Op::Occurrence, of, 0, place + 3))?;
         self.put(taken)?;
         self.with_c(Op::Jump, place + 4)?;
-        self.put(none)?;
-        Ok(place + 4)
+        self.one(place + 3, none)
     }
 
     /// An instruction takes the occurrence that an item has without a subscript.
@@ -130,13 +129,11 @@ impl<'a> Emitter<'a> {
         match found {
             Found::Loop => {
                 self.with_a(Op::CurrentOccurrence, of)?;
-                self.put(taken)?;
-                Ok(place + 2)
+                self.one(place + 1, taken)
             }
             Found::Event => {
                 self.with_c(Op::LoadLocal, 0)?;
-                self.put(taken)?;
-                Ok(place + 2)
+                self.one(place + 1, taken)
             }
             Found::First => {
                 self.put(Wide::Constant(1))?;
@@ -152,10 +149,7 @@ impl<'a> Emitter<'a> {
         ensures behind { IfOk result (λ n. n ≡ place + spec.present_size item) }
     {
         match item {
-            Present::Id(item) => {
-                self.with_c(Op::IdNumber, item as usize)?;
-                Ok(place + 1)
-            }
+            Present::Id(item) => self.one(place, Wide::Plain(Op::IdNumber, 0, 0, item as usize)),
             Present::Here(field, found) => {
                 let taken = Wide::Plain(Op::ItemNumber, 0, 0, field.item as usize);
                 self.here(place, taken, UNDEFINED, field.owner, found)
@@ -186,10 +180,7 @@ impl<'a> Emitter<'a> {
         ensures behind { IfOk result (λ n. n ≡ place + spec.present_size item) }
     {
         match item {
-            Present::Id(item) => {
-                self.with_c(Op::IdText, item as usize)?;
-                Ok(place + 1)
-            }
+            Present::Id(item) => self.one(place, Wide::Plain(Op::IdText, 0, 0, item as usize)),
             Present::Here(field, found) => {
                 let taken = Wide::Plain(Op::ItemText, 0, 0, field.item as usize);
                 self.here(place, taken, Wide::Blank, field.owner, found)

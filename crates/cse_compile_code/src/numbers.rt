@@ -33,8 +33,7 @@ impl<'a> Emitter<'a> {
         self.with_c(Op::LoadCell, array)?;
         self.with_c(Op::Jump, place + (count + 3))?;
         self.pops(count)?;
-        self.put(UNDEFINED)?;
-        Ok(place + (count + 3))
+        self.one(place + (count + 2), UNDEFINED)
     }
 
     /// Emits the code of a number, and tells the place behind it.
@@ -131,8 +130,7 @@ impl<'a> Emitter<'a> {
         ensures behind { IfOk result (λ n. n ≡ place + (spec.number_size (number x.now) + 1)) }
     {
         let at = self.number(s, place, x)?;
-        self.with_a(op, a)?;
-        Ok(at + 1)
+        self.one(at, Wide::Plain(op, a, 0, 0))
     }
 
     /// A text, and an instruction that makes a number of it.
@@ -150,8 +148,7 @@ impl<'a> Emitter<'a> {
         ensures behind { IfOk result (λ n. n ≡ place + (spec.words_size (words x.now) + 1)) }
     {
         let at = self.words(s, place, x)?;
-        self.with_a(op, a)?;
-        Ok(at + 1)
+        self.one(at, Wide::Plain(op, a, 0, 0))
     }
 
     /// A number as an occurrence, which an instruction takes; where it is none, a value stands in its place.
@@ -166,12 +163,12 @@ impl<'a> Emitter<'a> {
         of: u8,
     ) -> Result<usize, AllocError>
         requires room { place + (spec.number_size (number subscript.now) + 4) ≤ 1000000 }
-        ensures code { OnOk result (self.new ≡ self.old ++ guarded_code (setting s.now) place (number subscript.now) (wide taken.entry) (wide none.entry) of) }
+        ensures code { OnOk result (self.new
+            ≡ self.old ++ guarded_code (setting s.now) place (number subscript.now) (wide taken.entry) (wide none.entry) of) }
         ensures behind { IfOk result (λ n. n ≡ place + (spec.number_size (number subscript.now) + 4)) }
     {
         let at = self.number(s, place, subscript)?;
-        let last = self.guarded(at, taken, none, of)?;
-        Ok(last)
+        self.guarded(at, taken, none, of)
     }
 
     /// Indexes, and the cell that they lead to.
@@ -188,8 +185,7 @@ impl<'a> Emitter<'a> {
         ensures behind { IfOk result (λ n. n ≡ cell_end place (all_numbers subscripts.now.items)) }
     {
         let at = self.indexes(s, place, array, 2, subscripts)?;
-        let last = self.cell(at, array, subscripts)?;
-        Ok(last)
+        self.cell(at, array, subscripts)
     }
 
     /// Arguments, and the call that takes them.
@@ -207,8 +203,7 @@ impl<'a> Emitter<'a> {
         ensures behind { IfOk result (λ n. n ≡ place + (spec.numbers_size (all_numbers arguments.now.items) + 1)) }
     {
         let at = self.numbers(s, place, arguments)?;
-        self.with_c(Op::Call, function)?;
-        Ok(at + 1)
+        self.one(at, Wide::Plain(Op::Call, 0, 0, function))
     }
 
     /// One after the other.

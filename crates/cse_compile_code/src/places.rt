@@ -38,22 +38,16 @@ impl<'a> Emitter<'a> {
     {
         match x {
             Which::Here(Found::Loop) => {
-                self.with_a(Op::CurrentOccurrence, of)?;
-                Ok(place + 1)
+                self.one(place, Wide::Plain(Op::CurrentOccurrence, of, 0, 0))
             }
-            Which::Here(Found::Event) => {
-                self.with_c(Op::LoadLocal, 0)?;
-                Ok(place + 1)
-            }
+            Which::Here(Found::Event) => self.one(place, Wide::Plain(Op::LoadLocal, 0, 0, 0)),
             Which::Here(Found::First) => {
                 self.put(Wide::Constant(1))?;
-                self.put(Wide::Plain(Op::Occurrence, of, 0, fail))?;
-                Ok(place + 2)
+                self.one(place + 1, Wide::Plain(Op::Occurrence, of, 0, fail))
             }
             Which::At(subscript) => {
                 let at = self.number(s, place, subscript)?;
-                self.put(Wide::Plain(Op::Occurrence, of, 0, fail))?;
-                Ok(at + 1)
+                self.one(at, Wide::Plain(Op::Occurrence, of, 0, fail))
             }
         }
     }
@@ -100,8 +94,7 @@ impl<'a> Emitter<'a> {
         ensures behind { IfOk result (λ n. n ≡ place + (words_size (words value.now) + 1)) }
     {
         let at = self.words(s, place, value)?;
-        self.with_c(Op::StoreGlobal, variable)?;
-        Ok(at + 1)
+        self.one(at, Wide::Plain(Op::StoreGlobal, 0, 0, variable))
     }
 
     /// A number into an item, by the instruction that does it.
@@ -120,9 +113,8 @@ impl<'a> Emitter<'a> {
     {
         let end = place + size_of_which(at) + size_of_number(value) + 1;
         let second = self.which(s, field.owner, end, place, at)?;
-        self.number(s, second, value)?;
-        self.with_c(op, field.item as usize)?;
-        Ok(end)
+        let put = self.number(s, second, value)?;
+        self.one(put, Wide::Plain(op, 0, 0, field.item as usize))
     }
 
     /// A text into an item.
@@ -140,9 +132,8 @@ impl<'a> Emitter<'a> {
     {
         let end = place + size_of_which(at) + size_of_words(value) + 1;
         let second = self.which(s, field.owner, end, place, at)?;
-        self.words(s, second, value)?;
-        self.with_c(Op::StoreText, field.item as usize)?;
-        Ok(end)
+        let put = self.words(s, second, value)?;
+        self.one(put, Wide::Plain(Op::StoreText, 0, 0, field.item as usize))
     }
 
     /// A number into a cell.
@@ -163,8 +154,7 @@ impl<'a> Emitter<'a> {
         let second = self.indexes(s, place, array, after, subscripts)?;
         let last = self.number(s, second, value)?;
         self.with_c(Op::StoreCell, array)?;
-        let end = self.drops(last + 1, count)?;
-        Ok(end)
+        self.drops(last + 1, count)
     }
 
     /// A number into the cell of a hot deck.
@@ -186,8 +176,7 @@ impl<'a> Emitter<'a> {
         let second = self.picks(drops, place, picks)?;
         let last = self.number(s, second, value)?;
         self.with_c(Op::StoreCell, array)?;
-        let end = self.drops(last + 1, count)?;
-        Ok(end)
+        self.drops(last + 1, count)
     }
 
     /// A function is called, and its result dropped.
@@ -205,8 +194,7 @@ impl<'a> Emitter<'a> {
     {
         let at = self.numbers(s, place, arguments)?;
         self.with_c(Op::Call, function)?;
-        self.with_a(Op::Pop, 0)?;
-        Ok(at + 2)
+        self.one(at + 1, Wide::Plain(Op::Pop, 0, 0, 0))
     }
 
     /// A message is given, with its values.
@@ -223,8 +211,7 @@ impl<'a> Emitter<'a> {
         ensures behind { IfOk result (λ n. n ≡ place + (spec.arguments_size (map argument values.now.items) + 1)) }
     {
         let at = self.arguments(s, place, values)?;
-        self.with_c(Op::Message, index)?;
-        Ok(at + 1)
+        self.one(at, Wide::Plain(Op::Message, 0, 0, index))
     }
 
     /// The values of a message.

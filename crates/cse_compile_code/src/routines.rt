@@ -56,7 +56,6 @@ impl<'a> Emitter<'a> {
             end: 0,
         };
         let at = self.block(s, outside, entry_size(s), body)?;
-        let end = self.exit(s, at)?;
-        Ok(end)
+        self.exit(s, at)
     }
 }

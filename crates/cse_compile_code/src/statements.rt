@@ -26,14 +26,10 @@ impl<'a> Emitter<'a> {
         ensures behind { IfOk result (λ n. n ≡ place + spec.exit_size (setting s.now)) }
     {
         match s.result_at {
-            None => {
-                self.bare(Op::Return)?;
-                Ok(place + 1)
-            }
+            None => self.one(place, Wide::Plain(Op::Return, 0, 0, 0)),
             Some(result) => {
                 self.with_c(Op::LoadLocal, result)?;
-                self.bare(Op::Return)?;
-                Ok(place + 2)
+                self.one(place + 1, Wide::Plain(Op::Return, 0, 0, 0))
             }
         }
     }
@@ -50,18 +46,9 @@ impl<'a> Emitter<'a> {
         ensures behind { IfOk result (λ n. n ≡ place + spec.jump_code_size (setting s.now) jump) }
     {
         match jump {
-            Jump::Break => {
-                self.with_c(Op::Break, around.end)?;
-                Ok(place + 1)
-            }
-            Jump::Next => {
-                self.with_c(Op::Jump, around.turn_end)?;
-                Ok(place + 1)
-            }
-            Jump::Exit => {
-                let end = self.exit(s, place)?;
-                Ok(end)
-            }
+            Jump::Break => self.one(place, Wide::Plain(Op::Break, 0, 0, around.end)),
+            Jump::Next => self.one(place, Wide::Plain(Op::Jump, 0, 0, around.turn_end)),
+            Jump::Exit => self.exit(s, place),
         }
     }
 
@@ -167,8 +154,7 @@ impl<'a> Emitter<'a> {
         self.with_a(Op::OccurrenceNumber, of)?;
         self.store(s, variable)?;
         self.block(s, Loop { turn_end: end, end }, place + 4, body)?;
-        self.with_c(Op::End, place)?;
-        Ok(end + 1)
+        self.one(end, Wide::Plain(Op::End, 0, 0, place))
     }
 
     /// So many turns as the head says.
@@ -192,8 +178,7 @@ impl<'a> Emitter<'a> {
         self.put(Wide::Turns(turn_limit(s, head), end))?;
         self.block(s, Loop { turn_end, end }, opener + 1, body)?;
         self.step(s, head)?;
-        self.with_c(Op::End, opener)?;
-        Ok(end + 1)
+        self.one(end, Wide::Plain(Op::End, 0, 0, opener))
     }
 
     /// One arm, with so many instructions behind it.
