@@ -106,21 +106,15 @@ impl Emitter<'_> {
         match (known(s, &x.from), known(s, &x.to)) {
             (Some(first), Some(last)) => self.value(turns(first, last, x.step)),
             _ => {
-                self.span(s, &x.from, &x.to)?;
-                self.by(Op::Add, x.step)?;
-                self.by(Op::Quotient, x.step)
+                self.limit(s, &x.to)?;
+                self.limit(s, &x.from)?;
+                self.bare(Op::Subtract)?;
+                self.put(Wide::Constant(x.step))?;
+                self.bare(Op::Add)?;
+                self.put(Wide::Constant(x.step))?;
+                self.bare(Op::Quotient)
             }
         }
-    }
-
-    /// How far the end is from the start.
-    fn span(&mut self, s: &Setting, from: &Limit, to: &Limit) -> Result<(), AllocError>
-        ensures { OnOk result (self.new ≡ self.old ++ (spec.limit_code (setting s.now).records (limit to.now)
-            ∷ spec.limit_code (setting s.now).records (limit from.now) ∷ wide.bare ops.Subtract ∷ [])) }
-    {
-        self.limit(s, to)?;
-        self.limit(s, from)?;
-        self.bare(Op::Subtract)
     }
 
     /// An operation with a constant.
