@@ -11,9 +11,6 @@
 //!
 //! - `block`: what a row is, and how it is read. `text`: texts that stand in rows. `row`: how a row is carried out. `desk`: the
 //!   runtime that it is carried out over. `amiss`: what may be amiss there. `sheet`: an open file of it.
-//!
-//! Behind the rows the program starts as csbatch does, with the words that it was given. These name an image that is
-//! refused, so the status is 1, and nothing more is printed.
 #![tactic(auto)]
 
 mod amiss;
@@ -25,17 +22,14 @@ mod text;
 
 use crate::block::{Row, has_words, is_row};
 use crate::row::is_right;
-use cse_commands::start::start;
 use std::fs;
-use std::process::ExitCode;
 use std::rt::Files;
 
 /// The tables, a path a line.
 const TABLES: &str = "rows/tables.txt";
 
-fn main(rt: HostRuntime) -> ExitCode {
+fn main(rt: HostRuntime) {
     show_tables(&rt);
-    start(rt)
 }
 
 /// Carries out the rows of all tables.
