@@ -21,6 +21,7 @@ use crate::parts::judged;
 use crate::reading::read_tokens;
 use crate::typed::Typed;
 use cse_dict::Dictionary;
+use cse_fault_numbers::WANT_OF_MEMORY;
 use cse_logic_faults::least;
 use cse_logic_names::error::TypeError;
 use cse_logic_names::faults::Fault;
@@ -35,7 +36,7 @@ fn memory() -> TypeError
     ensures { result ≡ out_of_memory }
 {
     TypeError {
-        number: 90,
+        number: WANT_OF_MEMORY,
         line: 0,
         column: 0,
     }

@@ -16,6 +16,7 @@ use crate::declaration::declaration;
 use crate::function::parameters;
 use crate::told::Told;
 use cse_dict::Dictionary;
+use cse_fault_numbers::{OTHER_KIND, UNUSABLE_HERE};
 use cse_logic_faults::counts::Counts;
 use cse_logic_faults::digits;
 use cse_logic_faults::found::Found;
@@ -42,7 +43,7 @@ fn is_size(most: u16, digits: Lexeme<'_>) -> bool
 fn size(found: &mut Found, most: u16, digits: Lexeme<'_>) -> Result<(), AllocError>
     ensures { OnOk result (found.new ≡ found.old ++ spec.size_faults most (written digits.entry)) }
 {
-    found.unless(is_size(most, digits), 44, digits.token)
+    found.unless(is_size(most, digits), OTHER_KIND, digits.token)
 }
 
 fn has_rows(dictionary: &Dictionary, set: u16) -> bool
@@ -64,7 +65,7 @@ fn rows(
     ensures { OnOk result (found.new ≡ found.old ++ spec.rows_faults dictionary.now token meaning) }
 {
     match meaning {
-        Some(Meaning::Set(set)) => found.unless(has_rows(dictionary, set), 49, token),
+        Some(Meaning::Set(set)) => found.unless(has_rows(dictionary, set), UNUSABLE_HERE, token),
         _ => found.none(),
     }
 }

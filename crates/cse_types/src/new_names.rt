@@ -8,6 +8,7 @@ ghost use Rattle.cse_types.specs.SourceFaults as spec;
 
 use crate::fresh::is_free;
 use cse_dict::Dictionary;
+use cse_fault_numbers::UNKNOWN_NAME;
 use cse_logic_faults::found::Found;
 use cse_logic_names::names::{Parameters, kept};
 use cse_syntax::{Declaration, Lexeme, Parameter};
@@ -51,7 +52,7 @@ fn new_name(
 {
     let kept = kept(alloc, x.text)?;
     let is_untaken = is_untaken(dictionary, mine, others, x.text, &kept);
-    found.unless(is_untaken, 40, x.token)?;
+    found.unless(is_untaken, UNKNOWN_NAME, x.token)?;
     add(mine, kept)
 }
 

@@ -11,6 +11,7 @@ ghost use Rattle.cse_types.specs.SourceFaults as spec;
 use crate::new_names::add;
 use crate::procedure::{meant_by, owner_meant};
 use cse_dict::Dictionary;
+use cse_fault_numbers::{OPAQUE_ITEM, UNKNOWN_NAME, UNUSABLE_HERE};
 use cse_logic_faults::counts::Counts;
 use cse_logic_faults::found::Found;
 use cse_logic_faults::statement::block;
@@ -46,11 +47,11 @@ fn own_item(
     ensures { OnOk result (found.new ≡ found.old ++ spec.own_item_faults token (scopes.kind_and_owner dictionary.now item)) }
 {
     match kind_and_owner(dictionary, item) {
-        None => found.add(49, token),
+        None => found.add(UNUSABLE_HERE, token),
         Some((kind, owner)) => match kind {
-            ItemKind::Opaque => found.add(41, token),
-            ItemKind::Number => found.unless(!(owner == 255), 49, token),
-            ItemKind::Text => found.unless(!(owner == 255), 49, token),
+            ItemKind::Opaque => found.add(OPAQUE_ITEM, token),
+            ItemKind::Number => found.unless(!(owner == 255), UNUSABLE_HERE, token),
+            ItemKind::Text => found.unless(!(owner == 255), UNUSABLE_HERE, token),
         },
     }
 }
@@ -83,7 +84,11 @@ fn owner_name(
     ensures before { OnOk result (before.new ≡ spec.and_name before.old (kept_name name.entry.text.now)) }
 {
     let kept = kept(alloc, name.text)?;
-    found.unless(may_own(meaning) && !before.has(&kept), 40, name.token)?;
+    found.unless(
+        may_own(meaning) && !before.has(&kept),
+        UNKNOWN_NAME,
+        name.token,
+    )?;
     own(dictionary, found, name.token, meaning)?;
     add(before, kept)
 }
