@@ -112,7 +112,8 @@ impl Emitter<'_> {
                 self.put(Wide::Constant(x.step))?;
                 self.bare(Op::Add)?;
                 self.put(Wide::Constant(x.step))?;
-                self.bare(Op::Quotient)
+                self.bare(Op::Quotient)?;
+                Ok(())
             }
         }
     }
