@@ -7,12 +7,20 @@
 //! - `devices`: what a reader gave and a writer took. `images`: an image that is read and written, and jumps alone.
 //! - `files`: runs of lines, what a run changed, and the items that logic may change.
 //! - `joined`: forms of statements.
+//! - `failing`: what a command tells of devices that move few bytes in a call, and that fail (`device`). `turned`: images in which
+//!   one bit was turned. `hello`: the image that both look at. `statuses`: the status of each number. `told`: how a count is compared.
 #![tactic(auto)]
 
 #[cfg(test)]
+mod device;
+#[cfg(test)]
 mod devices;
 #[cfg(test)]
+mod failing;
+#[cfg(test)]
 mod files;
+#[cfg(test)]
+mod hello;
 #[cfg(test)]
 mod images;
 #[cfg(test)]
@@ -21,5 +29,11 @@ mod joined;
 mod parts;
 #[cfg(test)]
 mod persons;
+#[cfg(test)]
+mod statuses;
+#[cfg(test)]
+mod told;
+#[cfg(test)]
+mod turned;
 #[cfg(test)]
 mod values;
