@@ -69,15 +69,22 @@ fn bytes_of<'a, R: Opens + AllocGlobal>(rt: &R, path: &'a str) -> Result<Vec<u8>
     }
 }
 
-/// The bytes of a file, none of one that isn't named.
-fn bytes_if<'a, R: Opens + AllocGlobal>(
+/// The bytes of the files, none of one that isn't named.
+fn all_bytes<'a, R: Opens + AllocGlobal>(
     rt: &R,
-    path: Option<&'a str>,
-) -> Result<Vec<u8>, Stop<'a>> {
-    match path {
-        Some(path) => bytes_of(rt, path),
-        None => Ok(Vec::new(rt.alloc())),
+    paths: [Option<&'a str>; 4],
+) -> Result<Vec<Vec<u8>>, Stop<'a>> {
+    let mut all = Vec::new(rt.alloc());
+    for path in paths {
+        let bytes = match path {
+            Some(path) => bytes_of(rt, path)?,
+            None => Vec::new(rt.alloc()),
+        };
+        if all.push(bytes).is_err() {
+            return Err(Stop::Memory);
+        }
     }
+    Ok(all)
 }
 
 /// A file that may be named, with its bytes.
@@ -88,9 +95,21 @@ fn file_if<'a>(path: Option<&'a str>, bytes: &'a [u8]) -> Option<File<'a>> {
     }
 }
 
-/// All faults of the files. These have the bytes of the dictionary, of logic, of the messages and of the order.
-fn report_on(alloc: Global, words: &CheckWords<'_>, bytes: [&[u8]; 4]) -> Report {
-    let [dict, logic, messages, order] = bytes;
+/// All faults of the files.
+fn report_files<'a, R: Opens + AllocGlobal>(
+    rt: &R,
+    words: &CheckWords<'a>,
+) -> Result<Report, Stop<'a>> {
+    let paths = [
+        Some(words.dict),
+        Some(words.logic),
+        words.messages,
+        words.order,
+    ];
+    let all = all_bytes(rt, paths)?;
+    let [dict, logic, messages, order] = all.as_slice() else {
+        return Err(Stop::Memory);
+    };
     let files = Files {
         dict: File {
             path: words.dict,
@@ -104,57 +123,7 @@ fn report_on(alloc: Global, words: &CheckWords<'_>, bytes: [&[u8]; 4]) -> Report
         order: file_if(words.order, order),
         has_warnings: words.has_warnings,
     };
-    report_of(alloc, &files, words.is_json)
-}
-
-/// The same with the bytes of the first three.
-fn report_with_messages<'a, R: Opens + AllocGlobal>(
-    rt: &R,
-    words: &CheckWords<'a>,
-    dict: &[u8],
-    logic: &[u8],
-    messages: &[u8],
-) -> Result<Report, Stop<'a>> {
-    match bytes_if(rt, words.order) {
-        Ok(order) => Ok(report_on(rt.alloc(), words, [dict, logic, messages, &order])),
-        Err(stop) => Err(stop),
-    }
-}
-
-/// The same with the bytes of the first two.
-fn report_with_logic<'a, R: Opens + AllocGlobal>(
-    rt: &R,
-    words: &CheckWords<'a>,
-    dict: &[u8],
-    logic: &[u8],
-) -> Result<Report, Stop<'a>> {
-    match bytes_if(rt, words.messages) {
-        Ok(messages) => report_with_messages(rt, words, dict, logic, &messages),
-        Err(stop) => Err(stop),
-    }
-}
-
-/// The same with the bytes of the dictionary.
-fn report_with_dictionary<'a, R: Opens + AllocGlobal>(
-    rt: &R,
-    words: &CheckWords<'a>,
-    dict: &[u8],
-) -> Result<Report, Stop<'a>> {
-    match bytes_of(rt, words.logic) {
-        Ok(logic) => report_with_logic(rt, words, dict, &logic),
-        Err(stop) => Err(stop),
-    }
-}
-
-/// All faults of the files, which are read one after the other.
-fn report_files<'a, R: Opens + AllocGlobal>(
-    rt: &R,
-    words: &CheckWords<'a>,
-) -> Result<Report, Stop<'a>> {
-    match bytes_of(rt, words.dict) {
-        Ok(dict) => report_with_dictionary(rt, words, &dict),
-        Err(stop) => Err(stop),
-    }
+    Ok(report_of(rt.alloc(), &files, words.is_json))
 }
 
 /// Prints bytes.

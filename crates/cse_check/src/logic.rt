@@ -77,14 +77,6 @@ fn add_named(
     }
 }
 
-/// What was found, each once, in the order of the places.
-fn in_places(found: Gathered<Finding>) -> Result<Vec<Finding>, AllocError> {
-    match found.finish() {
-        Ok(found) => in_order(found),
-        Err(refused) => Err(refused),
-    }
-}
-
 /// The faults of names and kinds of a source, each by its token, in their order.
 fn named_faults<'a>(
     alloc: Global,
@@ -100,7 +92,7 @@ fn named_faults<'a>(
             number: fault.number,
         });
     }
-    in_places(named)
+    in_order(named.finish()?)
 }
 
 /// A fault of what was thought to be without one.
@@ -137,14 +129,16 @@ fn add_names<'a>(
     }
 }
 
-/// All faults of a text of logic that is being mended, piece by piece.
-fn mended_faults(
+/// All faults of a text of logic behind some that were found, each once, in the order of their places.
+pub fn logic_faults(
     alloc: Global,
+    text: &[u8],
+    tokens: &[Token],
     pieces: &[Piece],
     beside: &Beside<'_>,
-    mending: Mending<'_>,
+    found: Gathered<Finding>,
 ) -> Result<Vec<Finding>, AllocError> {
-    let mut mending = mending;
+    let mut mending = Mending::new(alloc, text, tokens, found)?;
     mending.take_pieces(pieces);
     let Mending {
         mended,
@@ -162,20 +156,5 @@ fn mended_faults(
             &mut found,
         );
     }
-    in_places(found)
-}
-
-/// All faults of a text of logic behind some that were found, each once, in the order of their places.
-pub fn logic_faults(
-    alloc: Global,
-    text: &[u8],
-    tokens: &[Token],
-    pieces: &[Piece],
-    beside: &Beside<'_>,
-    found: Gathered<Finding>,
-) -> Result<Vec<Finding>, AllocError> {
-    match Mending::new(alloc, text, tokens, found) {
-        Ok(mending) => mended_faults(alloc, pieces, beside, mending),
-        Err(refused) => Err(refused),
-    }
+    in_order(found.finish()?)
 }
