@@ -128,14 +128,13 @@ impl<'a> Row<'a> {
 
 /// The stored file of a file among several; the file itself where none has its name.
 fn stored_in<'a>(files: SplitAsciiWhitespace<'a>, file: &'a str) -> &'a str {
-    let mut found = file;
     for stored in files {
         let (name, path) = stored.split_once('=').unwrap_or((stored, stored));
         if name == file {
-            found = path;
+            return path;
         }
     }
-    found
+    file
 }
 
 /// 1 where a block has a word, and else 0.
