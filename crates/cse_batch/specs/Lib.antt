@@ -5,6 +5,7 @@ pub mod Edits
 pub mod Events
 pub mod Handled
 pub mod Laws
+pub mod Moments
 pub mod RunClauses
 pub mod RunState
 pub mod Scene

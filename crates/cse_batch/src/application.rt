@@ -1,12 +1,11 @@
 //! The events of the application, which stand around the cases.
 
-ghost use Rattle.std.specs.Prelude.{◌≡◌, ℕ, Bool, List, [], OnOk, OnErr, true};
+ghost use Rattle.std.specs.Prelude.{◌≡◌, [], OnOk, OnErr, true};
 ghost use Rattle.cse_output.specs.Gathering.{behind, Puts};
 ghost use Rattle.cse_decks.specs.Store.{StoreFits};
 ghost use Rattle.cse_report.specs.Reports.{ReportsFit};
 ghost use Rattle.cse_steps.specs.Fits.{is_of_run};
-ghost use Rattle.cse_batch.specs.Batch.{Progress, after_application};
-ghost use Rattle.cse_batch.specs.Edits.{Applies, Keeps};
+ghost use Rattle.cse_batch.specs.Edits.{Applies, KeepsOn};
 
 use crate::machine::Runs;
 use cse_decks::Store;
@@ -47,7 +46,7 @@ pub(crate) fn apply<C: Code, M: Runs, L: Output>(
     store: &mut Store,
     reports: &mut Reports,
     code: EventCode,
-    gatherer: &mut Gatherer,
+    listed: &mut Gatherer,
     listing: &mut L,
 ) -> Result<(), OutOfMemory>
     requires machine { M.program machine.old ≡ verified.now }
@@ -55,14 +54,12 @@ pub(crate) fn apply<C: Code, M: Runs, L: Output>(
     requires store { StoreFits verified.now.image store.old }
     requires reports { ReportsFit verified.now.image reports.old }
     ensures same { M.program machine.new ≡ verified.now }
-    ensures keeps { OnOk result ((p : Progress) (start : List ℕ) (sound : Bool)
-        → Keeps verified.now p store.old reports.old start sound (behind L.taken L.has_failed listing.old gatherer.old)
-        → Keeps verified.now (after_application verified.now code p) store.new reports.new start sound (behind L.taken L.has_failed listing.new gatherer.new)) }
-    ensures err { OnErr result (Puts (behind L.taken L.has_failed listing.old gatherer.old) (behind L.taken L.has_failed listing.new gatherer.new) []) }
+    ensures keeps { OnOk result (KeepsOn L.Output verified.now code store.old reports.old listed.old listing.old store.new reports.new listed.new listing.new) }
+    ensures err { OnErr result (Puts (behind L.taken L.has_failed listing.old listed.old) (behind L.taken L.has_failed listing.new listed.new) []) }
     ensures store_fits { OnOk result (StoreFits verified.now.image store.new) }
     ensures reports_fit { ReportsFit verified.now.image reports.new }
 {
     run_application(verified, machine, store, reports, code)?;
-    reports.listing.put_to(gatherer, listing);
+    reports.listing.put_to(listed, listing);
     Ok(())
 }

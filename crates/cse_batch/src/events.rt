@@ -1,13 +1,14 @@
 //! The events of a case, in order.
 
 ghost use Rattle.std.specs.Prelude.{◌≡◌, ◌≤◌, Some, OnOk};
-ghost use Rattle.cse_code_bounds.specs.CaseEvents.{case_events, event, item_events, moment, occurrence_events, record_events, records_events};
+ghost use Rattle.cse_code_bounds.specs.CaseEvents.{event, moment};
 ghost use Rattle.cse_report.specs.Reports.{ReportsFit};
 ghost use Rattle.cse_steps.specs.Fits.{IsThere, occurrences_in};
 ghost use Rattle.cse_code_typing.specs.Handlers.{routine_of};
 ghost use Rattle.cse_machine.specs.Handled.{handled_by};
 ghost use Rattle.cse_batch.specs.Handled.{AreHandled, IsHandledRecord};
-ghost use Rattle.cse_batch.specs.Scene.{GoesOn, scene, scene_after, scene_after_all};
+ghost use Rattle.cse_batch.specs.Moments.{AllLeave, Leaves, of_case, of_items, of_occurrences, of_record, of_records};
+ghost use Rattle.cse_batch.specs.Scene.{GoesOn};
 
 use crate::handled::{HandledEvents, HandledRecord};
 use crate::machine::Runs;
@@ -37,8 +38,7 @@ fn run_event<C: Code, M: Runs>(
     requires there { IsThere verified.now.image (occurrences_in (Some case.old)) event.code event.index 0 }
     requires reports { ReportsFit verified.now.image reports.old }
     ensures same { M.program machine.new ≡ verified.now }
-    ensures scene { OnOk result (scene (Some case.new) store.new reports.new
-        ≡ scene_after verified.now (scene (Some case.old) store.old reports.old) (moment event.code event.index 0)) }
+    ensures scene { OnOk result (Leaves verified.now case.old store.old reports.old (moment event.code event.index 0) case.new store.new reports.new) }
     ensures goes_on { OnOk result (GoesOn verified.now case.old case.new store.new) }
     ensures reports_fit { ReportsFit verified.now.image reports.new }
 {
@@ -63,8 +63,7 @@ fn run_if_handled<C: Code, M: Runs>(
     requires there { IsThere verified.now.image (occurrences_in (Some case.old)) event.code event.index 0 }
     requires reports { ReportsFit verified.now.image reports.old }
     ensures same { M.program machine.new ≡ verified.now }
-    ensures scene { OnOk result (scene (Some case.new) store.new reports.new
-        ≡ scene_after verified.now (scene (Some case.old) store.old reports.old) (moment event.code event.index 0)) }
+    ensures scene { OnOk result (Leaves verified.now case.old store.old reports.old (moment event.code event.index 0) case.new store.new reports.new) }
     ensures goes_on { OnOk result (GoesOn verified.now case.old case.new store.new) }
     ensures reports_fit { ReportsFit verified.now.image reports.new }
 {
@@ -106,8 +105,7 @@ fn run_items<C: Code, M: Runs>(
     requires high { occurrence ≤ occurrences_in (Some case.old) handled.now.number }
     requires reports { ReportsFit verified.now.image reports.old }
     ensures same { M.program machine.new ≡ verified.now }
-    ensures scene { OnOk result (scene (Some case.new) store.new reports.new ≡ scene_after_all verified.now (scene (Some case.old) store.old reports.old)
-        (item_events handled.now.number occurrence 0 verified.now.image.lists.items)) }
+    ensures scene { OnOk result (AllLeave verified.now case.old store.old reports.old (of_items handled.now.number occurrence) case.new store.new reports.new) }
     ensures goes_on { OnOk result (GoesOn verified.now case.old case.new store.new) }
     ensures reports_fit { ReportsFit verified.now.image reports.new }
 {
@@ -129,8 +127,7 @@ fn run_occurrences<C: Code, M: Runs>(
     requires goes_on { GoesOn verified.now case.old case.old store.old }
     requires reports { ReportsFit verified.now.image reports.old }
     ensures same { M.program machine.new ≡ verified.now }
-    ensures scene { OnOk result (scene (Some case.new) store.new reports.new ≡ scene_after_all verified.now (scene (Some case.old) store.old reports.old)
-        (occurrence_events handled.now.number verified.now.image.lists.items 1 (occurrences_in (Some case.old) handled.now.number))) }
+    ensures scene { OnOk result (AllLeave verified.now case.old store.old reports.old (of_occurrences handled.now.number) case.new store.new reports.new) }
     ensures goes_on { OnOk result (GoesOn verified.now case.old case.new store.new) }
     ensures reports_fit { ReportsFit verified.now.image reports.new }
 {
@@ -158,8 +155,7 @@ fn run_record<C: Code, M: Runs>(
     requires goes_on { GoesOn verified.now case.old case.old store.old }
     requires reports { ReportsFit verified.now.image reports.old }
     ensures same { M.program machine.new ≡ verified.now }
-    ensures scene { OnOk result (scene (Some case.new) store.new reports.new ≡ scene_after_all verified.now (scene (Some case.old) store.old reports.old)
-        (record_events verified.now.image.lists.items handled.now.number (occurrences_in (Some case.old) handled.now.number))) }
+    ensures scene { OnOk result (AllLeave verified.now case.old store.old reports.old (of_record handled.now.number) case.new store.new reports.new) }
     ensures goes_on { OnOk result (GoesOn verified.now case.old case.new store.new) }
     ensures reports_fit { ReportsFit verified.now.image reports.new }
 {
@@ -201,8 +197,7 @@ fn run_records<C: Code, M: Runs>(
     requires goes_on { GoesOn verified.now case.old case.old store.old }
     requires reports { ReportsFit verified.now.image reports.old }
     ensures same { M.program machine.new ≡ verified.now }
-    ensures scene { OnOk result (scene (Some case.new) store.new reports.new ≡ scene_after_all verified.now (scene (Some case.old) store.old reports.old)
-        (records_events verified.now.image.lists.items (occurrences_in (Some case.old)) verified.now.image.lists.order)) }
+    ensures scene { OnOk result (AllLeave verified.now case.old store.old reports.old of_records case.new store.new reports.new) }
     ensures goes_on { OnOk result (GoesOn verified.now case.old case.new store.new) }
     ensures reports_fit { ReportsFit verified.now.image reports.new }
 {
@@ -226,8 +221,7 @@ pub(crate) fn run_case_events<C: Code, M: Runs>(
     requires goes_on { GoesOn verified.now case.old case.old store.old }
     requires reports { ReportsFit verified.now.image reports.old }
     ensures same { M.program machine.new ≡ verified.now }
-    ensures scene { OnOk result (scene (Some case.new) store.new reports.new
-        ≡ scene_after_all verified.now (scene (Some case.old) store.old reports.old) (case_events verified.now.image (occurrences_in (Some case.old)))) }
+    ensures scene { OnOk result (AllLeave verified.now case.old store.old reports.old of_case case.new store.new reports.new) }
     ensures goes_on { OnOk result (GoesOn verified.now case.old case.new store.new) }
     ensures reports_fit { ReportsFit verified.now.image reports.new }
 {
