@@ -2,8 +2,8 @@
 
 ghost use Rattle.std.specs.Prelude.{◌≡◌, IfOk, false};
 ghost use Rattle.std.specs.List.{fold};
-ghost use Rattle.clap.specs.Words.{new_app, rule_of};
-ghost use Rattle.cse_command_line.specs.Words.{AreWords, compile_words, edit_words, program, rule_of_word, run_words, verify_words, with_word};
+ghost use Rattle.clap.specs.Words.{App, new_app, rule_of, with_subcommand};
+ghost use Rattle.cse_command_line.specs.Words.{AreWords, compile_words, edit_words, program, rule_of_word, run_words, try_words, verify_words, with_word};
 
 use clap::{Arg, ArgAction, Command as Clap};
 use std::alloc::{AllocError, Global};
@@ -19,17 +19,36 @@ pub(crate) enum Word<'a> {
     Flag(&'a str),
 }
 
+/// A program with the words of one command more.
+fn with_command<'a>(
+    program: Clap<'a>,
+    words: Result<Clap<'a>, AllocError>,
+) -> Result<Clap<'a>, AllocError>
+    ensures { (a s : App) → AreWords a program.entry → IfOk words.entry (AreWords s) → IfOk result (AreWords (with_subcommand a s.top)) }
+{
+    match words {
+        Ok(words) => program.subcommand(words),
+        Err(refused) => Err(refused),
+    }
+}
+
 /// The words of all commands.
 pub(crate) fn program_words<'a>(alloc: Global) -> Result<Clap<'a>, AllocError>
     ensures { IfOk result (AreWords program) }
 {
-    let program = Clap::new(alloc, "csbatch")
-        .no_binary_name(true)
-        .subcommand(words_of(alloc, "try", &[Word::Given("IMAGE")])?)?;
-    let program = program.subcommand(verify_words(alloc)?)?;
-    let program = program.subcommand(compile_words(alloc)?)?;
-    let program = program.subcommand(run_words(alloc)?)?;
-    program.subcommand(edit_words(alloc)?)
+    let program = Clap::new(alloc, "csbatch").no_binary_name(true);
+    let program = with_command(program, try_words(alloc))?;
+    let program = with_command(program, verify_words(alloc))?;
+    let program = with_command(program, compile_words(alloc))?;
+    let program = with_command(program, run_words(alloc))?;
+    with_command(program, edit_words(alloc))
+}
+
+/// `try IMAGE`.
+fn try_words<'a>(alloc: Global) -> Result<Clap<'a>, AllocError>
+    ensures { IfOk result (AreWords try_words) }
+{
+    words_of(alloc, "try", &[Word::Given("IMAGE")])
 }
 
 /// `verify DICT IMAGE`.
