@@ -2,18 +2,17 @@
 
 ghost use Rattle.std.specs.Prelude.{◌≡◌, IfOk, IfErr, OnOk};
 ghost use Rattle.cse_decks.specs.Store.{StoreFits};
+ghost use Rattle.cse_output.specs.Gathering.{behind};
 ghost use Rattle.cse_report.specs.Reports.{ReportsFit};
 ghost use Rattle.cse_batch.specs.Handled.{AreHandled};
-ghost use Rattle.cse_batch.specs.Outputs.{AreFresh, CasesRanBy, HaltsBy, RanBy};
 ghost use Rattle.cse_batch.specs.RunClauses.{RunStops, RunsWhole, contents, failures};
-ghost use Rattle.cse_batch.specs.RunState.{IsUnread, IsUnreported};
+ghost use Rattle.cse_batch.specs.RunState.{CasesRan, Halts, IsFresh, IsUnread, IsUnreported, Ran, device};
 
 use crate::application::apply;
-use crate::beside::put_run;
+use crate::beside::put_beside;
 use crate::cases::edit;
 use crate::handled::{HandledEvents, handled_events};
 use crate::machine::Runs;
-use crate::outputs::Outputs;
 use crate::totals::{RunFault, Totals};
 use cse_case::CaseReader;
 use cse_decks::{Store, save};
@@ -47,7 +46,10 @@ pub(crate) fn run_cases<C: Code, M: Runs, R: Input, O: Output, L: Output>(
     store: &mut Store,
     reports: &mut Reports,
     handled: &HandledEvents,
-    outputs: &mut Outputs<'_, O, L>,
+    written: &mut Gatherer,
+    out: &mut O,
+    listed: &mut Gatherer,
+    listing: &mut L,
 ) -> Result<Totals, RunFault>
     requires handled { AreHandled verified.now handled.now }
     requires machine { M.program machine.old ≡ verified.now }
@@ -55,18 +57,19 @@ pub(crate) fn run_cases<C: Code, M: Runs, R: Input, O: Output, L: Output>(
     requires store { StoreFits verified.now.image store.old }
     requires reports { ReportsFit verified.now.image reports.old }
     requires unreported { IsUnreported verified.now reports.old }
-    requires fresh { AreFresh outputs.old }
+    requires written { IsFresh written.old.waiting.items written.old.gave_up }
+    requires listed { IsFresh listed.old.waiting.items listed.old.gave_up }
     ensures same_reference { reader.new.input.ghost_name ≡ reader.old.input.ghost_name }
-    ensures same_out { outputs.new.out.ghost_name ≡ outputs.old.out.ghost_name }
-    ensures same_listing { outputs.new.listing.ghost_name ≡ outputs.old.listing.ghost_name }
     ensures same { M.program machine.new ≡ verified.now }
-    ensures ok { IfOk result (CasesRanBy R.Input O.Output L.Output verified.now store.old reader.old reader.new store.new reports.new outputs.old outputs.new) }
-    ensures err { IfErr result (HaltsBy R.Input O.Output L.Output verified.now store.old reader.old reader.new outputs.old outputs.new) }
+    ensures ok { IfOk result (λ totals. CasesRan verified.now store.old (R.given reader.old.input.now) (R.given reader.new.input.now) store.new reports.new
+        (device (O.taken out.old) (O.has_failed out.old) (behind O.taken O.has_failed out.new written.new))
+        (device (L.taken listing.old) (L.has_failed listing.old) (behind L.taken L.has_failed listing.new listed.new)) totals) }
+    ensures err { IfErr result (λ fault. Halts verified.now store.old (R.given reader.old.input.now) (R.given reader.new.input.now)
+        (device (O.taken out.old) (O.has_failed out.old) (behind O.taken O.has_failed out.new written.new))
+        (device (L.taken listing.old) (L.has_failed listing.old) (behind L.taken L.has_failed listing.new listed.new)) fault) }
     ensures store_fits { OnOk result (StoreFits verified.now.image store.new) }
     ensures reports_fit { ReportsFit verified.now.image reports.new }
 {
-    let listed = &mut outputs.listed;
-    let listing = &mut *outputs.listing;
     reports.listing.put_to(listed, listing);
     let preproc = EventCode::ApplicationPreproc;
     let Ok(()) = apply(verified, machine, store, reports, preproc, listed, listing) else {
@@ -89,8 +92,11 @@ pub(crate) fn run_cases<C: Code, M: Runs, R: Input, O: Output, L: Output>(
                 let Ok(()) = edit(verified, machine, &mut case, store, reports, handled) else {
                     return Err(MEMORY_FAULT);
                 };
-                put_run(&case, &mut reports.listing, outputs);
-                if outputs.written.gave_up || outputs.listed.gave_up {
+                let waited = written.waiting.len();
+                case.put_to(written, out);
+                let are_written = written.waiting.len() < waited;
+                put_beside(&mut reports.listing, are_written, listed, listing);
+                if written.gave_up || listed.gave_up {
                     return Err(WRITE_FAULT);
                 }
                 reader.take_back(case);
@@ -111,7 +117,10 @@ fn run_around_cases<C: Code, M: Runs, R: Input, O: Output, L: Output>(
     store: &mut Store,
     reports: &mut Reports,
     handled: &HandledEvents,
-    outputs: &mut Outputs<'_, O, L>,
+    written: &mut Gatherer,
+    out: &mut O,
+    listed: &mut Gatherer,
+    listing: &mut L,
 ) -> Result<Totals, RunFault>
     requires handled { AreHandled verified.now handled.now }
     requires machine { M.program machine.old ≡ verified.now }
@@ -119,20 +128,23 @@ fn run_around_cases<C: Code, M: Runs, R: Input, O: Output, L: Output>(
     requires store { StoreFits verified.now.image store.old }
     requires reports { ReportsFit verified.now.image reports.old }
     requires unreported { IsUnreported verified.now reports.old }
-    requires fresh { AreFresh outputs.old }
+    requires written { IsFresh written.old.waiting.items written.old.gave_up }
+    requires listed { IsFresh listed.old.waiting.items listed.old.gave_up }
     ensures same_reference { reader.new.input.ghost_name ≡ reader.old.input.ghost_name }
-    ensures same_out { outputs.new.out.ghost_name ≡ outputs.old.out.ghost_name }
-    ensures same_listing { outputs.new.listing.ghost_name ≡ outputs.old.listing.ghost_name }
     ensures same { M.program machine.new ≡ verified.now }
-    ensures ok { IfOk result (RanBy R.Input O.Output L.Output verified.now store.old reader.old reader.new store.new reports.new outputs.old outputs.new) }
-    ensures err { IfErr result (HaltsBy R.Input O.Output L.Output verified.now store.old reader.old reader.new outputs.old outputs.new) }
+    ensures ok { IfOk result (λ totals. Ran verified.now store.old (R.given reader.old.input.now) (R.given reader.new.input.now) store.new reports.new
+        (device (O.taken out.old) (O.has_failed out.old) (behind O.taken O.has_failed out.new written.new))
+        (device (L.taken listing.old) (L.has_failed listing.old) (behind L.taken L.has_failed listing.new listed.new)) totals) }
+    ensures err { IfErr result (λ fault. Halts verified.now store.old (R.given reader.old.input.now) (R.given reader.new.input.now)
+        (device (O.taken out.old) (O.has_failed out.old) (behind O.taken O.has_failed out.new written.new))
+        (device (L.taken listing.old) (L.has_failed listing.old) (behind L.taken L.has_failed listing.new listed.new)) fault) }
     ensures store_fits { OnOk result (StoreFits verified.now.image store.new) }
     ensures reports_fit { ReportsFit verified.now.image reports.new }
 {
-    let totals = run_cases(verified, machine, reader, store, reports, handled, outputs)?;
+    let totals = run_cases(
+        verified, machine, reader, store, reports, handled, written, out, listed, listing,
+    )?;
     let postproc = EventCode::ApplicationPostproc;
-    let listed = &mut outputs.listed;
-    let listing = &mut *outputs.listing;
     let Ok(()) = apply(verified, machine, store, reports, postproc, listed, listing) else {
         return Err(MEMORY_FAULT);
     };
@@ -168,12 +180,8 @@ fn run_reader<C: Code, M: Runs, R: Input, O: Output, L: Output, F: Output, D: Ou
         (contents (O.taken out.new) (L.taken listing.new) (F.taken frequencies.new) (D.taken decks.new))
         (failures (O.has_failed out.new) (L.has_failed listing.new) (F.has_failed frequencies.new) (D.has_failed decks.new)) fault) }
 {
-    let mut outputs = Outputs {
-        written: Gatherer::new(),
-        out,
-        listed: Gatherer::new(),
-        listing,
-    };
+    let mut written = Gatherer::new();
+    let mut listed = Gatherer::new();
     let totals = match run_around_cases(
         verified,
         machine,
@@ -181,24 +189,27 @@ fn run_reader<C: Code, M: Runs, R: Input, O: Output, L: Output, F: Output, D: Ou
         store,
         reports,
         handled,
-        &mut outputs,
+        &mut written,
+        out,
+        &mut listed,
+        listing,
     ) {
         Ok(totals) => totals,
         Err(fault) => {
-            let _ = outputs.written.finish(outputs.out);
-            let _ = outputs.listed.finish(outputs.listing);
+            let _ = written.finish(out);
+            let _ = listed.finish(listing);
             return Err(fault);
         }
     };
-    let Ok(()) = outputs.written.finish(outputs.out) else {
+    let Ok(()) = written.finish(out) else {
         return Err(WRITE_FAULT);
     };
-    let Ok(()) = outputs.listed.finish(outputs.listing) else {
+    let Ok(()) = listed.finish(listing) else {
         return Err(WRITE_FAULT);
     };
     let Ok(()) = reports
         .listing
-        .write_to(totals.cases, totals.lines, totals.unseen, outputs.listing)
+        .write_to(totals.cases, totals.lines, totals.unseen, listing)
     else {
         return Err(WRITE_FAULT);
     };
