@@ -1,13 +1,10 @@
-//! Files of persons: how soon their first run is given, which no clause says, and a row of each call that reads them. What the
-//! runs of other files are is a law of cse_test_laws.
+//! Files of persons: how soon their first run is given, which no clause says. What the runs of other files are is a law of
+//! cse_test_laws.
 
 use crate::persons::persons;
-use cse_changes::compare;
 use cse_dict::Dictionary;
 use cse_lines::RunReader;
-use cse_logic_tree::{Procedure, Tree};
 use cse_value::Reads;
-use cse_written_items::items_written;
 use std::alloc::Global;
 use std::io;
 
@@ -52,47 +49,15 @@ fn runs_are_given(alloc: Global, dictionary: &Dictionary) -> bool {
         & (first_run(alloc, dictionary, 65536) == (4, 1))
 }
 
-/// Whether of these files it is told that the age of one person in two was changed.
-fn are_compared(alloc: Global, dictionary: &Dictionary) -> bool {
-    let mut read = Reads::new(b"P0011 035\nP0012 030\n".as_slice());
-    let mut written = Reads::new(b"P0011 036\nP0012 030\n".as_slice());
-    match compare(alloc, dictionary, &mut read, &mut written) {
-        Ok(counts) => counts.len() == 5 && counts[3].occurrences == 2 && counts[3].changed == 1,
-        Err(_) => false,
-    }
-}
-
-/// Whether logic without these procedures may change no item. The list comes from the caller: a tree of a lifetime that is
-/// known takes ten times as long to prove.
-fn writes_nothing<'a>(
-    alloc: Global,
-    dictionary: &Dictionary,
-    procedures: Vec<Procedure<'a>>,
-) -> bool {
-    let tree = Tree {
-        globals: None,
-        procedures,
-        messages: Vec::new(alloc),
-    };
-    match items_written(alloc, &tree, dictionary) {
-        Ok(items) => items.is_empty(),
-        Err(_) => false,
-    }
-}
-
-/// How many of the rows come out as they should.
-fn right_rows(alloc: Global) -> usize {
+/// Whether the rows come out as they should.
+fn is_right(alloc: Global) -> bool {
     match persons(alloc) {
-        Ok(dictionary) => {
-            usize::from(runs_are_given(alloc, &dictionary))
-                + usize::from(are_compared(alloc, &dictionary))
-                + usize::from(writes_nothing(alloc, &dictionary, Vec::new(alloc)))
-        }
-        Err(_) => 0,
+        Ok(dictionary) => runs_are_given(alloc, &dictionary),
+        Err(_) => false,
     }
 }
 
 #[test]
 fn files(rt: HostRuntime) {
-    assert!(rt; right_rows(rt.alloc()) == 3);
+    assert!(rt; is_right(rt.alloc()));
 }

@@ -5,12 +5,14 @@
 //!
 //! - `values`, `parts`: numbers, texts and their columns; placeholders, names, single fields and instructions of images.
 //! - `devices`: what a reader gave and a writer took. `images`: an image that is read and written, and jumps alone.
-//! - `files`: runs of lines, what a run changed, and the items that logic may change.
+//! - `files`: runs of lines. `changes`: what a run changed. `written`: the items that logic may change.
 //! - `joined`: forms of statements.
 //! - `failing`: what a command tells of devices that move few bytes in a call, and that fail (`device`). `turned`: images in which
 //!   one bit was turned. `hello`: the image that both look at. `statuses`: the status of each number. `told`: how a count is compared.
 #![tactic(auto)]
 
+#[cfg(test)]
+mod changes;
 #[cfg(test)]
 mod device;
 #[cfg(test)]
@@ -37,3 +39,5 @@ mod told;
 mod turned;
 #[cfg(test)]
 mod values;
+#[cfg(test)]
+mod written;

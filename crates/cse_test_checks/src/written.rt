@@ -1,0 +1,70 @@
+//! The items that logic may change, of a tree that is made here: the call gives them where memory is ample.
+
+use crate::persons::persons;
+use cse_dict::Dictionary;
+use cse_logic_tree::{Body, Field, Found, Number, Owner, Procedure, Statement, Tree, Which};
+use cse_syntax_tree::{Lexeme, Special};
+use cse_written_items::items_written;
+use std::alloc::Global;
+
+/// AGE, the fourth item of the dictionary.
+const AGE: Field = Field { owner: 0, item: 3 };
+
+// The name comes from the caller: a call that takes a tree of a lifetime that is known, as that of a static text, takes ten
+// times as long to prove.
+
+/// Whether there is room. What finds none comes back, and is let go here, whatever it is, and not where it is made.
+fn is_pushed<T: Drop>(list: &mut Vec<T>, one: T) -> bool {
+    list.push(one).is_ok()
+}
+
+/// `impute(AGE, notappl);`
+fn imputes<'a>(text: &'a str) -> Statement<'a> {
+    let name = Lexeme { token: 4, text };
+    Statement::Impute(
+        name,
+        AGE,
+        Which::Here(Found::Event),
+        Number::Special(6, Special::NotAppl),
+    )
+}
+
+/// Puts `PROC AGE` with this statement into a source.
+fn add<'a>(alloc: Global, procedures: &mut Vec<Procedure<'a>>, text: &'a str) -> bool {
+    let name = Lexeme { token: 1, text };
+    let mut body = Vec::new(alloc);
+    let is_filled = is_pushed(&mut body, imputes(text));
+    let procedure = Procedure {
+        name,
+        owner: Owner::Item(AGE),
+        body: Body::Plain(body),
+    };
+    is_pushed(procedures, procedure) & is_filled
+}
+
+/// Whether AGE, by this name, is the one item that logic may change which imputes it.
+fn is_written<'a>(alloc: Global, dictionary: &Dictionary, text: &'a str) -> bool {
+    let mut tree = Tree {
+        globals: None,
+        procedures: Vec::new(alloc),
+        messages: Vec::new(alloc),
+    };
+    let is_made = add(alloc, &mut tree.procedures, text);
+    match items_written(alloc, &tree, dictionary) {
+        Ok(items) => is_made & (items.as_slice() == [3u16].as_slice()),
+        Err(_) => false,
+    }
+}
+
+/// Whether it is so under the dictionary of persons.
+fn is_right(alloc: Global) -> bool {
+    match persons(alloc) {
+        Ok(dictionary) => is_written(alloc, &dictionary, "AGE"),
+        Err(_) => false,
+    }
+}
+
+#[test]
+fn an_item_that_is_imputed(rt: HostRuntime) {
+    assert!(rt; is_right(rt.alloc()));
+}
