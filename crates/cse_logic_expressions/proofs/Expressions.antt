@@ -1,7 +1,6 @@
 -- What a node of an expression that holds others is judged to be.
 use Rattle.std.proofs.Common.{◌≡◌, ℕ, ◌≤◌, Bool, true, false, List, [], ◌∷◌, length, map, Option, Some, None, refl, ap, ◌∙◌, arith}
 use Rattle.std.specs.Prelude.{option_map}
-use Rattle.std.proofs.lemmas.List.{length-map}
 use Rattle.std.proofs.lemmas.Bool.{leb-true, and_parts}
 use Rattle.std.specs.Global.{Vec, Box}
 use Rattle.cse_syntax_tree.specs.declared.tree.Lexeme.{Lexeme}
@@ -25,11 +24,9 @@ count_is [] = refl
 count_is (x ∷ xs) = omega (arith, count_is xs)
 
 pub indexed_judged : (s : Scope) (top : Bool) (name : Lexeme) (arguments : Vec rust.Expression)
-    → judge s top (expr (e.Indexed name arguments)) ≡ indexed s (written name) (meant s (written name)) (length arguments.items) (judge_all s (exprs (map expr arguments.items)))
+    → judge s top (expr (e.Indexed name arguments)) ≡ indexed s (written name) (meant s (written name)) (expr_count (exprs (map expr arguments.items))) (judge_all s (exprs (map expr arguments.items)))
 unfolding judge
-indexed_judged s top name arguments =
-    ap (judge s top) (indexed_is name arguments)
-    ∙ ap (λ n. indexed s (written name) (meant s (written name)) n (judge_all s (exprs (map expr arguments.items)))) (count_is (map expr arguments.items) ∙ length-map arguments.items expr)
+indexed_judged s top name arguments = ap (judge s top) (indexed_is name arguments)
 
 pub chain_judged : (s : Scope) (top : Bool) (first : Box rust.Expression) (others : Vec rustop.Operation)
     → judge s top (expr (e.Chain first others)) ≡ AsNumber (joined typed.Chain (as_number (judge s false (expr first.value))) (judge_operations s top (syntax.operations (map operation_tree others.items))))

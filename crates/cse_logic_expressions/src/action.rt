@@ -11,9 +11,12 @@ ghost use Rattle.cse_logic_expressions.specs.JudgeStatement as spec;
 ghost use Rattle.cse_logic_names.specs.Walk.{only_if};
 ghost use Rattle.cse_logic_expressions.specs.Clauses.{by_name, by_name_with, by_place};
 
-use crate::assign::{assign, call_of, impute, put_deck};
-use crate::expression::{all_values, expression, value};
-use cse_logic_names::scope::Scope;
+use crate::assign::{
+    assign_cell, assign_item, assign_text, assign_variable, call, count_of, impute_item, put_deck,
+};
+use crate::call::may_call;
+use cse_logic_names::meaning::Meaning;
+use cse_logic_names::scope::{Scope, own_result};
 use cse_logic_tree::{Statement, Variable};
 use cse_syntax_tree::{Expression, Jump, Lexeme, Place};
 use std::alloc::{AllocError, Global};
@@ -27,10 +30,20 @@ pub fn assignment<'a>(
 ) -> Result<Option<Statement<'a>>, AllocError>
     ensures { IfOk result (λ r. option_map statement r ≡ by_place spec.assign scope.now place.now (judge scope.now false (expr x.now))) }
 {
-    let count = place.subscripts.len();
-    let subscripts = all_values(alloc, scope, &place.subscripts)?;
-    let found = expression(alloc, scope, false, x)?;
-    Ok(assign(scope, place.name, count, subscripts, found))
+    match scope.meant(place.name) {
+        Some(Meaning::Variable(variable)) => {
+            assign_variable(alloc, scope, place, Some(variable), x)
+        }
+        Some(Meaning::Text(global)) => assign_text(alloc, scope, place, global, x),
+        Some(Meaning::Array(array)) => assign_cell(alloc, scope, place, array, x),
+        Some(Meaning::Function(function)) => {
+            // By its name alone, since a call is no place.
+            let own = own_result(scope.routine, function);
+            assign_variable(alloc, scope, place, own, x)
+        }
+        Some(Meaning::Item(item)) => assign_item(alloc, scope, place, item, x),
+        _ => Ok(None),
+    }
 }
 
 /// An imputation.
@@ -42,10 +55,10 @@ pub fn imputation<'a>(
 ) -> Result<Option<Statement<'a>>, AllocError>
     ensures { IfOk result (λ r. option_map statement r ≡ by_place spec.impute scope.now place.now (as_number (judge scope.now false (expr x.now)))) }
 {
-    let count = place.subscripts.len();
-    let subscripts = all_values(alloc, scope, &place.subscripts)?;
-    let found = value(alloc, scope, false, x)?;
-    Ok(impute(scope, place.name, count, subscripts, found))
+    match scope.meant(place.name) {
+        Some(Meaning::Item(item)) => impute_item(alloc, scope, place, item, x),
+        _ => Ok(None),
+    }
 }
 
 /// A call that stands alone.
@@ -57,8 +70,12 @@ pub fn alone<'a>(
 ) -> Result<Option<Statement<'a>>, AllocError>
     ensures { IfOk result (λ r. option_map statement r ≡ by_name_with spec.call_of scope.now name.entry arguments.now.items) }
 {
-    let found = all_values(alloc, scope, arguments)?;
-    Ok(call_of(scope, name, arguments.len(), found))
+    match scope.meant(name) {
+        Some(Meaning::Function(function)) if may_call(scope, count_of(arguments), function) => {
+            call(alloc, scope, name, function, arguments)
+        }
+        _ => Ok(None),
+    }
 }
 
 /// A value that is put into a hot deck.
@@ -70,8 +87,10 @@ pub fn deck_value<'a>(
 ) -> Result<Option<Statement<'a>>, AllocError>
     ensures { IfOk result (λ r. option_map statement r ≡ by_name spec.put_deck scope.now deck.entry (as_number (judge scope.now false (expr x.now)))) }
 {
-    let found = value(alloc, scope, false, x)?;
-    put_deck(alloc, scope, deck, found)
+    match scope.meant(deck) {
+        Some(Meaning::Array(array)) => put_deck(alloc, scope, deck, array, x),
+        _ => Ok(None),
+    }
 }
 
 /// Whether a jump may stand in these loops.

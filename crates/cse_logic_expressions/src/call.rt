@@ -72,34 +72,6 @@ pub fn has_dimensions(scope: &Scope<'_>, count: usize, array: usize) -> bool
     }
 }
 
-/// A cell of an array.
-pub fn cell<'a>(
-    name: Lexeme<'a>,
-    array: usize,
-    subscripts: Option<Vec<Number<'a>>>,
-) -> Option<Number<'a>>
-    ensures { option_map number result ≡ option_map (typed.Cell (written name.entry) array) (numbers_made subscripts.entry) }
-{
-    match subscripts {
-        None => None,
-        Some(subscripts) => Some(Number::cell(name, array, subscripts)),
-    }
-}
-
-/// A call of a function.
-pub fn call<'a>(
-    name: Lexeme<'a>,
-    function: usize,
-    arguments: Option<Vec<Number<'a>>>,
-) -> Option<Number<'a>>
-    ensures { option_map number result ≡ option_map (typed.Call (written name.entry) function) (numbers_made arguments.entry) }
-{
-    match arguments {
-        None => None,
-        Some(arguments) => Some(Number::call(name, function, arguments)),
-    }
-}
-
 /// Whether a variable is one of these globals.
 fn is_among(globals: &Globals, variable: Variable) -> bool
     ensures { result ≡ scope_of.is_among globals.now variable }

@@ -4,13 +4,15 @@ ghost use Rattle.std.specs.Prelude.{◌≡◌, true, map, slice_get, Some, None,
 ghost use Rattle.std.specs.Option.{option_map};
 ghost use Rattle.cse_syntax_tree.specs.Tree.{written};
 ghost use Rattle.cse_logic_tree.specs.Typed as typed;
-ghost use Rattle.cse_logic_tree.specs.Typed.{number, dimension};
+ghost use Rattle.cse_logic_tree.specs.Typed.{dimension};
 ghost use Rattle.cse_logic_names.specs.Scope.{meant};
 ghost use Rattle.cse_logic_expressions.specs.Judge as spec;
+ghost use Rattle.cse_logic_expressions.specs.Judge.{judged};
 ghost use Rattle.cse_logic_names.specs.Walk.{is_there};
 ghost use Rattle.cse_logic_expressions.specs.Clauses.{by_name};
 
 use crate::item::number_present;
+use crate::judged::Judged;
 use crate::list::{both_hold, keep};
 use crate::set::{current, max_occ, record_of, tot_occ, whole_set};
 use cse_logic_names::meaning::Meaning;
@@ -87,29 +89,28 @@ pub fn picks(
     }
 }
 
-fn deck<'a>(name: Lexeme<'a>, array: usize, picks: Option<Vec<Pick>>) -> Option<Number<'a>>
-    ensures { option_map number result ≡ option_map (typed.Deck (written name.entry) array) (option_map (λ v. v.items) picks) }
+fn deck<'a>(
+    alloc: Global,
+    scope: &Scope<'_>,
+    name: Lexeme<'a>,
+    array: usize,
+) -> Result<Judged<'a>, AllocError>
+    ensures { IfOk result (λ r. judged r
+        ≡ spec.AsNumber (option_map (typed.Deck (written name.entry) array) (spec.picks_of scope.now (slice_get scope.now.arrays array)))) }
 {
-    match picks {
-        None => None,
-        Some(picks) => Some(Number::Deck(name, array, picks)),
+    match picks(alloc, scope, array)? {
+        None => Ok(Judged::Number(None)),
+        Some(picks) => Ok(Judged::Number(Some(Number::Deck(name, array, picks)))),
     }
 }
 
 /// The value of a hot deck, where there is a case.
-fn deck_of<'a>(
-    alloc: Global,
-    scope: &Scope<'_>,
-    name: Lexeme<'a>,
-) -> Result<Option<Number<'a>>, AllocError>
-    ensures { IfOk result (λ r. option_map number r ≡ by_name spec.deck_of scope.now name.entry) }
+fn deck_of<'a>(alloc: Global, scope: &Scope<'_>, name: Lexeme<'a>) -> Result<Judged<'a>, AllocError>
+    ensures { IfOk result (λ r. judged r ≡ spec.AsNumber (by_name spec.deck_of scope.now name.entry)) }
 {
     match scope.meant(name) {
-        Some(Meaning::Array(array)) => {
-            let picks = picks(alloc, scope, array)?;
-            Ok(deck(name, array, picks))
-        }
-        _ => Ok(None),
+        Some(Meaning::Array(array)) => deck(alloc, scope, name, array),
+        _ => Ok(Judged::Number(None)),
     }
 }
 
@@ -119,13 +120,13 @@ pub fn queried<'a>(
     scope: &Scope<'_>,
     query: Query,
     name: Lexeme<'a>,
-) -> Result<Option<Number<'a>>, AllocError>
-    ensures { IfOk result (λ r. option_map number r ≡ spec.queried scope.now query (written name.entry) (meant scope.now (written name.entry))) }
+) -> Result<Judged<'a>, AllocError>
+    ensures { IfOk result (λ r. judged r ≡ spec.AsNumber (spec.queried scope.now query (written name.entry) (meant scope.now (written name.entry)))) }
 {
     match query {
         Query::GetDeck => deck_of(alloc, scope, name),
-        Query::TotOcc => Ok(tot_occ(name, record_of(scope, name))),
-        Query::MaxOcc => Ok(max_occ(name, record_of(scope, name))),
-        Query::CurOcc => Ok(current(scope, name, record_of(scope, name))),
+        Query::TotOcc => Ok(Judged::Number(tot_occ(name, record_of(scope, name)))),
+        Query::MaxOcc => Ok(Judged::Number(max_occ(name, record_of(scope, name)))),
+        Query::CurOcc => Ok(Judged::Number(current(scope, name, record_of(scope, name)))),
     }
 }

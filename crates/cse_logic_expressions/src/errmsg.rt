@@ -6,22 +6,22 @@ ghost use Rattle.cse_image_parts.specs.Placeholders.{message_kinds};
 ghost use Rattle.cse_syntax_tree.specs.Leaf as leaf;
 ghost use Rattle.cse_syntax_tree.specs.Tree.{expr, exprs, message};
 ghost use Rattle.cse_logic_tree.specs.Typed as typed;
-ghost use Rattle.cse_logic_tree.specs.Typed.{argument, number, statement, words};
+ghost use Rattle.cse_logic_tree.specs.Typed.{argument, statement};
 ghost use Rattle.cse_logic_names.specs.MessageFile.{MessageText};
 ghost use Rattle.cse_logic_names.specs.WellTyped.{kinds_of, message_meant, message_number, numbered};
-ghost use Rattle.cse_logic_expressions.specs.Judge.{expr_count, judge};
+ghost use Rattle.cse_logic_expressions.specs.Judge.{expr_count};
 ghost use Rattle.cse_logic_expressions.specs.JudgeStatement as spec;
-ghost use Rattle.cse_logic_expressions.specs.JudgeStatement.{as_argument, as_words, judge_arguments, ranged};
+ghost use Rattle.cse_logic_expressions.specs.JudgeStatement.{as_argument, judge_arguments, ranged};
+ghost use Rattle.cse_logic_expressions.specs.Clauses.{judged_alone, number_alone, text_alone};
 ghost use Rattle.cse_logic_names.specs.Walk.{is_there};
 
-use crate::assign::number_in;
-use crate::expression::{expression, written_number};
-use crate::judged::Judged;
+use crate::assign::{count_of, text};
+use crate::expression::{value, written_number};
 use crate::list::{both_hold, keep};
 use cse_image_parts::placeholders::{ArgumentKind, Kinds, count_placeholders};
 use cse_logic_names::messages::Messages;
 use cse_logic_names::scope::Scope;
-use cse_logic_tree::{Argument, Number, Statement, Words};
+use cse_logic_tree::{Argument, Statement};
 use cse_syntax_tree::{Expression, Message};
 use std::alloc::{AllocError, Global};
 
@@ -81,35 +81,29 @@ fn text_meant<'m>(messages: &'m Messages, said: Message<'m>) -> Option<&'m [u8]>
     }
 }
 
-/// A text, or none.
-fn text<'a>(
+fn number_argument<'a>(
     alloc: Global,
     scope: &Scope<'_>,
     x: &Expression<'a>,
-) -> Result<Option<Words<'a>>, AllocError>
-    ensures { IfOk result (λ r. option_map words r ≡ as_words (judge scope.now false (expr x.now))) }
+) -> Result<Option<Argument<'a>>, AllocError>
+    ensures { IfOk result (λ r. option_map argument r ≡ option_map typed.OfNumber (number_alone scope.now x.now)) }
 {
-    match expression(alloc, scope, false, x)? {
-        Judged::Words(text) => Ok(text),
-        _ => Ok(None),
+    match value(alloc, scope, false, x)? {
+        None => Ok(None),
+        Some(x) => Ok(Some(Argument::Number(x))),
     }
 }
 
-fn of_number<'a>(x: Option<Number<'a>>) -> Option<Argument<'a>>
-    ensures { option_map argument result ≡ option_map typed.OfNumber (option_map number x.entry) }
+fn text_argument<'a>(
+    alloc: Global,
+    scope: &Scope<'_>,
+    x: &Expression<'a>,
+) -> Result<Option<Argument<'a>>, AllocError>
+    ensures { IfOk result (λ r. option_map argument r ≡ option_map typed.OfWords (text_alone scope.now x.now)) }
 {
-    match x {
-        None => None,
-        Some(x) => Some(Argument::Number(x)),
-    }
-}
-
-fn of_words<'a>(x: Option<Words<'a>>) -> Option<Argument<'a>>
-    ensures { option_map argument result ≡ option_map typed.OfWords (option_map words x.entry) }
-{
-    match x {
-        None => None,
-        Some(x) => Some(Argument::Words(x)),
+    match text(alloc, scope, x)? {
+        None => Ok(None),
+        Some(x) => Ok(Some(Argument::Words(x))),
     }
 }
 
@@ -120,15 +114,12 @@ fn one_argument<'a>(
     kind: Option<ArgumentKind>,
     x: &Expression<'a>,
 ) -> Result<Option<Argument<'a>>, AllocError>
-    ensures { IfOk result (λ r. option_map argument r ≡ as_argument kind (judge scope.now false (expr x.now))) }
+    ensures { IfOk result (λ r. option_map argument r ≡ as_argument kind (judged_alone scope.now x.now)) }
 {
     match kind {
         None => Ok(None),
-        Some(ArgumentKind::Number) => {
-            let found = expression(alloc, scope, false, x)?;
-            Ok(of_number(number_in(found)))
-        }
-        Some(ArgumentKind::Text) => { Ok(of_words(text(alloc, scope, x)?)) }
+        Some(ArgumentKind::Number) => number_argument(alloc, scope, x),
+        Some(ArgumentKind::Text) => text_argument(alloc, scope, x),
     }
 }
 
@@ -154,26 +145,11 @@ fn arguments<'a>(
     if is_sound { Ok(Some(found)) } else { Ok(None) }
 }
 
-fn message_of<'a>(
-    said: Message<'a>,
-    index: usize,
-    is_summary: bool,
-    values: Option<Vec<Argument<'a>>>,
-) -> Option<Statement<'a>>
-    ensures { option_map statement result
-        ≡ option_map (spec.message_of (message said.entry) index is_summary) (option_map (λ v. map argument v.items) values.entry) }
-{
-    match values {
-        None => None,
-        Some(values) => Some(Statement::ErrMsg(said, index, values, is_summary)),
-    }
-}
-
 /// Whether as many values stand there as the text has placeholders.
 fn has_values(text: &[u8], values: &Vec<Expression<'_>>) -> bool
     ensures { result ≡ (length (message_kinds text.now) == expr_count (exprs (map expr values.now.items))) }
 {
-    count_placeholders(text) == values.len()
+    count_placeholders(text) == count_of(values)
 }
 
 /// A message of this text, with its values.
@@ -193,8 +169,10 @@ fn filled<'a>(
     if !has_values(text, values) {
         return Ok(None);
     }
-    let found = arguments(alloc, scope, text, values)?;
-    Ok(message_of(said, index, is_summary, found))
+    match arguments(alloc, scope, text, values)? {
+        None => Ok(None),
+        Some(values) => Ok(Some(Statement::ErrMsg(said, index, values, is_summary))),
+    }
 }
 
 /// The message of this index among those of the source, where its number is known and each of its placeholders has a value of

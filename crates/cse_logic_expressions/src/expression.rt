@@ -12,20 +12,21 @@ ghost use Rattle.cse_logic_names.specs.WellTyped.{may_call, value_of, may_divide
 ghost use Rattle.cse_logic_expressions.specs.Judge as spec;
 ghost use Rattle.cse_logic_expressions.specs.Judge.{judged, judge, judge_operations, as_number, is_sound, indexed, queried, bare, compared, is_count};
 ghost use Rattle.cse_logic_names.specs.Walk.{is_there, joined, only_if};
-ghost use Rattle.cse_logic_expressions.specs.Clauses.{all_judged, by_name, numbers_made};
+ghost use Rattle.cse_logic_expressions.specs.Clauses.{all_judged, by_name, by_name_with, call_judged, cell_judged, item_judged_at, numbers_made};
 
-use crate::assign::number_in;
-use crate::call::{call, cell, has_dimensions, may_call};
+use crate::assign::count_of;
+use crate::call::{has_dimensions, may_call};
 use crate::deck::queried;
-use crate::item::{item, item_at};
+use crate::item::{field_at, item, sole};
 use crate::judged::Judged;
 use crate::list::{both_hold, decremented, keep};
 use crate::operator::{chained, compared, grouped, int, is_special, minus, negated};
 use crate::set::member;
 use cse_logic_names::meaning::Meaning;
-use cse_logic_names::scope::{Scope, own_result};
-use cse_logic_tree::{Number, Operation, Variable, Words};
+use cse_logic_names::scope::{Scope, kind_and_owner, own_result};
+use cse_logic_tree::{Field, Number, Operation, Variable, Words};
 use cse_syntax_tree::{Expression, Function, Lexeme, Operation as Parsed, Operator, number_of};
+use cse_value::shape::ItemKind;
 use std::alloc::{AllocError, Global};
 
 /// What a name without parentheses is.
@@ -76,63 +77,13 @@ fn literal<'a>(digits: Lexeme<'a>) -> Option<Number<'a>>
     }
 }
 
-/// A cell of an array, where it has so many dimensions.
-fn cell_of<'a>(
-    scope: &Scope<'_>,
-    name: Lexeme<'a>,
-    count: usize,
-    array: usize,
-    subscripts: Option<Vec<Number<'a>>>,
-) -> Option<Number<'a>>
-    ensures { option_map number result ≡ only_if (is_count count (dimensions_of scope.now array))
-        (option_map (typed.Cell (written name.entry) array) (numbers_made subscripts.entry)) }
+/// A number, or none.
+fn number_in<'a>(x: Judged<'a>) -> Option<Number<'a>>
+    ensures { option_map number result ≡ as_number (judged x.entry) }
 {
-    if has_dimensions(scope, count, array) {
-        cell(name, array, subscripts)
-    } else {
-        None
-    }
-}
-
-/// A call of a function, where it may be called with so many arguments.
-fn call_to<'a>(
-    scope: &Scope<'_>,
-    name: Lexeme<'a>,
-    count: usize,
-    function: usize,
-    arguments: Option<Vec<Number<'a>>>,
-) -> Option<Number<'a>>
-    ensures { option_map number result ≡ only_if (may_call scope.now count (slice_get scope.now.functions function))
-        (option_map (typed.Call (written name.entry) function) (numbers_made arguments.entry)) }
-{
-    if may_call(scope, count, function) {
-        call(name, function, arguments)
-    } else {
-        None
-    }
-}
-
-/// What a name with subscripts or arguments is.
-fn named_with<'a>(
-    alloc: Global,
-    scope: &Scope<'_>,
-    name: Lexeme<'a>,
-    count: usize,
-    arguments: Option<Vec<Number<'a>>>,
-) -> Result<Judged<'a>, AllocError>
-    ensures { IfOk result (λ r. judged r ≡ by_name indexed scope.now name.entry count (numbers_made arguments.entry)) }
-{
-    match scope.meant(name) {
-        Some(Meaning::Variable(_)) => Ok(Judged::Number(None)),
-        Some(Meaning::Text(_)) => Ok(Judged::Words(None)),
-        Some(Meaning::Array(array)) => {
-            Ok(Judged::Number(cell_of(scope, name, count, array, arguments)))
-        }
-        Some(Meaning::Function(function)) => {
-            Ok(Judged::Number(call_to(scope, name, count, function, arguments)))
-        }
-        Some(Meaning::Item(item)) => item_at(alloc, scope, name, item, arguments),
-        _ => Ok(Judged::Unknown),
+    match x {
+        Judged::Number(x) => x,
+        _ => None,
     }
 }
 
@@ -160,10 +111,7 @@ pub fn expression<'a>(
             grouped(alloc, inner)
         }
         Expression::Apply(function, argument) => { apply(alloc, scope, *function, argument) }
-        Expression::Query(query, name) => {
-            let found = queried(alloc, scope, *query, *name)?;
-            Ok(Judged::Number(found))
-        }
+        Expression::Query(query, name) => queried(alloc, scope, *query, *name),
         Expression::InValueSet(item, set) => { Ok(Judged::Number(member(scope, *item, *set))) }
         Expression::Minus(operand) => {
             let operand = value(alloc, scope, false, operand)?;
@@ -176,8 +124,7 @@ pub fn expression<'a>(
         Expression::Compare(left, relation, right) => {
             let earlier = expression(alloc, scope, false, left)?;
             let later = expression(alloc, scope, false, right)?;
-            let made = compared(alloc, *relation, earlier, later)?;
-            Ok(Judged::Number(made))
+            compared(alloc, *relation, earlier, later)
         }
         Expression::Chain(first, others) => {
             let start = value(alloc, scope, false, first)?;
@@ -223,6 +170,7 @@ fn apply<'a>(
     }
 }
 
+/// What a name with subscripts or arguments is. They are judged only where the name may have them.
 #[cycle(judge)]
 fn indexed<'a>(
     alloc: Global,
@@ -230,10 +178,128 @@ fn indexed<'a>(
     name: Lexeme<'a>,
     arguments: &Vec<Expression<'a>>,
 ) -> Result<Judged<'a>, AllocError>
-    ensures { IfOk result (λ r. judged r ≡ by_name indexed scope.now name.entry (length arguments.now.items) (all_judged scope.now arguments.now.items)) }
+    ensures { IfOk result (λ r. judged r ≡ by_name_with indexed scope.now name.entry arguments.now.items) }
 {
-    let found = all_values(alloc, scope, arguments)?;
-    named_with(alloc, scope, name, arguments.len(), found)
+    match scope.meant(name) {
+        Some(Meaning::Variable(_)) => Ok(Judged::Number(None)),
+        Some(Meaning::Text(_)) => Ok(Judged::Words(None)),
+        Some(Meaning::Array(array)) => cell(alloc, scope, name, array, arguments),
+        Some(Meaning::Function(function)) => call(alloc, scope, name, function, arguments),
+        Some(Meaning::Item(item)) => item_at(alloc, scope, name, item, arguments),
+        _ => Ok(Judged::Unknown),
+    }
+}
+
+/// A cell of an array, where it has so many dimensions.
+#[cycle(judge)]
+fn cell<'a>(
+    alloc: Global,
+    scope: &Scope<'_>,
+    name: Lexeme<'a>,
+    array: usize,
+    subscripts: &Vec<Expression<'a>>,
+) -> Result<Judged<'a>, AllocError>
+    ensures { IfOk result (λ r. judged r ≡ cell_judged scope.now name.entry array subscripts.now.items) }
+{
+    if !has_dimensions(scope, count_of(subscripts), array) {
+        return Ok(Judged::Number(None));
+    }
+    match all_values(alloc, scope, subscripts)? {
+        None => Ok(Judged::Number(None)),
+        Some(subscripts) => Ok(Judged::Number(Some(Number::cell(name, array, subscripts)))),
+    }
+}
+
+/// A call of a function, where it may be called with so many arguments.
+#[cycle(judge)]
+fn call<'a>(
+    alloc: Global,
+    scope: &Scope<'_>,
+    name: Lexeme<'a>,
+    function: usize,
+    arguments: &Vec<Expression<'a>>,
+) -> Result<Judged<'a>, AllocError>
+    ensures { IfOk result (λ r. judged r ≡ call_judged scope.now name.entry function arguments.now.items) }
+{
+    if !may_call(scope, count_of(arguments), function) {
+        return Ok(Judged::Number(None));
+    }
+    match all_values(alloc, scope, arguments)? {
+        None => Ok(Judged::Number(None)),
+        Some(arguments) => Ok(Judged::Number(Some(Number::call(name, function, arguments)))),
+    }
+}
+
+/// A numeric item with a subscript.
+#[cycle(judge)]
+fn number_item_at<'a>(
+    alloc: Global,
+    scope: &Scope<'_>,
+    name: Lexeme<'a>,
+    field: Option<Field>,
+    subscripts: &Vec<Expression<'a>>,
+) -> Result<Judged<'a>, AllocError>
+    ensures { IfOk result (λ r. judged r ≡ spec.AsNumber (joined (typed.ItemAt (written name.entry)) field
+        (spec.sole (all_judged scope.now subscripts.now.items)))) }
+{
+    let Some(field) = field else {
+        return Ok(Judged::Number(None));
+    };
+    match sole(all_values(alloc, scope, subscripts)?) {
+        None => Ok(Judged::Number(None)),
+        Some(place) => {
+            let place = Box::new(alloc, place)?;
+            Ok(Judged::Number(Some(Number::ItemAt(name, field, place))))
+        }
+    }
+}
+
+/// A text item with a subscript.
+#[cycle(judge)]
+fn text_item_at<'a>(
+    alloc: Global,
+    scope: &Scope<'_>,
+    name: Lexeme<'a>,
+    field: Option<Field>,
+    subscripts: &Vec<Expression<'a>>,
+) -> Result<Judged<'a>, AllocError>
+    ensures { IfOk result (λ r. judged r ≡ spec.AsWords (joined (typed.TextItemAt (written name.entry)) field
+        (spec.sole (all_judged scope.now subscripts.now.items)))) }
+{
+    let Some(field) = field else {
+        return Ok(Judged::Words(None));
+    };
+    match sole(all_values(alloc, scope, subscripts)?) {
+        None => Ok(Judged::Words(None)),
+        Some(place) => {
+            let place = Box::new(alloc, place)?;
+            Ok(Judged::Words(Some(Words::ItemAt(name, field, place))))
+        }
+    }
+}
+
+/// An item with subscripts.
+#[cycle(judge)]
+fn item_at<'a>(
+    alloc: Global,
+    scope: &Scope<'_>,
+    name: Lexeme<'a>,
+    item: u16,
+    subscripts: &Vec<Expression<'a>>,
+) -> Result<Judged<'a>, AllocError>
+    ensures { IfOk result (λ r. judged r ≡ item_judged_at scope.now name.entry item subscripts.now.items) }
+{
+    match kind_and_owner(scope.dictionary, item) {
+        Some((ItemKind::Number, owner)) => {
+            let field = field_at(scope, item, owner);
+            number_item_at(alloc, scope, name, field, subscripts)
+        }
+        Some((ItemKind::Text, owner)) => {
+            let field = field_at(scope, item, owner);
+            text_item_at(alloc, scope, name, field, subscripts)
+        }
+        _ => Ok(Judged::Unknown),
+    }
 }
 
 /// Numbers, or none where one isn't sound.

@@ -83,40 +83,6 @@ pub fn item<'a>(scope: &Scope<'_>, name: Lexeme<'a>, item: u16) -> Judged<'a>
     }
 }
 
-fn number_item_at<'a>(
-    alloc: Global,
-    name: Lexeme<'a>,
-    field: Option<Field>,
-    place: Option<Number<'a>>,
-) -> Result<Option<Number<'a>>, AllocError>
-    ensures { IfOk result (λ r. option_map number r ≡ joined (typed.ItemAt (written name.entry)) field (option_map number place.entry)) }
-{
-    match field {
-        None => Ok(None),
-        Some(field) => match place {
-            None => Ok(None),
-            Some(place) => Ok(Some(Number::ItemAt(name, field, Box::new(alloc, place)?))),
-        },
-    }
-}
-
-fn text_item_at<'a>(
-    alloc: Global,
-    name: Lexeme<'a>,
-    field: Option<Field>,
-    place: Option<Number<'a>>,
-) -> Result<Option<Words<'a>>, AllocError>
-    ensures { IfOk result (λ r. option_map words r ≡ joined (typed.TextItemAt (written name.entry)) field (option_map number place.entry)) }
-{
-    match field {
-        None => Ok(None),
-        Some(field) => match place {
-            None => Ok(None),
-            Some(place) => Ok(Some(Words::ItemAt(name, field, Box::new(alloc, place)?))),
-        },
-    }
-}
-
 /// The only one of some subscripts.
 pub fn sole<'a>(subscripts: Option<Vec<Number<'a>>>) -> Option<Number<'a>>
     ensures { option_map number result ≡ spec.sole (numbers_made subscripts.entry) }
@@ -135,31 +101,6 @@ fn only_one<'a>(subscripts: Vec<Number<'a>>) -> Option<Number<'a>>
         return None;
     }
     subscripts.pop()
-}
-
-/// An item with subscripts.
-pub fn item_at<'a>(
-    alloc: Global,
-    scope: &Scope<'_>,
-    name: Lexeme<'a>,
-    item: u16,
-    subscripts: Option<Vec<Number<'a>>>,
-) -> Result<Judged<'a>, AllocError>
-    ensures { IfOk result (λ r. judged r
-        ≡ spec.item_at_judged scope.now (written name.entry) item (kind_and_owner scope.now.dictionary item) (numbers_made subscripts.entry)) }
-{
-    let place = sole(subscripts);
-    match kind_and_owner(scope.dictionary, item) {
-        Some((ItemKind::Number, owner)) => {
-            let field = field_at(scope, item, owner);
-            Ok(Judged::Number(number_item_at(alloc, name, field, place)?))
-        }
-        Some((ItemKind::Text, owner)) => {
-            let field = field_at(scope, item, owner);
-            Ok(Judged::Words(text_item_at(alloc, name, field, place)?))
-        }
-        _ => Ok(Judged::Unknown),
-    }
 }
 
 /// A numeric item without a subscript.

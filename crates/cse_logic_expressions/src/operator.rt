@@ -86,17 +86,20 @@ fn compared_numbers<'a>(
     alloc: Global,
     relation: Relation,
     x: Option<Number<'a>>,
-    y: Option<Number<'a>>,
-) -> Result<Option<Number<'a>>, AllocError>
-    ensures { IfOk result (λ r. option_map number r ≡ joined (typed.Compare relation) (option_map number x.entry) (option_map number y.entry)) }
+    y: Judged<'a>,
+) -> Result<Judged<'a>, AllocError>
+    ensures { IfOk result (λ r. judged r ≡ spec.AsNumber (compared relation (spec.AsNumber (option_map number x.entry)) (judged y.entry))) }
 {
+    let Judged::Number(y) = y else {
+        return Ok(Judged::Number(None));
+    };
     match x.zip(y) {
-        None => Ok(None),
-        Some((x, y)) => Ok(Some(Number::Compare(
-            Box::new(alloc, x)?,
-            relation,
-            Box::new(alloc, y)?,
-        ))),
+        None => Ok(Judged::Number(None)),
+        Some((x, y)) => {
+            let x = Box::new(alloc, x)?;
+            let y = Box::new(alloc, y)?;
+            Ok(Judged::Number(Some(Number::Compare(x, relation, y))))
+        }
     }
 }
 
@@ -104,17 +107,20 @@ fn compared_texts<'a>(
     alloc: Global,
     relation: Relation,
     x: Option<Words<'a>>,
-    y: Option<Words<'a>>,
-) -> Result<Option<Number<'a>>, AllocError>
-    ensures { IfOk result (λ r. option_map number r ≡ joined (typed.CompareTexts relation) (option_map words x.entry) (option_map words y.entry)) }
+    y: Judged<'a>,
+) -> Result<Judged<'a>, AllocError>
+    ensures { IfOk result (λ r. judged r ≡ spec.AsNumber (compared relation (spec.AsWords (option_map words x.entry)) (judged y.entry))) }
 {
+    let Judged::Words(y) = y else {
+        return Ok(Judged::Number(None));
+    };
     match x.zip(y) {
-        None => Ok(None),
-        Some((x, y)) => Ok(Some(Number::CompareTexts(
-            Box::new(alloc, x)?,
-            relation,
-            Box::new(alloc, y)?,
-        ))),
+        None => Ok(Judged::Number(None)),
+        Some((x, y)) => {
+            let x = Box::new(alloc, x)?;
+            let y = Box::new(alloc, y)?;
+            Ok(Judged::Number(Some(Number::CompareTexts(x, relation, y))))
+        }
     }
 }
 
@@ -124,13 +130,13 @@ pub fn compared<'a>(
     relation: Relation,
     x: Judged<'a>,
     y: Judged<'a>,
-) -> Result<Option<Number<'a>>, AllocError>
-    ensures { IfOk result (λ r. option_map number r ≡ compared relation (judged x.entry) (judged y.entry)) }
+) -> Result<Judged<'a>, AllocError>
+    ensures { IfOk result (λ r. judged r ≡ spec.AsNumber (compared relation (judged x.entry) (judged y.entry))) }
 {
-    match (x, y) {
-        (Judged::Number(x), Judged::Number(y)) => compared_numbers(alloc, relation, x, y),
-        (Judged::Words(x), Judged::Words(y)) => compared_texts(alloc, relation, x, y),
-        _ => Ok(None),
+    match x {
+        Judged::Number(x) => compared_numbers(alloc, relation, x, y),
+        Judged::Words(x) => compared_texts(alloc, relation, x, y),
+        Judged::Unknown => Ok(Judged::Number(None)),
     }
 }
 

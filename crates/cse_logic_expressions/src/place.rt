@@ -1,17 +1,21 @@
 //! The places of items that values are put into.
 
-ghost use Rattle.std.specs.Prelude.{◌≡◌};
+ghost use Rattle.std.specs.Prelude.{◌≡◌, IfOk};
 ghost use Rattle.std.specs.Option.{option_map};
 ghost use Rattle.cse_logic_tree.specs.Typed as typed;
-ghost use Rattle.cse_logic_tree.specs.Typed.{number};
+ghost use Rattle.cse_logic_names.specs.Scope.{found};
+ghost use Rattle.cse_logic_expressions.specs.Judge as judge;
 ghost use Rattle.cse_logic_expressions.specs.JudgeStatement as spec;
 ghost use Rattle.cse_logic_expressions.specs.JudgeStatement.{placed};
-ghost use Rattle.cse_logic_names.specs.Walk.{joined};
-ghost use Rattle.cse_logic_expressions.specs.Clauses.{numbers_made};
+ghost use Rattle.cse_logic_expressions.specs.Clauses.{all_judged, place_count, place_judged, item_place};
 
+use crate::assign::count_of;
+use crate::expression::all_values;
 use crate::item::{field_at, sole};
 use cse_logic_names::scope::Scope;
-use cse_logic_tree::{Field, Found, Number, Which};
+use cse_logic_tree::{Field, Found, Which};
+use cse_syntax_tree::{Expression, Place};
+use std::alloc::{AllocError, Global};
 
 /// The occurrence that is found.
 fn here<'a>(found: Option<Found>) -> Option<Which<'a>>
@@ -23,54 +27,52 @@ fn here<'a>(found: Option<Found>) -> Option<Which<'a>>
     }
 }
 
-fn at<'a>(place: Option<Number<'a>>) -> Option<Which<'a>>
-    ensures { option_map typed.which result ≡ option_map typed.At (option_map number place.entry) }
+fn at<'a>(
+    alloc: Global,
+    scope: &Scope<'_>,
+    subscripts: &Vec<Expression<'a>>,
+) -> Result<Option<Which<'a>>, AllocError>
+    ensures { IfOk result (λ r. option_map typed.which r ≡ option_map typed.At (judge.sole (all_judged scope.now subscripts.now.items))) }
 {
-    match place {
-        None => None,
-        Some(place) => Some(Which::At(place)),
+    let found = all_values(alloc, scope, subscripts)?;
+    match sole(found) {
+        None => Ok(None),
+        Some(place) => Ok(Some(Which::At(place))),
     }
 }
 
 /// Which occurrence is meant.
 fn which_at<'a>(
-    count: usize,
-    found: Option<Found>,
-    subscripts: Option<Vec<Number<'a>>>,
-) -> Option<Which<'a>>
-    ensures { option_map typed.which result ≡ spec.which_at count found (numbers_made subscripts.entry) }
+    alloc: Global,
+    scope: &Scope<'_>,
+    place: &Place<'a>,
+    owner: u8,
+) -> Result<Option<Which<'a>>, AllocError>
+    ensures { IfOk result (λ r. option_map typed.which r
+        ≡ spec.which_at (place_count place.now) (found scope.now owner) (place_judged scope.now place.now)) }
 {
-    if count == 0 {
-        here(found)
+    if count_of(&place.subscripts) == 0 {
+        Ok(here(scope.found(u16::from(owner))))
     } else {
-        at(sole(subscripts))
-    }
-}
-
-fn place_of<'a>(field: Option<Field>, which: Option<Which<'a>>) -> Option<(Field, Which<'a>)>
-    ensures { option_map placed result ≡ joined (λ f w. (f, w)) field (option_map typed.which which.entry) }
-{
-    match field {
-        None => None,
-        Some(field) => match which {
-            None => None,
-            Some(which) => Some((field, which)),
-        },
+        at(alloc, scope, &place.subscripts)
     }
 }
 
 /// A place of an item of this record.
 pub fn place_at<'a>(
+    alloc: Global,
     scope: &Scope<'_>,
-    count: usize,
+    place: &Place<'a>,
     item: u16,
     owner: u8,
-    subscripts: Option<Vec<Number<'a>>>,
-) -> Option<(Field, Which<'a>)>
-    ensures { option_map placed result ≡ spec.place_at scope.now count item owner (numbers_made subscripts.entry) }
+) -> Result<Option<(Field, Which<'a>)>, AllocError>
+    ensures { IfOk result (λ r. option_map placed r ≡ item_place scope.now place.now item owner) }
 {
-    let field = field_at(scope, item, owner);
-    let found = scope.found(owner as u16);
-    let which = which_at(count, found, subscripts);
-    place_of(field, which)
+    let Some(field) = field_at(scope, item, owner) else {
+        return Ok(None);
+    };
+    match which_at(alloc, scope, place, owner)? {
+        None => Ok(None),
+        Some(which) => Ok(Some((field, which))),
+    }
 }
