@@ -3,7 +3,6 @@
 ghost use Rattle.std.specs.Prelude.{◌≡◌, ◌≤◌, ◌^◌, length, MatchOption, true, IfOk, OnOk, IfErr};
 ghost use Rattle.std.specs.Bool.{Decides};
 ghost use Rattle.cse_syntax_tree.specs.Leaf.{text_of};
-ghost use Rattle.cse_image.specs.Spelling.{TextFits};
 ghost use Rattle.cse_compile_code.specs.Wide as w;
 ghost use Rattle.cse_compile.specs.Stands.{Stands, AllStand, IsMore};
 ghost use Rattle.std.specs.Str.{IsUtf8};
@@ -14,8 +13,8 @@ ghost use Rattle.cse_compile.specs.Room.{CannotHold, LacksRoom, with_entry};
 use crate::error::{BEYOND, CompileError, WANT_OF_MEMORY};
 use cse_compile_code::Wide;
 use cse_compile_pools::{PoolError, Pools};
+use cse_image::text_fits;
 use cse_image_parts::instruction::{Instr, Op};
-use cse_image_parts::texts::{is_plain_text, is_short_text};
 use std::alloc::Global;
 
 fn pool_error(error: PoolError) -> CompileError
@@ -38,13 +37,6 @@ fn field_of(c: usize) -> Result<u32, CompileError>
         Ok(c) => Ok(c),
         Err(_) => Err(BEYOND),
     }
-}
-
-/// An image may have this text.
-fn text_fits(text: &str) -> bool
-    ensures { Decides result (TextFits text.now) }
-{
-    text.len() < 65536 && is_plain_text(text) && is_short_text(text)
 }
 
 /// What stands between the quotes of a text.

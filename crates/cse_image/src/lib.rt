@@ -19,6 +19,7 @@ mod sections;
 mod view;
 mod writing;
 
+pub use checking::text_fits;
 pub use code::{Code, Owned};
 pub use cse_image_parts::entries::{
     Ambient, Array, Event, EventCode, EventEntry, Gift, GlobalKind, GlobalVariable, Local,
