@@ -6,3 +6,4 @@ pub mod Decks
 pub mod Operators
 pub mod Numbers
 pub mod Least
+pub mod Clauses

@@ -7,11 +7,11 @@ ghost use Rattle.cse_syntax_tree.specs.Tree.{written, expr, exprs, operations, o
 ghost use Rattle.cse_logic_names.specs.Scope as scopes;
 ghost use Rattle.cse_logic_names.specs.WellTyped.{may_divide, value_of};
 ghost use Rattle.cse_logic_names.specs.Walk.{is_there};
-ghost use Rattle.cse_logic_faults.specs.Faults as faults;
 ghost use Rattle.cse_logic_faults.specs.FaultsOfExpressions as spec;
 ghost use Rattle.cse_logic_faults.specs.FaultsOfStatements.{digits_faults};
 ghost use Rattle.cse_logic_faults.specs.Listed.{sort};
 ghost use Rattle.cse_logic_faults.specs.Operators.{operation_faults};
+ghost use Rattle.cse_logic_faults.specs.Clauses.{compared_faults};
 
 use crate::counts::Counts;
 use crate::found::Found;
@@ -77,7 +77,7 @@ fn both_kinds(
     left: &Expression<'_>,
     right: &Expression<'_>,
 ) -> Result<(), AllocError>
-    ensures { OnOk result (found.new ≡ found.old ++ spec.kinds_faults (faults.sort_of scope.now (expr left.now)) (faults.text_token (expr left.now)) (faults.sort_of scope.now (expr right.now)) (faults.text_token (expr right.now))) }
+    ensures { OnOk result (found.new ≡ found.old ++ compared_faults scope.now left.now right.now) }
 {
     let earlier = kind_of(scope, left);
     let later = kind_of(scope, right);

@@ -8,6 +8,7 @@ ghost use Rattle.cse_logic_names.specs.Scope as scopes;
 ghost use Rattle.cse_logic_names.specs.WellTyped as well;
 ghost use Rattle.cse_logic_faults.specs.Faults as faults;
 ghost use Rattle.cse_logic_faults.specs.FaultsOfStatements as spec;
+ghost use Rattle.cse_logic_faults.specs.Clauses.{limits_faults};
 
 use crate::expression::digits;
 use crate::found::Found;
@@ -71,7 +72,7 @@ fn step(found: &mut Found, by: Option<Lexeme<'_>>) -> Result<(), AllocError>
 /// The limits of a `do`, and what each turn adds.
 #[tactic(auto, using(crate::proofs::Lists::behind))]
 fn limits(scope: &Scope<'_>, found: &mut Found, x: Counting<'_>) -> Result<(), AllocError>
-    ensures { OnOk result (found.new ≡ found.old ++ (spec.limit_faults scope.now (syntax.limit x.entry.from) ++ (spec.limit_faults scope.now (syntax.limit x.entry.to) ++ spec.by_faults (option_map written x.entry.by)))) }
+    ensures { OnOk result (found.new ≡ found.old ++ limits_faults scope.now x.entry) }
 {
     limit(scope, found, x.from)?;
     limit(scope, found, x.to)?;

@@ -4,7 +4,6 @@ ghost use Rattle.std.specs.Prelude.{◌≡◌, ◌≤◌, ◌++◌, ◌==◌, fa
 ghost use Rattle.std.specs.Option.{option_map};
 ghost use Rattle.cse_image_parts.specs.Placeholders.{message_kinds};
 ghost use Rattle.cse_syntax_tree.specs.Leaf as leaf;
-ghost use Rattle.cse_syntax_tree.specs.First.{message_token};
 ghost use Rattle.cse_syntax_tree.specs.Tree.{expr, exprs, message};
 ghost use Rattle.cse_logic_names.specs.MessageFile.{MessageText};
 ghost use Rattle.cse_logic_names.specs.WellTyped as well;
@@ -14,6 +13,7 @@ ghost use Rattle.cse_logic_faults.specs.FaultsOfStatements as spec;
 ghost use Rattle.cse_logic_faults.specs.Operators.{argument_faults};
 ghost use Rattle.cse_logic_faults.specs.Listed.{sort};
 ghost use Rattle.cse_logic_faults.specs.Numbers.{ranged};
+ghost use Rattle.cse_logic_faults.specs.Clauses.{filled_faults, said_faults};
 
 use crate::counts::Counts;
 use crate::expression::expression;
@@ -180,7 +180,7 @@ fn filled(
     token: usize,
     values: &Vec<Expression<'_>>,
 ) -> Result<(), AllocError>
-    ensures { OnOk result (found.new ≡ found.old ++ spec.message_faults counts.now scope.now token (Some (message_kinds text.now)) (exprs (map expr values.now.items))) }
+    ensures { OnOk result (found.new ≡ found.old ++ filled_faults counts.now scope.now token text.now values.now.items) }
 {
     if has_values(text, values) {
         arguments(scope, counts, found, text, values)
@@ -197,7 +197,7 @@ pub fn err_msg(
     said: Message<'_>,
     values: &Vec<Expression<'_>>,
 ) -> Result<(), AllocError>
-    ensures { OnOk result (found.new ≡ found.old ++ spec.message_faults counts.now scope.now (message_token (message said.entry)) (well.kinds_of scope.now.messages (message said.entry)) (exprs (map expr values.now.items))) }
+    ensures { OnOk result (found.new ≡ found.old ++ said_faults counts.now scope.now said.entry values.now.items) }
 {
     match text_meant(scope.messages, said) {
         None => unfilled(scope, counts, found, UNKNOWN_NAME, said.token(), values),

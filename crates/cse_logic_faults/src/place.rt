@@ -1,6 +1,6 @@
 //! The faults of what a value is put into, and of calls that stand alone.
 
-ghost use Rattle.std.specs.Prelude.{◌≡◌, ◌++◌, ◌==◌, not, OnOk};
+ghost use Rattle.std.specs.Prelude.{◌≡◌, ◌++◌, ◌==◌, OnOk};
 ghost use Rattle.std.specs.List.{list_any};
 ghost use Rattle.cse_syntax_tree.specs.Tree.{written};
 ghost use Rattle.cse_logic_names.specs.Scope as scopes;
@@ -8,6 +8,7 @@ ghost use Rattle.cse_logic_faults.specs.Faults as faults;
 ghost use Rattle.cse_logic_faults.specs.FaultsOfExpressions as expressions;
 ghost use Rattle.cse_logic_faults.specs.FaultsOfStatements as spec;
 ghost use Rattle.cse_logic_faults.specs.Listed.{sort};
+ghost use Rattle.cse_logic_faults.specs.Clauses.{item_faults, name_faults, result_faults, text_item_faults, variable_faults};
 
 use crate::counts::Counts;
 use crate::expression::text;
@@ -125,7 +126,7 @@ fn text_item(
     owner: u8,
     kind: Kind,
 ) -> Result<(), AllocError>
-    ensures { OnOk result (found.new ≡ found.old ++ (spec.place_faults scope.now token count owner ++ faults.unless (not (faults.is_number (sort kind))) 44 token)) }
+    ensures { OnOk result (found.new ≡ found.old ++ text_item_faults scope.now token count owner (sort kind)) }
 {
     place(scope, found, token, count, owner)?;
     found.unless(!is_number(kind), OTHER_KIND, token)
@@ -140,7 +141,7 @@ fn assign_item(
     item: u16,
     kind: Kind,
 ) -> Result<(), AllocError>
-    ensures { OnOk result (found.new ≡ found.old ++ spec.assign_item_faults scope.now tokens.0 count (scopes.kind_and_owner scope.now.dictionary item) (sort kind) tokens.1) }
+    ensures { OnOk result (found.new ≡ found.old ++ item_faults scope.now tokens count item (sort kind)) }
 {
     match kind_and_owner(scope.dictionary, item) {
         None => found.add(UNKNOWN_NAME, tokens.0),
@@ -162,7 +163,7 @@ fn assign_variable(
     variable: Variable,
     kind: Kind,
 ) -> Result<(), AllocError>
-    ensures { OnOk result (found.new ≡ found.old ++ ((faults.unless (count == 0) 44 tokens.0 ++ faults.unless (scopes.is_free scope.now.loops variable) 47 tokens.0) ++ expressions.text_faults (sort kind) tokens.1)) }
+    ensures { OnOk result (found.new ≡ found.old ++ variable_faults scope.now tokens count variable (sort kind)) }
 {
     found.unless(count == 0, OTHER_KIND, tokens.0)?;
     found.unless(is_free(&scope.loops, variable), LOOP_VARIABLE, tokens.0)?;
@@ -199,7 +200,7 @@ fn assign_result(
     function: usize,
     kind: Kind,
 ) -> Result<(), AllocError>
-    ensures { OnOk result (found.new ≡ found.old ++ (spec.assign_result_faults scope.now tokens.0 count (scopes.own_result scope.now.routine function) ++ expressions.text_faults (sort kind) tokens.1)) }
+    ensures { OnOk result (found.new ≡ found.old ++ result_faults scope.now tokens count function (sort kind)) }
 {
     own(
         scope,
@@ -237,7 +238,7 @@ pub fn assign(
     kind: Kind,
     token: usize,
 ) -> Result<(), AllocError>
-    ensures { OnOk result (found.new ≡ found.old ++ spec.assign_faults counts.now scope.now name.entry.token count (scopes.meant scope.now (written name.entry)) (sort kind) token) }
+    ensures { OnOk result (found.new ≡ found.old ++ name_faults counts.now scope.now name.entry count (sort kind) token) }
 {
     let tokens = (name.token, token);
     match scope.meant(name) {

@@ -9,6 +9,7 @@ ghost use Rattle.cse_logic_names.specs.Scope as scopes;
 ghost use Rattle.cse_logic_names.specs.WellTyped as well;
 ghost use Rattle.cse_logic_faults.specs.FaultsOfExpressions as spec;
 ghost use Rattle.cse_logic_faults.specs.Decks as decks;
+ghost use Rattle.cse_logic_faults.specs.Clauses.{looked_for_faults};
 
 use crate::found::Found;
 use crate::name::{is_found, is_present, number_item};
@@ -146,7 +147,7 @@ pub fn member(
     name: Lexeme<'_>,
     set_name: Option<Lexeme<'_>>,
 ) -> Result<(), AllocError>
-    ensures { OnOk result (found.new ≡ found.old ++ spec.member_faults scope.now (written name.entry) (option_map written set_name.entry) (scopes.meant scope.now (written name.entry))) }
+    ensures { OnOk result (found.new ≡ found.old ++ looked_for_faults scope.now name.entry set_name.entry) }
 {
     match scope.meant(name) {
         Some(Meaning::Item(item)) => {

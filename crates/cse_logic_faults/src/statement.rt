@@ -2,10 +2,11 @@
 
 ghost use Rattle.std.specs.Prelude.{◌≡◌, ◌++◌, false, map, drop, length, OnOk};
 ghost use Rattle.cse_syntax_tree.specs.Tree as syntax;
-ghost use Rattle.cse_syntax_tree.specs.Tree.{written, expr, exprs, stmt, arm_tree};
+ghost use Rattle.cse_syntax_tree.specs.Tree.{written, expr, stmt, arm_tree};
 ghost use Rattle.cse_logic_names.specs.Scope as scopes;
 ghost use Rattle.cse_logic_faults.specs.FaultsOfStatements as spec;
 ghost use Rattle.cse_logic_faults.specs.Operators.{arm_faults};
+ghost use Rattle.cse_logic_faults.specs.Clauses.{assigned, called, imputed};
 
 use crate::counts::Counts;
 use crate::expression::{expression, number, numbers};
@@ -29,7 +30,7 @@ fn assignment(
     place: &Place<'_>,
     value: &Expression<'_>,
 ) -> Result<(), AllocError>
-    ensures { OnOk result (found.new ≡ found.old ++ spec.stmt_faults counts.now scope.now (syntax.Assign (written place.now.name) (exprs (map expr place.now.subscripts.items)) (expr value.now))) }
+    ensures { OnOk result (found.new ≡ found.old ++ spec.stmt_faults counts.now scope.now (assigned place.now value.now)) }
 {
     numbers(scope, counts, found, &place.subscripts)?;
     expression(scope, counts, found, false, value)?;
@@ -55,7 +56,7 @@ fn imputation(
     place: &Place<'_>,
     value: &Expression<'_>,
 ) -> Result<(), AllocError>
-    ensures { OnOk result (found.new ≡ found.old ++ spec.stmt_faults counts.now scope.now (syntax.Impute (written place.now.name) (exprs (map expr place.now.subscripts.items)) (expr value.now))) }
+    ensures { OnOk result (found.new ≡ found.old ++ spec.stmt_faults counts.now scope.now (imputed place.now value.now)) }
 {
     numbers(scope, counts, found, &place.subscripts)?;
     number(scope, counts, found, false, value)?;
@@ -71,7 +72,7 @@ fn call(
     name: Lexeme<'_>,
     arguments: &Vec<Expression<'_>>,
 ) -> Result<(), AllocError>
-    ensures { OnOk result (found.new ≡ found.old ++ spec.stmt_faults counts.now scope.now (syntax.Call (written name.entry) (exprs (map expr arguments.now.items)))) }
+    ensures { OnOk result (found.new ≡ found.old ++ spec.stmt_faults counts.now scope.now (called name.entry arguments.now.items)) }
 {
     numbers(scope, counts, found, arguments)?;
     alone(scope, counts, found, name, arguments.len())
