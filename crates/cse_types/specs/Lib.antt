@@ -9,3 +9,4 @@ pub mod Answer
 pub mod SourceFaults
 pub mod CountsBehind
 pub mod TheFault
+pub mod Clauses

@@ -10,6 +10,7 @@ ghost use Rattle.cse_logic_names.specs.WellTyped as well;
 ghost use Rattle.cse_logic_expressions.specs.JudgeStatement.{whole_judged};
 ghost use Rattle.cse_types.specs.JudgeTree as spec;
 ghost use Rattle.cse_logic_names.specs.Walk.{is_there, joined};
+ghost use Rattle.cse_types.specs.Clauses.{dimensions_made, wholes_made};
 
 use cse_dict::Dictionary;
 use cse_logic_expressions::expression::written_number;
@@ -127,7 +128,7 @@ pub fn dimensions<'a>(
     scope: &Scope<'_>,
     all: &Vec<ParsedDimension<'a>>,
 ) -> Result<Option<Vec<Dimension<'a>>>, AllocError>
-    ensures { IfOk result (λ r. option_map (λ v. map typed.dimension v.items) r ≡ spec.dimensions_judged scope.now (map syntax.dimension all.now.items)) }
+    ensures { IfOk result (λ r. dimensions_made r ≡ spec.dimensions_judged scope.now (map syntax.dimension all.now.items)) }
 {
     let mut found = Vec::new(alloc);
     let mut is_sound = true;
@@ -148,7 +149,7 @@ fn cell<'a>(x: &Literal<'a>) -> Option<Whole<'a>>
 
 /// The cells at the start, or none where one isn't sound.
 fn cells<'a>(alloc: Global, all: &Vec<Literal<'a>>) -> Result<Option<Vec<Whole<'a>>>, AllocError>
-    ensures { IfOk result (λ r. option_map (λ v. map typed.whole v.items) r ≡ spec.cells_judged (map syntax.literal all.now.items)) }
+    ensures { IfOk result (λ r. wholes_made r ≡ spec.cells_judged (map syntax.literal all.now.items)) }
 {
     let mut found = Vec::new(alloc);
     let mut is_sound = true;
@@ -165,7 +166,7 @@ fn array_of<'a>(
     dimensions: Option<Vec<Dimension<'a>>>,
     cells: Option<Vec<Whole<'a>>>,
 ) -> Option<Array<'a>>
-    ensures { option_map typed.array result ≡ joined (spec.array_of (syntax.array x.now)) (option_map (λ v. map typed.dimension v.items) dimensions.entry) (option_map (λ v. map typed.whole v.items) cells.entry) }
+    ensures { option_map typed.array result ≡ joined (spec.array_of (syntax.array x.now)) (dimensions_made dimensions.entry) (wholes_made cells.entry) }
 {
     match dimensions {
         None => None,

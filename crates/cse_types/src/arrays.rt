@@ -1,10 +1,9 @@
 //! The dimensions of all arrays, which are known before anything else is judged.
 
 ghost use Rattle.std.specs.Prelude.{◌≡◌, ◌++◌, ◌∷◌, [], map, IfOk, OnOk};
-ghost use Rattle.std.specs.Option.{option_map};
 ghost use Rattle.cse_syntax_tree.specs.Tree as syntax;
-ghost use Rattle.cse_logic_tree.specs.Typed as typed;
 ghost use Rattle.cse_types.specs.JudgeTree as spec;
+ghost use Rattle.cse_types.specs.Clauses.{dimensions_made, each_made};
 
 use crate::array::dimensions;
 use cse_logic_names::scope::Scope;
@@ -18,7 +17,7 @@ fn dimensions_alone<'a>(
     scope: &Scope<'_>,
     x: &Array<'a>,
 ) -> Result<Option<Vec<Dimension<'a>>>, AllocError>
-    ensures { IfOk result (λ r. option_map (λ v. map typed.dimension v.items) r ≡ spec.dimensions_judged scope.now (map syntax.dimension x.now.dimensions.items)) }
+    ensures { IfOk result (λ r. dimensions_made r ≡ spec.dimensions_judged scope.now (map syntax.dimension x.now.dimensions.items)) }
 {
     dimensions(alloc, scope, &x.dimensions)
 }
@@ -31,7 +30,7 @@ fn add<'a>(
     found: &mut Vec<Option<Vec<Dimension<'a>>>>,
     x: &Declaration<'a>,
 ) -> Result<(), AllocError>
-    ensures { OnOk result (map (option_map (λ v. map typed.dimension v.items)) found.new.items ≡ map (option_map (λ v. map typed.dimension v.items)) found.old.items ++ spec.arrays_judged scope.now (syntax.declaration x.now ∷ [])) }
+    ensures { OnOk result (each_made found.new.items ≡ each_made found.old.items ++ spec.arrays_judged scope.now (syntax.declaration x.now ∷ [])) }
 {
     match x {
         Declaration::Numeric(_) => Ok(()),
@@ -50,7 +49,7 @@ pub fn arrays<'a>(
     scope: &Scope<'_>,
     all: &Vec<Declaration<'a>>,
 ) -> Result<Vec<Option<Vec<Dimension<'a>>>>, AllocError>
-    ensures { IfOk result (λ v. map (option_map (λ v. map typed.dimension v.items)) v.items ≡ spec.arrays_judged scope.now (map syntax.declaration all.now.items)) }
+    ensures { IfOk result (λ v. each_made v.items ≡ spec.arrays_judged scope.now (map syntax.declaration all.now.items)) }
 {
     let mut found = Vec::new(alloc);
     'all: for x in all {

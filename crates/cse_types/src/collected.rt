@@ -2,11 +2,11 @@
 
 ghost use Rattle.std.specs.Prelude.{◌≡◌, ◌++◌, [], map, IfOk, OnOk};
 ghost use Rattle.cse_syntax_tree.specs.Tree as syntax;
-ghost use Rattle.cse_logic_names.specs.WellTyped as well;
 ghost use Rattle.cse_logic_faults.specs.Listed.{listed};
 ghost use Rattle.cse_types.specs.CountsBehind.{count_behind};
 ghost use Rattle.cse_types.specs.JudgeTree as judge;
 ghost use Rattle.cse_types.specs.SourceFaults as spec;
+ghost use Rattle.cse_types.specs.Clauses.{all_faults, globals_of};
 
 use crate::declared::all_declarations;
 use crate::new_names::all_names;
@@ -53,7 +53,7 @@ fn counts_in(alloc: Global, all: &Vec<Declaration<'_>>) -> Result<Counts, AllocE
 
 /// Of a tree.
 fn counts_of(alloc: Global, tree: &Tree<'_>) -> Result<Counts, AllocError>
-    ensures { IfOk result (λ c. c ≡ spec.counts_in (well.all_declarations (syntax.tree tree.now).globals)) }
+    ensures { IfOk result (λ c. c ≡ spec.counts_in (globals_of tree.now)) }
 {
     match &tree.globals {
         None => Ok(Counts::new(alloc)),
@@ -70,7 +70,7 @@ fn declared(
     found: &mut Found,
     all: &Vec<Declaration<'_>>,
 ) -> Result<(), AllocError>
-    ensures found { OnOk result (found.new ≡ found.old ++ (spec.names_faults scope.old.dictionary [] [] (map syntax.declaration all.now.items) ++ spec.declarations_faults counts.now scope.old 0 (map syntax.declaration all.now.items))) }
+    ensures found { OnOk result (found.new ≡ found.old ++ all_faults counts.now scope.old (map syntax.declaration all.now.items)) }
     ensures behind { OnOk result (scope.new ≡ judge.behind_all scope.old 0 (map syntax.declaration all.now.items)) }
 {
     let mut told = Vec::new(alloc);
@@ -86,8 +86,8 @@ fn globals(
     found: &mut Found,
     tree: &Tree<'_>,
 ) -> Result<(), AllocError>
-    ensures found { OnOk result (found.new ≡ found.old ++ (spec.names_faults scope.old.dictionary [] [] (well.all_declarations (syntax.tree tree.now).globals) ++ spec.declarations_faults counts.now scope.old 0 (well.all_declarations (syntax.tree tree.now).globals))) }
-    ensures behind { OnOk result (scope.new ≡ judge.behind_all scope.old 0 (well.all_declarations (syntax.tree tree.now).globals)) }
+    ensures found { OnOk result (found.new ≡ found.old ++ all_faults counts.now scope.old (globals_of tree.now)) }
+    ensures behind { OnOk result (scope.new ≡ judge.behind_all scope.old 0 (globals_of tree.now)) }
 {
     match &tree.globals {
         None => found.none(),
@@ -102,7 +102,7 @@ fn known<'a>(
     messages: &'a Messages,
     tree: &Tree<'a>,
 ) -> Result<Scope<'a>, AllocError>
-    ensures { IfOk result (λ s. s ≡ spec.first_known dictionary.now messages.now (well.all_declarations (syntax.tree tree.now).globals)) }
+    ensures { IfOk result (λ s. s ≡ spec.first_known dictionary.now messages.now (globals_of tree.now)) }
 {
     let table = declared_names(alloc, dictionary, tree)?;
     start(alloc, dictionary, messages, table.names, tree)

@@ -9,6 +9,7 @@ ghost use Rattle.cse_logic_names.specs.WellTyped.{declared_messages};
 ghost use Rattle.cse_types.specs.JudgeTree as spec;
 ghost use Rattle.cse_types.specs.Told.{told_of};
 ghost use Rattle.cse_logic_names.specs.Walk.{is_there};
+ghost use Rattle.cse_types.specs.Clauses.{declarations_made};
 
 use crate::array::{array, size_of};
 use crate::function::function;
@@ -92,7 +93,7 @@ pub fn declarations<'a>(
     told: &mut Vec<Told<'a>>,
     all: &Vec<Parsed<'a>>,
 ) -> Result<Option<Vec<Declaration<'a>>>, AllocError>
-    ensures value { IfOk result (λ r. option_map (λ v. map typed.declaration v.items) r ≡ spec.declarations_judged scope.old (length told.old.items) (map syntax.declaration all.now.items)) }
+    ensures value { IfOk result (λ r. declarations_made r ≡ spec.declarations_judged scope.old (length told.old.items) (map syntax.declaration all.now.items)) }
     ensures behind { OnOk result (scope.new ≡ spec.behind_all scope.old (length told.old.items) (map syntax.declaration all.now.items)) }
     ensures told { OnOk result (map told_of told.new.items ≡ map told_of told.old.items ++ declared_messages (map syntax.declaration all.now.items)) }
 {

@@ -11,6 +11,7 @@ ghost use Rattle.cse_types.specs.Fresh.{body_scope};
 ghost use Rattle.cse_types.specs.JudgeTree as judge;
 ghost use Rattle.cse_types.specs.SourceFaults as spec;
 ghost use Rattle.cse_types.specs.Told.{told_of};
+ghost use Rattle.cse_types.specs.Clauses.{body_faults_of, faults_behind};
 
 use crate::declaration::declaration;
 use crate::function::parameters;
@@ -157,7 +158,7 @@ fn function_body(
     all: &Vec<Parameter<'_>>,
     body: &Vec<Statement<'_>>,
 ) -> Result<(), AllocError>
-    ensures found { OnOk result (found.new ≡ found.old ++ stmts_faults counts.now (spec.parameters_scope scope.old (map syntax.parameter all.now.items)) (syntax.block body.now.items)) }
+    ensures found { OnOk result (found.new ≡ found.old ++ body_faults_of counts.now scope.old all.now.items body.now.items) }
     ensures same { OnOk result (scope.new ≡ scope.old) }
 {
     let fresh = parameters(alloc, scope, all)?;
@@ -210,7 +211,7 @@ pub fn all_declarations<'a>(
     told: &mut Vec<Told<'a>>,
     all: &Vec<Declaration<'a>>,
 ) -> Result<(), AllocError>
-    ensures found { OnOk result (found.new ≡ found.old ++ spec.declarations_faults counts.now scope.old (length told.old.items) (map syntax.declaration all.now.items)) }
+    ensures found { OnOk result (found.new ≡ found.old ++ faults_behind counts.now scope.old (length told.old.items) all.now.items) }
     ensures behind { OnOk result (scope.new ≡ judge.behind_all scope.old (length told.old.items) (map syntax.declaration all.now.items)) }
 {
     'all: for x in all {

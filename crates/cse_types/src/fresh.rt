@@ -23,6 +23,7 @@ pub struct Fresh {
 }
 
 impl Fresh {
+    /// No names.
     pub fn new(alloc: Global) -> Fresh
         ensures { result ≡ no_names }
     {

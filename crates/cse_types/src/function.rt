@@ -4,7 +4,6 @@ ghost use Rattle.std.specs.Prelude.{◌≡◌, ◌++◌, ◌∷◌, [], map, len
 ghost use Rattle.std.specs.Option.{option_map};
 ghost use Rattle.cse_dict.specs.Keys.{kept_name};
 ghost use Rattle.cse_syntax_tree.specs.Tree as syntax;
-ghost use Rattle.cse_syntax_tree.specs.Tree.{written};
 ghost use Rattle.cse_logic_tree.specs.Typed as typed;
 ghost use Rattle.cse_types.specs.Told.{told_of};
 ghost use Rattle.cse_logic_names.specs.Uses.{facts_of};
@@ -12,7 +11,7 @@ ghost use Rattle.cse_logic_names.specs.WellTyped.{messages_of, parameter_names};
 ghost use Rattle.cse_logic_expressions.specs.JudgeStatement.{judge_block};
 ghost use Rattle.cse_types.specs.JudgeTree as spec;
 ghost use Rattle.cse_types.specs.Fresh.{body_scope, fresh_names, with_fresh};
-ghost use Rattle.cse_logic_names.specs.Walk.{only_if};
+ghost use Rattle.cse_types.specs.Clauses.{behind_judged, block_made, function_made, judged_function};
 
 use crate::fresh::{Fresh, is_new};
 use crate::statement::block;
@@ -63,7 +62,7 @@ fn body_in<'a>(
     names: Parameters,
     body: &Vec<Parsed<'a>>,
 ) -> Result<Option<Vec<Statement<'a>>>, AllocError>
-    ensures value { IfOk result (λ r. option_map (λ v. typed.block v.items) r ≡ judge_block (body_scope scope.old names) (length told.old.items) (syntax.block body.now.items)) }
+    ensures value { IfOk result (λ r. block_made r ≡ judge_block (body_scope scope.old names) (length told.old.items) (syntax.block body.now.items)) }
     ensures told { OnOk result (map told_of told.new.items ≡ map told_of told.old.items ++ messages_of (syntax.block body.now.items)) }
     ensures same { OnOk result (scope.new ≡ scope.old) }
 {
@@ -85,7 +84,7 @@ fn made<'a>(
     parameters: &Vec<Parameter<'a>>,
     body: Option<Vec<Statement<'a>>>,
 ) -> Result<Option<(Function<'a>, Facts)>, AllocError>
-    ensures function { IfOk result (λ r. option_map (λ p. typed.function p.0) r ≡ only_if is_sound (option_map (spec.function_of scope.now (written name.entry) (map syntax.parameter parameters.now.items)) (option_map (λ v. typed.block v.items) body.entry))) }
+    ensures function { IfOk result (λ r. option_map (λ p. typed.function p.0) r ≡ function_made scope.now is_sound name.entry parameters.now.items body.entry) }
     ensures facts { IfOk result (λ r. option_map (λ p. p.1) r ≡ option_map (λ p. facts_of scope.now.functions (typed.function p.0)) r) }
 {
     if !is_sound {
@@ -135,8 +134,8 @@ pub fn function<'a>(
     all: &Vec<Parameter<'a>>,
     body: &Vec<Parsed<'a>>,
 ) -> Result<Option<Function<'a>>, AllocError>
-    ensures value { IfOk result (λ r. option_map typed.function r ≡ spec.function_judged scope.old (length told.old.items) (written name.entry) (map syntax.parameter all.now.items) (syntax.block body.now.items)) }
-    ensures behind { OnOk result (scope.new ≡ spec.behind_function scope.old (spec.function_judged scope.old (length told.old.items) (written name.entry) (map syntax.parameter all.now.items) (syntax.block body.now.items))) }
+    ensures value { IfOk result (λ r. option_map typed.function r ≡ judged_function scope.old (length told.old.items) name.entry all.now.items body.now.items) }
+    ensures behind { OnOk result (scope.new ≡ behind_judged scope.old (length told.old.items) name.entry all.now.items body.now.items) }
     ensures told { OnOk result (map told_of told.new.items ≡ map told_of told.old.items ++ messages_of (syntax.block body.now.items)) }
 {
     let fresh = parameters(alloc, scope, all)?;

@@ -7,6 +7,7 @@ ghost use Rattle.cse_syntax_tree.specs.Tree.{written};
 ghost use Rattle.cse_logic_names.specs.Scope as scopes;
 ghost use Rattle.cse_logic_names.specs.WellTyped.{procedure_scope};
 ghost use Rattle.cse_types.specs.SourceFaults as spec;
+ghost use Rattle.cse_types.specs.Clauses.{two_parts};
 
 use crate::new_names::add;
 use crate::procedure::{meant_by, owner_meant};
@@ -104,7 +105,7 @@ fn both_parts(
     xs: &Vec<Statement<'_>>,
     ys: &Vec<Statement<'_>>,
 ) -> Result<(), AllocError>
-    ensures found { OnOk result (found.new ≡ found.old ++ spec.body_faults counts.now scope.old (syntax.Both (syntax.block xs.now.items) (syntax.block ys.now.items))) }
+    ensures found { OnOk result (found.new ≡ found.old ++ spec.body_faults counts.now scope.old (two_parts xs.now.items ys.now.items)) }
     ensures same { OnOk result (scope.new ≡ scope.old) }
 {
     block(scope, counts, found, xs)?;

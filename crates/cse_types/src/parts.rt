@@ -12,8 +12,9 @@ ghost use Rattle.cse_types.specs.JudgeTree as judge;
 ghost use Rattle.cse_types.specs.Parts.{parts_tree};
 ghost use Rattle.cse_types.specs.Table as tables;
 ghost use Rattle.cse_types.specs.Told.{told_of};
-ghost use Rattle.cse_logic_names.specs.WellTyped.{all_declarations, declared_messages, tree_messages};
+ghost use Rattle.cse_logic_names.specs.WellTyped.{declared_messages, tree_messages};
 ghost use Rattle.cse_logic_names.specs.Walk.{is_there, joined};
+ghost use Rattle.cse_types.specs.Clauses.{declarations_made, each_made, globals_made, globals_of, procedures_made};
 
 use crate::arrays::arrays;
 use crate::declaration::declarations;
@@ -45,7 +46,7 @@ pub fn declared_names(
     dictionary: &Dictionary,
     tree: &Parsed<'_>,
 ) -> Result<Table, AllocError>
-    ensures { IfOk result (λ t. t ≡ tables.table_of dictionary.now (all_declarations (syntax.tree tree.now).globals)) }
+    ensures { IfOk result (λ t. t ≡ tables.table_of dictionary.now (globals_of tree.now)) }
 {
     match &tree.globals {
         None => Ok(Table::new(alloc)),
@@ -80,7 +81,7 @@ fn all_arrays<'a>(
     scope: &Scope<'_>,
     tree: &Parsed<'a>,
 ) -> Result<Vec<Option<Vec<Dimension<'a>>>>, AllocError>
-    ensures { IfOk result (λ v. map (option_map (λ v. map typed.dimension v.items)) v.items ≡ judge.arrays_judged scope.now (all_declarations (syntax.tree tree.now).globals)) }
+    ensures { IfOk result (λ v. each_made v.items ≡ judge.arrays_judged scope.now (globals_of tree.now)) }
 {
     match &tree.globals {
         None => Ok(Vec::new(alloc)),
@@ -96,7 +97,7 @@ pub fn start<'a>(
     declared: Names,
     tree: &Parsed<'a>,
 ) -> Result<Scope<'a>, AllocError>
-    ensures { IfOk result (λ s. s ≡ spec.start_of dictionary.now messages.now declared (all_declarations (syntax.tree tree.now).globals)) }
+    ensures { IfOk result (λ s. s ≡ spec.start_of dictionary.now messages.now declared (globals_of tree.now)) }
 {
     let mut scope = first_scope(alloc, dictionary, messages, declared);
     scope.arrays = all_arrays(alloc, &scope, tree)?;
@@ -104,7 +105,7 @@ pub fn start<'a>(
 }
 
 fn present<'a>(found: Option<Vec<Declaration<'a>>>) -> Option<Option<Vec<Declaration<'a>>>>
-    ensures { option_map (option_map (λ v. map typed.declaration v.items)) result ≡ option_map (λ ys. Some ys) (option_map (λ v. map typed.declaration v.items) found.entry) }
+    ensures { globals_made result ≡ option_map (λ ys. Some ys) (declarations_made found.entry) }
 {
     match found {
         None => None,
@@ -120,9 +121,9 @@ fn globals<'a>(
     tree: &Parsed<'a>,
 ) -> Result<Option<Option<Vec<Declaration<'a>>>>, AllocError>
     requires { told.old.items ≡ [] }
-    ensures value { IfOk result (λ r. option_map (option_map (λ v. map typed.declaration v.items)) r ≡ judge.globals_judged scope.old (syntax.tree tree.now).globals) }
-    ensures behind { OnOk result (scope.new ≡ judge.behind_all scope.old 0 (all_declarations (syntax.tree tree.now).globals)) }
-    ensures told { OnOk result (map told_of told.new.items ≡ declared_messages (all_declarations (syntax.tree tree.now).globals)) }
+    ensures value { IfOk result (λ r. globals_made r ≡ judge.globals_judged scope.old (syntax.tree tree.now).globals) }
+    ensures behind { OnOk result (scope.new ≡ judge.behind_all scope.old 0 (globals_of tree.now)) }
+    ensures told { OnOk result (map told_of told.new.items ≡ declared_messages (globals_of tree.now)) }
 {
     match &tree.globals {
         None => Ok(Some(None)),
@@ -134,7 +135,7 @@ fn parts_of<'a>(
     globals: Option<Option<Vec<Declaration<'a>>>>,
     procedures: Option<Vec<Procedure<'a>>>,
 ) -> Option<Parts<'a>>
-    ensures { option_map parts_tree result ≡ joined spec.parts_of (option_map (option_map (λ v. map typed.declaration v.items)) globals.entry) (option_map (λ v. map typed.procedure v.items) procedures.entry) }
+    ensures { option_map parts_tree result ≡ joined spec.parts_of (globals_made globals.entry) (procedures_made procedures.entry) }
 {
     match globals {
         None => None,

@@ -10,7 +10,8 @@ ghost use Rattle.cse_logic_names.specs.WellTyped as well;
 ghost use Rattle.cse_logic_names.specs.WellTyped.{body_messages, procedure_messages, procedure_scope};
 ghost use Rattle.cse_types.specs.JudgeTree as spec;
 ghost use Rattle.cse_types.specs.Told.{told_of};
-ghost use Rattle.cse_logic_names.specs.Walk.{is_there, joined, found_more};
+ghost use Rattle.cse_logic_names.specs.Walk.{is_there, joined};
+ghost use Rattle.cse_types.specs.Clauses.{FindsMore, body_made, block_made, procedures_made, two_parts};
 
 use crate::statement::block;
 use crate::told::Told;
@@ -90,7 +91,7 @@ fn owner_named(
 // ---- bodies
 
 fn plain<'a>(found: Option<Vec<Statement<'a>>>) -> Option<Body<'a>>
-    ensures { option_map typed.body_tree result ≡ option_map typed.Plain (option_map (λ v. typed.block v.items) found.entry) }
+    ensures { body_made result ≡ option_map typed.Plain (block_made found.entry) }
 {
     match found {
         None => None,
@@ -99,7 +100,7 @@ fn plain<'a>(found: Option<Vec<Statement<'a>>>) -> Option<Body<'a>>
 }
 
 fn preproc<'a>(found: Option<Vec<Statement<'a>>>) -> Option<Body<'a>>
-    ensures { option_map typed.body_tree result ≡ option_map typed.Preproc (option_map (λ v. typed.block v.items) found.entry) }
+    ensures { body_made result ≡ option_map typed.Preproc (block_made found.entry) }
 {
     match found {
         None => None,
@@ -108,7 +109,7 @@ fn preproc<'a>(found: Option<Vec<Statement<'a>>>) -> Option<Body<'a>>
 }
 
 fn postproc<'a>(found: Option<Vec<Statement<'a>>>) -> Option<Body<'a>>
-    ensures { option_map typed.body_tree result ≡ option_map typed.Postproc (option_map (λ v. typed.block v.items) found.entry) }
+    ensures { body_made result ≡ option_map typed.Postproc (block_made found.entry) }
 {
     match found {
         None => None,
@@ -120,7 +121,7 @@ fn around<'a>(
     before: Option<Vec<Statement<'a>>>,
     after: Option<Vec<Statement<'a>>>,
 ) -> Option<Body<'a>>
-    ensures { option_map typed.body_tree result ≡ joined typed.Both (option_map (λ v. typed.block v.items) before.entry) (option_map (λ v. typed.block v.items) after.entry) }
+    ensures { body_made result ≡ joined typed.Both (block_made before.entry) (block_made after.entry) }
 {
     match before {
         None => None,
@@ -139,8 +140,8 @@ fn both_parts<'a>(
     xs: &Vec<ParsedStatement<'a>>,
     ys: &Vec<ParsedStatement<'a>>,
 ) -> Result<Option<Body<'a>>, AllocError>
-    ensures value { IfOk result (λ r. option_map typed.body_tree r ≡ spec.body_judged scope.old (length told.old.items) (syntax.Both (syntax.block xs.now.items) (syntax.block ys.now.items))) }
-    ensures told { OnOk result (map told_of told.new.items ≡ map told_of told.old.items ++ body_messages (syntax.Both (syntax.block xs.now.items) (syntax.block ys.now.items))) }
+    ensures value { IfOk result (λ r. body_made r ≡ spec.body_judged scope.old (length told.old.items) (two_parts xs.now.items ys.now.items)) }
+    ensures told { OnOk result (map told_of told.new.items ≡ map told_of told.old.items ++ body_messages (two_parts xs.now.items ys.now.items)) }
     ensures same { OnOk result (scope.new ≡ scope.old) }
 {
     let before = block(alloc, scope, told, xs)?;
@@ -155,7 +156,7 @@ fn body<'a>(
     told: &mut Vec<Told<'a>>,
     x: &ParsedBody<'a>,
 ) -> Result<Option<Body<'a>>, AllocError>
-    ensures value { IfOk result (λ r. option_map typed.body_tree r ≡ spec.body_judged scope.old (length told.old.items) (syntax.body_tree x.now)) }
+    ensures value { IfOk result (λ r. body_made r ≡ spec.body_judged scope.old (length told.old.items) (syntax.body_tree x.now)) }
     ensures told { OnOk result (map told_of told.new.items ≡ map told_of told.old.items ++ body_messages (syntax.body_tree x.now)) }
     ensures same { OnOk result (scope.new ≡ scope.old) }
 {
@@ -175,7 +176,7 @@ fn body_of<'a>(
     owner: Owner,
     x: &ParsedBody<'a>,
 ) -> Result<Option<Body<'a>>, AllocError>
-    ensures value { IfOk result (λ r. option_map typed.body_tree r ≡ spec.body_judged (procedure_scope scope.old owner) (length told.old.items) (syntax.body_tree x.now)) }
+    ensures value { IfOk result (λ r. body_made r ≡ spec.body_judged (procedure_scope scope.old owner) (length told.old.items) (syntax.body_tree x.now)) }
     ensures told { OnOk result (map told_of told.new.items ≡ map told_of told.old.items ++ body_messages (syntax.body_tree x.now)) }
     ensures same { OnOk result (scope.new ≡ scope.old) }
 {
@@ -187,7 +188,7 @@ fn body_of<'a>(
 }
 
 fn owned<'a>(name: Lexeme<'a>, owner: Owner, body: Option<Body<'a>>) -> Option<Procedure<'a>>
-    ensures { option_map typed.procedure result ≡ option_map (spec.procedure_of (written name.entry) owner) (option_map typed.body_tree body.entry) }
+    ensures { option_map typed.procedure result ≡ option_map (spec.procedure_of (written name.entry) owner) (body_made body.entry) }
 {
     match body {
         None => None,
@@ -228,7 +229,7 @@ fn one_more<'a>(
     found: &mut Vec<Procedure<'a>>,
     x: &Parsed<'a>,
 ) -> Result<bool, AllocError>
-    ensures found { OnOk result (map typed.procedure found.new.items ≡ found_more (map typed.procedure found.old.items) (spec.procedure_judged scope.old (length told.old.items) (syntax.procedure x.now))) }
+    ensures found { OnOk result (FindsMore found.old.items found.new.items (spec.procedure_judged scope.old (length told.old.items) (syntax.procedure x.now))) }
     ensures there { IfOk result (λ b. b ≡ is_there (spec.procedure_judged scope.old (length told.old.items) (syntax.procedure x.now))) }
     ensures told { OnOk result (map told_of told.new.items ≡ map told_of told.old.items ++ body_messages (syntax.body_tree x.now.body)) }
     ensures same { OnOk result (scope.new ≡ scope.old) }
@@ -244,7 +245,7 @@ pub fn procedures<'a>(
     told: &mut Vec<Told<'a>>,
     all: &[Parsed<'a>],
 ) -> Result<Option<Vec<Procedure<'a>>>, AllocError>
-    ensures value { IfOk result (λ r. option_map (λ v. map typed.procedure v.items) r ≡ spec.procedures_judged scope.old (length told.old.items) (map syntax.procedure all.now)) }
+    ensures value { IfOk result (λ r. procedures_made r ≡ spec.procedures_judged scope.old (length told.old.items) (map syntax.procedure all.now)) }
     ensures told { OnOk result (map told_of told.new.items ≡ map told_of told.old.items ++ procedure_messages (map syntax.procedure all.now)) }
     ensures same { OnOk result (scope.new ≡ scope.old) }
 {

@@ -11,6 +11,7 @@ ghost use Rattle.cse_logic_expressions.specs.JudgeStatement as spec;
 ghost use Rattle.cse_logic_expressions.specs.JudgeStatement.{judge_statement, judge_block, judge_arm, judge_each, messages_each, for_head, counting_judged, opened};
 ghost use Rattle.cse_types.specs.Told.{told_of};
 ghost use Rattle.cse_logic_names.specs.Walk.{is_there, joined};
+ghost use Rattle.cse_types.specs.Clauses.{arms_made, block_made, said};
 
 use crate::told::Told;
 use cse_logic_expressions::action::{alone, assignment, deck_value, imputation, jump};
@@ -26,7 +27,7 @@ use cse_syntax::{
 use std::alloc::{AllocError, Global};
 
 fn guarded<'a>(condition: Option<Number<'a>>, body: Option<Vec<Statement<'a>>>) -> Option<Arm<'a>>
-    ensures { option_map arm_tree result ≡ joined spec.guarded (option_map number condition.entry) (option_map (λ v. typed.block v.items) body.entry) }
+    ensures { option_map arm_tree result ≡ joined spec.guarded (option_map number condition.entry) (block_made body.entry) }
 {
     match condition {
         None => None,
@@ -43,7 +44,7 @@ fn chosen<'a>(
     others: Option<Vec<Arm<'a>>>,
     otherwise: Option<Option<Vec<Statement<'a>>>>,
 ) -> Option<Statement<'a>>
-    ensures { option_map statement result ≡ spec.chosen (option_map arm_tree first.entry) (option_map (λ v. map arm_tree v.items) others.entry) (option_map otherwise_tree otherwise.entry) }
+    ensures { option_map statement result ≡ spec.chosen (option_map arm_tree first.entry) (arms_made others.entry) (option_map otherwise_tree otherwise.entry) }
 {
     match first {
         None => None,
@@ -58,7 +59,7 @@ fn chosen<'a>(
 }
 
 fn behind<'a>(body: Option<Vec<Statement<'a>>>) -> Option<Option<Vec<Statement<'a>>>>
-    ensures { option_map otherwise_tree result ≡ option_map typed.else_of (option_map (λ v. typed.block v.items) body.entry) }
+    ensures { option_map otherwise_tree result ≡ option_map typed.else_of (block_made body.entry) }
 {
     match body {
         None => None,
@@ -90,7 +91,7 @@ fn for_of<'a>(
     head: Option<(Variable, u8)>,
     body: Option<Vec<Statement<'a>>>,
 ) -> Option<Statement<'a>>
-    ensures { option_map statement result ≡ joined (spec.for_of (written variable.entry) (written record_name.entry)) head (option_map (λ v. typed.block v.items) body.entry) }
+    ensures { option_map statement result ≡ joined (spec.for_of (written variable.entry) (written record_name.entry)) head (block_made body.entry) }
 {
     match head {
         None => None,
@@ -108,7 +109,7 @@ fn for_of<'a>(
 }
 
 fn do_of<'a>(head: Option<Counting<'a>>, body: Option<Vec<Statement<'a>>>) -> Option<Statement<'a>>
-    ensures { option_map statement result ≡ joined typed.Do (option_map counting head.entry) (option_map (λ v. typed.block v.items) body.entry) }
+    ensures { option_map statement result ≡ joined typed.Do (option_map counting head.entry) (block_made body.entry) }
 {
     match head {
         None => None,
@@ -129,7 +130,7 @@ fn one_message<'a>(
     values: &Vec<Expression<'a>>,
     is_summary: bool,
 ) -> Result<Option<Statement<'a>>, AllocError>
-    ensures value { IfOk result (λ r. option_map statement r ≡ judge_statement scope.now (length told.old.items) (syntax.ErrMsg (syntax.message message.entry) (syntax.exprs (map syntax.expr values.now.items)) is_summary)) }
+    ensures value { IfOk result (λ r. option_map statement r ≡ judge_statement scope.now (length told.old.items) (said message.entry values.now.items is_summary)) }
     ensures told { OnOk result (map told_of told.new.items ≡ map told_of told.old.items ++ (syntax.message message.entry, is_summary) ∷ []) }
 {
     let index = told.len();
@@ -197,7 +198,7 @@ pub fn block<'a>(
     told: &mut Vec<Told<'a>>,
     statements: &Vec<Parsed<'a>>,
 ) -> Result<Option<Vec<Statement<'a>>>, AllocError>
-    ensures value { IfOk result (λ r. option_map (λ v. typed.block v.items) r ≡ judge_block scope.old (length told.old.items) (syntax.block statements.now.items)) }
+    ensures value { IfOk result (λ r. block_made r ≡ judge_block scope.old (length told.old.items) (syntax.block statements.now.items)) }
     ensures told { OnOk result (map told_of told.new.items ≡ map told_of told.old.items ++ messages_of (syntax.block statements.now.items)) }
     ensures same { OnOk result (scope.new ≡ scope.old) }
 {
@@ -220,7 +221,7 @@ fn body_of<'a>(
     turns: Option<(Option<u16>, Variable)>,
     body: &Vec<Parsed<'a>>,
 ) -> Result<Option<Vec<Statement<'a>>>, AllocError>
-    ensures value { IfOk result (λ r. option_map (λ v. typed.block v.items) r ≡ judge_block (opened scope.old turns) (length told.old.items) (syntax.block body.now.items)) }
+    ensures value { IfOk result (λ r. block_made r ≡ judge_block (opened scope.old turns) (length told.old.items) (syntax.block body.now.items)) }
     ensures told { OnOk result (map told_of told.new.items ≡ map told_of told.old.items ++ messages_of (syntax.block body.now.items)) }
     ensures same { OnOk result (scope.new ≡ scope.old) }
 {
@@ -260,7 +261,7 @@ fn arms<'a>(
     told: &mut Vec<Told<'a>>,
     others: &Vec<ParsedArm<'a>>,
 ) -> Result<Option<Vec<Arm<'a>>>, AllocError>
-    ensures value { IfOk result (λ r. option_map (λ v. map arm_tree v.items) r ≡ judge_each scope.old (length told.old.items) (map parsed_arm others.now.items)) }
+    ensures value { IfOk result (λ r. arms_made r ≡ judge_each scope.old (length told.old.items) (map parsed_arm others.now.items)) }
     ensures told { OnOk result (map told_of told.new.items ≡ map told_of told.old.items ++ messages_each (map parsed_arm others.now.items)) }
     ensures same { OnOk result (scope.new ≡ scope.old) }
 {

@@ -26,6 +26,7 @@ pub struct Table {
 }
 
 impl Table {
+    /// No declarations.
     pub fn new(alloc: Global) -> Table
         ensures { result ≡ spec.no_table }
     {
