@@ -15,22 +15,31 @@
 
 use std::str::SplitAsciiWhitespace;
 
+/// The heads of the blocks: what is stored before the commands of a row.
 pub const STORED: &str = "\nstored:";
 
+/// The words of a command line.
 pub const WORDS: &str = "\nwords:";
 
+/// The files that are there.
 pub const FILES: &str = "\nfiles:";
 
+/// What is amiss with a file.
 pub const AMISS: &str = "\namiss:";
 
+/// What is opened, in order.
 pub const OPENED: &str = "\nopened:";
 
+/// What is made.
 pub const MADE: &str = "\nmade:";
 
+/// What is printed.
 pub const PRINTED: &str = "\nprinted:";
 
+/// What is told of faults.
 pub const TOLD: &str = "\ntold:";
 
+/// The status.
 pub const STATUS: &str = "\nstatus:";
 
 const TEXT: &str = "\ntext ";
@@ -105,6 +114,7 @@ impl<'a> Row<'a> {
         text_in(self.own, name)
     }
 
+    /// Its first line.
     pub fn name(&self) -> &'a str {
         self.own.lines().next().unwrap_or("")
     }
