@@ -1,5 +1,4 @@
 pub mod ApartLaws
-pub mod CompiledLaws
 pub mod FaultLaws
 pub mod FaultyLaws
 pub mod FileLaws

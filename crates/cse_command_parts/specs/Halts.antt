@@ -1,4 +1,4 @@
--- Why a command did not come to its run, or wrote no image. A file is read only where what comes before it was accepted: so each reason says of the files
+-- Why a command did not come to its run. A file is read only where what comes before it was accepted: so each reason says of the files
 -- before it by which paths they were opened, and what they gave.
 use Rattle.std.specs.Prelude.{◌≡◌, ◌⊎◌, ℕ, false, List, Option, None, Some, Err, option_map}
 use Rattle.cse_value.specs.Device.{Given}
@@ -12,10 +12,8 @@ use Rattle.cse_verify.specs.Verified.{VerifiedProgram}
 use Rattle.cse_decks.specs.Store.{Kept}
 use Rattle.cse_batch.specs.declared.image.CheckFault.{CheckFault}
 use Rattle.cse_batch.specs.Checked.{IsAccepted, IsNoFault, IsRefused}
-use Rattle.cse_build.specs.Build.{IsBuilt}
 use Rattle.cse_command_parts.specs.declared.outcome.Stop.{Stop}
 use Rattle.cse_command_parts.specs.declared.outcome.Stop.TheVariants.{Refused}
-use Rattle.cse_command_line.specs.declared.plan.CompilePaths.{CompilePaths}
 use Rattle.cse_command_line.specs.declared.plan.RunPaths.{RunPaths}
 use Rattle.cse_command_parts.specs.declared.try_image.TryFault.{TryFault}
 use Rattle.cse_command_parts.specs.declared.verify_image.VerifyFault.{VerifyFault}
@@ -23,10 +21,10 @@ use Rattle.cse_command_parts.specs.Allowed.{steps_allowed}
 use Rattle.cse_command_parts.specs.Apart.{TellsOneFile}
 use Rattle.cse_command_parts.specs.Ending.{fault_at, fault_of_check, fault_of_try, fault_of_verify}
 use Rattle.cse_command_parts.specs.Ran.{IsStart}
-use Rattle.cse_command_parts.specs.Roles.{compile_uses, run_uses}
-use Rattle.cse_command_parts.specs.Stops.{IsMemory, IsNotOpened, TellsBuildFault, TellsDeckFault, TellsUnwritten}
+use Rattle.cse_command_parts.specs.Roles.{run_uses}
+use Rattle.cse_command_parts.specs.Stops.{IsMemory, IsNotOpened, TellsDeckFault}
 use Rattle.cse_command_parts.specs.Tried as tried
-use Rattle.cse_command_parts.specs.Unread.{AtBytes, AtDecks, AtText, AtTexts}
+use Rattle.cse_command_parts.specs.Unread.{AtBytes, AtDecks, AtText}
 use Rattle.cse_command_parts.specs.Vetted.{FailsBy, IsReadAs, is_failed_write}
 
 -- ---- what was read is not accepted; or it is, and behind that the command ended so
@@ -83,17 +81,6 @@ StopsImage given p d stop =
 abbrev pub StopsRun : {F : Type 0} → (Reads F → Given) → RunPaths → Stop → Type 0
 StopsRun given p stop =
     TellsOneFile (run_uses p) stop ⊎ AtText given p.dict.now 17 stop (λ text. AtDictionary text stop (λ d. StopsImage given p d stop))
-
--- `compile`, behind its texts
-abbrev pub StopsWriting : DictionaryText → List ℕ → List ℕ → List ℕ → Stop → Type 0
-StopsWriting d logic messages order stop =
-    TellsBuildFault d logic messages order stop ⊎ ((image : List ℕ) × (IsBuilt d logic messages order image × TellsUnwritten stop))
-
-abbrev pub StopsCompile : {F : Type 0} → (Reads F → Given) → CompilePaths → Stop → Type 0
-StopsCompile given p stop =
-    TellsOneFile (compile_uses p) stop
-    ⊎ AtText given p.dict.now 17 stop (λ text. AtDictionary text stop (λ d.
-    AtTexts given p.logic.now (option_map (λ s. s.now) p.messages) (option_map (λ s. s.now) p.order) stop (λ l m o. StopsWriting d l m o stop)))
 
 -- `verify`: both files are read before one is checked
 pub record TellsVerifyFault (text bytes : List ℕ) (stop : Stop) : Type 0 where

@@ -1,6 +1,5 @@
 pub mod Allowed
 pub mod Apart
-pub mod Compiled
 pub mod Counted
 pub mod Ending
 pub mod FaultLine

@@ -1,11 +1,7 @@
--- Why logic becomes no image; why a run over files has no store to begin with, or stops.
+-- Why a run over files has no store to begin with, or stops.
 use Rattle.std.specs.Prelude.{◌≡◌, ◌⊎◌, ℕ, Bool, true, false, List, [], Result, Ok, Err}
 use Rattle.cse_value.specs.Device.{Given}
 use Rattle.cse_image_parts.specs.Image.{Image}
-use Rattle.cse_dict.specs.Dictionary.{DictionaryText}
-use Rattle.cse_build.specs.declared.error.BuildFault.{BuildFault}
-use Rattle.cse_build.specs.Build.{IsFault, AreSound}
-use Rattle.cse_build.specs.Fault.{IsReason}
 use Rattle.cse_files.specs.declared.fault.WriteFault.{WriteFault}
 use Rattle.cse_verify.specs.Verified.{VerifiedProgram}
 use Rattle.cse_decks.specs.declared.error.DeckError.{DeckError}
@@ -15,7 +11,7 @@ use Rattle.cse_batch.specs.declared.totals.RunFault.{RunFault}
 use Rattle.cse_batch.specs.RunClauses.{Contents, Failures, RunStops}
 use Rattle.cse_command_parts.specs.declared.outcome.Stop.{Stop}
 use Rattle.cse_command_parts.specs.declared.outcome.Stop.TheVariants.{Usage, OneFile, TooManySteps, Refused}
-use Rattle.cse_command_parts.specs.Ending.{fault_at, fault_in_text, number_of_write, plain_fault}
+use Rattle.cse_command_parts.specs.Ending.{fault_at, number_of_write, plain_fault}
 
 -- a fault, by its number: neither words that are no command nor an image whose cases may take too many steps
 abbrev pub HasNumber : Stop → Type 0
@@ -60,11 +56,3 @@ pub record TellsRunFault (v : VerifiedProgram) (store : Kept) (before after : Gi
   pub lacked : Bool
   pub stops : RunStops v store before after (old []) (new gathered) (failed lacked) fault
   pub tells : stop ≡ told_of lacked fault
-
--- It tells the number, the line and the column of a fault of these texts: of a message file, an order file and logic. Of sound texts it is a
--- limit of the format or of the steps, or want of memory.
-pub record TellsBuildFault (d : DictionaryText) (logic messages order : List ℕ) (stop : Stop) : Type 0 where
-  pub fault : BuildFault
-  pub tells : stop ≡ Refused (fault_in_text fault.number fault.line fault.column)
-  pub is_fault : IsFault d logic messages order fault
-  pub of_sound : AreSound d logic messages order → IsReason fault

@@ -11,7 +11,6 @@ use crate::role::Role;
 use crate::try_image::TryFault;
 use crate::verify_image::VerifyFault;
 use cse_batch::{CheckFault, RunFault};
-use cse_build::BuildFault;
 use cse_decks::DeckError;
 use cse_dict::DictError;
 use cse_fault_numbers::{NOT_OPENED, READ_FAILED, WANT_OF_MEMORY, WRITE_FAILED};
@@ -100,14 +99,14 @@ impl Fault {
         }
     }
 
-    /// Logic, or messages or an edit order beside it, of which no image is made; a line and a column 0 are not told.
-    pub fn of_build(fault: BuildFault) -> Fault
-        ensures { result ≡ fault_in_text fault.number fault.line fault.column }
+    /// A fault of logic, or of messages or an edit order beside it; a line and a column 0 are not told.
+    pub fn in_text(number: u8, line: u64, column: u64) -> Fault
+        ensures { result ≡ fault_in_text number line column }
     {
         Fault {
-            line: told_position(fault.line),
-            column: told_position(fault.column),
-            ..Fault::of_number(fault.number)
+            line: told_position(line),
+            column: told_position(column),
+            ..Fault::of_number(number)
         }
     }
 

@@ -1,17 +1,14 @@
-//! The commands of csbatch that edit by no logic: files, what is made of them, and what is told of it.
+//! The commands of csbatch that read no logic: files, what is made of them, and what is told of it.
 //!
 //! - `try_image`: `try`, from the bytes of an image to the messages of its preproc.
 //! - `verify_image`: `verify`, from a dictionary and an image to what is known of the program. `verdict`:
 //!   its lines.
-//! - `compile_image`: `compile`, logic to an image. `compiled`: what it came to.
 //! - `run_image`: `run`, an image over a data file. `ran`: what it came to.
 //! - `judged`: what `verify` and `try` judged. `files`: the files of the commands. `role`, `apart`: what each is to its command, and that no two are one.
 //! - `printing`, `fault`: lines for a device. `outcome`: the exit status.
 #![tactic(auto)]
 
 pub mod apart;
-pub mod compile_image;
-pub mod compiled;
 pub mod fault;
 pub mod files;
 pub mod judged;

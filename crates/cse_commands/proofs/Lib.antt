@@ -1,2 +1,3 @@
+pub mod CompiledLaws
 pub mod DoesLaws
 pub mod EditedLaws

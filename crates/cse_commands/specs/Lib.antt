@@ -1,3 +1,5 @@
+pub mod Compiled
+pub mod CompileHalts
 pub mod Does
 pub mod EditHalts
 pub mod Edited

@@ -3,7 +3,7 @@ use Rattle.std.proofs.Common.{◌≡◌, ℕ, List, subst}
 use Rattle.cse_dict.specs.Dictionary.{DictionaryText}
 use Rattle.cse_build.specs.Build.{IsBuilt}
 use Rattle.cse_build.specs.Meant.{MeansLogic}
-use Rattle.cse_command_parts.specs.Compiled.{IsImageOf}
+use Rattle.cse_commands.specs.Compiled.{IsImageOf}
 use Rattle.cse_command_parts.specs.Vetted.{IsReadAs}
 
 -- the same texts and the same image

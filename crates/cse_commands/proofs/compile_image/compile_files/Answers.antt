@@ -3,14 +3,14 @@ use Rattle.cse_value.specs.contracts.device.ReadsInput.TheImpl as reads
 use Rattle.cse_value.specs.contracts.device.WritesOutput.TheImpl as writes
 use Rattle.cse_command_parts.specs.Ran.{told_by}
 use Rattle.cse_command_parts.specs.Vetted.{IsReadAs}
-use Rattle.cse_command_parts.proofs.CompiledLaws.{image_same}
+use Rattle.cse_commands.proofs.CompiledLaws.{image_same}
 use Rattle.cse_command_parts.proofs.FileLaws.{text_ends, text_is}
 use Rattle.std.proofs.lemmas.Result.{err_from_is_err_and}
 use Rattle.cse_command_parts.proofs.HaltLaws.{at_messages, at_order, behind_texts, dict_fault, gave_all, gave_named}
 use Rattle.cse_command_parts.specs.declared.role.Use.{Use}
 use Rattle.cse_command_parts.specs.Apart.{TellsOneFile}
 use Rattle.cse_command_parts.specs.Named.{text_or_none}
-use Rattle.cse_command_parts.proofs.compile_image.compile_files.Goals as goal
+use Rattle.cse_commands.proofs.compile_image.compile_files.Goals as goal
 
 pub returns-clause-compiles : goal.returns-clause-compiles
 returns-clause-compiles g c =

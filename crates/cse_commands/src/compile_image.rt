@@ -3,18 +3,17 @@
 ghost use Rattle.std.specs.Prelude.{IfOk, IfErr};
 ghost use Rattle.cse_build.specs.Build.{IsBuilt};
 ghost use Rattle.cse_build.specs.Meant.{MeansLogic};
-ghost use Rattle.cse_command_parts.specs.Compiled.{AreCompilePaths, CompilesFiles};
-ghost use Rattle.cse_command_parts.specs.Halts.{StopsCompile};
 ghost use Rattle.cse_command_parts.specs.Ran.{told_by};
-ghost use Rattle.cse_command_parts.specs.Stops.{TellsBuildFault};
+ghost use Rattle.cse_commands.specs.Compiled.{AreCompilePaths, CompilesFiles};
+ghost use Rattle.cse_commands.specs.CompileHalts.{StopsCompile, TellsBuildFault};
 
-use crate::apart::{see_apart, uses_of_compile};
 use crate::compiled::CompiledFiles;
-use crate::fault::Fault;
-use crate::files::{file_text, text_of, text_where_named, write_file};
-use crate::outcome::Stop;
 use cse_build::build;
 use cse_command_line::plan::CompilePaths;
+use cse_command_parts::apart::{see_apart, uses_of_compile};
+use cse_command_parts::fault::Fault;
+use cse_command_parts::files::{file_text, text_of, text_where_named, write_file};
+use cse_command_parts::outcome::Stop;
 use cse_dict::Dictionary;
 use cse_fault_numbers::{TOO_LARGE, TOO_MANY};
 use cse_value::{Input, Output, Reads, Writes};
@@ -83,6 +82,6 @@ pub fn image_of(
 {
     match build(alloc, dictionary, logic, messages, order) {
         Ok(image) => Ok(image),
-        Err(fault) => Err(Stop::Refused(Fault::of_build(fault))),
+        Err(fault) => Err(Stop::Refused(Fault::in_text(fault.number, fault.line, fault.column))),
     }
 }
