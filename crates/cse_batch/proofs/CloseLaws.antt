@@ -125,8 +125,8 @@ halts_last v first before after store reports out list g totals c idle =
 -- ---- fronts of texts
 
 -- nothing was written
-pub no_front : (c : List ℕ) (text : List ℕ) → AppendsFront c c text
-no_front c text = record { written = []; rest = text; is = refl; appends = Appends-nil c }
+pub no_front : (a b : List ℕ) (text : List ℕ) → b ≡ a → AppendsFront a b text
+no_front a b text e = record { written = []; rest = text; is = refl; appends = subst (λ (l : List ℕ). Appends a l []) (sym e) (Appends-nil a) }
 
 front_more : (a b : List ℕ) (text all : List ℕ) → Begins text all → AppendsFront a b text → AppendsFront a b all
 front_more a b text all g f = record { written = f.written; rest = f.rest ++ g.rest; is = g.is ∙ (ap (λ l. l ++ g.rest) f.is ∙ append_assoc f.written f.rest g.rest); appends = f.appends }
@@ -171,9 +171,9 @@ closed o r new failed text f h = record {
 
 -- a run that was stopped
 pub stops : (v : VerifiedProgram) (first : Kept) (before after : Given) (out list : Device) (fault : RunFault) (h : Halts v first before after out list fault)
-    (r r' : Result (Unit {0}) Failed) (new new' : List ℕ) (failed failed' : Bool) → Closed out r new failed h.written → Closed list r' new' failed' h.listed → (f d : List ℕ) (ff df : Bool)
-    → RunStops v first before after (contents out.start list.start f d) (contents new new' f d) (failures failed failed' ff df) fault
-stops v first before after out list fault h r r' new new' failed failed' a b f d ff df =
+    (r r' : Result (Unit {0}) Failed) (new new' : List ℕ) (failed failed' : Bool) → Closed out r new failed h.written → Closed list r' new' failed' h.listed → (f f' d d' : List ℕ) (ff df : Bool) → f' ≡ f → d' ≡ d
+    → RunStops v first before after (contents out.start list.start f d) (contents new new' f' d') (failures failed failed' ff df) fault
+stops v first before after out list fault h r r' new new' failed failed' a b f f' d d' ff df same_f same_d =
     let all = batch v first h.bytes h.ended in
     record {
       bytes = h.bytes;
@@ -183,8 +183,8 @@ stops v first before after out list fault h r r' new new' failed failed' a b f d
       fronts = record {
         out = front_more out.start new h.written all.out h.out_front (front_of r out.start new h.written a.writes);
         listing = front_more list.start new' h.listed all.listing h.listing_front (front_of r' list.start new' h.listed b.writes);
-        frequencies = no_front f all.frequencies;
-        decks = no_front d all.decks;
+        frequencies = no_front f f' all.frequencies same_f;
+        decks = no_front d d' all.decks same_d;
       };
       faulty = h.faulty;
       needed = h.needed;
@@ -244,7 +244,7 @@ stops_at_once v first before old failed = record {
   ended = false;
   reads = Consumes-nil before;
   end = λ e. absurd cc;
-  fronts = record { out = no_front old.out _; listing = no_front old.listing _; frequencies = no_front old.frequencies _; decks = no_front old.decks _ };
+  fronts = record { out = no_front old.out _ _ refl; listing = no_front old.listing _ _ refl; frequencies = no_front old.frequencies _ _ refl; decks = no_front old.decks _ _ refl };
   faulty = λ low. absurd (omega arith);
   needed = λ q. absurd (omega arith);
   out_whole = λ low. absurd (omega arith);

@@ -8,6 +8,7 @@ pub mod EventLaws
 pub mod HandledLaws
 pub mod HeldLaws
 pub mod OrderLaws
+pub mod OutputLaws
 pub mod RunLaws
 pub mod SceneLaws
 pub mod SoFarLaws

@@ -6,6 +6,7 @@ pub mod Events
 pub mod Handled
 pub mod Laws
 pub mod Moments
+pub mod Outputs
 pub mod RunClauses
 pub mod RunState
 pub mod Scene

@@ -4,7 +4,7 @@
 //! - `totals`: what a run counts, and what stops it.
 //! - `running`: the whole run over a data file, to the texts of `specs/Batch.antt`.
 //! - `application`, `cases`, `events`: the application's events, a run of lines, and the events of a case.
-//! - `beside`: the listing beside the lines of the data.
+//! - `outputs`, `beside`: where a run writes, and the lines of a run with what it lists beside them.
 //! - `handled`: the events of a case that a program has a routine for.
 //! - `machine`: what runs an event. `parts`: the parts of a program that a run goes by.
 //! - `laws`: laws of the definition of a batch. `untouched`: the law that columns which no edit wrote stay.
@@ -18,6 +18,7 @@ mod handled;
 mod image;
 mod laws;
 mod machine;
+mod outputs;
 mod parts;
 mod running;
 mod totals;

@@ -2,24 +2,22 @@
 
 ghost use Rattle.std.specs.Prelude.{◌≡◌, IfOk, IfErr, OnOk};
 ghost use Rattle.cse_decks.specs.Store.{StoreFits};
-ghost use Rattle.cse_output.specs.Gathering.{behind};
 ghost use Rattle.cse_report.specs.Reports.{ReportsFit};
-ghost use Rattle.cse_batch.specs.Handled.{AreHandled};
+ghost use Rattle.cse_batch.specs.Outputs.{AreFresh, AreSame, CasesRanBy, HaltsBy, LeavesEnd, MayBegin, RanBy, RunStopsBy, RunsWholeBy};
 ghost use Rattle.cse_batch.specs.RunClauses.{RunStops, RunsWhole, contents, failures};
-ghost use Rattle.cse_batch.specs.RunState.{CasesRan, Halts, IsFresh, IsUnread, IsUnreported, Ran, device};
 
 use crate::application::apply;
-use crate::beside::put_beside;
+use crate::beside::put_run;
 use crate::cases::edit;
 use crate::handled::{HandledEvents, handled_events};
 use crate::machine::Runs;
+use crate::outputs::{Outputs, finish};
 use crate::totals::{RunFault, Totals};
 use cse_case::CaseReader;
 use cse_decks::{Store, save};
 use cse_fault_numbers::{WANT_OF_MEMORY, WRITE_FAILED};
 use cse_image::{Code, EventCode};
 use cse_machine::Machine;
-use cse_output::Gatherer;
 use cse_report::Reports;
 use cse_value::{Input, Output};
 use cse_verify::Verified;
@@ -39,37 +37,28 @@ const MEMORY_FAULT: RunFault = RunFault {
 
 /// Runs the application's preproc, and then each run of lines with its events: its lines are put before one
 /// output, and what it lists before the other.
-pub(crate) fn run_cases<C: Code, M: Runs, R: Input, O: Output, L: Output>(
+pub(crate) fn run_cases<C: Code, M: Runs, R: Input, O: Output, L: Output, F: Output, D: Output>(
     verified: &Verified<'_, C>,
     machine: &mut M,
     reader: &mut CaseReader<'_, R>,
     store: &mut Store,
     reports: &mut Reports,
     handled: &HandledEvents,
-    written: &mut Gatherer,
-    out: &mut O,
-    listed: &mut Gatherer,
-    listing: &mut L,
+    outputs: &mut Outputs<'_, O, L, F, D>,
 ) -> Result<Totals, RunFault>
-    requires handled { AreHandled verified.now handled.now }
-    requires machine { M.program machine.old ≡ verified.now }
-    requires reader { IsUnread verified.now reader.old.stream }
-    requires store { StoreFits verified.now.image store.old }
-    requires reports { ReportsFit verified.now.image reports.old }
-    requires unreported { IsUnreported verified.now reports.old }
-    requires written { IsFresh written.old.waiting.items written.old.gave_up }
-    requires listed { IsFresh listed.old.waiting.items listed.old.gave_up }
+    requires begins { MayBegin verified.now (M.program machine.old) reader.old.stream store.old reports.old handled.now }
+    requires fresh { AreFresh outputs.old }
     ensures same_reference { reader.new.input.ghost_name ≡ reader.old.input.ghost_name }
+    ensures same_outputs { AreSame outputs.old outputs.new }
+    ensures left { LeavesEnd outputs.old outputs.new }
     ensures same { M.program machine.new ≡ verified.now }
-    ensures ok { IfOk result (λ totals. CasesRan verified.now store.old (R.given reader.old.input.now) (R.given reader.new.input.now) store.new reports.new
-        (device (O.taken out.old) (O.has_failed out.old) (behind O.taken O.has_failed out.new written.new))
-        (device (L.taken listing.old) (L.has_failed listing.old) (behind L.taken L.has_failed listing.new listed.new)) totals) }
-    ensures err { IfErr result (λ fault. Halts verified.now store.old (R.given reader.old.input.now) (R.given reader.new.input.now)
-        (device (O.taken out.old) (O.has_failed out.old) (behind O.taken O.has_failed out.new written.new))
-        (device (L.taken listing.old) (L.has_failed listing.old) (behind L.taken L.has_failed listing.new listed.new)) fault) }
+    ensures ok { IfOk result (CasesRanBy R.Input O.Output L.Output verified.now store.old reader.old reader.new store.new reports.new outputs.old outputs.new) }
+    ensures err { IfErr result (HaltsBy R.Input O.Output L.Output verified.now store.old reader.old reader.new outputs.old outputs.new) }
     ensures store_fits { OnOk result (StoreFits verified.now.image store.new) }
     ensures reports_fit { ReportsFit verified.now.image reports.new }
 {
+    let listed = &mut outputs.listed;
+    let listing = &mut *outputs.listing;
     reports.listing.put_to(listed, listing);
     let preproc = EventCode::ApplicationPreproc;
     let Ok(()) = apply(verified, machine, store, reports, preproc, listed, listing) else {
@@ -92,11 +81,8 @@ pub(crate) fn run_cases<C: Code, M: Runs, R: Input, O: Output, L: Output>(
                 let Ok(()) = edit(verified, machine, &mut case, store, reports, handled) else {
                     return Err(MEMORY_FAULT);
                 };
-                let waited = written.waiting.len();
-                case.put_to(written, out);
-                let are_written = written.waiting.len() < waited;
-                put_beside(&mut reports.listing, are_written, listed, listing);
-                if written.gave_up || listed.gave_up {
+                put_run(&case, &mut reports.listing, outputs);
+                if outputs.written.gave_up || outputs.listed.gave_up {
                     return Err(WRITE_FAULT);
                 }
                 reader.take_back(case);
@@ -110,48 +96,37 @@ pub(crate) fn run_cases<C: Code, M: Runs, R: Input, O: Output, L: Output>(
 }
 
 /// Runs the application's events around the runs of lines.
-fn run_around_cases<C: Code, M: Runs, R: Input, O: Output, L: Output>(
+fn run_around_cases<C: Code, M: Runs, R: Input, O: Output, L: Output, F: Output, D: Output>(
     verified: &Verified<'_, C>,
     machine: &mut M,
     reader: &mut CaseReader<'_, R>,
     store: &mut Store,
     reports: &mut Reports,
     handled: &HandledEvents,
-    written: &mut Gatherer,
-    out: &mut O,
-    listed: &mut Gatherer,
-    listing: &mut L,
+    outputs: &mut Outputs<'_, O, L, F, D>,
 ) -> Result<Totals, RunFault>
-    requires handled { AreHandled verified.now handled.now }
-    requires machine { M.program machine.old ≡ verified.now }
-    requires reader { IsUnread verified.now reader.old.stream }
-    requires store { StoreFits verified.now.image store.old }
-    requires reports { ReportsFit verified.now.image reports.old }
-    requires unreported { IsUnreported verified.now reports.old }
-    requires written { IsFresh written.old.waiting.items written.old.gave_up }
-    requires listed { IsFresh listed.old.waiting.items listed.old.gave_up }
+    requires begins { MayBegin verified.now (M.program machine.old) reader.old.stream store.old reports.old handled.now }
+    requires fresh { AreFresh outputs.old }
     ensures same_reference { reader.new.input.ghost_name ≡ reader.old.input.ghost_name }
+    ensures same_outputs { AreSame outputs.old outputs.new }
+    ensures left { LeavesEnd outputs.old outputs.new }
     ensures same { M.program machine.new ≡ verified.now }
-    ensures ok { IfOk result (λ totals. Ran verified.now store.old (R.given reader.old.input.now) (R.given reader.new.input.now) store.new reports.new
-        (device (O.taken out.old) (O.has_failed out.old) (behind O.taken O.has_failed out.new written.new))
-        (device (L.taken listing.old) (L.has_failed listing.old) (behind L.taken L.has_failed listing.new listed.new)) totals) }
-    ensures err { IfErr result (λ fault. Halts verified.now store.old (R.given reader.old.input.now) (R.given reader.new.input.now)
-        (device (O.taken out.old) (O.has_failed out.old) (behind O.taken O.has_failed out.new written.new))
-        (device (L.taken listing.old) (L.has_failed listing.old) (behind L.taken L.has_failed listing.new listed.new)) fault) }
+    ensures ok { IfOk result (RanBy R.Input O.Output L.Output verified.now store.old reader.old reader.new store.new reports.new outputs.old outputs.new) }
+    ensures err { IfErr result (HaltsBy R.Input O.Output L.Output verified.now store.old reader.old reader.new outputs.old outputs.new) }
     ensures store_fits { OnOk result (StoreFits verified.now.image store.new) }
     ensures reports_fit { ReportsFit verified.now.image reports.new }
 {
-    let totals = run_cases(
-        verified, machine, reader, store, reports, handled, written, out, listed, listing,
-    )?;
+    let totals = run_cases(verified, machine, reader, store, reports, handled, outputs)?;
     let postproc = EventCode::ApplicationPostproc;
+    let listed = &mut outputs.listed;
+    let listing = &mut *outputs.listing;
     let Ok(()) = apply(verified, machine, store, reports, postproc, listed, listing) else {
         return Err(MEMORY_FAULT);
     };
     Ok(totals)
 }
 
-/// Runs all that the reader has left, and closes the outputs.
+/// Runs all that the reader has left, and writes all that waits.
 fn run_reader<C: Code, M: Runs, R: Input, O: Output, L: Output, F: Output, D: Output>(
     verified: &Verified<'_, C>,
     machine: &mut M,
@@ -159,67 +134,45 @@ fn run_reader<C: Code, M: Runs, R: Input, O: Output, L: Output, F: Output, D: Ou
     store: &mut Store,
     reports: &mut Reports,
     handled: &HandledEvents,
-    out: &mut O,
-    listing: &mut L,
-    frequencies: &mut F,
-    decks: &mut D,
+    outputs: &mut Outputs<'_, O, L, F, D>,
 ) -> Result<Totals, RunFault>
-    requires handled { AreHandled verified.now handled.now }
-    requires machine { M.program machine.old ≡ verified.now }
-    requires reader { IsUnread verified.now reader.old.stream }
-    requires store { StoreFits verified.now.image store.old }
-    requires reports { ReportsFit verified.now.image reports.old }
-    requires unreported { IsUnreported verified.now reports.old }
+    requires begins { MayBegin verified.now (M.program machine.old) reader.old.stream store.old reports.old handled.now }
+    requires fresh { AreFresh outputs.old }
     ensures same_reference { reader.new.input.ghost_name ≡ reader.old.input.ghost_name }
+    ensures same_outputs { AreSame outputs.old outputs.new }
     ensures same { M.program machine.new ≡ verified.now }
-    ensures ok { IfOk result (λ totals. RunsWhole verified.now store.old (R.given reader.old.input.now) (R.given reader.new.input.now)
-        (contents (O.taken out.old) (L.taken listing.old) (F.taken frequencies.old) (D.taken decks.old))
-        (contents (O.taken out.new) (L.taken listing.new) (F.taken frequencies.new) (D.taken decks.new)) totals) }
-    ensures err { IfErr result (λ fault. RunStops verified.now store.old (R.given reader.old.input.now) (R.given reader.new.input.now)
-        (contents (O.taken out.old) (L.taken listing.old) (F.taken frequencies.old) (D.taken decks.old))
-        (contents (O.taken out.new) (L.taken listing.new) (F.taken frequencies.new) (D.taken decks.new))
-        (failures (O.has_failed out.new) (L.has_failed listing.new) (F.has_failed frequencies.new) (D.has_failed decks.new)) fault) }
+    ensures ok { IfOk result (RunsWholeBy R.Input O.Output L.Output F.Output D.Output verified.now store.old reader.old reader.new outputs.old outputs.new) }
+    ensures err { IfErr result (RunStopsBy R.Input O.Output L.Output F.Output D.Output verified.now store.old reader.old reader.new outputs.old outputs.new) }
 {
-    let mut written = Gatherer::new();
-    let mut listed = Gatherer::new();
     let totals = match run_around_cases(
-        verified,
-        machine,
-        reader,
-        store,
-        reports,
-        handled,
-        &mut written,
-        out,
-        &mut listed,
-        listing,
+        verified, machine, reader, store, reports, handled, outputs,
     ) {
         Ok(totals) => totals,
         Err(fault) => {
-            let _ = written.finish(out);
-            let _ = listed.finish(listing);
+            let _ = finish(&mut outputs.written, outputs.out);
+            let _ = finish(&mut outputs.listed, outputs.listing);
             return Err(fault);
         }
     };
-    let Ok(()) = written.finish(out) else {
+    let Ok(()) = finish(&mut outputs.written, outputs.out) else {
         return Err(WRITE_FAULT);
     };
-    let Ok(()) = listed.finish(listing) else {
+    let Ok(()) = finish(&mut outputs.listed, outputs.listing) else {
         return Err(WRITE_FAULT);
     };
     let Ok(()) = reports
         .listing
-        .write_to(totals.cases, totals.lines, totals.unseen, listing)
+        .write_to(totals.cases, totals.lines, totals.unseen, outputs.listing)
     else {
         return Err(WRITE_FAULT);
     };
     let Ok(()) = reports
         .frequencies
-        .write_to(verified.dictionary(), frequencies)
+        .write_to(verified.dictionary(), outputs.frequencies)
     else {
         return Err(WRITE_FAULT);
     };
-    let Ok(()) = save(verified.program(), store, decks) else {
+    let Ok(()) = save(verified.program(), store, outputs.decks) else {
         return Err(WRITE_FAULT);
     };
     Ok(totals)
@@ -263,6 +216,7 @@ pub fn run_by<C: Code, M: Runs, R: Input, O: Output, L: Output, F: Output, D: Ou
     };
     let mut kept = store;
     let mut reader = CaseReader::new(alloc, verified.dictionary(), input);
+    let mut outputs = Outputs::new(out, listing, frequencies, decks);
     let result = run_reader(
         verified,
         machine,
@@ -270,10 +224,7 @@ pub fn run_by<C: Code, M: Runs, R: Input, O: Output, L: Output, F: Output, D: Ou
         &mut kept,
         &mut reports,
         &handled,
-        out,
-        listing,
-        frequencies,
-        decks,
+        &mut outputs,
     );
     let _ = reader.close();
     result
