@@ -22,10 +22,11 @@ use Rattle.cse_law_faults_are_told.specs.Counted.{ArrayIsCounted, FunctionIsCoun
 use Rattle.cse_law_faults_are_told.proofs.Truths.{none, and_both, none_both, none_unless, there_if, told_both}
 use Rattle.cse_law_faults_are_told.proofs.Expressions.{set_told}
 use Rattle.cse_law_faults_are_told.proofs.Statements.{whole_told, block_told}
-use Rattle.cse_types.specs.JudgeTree.{are_new, is_free, is_new, names_of, set_rows, set_dimension, dimension_judged, dimensions_judged, cells_judged, array_of, array_judged, arrays_judged, function_of, function_judged, behind_function, alpha_of, declaration_judged, behind, messages_past, declarations_judged, behind_all}
-use Rattle.cse_types.specs.Fresh.{body_scope}
+use Rattle.cse_types.specs.JudgeTree.{set_rows, set_dimension, dimension_judged, dimensions_judged, cells_judged, array_of, array_judged, arrays_judged, function_of, function_judged, behind_function, alpha_of, declaration_judged, behind, messages_past, declarations_judged, behind_all}
+use Rattle.cse_logic_new_names.specs.Names.{are_new, is_free, is_new, names_of}
+use Rattle.cse_logic_new_names.specs.Fresh.{body_scope}
 use Rattle.cse_types.specs.SourceFaults.{size_faults, rows_faults, dimension_faults, dimensions_faults, cells_faults, parameters_scope, declaration_faults, declarations_faults, parameters_in, dimensions_in, counts_in}
-use Rattle.cse_types.proofs.FreshLaws.{fresh_sound, fresh_are}
+use Rattle.cse_logic_new_names.proofs.FreshLaws.{fresh_sound, fresh_are}
 use Rattle.cse_types.proofs.TreeRight.{arrays_behind}
 use Rattle.cse_types.proofs.NamesTold.{are_apart, parameters_are_new, are_parameters}
 

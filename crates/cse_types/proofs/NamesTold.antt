@@ -21,8 +21,8 @@ use Rattle.cse_logic_names.proofs.NameLaws.{has_named}
 use Rattle.cse_logic_names.proofs.Walks.{some_there}
 use Rattle.cse_logic_faults.specs.Faults.{Fault}
 use Rattle.cse_law_faults_are_told.proofs.Truths.{none, and_both, and_flip, and_second, and_pairs, none_both, none_beside}
-use Rattle.cse_types.specs.JudgeTree.{are_new, is_free, is_new, names_of}
-use Rattle.cse_types.specs.SourceFaults.{and_name, and_names, kept_names, is_untaken, name_faults, new_names_faults, spelled, names_faults}
+use Rattle.cse_logic_new_names.specs.Names.{are_new, is_free, is_new, names_of}
+use Rattle.cse_logic_new_names.specs.NameFaults.{and_name, and_names, kept_names, is_untaken, name_faults, new_names_faults, spelled, names_faults}
 
 -- ---- names that are apart
 

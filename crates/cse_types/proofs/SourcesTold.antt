@@ -26,10 +26,12 @@ use Rattle.cse_logic_expressions.specs.JudgeStatement.{judge_block}
 use Rattle.cse_law_faults_are_told.specs.Counted.{IsCounted}
 use Rattle.cse_law_faults_are_told.proofs.Truths.{none, least_there, and_flip, and_pairs, none_both, none_unless, none_beside, there_if, there_both, told_both}
 use Rattle.cse_law_faults_are_told.proofs.Statements.{block_told}
-use Rattle.cse_types.specs.JudgeTree.{are_new, is_free, names_of, owner_names, arrays_judged, declarations_judged, behind_all, body_judged, procedure_of, owned, procedure_judged, procedures_judged, names_scope, start_scope, globals_judged, tree_of, typed_of}
+use Rattle.cse_types.specs.JudgeTree.{arrays_judged, declarations_judged, behind_all, body_judged, procedure_of, owned, procedure_judged, procedures_judged, names_scope, start_scope, globals_judged, tree_of, typed_of}
+use Rattle.cse_logic_new_names.specs.Names.{are_new, is_free, names_of, owner_names}
 use Rattle.cse_types.specs.Checked.{start_of}
-use Rattle.cse_types.specs.SourceFaults.{and_name, names_faults, declarations_faults, may_own, own_item_faults, own_faults, owner_faults, body_faults, owner_or_level, procedure_faults, procedures_faults, counts_in, first_known, faults_of}
-use Rattle.cse_types.proofs.TableLaws.{table_sound, table_names}
+use Rattle.cse_types.specs.SourceFaults.{declarations_faults, may_own, own_item_faults, own_faults, owner_faults, body_faults, owner_or_level, procedure_faults, procedures_faults, counts_in, first_known, faults_of}
+use Rattle.cse_logic_new_names.specs.NameFaults.{and_name, names_faults}
+use Rattle.cse_logic_new_names.proofs.TableLaws.{table_sound, table_names}
 use Rattle.cse_types.proofs.TreeRight.{arrays_alone}
 use Rattle.cse_types.proofs.NamesTold.{and_name_told, apart_of_none, names_in, declared_names, are_parameters, names_told}
 use Rattle.cse_types.proofs.DeclarationsTold.{are_there, arrays_counted, arrays_sound, arrays_told, parameters_sound, IsReady, AreTold, declarations_told}

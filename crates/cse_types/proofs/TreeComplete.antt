@@ -15,9 +15,10 @@ use Rattle.cse_logic_names.specs.Scope.{Scope, in_dictionary, meant}
 use Rattle.cse_logic_names.specs.Uses.{facts_of}
 use Rattle.cse_logic_names.specs.WellTyped.{IsWhole, IsDimension, IsNew, parameter_names, function_scope, with_function, IsFunction, AreDeclared, body_messages, IsBody, procedure_scope, AreProcedures, all_declarations, typed_declarations, declared_in, declared_messages, tree_messages, arrays_in, with_functions, first_scope, IsWell, entry_of, messages_of}
 use Rattle.cse_logic_expressions.specs.JudgeStatement.{judge_block}
-use Rattle.cse_types.specs.JudgeTree.{are_new, is_free, is_new, names_of, owner_names, dimension_judged, dimensions_judged, cells_judged, array_judged, arrays_judged, function_judged, behind_function, declarations_judged, behind_all, body_judged, procedure_of, owned, procedures_judged, names_scope, start_scope, globals_judged, tree_of, typed_of}
+use Rattle.cse_types.specs.JudgeTree.{dimension_judged, dimensions_judged, cells_judged, array_judged, arrays_judged, function_judged, behind_function, declarations_judged, behind_all, body_judged, procedure_of, owned, procedures_judged, names_scope, start_scope, globals_judged, tree_of, typed_of}
+use Rattle.cse_logic_new_names.specs.Names.{are_new, is_free, is_new, names_of, owner_names}
 use Rattle.cse_logic_names.specs.Walk.{is_there, joined, only_if}
-use Rattle.cse_types.proofs.NewNames.{new_complete, apart_of_none, not_there}
+use Rattle.cse_logic_new_names.proofs.NewNames.{new_complete, apart_of_none, not_there}
 use Rattle.cse_types.proofs.TreeRight.{arrays_alone, owner_names_are, start_of}
 use Rattle.cse_types.proofs.StatementsComplete.{block_complete}
 

@@ -23,11 +23,12 @@ use Rattle.cse_logic_names.specs.Uses.{facts_of}
 use Rattle.cse_logic_names.specs.WellTyped.{IsWhole, signed_value, size_of, IsDimension, IsNumberSet, IsNew, parameter_names, function_scope, with_function, IsFunction, AreDeclared, owner_meant, body_messages, IsBody, procedure_scope, AreProcedures, AreStatements, all_declarations, typed_declarations, declared_in, declared_messages, tree_messages, arrays_in, with_functions, first_scope, IsWell, IsTypedAs, entry_of, messages_of}
 use Rattle.cse_logic_expressions.specs.Judge.{number_set}
 use Rattle.cse_logic_expressions.specs.JudgeStatement.{whole_judged, judge_block}
-use Rattle.cse_types.specs.JudgeTree.{are_new, is_free, is_new, names_of, owner_names, set_rows, set_dimension, dimension_judged, dimensions_judged, cells_judged, array_of, array_judged, arrays_judged, function_of, function_judged, behind_function, alpha_of, declaration_judged, behind, messages_past, declarations_judged, behind_all, body_judged, procedure_of, owned, procedure_judged, procedures_judged, names_scope, start_scope, globals_judged, tree_of, typed_of}
+use Rattle.cse_types.specs.JudgeTree.{set_rows, set_dimension, dimension_judged, dimensions_judged, cells_judged, array_of, array_judged, arrays_judged, function_of, function_judged, behind_function, alpha_of, declaration_judged, behind, messages_past, declarations_judged, behind_all, body_judged, procedure_of, owned, procedure_judged, procedures_judged, names_scope, start_scope, globals_judged, tree_of, typed_of}
+use Rattle.cse_logic_new_names.specs.Names.{are_new, is_free, is_new, names_of, owner_names}
 use Rattle.cse_logic_names.specs.Walk.{is_there, joined, only_if, walk}
 use Rattle.cse_logic_expressions.proofs.Right.{For, for_map, for_joined, for_only, set_right}
 use Rattle.cse_types.proofs.StatementsRight.{AreTypedStatements, whole_right, some_right, block_right}
-use Rattle.cse_types.proofs.NewNames.{all_of_map, new_right, none_there}
+use Rattle.cse_logic_new_names.proofs.NewNames.{all_of_map, new_right, none_there}
 
 -- what is said of an answer, and that it is the answer
 remembered : {A : Type 0} (P : A → Type 0) (o : Option A) → For P o → For (λ x. P x × (o ≡ Some x)) o

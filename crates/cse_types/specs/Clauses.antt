@@ -25,7 +25,8 @@ use Rattle.cse_logic_names.specs.WellTyped.{all_declarations}
 use Rattle.cse_logic_faults.specs.Faults.{Fault, Counts}
 use Rattle.cse_logic_faults.specs.FaultsOfStatements.{stmts_faults}
 use Rattle.cse_types.specs.JudgeTree.{behind_function, function_judged, function_of}
-use Rattle.cse_types.specs.SourceFaults.{names_faults, declarations_faults, parameters_scope}
+use Rattle.cse_types.specs.SourceFaults.{declarations_faults, parameters_scope}
+use Rattle.cse_logic_new_names.specs.NameFaults.{names_faults}
 
 -- ---- what was made
 

@@ -1,46 +1,21 @@
 -- What a whole tree of syntax is as a typed one, and where it is none: the tool that the checker follows.
-use Rattle.std.specs.Prelude.{ℕ, ◌+◌, Bool, true, false, ◌&&◌, not, List, [], ◌∷◌, ◌++◌, length, map, slice_get, Option, Some, None}
-use Rattle.std.specs.List.{list_any}
-use Rattle.std.specs.Map.{lookup}
+use Rattle.std.specs.Prelude.{ℕ, ◌+◌, Bool, true, ◌&&◌, List, [], ◌∷◌, ◌++◌, length, map, slice_get, Option, Some, None}
 use Rattle.std.specs.Option.{option_map}
-use Rattle.std.specs.Str.{bytes_eq}
 use Rattle.cse_dict.specs.Dictionary.{DictionaryText}
-use Rattle.cse_dict.specs.Keys.{kept_name}
 use Rattle.cse_syntax_tree.specs.Tree as syntax
 use Rattle.cse_syntax_tree.specs.Tree.{Spelling}
 use Rattle.cse_logic_tree.specs.declared.tree.Owner.{Owner}
 use Rattle.cse_logic_tree.specs.declared.tree.Owner.TheVariants as o
 use Rattle.cse_logic_tree.specs.Typed.{Whole, Statements, Dimension, Sized, Rows, Array, Function, Declaration, Numeric, Alpha, Array', Function', Body, Plain, Preproc, Both, Postproc, Procedure, Tree}
-use Rattle.cse_logic_names.specs.declared.meaning.Meaning.{Meaning}
 use Rattle.cse_logic_names.specs.declared.meaning.Routine.TheVariants as r
 use Rattle.cse_logic_names.specs.MessageFile.{MessageText}
-use Rattle.cse_logic_names.specs.Scope.{Scope, Facts, meant, in_dictionary}
+use Rattle.cse_logic_names.specs.Scope.{Scope, meant, in_dictionary}
 use Rattle.cse_logic_names.specs.Uses.{facts_of, needs_case, uses_block}
 use Rattle.cse_logic_names.specs.WellTyped.{size_of, one_if, rows_of, parameter_names, function_scope, owner_meant, body_messages, procedure_scope, all_declarations, declared_in, declared_messages, tree_messages, entry_of, messages_of}
+use Rattle.cse_logic_new_names.specs.Names.{are_new, is_free, is_new, names_of, owner_names}
 use Rattle.cse_logic_expressions.specs.Judge.{number_set}
 use Rattle.cse_logic_expressions.specs.JudgeStatement.{whole_judged, judge_block}
-use Rattle.cse_logic_names.specs.Walk.{is_there, joined, only_if, walk}
-
--- ---- names
-
--- each passes the test, and is none of those before it
-abbrev pub are_new : (List ℕ → Bool) → List (List ℕ) → List (List ℕ) → Bool
-are_new test found [] = true
-are_new test found (x ∷ xs) = (test x && not (list_any (bytes_eq x) found)) && are_new test (found ++ x ∷ []) xs
-
--- the dictionary has no such name
-abbrev pub is_free : DictionaryText → List ℕ → Bool
-is_free d name = not (is_there (in_dictionary d name))
-
--- no such name is in the dictionary, or declared
-abbrev pub is_new : DictionaryText → List (List ℕ × Meaning) → List ℕ → Bool
-is_new d declared name = is_free d name && not (is_there (lookup (bytes_eq name) declared))
-
-abbrev pub names_of : List (List ℕ × Meaning) → List (List ℕ)
-names_of declared = map (λ (x : List ℕ × Meaning). x.0) declared
-
-abbrev pub owner_names : List syntax.Procedure → List (List ℕ)
-owner_names ps = map (λ (p : syntax.Procedure). kept_name p.name.text) ps
+use Rattle.cse_logic_names.specs.Walk.{joined, only_if, walk}
 
 -- ---- arrays
 

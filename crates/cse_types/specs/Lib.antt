@@ -1,7 +1,5 @@
 pub mod JudgeTree
-pub mod Fresh
 pub mod Told
-pub mod Table
 pub mod Entries
 pub mod Checked
 pub mod Parts

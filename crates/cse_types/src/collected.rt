@@ -9,7 +9,6 @@ ghost use Rattle.cse_types.specs.SourceFaults as spec;
 ghost use Rattle.cse_types.specs.Clauses.{all_faults, globals_of};
 
 use crate::declared::all_declarations;
-use crate::new_names::all_names;
 use crate::owned::all_procedures;
 use crate::parts::{declared_names, procedures_in, start};
 use crate::told::Told;
@@ -19,6 +18,7 @@ use cse_logic_faults::found::Found;
 use cse_logic_names::faults::Fault;
 use cse_logic_names::messages::Messages;
 use cse_logic_names::scope::Scope;
+use cse_logic_new_names::new_names::all_names;
 use cse_syntax::{Declaration, Tree};
 use std::alloc::{AllocError, Global};
 

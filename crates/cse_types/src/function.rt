@@ -2,57 +2,25 @@
 
 ghost use Rattle.std.specs.Prelude.{◌≡◌, ◌++◌, ◌∷◌, [], map, length, IfOk, OnOk};
 ghost use Rattle.std.specs.Option.{option_map};
-ghost use Rattle.cse_dict.specs.Keys.{kept_name};
 ghost use Rattle.cse_syntax_tree.specs.Tree as syntax;
 ghost use Rattle.cse_logic_tree.specs.Typed as typed;
 ghost use Rattle.cse_types.specs.Told.{told_of};
 ghost use Rattle.cse_logic_names.specs.Uses.{facts_of};
-ghost use Rattle.cse_logic_names.specs.WellTyped.{messages_of, parameter_names};
+ghost use Rattle.cse_logic_names.specs.WellTyped.{messages_of};
 ghost use Rattle.cse_logic_expressions.specs.JudgeStatement.{judge_block};
-ghost use Rattle.cse_types.specs.JudgeTree as spec;
-ghost use Rattle.cse_types.specs.Fresh.{body_scope, fresh_names, with_fresh};
+ghost use Rattle.cse_logic_new_names.specs.Fresh.{body_scope};
 ghost use Rattle.cse_types.specs.Clauses.{behind_judged, block_made, function_made, judged_function};
 
-use crate::fresh::{Fresh, is_new};
 use crate::statement::block;
 use crate::told::Told;
 use cse_logic_names::facts::facts_of;
 use cse_logic_names::meaning::Routine;
-use cse_logic_names::names::{Parameters, kept};
+use cse_logic_names::names::Parameters;
 use cse_logic_names::scope::{Facts, Scope};
+use cse_logic_new_names::parameters::parameters;
 use cse_logic_tree::{Function, Statement};
 use cse_syntax::{Lexeme, Parameter, Statement as Parsed};
 use std::alloc::{AllocError, Global};
-
-/// One parameter more.
-fn parameter(
-    alloc: Global,
-    scope: &Scope<'_>,
-    fresh: &mut Fresh,
-    x: &Parameter<'_>,
-) -> Result<(), AllocError>
-    ensures { OnOk result (fresh.new ≡ with_fresh (spec.is_new scope.now.dictionary scope.now.declared) fresh.old (kept_name x.now.name.text.now)) }
-{
-    let name = kept(alloc, x.name.text)?;
-    let passes = is_new(scope.dictionary, &scope.declared, x.name.text, &name);
-    fresh.add(name, passes)
-}
-
-/// The names of parameters: each is new.
-#[tactic(auto, using(crate::proofs::FreshLaws::parameter_turn))]
-pub fn parameters(
-    alloc: Global,
-    scope: &Scope<'_>,
-    all: &Vec<Parameter<'_>>,
-) -> Result<Fresh, AllocError>
-    ensures { IfOk result (λ r. r ≡ fresh_names (spec.is_new scope.now.dictionary scope.now.declared) (parameter_names (map syntax.parameter all.now.items))) }
-{
-    let mut fresh = Fresh::new(alloc);
-    'all: for x in all {
-        parameter(alloc, scope, &mut fresh, x)?;
-    }
-    Ok(fresh)
-}
 
 /// The statements of the next function, in which these names are its parameters.
 fn body_in<'a>(

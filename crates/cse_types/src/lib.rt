@@ -2,10 +2,9 @@
 //!
 //! - `told`: the messages of a source.
 //! - `statement`: the walk over statements.
-//! - `fresh`, `table`, `owners`: names that are new, each once: of parameters, of declarations, of procedures.
 //! - `array`, `arrays`: arrays, and the dimensions of all of them.
 //! - `function`, `declaration`, `procedure`: functions, declarations and procedures, one after the other.
-//! - `new_names`, `declared`, `owned`, `collected`: all faults of a source that is refused.
+//! - `declared`, `owned`, `collected`: all faults of a source that is refused.
 //! - `entries`: the messages of a source with their numbers and texts.
 //! - `reading`: what the types of tokens hold.
 //! - `parts`, `checked`, `typed`: a whole source, from its names to the typed tree.
@@ -19,17 +18,13 @@ mod collected;
 mod declaration;
 mod declared;
 mod entries;
-mod fresh;
 mod function;
 mod laws;
-mod new_names;
 mod owned;
-mod owners;
 mod parts;
 mod procedure;
 mod reading;
 mod statement;
-mod table;
 mod told;
 mod typed;
 

@@ -8,8 +8,8 @@ ghost use Rattle.cse_logic_names.specs.Scope as scopes;
 ghost use Rattle.cse_logic_names.specs.WellTyped.{procedure_scope};
 ghost use Rattle.cse_types.specs.SourceFaults as spec;
 ghost use Rattle.cse_types.specs.Clauses.{two_parts};
+ghost use Rattle.cse_logic_new_names.specs.NameFaults.{and_name};
 
-use crate::new_names::add;
 use crate::procedure::{meant_by, owner_meant};
 use cse_dict::Dictionary;
 use cse_fault_numbers::{OPAQUE_ITEM, UNKNOWN_NAME, UNUSABLE_HERE};
@@ -19,6 +19,7 @@ use cse_logic_faults::statement::block;
 use cse_logic_names::meaning::{Meaning, Routine};
 use cse_logic_names::names::{Parameters, kept};
 use cse_logic_names::scope::{Scope, kind_and_owner};
+use cse_logic_new_names::new_names::add;
 use cse_logic_tree::Owner;
 use cse_syntax::{Body, Lexeme, Procedure, Statement};
 use cse_value::shape::ItemKind;
@@ -82,7 +83,7 @@ fn owner_name(
     meaning: Option<Meaning>,
 ) -> Result<(), AllocError>
     ensures found { OnOk result (found.new ≡ found.old ++ spec.owner_faults dictionary.now before.old (written name.entry) meaning) }
-    ensures before { OnOk result (before.new ≡ spec.and_name before.old (kept_name name.entry.text.now)) }
+    ensures before { OnOk result (before.new ≡ and_name before.old (kept_name name.entry.text.now)) }
 {
     let kept = kept(alloc, name.text)?;
     found.unless(
@@ -171,7 +172,7 @@ fn one(
     x: &Procedure<'_>,
 ) -> Result<(), AllocError>
     ensures found { OnOk result (found.new ≡ found.old ++ spec.procedure_faults counts.now scope.old before.old (syntax.procedure x.now)) }
-    ensures before { OnOk result (before.new ≡ spec.and_name before.old (kept_name x.now.name.text.now)) }
+    ensures before { OnOk result (before.new ≡ and_name before.old (kept_name x.now.name.text.now)) }
     ensures same { OnOk result (scope.new ≡ scope.old) }
 {
     let meaning = meant_by(alloc, scope.dictionary, x.name)?;

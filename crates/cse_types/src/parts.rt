@@ -6,22 +6,21 @@ ghost use Rattle.cse_syntax_tree.specs.Tree as syntax;
 ghost use Rattle.cse_logic_tree.specs.Typed as typed;
 ghost use Rattle.cse_types.specs.Checked as spec;
 ghost use Rattle.cse_types.specs.Checked.{parts_judged, tree_over, with_entries};
-ghost use Rattle.cse_types.specs.Fresh.{fresh_names};
+ghost use Rattle.cse_logic_new_names.specs.Fresh.{fresh_names};
 ghost use Rattle.cse_types.specs.Entries.{are_said};
 ghost use Rattle.cse_types.specs.JudgeTree as judge;
 ghost use Rattle.cse_types.specs.Parts.{parts_tree};
-ghost use Rattle.cse_types.specs.Table as tables;
+ghost use Rattle.cse_logic_new_names.specs.Table as tables;
 ghost use Rattle.cse_types.specs.Told.{told_of};
 ghost use Rattle.cse_logic_names.specs.WellTyped.{declared_messages, tree_messages};
 ghost use Rattle.cse_logic_names.specs.Walk.{is_there, joined};
 ghost use Rattle.cse_types.specs.Clauses.{declarations_made, each_made, globals_made, globals_of, procedures_made};
+ghost use Rattle.cse_logic_new_names.specs.Names.{owner_names};
 
 use crate::arrays::arrays;
 use crate::declaration::declarations;
 use crate::entries::entries;
-use crate::owners::owners;
 use crate::procedure::procedures;
-use crate::table::{Table, table_of};
 use crate::told::Told;
 use cse_dict::Dictionary;
 use cse_logic_expressions::list::both_hold;
@@ -29,6 +28,8 @@ use cse_logic_names::meaning::Routine;
 use cse_logic_names::messages::Messages;
 use cse_logic_names::names::{Names, Parameters};
 use cse_logic_names::scope::Scope;
+use cse_logic_new_names::owners::owners;
+use cse_logic_new_names::table::{Table, table_of};
 use cse_logic_tree::{Declaration, Dimension, Owner, Procedure, Tree};
 use cse_syntax::{Procedure as ParsedProcedure, Tree as Parsed};
 use std::alloc::{AllocError, Global};
@@ -208,7 +209,7 @@ fn tree_of<'a>(
 
 /// Whether each procedure has a name of its own.
 fn are_apart(alloc: Global, tree: &Parsed<'_>) -> Result<bool, AllocError>
-    ensures { IfOk result (λ b. b ≡ (fresh_names (λ name. true) (judge.owner_names (syntax.tree tree.now).procedures)).is_sound) }
+    ensures { IfOk result (λ b. b ≡ (fresh_names (λ name. true) (owner_names (syntax.tree tree.now).procedures)).is_sound) }
 {
     let fresh = owners(alloc, procedures_in(tree))?;
     Ok(fresh.is_sound)

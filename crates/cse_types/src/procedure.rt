@@ -64,7 +64,7 @@ pub fn owner_meant(dictionary: &Dictionary, meaning: Option<Meaning>) -> Option<
 }
 
 /// What a name means in the dictionary.
-#[tactic(auto, using(crate::proofs::FreshLaws::kept_there))]
+#[tactic(auto, using(cse_logic_new_names::proofs::FreshLaws::kept_there))]
 pub fn meant_by(
     alloc: Global,
     dictionary: &Dictionary,

@@ -1,0 +1,5 @@
+pub mod FoundNames
+pub mod FreshLaws
+pub mod NewNames
+pub mod OwnerLaws
+pub mod TableLaws

@@ -1,0 +1,4 @@
+pub mod Names
+pub mod Fresh
+pub mod Table
+pub mod NameFaults
