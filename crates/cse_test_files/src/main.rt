@@ -2,26 +2,20 @@
 //! The files that are opened, in their order, all files after it, what is printed, what is told and the status are
 //! compared with those that the formats and the rules of the language say.
 //!
-//! The tables are texts in `data/rows`, in the form that `block` and `text` say. They are read when the program runs, so that a
+//! The tables are texts in `data/rows`, in the form that `block` and `text` of `cse_test_desk` say. They are read when the program runs, so that a
 //! row costs no proof. `data/rows/tables.txt` names them.
 //!
 //! The files of `data/sample`, `data/household` and `data/hello` are those of `examples`. Those of `data/wanted` were
 //! derived from the rules, as those of the household sample were, but for `AGE.img`: as `HOUSEHOLD.img` it is what the
 //! compiler gave, read field by field.
 //!
-//! - `block`: what a row is, and how it is read. `text`: texts that stand in rows. `row`: how a row is carried out. `desk`: the
-//!   runtime that it is carried out over. `amiss`: what may be amiss there. `sheet`: an open file of it.
+//! `cse_test_desk` says what a row is, and has the runtime that it is carried out over. `row`: how it is carried out.
 #![tactic(auto)]
 
-mod amiss;
-mod block;
-mod desk;
 mod row;
-mod sheet;
-mod text;
 
-use crate::block::{Row, has_words, is_row};
 use crate::row::is_right;
+use cse_test_desk::block::{Row, has_words, is_row};
 use std::fs;
 use std::rt::Files;
 

@@ -1,11 +1,11 @@
 //! A row is carried out: commands over the files of the folder in which the program runs, and what they come to.
 
-use crate::amiss::{Amiss, amiss_of};
-use crate::block::{AMISS, FILES, MADE, OPENED, PRINTED, Row, STATUS, TOLD, WORDS};
-use crate::desk::{Desk, Notes};
-use crate::text::{put, put_lines, put_text};
 use cse_check::command::carry_out;
 use cse_commands::start::{USAGE, carry_out_and_tell};
+use cse_test_desk::amiss::{Amiss, amiss_of};
+use cse_test_desk::block::{AMISS, FILES, MADE, OPENED, PRINTED, Row, STATUS, TOLD, WORDS};
+use cse_test_desk::desk::{Desk, Notes};
+use cse_test_desk::text::{put, put_lines, put_text};
 use cse_value::{Output, Writes};
 use std::cell::RefCell;
 use std::fs;
