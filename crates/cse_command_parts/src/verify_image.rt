@@ -58,7 +58,8 @@ fn verify_with<W: Output>(
     image: &[u8],
     out: &mut W,
 ) -> Result<(), VerifyFault>
-    ensures passes { (text : List ℕ) → IsReadAs text dictionary.now → OnOk result ((p : Passes text image.now) × Appends (W.taken out.old) (W.taken out.new) (told p)) }
+    ensures passes { (text : List ℕ) → IsReadAs text dictionary.now
+        → OnOk result ((p : Passes text image.now) × Appends (W.taken out.old) (W.taken out.new) (told p)) }
     ensures fails { (text : List ℕ) → IsReadAs text dictionary.now → IfErr result (λ f. is_failed_write f ≡ false → FailsBy text image.now f) }
     ensures before { (text : List ℕ) → IsReadAs text dictionary.now → IfErr result (λ f. TellsBefore text image.now f (W.taken out.old) (W.taken out.new)) }
     ensures failed { FailsOnlyByWrite result (W.has_failed out.old) (W.has_failed out.new) }

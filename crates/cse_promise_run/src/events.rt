@@ -27,8 +27,10 @@ pub fn run_event<C: Code>(
     requires fits { FitsFirst machine.old (moment event.code event.index occurrence) (Some case.old) store.old }
     requires reports { ReportsFit machine.old.image reports.old }
     ensures same { machine.new ≡ machine.old }
-    ensures ended { IfOk result (λ n. RunsTo machine.old (moment event.code event.index occurrence) (Some case.old) store.old reports.old n (Some case.new) store.new reports.new) }
-    ensures halted { OnErr result (HaltsAt machine.old (moment event.code event.index occurrence) (Some case.old) store.old reports.old (Some case.new) store.new reports.new) }
+    ensures ended { IfOk result
+        (λ n. RunsTo machine.old (moment event.code event.index occurrence) (Some case.old) store.old reports.old n (Some case.new) store.new reports.new) }
+    ensures halted { OnErr result
+        (HaltsAt machine.old (moment event.code event.index occurrence) (Some case.old) store.old reports.old (Some case.new) store.new reports.new) }
     ensures case_fits { IsFit case.new }
     ensures store_fits { StoreFits machine.old.image store.new }
     ensures reports_fit { ReportsFit machine.old.image reports.new }
