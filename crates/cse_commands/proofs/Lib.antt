@@ -1,3 +1,2 @@
-pub mod CompiledLaws
 pub mod DoesLaws
 pub mod EditedLaws

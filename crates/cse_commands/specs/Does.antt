@@ -3,7 +3,7 @@ use Rattle.std.specs.Prelude.{◌≡◌, ◌⊎◌, ℕ, List, [], Result, Ok, E
 use Rattle.cse_value.specs.Device.{Appends}
 use Rattle.cse_value.specs.Writing.{AppendsFront}
 use Rattle.cse_batch.specs.declared.totals.Totals.{Totals}
-use Rattle.cse_commands.specs.declared.compiled.CompiledFiles.{CompiledFiles}
+use Rattle.cse_command_compile.specs.declared.compiled.CompiledFiles.{CompiledFiles}
 use Rattle.cse_commands.specs.declared.edited.EditedFiles.{EditedFiles}
 use Rattle.cse_command_parts.specs.declared.judged.TriedFile.{TriedFile}
 use Rattle.cse_command_parts.specs.declared.judged.VerifiedFiles.{VerifiedFiles}
@@ -17,12 +17,12 @@ use Rattle.cse_command_line.specs.declared.plan.RunPaths.{RunPaths}
 use Rattle.cse_command_parts.specs.declared.printing.TheConstants.{VERSION}
 use Rattle.cse_command_parts.specs.declared.ran.RanFiles.{RanFiles}
 use Rattle.cse_command_parts.specs.declared.ran.RanFrom.{RanFrom}
-use Rattle.cse_commands.specs.Compiled.{AreCompilePaths, CompilesFiles}
+use Rattle.cse_command_compile.specs.Compiled.{AreCompilePaths, CompilesFiles}
 use Rattle.cse_command_parts.specs.Counted.{counted}
 use Rattle.cse_commands.specs.Edited.{AreEditPaths, EditsFiles}
 use Rattle.cse_command_parts.specs.Ending.{plain_fault}
 use Rattle.cse_command_parts.specs.Halts.{StopsRun, StopsTry, StopsVerify}
-use Rattle.cse_commands.specs.CompileHalts.{StopsCompile}
+use Rattle.cse_command_compile.specs.CompileHalts.{StopsCompile}
 use Rattle.cse_commands.specs.EditHalts.{StopsEdit}
 use Rattle.cse_command_parts.specs.Judged.{TriesFile, VerifiesFiles}
 use Rattle.cse_command_parts.specs.Printed.{compiled_line, totals_line, version_line}

@@ -1,5 +1,3 @@
-pub mod Compiled
-pub mod CompileHalts
 pub mod Does
 pub mod EditHalts
 pub mod Edited

@@ -7,7 +7,7 @@ ghost use Rattle.cse_command_parts.specs.Halts.{StopsTry, StopsVerify};
 ghost use Rattle.cse_command_parts.specs.Printed.{version_line};
 ghost use Rattle.cse_command_parts.specs.Ran.{told_by};
 
-use crate::compile_image::compile_files;
+use cse_command_compile::compile_image::compile_files;
 use crate::edit_data::edit_files;
 use crate::edited::EditedFiles;
 use cse_batch::Totals;

@@ -1,14 +1,11 @@
 //! The commands of csbatch: from the words of its command line to files, streams and exit statuses.
 //!
 //! - `commands`: from the words to what is done.
-//! - `compile_image`: `compile`, logic to an image. `compiled`: what it came to.
 //! - `edit_data`: `edit`, logic over a data file with no image between. `edited`: what it came to.
 //! - `start`: what the program is: a command, what is told of it, and its status.
 #![tactic(auto)]
 
 pub mod commands;
-pub mod compile_image;
-pub mod compiled;
 pub mod edit_data;
 pub mod edited;
 pub mod start;

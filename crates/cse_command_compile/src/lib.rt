@@ -1,0 +1,7 @@
+//! `compile`: logic to an image, from file to file.
+//!
+//! - `compile_image`: the image of the texts of files, written whole. `compiled`: what it came to.
+#![tactic(auto)]
+
+pub mod compile_image;
+pub mod compiled;

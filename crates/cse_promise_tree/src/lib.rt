@@ -1,8 +1,0 @@
-//! What `Statement::each_occurrence` of cse_logic_tree promises, said again of the call alone.
-//! It is proved only while the call's own clauses say as much, so a body that is refused here is refused by the call's:
-//! the edits of `must-fail/` are such bodies, each for a check of a few lines.
-#![tactic(auto)]
-
-mod loops;
-
-pub use loops::each_occurrence;
