@@ -1,20 +1,3 @@
-pub mod StatementsRight
-pub mod StatementsComplete
-pub mod Counted
-pub mod Blocks
-pub mod TreeRight
-pub mod TreeComplete
-pub mod Sizes
-pub mod FoundLaws
-pub mod FunctionLaws
-pub mod SetRows
-pub mod DeclarationLaws
-pub mod ProcedureLaws
-pub mod ArrayLaws
-pub mod EntryLaws
 pub mod SaidLaws
 pub mod CheckLaws
-pub mod NamesTold
-pub mod DeclarationsTold
-pub mod SourcesTold
 mod Utf8

@@ -1,10 +1,3 @@
-pub mod JudgeTree
-pub mod Told
-pub mod Entries
 pub mod Checked
-pub mod Parts
 pub mod Answer
-pub mod SourceFaults
-pub mod CountsBehind
 pub mod TheFault
-pub mod Clauses

@@ -11,13 +11,11 @@ ghost use Rattle.cse_types.specs.Checked.{IsChecked};
 ghost use Rattle.cse_logic_names.specs.Fault.{out_of_memory};
 ghost use Rattle.cse_logic_names.specs.OrderFile.{IsOrderOf};
 ghost use Rattle.cse_logic_names.specs.Texts.{AreTexts, AreUtf8};
-ghost use Rattle.cse_types.specs.JudgeTree.{typed_of};
+ghost use Rattle.cse_logic_sources.specs.JudgeTree.{typed_of};
 ghost use Rattle.cse_types.specs.TheFault.{IsLeast};
 ghost use Rattle.cse_logic_names.specs.WellTyped.{IsTypedAs};
 ghost use Rattle.cse_logic_names.specs.Walk.{is_there};
 
-use crate::collected::faults;
-use crate::parts::judged;
 use crate::reading::read_tokens;
 use crate::typed::Typed;
 use cse_dict::Dictionary;
@@ -27,7 +25,9 @@ use cse_logic_names::error::TypeError;
 use cse_logic_names::faults::Fault;
 use cse_logic_names::messages::Messages;
 use cse_logic_names::order::Order;
+use cse_logic_source_faults::faults;
 use cse_logic_tree::Tree;
+use cse_logic_whole::judged;
 use cse_syntax::Source;
 use std::alloc::Global;
 

@@ -1,0 +1,2 @@
+pub mod FunctionLaws
+pub mod DeclarationLaws

@@ -1,0 +1,4 @@
+pub mod Told
+pub mod PartFaults
+pub mod CountsBehind
+pub mod Clauses

@@ -1,0 +1,5 @@
+pub mod Sizes
+pub mod SetRows
+pub mod ArrayLaws
+pub mod EntryLaws
+pub mod MadeLaws

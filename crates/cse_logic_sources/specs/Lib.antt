@@ -1,0 +1,5 @@
+pub mod JudgeTree
+pub mod TreeOver
+pub mod Entries
+pub mod SourceFaults
+pub mod Clauses
