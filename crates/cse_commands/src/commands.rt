@@ -7,10 +7,10 @@ ghost use Rattle.cse_command_parts.specs.Halts.{StopsTry, StopsVerify};
 ghost use Rattle.cse_command_parts.specs.Printed.{version_line};
 ghost use Rattle.cse_command_parts.specs.Ran.{told_by};
 
-use cse_command_compile::compile_image::compile_files;
 use crate::edit_data::edit_files;
 use crate::edited::EditedFiles;
 use cse_batch::Totals;
+use cse_command_compile::compile_image::compile_files;
 use cse_command_line::plan::{Command, CompilePaths, EditPaths, PlanFault, RunPaths, plan};
 use cse_command_parts::fault::Fault;
 use cse_command_parts::files::{MOST_IMAGE, file_bytes, file_text};

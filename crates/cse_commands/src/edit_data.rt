@@ -14,9 +14,9 @@ ghost use Rattle.cse_command_parts.specs.Halts.{StopsFrom, StopsWithin};
 ghost use Rattle.cse_commands.specs.EditHalts.{StopsBuilt, StopsEdit, StopsStart};
 ghost use Rattle.cse_code_bounds.specs.EventBound.{case_bound};
 
-use cse_command_compile::compile_image::image_of;
 use crate::edited::EditedFiles;
 use cse_batch::check_image;
+use cse_command_compile::compile_image::image_of;
 use cse_command_line::plan::{EditPaths, RunPaths};
 use cse_command_parts::apart::{see_apart, uses_of_edit};
 use cse_command_parts::fault::Fault;
