@@ -29,12 +29,9 @@ use std::alloc::{AllocError, Global};
 fn guarded<'a>(condition: Option<Number<'a>>, body: Option<Vec<Statement<'a>>>) -> Option<Arm<'a>>
     ensures { option_map arm_tree result ≡ joined spec.guarded (option_map number condition.entry) (block_made body.entry) }
 {
-    match condition {
+    match condition.zip(body) {
         None => None,
-        Some(condition) => match body {
-            None => None,
-            Some(body) => Some(Arm { condition, body }),
-        },
+        Some((condition, body)) => Some(Arm { condition, body }),
     }
 }
 
@@ -93,30 +90,24 @@ fn for_of<'a>(
 ) -> Option<Statement<'a>>
     ensures { option_map statement result ≡ joined (spec.for_of (written variable.entry) (written record_name.entry)) head (block_made body.entry) }
 {
-    match head {
+    match head.zip(body) {
         None => None,
-        Some((found, over)) => match body {
-            None => None,
-            Some(body) => Some(Statement::each_occurrence(
-                variable,
-                found,
-                record_name,
-                over,
-                body,
-            )),
-        },
+        Some(((found, over), body)) => Some(Statement::each_occurrence(
+            variable,
+            found,
+            record_name,
+            over,
+            body,
+        )),
     }
 }
 
 fn do_of<'a>(head: Option<Counting<'a>>, body: Option<Vec<Statement<'a>>>) -> Option<Statement<'a>>
     ensures { option_map statement result ≡ joined typed.Do (option_map counting head.entry) (block_made body.entry) }
 {
-    match head {
+    match head.zip(body) {
         None => None,
-        Some(head) => match body {
-            None => None,
-            Some(body) => Some(Statement::counted(head, body)),
-        },
+        Some((head, body)) => Some(Statement::counted(head, body)),
     }
 }
 
