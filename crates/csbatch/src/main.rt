@@ -1,9 +1,5 @@
 //! The program `csbatch`. What its commands do stands in `cse_commands`, and in `cse_check` what `check` and `explain` do.
-//!
-//! - `shown`: a run on a terminal, which is told how far it is.
 #![tactic(auto)]
-
-mod shown;
 
 use cse_check::command::start as start_check;
 use cse_commands::start::{USAGE, start};
@@ -12,9 +8,6 @@ use std::process::ExitCode;
 fn main(rt: HostRuntime) -> ExitCode {
     match start_check(&rt, USAGE) {
         Some(status) => status,
-        None => match shown::start(&rt) {
-            Some(status) => status,
-            None => start(rt),
-        },
+        None => start(rt),
     }
 }

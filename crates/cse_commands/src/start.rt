@@ -22,9 +22,9 @@ pub const USAGE: &str = "usage: one of
 
   csbatch compile DICT LOGIC IMAGE [--messages F] [--order F]  reads DICT, LOGIC and each F; writes IMAGE; ends with 0, 1 or 3
   csbatch verify DICT IMAGE                                    reads DICT and IMAGE; writes no file; ends with 0, 1 or 3
-  csbatch run DICT IMAGE DATA OUT LIST FREQ [--decks F] [--case-steps N] [--sync] [--quiet]
+  csbatch run DICT IMAGE DATA OUT LIST FREQ [--decks F] [--case-steps N] [--sync]
                                                                reads DICT, IMAGE, F where it is there, and DATA; writes OUT, LIST, FREQ and F; ends with 0, 1 or 3
-  csbatch edit DICT LOGIC DATA OUT LIST FREQ [--messages F] [--order F] [--decks F] [--case-steps N] [--sync] [--quiet]
+  csbatch edit DICT LOGIC DATA OUT LIST FREQ [--messages F] [--order F] [--decks F] [--case-steps N] [--sync]
                                                                reads DICT, LOGIC, each F (that of --decks where it is there) and DATA; writes OUT, LIST, FREQ and the F of --decks; ends with 0, 1 or 3
   csbatch try IMAGE                                            reads IMAGE; writes no file; ends with 0, 1 or 3
   csbatch check DICT LOGIC [--messages F] [--order F] [--json] [--warnings]
@@ -38,8 +38,7 @@ what compile and then run do, with no image between. try runs what an image does
 messages. check prints all faults of logic and the files beside it, with what to write instead, and explain what a fault's
 number means.
 --case-steps refuses an image of which a case may take more than N steps, by the bound that verify prints. --sync waits
-until the disk has OUT, LIST and FREQ. Where standard error is a terminal it is told how far DATA is read, but with --quiet.
-IMAGE and the F of --decks are written whole or not at all.
+until the disk has OUT, LIST and FREQ. IMAGE and the F of --decks are written whole or not at all.
 No file that is written may be one of the others, but a device as /dev/null.
 The status is 0 where it is done, 1 where something was refused, 2 for words that are no command or of which two lead to
 one file, and 3 where a file, a device or memory failed. At 1, 2 and 3 standard error tells why, in a line where the
