@@ -1,8 +1,7 @@
 //! A row is carried out: commands over the files of the folder in which the program runs, and what they come to.
 
-use cse_check::command::carry_out as check;
+use cse_check::command::carry_out;
 use cse_commands::start::{USAGE, carry_out_and_tell};
-use cse_office::command::carry_out as look;
 use cse_test_desk::amiss::{Amiss, amiss_of};
 use cse_test_desk::block::{AMISS, FILES, MADE, OPENED, PRINTED, Row, STATUS, TOLD, WORDS};
 use cse_test_desk::desk::{Desk, Notes};
@@ -77,10 +76,7 @@ fn lay_out<R: Files + Print + AllocGlobal>(rt: &R, row: &Row<'_>) -> bool {
 
 /// What the command answers.
 fn status_of<R: Files + AllocGlobal, W: Output>(desk: &Desk<'_, R>, errors: &mut W) -> u8 {
-    if let Some(status) = check(desk, USAGE, errors) {
-        return status;
-    }
-    match look(desk, USAGE, errors) {
+    match carry_out(desk, USAGE, errors) {
         Some(status) => status,
         None => carry_out_and_tell(desk, errors),
     }
