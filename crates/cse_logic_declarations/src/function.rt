@@ -12,7 +12,7 @@ ghost use Rattle.cse_logic_new_names.specs.Fresh.{body_scope};
 ghost use Rattle.cse_logic_sources.specs.Clauses.{behind_judged, function_made, judged_function};
 ghost use Rattle.cse_logic_statements.specs.Clauses.{block_made};
 
-use cse_logic_names::facts::facts_of;
+use cse_logic_facts::facts::facts_of;
 use cse_logic_names::meaning::Routine;
 use cse_logic_names::names::Parameters;
 use cse_logic_names::scope::{Facts, Scope};

@@ -3,7 +3,6 @@ mod PlainTexts
 mod OrderLaws
 pub mod NameLaws
 pub mod Walks
-pub mod Gathering
 pub mod Sets
 pub mod Numbers
 pub mod ScopeLaws

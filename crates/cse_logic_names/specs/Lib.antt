@@ -6,4 +6,3 @@ pub mod Scope
 pub mod Uses
 pub mod WellTyped
 pub mod Walk
-pub mod Gather

@@ -7,11 +7,9 @@
 //! - `error`: why a text is refused.
 //! - `meaning`, `names`, `scope`: what names mean, and what is known at a place of logic.
 //! - `faults`: the fault that is told.
-//! - `facts`: what is known of a function behind its end.
 #![tactic(auto)]
 
 pub mod error;
-pub mod facts;
 pub mod faults;
 mod gaps;
 pub mod meaning;

@@ -4,9 +4,9 @@ use Rattle.cse_logic_tree.specs.declared.tree.Operation.{Operation}
 use Rattle.cse_logic_tree.specs.Typed as typed
 use Rattle.cse_logic_tree.proofs.Rows.{cell_is, call_is, chain_is}
 use Rattle.cse_logic_names.specs.Uses as spec
-use Rattle.cse_logic_names.specs.Gather.{gather}
-use Rattle.cse_logic_names.proofs.Gathering.{gather_both, gather_call, gather_turn, gather_end}
-use Rattle.cse_logic_names.proofs.facts.+gather.Goals as goal
+use Rattle.cse_logic_facts.specs.Gather.{gather}
+use Rattle.cse_logic_facts.proofs.Gathering.{gather_both, gather_call, gather_turn, gather_end}
+use Rattle.cse_logic_facts.proofs.facts.+gather.Goals as goal
 
 pub number-returns-in-Cell : goal.number-returns-in-Cell
 number-returns-in-Cell t c =

@@ -2,8 +2,8 @@ use Rattle.std.proofs.Common.{◌≡◌, ◌<◌, ◌≤◌, length, get_or, map
 use Rattle.cse_logic_tree.specs.declared.tree.Argument.{Argument}
 use Rattle.cse_logic_tree.specs.Typed as typed
 use Rattle.cse_logic_names.specs.Uses as spec
-use Rattle.cse_logic_names.proofs.Gathering.{gather_turn, gather_end}
-use Rattle.cse_logic_names.proofs.facts.arguments.Goals as goal
+use Rattle.cse_logic_facts.proofs.Gathering.{gather_turn, gather_end}
+use Rattle.cse_logic_facts.proofs.facts.arguments.Goals as goal
 
 pub all-preserved : goal.all-preserved
 all-preserved c =

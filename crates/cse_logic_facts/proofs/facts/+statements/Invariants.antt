@@ -1,8 +1,8 @@
 use Rattle.std.proofs.Common.{◌≡◌, map, drop}
 use Rattle.cse_logic_tree.specs.Typed as typed
 use Rattle.cse_logic_names.specs.Uses as spec
-use Rattle.cse_logic_names.specs.Gather.{gather}
-use Rattle.cse_logic_names.proofs.facts.+statements.Given as goal
+use Rattle.cse_logic_facts.specs.Gather.{gather}
+use Rattle.cse_logic_facts.proofs.facts.+statements.Given as goal
 
 abbrev pub invariant-block-all : goal.invariant-block-all
 invariant-block-all l =

@@ -1,6 +1,6 @@
 -- What is known of a function is gathered from what its statements use, one use after the other.
 use Rattle.std.specs.Prelude.{ℕ, Bool, true, false, ◌||◌, List, [], ◌∷◌, slice_get, Option}
-use Rattle.cse_logic_names.specs.declared.facts.Gathered.{Gathered}
+use Rattle.cse_logic_facts.specs.declared.facts.Gathered.{Gathered}
 use Rattle.cse_logic_names.specs.Scope.{Facts}
 use Rattle.cse_logic_tree.specs.Typed.{Statements}
 use Rattle.cse_logic_names.specs.Uses.{Use, TheCase, Calls, Assigns, uses_block, facts_need, facts_assign, needs_case, assigned_after, with_global, with_globals}

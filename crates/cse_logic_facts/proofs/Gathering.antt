@@ -6,10 +6,10 @@ use Rattle.cse_lemmas.proofs.Lists.{drop_read}
 use Rattle.cse_lemmas.proofs.Booleans.{or-false, or-true}
 use Rattle.cse_logic_tree.specs.Typed as typed
 use Rattle.cse_logic_tree.specs.Typed.{Number, Statements, Arms, no_arm, arm, arms}
-use Rattle.cse_logic_names.specs.declared.facts.Gathered.{Gathered}
+use Rattle.cse_logic_facts.specs.declared.facts.Gathered.{Gathered}
 use Rattle.cse_logic_names.specs.Scope.{Facts}
 use Rattle.cse_logic_names.specs.Uses.{Use, TheCase, Calls, Assigns, uses, uses_of, uses_block, uses_arms, facts_need, needs_case, assigned_after, with_global, with_globals}
-use Rattle.cse_logic_names.specs.Gather.{with_call, with_use, gather}
+use Rattle.cse_logic_facts.specs.Gather.{with_call, with_use, gather}
 
 module _ (functions : List (Option Facts)) where
   pub gather_both : (g : Gathered) (us vs : List Use) → gather functions g (us ++ vs) ≡ gather functions (gather functions g us) vs

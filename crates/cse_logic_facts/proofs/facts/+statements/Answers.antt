@@ -5,9 +5,9 @@ use Rattle.cse_logic_tree.specs.declared.tree.Arm.{Arm}
 use Rattle.cse_logic_tree.specs.Typed as typed
 use Rattle.cse_logic_tree.proofs.Rows.{if_is, for_is, do_is}
 use Rattle.cse_logic_names.specs.Uses as spec
-use Rattle.cse_logic_names.specs.Gather.{gather}
-use Rattle.cse_logic_names.proofs.Gathering.{gather_both, gather_turn, gather_end, gather_last, gather_if, gather_for, gather_do}
-use Rattle.cse_logic_names.proofs.facts.+statements.Goals as goal
+use Rattle.cse_logic_facts.specs.Gather.{gather}
+use Rattle.cse_logic_facts.proofs.Gathering.{gather_both, gather_turn, gather_end, gather_last, gather_if, gather_for, gather_do}
+use Rattle.cse_logic_facts.proofs.facts.+statements.Goals as goal
 
 pub block-all-preserved : goal.block-all-preserved
 block-all-preserved t c =

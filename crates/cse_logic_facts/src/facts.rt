@@ -4,10 +4,10 @@ ghost use Rattle.std.specs.Prelude.{◌≡◌, ◌∷◌, ◌++◌, map, slice_g
 ghost use Rattle.cse_logic_tree.specs.Typed as typed;
 ghost use Rattle.cse_logic_tree.specs.Typed.{operation_tree};
 ghost use Rattle.cse_logic_names.specs.Uses as spec;
-ghost use Rattle.cse_logic_names.specs.Gather.{gather, with_call, with_use, facts_from};
+ghost use Rattle.cse_logic_facts.specs.Gather.{gather, with_call, with_use, facts_from};
 
-use crate::names::Globals;
-use crate::scope::Facts;
+use cse_logic_names::names::Globals;
+use cse_logic_names::scope::Facts;
 use cse_logic_tree::{
     Argument, Arm, Counting, Limit, Number, Operation, Statement, Variable, Which, Words,
 };
