@@ -23,7 +23,7 @@ use Rattle.cse_verify.specs.Verified.{VerifiedProgram}
 use Rattle.cse_steps.specs.State.{Told, World}
 use Rattle.cse_steps.specs.Fits.{FitsFirst, IsThere, is_of_run}
 use Rattle.cse_steps.specs.Laws.{EventsEnd}
-use Rattle.cse_machine.specs.Results.{RunsTo}
+use Rattle.cse_machine_resolve.specs.Results.{RunsTo}
 use Rattle.cse_batch.specs.Events.{after_moment, edited, events_of}
 use Rattle.cse_batch.specs.Batch.{Progress, after_application, after_run, application_reports, case_reports, next_case, reports_of, tables_of, unseen_reports, without_case}
 use Rattle.cse_batch.specs.Edits.{Applies, Edits, Keeps}

@@ -17,9 +17,9 @@ use Rattle.cse_code_bounds.specs.CaseEvents.{Moment, moment, event, event_bound,
 use Rattle.cse_verify.specs.Verified.{VerifiedProgram}
 use Rattle.cse_steps.specs.State.{State}
 use Rattle.cse_steps.specs.Run.{first, first_calls}
-use Rattle.cse_machine.specs.declared.handled.Handled.{Handled}
-use Rattle.cse_machine.specs.Handled.{AllHandled, events_of, handled_by, with_routine}
-use Rattle.cse_machine.specs.Results.{in_occurrence}
+use Rattle.cse_machine_resolve.specs.declared.handled.Handled.{Handled}
+use Rattle.cse_machine_resolve.specs.Handled.{AllHandled, events_of, handled_by, with_routine}
+use Rattle.cse_machine_resolve.specs.Results.{in_occurrence}
 use Rattle.cse_batch.specs.Handled.{events_of_items, handled_items, has_routine, is_handled}
 use Rattle.cse_batch.specs.Scene.{Scene, scene_after, scene_after_all, told_to}
 use Rattle.cse_batch.proofs.EventLaws.{stays}

@@ -18,7 +18,7 @@ use Rattle.cse_steps.specs.State.{World, world_of}
 use Rattle.cse_steps.specs.Fits.{FitsFirst, FitsWorld, IsThere, occurrences_in}
 use Rattle.cse_steps.specs.Laws.{EventsEnd}
 use Rattle.cse_steps.proofs.Events.{still_there}
-use Rattle.cse_machine.specs.Results.{AllFitFirst, AllRunTo, RunsTo}
+use Rattle.cse_machine_resolve.specs.Results.{AllFitFirst, AllRunTo, RunsTo}
 use Rattle.cse_batch.specs.Events.{after_moment, after_moments, end_of, told_more}
 use Rattle.cse_batch.specs.Batch.{reports_of}
 use Rattle.cse_batch.specs.declared.handled.HandledRecord.{HandledRecord}

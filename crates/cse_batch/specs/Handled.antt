@@ -8,8 +8,8 @@ use Rattle.cse_image_parts.specs.declared.entries.EventCode.TheVariants.{LevelPr
 use Rattle.cse_image_parts.specs.Image.{Image}
 use Rattle.cse_code_bounds.specs.CaseEvents.{event}
 use Rattle.cse_verify.specs.Verified.{VerifiedProgram}
-use Rattle.cse_machine.specs.declared.handled.Handled.{Handled}
-use Rattle.cse_machine.specs.Handled.{handled_by}
+use Rattle.cse_machine_resolve.specs.declared.handled.Handled.{Handled}
+use Rattle.cse_machine_resolve.specs.Handled.{handled_by}
 use Rattle.cse_batch.specs.declared.handled.HandledRecord.{HandledRecord}
 use Rattle.cse_batch.specs.declared.handled.HandledEvents.{HandledEvents}
 

@@ -5,7 +5,7 @@ ghost use Rattle.cse_code_bounds.specs.CaseEvents.{event, moment};
 ghost use Rattle.cse_report.specs.Reports.{ReportsFit};
 ghost use Rattle.cse_steps.specs.Fits.{IsThere, occurrences_in};
 ghost use Rattle.cse_code_typing.specs.Handlers.{routine_of};
-ghost use Rattle.cse_machine.specs.Handled.{handled_by};
+ghost use Rattle.cse_machine_resolve.specs.Handled.{handled_by};
 ghost use Rattle.cse_batch.specs.Handled.{AreHandled, IsHandledRecord};
 ghost use Rattle.cse_batch.specs.Moments.{AllLeave, Leaves, of_case, of_items, of_occurrences, of_record, of_records};
 ghost use Rattle.cse_batch.specs.Scene.{GoesOn};

@@ -4,7 +4,7 @@ ghost use Rattle.std.specs.Prelude.{◌≡◌, ◌++◌, ◌<◌, [], ◌∷◌,
 ghost use Rattle.std.specs.List.{AllByRecursion, filter_map};
 ghost use Rattle.cse_code_bounds.specs.CaseEvents.{event};
 ghost use Rattle.cse_dict.specs.Dictionary.{shape_of};
-ghost use Rattle.cse_machine.specs.Handled.{handled_by};
+ghost use Rattle.cse_machine_resolve.specs.Handled.{handled_by};
 ghost use Rattle.cse_batch.specs.Handled.{AreHandled, IsHandledRecord, handled_items, is_handled, number_of};
 ghost use Rattle.cse_verify.specs.Verified.{VerifiedProgram};
 

@@ -7,8 +7,8 @@ ghost use Rattle.cse_case.specs.Fit.{IsFit};
 ghost use Rattle.cse_decks.specs.Store.{StoreFits};
 ghost use Rattle.cse_report.specs.Reports.{ReportsFit};
 ghost use Rattle.cse_steps.specs.Fits.{FitsFirst, is_of_run};
-ghost use Rattle.cse_machine.specs.Handled.{AllHandled, events_of};
-ghost use Rattle.cse_machine.specs.Results.{AllFitFirst, AllRunTo, HaltsAmong, HaltsAt, RunsTo, in_occurrence};
+ghost use Rattle.cse_machine_resolve.specs.Handled.{AllHandled, events_of};
+ghost use Rattle.cse_machine_resolve.specs.Results.{AllFitFirst, AllRunTo, HaltsAmong, HaltsAt, RunsTo, in_occurrence};
 
 use cse_case::Case;
 use cse_decks::Store;

@@ -12,7 +12,7 @@ use Rattle.cse_report.specs.Listing.{Gives}
 use Rattle.cse_report.specs.Held.{Held, begun, reported, texts_of}
 use Rattle.cse_report.specs.AllReported.{all_reported}
 use Rattle.cse_steps.specs.Fits.{FitsFirst}
-use Rattle.cse_machine.specs.Results.{RunsTo}
+use Rattle.cse_machine_resolve.specs.Results.{RunsTo}
 use Rattle.cse_batch.specs.Checked.{IsAccepted}
 use Rattle.cse_command_parts.specs.Printed.{listed}
 use Rattle.cse_command_parts.specs.Tried.{Goes, Runs, empty_text, preproc, tried}

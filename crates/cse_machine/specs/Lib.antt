@@ -1,13 +1,2 @@
-pub mod Piles
-pub mod Stand
-pub mod Resolve
-pub mod Laws
-pub mod Results
 pub mod Ready
-pub mod Resume
-pub mod Handled
 pub mod Ahead
-pub mod Small
-pub mod Quiet
-pub mod Sorts
-pub mod Clauses

@@ -1,6 +1,6 @@
 use Rattle.std.proofs.Common.{◌≡◌, ◌++◌, drop}
 use Rattle.std.specs.List.{filter_map}
-use Rattle.cse_machine.specs.Handled.{handled_by}
+use Rattle.cse_machine_resolve.specs.Handled.{handled_by}
 use Rattle.cse_batch.specs.Handled.{events_of_items}
 use Rattle.cse_batch.proofs.handled.events_of_items.Given as goal
 
