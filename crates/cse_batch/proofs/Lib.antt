@@ -1,6 +1,5 @@
 pub mod BatchLaws
 pub mod BoundLaws
-mod CheckLaws
 pub mod CloseLaws
 pub mod EditLaws
 pub mod EndLaws

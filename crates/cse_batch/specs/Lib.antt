@@ -1,5 +1,4 @@
 pub mod Batch
-pub mod Checked
 pub mod DataFaults
 pub mod Edits
 pub mod Events

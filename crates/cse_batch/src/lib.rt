@@ -1,6 +1,5 @@
-//! From bytes to bytes: images that may run, and whole runs over data files.
+//! From bytes to bytes: whole runs over data files.
 //!
-//! - `image`: the program of an image, checked with a dictionary.
 //! - `totals`: what a run counts, and what stops it.
 //! - `running`: the whole run over a data file, to the texts of `specs/Batch.antt`.
 //! - `application`, `cases`, `events`: the application's events, a run of lines, and the events of a case.
@@ -8,6 +7,8 @@
 //! - `handled`: the events of a case that a program has a routine for.
 //! - `machine`: what runs an event. `parts`: the parts of a program that a run goes by.
 //! - `laws`: laws of the definition of a batch. `untouched`: the law that columns which no edit wrote stay.
+//!
+//! `check_image`, of `cse_verify_image`, gives the program that `run` takes.
 #![tactic(auto)]
 
 mod application;
@@ -15,7 +16,6 @@ mod beside;
 mod cases;
 mod events;
 mod handled;
-mod image;
 mod laws;
 mod machine;
 mod outputs;
@@ -25,7 +25,7 @@ mod totals;
 mod untouched;
 mod worked;
 
-pub use image::{CheckFault, check_image};
+pub use cse_verify_image::{CheckFault, check_image};
 pub use laws::{applications_end, batches_end, cases_end, ends_are_final, fronts_stay};
 pub use machine::Runs;
 pub use running::{run, run_by};

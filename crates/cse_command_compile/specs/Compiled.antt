@@ -7,7 +7,7 @@ use Rattle.cse_build.specs.Meant.{MeansLogic}
 use Rattle.cse_command_compile.specs.declared.compiled.CompiledFiles.{CompiledFiles}
 use Rattle.cse_command_line.specs.declared.plan.CompilePaths.{CompilePaths}
 use Rattle.cse_command_parts.specs.TextsGiven.{EndsWhereNamed, text_given}
-use Rattle.cse_command_parts.specs.Ran.{Told}
+use Rattle.cse_command_parts.specs.Told.{Told}
 use Rattle.cse_command_parts.specs.Vetted.{IsReadAs}
 
 -- each file was opened by its path

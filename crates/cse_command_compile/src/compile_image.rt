@@ -3,7 +3,7 @@
 ghost use Rattle.std.specs.Prelude.{IfOk, IfErr};
 ghost use Rattle.cse_build.specs.Build.{IsBuilt};
 ghost use Rattle.cse_build.specs.Meant.{MeansLogic};
-ghost use Rattle.cse_command_parts.specs.Ran.{told_by};
+ghost use Rattle.cse_command_parts.specs.Told.{told_by};
 ghost use Rattle.cse_command_compile.specs.Compiled.{AreCompilePaths, CompilesFiles};
 ghost use Rattle.cse_command_compile.specs.CompileHalts.{StopsCompile, TellsBuildFault};
 

@@ -9,8 +9,7 @@ use Rattle.cse_decks.specs.DeckText.{IsDeckText}
 use Rattle.cse_decks.specs.Store.{Kept, first_kept}
 use Rattle.cse_command_parts.specs.Named.{text_or_none}
 use Rattle.cse_command_parts.specs.TextsGiven.{EndsWhereNamed, text_given}
-use Rattle.cse_command_parts.specs.Ran.{IsStart, Told, decks_given}
-use Rattle.cse_command_parts.specs.Tried.{Runs, text_of}
+use Rattle.cse_command_parts.specs.Told.{IsStart, Told, decks_given}
 use Rattle.cse_command_parts.specs.Vetted.{Passes, told}
 
 -- a text that is not longer than is allowed
@@ -56,7 +55,3 @@ pub prints_same : (text text' bytes bytes' old new : List ℕ) → text ≡ text
 prints_same text text' bytes bytes' old new a b printed =
     subst (λ (x : List ℕ). (p : Passes x bytes') × Appends old new (told p)) a
     (subst (λ (x : List ℕ). (p : Passes text x) × Appends old new (told p)) b printed)
-
-pub trial_same : (bytes bytes' : List ℕ) (n : ℕ) (old new : List ℕ) → bytes ≡ bytes' → ((r : Runs bytes n) × Appends old new (text_of r))
-    → ((r : Runs bytes' n) × Appends old new (text_of r))
-trial_same bytes bytes' n old new a printed = subst (λ (x : List ℕ). (r : Runs x n) × Appends old new (text_of r)) a printed

@@ -1,11 +1,8 @@
 pub mod ApartLaws
 pub mod FaultLaws
-pub mod FaultyLaws
 pub mod FileLaws
 pub mod HaltLaws
 pub mod OutcomeLaws
 pub mod PrintLaws
-pub mod RanLaws
-pub mod TriedLaws
 pub mod VerdictLaws
 pub mod VettedLaws

@@ -6,15 +6,13 @@ use Rattle.cse_files.specs.declared.fault.ReadFault.{ReadFault}
 use Rattle.cse_files.specs.declared.fault.ReadFault.TheVariants as reads
 use Rattle.cse_files.specs.declared.fault.WriteFault.{WriteFault}
 use Rattle.cse_files.specs.declared.fault.WriteFault.TheVariants.{NotOpened, NotWritten, Memory}
-use Rattle.cse_batch.specs.declared.image.CheckFault.{CheckFault}
-use Rattle.cse_batch.specs.declared.image.CheckFault.TheVariants as checks
+use Rattle.cse_verify_image.specs.declared.image.CheckFault.{CheckFault}
+use Rattle.cse_verify_image.specs.declared.image.CheckFault.TheVariants as checks
 use Rattle.cse_command_parts.specs.declared.fault.Fault.{Fault}
 use Rattle.cse_command_parts.specs.declared.outcome.Asked.{Asked}
 use Rattle.cse_command_parts.specs.declared.outcome.Asked.TheVariants.{Open, Read, Write}
 use Rattle.cse_command_parts.specs.declared.outcome.Stop.{Stop}
 use Rattle.cse_command_parts.specs.declared.outcome.Stop.TheVariants.{Usage, OneFile, TooManySteps, Refused}
-use Rattle.cse_command_parts.specs.declared.try_image.TryFault.{TryFault}
-use Rattle.cse_command_parts.specs.declared.try_image.TryFault.TheVariants as tries
 use Rattle.cse_command_parts.specs.declared.verify_image.VerifyFault.{VerifyFault}
 use Rattle.cse_command_parts.specs.declared.verify_image.VerifyFault.TheVariants as verifies
 
@@ -80,14 +78,7 @@ number_of_write NotOpened = 72
 number_of_write NotWritten = 71
 number_of_write Memory = 90
 
--- the fault that `try` tells
-abbrev pub fault_of_try : TryFault → Fault
-fault_of_try (tries.Image error) = fault_in_bytes error
-fault_of_try (tries.Refused refusal) = fault_in_code refusal
-fault_of_try tries.Write = plain_fault 71
-fault_of_try tries.Memory = plain_fault 90
-
--- that of an image that may not run
+-- the fault of an image that may not run
 abbrev pub fault_of_check : CheckFault → Fault
 fault_of_check (checks.Image error) = fault_in_bytes error
 fault_of_check (checks.Refused refusal) = fault_in_code refusal

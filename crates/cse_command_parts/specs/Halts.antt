@@ -10,20 +10,18 @@ use Rattle.cse_dict.specs.Reading.{IsAnswer}
 use Rattle.cse_code_bounds.specs.EventBound.{case_bound}
 use Rattle.cse_verify.specs.Verified.{VerifiedProgram}
 use Rattle.cse_decks.specs.Store.{Kept}
-use Rattle.cse_batch.specs.declared.image.CheckFault.{CheckFault}
-use Rattle.cse_batch.specs.Checked.{IsAccepted, IsNoFault, IsRefused}
+use Rattle.cse_verify_image.specs.declared.image.CheckFault.{CheckFault}
+use Rattle.cse_verify_image.specs.Checked.{IsAccepted, IsNoFault, IsRefused}
 use Rattle.cse_command_parts.specs.declared.outcome.Stop.{Stop}
 use Rattle.cse_command_parts.specs.declared.outcome.Stop.TheVariants.{Refused}
 use Rattle.cse_command_line.specs.declared.plan.RunPaths.{RunPaths}
-use Rattle.cse_command_parts.specs.declared.try_image.TryFault.{TryFault}
 use Rattle.cse_command_parts.specs.declared.verify_image.VerifyFault.{VerifyFault}
 use Rattle.cse_command_parts.specs.Allowed.{steps_allowed}
 use Rattle.cse_command_parts.specs.Apart.{TellsOneFile}
-use Rattle.cse_command_parts.specs.Ending.{fault_at, fault_of_check, fault_of_try, fault_of_verify}
-use Rattle.cse_command_parts.specs.Ran.{IsStart}
+use Rattle.cse_command_parts.specs.Ending.{fault_at, fault_of_check, fault_of_verify}
+use Rattle.cse_command_parts.specs.Told.{IsStart}
 use Rattle.cse_command_parts.specs.Roles.{run_uses}
 use Rattle.cse_command_parts.specs.Stops.{IsMemory, IsNotOpened, TellsDeckFault}
-use Rattle.cse_command_parts.specs.Tried as tried
 use Rattle.cse_command_parts.specs.Unread.{AtBytes, AtDecks, AtText}
 use Rattle.cse_command_parts.specs.Vetted.{FailsBy, IsReadAs, is_failed_write}
 
@@ -90,12 +88,3 @@ pub record TellsVerifyFault (text bytes : List ℕ) (stop : Stop) : Type 0 where
 
 abbrev pub StopsVerify : {F : Type 0} → (Reads F → Given) → List ℕ → List ℕ → Stop → Type 0
 StopsVerify given dict image stop = AtText given dict 17 stop (λ text. AtBytes given image stop (λ bytes. TellsVerifyFault text bytes stop))
-
--- `try`
-pub record TellsTryFault (bytes : List ℕ) (stop : Stop) : Type 0 where
-  pub fault : TryFault
-  pub why : tried.is_write fault ≡ false → tried.IsRefused bytes fault
-  pub tells : stop ≡ Refused (fault_of_try fault)
-
-abbrev pub StopsTry : {F : Type 0} → (Reads F → Given) → List ℕ → Stop → Type 0
-StopsTry given image stop = AtBytes given image stop (λ bytes. TellsTryFault bytes stop)

@@ -1,10 +1,8 @@
--- What `verify` and `try` come to: by which paths the files were opened, and what they gave.
+-- What `verify` comes to: by which paths the files were opened, and what they gave.
 use Rattle.std.specs.Prelude.{◌≡◌, ℕ, List}
 use Rattle.cse_value.specs.Device.{IsAtEnd}
-use Rattle.cse_command_parts.specs.declared.judged.TriedFile.{TriedFile}
 use Rattle.cse_command_parts.specs.declared.judged.VerifiedFiles.{VerifiedFiles}
-use Rattle.cse_command_parts.specs.Ran.{Told}
-use Rattle.cse_command_parts.specs.Tried.{Runs}
+use Rattle.cse_command_parts.specs.Told.{Told}
 use Rattle.cse_command_parts.specs.Vetted.{Passes}
 
 -- The files were opened by these paths. What that of the dictionary gave to its end is a dictionary's text, and what that of the image gave may run with it.
@@ -13,9 +11,3 @@ pub record VerifiesFiles {F : Type 0} (t : Told F) (dict image : List ℕ) (v : 
   pub image_path : v.image.input.path.now ≡ image
   pub dict_end : IsAtEnd (t.given v.dict.input.device)
   pub passes : Passes (t.given v.dict.input.device).bytes (t.given v.image.input.device).bytes
-
--- The file was opened by this path, and what it gave may run with the empty dictionary; its preproc took so many steps.
-pub record TriesFile {F : Type 0} (t : Told F) (image : List ℕ) (f : TriedFile F) : Type 0 where
-  pub path : f.image.input.path.now ≡ image
-  pub steps : ℕ
-  pub runs : Runs (t.given f.image.input.device).bytes steps

@@ -1,11 +1,10 @@
--- What `try`, `compile`, `run` and `--version` print.
+-- What `try`, `compile` and `--version` print.
 use Rattle.std.specs.Prelude.{ℕ, List, [], ◌∷◌, ◌++◌, codes, decimal}
 use Rattle.std.specs.List.{flat_map}
 use Rattle.cse_image_parts.specs.Image.{MessageLists}
 use Rattle.cse_report.specs.declared.argument.Arg.{Arg}
 use Rattle.cse_report.specs.Listing.{Gives}
 use Rattle.cse_report.specs.Held.{texts_of}
-use Rattle.cse_batch.specs.declared.totals.Totals.{Totals}
 
 -- ---- `try`: the text of each listed message on a line, and then how many steps the run took
 
@@ -29,11 +28,6 @@ printed texts n = text_lines texts ++ steps_line n
 
 abbrev pub compiled_line : ℕ → List ℕ
 compiled_line n = codes "compiled " ++ decimal n ++ codes " bytes\n"
-
--- ---- `run`: what it counted
-
-abbrev pub totals_line : Totals → List ℕ
-totals_line t = codes "cases " ++ decimal t.cases ++ codes " lines " ++ decimal t.lines ++ codes " unseen " ++ decimal t.unseen ++ codes "\n"
 
 -- ---- `--version`
 

@@ -1,14 +1,10 @@
--- Why a run over files has no store to begin with, or stops.
-use Rattle.std.specs.Prelude.{◌≡◌, ◌⊎◌, ℕ, Bool, true, false, List, [], Result, Ok, Err}
-use Rattle.cse_value.specs.Device.{Given}
+-- Why a command over files stops: files that are not opened or not written, and a store that there is not.
+use Rattle.std.specs.Prelude.{◌≡◌, ◌⊎◌, ℕ, List, Result, Ok, Err}
 use Rattle.cse_image_parts.specs.Image.{Image}
 use Rattle.cse_files.specs.declared.fault.WriteFault.{WriteFault}
-use Rattle.cse_verify.specs.Verified.{VerifiedProgram}
 use Rattle.cse_decks.specs.declared.error.DeckError.{DeckError}
 use Rattle.cse_decks.specs.Store.{Kept}
 use Rattle.cse_decks.specs.FirstFault.{TellsFirstFault}
-use Rattle.cse_batch.specs.declared.totals.RunFault.{RunFault}
-use Rattle.cse_batch.specs.RunClauses.{Contents, Failures, RunStops}
 use Rattle.cse_command_parts.specs.declared.outcome.Stop.{Stop}
 use Rattle.cse_command_parts.specs.declared.outcome.Stop.TheVariants.{Usage, OneFile, TooManySteps, Refused}
 use Rattle.cse_command_parts.specs.Ending.{fault_at, number_of_write, plain_fault}
@@ -43,16 +39,3 @@ pub record TellsDeckFault (x : Image) (text : List ℕ) (stop : Stop) : Type 0 w
   pub error : DeckError
   pub tells : stop ≡ Refused (fault_at error.number error.line)
   pub first : TellsFirstFault x text (Err error)
-
--- what is told of the fault of a run: want of memory, where the gathered deck text found no place
-abbrev pub told_of : Bool → RunFault → Stop
-told_of true fault = Refused (plain_fault 90)
-told_of false fault = Refused (fault_at fault.number fault.line)
-
--- It tells the fault of a run, whose outputs hold what is said of such a run. The deck text was gathered beside them.
-pub record TellsRunFault (v : VerifiedProgram) (store : Kept) (before after : Given) (old new : List ℕ → Contents) (failed : Bool → Failures) (stop : Stop) : Type 0 where
-  pub fault : RunFault
-  pub gathered : List ℕ
-  pub lacked : Bool
-  pub stops : RunStops v store before after (old []) (new gathered) (failed lacked) fault
-  pub tells : stop ≡ told_of lacked fault

@@ -3,7 +3,7 @@ use Rattle.std.specs.Prelude.{ℕ, List, Option, None, Some, option_map}
 use Rattle.cse_value.specs.Device.{IsAtEnd}
 use Rattle.cse_files.specs.declared.whole.WholeFile.{WholeFile}
 use Rattle.cse_command_parts.specs.Named.{text_or_none}
-use Rattle.cse_command_parts.specs.Ran.{Told}
+use Rattle.cse_command_parts.specs.Told.{Told}
 
 -- what a file gave, to its end; nothing, where it is not named
 abbrev pub text_given : {F : Type 0} → Told F → Option (WholeFile F) → List ℕ

@@ -3,20 +3,19 @@
 ghost use Rattle.std.specs.Prelude.{◌≡◌};
 ghost use Rattle.std.specs.List.{flat_map};
 ghost use Rattle.cse_value.specs.Writing.{WritesAll, FailsAtErr};
-ghost use Rattle.cse_command_parts.specs.Ending.{code_told, fault_at, fault_in_bytes, fault_in_code, fault_in_text, fault_of_check, fault_of_try, fault_of_verify, plain_fault, position_told, status_of};
+ghost use Rattle.cse_command_parts.specs.Ending.{code_told, fault_at, fault_in_bytes, fault_in_code, fault_in_text, fault_of_check, fault_of_verify, plain_fault, position_told, status_of};
 ghost use Rattle.cse_command_parts.specs.FaultLine.{fault_text, one_file_text, steps_text, told};
 
 use crate::printing::write_parts;
 use crate::role::Role;
-use crate::try_image::TryFault;
 use crate::verify_image::VerifyFault;
-use cse_batch::{CheckFault, RunFault};
 use cse_decks::DeckError;
 use cse_dict::DictError;
 use cse_fault_numbers::{NOT_OPENED, READ_FAILED, WANT_OF_MEMORY, WRITE_FAILED};
 use cse_image::ImageError;
 use cse_value::{Failed, Output, write_all};
 use cse_verify::{NONE, Refusal};
+use cse_verify_image::CheckFault;
 use itoa::Buffer;
 
 /// A fault: its number, and what it tells of its place.
@@ -62,7 +61,7 @@ impl Fault {
     }
 
     /// Bytes that are no image.
-    fn of_image(error: ImageError) -> Fault
+    pub fn of_image(error: ImageError) -> Fault
         ensures { result ≡ fault_in_bytes error }
     {
         Fault {
@@ -72,7 +71,7 @@ impl Fault {
     }
 
     /// A fault at a line; a line 0 is not told.
-    fn at_line(number: u8, line: u64) -> Fault
+    pub fn at_line(number: u8, line: u64) -> Fault
         ensures { result ≡ fault_at number line }
     {
         Fault {
@@ -117,13 +116,6 @@ impl Fault {
         Fault::at_line(error.number, error.line)
     }
 
-    /// What stopped a run.
-    pub fn of_run(fault: RunFault) -> Fault
-        ensures { result ≡ fault_at fault.number fault.line }
-    {
-        Fault::at_line(fault.number, fault.line)
-    }
-
     /// The fault of `verify`.
     pub fn of_verify(fault: &VerifyFault) -> Fault
         ensures { result ≡ fault_of_verify fault.now }
@@ -132,18 +124,6 @@ impl Fault {
             VerifyFault::Dict(error) => Fault::of_dictionary(*error),
             VerifyFault::Check(fault) => Fault::of_check(*fault),
             VerifyFault::Write => Fault::of_number(WRITE_FAILED),
-        }
-    }
-
-    /// The fault of `try`.
-    pub fn of_try(fault: &TryFault) -> Fault
-        ensures { result ≡ fault_of_try fault.now }
-    {
-        match fault {
-            TryFault::Image(error) => Fault::of_image(*error),
-            TryFault::Refused(refusal) => Fault::of_refusal(*refusal),
-            TryFault::Write => Fault::of_number(WRITE_FAILED),
-            TryFault::Memory => Fault::of_number(WANT_OF_MEMORY),
         }
     }
 }

@@ -1,13 +1,11 @@
-//! Lines for a device: the texts of messages, how many steps an event took, how many bytes an image has, and what a
-//! run counted.
+//! Lines for a device: the texts of messages, how many steps an event took, how many bytes an image has, and the version.
 
 ghost use Rattle.std.specs.Prelude.{◌≡◌, [], ◌∷◌};
 ghost use Rattle.std.specs.List.{flat_map};
 ghost use Rattle.cse_value.specs.Writing.{WritesAll, FailsAtErr};
 ghost use Rattle.cse_command_parts.specs.declared.printing.TheConstants.{VERSION};
-ghost use Rattle.cse_command_parts.specs.Printed.{text_line, text_lines, compiled_line, totals_line, steps_line, printed, version_line};
+ghost use Rattle.cse_command_parts.specs.Printed.{text_line, text_lines, compiled_line, steps_line, printed, version_line};
 
-use cse_batch::Totals;
 use cse_report::Listing;
 use cse_value::{Failed, Output, write_all};
 use itoa::Buffer;
@@ -83,29 +81,4 @@ pub fn write_compiled<W: Output>(bytes: usize, out: &mut W) -> Result<(), Failed
     let mut buffer = Buffer::new();
     let bytes = buffer.format(bytes).as_bytes();
     write_parts(&[b"compiled ", bytes, b" bytes\n"], out)
-}
-
-/// Writes what a run counted.
-pub fn write_totals<W: Output>(totals: Totals, out: &mut W) -> Result<(), Failed>
-    ensures bytes { WritesAll result (W.taken out.old) (W.taken out.new) (totals_line totals) }
-    ensures failed { FailsAtErr result (W.has_failed out.old) (W.has_failed out.new) }
-{
-    let mut first = Buffer::new();
-    let mut second = Buffer::new();
-    let mut third = Buffer::new();
-    let cases = first.format(totals.cases).as_bytes();
-    let lines = second.format(totals.lines).as_bytes();
-    let unseen = third.format(totals.unseen).as_bytes();
-    write_parts(
-        &[
-            b"cases ",
-            cases,
-            b" lines ",
-            lines,
-            b" unseen ",
-            unseen,
-            b"\n",
-        ],
-        out,
-    )
 }

@@ -5,9 +5,9 @@ ghost use Rattle.cse_value.specs.Device.{Appends};
 ghost use Rattle.cse_command_parts.specs.Vetted.{Passes, IsReadAs, told, FailsBy, TellsBefore, FailsOnlyByWrite, is_failed_write};
 
 use crate::verdict::write_verdict;
-use cse_batch::{CheckFault, check_image};
 use cse_dict::{DictError, Dictionary};
 use cse_value::{Failed, Output};
+use cse_verify_image::{CheckFault, check_image};
 use std::alloc::Global;
 use thiserror::Error;
 

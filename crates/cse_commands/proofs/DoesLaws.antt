@@ -6,8 +6,9 @@ use Rattle.cse_command_parts.specs.declared.judged.VerifiedFiles.{VerifiedFiles}
 use Rattle.cse_command_parts.specs.declared.outcome.Stop.{Stop}
 use Rattle.cse_command_line.specs.declared.plan.Command.{Command}
 use Rattle.cse_commands.specs.Does.{CarriesOut, DoesTry, DoesUnlessMemory, DoesVerify, Prints, PrintsTrial, PrintsVerdict, ended, printing}
-use Rattle.cse_command_parts.specs.Halts.{StopsTry, StopsVerify}
-use Rattle.cse_command_parts.specs.Ran.{Told}
+use Rattle.cse_command_try.specs.TryFiles.{StopsTry}
+use Rattle.cse_command_parts.specs.Halts.{StopsVerify}
+use Rattle.cse_command_parts.specs.Told.{Told}
 use Rattle.cse_command_line.specs.Words.{IsAsked}
 
 -- what a writing call took

@@ -15,19 +15,23 @@ use Rattle.cse_command_line.specs.declared.plan.CompilePaths.{CompilePaths}
 use Rattle.cse_command_line.specs.declared.plan.EditPaths.{EditPaths}
 use Rattle.cse_command_line.specs.declared.plan.RunPaths.{RunPaths}
 use Rattle.cse_command_parts.specs.declared.printing.TheConstants.{VERSION}
-use Rattle.cse_command_parts.specs.declared.ran.RanFiles.{RanFiles}
-use Rattle.cse_command_parts.specs.declared.ran.RanFrom.{RanFrom}
+use Rattle.cse_command_runs.specs.declared.ran.RanFiles.{RanFiles}
+use Rattle.cse_command_runs.specs.declared.ran.RanFrom.{RanFrom}
 use Rattle.cse_command_compile.specs.Compiled.{AreCompilePaths, CompilesFiles}
-use Rattle.cse_command_parts.specs.Counted.{counted}
+use Rattle.cse_command_runs.specs.Counted.{counted}
 use Rattle.cse_commands.specs.Edited.{AreEditPaths, EditsFiles}
 use Rattle.cse_command_parts.specs.Ending.{plain_fault}
-use Rattle.cse_command_parts.specs.Halts.{StopsRun, StopsTry, StopsVerify}
+use Rattle.cse_command_parts.specs.Halts.{StopsRun, StopsVerify}
+use Rattle.cse_command_try.specs.TryFiles.{StopsTry}
 use Rattle.cse_command_compile.specs.CompileHalts.{StopsCompile}
 use Rattle.cse_commands.specs.EditHalts.{StopsEdit}
-use Rattle.cse_command_parts.specs.Judged.{TriesFile, VerifiesFiles}
-use Rattle.cse_command_parts.specs.Printed.{compiled_line, totals_line, version_line}
-use Rattle.cse_command_parts.specs.Ran.{AreRunPaths, RunsFiles, Told}
-use Rattle.cse_command_parts.specs.Tried.{text_of}
+use Rattle.cse_command_try.specs.TryFiles.{TriesFile}
+use Rattle.cse_command_parts.specs.Judged.{VerifiesFiles}
+use Rattle.cse_command_parts.specs.Printed.{compiled_line, version_line}
+use Rattle.cse_command_runs.specs.Telling.{totals_line}
+use Rattle.cse_command_runs.specs.Ran.{AreRunPaths, RunsFiles}
+use Rattle.cse_command_parts.specs.Told.{Told}
+use Rattle.cse_command_try.specs.Tried.{text_of}
 use Rattle.cse_command_parts.specs.Vetted.{told}
 use Rattle.cse_command_line.specs.Words.{IsAsked}
 

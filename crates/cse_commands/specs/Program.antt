@@ -6,7 +6,7 @@ use Rattle.cse_command_parts.specs.declared.outcome.Stop.{Stop}
 use Rattle.cse_commands.specs.Does.{CarriesOut}
 use Rattle.cse_command_parts.specs.Ending.{exit_status}
 use Rattle.cse_command_parts.specs.FaultLine.{outcome_text}
-use Rattle.cse_command_parts.specs.Ran.{Told}
+use Rattle.cse_command_parts.specs.Told.{Told}
 
 -- A command came to something. The status is that of what it came to, and so is what was told: all of it, unless the device has failed, and else a front.
 pub record EndsProgram {F : Type 0} (t : Told F) (usage : List ℕ) (status : ℕ) (failed : Bool) (old new : List ℕ) : Type 0 where

@@ -3,9 +3,10 @@
 ghost use Rattle.std.specs.Prelude.{◌≡◌, IfErr, IfOk};
 ghost use Rattle.cse_command_parts.specs.declared.printing.TheConstants.{VERSION};
 ghost use Rattle.cse_commands.specs.Does.{CarriesOut, Does, DoesCompile, DoesEdit, DoesRun, DoesUnlessMemory, Prints, PrintsTotals, PrintsTrial, PrintsVerdict, ended, printing};
-ghost use Rattle.cse_command_parts.specs.Halts.{StopsTry, StopsVerify};
+ghost use Rattle.cse_command_try.specs.TryFiles.{StopsTry};
+ghost use Rattle.cse_command_parts.specs.Halts.{StopsVerify};
 ghost use Rattle.cse_command_parts.specs.Printed.{version_line};
-ghost use Rattle.cse_command_parts.specs.Ran.{told_by};
+ghost use Rattle.cse_command_parts.specs.Told.{told_by};
 
 use crate::edit_data::edit_files;
 use crate::edited::EditedFiles;
@@ -16,11 +17,13 @@ use cse_command_parts::fault::Fault;
 use cse_command_parts::files::{MOST_IMAGE, file_bytes, file_text};
 use cse_command_parts::judged::{TriedFile, VerifiedFiles};
 use cse_command_parts::outcome::Stop;
-use cse_command_parts::printing::{write_compiled, write_totals, write_version};
-use cse_command_parts::ran::{RanFiles, RanImage};
-use cse_command_parts::run_image::run_files;
-use cse_command_parts::try_image::try_to;
+use cse_command_parts::printing::{write_compiled, write_version};
 use cse_command_parts::verify_image::verify_to;
+use cse_command_runs::ran::{RanFiles, RanImage};
+use cse_command_runs::run_image::run_files;
+use cse_command_runs::telling::write_totals;
+use cse_command_try::telling::of_try;
+use cse_command_try::try_image::try_to;
 use cse_fault_numbers::{TOO_MANY, WANT_OF_MEMORY, WRITE_FAILED};
 use cse_value::{Failed, Input, Output, Reads, Writes};
 use std::env;
@@ -131,7 +134,7 @@ pub fn try_file<'a, R: Files + AllocGlobal, W: Output>(
     let image = file_bytes(rt, path, MOST_IMAGE)?;
     match try_to(rt.alloc(), image.bytes(), out) {
         Ok(_) => Ok(TriedFile { image }),
-        Err(fault) => Err(Stop::Refused(Fault::of_try(&fault))),
+        Err(fault) => Err(Stop::Refused(of_try(&fault))),
     }
 }
 

@@ -7,7 +7,8 @@ ghost use Rattle.cse_build.specs.Build.{IsBuilt};
 ghost use Rattle.cse_decks.specs.Store.{StoreFits};
 ghost use Rattle.cse_edit.specs.Edit.{IsRead, IsStartOf};
 ghost use Rattle.cse_commands.specs.Edited.{AreEditPaths, EditsFiles, EditsFrom, EditsTexts};
-ghost use Rattle.cse_command_parts.specs.Ran.{AreOpened, AreOpenedFrom, told_by};
+ghost use Rattle.cse_command_runs.specs.Ran.{AreOpened, AreOpenedFrom};
+ghost use Rattle.cse_command_parts.specs.Told.{told_by};
 ghost use Rattle.cse_command_parts.specs.Allowed.{KeepsToSteps};
 ghost use Rattle.cse_command_parts.specs.Stops.{HasNumber, IsNotOpened};
 ghost use Rattle.cse_command_parts.specs.Halts.{StopsFrom, StopsWithin};
@@ -15,7 +16,6 @@ ghost use Rattle.cse_commands.specs.EditHalts.{StopsBuilt, StopsEdit, StopsStart
 ghost use Rattle.cse_code_bounds.specs.EventBound.{case_bound};
 
 use crate::edited::EditedFiles;
-use cse_batch::check_image;
 use cse_command_compile::compile_image::image_of;
 use cse_command_line::plan::{EditPaths, RunPaths};
 use cse_command_parts::apart::{see_apart, uses_of_edit};
@@ -24,8 +24,8 @@ use cse_command_parts::files::{
     MOST_DECKS, bytes_of, bytes_where_there, file_text, text_of, text_where_named,
 };
 use cse_command_parts::outcome::Stop;
-use cse_command_parts::ran::{Ran, RanFrom};
-use cse_command_parts::run_image::{allow_steps, keep_decks, run_over};
+use cse_command_runs::ran::{Ran, RanFrom};
+use cse_command_runs::run_image::{allow_steps, keep_decks, run_over};
 use cse_decks::Store;
 use cse_dict::Dictionary;
 use cse_edit::{EditFault, batches_mean, starting_store};
@@ -33,6 +33,7 @@ use cse_fault_numbers::{TOO_LARGE, TOO_MANY, WANT_OF_MEMORY};
 use cse_image::Code;
 use cse_value::{Input, Output, Reads, Writes};
 use cse_verify::Verified;
+use cse_verify_image::check_image;
 use std::rt::Files;
 
 /// Runs logic over a data file, and answers what came of it, with each file that was opened: `compile` and then `run`,

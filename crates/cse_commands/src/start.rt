@@ -7,7 +7,7 @@ ghost use Rattle.cse_value.specs.Writing.{AppendsFront, FailsAtErr, WritesAll};
 ghost use Rattle.cse_command_parts.specs.Ending.{exit_status};
 ghost use Rattle.cse_command_parts.specs.FaultLine.{outcome_text};
 ghost use Rattle.cse_commands.specs.Program.{EndsProgram};
-ghost use Rattle.cse_command_parts.specs.Ran.{told_by};
+ghost use Rattle.cse_command_parts.specs.Told.{told_by};
 ghost use Rattle.cse_commands.specs.declared.start.TheConstants.{USAGE};
 
 use crate::commands::carry_out;

@@ -11,13 +11,14 @@ ghost use Rattle.cse_edit.specs.Edit.{Edits, EditsWhole, EditStops, IsNoStartOf,
 use crate::fault::EditFault;
 use crate::laws::batches_mean;
 use crate::texts::Texts;
-use cse_batch::{Totals, check_image, run};
+use cse_batch::{Totals, run};
 use cse_build::build;
 use cse_decks::{Store, load};
 use cse_dict::Dictionary;
 use cse_image::{Code, Program};
 use cse_value::{Input, Output};
 use cse_verify::Verified;
+use cse_verify_image::check_image;
 use std::alloc::Global;
 
 /// The number of a want of memory.

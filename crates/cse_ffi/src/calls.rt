@@ -6,7 +6,7 @@ ghost use Rattle.cse_batch.specs.RunClauses.{contents, failures};
 ghost use Rattle.cse_ffi.specs.Calls.{HasNoStart, IsDictionaryFault, IsImageFault, IsImageOf, IsNoImage, IsRead, MayRun, RunsData, RunsFrom, RunsImage, StopsData, StopsFrom, StopsImage, begun, in_memory};
 
 use crate::fault::{CsbFault, fault_at, of_check};
-use cse_batch::{Totals, check_image, run};
+use cse_batch::{Totals, run};
 use cse_build::build;
 use cse_decks::{Store, load};
 use cse_dict::Dictionary;
@@ -14,6 +14,7 @@ use cse_image::{Code, Program};
 use cse_memory::{FromSlice, Gathered};
 use cse_value::{Input, Output};
 use cse_verify::Verified;
+use cse_verify_image::check_image;
 use std::alloc::Global;
 
 /// The number of an output that failed, and that of a want of memory.

@@ -3,7 +3,7 @@
 use crate::device::Slow;
 use crate::hello::HELLO;
 use crate::told::assert_count;
-use cse_command_parts::try_image::{TryFault, try_to};
+use cse_command_try::try_image::{TryFault, try_to};
 use cse_value::Writes;
 use std::alloc::Global;
 

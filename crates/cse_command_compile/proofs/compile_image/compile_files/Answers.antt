@@ -1,7 +1,7 @@
 use Rattle.std.proofs.Common.{◌∙◌, ◌≡◌, List, ap, inl, inr, length, option_map, refl, subst, sym, ℕ}
 use Rattle.cse_value.specs.contracts.device.ReadsInput.TheImpl as reads
 use Rattle.cse_value.specs.contracts.device.WritesOutput.TheImpl as writes
-use Rattle.cse_command_parts.specs.Ran.{told_by}
+use Rattle.cse_command_parts.specs.Told.{told_by}
 use Rattle.cse_command_parts.specs.Vetted.{IsReadAs}
 use Rattle.cse_command_compile.proofs.CompiledLaws.{image_same}
 use Rattle.cse_command_parts.proofs.FileLaws.{text_ends, text_is}

@@ -1,6 +1,6 @@
 use Rattle.cse_value.specs.contracts.device.ReadsInput.TheImpl as reads
 use Rattle.cse_value.specs.contracts.device.WritesOutput.TheImpl as writes
-use Rattle.cse_command_parts.specs.Ran.{told_by}
+use Rattle.cse_command_parts.specs.Told.{told_by}
 use Rattle.cse_commands.proofs.DoesLaws.{tries_so, verifies_so}
 use Rattle.cse_commands.proofs.commands.do_command.Goals as goal
 

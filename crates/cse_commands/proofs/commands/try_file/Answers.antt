@@ -2,7 +2,7 @@ use Rattle.std.proofs.Common.{◌∙◌, ap, inl, inr, sym}
 use Rattle.std.proofs.lemmas.Result.{err_from_is_err_and}
 use Rattle.cse_value.specs.contracts.device.ReadsInput.TheImpl as reads
 use Rattle.cse_command_parts.specs.declared.outcome.Stop.TheVariants.{Refused}
-use Rattle.cse_command_parts.proofs.FileLaws.{trial_same}
+use Rattle.cse_command_try.proofs.TriedLaws.{trial_same}
 use Rattle.cse_command_parts.proofs.HaltLaws.{gave_bytes}
 use Rattle.cse_commands.proofs.commands.try_file.Goals as goal
 

@@ -1,7 +1,7 @@
 use Rattle.std.proofs.Common.{◌∙◌, List, inl, inr, option_map, refl, subst, sym}
 use Rattle.cse_value.specs.contracts.device.ReadsInput.TheImpl as reads
 use Rattle.cse_value.specs.contracts.device.WritesOutput.TheImpl as writes
-use Rattle.cse_command_parts.specs.Ran.{told_by}
+use Rattle.cse_command_parts.specs.Told.{told_by}
 use Rattle.cse_commands.proofs.EditedLaws.{edits_same}
 use Rattle.cse_command_parts.proofs.FileLaws.{text_ends, text_is}
 use Rattle.std.proofs.lemmas.Result.{err_from_is_err_and}

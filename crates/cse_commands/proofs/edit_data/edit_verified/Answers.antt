@@ -3,7 +3,7 @@ use Rattle.std.proofs.lemmas.Result.{err_from_is_err_and}
 use Rattle.cse_value.specs.contracts.device.ReadsInput.TheImpl as reads
 use Rattle.cse_value.specs.contracts.device.WritesOutput.TheImpl as writes
 use Rattle.cse_commands.specs.Edited.{EditsTexts}
-use Rattle.cse_command_parts.specs.Ran.{told_by}
+use Rattle.cse_command_parts.specs.Told.{told_by}
 use Rattle.cse_command_parts.proofs.FileLaws.{decks_are}
 use Rattle.cse_command_parts.proofs.HaltLaws.{gave_there}
 use Rattle.cse_commands.proofs.edit_data.edit_verified.Goals as goal

@@ -1,0 +1,8 @@
+//! `run`, from file to file.
+//!
+//! - `run_image`: an image over a data file. `ran`: what it came to. `telling`: what is told of it.
+#![tactic(auto)]
+
+pub mod ran;
+pub mod run_image;
+pub mod telling;
