@@ -3,16 +3,13 @@
 ghost use Rattle.std.specs.Prelude.{◌≡◌, ◌≤◌, ◌+◌, ◌++◌, [], length, false};
 ghost use Rattle.cse_output.specs.Gathering.{behind, line, Puts, Finishes};
 
-use arrayvec::ArrayVec;
+use crate::waiting::{ROOM, Waiting};
 use cse_value::{Failed, Output, write_all};
-
-/// How many bytes wait at most.
-const ROOM: usize = 65_536;
 
 /// Bytes that wait to be written. Once the device has failed, nothing more is written.
 #[derive(Drop)]
 pub struct Gatherer {
-    pub waiting: ArrayVec<u8, 65536>,
+    pub waiting: Waiting,
     pub gave_up: bool,
 }
 
@@ -23,7 +20,7 @@ impl Gatherer {
         ensures gave_up { result.gave_up ≡ false }
     {
         Gatherer {
-            waiting: ArrayVec::new(),
+            waiting: Waiting::new(),
             gave_up: false,
         }
     }
@@ -47,7 +44,7 @@ impl Gatherer {
             return;
         }
         if bytes.len() <= ROOM - self.waiting.len() {
-            append(&mut self.waiting, bytes);
+            self.waiting.push(bytes);
             return;
         }
         self.flush(out);
@@ -64,7 +61,7 @@ impl Gatherer {
             return;
         }
         if bytes.len() <= ROOM {
-            append(&mut self.waiting, bytes);
+            self.waiting.push(bytes);
             return;
         }
         self.write(out, bytes);
@@ -112,14 +109,4 @@ impl Gatherer {
         }
         Ok(())
     }
-}
-
-/// Appends bytes for which there is room.
-fn append(waiting: &mut ArrayVec<u8, 65536>, bytes: &[u8])
-    requires { length waiting.old.items + length bytes.now ≤ 65536 }
-    ensures { waiting.new.items ≡ waiting.old.items ++ bytes.now }
-{
-    let Ok(()) = waiting.try_extend_from_slice(bytes) else {
-        unreachable!();
-    };
 }

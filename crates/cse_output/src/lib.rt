@@ -2,5 +2,7 @@
 #![tactic(auto)]
 
 mod gatherer;
+mod waiting;
 
 pub use gatherer::Gatherer;
+pub use waiting::Waiting;
