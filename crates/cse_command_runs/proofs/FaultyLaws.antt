@@ -5,8 +5,8 @@ use Rattle.std.specs.Borrow.{Bor}
 use Rattle.cse_image_parts.specs.Image.{Image}
 use Rattle.cse_verify.specs.Verified.{VerifiedProgram}
 use Rattle.cse_decks.specs.Store.{Kept}
-use Rattle.cse_batch.specs.RunClauses.{Contents, Failures}
-use Rattle.cse_batch.specs.declared.totals.RunFault.{RunFault}
+use Rattle.cse_batch_parts.specs.RunClauses.{Contents, Failures}
+use Rattle.cse_batch_parts.specs.declared.totals.RunFault.{RunFault}
 use Rattle.cse_command_parts.specs.declared.outcome.Stop.{Stop}
 use Rattle.cse_command_parts.specs.Allowed.{Keeps, KeepsToSteps, steps_allowed}
 use Rattle.cse_command_parts.specs.Stops.{HasNumber, IsMemory, TellsDeckFault}

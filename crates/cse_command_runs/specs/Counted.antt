@@ -1,7 +1,7 @@
 -- What a command tells that it counted.
 use Rattle.std.specs.Prelude.{Result, Ok, Err}
 use Rattle.cse_memory.specs.declared.gathered.Gathered.{Gathered}
-use Rattle.cse_batch.specs.declared.totals.Totals.{Totals}
+use Rattle.cse_batch_parts.specs.declared.totals.Totals.{Totals}
 use Rattle.cse_command_parts.specs.declared.outcome.Stop.{Stop}
 
 -- the totals of a whole run whose deck text was kept, or why there are none

@@ -3,9 +3,9 @@ use Rattle.std.specs.Prelude.{◌≡◌, ℕ, Bool, true, false, List, [], ◌++
 use Rattle.cse_value.specs.Device.{Given}
 use Rattle.cse_verify.specs.Verified.{VerifiedProgram}
 use Rattle.cse_decks.specs.Store.{Kept}
-use Rattle.cse_batch.specs.declared.totals.RunFault.{RunFault}
-use Rattle.cse_batch.specs.declared.totals.Totals.{Totals}
-use Rattle.cse_batch.specs.RunClauses.{Contents, Failures, RunStops}
+use Rattle.cse_batch_parts.specs.declared.totals.RunFault.{RunFault}
+use Rattle.cse_batch_parts.specs.declared.totals.Totals.{Totals}
+use Rattle.cse_batch_parts.specs.RunClauses.{Contents, Failures, RunStops}
 use Rattle.cse_command_parts.specs.declared.outcome.Stop.{Stop}
 use Rattle.cse_command_parts.specs.declared.outcome.Stop.TheVariants.{Refused}
 use Rattle.cse_command_parts.specs.Ending.{fault_at, plain_fault}

@@ -4,7 +4,7 @@ ghost use Rattle.std.specs.Prelude.{◌≡◌, [], None, Ok, IfOk, IfErr, IfSome
 ghost use Rattle.cse_code_bounds.specs.EventBound.{case_bound};
 ghost use Rattle.cse_decks.specs.Store.{Kept, StoreFits, first_kept};
 ghost use Rattle.cse_decks.specs.DeckText.{IsDeckText};
-ghost use Rattle.cse_batch.specs.RunClauses.{RunsWhole, contents, failures};
+ghost use Rattle.cse_batch_parts.specs.RunClauses.{RunsWhole, contents, failures};
 ghost use Rattle.cse_command_parts.specs.Stops.{HasNumber, IsMemory, IsNotOpened, IsStoreOf, TellsDeckFault, TellsUnwritten};
 ghost use Rattle.cse_command_runs.specs.Telling.{TellsRunFault};
 ghost use Rattle.cse_command_parts.specs.Halts.{StopsFrom, StopsImage, StopsRun, StopsStore, StopsWithin};

@@ -5,7 +5,7 @@ ghost use Rattle.cse_value.specs.Device.{Appends};
 ghost use Rattle.cse_decks.specs.Store.{StoreFits};
 ghost use Rattle.cse_report.specs.Held.{begun};
 ghost use Rattle.cse_report.specs.Reports.{ReportsFit};
-ghost use Rattle.cse_machine_resolve.specs.Results.{RunsTo};
+ghost use Rattle.cse_event_runs.specs.Results.{RunsTo};
 ghost use Rattle.cse_command_try.specs.Tried.{empty_text, preproc, Goes, IsRefused, Runs, text_of, PrintsBefore, FailsByWrite, is_write};
 ghost use Rattle.cse_command_parts.specs.Vetted.{IsReadAs};
 

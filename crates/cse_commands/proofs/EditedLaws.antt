@@ -5,8 +5,8 @@ use Rattle.cse_image.specs.Spelling.{StandFor}
 use Rattle.cse_build.specs.Build.{IsBuilt}
 use Rattle.cse_verify.specs.Verified.{VerifiedProgram}
 use Rattle.cse_decks.specs.Store.{Kept, StoreFits}
-use Rattle.cse_batch.specs.declared.totals.Totals.{Totals}
-use Rattle.cse_batch.specs.RunClauses.{Contents, Failures}
+use Rattle.cse_batch_parts.specs.declared.totals.Totals.{Totals}
+use Rattle.cse_batch_parts.specs.RunClauses.{Contents, Failures}
 use Rattle.cse_edit.specs.Edit.{IsRead, IsStartOf, devices}
 use Rattle.cse_edit.specs.Laws.{BatchesMean}
 use Rattle.cse_edit.proofs.Edits.{edits, stops}

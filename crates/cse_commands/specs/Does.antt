@@ -2,7 +2,7 @@
 use Rattle.std.specs.Prelude.{◌≡◌, ◌⊎◌, ℕ, List, [], Result, Ok, Err}
 use Rattle.cse_value.specs.Device.{Appends}
 use Rattle.cse_value.specs.Writing.{AppendsFront}
-use Rattle.cse_batch.specs.declared.totals.Totals.{Totals}
+use Rattle.cse_batch_parts.specs.declared.totals.Totals.{Totals}
 use Rattle.cse_command_compile.specs.declared.compiled.CompiledFiles.{CompiledFiles}
 use Rattle.cse_commands.specs.declared.edited.EditedFiles.{EditedFiles}
 use Rattle.cse_command_parts.specs.declared.judged.TriedFile.{TriedFile}

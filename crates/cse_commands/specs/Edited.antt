@@ -3,9 +3,9 @@ use Rattle.std.specs.Prelude.{◌≡◌, ℕ, Bool, List, [], Option, option_map
 use Rattle.cse_value.specs.Device.{Given, IsAtEnd}
 use Rattle.cse_memory.specs.declared.gathered.Gathered.{Gathered}
 use Rattle.cse_dict.specs.Dictionary.{DictionaryText}
-use Rattle.cse_batch.specs.declared.totals.Totals.{Totals}
-use Rattle.cse_batch.specs.declared.totals.RunFault.{RunFault}
-use Rattle.cse_batch.specs.RunClauses.{Contents, Failures}
+use Rattle.cse_batch_parts.specs.declared.totals.Totals.{Totals}
+use Rattle.cse_batch_parts.specs.declared.totals.RunFault.{RunFault}
+use Rattle.cse_batch_parts.specs.RunClauses.{Contents, Failures}
 use Rattle.cse_edit.specs.declared.fault.EditFault.TheVariants as faults
 use Rattle.cse_edit.specs.Edit.{EditsWhole, EditStops, devices}
 use Rattle.cse_commands.specs.declared.edited.EditedFiles.{EditedFiles}

@@ -6,10 +6,10 @@ use Rattle.cse_logic_tree.specs.Typed.{Tree}
 use Rattle.cse_build.specs.Build.{IsBuilt}
 use Rattle.cse_decks.specs.Store.{Kept, StoreFits}
 use Rattle.cse_verify.specs.Verified.{VerifiedProgram}
-use Rattle.cse_batch.specs.declared.totals.Totals.{Totals}
-use Rattle.cse_batch.specs.declared.totals.RunFault.{RunFault}
-use Rattle.cse_batch.specs.Batch.{Batch, Progress}
-use Rattle.cse_batch.specs.RunClauses.{Failures, GivesFronts, GivesTexts, RunStops, RunsWhole, WritesRuns}
+use Rattle.cse_batch_parts.specs.declared.totals.Totals.{Totals}
+use Rattle.cse_batch_parts.specs.declared.totals.RunFault.{RunFault}
+use Rattle.cse_batch_parts.specs.Batch.{Batch, Progress}
+use Rattle.cse_batch_parts.specs.RunClauses.{Failures, GivesFronts, GivesTexts, RunStops, RunsWhole, WritesRuns}
 use Rattle.cse_value.specs.Device.{Appends}
 use Rattle.cse_edit.specs.declared.fault.EditFault.{EditFault}
 use Rattle.cse_edit.specs.declared.fault.EditFault.TheVariants as faults

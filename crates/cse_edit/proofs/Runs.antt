@@ -1,7 +1,7 @@
 -- The first ones of runs that have a line each have one.
 use Rattle.std.specs.Prelude.{List, [], ◌∷◌, ◌++◌}
 use Rattle.cse_lines.specs.Line.{FileLine}
-use Rattle.cse_batch.proofs.BoundLaws.{AllSome}
+use Rattle.cse_batch_parts.proofs.BoundLaws.{AllSome}
 
 pub some_front : (runs more : List (List FileLine)) → AllSome (runs ++ more) → AllSome runs
 some_front [] more some = tt

@@ -38,16 +38,16 @@ use Rattle.cse_law_programs_mean.specs.Meant.{ProgramsMean}
 use Rattle.cse_image.specs.Spelling.{StandFor}
 use Rattle.cse_build.specs.Build.{IsBuilt}
 use Rattle.cse_build.proofs.Meant.{NoneBegins, built_means, one_program}
-use Rattle.cse_batch.specs.declared.totals.Totals.{Totals}
-use Rattle.cse_batch.specs.Totals.{totals_of}
-use Rattle.cse_batch.specs.Events.{after_moment, after_moments, edited, end_of, events_of, told_more, unedited}
-use Rattle.cse_batch.specs.Batch.{Batch, Progress, after_application, after_case, after_event, after_run, after_runs, batch, begun, is_whole, next_case, stopped, tables_of, told_after, whole, without_case}
-use Rattle.cse_batch.proofs.EndLaws.{AllThere, case_there, ends_well, fits_application, fits_first_world, fits_moment, fits_then, fits_told}
-use Rattle.cse_batch.proofs.EventLaws.{ends_are_final}
+use Rattle.cse_batch_parts.specs.declared.totals.Totals.{Totals}
+use Rattle.cse_batch_parts.specs.Totals.{totals_of}
+use Rattle.cse_batch_parts.specs.Events.{after_moment, after_moments, edited, end_of, events_of, told_more, unedited}
+use Rattle.cse_batch_parts.specs.Batch.{Batch, Progress, after_application, after_case, after_event, after_run, after_runs, batch, begun, is_whole, next_case, stopped, tables_of, told_after, whole, without_case}
+use Rattle.cse_batch_parts.proofs.EndLaws.{AllThere, case_there, ends_well, fits_application, fits_first_world, fits_moment, fits_then, fits_told}
+use Rattle.cse_batch_parts.proofs.EventLaws.{ends_are_final}
 use Rattle.cse_edit.specs.Logic.{after_meant, all_meant, logic_events, events_meant, edited_meant, after_run_meant, after_runs_meant, application_meant, begun_meant, whole_meant, stopped_meant, told_meant, batch_meant, first_meant, loaded_by, loaded_meant, with_cells}
 use Rattle.cse_edit.specs.Laws.{BatchesMean, IsMeant}
 use Rattle.cse_edit.proofs.Events.{AllOf, of_case}
-use Rattle.cse_batch.proofs.BoundLaws.{AllSome, some_given, store_after_run, store_begun}
+use Rattle.cse_batch_parts.proofs.BoundLaws.{AllSome, some_given, store_after_run, store_begun}
 use Rattle.cse_edit.proofs.Runs.{some_front}
 
 as_given : (x : Image) (r : Result (List (List Num)) DeckError) → with_arrays x r ≡ with_cells (first_kept x) r

@@ -13,11 +13,11 @@ use Rattle.cse_build.specs.Fault.{IsReason}
 use Rattle.cse_decks.specs.Loading.{loaded}
 use Rattle.cse_decks.specs.declared.error.DeckError.{DeckError}
 use Rattle.cse_decks.specs.Store.{Kept, first_kept}
-use Rattle.cse_batch.specs.declared.totals.Totals.{Totals}
-use Rattle.cse_batch.specs.declared.totals.RunFault.{RunFault}
-use Rattle.cse_batch.specs.Batch.{Batch}
-use Rattle.cse_batch.specs.DataFaults.{BreaksOff, IsDataFault}
-use Rattle.cse_batch.specs.RunClauses.{Contents, Failures, GivesFronts, GivesTexts, HasFailure}
+use Rattle.cse_batch_parts.specs.declared.totals.Totals.{Totals}
+use Rattle.cse_batch_parts.specs.declared.totals.RunFault.{RunFault}
+use Rattle.cse_batch_parts.specs.Batch.{Batch}
+use Rattle.cse_batch_parts.specs.DataFaults.{BreaksOff, IsDataFault}
+use Rattle.cse_batch_parts.specs.RunClauses.{Contents, Failures, GivesFronts, GivesTexts, HasFailure}
 use Rattle.cse_edit.specs.declared.fault.EditFault.{EditFault}
 use Rattle.cse_edit.specs.declared.fault.EditFault.TheVariants as faults
 use Rattle.cse_edit.specs.Logic.{after_runs_meant, batch_meant, begun_meant, first_meant, loaded_meant}

@@ -26,10 +26,10 @@ use Rattle.cse_compile_sections.specs.Tables.{globals_in, arrays_in, message_of}
 use Rattle.cse_compile_sections.specs.Order.{edit_order}
 use Rattle.cse_meaning.specs.Meaning.{declarations, meaning}
 use Rattle.cse_meaning.specs.Means.{begins}
-use Rattle.cse_batch.specs.declared.totals.Totals.{Totals}
-use Rattle.cse_batch.specs.Totals.{totals_of}
-use Rattle.cse_batch.specs.Events.{told_more, unedited}
-use Rattle.cse_batch.specs.Batch.{Batch, Progress, after_case, after_event, is_whole, without_case}
+use Rattle.cse_batch_parts.specs.declared.totals.Totals.{Totals}
+use Rattle.cse_batch_parts.specs.Totals.{totals_of}
+use Rattle.cse_batch_parts.specs.Events.{told_more, unedited}
+use Rattle.cse_batch_parts.specs.Batch.{Batch, Progress, after_case, after_event, is_whole, without_case}
 
 -- ---- events
 

@@ -10,7 +10,7 @@ use Rattle.cse_logic_tree.specs.declared.tree.Variable.TheVariants as v
 use Rattle.cse_logic_tree.specs.Typed.{Array', Body, Both, Declaration, Do, Fixed, Minus, Number, Numeric, Plain, Postproc, Preproc, Procedure, Sized, Statement, Tree, Variable', statements}
 use Rattle.cse_decks.specs.Store.{Kept}
 use Rattle.cse_meaning.specs.Worked.{adults, age, ages, at, becomes, eight, errmsg, imputing, item, missing, name, persons, signed, source, sums, whole}
-use Rattle.cse_batch.specs.Batch.{Batch}
+use Rattle.cse_batch_parts.specs.Batch.{Batch}
 use Rattle.cse_edit.specs.Logic.{batch_meant, first_meant, loaded_meant}
 
 -- ---- sources

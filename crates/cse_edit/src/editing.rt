@@ -4,7 +4,7 @@ ghost use Rattle.std.specs.Prelude.{◌≡◌, IfOk, IfErr};
 ghost use Rattle.std.specs.Option.{option_copied};
 ghost use Rattle.cse_build.specs.Build.{IsBuilt};
 ghost use Rattle.cse_image.specs.Spelling.{StandFor};
-ghost use Rattle.cse_batch.specs.RunClauses.{contents, failures};
+ghost use Rattle.cse_batch_parts.specs.RunClauses.{contents, failures};
 ghost use Rattle.cse_decks.specs.Store.{StoreFits};
 ghost use Rattle.cse_edit.specs.Edit.{Edits, EditsWhole, EditStops, IsNoStartOf, IsStartOf, Stops, devices};
 

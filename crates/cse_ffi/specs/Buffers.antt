@@ -1,8 +1,8 @@
 -- What C finds behind a call: the number that it answers, and what stands in its buffers and places.
 use Rattle.std.specs.Prelude.{◌≡◌, ◌⊎◌, ◌&&◌, ◌++◌, ℕ, Bool, List, length, drop, nat_le, if◌then◌else◌}
 use Rattle.cse_value.specs.Device.{Given}
-use Rattle.cse_batch.specs.declared.totals.Totals.{Totals}
-use Rattle.cse_batch.specs.RunClauses.{Contents, Failures, contents}
+use Rattle.cse_batch_parts.specs.declared.totals.Totals.{Totals}
+use Rattle.cse_batch_parts.specs.RunClauses.{Contents, Failures, contents}
 use Rattle.cse_ffi.specs.declared.fault.CsbFault.{CsbFault}
 use Rattle.cse_ffi.specs.declared.fault.CsbCounts.{CsbCounts}
 use Rattle.cse_ffi.specs.declared.fault.CsbTotals.{CsbTotals}

@@ -2,7 +2,7 @@
 
 ghost use Rattle.std.specs.Prelude.{◌≡◌, Ok, IfOk, IfErr};
 ghost use Rattle.cse_decks.specs.Store.{StoreFits};
-ghost use Rattle.cse_batch.specs.RunClauses.{contents, failures};
+ghost use Rattle.cse_batch_parts.specs.RunClauses.{contents, failures};
 ghost use Rattle.cse_ffi.specs.Calls.{HasNoStart, IsDictionaryFault, IsImageFault, IsImageOf, IsNoImage, IsRead, MayRun, RunsData, RunsFrom, RunsImage, StopsData, StopsFrom, StopsImage, begun, in_memory};
 
 use crate::fault::{CsbFault, fault_at, of_check};

@@ -30,12 +30,12 @@ use Rattle.cse_steps.specs.Columns.{LinesStay}
 use Rattle.cse_steps.proofs.Columns.{case_same}
 use Rattle.cse_meaning.specs.Meaning.{declarations}
 use Rattle.cse_meaning.specs.Means.{begins}
-use Rattle.cse_batch.specs.Totals.{totals_of}
-use Rattle.cse_batch.specs.Events.{unedited}
-use Rattle.cse_batch.specs.Batch.{Progress, is_whole}
-use Rattle.cse_batch.specs.Untouched.{LineStays}
-use Rattle.cse_batch.proofs.UntouchedGiven.{AreGood, all_given, given_are_good}
-use Rattle.cse_batch.proofs.UntouchedLines.{IsLeft as IsLeftOf, as_many_written, line_stays, lines_written, sound_at, written_at, written_together}
+use Rattle.cse_batch_parts.specs.Totals.{totals_of}
+use Rattle.cse_batch_parts.specs.Events.{unedited}
+use Rattle.cse_batch_parts.specs.Batch.{Progress, is_whole}
+use Rattle.cse_batch_parts.specs.Untouched.{LineStays}
+use Rattle.cse_batch_parts.proofs.UntouchedGiven.{AreGood, all_given, given_are_good}
+use Rattle.cse_batch_parts.proofs.UntouchedLines.{IsLeft as IsLeftOf, as_many_written, line_stays, lines_written, sound_at, written_at, written_together}
 use Rattle.cse_edit.specs.Logic.{after_meant, all_meant, edited_meant, events_meant, after_run_meant, after_runs_meant, begun_meant, told_meant, batch_meant}
 use Rattle.cse_law_items_stay.specs.Stay.{MayChange, AllStay, lines_read, ItemsStay, NamedItemsAloneChange, ChecksChangeNothing, EditsKeepOthers}
 use Rattle.cse_law_items_stay.proofs.Puts.{FunctionsPut, ProceduresPut}

@@ -11,10 +11,10 @@ use Rattle.cse_logic_tree.specs.Typed.{Tree}
 use Rattle.cse_written_items.specs.Items.{items_written}
 use Rattle.cse_decks.specs.Store.{Kept}
 use Rattle.cse_build.specs.Build.{AreSound}
-use Rattle.cse_batch.specs.declared.totals.Totals.{Totals}
-use Rattle.cse_batch.specs.declared.totals.RunFault.{RunFault}
-use Rattle.cse_batch.specs.RunClauses.{Failures}
-use Rattle.cse_batch.specs.Untouched.{LineStays}
+use Rattle.cse_batch_parts.specs.declared.totals.Totals.{Totals}
+use Rattle.cse_batch_parts.specs.declared.totals.RunFault.{RunFault}
+use Rattle.cse_batch_parts.specs.RunClauses.{Failures}
+use Rattle.cse_batch_parts.specs.Untouched.{LineStays}
 use Rattle.cse_edit.specs.Logic.{batch_meant}
 use Rattle.cse_edit.specs.Edit.{Devices, Edits, IsRead, StopsEdit}
 

@@ -2,10 +2,7 @@ pub mod Piles
 pub mod Stand
 pub mod Resolve
 pub mod Laws
-pub mod Results
 pub mod Resume
-pub mod Handled
 pub mod Small
-pub mod Quiet
 pub mod Sorts
 pub mod Clauses
