@@ -1,7 +1,7 @@
 //! From bytes to bytes: whole runs over data files.
 //!
 //! `whole` runs a data file by a machine of its own. All else stands in `cse_batch_parts`, which knows no machine, and
-//! `check_image`, which gives the program that `run` takes, in `cse_verify_image`.
+//! `check_image`, which gives the program that `run` takes, in `cse_verify`.
 #![tactic(auto)]
 
 mod whole;
@@ -11,5 +11,5 @@ pub use cse_batch_parts::{
     ends_are_final, fronts_stay, run_by, untouched_columns_stay, worked_edit, worked_rows,
 };
 pub use cse_event_runs::runs::Runs;
-pub use cse_verify_image::{CheckFault, check_image};
+pub use cse_verify::{CheckFault, check_image};
 pub use whole::run;

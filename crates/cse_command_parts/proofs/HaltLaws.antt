@@ -9,8 +9,8 @@ use Rattle.cse_image_parts.specs.Image.{Image}
 use Rattle.cse_dict.specs.declared.fault.DictError.{DictError}
 use Rattle.cse_dict.specs.Dictionary.{DictionaryText, shape_of}
 use Rattle.cse_dict.specs.Reading.{IsAnswer}
-use Rattle.cse_verify_image.specs.declared.image.CheckFault.{CheckFault}
-use Rattle.cse_verify_image.specs.Checked.{IsNoFault, IsRefused}
+use Rattle.cse_verify.specs.declared.image.CheckFault.{CheckFault}
+use Rattle.cse_verify.specs.Checked.{IsNoFault, IsRefused}
 use Rattle.cse_command_parts.specs.declared.fault.Fault.{Fault}
 use Rattle.cse_command_parts.specs.declared.outcome.Stop.{Stop}
 use Rattle.cse_command_parts.specs.declared.outcome.Stop.TheVariants.{Refused}

@@ -4,7 +4,7 @@ use Rattle.cse_dict.specs.Dictionary.{DictionaryText, shape_of}
 use Rattle.cse_verify.specs.declared.depth.Depth.{Depth}
 use Rattle.cse_verify.specs.Depths.{IsDepthOf}
 use Rattle.cse_verify.specs.Verified.{VerifiedProgram}
-use Rattle.cse_verify_image.specs.Checked.{IsAccepted}
+use Rattle.cse_verify.specs.Checked.{IsAccepted}
 use Rattle.cse_command_parts.specs.Vetted.{IsReadAs, Passes}
 
 abbrev pub passed : (text bytes : List ℕ) (d : DictionaryText) (v : VerifiedProgram) (depth : Depth) → IsReadAs text d → v.dictionary ≡ d

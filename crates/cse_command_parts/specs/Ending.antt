@@ -6,8 +6,8 @@ use Rattle.cse_files.specs.declared.fault.ReadFault.{ReadFault}
 use Rattle.cse_files.specs.declared.fault.ReadFault.TheVariants as reads
 use Rattle.cse_files.specs.declared.fault.WriteFault.{WriteFault}
 use Rattle.cse_files.specs.declared.fault.WriteFault.TheVariants.{NotOpened, NotWritten, Memory}
-use Rattle.cse_verify_image.specs.declared.image.CheckFault.{CheckFault}
-use Rattle.cse_verify_image.specs.declared.image.CheckFault.TheVariants as checks
+use Rattle.cse_verify.specs.declared.image.CheckFault.{CheckFault}
+use Rattle.cse_verify.specs.declared.image.CheckFault.TheVariants as checks
 use Rattle.cse_command_parts.specs.declared.fault.Fault.{Fault}
 use Rattle.cse_command_parts.specs.declared.outcome.Asked.{Asked}
 use Rattle.cse_command_parts.specs.declared.outcome.Asked.TheVariants.{Open, Read, Write}

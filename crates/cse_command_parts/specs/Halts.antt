@@ -10,8 +10,8 @@ use Rattle.cse_dict.specs.Reading.{IsAnswer}
 use Rattle.cse_code_bounds.specs.EventBound.{case_bound}
 use Rattle.cse_verify.specs.Verified.{VerifiedProgram}
 use Rattle.cse_decks.specs.Store.{Kept}
-use Rattle.cse_verify_image.specs.declared.image.CheckFault.{CheckFault}
-use Rattle.cse_verify_image.specs.Checked.{IsAccepted, IsNoFault, IsRefused}
+use Rattle.cse_verify.specs.declared.image.CheckFault.{CheckFault}
+use Rattle.cse_verify.specs.Checked.{IsAccepted, IsNoFault, IsRefused}
 use Rattle.cse_command_parts.specs.declared.outcome.Stop.{Stop}
 use Rattle.cse_command_parts.specs.declared.outcome.Stop.TheVariants.{Refused}
 use Rattle.cse_command_line.specs.declared.plan.RunPaths.{RunPaths}

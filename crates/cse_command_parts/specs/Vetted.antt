@@ -9,8 +9,8 @@ use Rattle.cse_dict.specs.Dictionary.{DictionaryText, dictionary_of, shape_of}
 use Rattle.cse_dict.specs.Reading.{text_faults, IsAnswer}
 use Rattle.cse_verify.specs.declared.depth.Depth.{Depth}
 use Rattle.cse_verify.specs.Depths.{IsDepthOf}
-use Rattle.cse_verify_image.specs.declared.image.CheckFault.{CheckFault}
-use Rattle.cse_verify_image.specs.Checked.{IsAccepted, IsRefused, IsNoFault}
+use Rattle.cse_verify.specs.declared.image.CheckFault.{CheckFault}
+use Rattle.cse_verify.specs.Checked.{IsAccepted, IsRefused, IsNoFault}
 use Rattle.cse_command_parts.specs.declared.verify_image.VerifyFault.{VerifyFault}
 use Rattle.cse_command_parts.specs.declared.verify_image.VerifyFault.TheVariants as faults
 use Rattle.cse_command_parts.specs.Verdict.{verdict}

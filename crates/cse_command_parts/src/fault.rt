@@ -14,8 +14,7 @@ use cse_dict::DictError;
 use cse_fault_numbers::{NOT_OPENED, READ_FAILED, WANT_OF_MEMORY, WRITE_FAILED};
 use cse_image::ImageError;
 use cse_value::{Failed, Output, write_all};
-use cse_verify::{NONE, Refusal};
-use cse_verify_image::CheckFault;
+use cse_verify::{CheckFault, NONE, Refusal};
 use itoa::Buffer;
 
 /// A fault: its number, and what it tells of its place.

@@ -7,7 +7,7 @@ ghost use Rattle.cse_command_parts.specs.Vetted.{Passes, IsReadAs, told, FailsBy
 use crate::verdict::write_verdict;
 use cse_dict::{DictError, Dictionary};
 use cse_value::{Failed, Output};
-use cse_verify_image::{CheckFault, check_image};
+use cse_verify::{CheckFault, check_image};
 use std::alloc::Global;
 use thiserror::Error;
 

@@ -8,7 +8,7 @@ use Rattle.cse_dict.specs.Dictionary.{DictionaryText, shape_of}
 use Rattle.cse_verify.specs.Verified.{VerifiedProgram}
 use Rattle.cse_decks.specs.Store.{Kept}
 use Rattle.cse_batch_parts.specs.declared.totals.Totals.{Totals}
-use Rattle.cse_verify_image.specs.Checked.{IsAccepted}
+use Rattle.cse_verify.specs.Checked.{IsAccepted}
 use Rattle.cse_batch_parts.specs.RunClauses.{Contents, Failures, RunsWhole, contents, failures}
 use Rattle.cse_command_parts.specs.declared.outcome.Stop.{Stop}
 use Rattle.cse_command_line.specs.declared.plan.RunPaths.{RunPaths}

@@ -14,7 +14,7 @@ use Rattle.cse_report.specs.Held.{Held, begun, reported, texts_of}
 use Rattle.cse_report.specs.AllReported.{all_reported}
 use Rattle.cse_steps.specs.Fits.{FitsFirst}
 use Rattle.cse_event_runs.specs.Results.{RunsTo}
-use Rattle.cse_verify_image.specs.Checked.{IsAccepted}
+use Rattle.cse_verify.specs.Checked.{IsAccepted}
 use Rattle.cse_command_parts.specs.Printed.{listed}
 use Rattle.cse_command_try.specs.Tried.{Goes, Runs, empty_text, preproc, text_of, tried}
 use Rattle.cse_command_parts.specs.Vetted.{IsReadAs}

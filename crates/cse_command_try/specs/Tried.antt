@@ -9,8 +9,8 @@ use Rattle.cse_verify.specs.Verified.{VerifiedProgram}
 use Rattle.cse_decks.specs.Store.{Kept, first_kept}
 use Rattle.cse_steps.specs.State.{Told}
 use Rattle.cse_steps.specs.Run.{Ends}
-use Rattle.cse_verify_image.specs.declared.image.CheckFault.TheVariants as checks
-use Rattle.cse_verify_image.specs.Checked.{IsAccepted}
+use Rattle.cse_verify.specs.declared.image.CheckFault.TheVariants as checks
+use Rattle.cse_verify.specs.Checked.{IsAccepted}
 use Rattle.cse_command_try.specs.declared.try_image.TryFault.{TryFault}
 use Rattle.cse_command_try.specs.declared.try_image.TryFault.TheVariants as faults
 use Rattle.cse_command_parts.specs.Printed.{listed, printed}

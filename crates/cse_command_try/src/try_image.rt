@@ -16,8 +16,7 @@ use cse_image::{Code, Event, EventCode, ImageError};
 use cse_machine::Machine;
 use cse_report::Reports;
 use cse_value::{Failed, OutOfMemory, Output};
-use cse_verify::{Refusal, Verified};
-use cse_verify_image::{CheckFault, check_image};
+use cse_verify::{CheckFault, Refusal, Verified, check_image};
 use std::alloc::Global;
 use thiserror::Error;
 

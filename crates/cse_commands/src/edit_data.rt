@@ -32,8 +32,7 @@ use cse_edit::{EditFault, batches_mean, starting_store};
 use cse_fault_numbers::{TOO_LARGE, TOO_MANY, WANT_OF_MEMORY};
 use cse_image::Code;
 use cse_value::{Input, Output, Reads, Writes};
-use cse_verify::Verified;
-use cse_verify_image::check_image;
+use cse_verify::{Verified, check_image};
 use std::rt::Files;
 
 /// Runs logic over a data file, and answers what came of it, with each file that was opened: `compile` and then `run`,

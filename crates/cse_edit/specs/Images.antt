@@ -8,7 +8,7 @@ use Rattle.cse_decks.specs.Store.{Kept, StoreFits, first_kept}
 use Rattle.cse_build.specs.Build.{IsBuilt}
 use Rattle.cse_batch_parts.specs.declared.totals.Totals.{Totals}
 use Rattle.cse_batch_parts.specs.declared.totals.RunFault.{RunFault}
-use Rattle.cse_verify_image.specs.Checked.{IsAccepted}
+use Rattle.cse_verify.specs.Checked.{IsAccepted}
 use Rattle.cse_batch_parts.specs.RunClauses.{Failures, RunStops, RunsWhole}
 use Rattle.cse_edit.specs.Logic.{batch_meant, first_meant, loaded_meant}
 use Rattle.cse_edit.specs.Edit.{Devices, RunsBatch, StopsBatch, written_meant}

@@ -17,8 +17,7 @@ use cse_decks::{Store, load};
 use cse_dict::Dictionary;
 use cse_image::{Code, Program};
 use cse_value::{Input, Output};
-use cse_verify::Verified;
-use cse_verify_image::check_image;
+use cse_verify::{Verified, check_image};
 use std::alloc::Global;
 
 /// The number of a want of memory.

@@ -5,7 +5,7 @@ use Rattle.cse_memory.specs.Slice.{ReadOf}
 use Rattle.cse_dict.specs.Dictionary.{DictionaryText, shape_of}
 use Rattle.cse_verify.specs.Verified.{VerifiedProgram}
 use Rattle.cse_batch_parts.specs.declared.totals.Totals.{Totals}
-use Rattle.cse_verify_image.specs.Checked.{IsAccepted}
+use Rattle.cse_verify.specs.Checked.{IsAccepted}
 use Rattle.cse_batch_parts.specs.RunClauses.{Contents, Failures, contents}
 use Rattle.cse_ffi.specs.declared.fault.CsbFault.{CsbFault}
 use Rattle.cse_ffi.specs.Fault.{status_of}

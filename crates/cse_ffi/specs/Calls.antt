@@ -16,10 +16,10 @@ use Rattle.cse_build.specs.Meant.{MeansLogic}
 use Rattle.cse_decks.specs.declared.error.DeckError.{DeckError}
 use Rattle.cse_decks.specs.Loading.{loaded}
 use Rattle.cse_decks.specs.Store.{Kept, first_kept}
-use Rattle.cse_verify_image.specs.declared.image.CheckFault.{CheckFault}
+use Rattle.cse_verify.specs.declared.image.CheckFault.{CheckFault}
 use Rattle.cse_batch_parts.specs.declared.totals.Totals.{Totals}
 use Rattle.cse_batch_parts.specs.declared.totals.RunFault.{RunFault}
-use Rattle.cse_verify_image.specs.Checked.{IsAccepted, IsNoFault, IsRefused}
+use Rattle.cse_verify.specs.Checked.{IsAccepted, IsNoFault, IsRefused}
 use Rattle.cse_batch_parts.specs.RunClauses.{Contents, Failures, RunStops, RunsWhole, contents}
 use Rattle.cse_ffi.specs.declared.fault.CsbFault.{CsbFault}
 use Rattle.cse_ffi.specs.Fault.{fault_at, of_check}

@@ -1,7 +1,7 @@
 -- What C is told.
 use Rattle.std.specs.Prelude.{ℕ, Bool, List, length, if◌then◌else◌}
-use Rattle.cse_verify_image.specs.declared.image.CheckFault.{CheckFault}
-use Rattle.cse_verify_image.specs.declared.image.CheckFault.TheVariants as checks
+use Rattle.cse_verify.specs.declared.image.CheckFault.{CheckFault}
+use Rattle.cse_verify.specs.declared.image.CheckFault.TheVariants as checks
 use Rattle.cse_batch_parts.specs.declared.totals.Totals.{Totals}
 use Rattle.cse_ffi.specs.declared.fault.CsbFault.{CsbFault}
 use Rattle.cse_ffi.specs.declared.fault.CsbCounts.{CsbCounts}

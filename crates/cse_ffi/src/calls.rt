@@ -13,8 +13,7 @@ use cse_dict::Dictionary;
 use cse_image::{Code, Program};
 use cse_memory::{FromSlice, Gathered};
 use cse_value::{Input, Output};
-use cse_verify::Verified;
-use cse_verify_image::check_image;
+use cse_verify::{Verified, check_image};
 use std::alloc::Global;
 
 /// The number of an output that failed, and that of a want of memory.

@@ -6,7 +6,7 @@ ghost use Rattle.cse_ffi.specs.Fault.{counts_of, fault_at, of_check, status_of, 
 use crate::calls::Texts;
 use cse_batch::Totals;
 use cse_fault_numbers::WANT_OF_MEMORY;
-use cse_verify_image::CheckFault;
+use cse_verify::CheckFault;
 
 /// Why there is nothing: a number of docs/FAULTS.md, and its place, as far as the number knows of one. Line and column count
 /// from 1; 0 means none.

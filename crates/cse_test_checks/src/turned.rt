@@ -5,7 +5,7 @@ use crate::told::assert_count;
 use cse_command_try::try_image::try_to;
 use cse_dict::Dictionary;
 use cse_value::Writes;
-use cse_verify_image::check_image;
+use cse_verify::check_image;
 use std::alloc::Global;
 
 /// The dictionary with neither records nor items.

@@ -6,3 +6,4 @@ pub mod ChainLaws
 pub mod FirstLaws
 pub mod MeaningLaws
 pub mod WalkLaws
+mod CheckLaws

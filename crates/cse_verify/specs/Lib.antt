@@ -4,3 +4,4 @@ pub mod Verified
 pub mod Measured
 pub mod Chain
 pub mod Meaning
+pub mod Checked

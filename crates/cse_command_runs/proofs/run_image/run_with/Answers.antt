@@ -1,6 +1,6 @@
 use Rattle.std.proofs.Common.{◌∙◌, List, inl, inr, subst, sym, ℕ}
 use Rattle.cse_dict.specs.Dictionary.{shape_of}
-use Rattle.cse_verify_image.specs.Checked.{IsAccepted}
+use Rattle.cse_verify.specs.Checked.{IsAccepted}
 use Rattle.std.proofs.lemmas.Result.{err_from_is_err_and}
 use Rattle.cse_value.specs.contracts.device.ReadsInput.TheImpl as reads
 use Rattle.cse_command_parts.proofs.HaltLaws.{check_fault, gave_bytes}

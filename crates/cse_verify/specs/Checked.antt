@@ -10,8 +10,8 @@ use Rattle.cse_code_typing.specs.declared.refusal.Refusal.{Refusal}
 use Rattle.cse_code_typing.specs.Typed.{IsTyped}
 use Rattle.cse_code_bounds.specs.Bounded.{IsBounded}
 use Rattle.cse_verify.specs.FirstFault.{IsFirstFault}
-use Rattle.cse_verify_image.specs.declared.image.CheckFault.{CheckFault}
-use Rattle.cse_verify_image.specs.declared.image.CheckFault.TheVariants as faults
+use Rattle.cse_verify.specs.declared.image.CheckFault.{CheckFault}
+use Rattle.cse_verify.specs.declared.image.CheckFault.TheVariants as faults
 
 -- 90 is told by want of memory alone
 abbrev pub of_reading : ImageError → CheckFault

@@ -2,12 +2,14 @@
 
 ghost use Rattle.std.specs.Prelude.{◌≡◌, IfOk, IfErr};
 ghost use Rattle.cse_dict.specs.Dictionary.{shape_of};
-ghost use Rattle.cse_verify_image.specs.Checked.{IsAccepted, IsRefused, IsNoFault, of_reading, of_verifying};
+ghost use Rattle.cse_verify.specs.Checked.{IsAccepted, IsRefused, IsNoFault, of_reading, of_verifying};
 
+use crate::verified::Verified;
+use crate::verifying::verify;
+use cse_code_typing::Refusal;
 use cse_dict::Dictionary;
 use cse_fault_numbers::WANT_OF_MEMORY;
 use cse_image::{CodeView, ImageError, Program, view_image};
-use cse_verify::{Refusal, Verified, verify};
 use std::alloc::Global;
 use thiserror::Error;
 

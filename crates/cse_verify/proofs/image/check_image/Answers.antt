@@ -1,6 +1,6 @@
 use Rattle.cse_dict.specs.Dictionary.{shape_of}
-use Rattle.cse_verify_image.proofs.CheckLaws.{reading_lacks_memory, verifying_lacks_memory}
-use Rattle.cse_verify_image.proofs.image.check_image.Goals as goal
+use Rattle.cse_verify.proofs.CheckLaws.{reading_lacks_memory, verifying_lacks_memory}
+use Rattle.cse_verify.proofs.image.check_image.Goals as goal
 
 pub returns-in-Err-clause-only : goal.returns-in-Err-clause-only
 returns-in-Err-clause-only c = λ x accepted. reading_lacks_memory c.in-Err.error x c.of_reading.result c.of_reading.ensures (c.in-Err.ensures.only x accepted.spells)

@@ -8,9 +8,9 @@ use Rattle.cse_image.specs.Place.{Answers}
 use Rattle.cse_code_typing.specs.declared.refusal.Refusal.{Refusal}
 use Rattle.cse_code_typing.specs.Typed.{IsTyped, IsOutOfMemory}
 use Rattle.cse_code_bounds.specs.Bounded.{IsBounded}
-use Rattle.cse_verify_image.specs.declared.image.CheckFault.{CheckFault}
-use Rattle.cse_verify_image.specs.declared.image.CheckFault.TheVariants as faults
-use Rattle.cse_verify_image.specs.Checked.{of_reading, of_verifying}
+use Rattle.cse_verify.specs.declared.image.CheckFault.{CheckFault}
+use Rattle.cse_verify.specs.declared.image.CheckFault.TheVariants as faults
+use Rattle.cse_verify.specs.Checked.{of_reading, of_verifying}
 
 pub reading_lacks_memory : (e : ImageError) (x : Image) (f : CheckFault) → f ≡ of_reading e → Answers (λ (p : Image). p) (Err e) (Ok x) → f ≡ faults.Memory
 reading_lacks_memory e x f is (inl m) = is ∙ ap of_reading m
