@@ -50,6 +50,8 @@ pub struct Row<'a> {
     pub own: &'a str,
     pub part: &'a str,
     pub all: &'a str,
+    /// What `usage` stands for in what is told.
+    pub usage: &'a str,
 }
 
 /// How many bytes a value has: its first line, and those behind it that are indented.

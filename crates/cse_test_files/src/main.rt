@@ -9,68 +9,33 @@
 //! derived from the rules, as those of the household sample were, but for `AGE.img`: as `HOUSEHOLD.img` it is what the
 //! compiler gave, read field by field.
 //!
-//! `cse_test_desk` says what a row is, and has the runtime that it is carried out over. `row`: how it is carried out.
+//! `cse_test_desk` says what a row is, and how it is carried out by commands. Here are the commands.
 #![tactic(auto)]
 
-mod row;
-
-use crate::row::is_right;
-use cse_test_desk::block::{Row, has_words, is_row};
-use std::fs;
+use cse_check::command::carry_out;
+use cse_commands::start::{USAGE, carry_out_and_tell};
+use cse_test_desk::desk::Desk;
+use cse_test_desk::row::Commands;
+use cse_test_desk::tables::show_tables;
+use cse_value::Output;
 use std::rt::Files;
 
-/// The tables, a path a line.
-const TABLES: &str = "rows/tables.txt";
+/// The commands of csbatch.
+struct All;
+
+impl Commands for All {
+    fn carry_out<R: Files + AllocGlobal, W: Output>(
+        &self,
+        desk: &Desk<'_, R>,
+        errors: &mut W,
+    ) -> u8 {
+        match carry_out(desk, USAGE, errors) {
+            Some(status) => status,
+            None => carry_out_and_tell(desk, errors),
+        }
+    }
+}
 
 fn main(rt: HostRuntime) {
-    show_tables(&rt);
-}
-
-/// Carries out the rows of all tables.
-fn show_tables<R: Files + Print + AllocGlobal + Clone + Drop>(rt: &R) {
-    if let Ok(paths) = fs::read_to_string(rt, TABLES) {
-        for path in paths.lines() {
-            show_table(rt, path);
-        }
-    }
-}
-
-/// Carries out the rows of a table, and prints how many are as they should be.
-fn show_table<R: Files + Print + AllocGlobal + Clone + Drop>(rt: &R, path: &str) {
-    let right = match fs::read_to_string(rt, path) {
-        Ok(text) => right_rows(rt, &text),
-        Err(_) => 0,
-    };
-    let _ = println!(rt; "{path}: {right} rows");
-}
-
-/// How many rows of a text are as they should be. It begins with what all of them share.
-fn right_rows<R: Files + Print + AllocGlobal + Clone + Drop>(rt: &R, text: &str) -> usize {
-    let (all, _) = text.split_once("\n\n").unwrap_or((text, ""));
-    let mut right = 0usize;
-    for rows in text.split("\n\n#") {
-        if let Some((part, rows)) = rows.split_once("\n\n") {
-            right = right.saturating_add(right_below(rt, all, part, rows));
-        }
-    }
-    right
-}
-
-/// How many rows below a comment are as they should be.
-fn right_below<R: Files + Print + AllocGlobal + Clone + Drop>(
-    rt: &R,
-    all: &str,
-    part: &str,
-    rows: &str,
-) -> usize {
-    let mut right = 0usize;
-    for own in rows.split("\n\n") {
-        let row = Row { own, part, all };
-        if is_row(own) && has_words(part) && is_right(rt, &row) {
-            right = right.saturating_add(1);
-        } else {
-            let _ = println!(rt; "{}: not as it should be", row.name());
-        }
-    }
-    right
+    show_tables(&rt, USAGE, &All);
 }

@@ -1,21 +1,35 @@
 //! A row is carried out: commands over the files of the folder in which the program runs, and what they come to.
 
-use cse_check::command::carry_out;
-use cse_commands::start::{USAGE, carry_out_and_tell};
-use cse_test_desk::amiss::{Amiss, amiss_of};
-use cse_test_desk::block::{AMISS, FILES, MADE, OPENED, PRINTED, Row, STATUS, TOLD, WORDS};
-use cse_test_desk::desk::{Desk, Notes};
-use cse_test_desk::text::{put, put_lines, put_text};
+use crate::amiss::{Amiss, amiss_of};
+use crate::block::{AMISS, FILES, MADE, OPENED, PRINTED, Row, STATUS, TOLD, WORDS};
+use crate::desk::{Desk, Notes};
+use crate::text::{put, put_lines, put_text};
 use cse_value::{Output, Writes};
 use std::cell::RefCell;
 use std::fs;
 use std::rt::Files;
 
+/// What carries out the commands of rows.
+pub trait Commands {
+    /// Does what the words of a desk ask for, tells what was not done, and answers the exit status.
+    fn carry_out<R: Files + AllocGlobal, W: Output>(
+        &self,
+        desk: &Desk<'_, R>,
+        errors: &mut W,
+    ) -> u8;
+}
+
 /// Carries out the commands of a row, and answers whether all is as it should be. Prints what is not.
-pub fn is_right<R: Files + Print + AllocGlobal + Clone + Drop>(rt: &R, row: &Row<'_>) -> bool {
+pub fn is_right<R: Files + Print + AllocGlobal + Clone + Drop, C: Commands>(
+    rt: &R,
+    row: &Row<'_>,
+    commands: &C,
+) -> bool {
     let before = files_in(rt);
     let well = match amiss_of(row.of(AMISS)) {
-        Some(amiss) => lay_out(rt, row) && amiss.tie(rt) && is_carried_out(rt, row, amiss),
+        Some(amiss) => {
+            lay_out(rt, row) && amiss.tie(rt) && is_carried_out(rt, row, amiss, commands)
+        }
         None => false,
     };
     let well = has_its_files(rt, row, before) && well;
@@ -74,16 +88,13 @@ fn lay_out<R: Files + Print + AllocGlobal>(rt: &R, row: &Row<'_>) -> bool {
     well
 }
 
-/// What the command answers.
-fn status_of<R: Files + AllocGlobal, W: Output>(desk: &Desk<'_, R>, errors: &mut W) -> u8 {
-    match carry_out(desk, USAGE, errors) {
-        Some(status) => status,
-        None => carry_out_and_tell(desk, errors),
-    }
-}
-
 /// Carries out the commands, and answers whether the files were opened in their order, and the lines and the status are the row's.
-fn is_carried_out<R: Files + Print + AllocGlobal>(rt: &R, row: &Row<'_>, amiss: Amiss<'_>) -> bool {
+fn is_carried_out<R: Files + Print + AllocGlobal, C: Commands>(
+    rt: &R,
+    row: &Row<'_>,
+    amiss: Amiss<'_>,
+    commands: &C,
+) -> bool {
     let notes = Notes {
         opened: RefCell::new(Vec::new(rt.alloc())),
         printed: RefCell::new(Vec::new(rt.alloc())),
@@ -98,7 +109,7 @@ fn is_carried_out<R: Files + Print + AllocGlobal>(rt: &R, row: &Row<'_>, amiss: 
             amiss,
             notes: &notes,
         };
-        status = status.max(status_of(&desk, &mut errors));
+        status = status.max(commands.carry_out(&desk, &mut errors));
     }
     let mut well = is_opened(rt, row, &notes);
     well &= is_printed(rt, row, &notes);
@@ -138,7 +149,7 @@ fn put_said(row: &Row<'_>, word: &str, name: &str, into: &mut Vec<u8>) -> bool {
         return put_text(into, text);
     }
     match row.of(word) {
-        "usage" => put(into, USAGE),
+        "usage" => put(into, row.usage),
         lines => put_lines(into, lines),
     }
 }

@@ -1,0 +1,78 @@
+//! Tables of rows, carried out.
+
+use crate::block::{Row, has_words, is_row};
+use crate::row::{Commands, is_right};
+use std::fs;
+use std::rt::Files;
+
+/// The tables, a path a line.
+const TABLES: &str = "rows/tables.txt";
+
+/// Carries out the rows of all tables. In these `usage` stands for a text.
+pub fn show_tables<R: Files + Print + AllocGlobal + Clone + Drop, C: Commands>(
+    rt: &R,
+    usage: &str,
+    commands: &C,
+) {
+    if let Ok(paths) = fs::read_to_string(rt, TABLES) {
+        for path in paths.lines() {
+            show_table(rt, path, usage, commands);
+        }
+    }
+}
+
+/// Carries out the rows of a table, and prints how many are as they should be.
+fn show_table<R: Files + Print + AllocGlobal + Clone + Drop, C: Commands>(
+    rt: &R,
+    path: &str,
+    usage: &str,
+    commands: &C,
+) {
+    let right = match fs::read_to_string(rt, path) {
+        Ok(text) => right_rows(rt, &text, usage, commands),
+        Err(_) => 0,
+    };
+    let _ = println!(rt; "{path}: {right} rows");
+}
+
+/// How many rows of a text are as they should be. It begins with what all of them share.
+fn right_rows<R: Files + Print + AllocGlobal + Clone + Drop, C: Commands>(
+    rt: &R,
+    text: &str,
+    usage: &str,
+    commands: &C,
+) -> usize {
+    let (all, _) = text.split_once("\n\n").unwrap_or((text, ""));
+    let mut right = 0usize;
+    for rows in text.split("\n\n#") {
+        if let Some((part, rows)) = rows.split_once("\n\n") {
+            let shared = Row {
+                own: "",
+                part,
+                all,
+                usage,
+            };
+            right = right.saturating_add(right_below(rt, shared, rows, commands));
+        }
+    }
+    right
+}
+
+/// How many rows below a comment are as they should be, by what they share.
+fn right_below<R: Files + Print + AllocGlobal + Clone + Drop, C: Commands>(
+    rt: &R,
+    shared: Row<'_>,
+    rows: &str,
+    commands: &C,
+) -> usize {
+    let mut right = 0usize;
+    for own in rows.split("\n\n") {
+        let row = Row { own, ..shared };
+        if is_row(own) && has_words(row.part) && is_right(rt, &row, commands) {
+            right = right.saturating_add(1);
+        } else {
+            let _ = println!(rt; "{}: not as it should be", row.name());
+        }
+    }
+    right
+}
