@@ -1,2 +1,3 @@
-pub mod Compiled
+pub mod CompileDoes
 pub mod CompileHalts
+pub mod Compiled

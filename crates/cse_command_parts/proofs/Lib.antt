@@ -4,5 +4,6 @@ pub mod FileLaws
 pub mod HaltLaws
 pub mod OutcomeLaws
 pub mod PrintLaws
+pub mod PrintsLaws
 pub mod VerdictLaws
 pub mod VettedLaws

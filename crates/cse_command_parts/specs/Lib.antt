@@ -6,6 +6,7 @@ pub mod Halts
 pub mod Judged
 pub mod Named
 pub mod Printed
+pub mod Prints
 pub mod Roles
 pub mod Stops
 pub mod TextsGiven

@@ -1,3 +1,4 @@
 pub mod Counted
 pub mod Ran
+pub mod RunDoes
 pub mod Telling

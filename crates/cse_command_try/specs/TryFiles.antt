@@ -1,6 +1,6 @@
--- What `try` comes to over a file: by which path it was opened, what it gave, and why the command stopped.
-use Rattle.std.specs.Prelude.{◌≡◌, ℕ, false, List}
-use Rattle.cse_value.specs.Device.{Given}
+-- What `try` comes to over a file: by which path it was opened, what it gave, what was printed, and why the command stopped.
+use Rattle.std.specs.Prelude.{◌≡◌, ℕ, false, List, Result, Ok, Err}
+use Rattle.cse_value.specs.Device.{Appends, Given}
 use Rattle.cse_value.specs.declared.device.Reads.{Reads}
 use Rattle.cse_command_parts.specs.declared.fault.Fault.{Fault}
 use Rattle.cse_command_parts.specs.declared.judged.TriedFile.{TriedFile}
@@ -11,7 +11,7 @@ use Rattle.cse_command_parts.specs.Told.{Told}
 use Rattle.cse_command_parts.specs.Unread.{AtBytes}
 use Rattle.cse_command_try.specs.declared.try_image.TryFault.{TryFault}
 use Rattle.cse_command_try.specs.declared.try_image.TryFault.TheVariants as tries
-use Rattle.cse_command_try.specs.Tried.{IsRefused, Runs, is_write}
+use Rattle.cse_command_try.specs.Tried.{IsRefused, Runs, is_write, text_of}
 
 -- The file was opened by this path, and what it gave may run with the empty dictionary; its preproc took so many steps.
 pub record TriesFile {F : Type 0} (t : Told F) (image : List ℕ) (f : TriedFile F) : Type 0 where
@@ -34,3 +34,12 @@ pub record TellsTryFault (bytes : List ℕ) (stop : Stop) : Type 0 where
 
 abbrev pub StopsTry : {F : Type 0} → (Reads F → Given) → List ℕ → Stop → Type 0
 StopsTry given image stop = AtBytes given image stop (λ bytes. TellsTryFault bytes stop)
+
+-- `try` prints the messages of the preproc, and its steps
+pub record PrintsTrial {F : Type 0} (t : Told F) (image old new : List ℕ) (f : TriedFile F) : Type 0 where
+  pub tries : TriesFile t image f
+  pub prints : Appends old new (text_of tries.runs)
+
+abbrev pub DoesTry : {F : Type 0} → Told F → List ℕ → Result (Unit {0}) Stop → List ℕ → List ℕ → Type 0
+DoesTry {F} t image (Ok done) old new = (f : TriedFile F) × PrintsTrial t image old new f
+DoesTry {F} t image (Err stop) old new = StopsTry t.given image stop

@@ -1,7 +1,7 @@
 use Rattle.std.proofs.Common.{inl, inr, refl}
 use Rattle.std.proofs.lemmas.Result.{err_from_is_err_and}
-use Rattle.cse_commands.proofs.DoesLaws.{prints_so}
-use Rattle.cse_commands.proofs.commands.compile_and_tell.Goals as goal
+use Rattle.cse_command_parts.proofs.PrintsLaws.{prints_so}
+use Rattle.cse_command_compile.proofs.telling.compile_and_tell.Goals as goal
 
 pub returns-in_err-compiled : goal.returns-in_err-compiled
 returns-in_err-compiled g c =

@@ -4,7 +4,7 @@ use Rattle.cse_value.specs.contracts.device.ReadsInput.TheImpl as reads
 use Rattle.cse_command_parts.specs.declared.outcome.Stop.TheVariants.{Refused}
 use Rattle.cse_command_parts.proofs.FileLaws.{prints_same}
 use Rattle.cse_command_parts.proofs.HaltLaws.{gave_all, gave_bytes}
-use Rattle.cse_commands.proofs.commands.verify_files.Goals as goal
+use Rattle.cse_command_parts.proofs.verifying.verify_files.Goals as goal
 
 pub returns-in_err-dict-clause-stops : goal.returns-in_err-dict-clause-stops
 returns-in_err-dict-clause-stops g c =

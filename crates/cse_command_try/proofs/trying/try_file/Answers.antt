@@ -4,7 +4,7 @@ use Rattle.cse_value.specs.contracts.device.ReadsInput.TheImpl as reads
 use Rattle.cse_command_parts.specs.declared.outcome.Stop.TheVariants.{Refused}
 use Rattle.cse_command_try.proofs.TriedLaws.{trial_same}
 use Rattle.cse_command_parts.proofs.HaltLaws.{gave_bytes}
-use Rattle.cse_commands.proofs.commands.try_file.Goals as goal
+use Rattle.cse_command_try.proofs.trying.try_file.Goals as goal
 
 pub returns-in_err-image-clause-stops : goal.returns-in_err-image-clause-stops
 returns-in_err-image-clause-stops g c =
