@@ -1,3 +1,4 @@
 pub mod ChangeLaws
 pub mod FileLaws
 pub mod CompareLaws
+pub mod AlikeLaws
