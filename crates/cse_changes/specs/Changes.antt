@@ -1,7 +1,7 @@
 -- What a run changed, line beside line. A line that was read stands beside the one that was written in its place. An item
 -- occurs in the seen lines of its record, and an id item in each line. It is changed where one of its columns is another one;
 -- past its end a line has blanks. Ends of lines and the byte order mark are no columns.
-use Rattle.std.specs.Prelude.{◌≡◌, ℕ, suc, zero, ◌+◌, ◌-◌, Bool, true, false, not, ◌==◌, ◌&&◌, ◌||◌, map, List, [], ◌∷◌, length, count_by, slice_index_or, Option, None, Some, if◌then◌else◌}
+use Rattle.std.specs.Prelude.{ℕ, suc, zero, ◌+◌, ◌-◌, Bool, true, false, not, ◌==◌, ◌&&◌, ◌||◌, map, List, [], ◌∷◌, length, count_by, slice_index_or, Option, None, Some, if◌then◌else◌}
 use Rattle.cse_value.specs.declared.shape.ItemShape.{ItemShape}
 use Rattle.cse_value.specs.declared.shape.RecordShape.{RecordShape}
 use Rattle.cse_lines.specs.Columns.{LineText, no_line}
@@ -26,13 +26,9 @@ abbrev pub places_from : ℕ → List (Option ℕ) → List ℕ
 places_from n [] = []
 places_from n (line ∷ lines) = n ∷ places_from (n + 1) lines
 
--- the places in a run, from 0, at which the items of an owner occur
-abbrev pub owner_places : List RecordShape → ℕ → List (Option ℕ) → List ℕ
-owner_places records owner lines = if owner == 255 then places_from 0 lines else occurrence_places records owner lines
-
--- the places at which an item occurs
+-- the places in a run, from 0, at which an item occurs
 abbrev pub item_places : List RecordShape → ItemShape → List (Option ℕ) → List ℕ
-item_places records item lines = owner_places records item.owner lines
+item_places records item lines = if item.owner == 255 then places_from 0 lines else occurrence_places records item.owner lines
 
 -- the line at a place
 abbrev pub columns_at : List LineText → ℕ → List ℕ
@@ -80,13 +76,3 @@ first_apart items n [] [] = None
 first_apart items n [] (line ∷ lines) = Some n
 first_apart items n (line ∷ lines) [] = Some n
 first_apart items n (before ∷ befores) (after ∷ afters) = if is_pair items before after then first_apart items (n + 1) befores afters else Some n
-
--- as many lines, of the same records, with the same columns
-pub record AreAlike (before after : List LineText) : Type 0 where
-  pub as_many : length before ≡ length after
-  pub records : (n : ℕ) → (slice_index_or before n no_line).record_number ≡ (slice_index_or after n no_line).record_number
-  pub columns : (n : ℕ) → columns_at before n ≡ columns_at after n
-
--- how often an item of an owner occurs in lines, where it is changed in none
-abbrev pub only_there : List RecordShape → ℕ → List LineText → Count
-only_there records owner lines = record { occurrences = length (owner_places records owner (types_of lines)); changed = 0 }

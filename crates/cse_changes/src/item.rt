@@ -13,7 +13,7 @@ use cse_value::shape::{ID_OWNER, ItemShape, RecordShape};
 
 /// A column, by its place from 0: a blank past the last.
 #[inline(always)]
-pub fn column_at(columns: Columns<'_>, place: usize) -> char
+fn column_at(columns: Columns<'_>, place: usize) -> char
     ensures { result ≡ get_or (columns_lent columns.entry) place 32 }
 {
     if place < columns.len() {
@@ -46,7 +46,7 @@ pub fn is_changed(item: &ItemShape, before: Columns<'_>, after: Columns<'_>) -> 
 
 /// Whether a line is one of the record's, and the next of so many at most.
 #[inline(always)]
-pub fn is_next(number: Option<u16>, owner: u8, seen: u16, most: u16) -> bool
+fn is_next(number: Option<u16>, owner: u8, seen: u16, most: u16) -> bool
     ensures { result ≡ (is_of owner number && nat_lt seen most) }
 {
     match number {
@@ -94,7 +94,7 @@ fn count_each(item: &ItemShape, before: &RunLines, after: &RunLines) -> Count
 }
 
 /// The most occurrences of a record; 0 where there is no such record.
-pub fn most_of(records: &[RecordShape], owner: u8) -> u16
+fn most_of(records: &[RecordShape], owner: u8) -> u16
     ensures { result ≡ most_occurrences records.now owner }
 {
     match records.get(owner as usize) {

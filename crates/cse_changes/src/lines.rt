@@ -33,7 +33,7 @@ impl Drop for RunLines {
 
 impl RunLines {
     /// The lines of a run, if it has one.
-    pub(crate) fn of(run: Run) -> Option<RunLines>
+    pub fn of(run: Run) -> Option<RunLines>
         ensures lines { IfSome result (λ lines. lines ≡ run.lines) }
         ensures none { IfNone result (run.lines ≡ []) }
     {
@@ -67,7 +67,7 @@ impl RunLines {
     }
 
     /// The memory of the lines, for those of a later run.
-    pub(crate) fn into_room(self) -> Box<Lines> {
+    pub fn into_room(self) -> Box<Lines> {
         let RunLines { kept } = self;
         kept
     }

@@ -1,6 +1,6 @@
 //! Which lines pair up.
 
-ghost use Rattle.std.specs.Prelude.{true, ◌≡◌, ◌<◌, ◌≤◌, ◌==◌, ◌&&◌, IfNone, IfSome, length, slice_index_or};
+ghost use Rattle.std.specs.Prelude.{◌≡◌, ◌<◌, ◌≤◌, ◌==◌, ◌&&◌, IfNone, IfSome, length, slice_index_or};
 ghost use Rattle.cse_lines.specs.Bytes.{columns_lent};
 ghost use Rattle.cse_lines.specs.Columns.{no_line};
 ghost use Rattle.cse_changes.specs.Changes.{first_apart, has_same_ids, is_changed, is_pair, is_same_record};
@@ -11,9 +11,8 @@ use cse_lines::Columns;
 use cse_value::shape::{ID_OWNER, ItemShape};
 
 /// Whether lines are of one record.
-pub fn is_same_record(before: Option<u16>, after: Option<u16>) -> bool
-    ensures is { result ≡ is_same_record before after }
-    ensures same { result ≡ true → before ≡ after }
+fn is_same_record(before: Option<u16>, after: Option<u16>) -> bool
+    ensures { result ≡ is_same_record before after }
 {
     match (before, after) {
         (None, None) => true,

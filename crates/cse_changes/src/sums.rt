@@ -1,15 +1,13 @@
 //! The counts of all items.
 
-ghost use Rattle.std.specs.Prelude.{◌≡◌, ◌<◌, ◌≤◌, ◌+◌, ◌^◌, ℕ, List, length, slice_index_or};
-ghost use Rattle.cse_lines.specs.Columns.{LineText};
+ghost use Rattle.std.specs.Prelude.{◌≡◌, ◌<◌, ◌≤◌, ◌+◌, ◌^◌, ℕ, length, slice_index_or};
 ghost use Rattle.cse_case.specs.Field.{item_at};
-ghost use Rattle.cse_changes.specs.Changes.{AreAlike, count_in, no_count, plus};
+ghost use Rattle.cse_changes.specs.Changes.{count_in, no_count, plus};
 
 use crate::count::Count;
 use crate::item::count_item;
 use crate::lines::RunLines;
-use crate::seen::{count_like, occurrences};
-use cse_value::shape::{ID_OWNER, ItemShape, RecordShape};
+use cse_value::shape::{ItemShape, RecordShape};
 
 /// Two counts as one.
 fn sum(one: Count, other: Count) -> Count
@@ -46,35 +44,5 @@ pub fn add_run(
     'items: for n in 0..items.len() {
         let found = count_item(records, &items[n], before, after);
         counts[n] = sum(counts[n], found);
-    }
-}
-
-/// Counts each item in a run beside which one with lines like its own stands, and adds it to what was counted. No item is
-/// looked at: none is changed.
-pub fn add_like(
-    records: &[RecordShape],
-    items: &[ItemShape],
-    lines: &RunLines,
-    counts: &mut [Count],
-)
-    requires counts { length counts.old ≡ length items.now }
-    requires occurs { (n : ℕ) → n < length items.now → (slice_index_or counts.old n no_count).occurrences + length lines.now < 2 ^ 64 }
-    requires few { (n : ℕ) → n < length items.now → (slice_index_or counts.old n no_count).changed + length lines.now < 2 ^ 64 }
-    ensures len { length counts.new ≡ length counts.old }
-    ensures each { (other : List LineText) → AreAlike lines.now other → (n : ℕ) → n < length items.now → slice_index_or counts.new n no_count
-        ≡ plus (slice_index_or counts.old n no_count) (count_in records.now (item_at items.now n) lines.now other) }
-    ensures occurs { (n : ℕ) → n < length items.now
-        → (slice_index_or counts.new n no_count).occurrences ≤ (slice_index_or counts.old n no_count).occurrences + length lines.now }
-    ensures few { (n : ℕ) → n < length items.now
-        → (slice_index_or counts.new n no_count).changed ≤ (slice_index_or counts.old n no_count).changed + length lines.now }
-{
-    let mut owner = ID_OWNER;
-    let mut seen = occurrences(records, owner, lines);
-    'items: for n in 0..items.len() {
-        let item = &items[n];
-        let found = count_like(records, item, owner, seen, lines);
-        counts[n] = sum(counts[n], found);
-        owner = item.owner;
-        seen = found.occurrences;
     }
 }
