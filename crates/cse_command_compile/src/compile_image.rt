@@ -12,10 +12,10 @@ use cse_build::build;
 use cse_command_line::plan::CompilePaths;
 use cse_command_parts::apart::{see_apart, uses_of_compile};
 use cse_command_parts::fault::Fault;
-use cse_command_parts::files::{file_text, text_of, text_where_named, write_file};
+use cse_command_parts::files::{text_of, write_file};
 use cse_command_parts::outcome::Stop;
+use cse_command_parts::texts::{dict_file, logic_files};
 use cse_dict::Dictionary;
-use cse_fault_numbers::{TOO_LARGE, TOO_MANY};
 use cse_value::{Input, Output, Reads, Writes};
 use std::alloc::Global;
 use std::rt::Files;
@@ -39,24 +39,19 @@ pub fn compile_files<'a, R: Files + AllocGlobal>(
     ensures stops { IfErr result (StopsCompile (⟦<Reads<R::File> as Input>⟧.given) paths.now) }
 {
     see_apart(rt, &uses_of_compile(rt.alloc(), paths)?)?;
-    let dict = file_text(rt, paths.dict, TOO_MANY)?;
-    let dictionary = match Dictionary::read(rt.alloc(), dict.bytes()) {
-        Ok(dictionary) => dictionary,
-        Err(error) => return Err(Stop::Refused(Fault::of_dictionary(error))),
-    };
-    let logic = file_text(rt, paths.logic, TOO_LARGE)?;
-    let messages = text_where_named(rt, paths.messages, TOO_LARGE)?;
-    let order = text_where_named(rt, paths.order, TOO_LARGE)?;
+    let vetted = dict_file(rt, paths.dict)?;
+    let texts = logic_files(rt, paths.logic, paths.messages, paths.order)?;
     let bytes = image_of(
         rt.alloc(),
-        &dictionary,
-        logic.bytes(),
-        text_of(&messages),
-        text_of(&order),
+        &vetted.dictionary,
+        texts.logic.bytes(),
+        text_of(&texts.messages),
+        text_of(&texts.order),
     )?;
     let image = write_file(rt, paths.image, &bytes)?;
+    let (logic, messages, order) = texts.into_parts();
     Ok(CompiledFiles {
-        dict,
+        dict: vetted.into_file(),
         logic,
         messages,
         order,

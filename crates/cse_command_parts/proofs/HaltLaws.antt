@@ -15,10 +15,11 @@ use Rattle.cse_command_parts.specs.declared.fault.Fault.{Fault}
 use Rattle.cse_command_parts.specs.declared.outcome.Stop.{Stop}
 use Rattle.cse_command_parts.specs.declared.outcome.Stop.TheVariants.{Refused}
 use Rattle.cse_command_parts.specs.Ending.{fault_at, fault_of_check}
-use Rattle.cse_command_parts.specs.Halts.{TellsCheckFault, TellsDictFault, TellsNoStore}
+use Rattle.cse_command_parts.specs.Halts.{AtDictionary, StopsDict, TellsCheckFault, TellsDictFault, TellsNoStore}
 use Rattle.cse_command_parts.specs.Named.{IsNamed, text_or_none}
 use Rattle.cse_command_parts.specs.Stops.{IsMemory, TellsDeckFault}
-use Rattle.cse_command_parts.specs.Unread.{AtTexts, Gave, GaveAll, GaveAllIfNamed, GaveIfThere, TellsNoTextIfNamed}
+use Rattle.cse_command_parts.specs.Unread.{AtNamed, AtText, AtTexts, Gave, GaveAll, GaveAllIfNamed, GaveIfThere, StopsTexts, TellsNoTextIfNamed}
+use Rattle.cse_command_parts.specs.Vetted.{IsReadAs}
 
 -- ---- what files gave
 
@@ -81,3 +82,30 @@ at_order given logic messages order stop Ends l m gave gave_m none = inr (l, (ga
 pub behind_texts : {F : Type 0} (given : Reads F → Given) (logic : List ℕ) (messages order : Option (List ℕ)) (stop : Stop) (Ends : List ℕ → List ℕ → List ℕ → Type 0) (l m o : List ℕ)
     → GaveAll given logic l → GaveAllIfNamed given messages m → GaveAllIfNamed given order o → Ends l m o → AtTexts given logic messages order stop Ends
 behind_texts given logic messages order stop Ends l m o gave gave_m gave_o ends = inr (l, (gave, inr (m, (gave_m, inr (o, (gave_o, ends))))))
+
+-- ---- a command ends where its texts were not read or not accepted, or behind them
+
+pub at_dict : {F : Type 0} (given : Reads F → Given) (path : List ℕ) (stop : Stop) (Ends : DictionaryText → Type 0) → StopsDict given path stop
+    → AtText given path 17 stop (λ text. AtDictionary text stop Ends)
+at_dict given path stop Ends why = elim why [
+  | inl unread ↦ inl unread
+  | inr read ↦ (let behind = read.1 in elim behind.1 [ inl fault ↦ inr (read.0, (behind.0, inl fault)) | inr d ↦ (let no = d.1 in absurd no.1) ])
+]
+
+pub behind_dict : {F : Type 0} (given : Reads F → Given) (path : List ℕ) (stop : Stop) (Ends : DictionaryText → Type 0) (text : List ℕ) (d : DictionaryText)
+    → GaveAll given path text → IsReadAs text d → Ends d → AtText given path 17 stop (λ text. AtDictionary text stop Ends)
+behind_dict given path stop Ends text d gave read ends = inr (text, (gave, inr (d, (read, ends))))
+
+at_named : {F : Type 0} (given : Reads F → Given) (path : Option (List ℕ)) (stop : Stop) (Ends Other : List ℕ → Type 0) → ((text : List ℕ) → Ends text → Other text)
+    → AtNamed given path 64 stop Ends → AtNamed given path 64 stop Other
+at_named given path stop Ends Other onward why = elim why [
+  | inl unread ↦ inl unread
+  | inr read ↦ (let behind = read.1 in inr (read.0, (behind.0, onward read.0 behind.1)))
+]
+
+pub at_texts : {F : Type 0} (given : Reads F → Given) (logic : List ℕ) (messages order : Option (List ℕ)) (stop : Stop) (Ends : List ℕ → List ℕ → List ℕ → Type 0)
+    → StopsTexts given logic messages order stop → AtTexts given logic messages order stop Ends
+at_texts given logic messages order stop Ends why = elim why [
+  | inl unread ↦ inl unread
+  | inr read ↦ (let behind = read.1 in inr (read.0, (behind.0, at_named given messages stop (λ m. AtNamed given order 64 stop (λ o. ⊥)) (λ m. AtNamed given order 64 stop (λ o. Ends read.0 m o)) (λ m. at_named given order stop (λ o. ⊥) (λ o. Ends read.0 m o) (λ o none. absurd none)) behind.1)))
+]

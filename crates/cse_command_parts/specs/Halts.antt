@@ -36,6 +36,10 @@ pub record TellsDictFault (text : List ℕ) (stop : Stop) : Type 0 where
 abbrev pub AtDictionary : List ℕ → Stop → (DictionaryText → Type 0) → Type 0
 AtDictionary text stop Ends = TellsDictFault text stop ⊎ ((d : DictionaryText) × (IsReadAs text d × Ends d))
 
+-- the dictionary's file was not read, or its text is none's
+abbrev pub StopsDict : {F : Type 0} → (Reads F → Given) → List ℕ → Stop → Type 0
+StopsDict given path stop = AtText given path 17 stop (λ text. AtDictionary text stop (λ d. ⊥))
+
 -- the first reason against an image
 pub record TellsCheckFault (d : DictionaryText) (bytes : List ℕ) (stop : Stop) : Type 0 where
   pub fault : CheckFault

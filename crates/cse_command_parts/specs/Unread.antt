@@ -81,3 +81,7 @@ abbrev pub AtTexts : {F : Type 0} → (Reads F → Given) → List ℕ → Optio
     → (List ℕ → List ℕ → List ℕ → Type 0) → Type 0
 AtTexts given logic messages order stop Ends =
     AtText given logic 64 stop (λ l. AtNamed given messages 64 stop (λ m. AtNamed given order 64 stop (λ o. Ends l m o)))
+
+-- one of them was not read
+abbrev pub StopsTexts : {F : Type 0} → (Reads F → Given) → List ℕ → Option (List ℕ) → Option (List ℕ) → Stop → Type 0
+StopsTexts given logic messages order stop = AtTexts given logic messages order stop (λ l m o. ⊥)

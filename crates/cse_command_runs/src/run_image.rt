@@ -19,13 +19,13 @@ use cse_command_line::plan::RunPaths;
 use cse_command_parts::apart::{see_apart, uses_of_run};
 use cse_command_parts::fault::Fault;
 use cse_command_parts::files::{
-    MOST_DECKS, MOST_IMAGE, bytes_of, bytes_where_there, created, file_bytes, file_text, opened,
-    write_file,
+    MOST_DECKS, MOST_IMAGE, bytes_of, bytes_where_there, created, file_bytes, opened, write_file,
 };
 use cse_command_parts::outcome::Stop;
+use cse_command_parts::texts::dict_file;
 use cse_decks::{Store, load};
 use cse_dict::Dictionary;
-use cse_fault_numbers::{TOO_MANY, WANT_OF_MEMORY};
+use cse_fault_numbers::WANT_OF_MEMORY;
 use cse_files::{OpenedOutput, Replaced};
 use cse_image::{Code, Program};
 use cse_memory::Gathered;
@@ -59,12 +59,12 @@ pub fn run_files<'a, R: Files + AllocGlobal>(
     ensures stops { IfErr result (StopsRun (⟦<Reads<R::File> as Input>⟧.given) paths.now) }
 {
     see_apart(rt, &uses_of_run(rt.alloc(), paths)?)?;
-    let dict = file_text(rt, paths.dict, TOO_MANY)?;
-    let program = match Dictionary::read(rt.alloc(), dict.bytes()) {
-        Ok(dictionary) => run_with(rt, &dictionary, paths)?,
-        Err(error) => return Err(Stop::Refused(Fault::of_dictionary(error))),
-    };
-    Ok(RanFiles { dict, program })
+    let vetted = dict_file(rt, paths.dict)?;
+    let program = run_with(rt, &vetted.dictionary, paths)?;
+    Ok(RanFiles {
+        dict: vetted.into_file(),
+        program,
+    })
 }
 
 /// The same with the dictionary.

@@ -20,16 +20,15 @@ use cse_command_compile::compile_image::image_of;
 use cse_command_line::plan::{EditPaths, RunPaths};
 use cse_command_parts::apart::{see_apart, uses_of_edit};
 use cse_command_parts::fault::Fault;
-use cse_command_parts::files::{
-    MOST_DECKS, bytes_of, bytes_where_there, file_text, text_of, text_where_named,
-};
+use cse_command_parts::files::{MOST_DECKS, bytes_of, bytes_where_there, text_of};
 use cse_command_parts::outcome::Stop;
+use cse_command_parts::texts::{dict_file, logic_files};
 use cse_command_runs::ran::{Ran, RanFrom};
 use cse_command_runs::run_image::{allow_steps, keep_decks, run_over};
 use cse_decks::Store;
 use cse_dict::Dictionary;
 use cse_edit::{EditFault, batches_mean, starting_store};
-use cse_fault_numbers::{TOO_LARGE, TOO_MANY, WANT_OF_MEMORY};
+use cse_fault_numbers::WANT_OF_MEMORY;
 use cse_image::Code;
 use cse_value::{Input, Output, Reads, Writes};
 use cse_verify::{Verified, check_image};
@@ -58,25 +57,20 @@ pub fn edit_files<'a, R: Files + AllocGlobal>(
     ensures stops { IfErr result (StopsEdit (⟦<Reads<R::File> as Input>⟧.given) paths.now) }
 {
     see_apart(rt, &uses_of_edit(rt.alloc(), paths)?)?;
-    let dict = file_text(rt, paths.run.dict, TOO_MANY)?;
-    let dictionary = match Dictionary::read(rt.alloc(), dict.bytes()) {
-        Ok(dictionary) => dictionary,
-        Err(error) => return Err(Stop::Refused(Fault::of_dictionary(error))),
-    };
-    let logic = file_text(rt, paths.logic, TOO_LARGE)?;
-    let messages = text_where_named(rt, paths.messages, TOO_LARGE)?;
-    let order = text_where_named(rt, paths.order, TOO_LARGE)?;
+    let vetted = dict_file(rt, paths.run.dict)?;
+    let texts = logic_files(rt, paths.logic, paths.messages, paths.order)?;
     let run = edit_with(
         rt,
-        dict.bytes(),
-        &dictionary,
-        logic.bytes(),
-        text_of(&messages),
-        text_of(&order),
+        vetted.file.bytes(),
+        &vetted.dictionary,
+        texts.logic.bytes(),
+        text_of(&texts.messages),
+        text_of(&texts.order),
         &paths.run,
     )?;
+    let (logic, messages, order) = texts.into_parts();
     Ok(EditedFiles {
-        dict,
+        dict: vetted.into_file(),
         logic,
         messages,
         order,

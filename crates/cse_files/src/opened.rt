@@ -11,11 +11,20 @@ use std::rt::Files;
 use std::{fs, io};
 
 /// A file that is read, and its path.
-#[derive(Drop)]
 pub struct OpenedInput<'a, F> {
     path: &'a str,
     /// What it gave.
     pub device: Reads<F>,
+}
+
+// Written out, so that a crate that owns a file calls this drop and does not prove one for each part.
+impl<'a, F: Drop> Drop for OpenedInput<'a, F> {
+    fn drop(self) {
+        let OpenedInput {
+            path: _path,
+            device: _device,
+        } = self;
+    }
 }
 
 /// Opens a file to read it. Nothing else makes an `OpenedInput`.
@@ -29,13 +38,23 @@ pub fn open_input<'a, R: Files>(rt: &R, path: &'a str) -> io::Result<OpenedInput
 }
 
 /// A file that is written, and its path.
-#[derive(Drop)]
 pub struct OpenedOutput<'a, F> {
     path: &'a str,
     /// What it took.
     pub device: Writes<F>,
     /// The same open file, where it is to be synced.
     same: Option<F>,
+}
+
+// Written out, so that a crate that owns a file calls this drop and does not prove one for each part.
+impl<'a, F: Drop> Drop for OpenedOutput<'a, F> {
+    fn drop(self) {
+        let OpenedOutput {
+            path: _path,
+            device: _device,
+            same: _same,
+        } = self;
+    }
 }
 
 /// Opens a file to write it from its beginning. Nothing else makes an `OpenedOutput`. It can be synced only if that is asked.

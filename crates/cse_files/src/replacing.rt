@@ -15,11 +15,20 @@ use std::rt::Files;
 const NAMES: u8 = 9;
 
 /// A file that was written whole, and its path.
-#[derive(Drop)]
 pub struct Replaced<'a, F> {
     path: &'a str,
     /// What it took.
     device: Writes<F>,
+}
+
+// Written out, so that a crate that owns a file calls this drop and does not prove one for each part.
+impl<'a, F: Drop> Drop for Replaced<'a, F> {
+    fn drop(self) {
+        let Replaced {
+            path: _path,
+            device: _device,
+        } = self;
+    }
 }
 
 /// Makes these the bytes of the file at a path. After a fault a file that was there is as it was. Nothing else makes a
