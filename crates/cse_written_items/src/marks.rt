@@ -19,7 +19,7 @@ fn mark(marks: &mut [bool], item: u16)
 
 #[cycle(statements)]
 #[tactic(auto, unfolding(crate::specs::Marks::marked))]
-fn statement(marks: &mut [bool], x: &Statement<'_>)
+fn statement(x: &Statement<'_>, marks: &mut [bool])
     ensures { marks.new ≡ marked marks.old (spec.written_by (statement x.now)) }
 {
     match x {
@@ -36,34 +36,34 @@ fn statement(marks: &mut [bool], x: &Statement<'_>)
         }
         Statement::SetTextItem(_, field, _, _) => mark(marks, field.item),
         Statement::If(first, others, otherwise) => {
-            block(marks, &first.body);
-            arms(marks, others);
+            block(&first.body, marks);
+            arms(others, marks);
             match otherwise {
                 None => {}
-                Some(body) => block(marks, body),
+                Some(body) => block(body, marks),
             }
         }
-        Statement::For(_, _, _, _, body) => block(marks, body),
-        Statement::Do(_, body) => block(marks, body),
+        Statement::For(_, _, _, _, body) => block(body, marks),
+        Statement::Do(_, body) => block(body, marks),
     }
 }
 
 /// The items that statements write, beside those that are marked.
 #[cycle(statements)]
-pub fn block(marks: &mut [bool], all: &Vec<Statement<'_>>)
+pub fn block(all: &Vec<Statement<'_>>, marks: &mut [bool])
     ensures { marks.new ≡ marked marks.old (spec.written_by_all (block all.now.items)) }
 {
     'all: for x in all {
-        statement(marks, x);
+        statement(x, marks);
     }
 }
 
 /// Each `elseif`, without the `else`.
 #[cycle(statements)]
-fn arms(marks: &mut [bool], all: &Vec<Arm<'_>>)
+fn arms(all: &Vec<Arm<'_>>, marks: &mut [bool])
     ensures { marks.new ≡ marked marks.old (spec.written_by_arms (arms (map arm_tree all.now.items) no_arm)) }
 {
     'all: for x in all {
-        block(marks, &x.body);
+        block(&x.body, marks);
     }
 }

@@ -13,10 +13,10 @@ fn procedure<'t, 'a>(x: &'t Procedure<'a>, marks: &mut [bool])
     ensures { marks.new ≡ marked marks.old (spec.written_by_body (typed.procedure x.now).body) }
 {
     match &x.body {
-        Body::Plain(all) | Body::Preproc(all) | Body::Postproc(all) => block(marks, all),
+        Body::Plain(all) | Body::Preproc(all) | Body::Postproc(all) => block(all, marks),
         Body::Both(before, after) => {
-            block(marks, before);
-            block(marks, after);
+            block(before, marks);
+            block(after, marks);
         }
     }
 }
@@ -35,7 +35,7 @@ fn declaration<'t, 'a>(x: &'t Declaration<'a>, marks: &mut [bool])
 {
     match x {
         Declaration::Numeric(_) | Declaration::Alpha(_, _, _) | Declaration::Array(_) => {}
-        Declaration::Function(function) => block(marks, &function.body),
+        Declaration::Function(function) => block(&function.body, marks),
     }
 }
 
