@@ -1,5 +1,3 @@
 pub mod ChangeLaws
 pub mod FileLaws
 pub mod CompareLaws
-pub mod AlikeLaws
-pub mod SumLaws
