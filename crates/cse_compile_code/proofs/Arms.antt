@@ -7,8 +7,8 @@ use Rattle.std.proofs.lemmas.List.{drop_more, length-map}
 use Rattle.cse_image_parts.specs.declared.instruction.Op.TheVariants as ops
 use Rattle.cse_logic_tree.specs.declared.tree.Arm as rustarm
 use Rattle.cse_logic_tree.specs.declared.tree.Statement as rusts
-use Rattle.cse_logic_tree.specs.declared.tree.Statement.TheVariants as v
-use Rattle.cse_logic_tree.specs.Typed.{Number, Statements, Arms, If, arms, number, statement, block, arm_tree, otherwise_tree}
+use Rattle.cse_logic_tree.specs.declared.tree.StatementKind.TheVariants as v
+use Rattle.cse_logic_tree.specs.Typed.{Number, Statements, Arms, If, arms, statement, statement_kind, arm_tree, otherwise_tree}
 use Rattle.cse_logic_tree.proofs.Rows.{if_is}
 use Rattle.cse_compile_code.specs.declared.setting.Loop.{Loop}
 use Rattle.cse_compile_code.specs.Wide.{Wide, with_c, jump, jump_over}
@@ -99,15 +99,15 @@ if_code s l q x xs last old with_first with_others new end second third rest n n
 
 -- the sizes that are told before the code of an `if`: of what stands behind all arms, and behind the first
 pub record Told (s : Setting) (first : rustarm.Arm) (others : Vec rustarm.Arm) (otherwise : Option (Vec rusts.Statement)) (x : rusts.Statement) (behind rest : ℕ) : Type 0 where
-  pub tree : statement x ≡ If (number first.condition) (block first.body.items) (arms (map arm_tree others.items) (otherwise_tree otherwise))
-  pub whole : statement_size s (statement x) ≡ guard_size (number_size (number first.condition)) (block_size s (block first.body.items)) (arms_size s (arms (map arm_tree others.items) (otherwise_tree otherwise)))
+  pub tree : statement x ≡ If (arm_tree first).0 (arm_tree first).1 (arms (map arm_tree others.items) (otherwise_tree otherwise))
+  pub whole : statement_size s (statement x) ≡ guard_size (number_size (arm_tree first).0) (block_size s (arm_tree first).1) (arms_size s (arms (map arm_tree others.items) (otherwise_tree otherwise)))
   pub behind_all : behind ≡ arms_size s (otherwise_tree otherwise)
   pub behind_first : rest ≡ all_arms_size s (map arm_tree others.items) behind
   -- the first arm, the other arms, and what stands behind them
   pub parts : statement_size s (statement x) ≡ arm_size s (arm_tree first) rest + (arms_alone_size s (map arm_tree others.items) behind + behind)
 
 pub told : (s : Setting) (first : rustarm.Arm) (others : Vec rustarm.Arm) (otherwise : Option (Vec rusts.Statement)) (x : rusts.Statement) (q behind rest : ℕ)
-    → x ≡ v.If first others otherwise
+    → x.kind.value ≡ v.If first others otherwise
     → q + statement_size s (statement x) ≤ 1000000
     → behind ≡ min (arms_size s (otherwise_tree otherwise)) 1000001
     → rest ≡ min (all_arms_size s (map arm_tree others.items) behind) 1000001
@@ -116,8 +116,8 @@ unfolding statement_size
 told s first others otherwise x q behind rest x_is room behind_is rest_is =
     let xs = map arm_tree others.items in
     let last = otherwise_tree otherwise in
-    let tree = ap statement x_is ∙ if_is first others otherwise in
-    let whole : statement_size s (statement x) ≡ guard_size (number_size (number first.condition)) (block_size s (block first.body.items)) (arms_size s (arms xs last)) = ap (statement_size s) tree in
+    let tree = ap statement_kind x_is ∙ if_is first others otherwise in
+    let whole : statement_size s (statement x) ≡ guard_size (number_size (arm_tree first).0) (block_size s (arm_tree first).1) (arms_size s (arms xs last)) = ap (statement_size s) tree in
     let all = all_arms_are s xs last in
     let alone = arms_size_is s xs (arms_size s last) in
     let behind_all : behind ≡ arms_size s last = omega (arith, whole, room, behind_is, all, alone) in

@@ -10,7 +10,7 @@ ghost use Rattle.cse_compile_code.specs.Statements as spec;
 use crate::decks::{deepest, picks_size};
 use crate::setting::Setting;
 use crate::sizes::{TOO_LONG, behind, indexes_size, number_size, numbers_size, plus, words_size};
-use cse_logic_tree::{Argument, Arm, Counting, Found, Limit, Statement, Which};
+use cse_logic_tree::{Argument, Arm, Counting, Found, Limit, Statement, StatementKind, Which};
 use cse_syntax_tree::{Count, Jump};
 
 /// A jump over so many instructions: none over nothing.
@@ -118,25 +118,25 @@ pub fn guard_size(condition: usize, body: usize, others: usize) -> usize
 pub fn statement_size(s: &Setting, x: &Statement) -> usize
     ensures { result ≡ min (spec.statement_size (setting s.now) (statement x.now)) 1000001 }
 {
-    match x {
-        Statement::Empty => 0,
-        Statement::Set(_, _, value) => plus(number_size(value), 1),
-        Statement::SetText(_, _, value) => plus(words_size(value), 1),
-        Statement::SetItem(_, _, which, value) | Statement::Impute(_, _, which, value) => {
+    match &*x.kind {
+        StatementKind::Empty => 0,
+        StatementKind::Set(_, _, value) => plus(number_size(value), 1),
+        StatementKind::SetText(_, _, value) => plus(words_size(value), 1),
+        StatementKind::SetItem(_, _, which, value) | StatementKind::Impute(_, _, which, value) => {
             plus(which_size(which), plus(number_size(value), 1))
         }
-        Statement::SetTextItem(_, _, which, value) => {
+        StatementKind::SetTextItem(_, _, which, value) => {
             plus(which_size(which), plus(words_size(value), 1))
         }
-        Statement::SetCell(_, _, subscripts, value) => {
+        StatementKind::SetCell(_, _, subscripts, value) => {
             let drops = drops_size(behind(subscripts)).min(TOO_LONG);
             plus(
                 indexes_size(subscripts),
                 plus(number_size(value), plus(drops, 1)),
             )
         }
-        Statement::Call(_, _, arguments) => plus(numbers_size(arguments), 2),
-        Statement::If(first, others, otherwise) => match otherwise {
+        StatementKind::Call(_, _, arguments) => plus(numbers_size(arguments), 2),
+        StatementKind::If(first, others, otherwise) => match otherwise {
             None => guard_size(
                 number_size(&first.condition),
                 block_size(s, &first.body),
@@ -148,14 +148,14 @@ pub fn statement_size(s: &Setting, x: &Statement) -> usize
                 arms_size(s, others, block_size(s, body)),
             ),
         },
-        Statement::For(_, _, _, _, body) => plus(block_size(s, body), 5),
-        Statement::Do(head, body) => plus(head_size(s, head), plus(block_size(s, body), 6)),
-        Statement::Jump(_, jump) => jump_code_size(s, *jump),
-        Statement::PutDeck(_, _, picks, value) => {
+        StatementKind::For(_, _, _, _, body) => plus(block_size(s, body), 5),
+        StatementKind::Do(head, body) => plus(head_size(s, head), plus(block_size(s, body), 6)),
+        StatementKind::Jump(_, jump) => jump_code_size(s, *jump),
+        StatementKind::PutDeck(_, _, picks, value) => {
             let drops = drops_size(deepest(picks)).min(TOO_LONG);
             plus(picks_size(picks), plus(number_size(value), plus(drops, 1)))
         }
-        Statement::ErrMsg(_, _, values, _) => plus(arguments_size(values), 1),
+        StatementKind::ErrMsg(_, _, values, _) => plus(arguments_size(values), 1),
     }
 }
 

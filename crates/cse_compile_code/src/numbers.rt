@@ -14,7 +14,7 @@ use crate::setting::Setting;
 use crate::sizes::{behind, indexes_size};
 use crate::wide::Wide;
 use cse_image_parts::instruction::Op;
-use cse_logic_tree::{Number, Operation, Words};
+use cse_logic_tree::{Number, NumberKind, Operation, Words, WordsKind};
 use std::alloc::AllocError;
 
 impl<'a> Emitter<'a> {
@@ -44,48 +44,51 @@ impl<'a> Emitter<'a> {
         ensures code { OnOk result (self.new ≡ self.old ++ spec.number_code (setting s.now) place (number x.now)) }
         ensures behind { IfOk result (λ n. n ≡ place + spec.number_size (number x.now)) }
     {
-        match x {
-            Number::Literal(_, value) => self.one(place, Wide::Constant(*value)),
-            Number::Special(_, value) => {
+        match &*x.kind {
+            NumberKind::Literal(_, value) => self.one(place, Wide::Constant(*value)),
+            NumberKind::Special(_, value) => {
                 let special = special_number(*value);
                 self.one(place, Wide::Plain(Op::Special, special, 0, 0))
             }
-            Number::Variable(_, variable) => self.number_of_variable(s, place, *variable),
-            Number::Item(_, item) => self.number_of_item(place, *item),
-            Number::ItemAt(_, field, subscript) => {
+            NumberKind::Variable(_, variable) => self.number_of_variable(s, place, *variable),
+            NumberKind::Item(_, item) => self.number_of_item(place, *item),
+            NumberKind::ItemAt(_, field, subscript) => {
                 let taken = Wide::Plain(Op::ItemNumber, 0, 0, field.item as usize);
                 self.subscripted(s, place, subscript, taken, UNDEFINED, field.owner)
             }
-            Number::Cell(_, array, subscripts) => {
+            NumberKind::Cell(_, array, subscripts) => {
                 self.number_of_cell(s, place, *array, subscripts)
             }
-            Number::Call(_, function, arguments) => {
+            NumberKind::Call(_, function, arguments) => {
                 self.number_of_call(s, place, *function, arguments)
             }
-            Number::Group(inner) | Number::Int(inner) => self.number(s, place, inner),
-            Number::IsSpecial(inner) => self.applied(s, place, inner, Op::IsSpecial, 0),
-            Number::Deck(_, array, picks) => self.number_of_deck(place, *array, picks),
-            Number::TotOcc(_, of) => self.one(place, Wide::Plain(Op::TotalOccurrences, *of, 0, 0)),
-            Number::MaxOcc(_, of) => {
+            NumberKind::Group(inner) | NumberKind::Int(inner) => self.number(s, place, inner),
+            NumberKind::IsSpecial(inner) => self.applied(s, place, inner, Op::IsSpecial, 0),
+            NumberKind::Deck(_, array, picks) => self.number_of_deck(place, *array, picks),
+            NumberKind::TotOcc(_, of) => self.one(
+                place,
+                Wide::Plain(Op::TotalOccurrences, *of, 0, 0),
+            ),
+            NumberKind::MaxOcc(_, of) => {
                 let most = s.most_occurrences(*of);
                 self.one(place, Wide::Constant(most as i64))
             }
-            Number::CurOcc(_, of, found) => {
+            NumberKind::CurOcc(_, of, found) => {
                 let taken = Wide::Plain(Op::OccurrenceNumber, *of, 0, 0);
                 self.here(place, taken, UNDEFINED, *of, *found)
             }
-            Number::InSet(_, item, _, set) => self.in_set(place, *item, *set),
-            Number::Minus(operand) => self.applied(s, place, operand, Op::Negate, 0),
-            Number::Not(operand) => self.applied(s, place, operand, Op::Not, 0),
-            Number::Compare(x, relation, y) => {
+            NumberKind::InSet(_, item, _, set) => self.in_set(place, *item, *set),
+            NumberKind::Minus(operand) => self.applied(s, place, operand, Op::Negate, 0),
+            NumberKind::Not(operand) => self.applied(s, place, operand, Op::Not, 0),
+            NumberKind::Compare(x, relation, y) => {
                 let second = self.number(s, place, x)?;
                 self.applied(s, second, y, Op::Compare, relation_number(*relation))
             }
-            Number::CompareTexts(x, relation, y) => {
+            NumberKind::CompareTexts(x, relation, y) => {
                 let second = self.words(s, place, x)?;
                 self.applied_to_words(s, second, y, Op::CompareText, relation_number(*relation))
             }
-            Number::Chain(first, others) => {
+            NumberKind::Chain(first, others) => {
                 let at = self.number(s, place, first)?;
                 let last = self.operations(s, at, others)?;
                 Ok(last)
@@ -101,17 +104,17 @@ impl<'a> Emitter<'a> {
         ensures code { OnOk result (self.new ≡ self.old ++ spec.words_code (setting s.now) place (words x.now)) }
         ensures behind { IfOk result (λ n. n ≡ place + spec.words_size (words x.now)) }
     {
-        match x {
-            Words::Literal(text) => self.one(place, Wide::Quoted(text.text)),
-            Words::Global(_, variable) => {
+        match &*x.kind {
+            WordsKind::Literal(text) => self.one(place, Wide::Quoted(text.text)),
+            WordsKind::Global(_, variable) => {
                 self.one(place, Wide::Plain(Op::LoadGlobal, 0, 0, *variable))
             }
-            Words::Item(_, item) => self.text_of_item(place, *item),
-            Words::ItemAt(_, field, subscript) => {
+            WordsKind::Item(_, item) => self.text_of_item(place, *item),
+            WordsKind::ItemAt(_, field, subscript) => {
                 let taken = Wide::Plain(Op::ItemText, 0, 0, field.item as usize);
                 self.subscripted(s, place, subscript, taken, Wide::Blank, field.owner)
             }
-            Words::Group(inner) => self.words(s, place, inner),
+            WordsKind::Group(inner) => self.words(s, place, inner),
         }
     }
 

@@ -6,7 +6,7 @@ ghost use Rattle.cse_compile_code.specs.Numbers as spec;
 ghost use Rattle.cse_compile_code.specs.Clauses.{all_numbers};
 
 use crate::decks::{deck_size, picks_size};
-use cse_logic_tree::{Found, Number, Operation, Present, Words};
+use cse_logic_tree::{Found, Number, NumberKind, Operation, Present, Words, WordsKind};
 
 /// What a size is told as that is above a million.
 pub const TOO_LONG: usize = 1000001;
@@ -54,26 +54,26 @@ pub fn behind(xs: &Vec<Number>) -> usize
 pub fn number_size(x: &Number) -> usize
     ensures { result ≡ min (spec.number_size (number x.now)) 1000001 }
 {
-    match x {
-        Number::Literal(_, _) | Number::Special(_, _) | Number::Variable(_, _) => 1,
-        Number::Item(_, item) => present_size(*item),
-        Number::ItemAt(_, _, place) => plus(number_size(place), 4),
-        Number::Cell(_, _, subscripts) => plus(
+    match &*x.kind {
+        NumberKind::Literal(_, _) | NumberKind::Special(_, _) | NumberKind::Variable(_, _) => 1,
+        NumberKind::Item(_, item) => present_size(*item),
+        NumberKind::ItemAt(_, _, place) => plus(number_size(place), 4),
+        NumberKind::Cell(_, _, subscripts) => plus(
             indexes_size(subscripts),
             plus(behind(subscripts), 3),
         ),
-        Number::Call(_, _, arguments) => plus(numbers_size(arguments), 1),
-        Number::Group(inner) | Number::Int(inner) => number_size(inner),
-        Number::IsSpecial(inner) | Number::Minus(inner) | Number::Not(inner) => {
+        NumberKind::Call(_, _, arguments) => plus(numbers_size(arguments), 1),
+        NumberKind::Group(inner) | NumberKind::Int(inner) => number_size(inner),
+        NumberKind::IsSpecial(inner) | NumberKind::Minus(inner) | NumberKind::Not(inner) => {
             plus(number_size(inner), 1)
         }
-        Number::Deck(_, _, picks) => plus(picks_size(picks), deck_size(picks)),
-        Number::TotOcc(_, _) | Number::MaxOcc(_, _) => 1,
-        Number::CurOcc(_, _, found) => here_size(*found),
-        Number::InSet(_, item, _, _) => present_size(*item) + 1,
-        Number::Compare(x, _, y) => plus(number_size(x), plus(number_size(y), 1)),
-        Number::CompareTexts(x, _, y) => plus(words_size(x), plus(words_size(y), 1)),
-        Number::Chain(first, others) => plus(number_size(first), operations_size(others)),
+        NumberKind::Deck(_, _, picks) => plus(picks_size(picks), deck_size(picks)),
+        NumberKind::TotOcc(_, _) | NumberKind::MaxOcc(_, _) => 1,
+        NumberKind::CurOcc(_, _, found) => here_size(*found),
+        NumberKind::InSet(_, item, _, _) => present_size(*item) + 1,
+        NumberKind::Compare(x, _, y) => plus(number_size(x), plus(number_size(y), 1)),
+        NumberKind::CompareTexts(x, _, y) => plus(words_size(x), plus(words_size(y), 1)),
+        NumberKind::Chain(first, others) => plus(number_size(first), operations_size(others)),
     }
 }
 
@@ -83,11 +83,11 @@ pub fn number_size(x: &Number) -> usize
 pub fn words_size(x: &Words) -> usize
     ensures { result ≡ min (spec.words_size (words x.now)) 1000001 }
 {
-    match x {
-        Words::Literal(_) | Words::Global(_, _) => 1,
-        Words::Item(_, item) => present_size(*item),
-        Words::ItemAt(_, _, place) => plus(number_size(place), 4),
-        Words::Group(inner) => words_size(inner),
+    match &*x.kind {
+        WordsKind::Literal(_) | WordsKind::Global(_, _) => 1,
+        WordsKind::Item(_, item) => present_size(*item),
+        WordsKind::ItemAt(_, _, place) => plus(number_size(place), 4),
+        WordsKind::Group(inner) => words_size(inner),
     }
 }
 

@@ -14,7 +14,7 @@ use crate::heads::turn_limit;
 use crate::setting::{Loop, Setting};
 use crate::wide::Wide;
 use cse_image_parts::instruction::Op;
-use cse_logic_tree::{Arm, Counting, Statement, Variable};
+use cse_logic_tree::{Arm, Counting, Statement, StatementKind, Variable};
 use cse_syntax_tree::Jump;
 use std::alloc::AllocError;
 
@@ -66,27 +66,27 @@ impl<'a> Emitter<'a> {
         ensures code { OnOk result (self.new ≡ self.old ++ spec.statement_code (setting s.now) around place (statement x.now)) }
         ensures behind { IfOk result (λ n. n ≡ place + spec.statement_size (setting s.now) (statement x.now)) }
     {
-        match x {
-            Statement::Empty => Ok(place),
-            Statement::Set(_, variable, value) => {
+        match &*x.kind {
+            StatementKind::Empty => Ok(place),
+            StatementKind::Set(_, variable, value) => {
                 self.number_into_variable(s, place, *variable, value)
             }
-            Statement::SetText(_, variable, value) => {
+            StatementKind::SetText(_, variable, value) => {
                 self.words_into_variable(s, place, *variable, value)
             }
-            Statement::SetItem(_, field, at, value) => {
+            StatementKind::SetItem(_, field, at, value) => {
                 self.number_into(s, place, Op::StoreNumber, *field, at, value)
             }
-            Statement::SetTextItem(_, field, at, value) => {
+            StatementKind::SetTextItem(_, field, at, value) => {
                 self.words_into(s, place, *field, at, value)
             }
-            Statement::SetCell(_, array, subscripts, value) => {
+            StatementKind::SetCell(_, array, subscripts, value) => {
                 self.number_into_cell(s, place, *array, subscripts, value)
             }
-            Statement::Call(_, function, arguments) => {
+            StatementKind::Call(_, function, arguments) => {
                 self.call_alone(s, place, *function, arguments)
             }
-            Statement::If(first, others, otherwise) => {
+            StatementKind::If(first, others, otherwise) => {
                 let behind = otherwise_size(s, otherwise);
                 let rest = arms_size(s, others, behind);
                 let end = place + statement_size(s, x);
@@ -100,16 +100,18 @@ impl<'a> Emitter<'a> {
                     }
                 }
             }
-            Statement::For(_, variable, _, of, body) => self.over(s, place, *variable, *of, body),
-            Statement::Do(head, body) => self.counted(s, place, head, body),
-            Statement::Jump(_, jump) => self.jump(s, around, place, *jump),
-            Statement::Impute(_, field, at, value) => {
+            StatementKind::For(_, variable, _, of, body) => self.over(
+                s, place, *variable, *of, body,
+            ),
+            StatementKind::Do(head, body) => self.counted(s, place, head, body),
+            StatementKind::Jump(_, jump) => self.jump(s, around, place, *jump),
+            StatementKind::Impute(_, field, at, value) => {
                 self.number_into(s, place, Op::Impute, *field, at, value)
             }
-            Statement::PutDeck(_, array, picks, value) => {
+            StatementKind::PutDeck(_, array, picks, value) => {
                 self.number_into_deck(s, place, *array, picks, value)
             }
-            Statement::ErrMsg(_, index, values, _) => self.message(s, place, *index, values),
+            StatementKind::ErrMsg(_, index, values, _) => self.message(s, place, *index, values),
         }
     }
 

@@ -5,7 +5,7 @@ ghost use Rattle.cse_logic_tree.specs.Typed.{block, body_tree, declaration, proc
 ghost use Rattle.cse_compile_sections.specs.Outline as spec;
 
 use cse_image_parts::entries::{Ambient, Event, EventCode, Gift, Local, LocalKind};
-use cse_logic_tree::{Body, Declaration, Owner, Procedure, Statement};
+use cse_logic_tree::{Body, Declaration, Owner, Procedure, Statement, StatementKind};
 use std::alloc::{AllocError, Global};
 
 /// What a routine is made of.
@@ -153,8 +153,8 @@ pub fn function_outlines<'t, 'a>(
 fn is_empty(written: &Statement) -> bool
     ensures { result ≡ spec.is_empty (statement written.now) }
 {
-    match written {
-        Statement::Empty => true,
+    match &*written.kind {
+        StatementKind::Empty => true,
         _ => false,
     }
 }

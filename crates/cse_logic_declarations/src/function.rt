@@ -62,7 +62,7 @@ fn made<'a>(
     match body {
         None => Ok(None),
         Some(body) => {
-            let facts = facts_of(alloc, &scope.functions, parameters.len(), &body)?;
+            let facts = facts_of(&body, alloc, &scope.functions, parameters.len())?;
             let function = Function {
                 name,
                 parameters: Vec::from_slice(alloc, parameters)?,

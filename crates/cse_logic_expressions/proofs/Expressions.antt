@@ -2,15 +2,15 @@
 use Rattle.std.proofs.Common.{◌≡◌, ℕ, ◌≤◌, Bool, true, false, List, [], ◌∷◌, length, map, Option, Some, None, refl, ap, ◌∙◌, arith}
 use Rattle.std.specs.Prelude.{option_map}
 use Rattle.std.proofs.lemmas.Bool.{leb-true, and_parts}
-use Rattle.std.specs.Global.{Vec, Box}
+use Rattle.std.specs.Global.{Vec}
 use Rattle.cse_syntax_tree.specs.declared.tree.Lexeme.{Lexeme}
 use Rattle.cse_syntax_tree.specs.declared.tree.Operator.{Operator}
 use Rattle.cse_syntax_tree.specs.declared.tree.Operation as rustop
 use Rattle.cse_syntax_tree.specs.declared.tree.Expression as rust
-use Rattle.cse_syntax_tree.specs.declared.tree.Expression.TheVariants as e
+use Rattle.cse_syntax_tree.specs.declared.tree.ExpressionKind.TheVariants as e
 use Rattle.cse_syntax_tree.specs.Leaf.{is_within, is_digits, number_of, MOST}
 use Rattle.cse_syntax_tree.specs.Tree as syntax
-use Rattle.cse_syntax_tree.specs.Tree.{written, expr, exprs, operation_tree}
+use Rattle.cse_syntax_tree.specs.Tree.{written, expr, expr_kind, exprs, operation_tree}
 use Rattle.cse_syntax_tree.proofs.Rows.{indexed_is, chain_is}
 use Rattle.cse_logic_tree.specs.Typed as typed
 use Rattle.cse_logic_names.specs.Scope.{Scope, meant}
@@ -24,12 +24,12 @@ count_is [] = refl
 count_is (x ∷ xs) = omega (arith, count_is xs)
 
 pub indexed_judged : (s : Scope) (top : Bool) (name : Lexeme) (arguments : Vec rust.Expression)
-    → judge s top (expr (e.Indexed name arguments)) ≡ indexed s (written name) (meant s (written name)) (expr_count (exprs (map expr arguments.items))) (judge_all s (exprs (map expr arguments.items)))
+    → judge s top (expr_kind (e.Indexed name arguments)) ≡ indexed s (written name) (meant s (written name)) (expr_count (exprs (map expr arguments.items))) (judge_all s (exprs (map expr arguments.items)))
 unfolding judge
 indexed_judged s top name arguments = ap (judge s top) (indexed_is name arguments)
 
-pub chain_judged : (s : Scope) (top : Bool) (first : Box rust.Expression) (others : Vec rustop.Operation)
-    → judge s top (expr (e.Chain first others)) ≡ AsNumber (joined typed.Chain (as_number (judge s false (expr first.value))) (judge_operations s top (syntax.operations (map operation_tree others.items))))
+pub chain_judged : (s : Scope) (top : Bool) (first : rust.Expression) (others : Vec rustop.Operation)
+    → judge s top (expr_kind (e.Chain first others)) ≡ AsNumber (joined typed.Chain (as_number (judge s false (expr first))) (judge_operations s top (syntax.operations (map operation_tree others.items))))
 unfolding judge
 chain_judged s top first others = ap (judge s top) (chain_is first others)
 

@@ -15,9 +15,10 @@ use crate::assign::{
     assign_cell, assign_item, assign_text, assign_variable, call, count_of, impute_item, put_deck,
 };
 use crate::call::may_call;
+use crate::made::statement_found;
 use cse_logic_names::meaning::Meaning;
 use cse_logic_names::scope::{Scope, own_result};
-use cse_logic_tree::{Statement, Variable};
+use cse_logic_tree::{Statement, StatementKind, Variable};
 use cse_syntax_tree::{Expression, Jump, Lexeme, Place};
 use std::alloc::{AllocError, Global};
 
@@ -107,12 +108,17 @@ fn may_jump(loops: &[(Option<u16>, Variable)], jump: Jump) -> bool
 }
 
 /// A jump; one out of a loop or a turn stands in a loop (49).
-pub fn jump<'a>(scope: &Scope<'_>, token: usize, jump: Jump) -> Option<Statement<'a>>
-    ensures { option_map statement result ≡ only_if (well.may_jump scope.now.loops jump) (Some (typed.Jump' token jump)) }
+pub fn jump<'a>(
+    alloc: Global,
+    scope: &Scope<'_>,
+    token: usize,
+    jump: Jump,
+) -> Result<Option<Statement<'a>>, AllocError>
+    ensures { IfOk result (λ r. option_map statement r ≡ only_if (well.may_jump scope.now.loops jump) (Some (typed.Jump' token jump))) }
 {
     if may_jump(&scope.loops, jump) {
-        Some(Statement::Jump(token, jump))
+        statement_found(alloc, StatementKind::Jump(token, jump))
     } else {
-        None
+        Ok(None)
     }
 }

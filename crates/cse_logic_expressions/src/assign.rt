@@ -17,9 +17,10 @@ use crate::call::{has_dimensions, is_free};
 use crate::deck::picks;
 use crate::expression::{all_values, expression, value};
 use crate::judged::Judged;
+use crate::made::statement_found;
 use crate::place::place_at;
 use cse_logic_names::scope::{Scope, kind_and_owner};
-use cse_logic_tree::{Statement, Variable, Words};
+use cse_logic_tree::{Statement, StatementKind, Variable, Words};
 use cse_syntax_tree::{Expression, Lexeme, Place};
 use cse_value::shape::ItemKind;
 use std::alloc::{AllocError, Global};
@@ -53,7 +54,7 @@ fn set<'a>(
 {
     match value(alloc, scope, false, x)? {
         None => Ok(None),
-        Some(value) => Ok(Some(Statement::Set(name, variable, value))),
+        Some(value) => statement_found(alloc, StatementKind::Set(name, variable, value)),
     }
 }
 
@@ -107,7 +108,7 @@ pub fn assign_text<'a>(
     }
     match text(alloc, scope, x)? {
         None => Ok(None),
-        Some(text) => Ok(Some(Statement::SetText(place.name, global, text))),
+        Some(text) => statement_found(alloc, StatementKind::SetText(place.name, global, text)),
     }
 }
 
@@ -125,7 +126,10 @@ fn set_cell<'a>(
     };
     match value(alloc, scope, false, x)? {
         None => Ok(None),
-        Some(value) => Ok(Some(Statement::SetCell(place.name, array, subscripts, value))),
+        Some(value) => statement_found(
+            alloc,
+            StatementKind::SetCell(place.name, array, subscripts, value),
+        ),
     }
 }
 
@@ -162,7 +166,10 @@ fn set_item<'a>(
     };
     match value(alloc, scope, false, x)? {
         None => Ok(None),
-        Some(value) => Ok(Some(Statement::SetItem(place.name, field, which, value))),
+        Some(value) => statement_found(
+            alloc,
+            StatementKind::SetItem(place.name, field, which, value),
+        ),
     }
 }
 
@@ -182,7 +189,10 @@ fn set_text_item<'a>(
     };
     match text(alloc, scope, x)? {
         None => Ok(None),
-        Some(text) => Ok(Some(Statement::SetTextItem(place.name, field, which, text))),
+        Some(text) => statement_found(
+            alloc,
+            StatementKind::SetTextItem(place.name, field, which, text),
+        ),
     }
 }
 
@@ -219,7 +229,10 @@ fn imputed<'a>(
     };
     match value(alloc, scope, false, x)? {
         None => Ok(None),
-        Some(value) => Ok(Some(Statement::Impute(place.name, field, which, value))),
+        Some(value) => statement_found(
+            alloc,
+            StatementKind::Impute(place.name, field, which, value),
+        ),
     }
 }
 
@@ -252,7 +265,7 @@ pub fn call<'a>(
 {
     match all_values(alloc, scope, arguments)? {
         None => Ok(None),
-        Some(arguments) => Ok(Some(Statement::Call(name, function, arguments))),
+        Some(arguments) => statement_found(alloc, StatementKind::Call(name, function, arguments)),
     }
 }
 
@@ -271,6 +284,6 @@ pub fn put_deck<'a>(
     };
     match value(alloc, scope, false, x)? {
         None => Ok(None),
-        Some(value) => Ok(Some(Statement::PutDeck(name, array, picks, value))),
+        Some(value) => statement_found(alloc, StatementKind::PutDeck(name, array, picks, value)),
     }
 }

@@ -14,10 +14,11 @@ ghost use Rattle.cse_logic_expressions.specs.Clauses.{by_name};
 use crate::item::number_present;
 use crate::judged::Judged;
 use crate::list::{both_hold, keep};
+use crate::made::number_judged;
 use crate::set::{current, max_occ, record_of, tot_occ, whole_set};
 use cse_logic_names::meaning::Meaning;
 use cse_logic_names::scope::{Scope, has_case};
-use cse_logic_tree::{Dimension, Number, Pick, Present};
+use cse_logic_tree::{Dimension, NumberKind, Pick, Present};
 use cse_syntax_tree::{Lexeme, Query};
 use std::alloc::{AllocError, Global};
 
@@ -100,7 +101,7 @@ fn deck<'a>(
 {
     match picks(alloc, scope, array)? {
         None => Ok(Judged::Number(None)),
-        Some(picks) => Ok(Judged::Number(Some(Number::Deck(name, array, picks)))),
+        Some(picks) => number_judged(alloc, NumberKind::Deck(name, array, picks)),
     }
 }
 
@@ -125,8 +126,8 @@ pub fn queried<'a>(
 {
     match query {
         Query::GetDeck => deck_of(alloc, scope, name),
-        Query::TotOcc => Ok(Judged::Number(tot_occ(name, record_of(scope, name)))),
-        Query::MaxOcc => Ok(Judged::Number(max_occ(name, record_of(scope, name)))),
-        Query::CurOcc => Ok(Judged::Number(current(scope, name, record_of(scope, name)))),
+        Query::TotOcc => tot_occ(alloc, name, record_of(scope, name)),
+        Query::MaxOcc => max_occ(alloc, name, record_of(scope, name)),
+        Query::CurOcc => current(alloc, scope, name, record_of(scope, name)),
     }
 }

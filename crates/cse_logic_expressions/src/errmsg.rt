@@ -18,10 +18,11 @@ ghost use Rattle.cse_logic_names.specs.Walk.{is_there};
 use crate::assign::{count_of, text};
 use crate::expression::{value, written_number};
 use crate::list::{both_hold, keep};
+use crate::made::statement_found;
 use cse_image_parts::placeholders::{ArgumentKind, Kinds, count_placeholders};
 use cse_logic_names::messages::Messages;
 use cse_logic_names::scope::Scope;
-use cse_logic_tree::{Argument, Statement};
+use cse_logic_tree::{Argument, Statement, StatementKind};
 use cse_syntax_tree::{Expression, Message};
 use std::alloc::{AllocError, Global};
 
@@ -171,7 +172,10 @@ fn filled<'a>(
     }
     match arguments(alloc, scope, text, values)? {
         None => Ok(None),
-        Some(values) => Ok(Some(Statement::ErrMsg(said, index, values, is_summary))),
+        Some(values) => statement_found(
+            alloc,
+            StatementKind::ErrMsg(said, index, values, is_summary),
+        ),
     }
 }
 

@@ -20,40 +20,47 @@ use crate::deck::queried;
 use crate::item::{field_at, item, sole};
 use crate::judged::Judged;
 use crate::list::{both_hold, decremented, keep};
+use crate::made::{number_judged, words_judged};
 use crate::operator::{chained, compared, grouped, int, is_special, minus, negated};
 use crate::set::member;
 use cse_logic_names::meaning::Meaning;
 use cse_logic_names::scope::{Scope, kind_and_owner, own_result};
-use cse_logic_tree::{Field, Number, Operation, Variable, Words};
-use cse_syntax_tree::{Expression, Function, Lexeme, Operation as Parsed, Operator, number_of};
+use cse_logic_tree::{Field, Number, NumberKind, Operation, Variable, WordsKind};
+use cse_syntax_tree::{
+    Expression, ExpressionKind, Function, Lexeme, Operation as Parsed, Operator, number_of,
+};
 use cse_value::shape::ItemKind;
 use std::alloc::{AllocError, Global};
 
 /// What a name without parentheses is.
-fn bare<'a>(scope: &Scope<'_>, name: Lexeme<'a>) -> Judged<'a>
-    ensures { judged result ≡ by_name bare scope.now name.entry }
+fn bare<'a>(alloc: Global, scope: &Scope<'_>, name: Lexeme<'a>) -> Result<Judged<'a>, AllocError>
+    ensures { IfOk result (λ r. judged r ≡ by_name bare scope.now name.entry) }
 {
     match scope.meant(name) {
         Some(Meaning::Variable(variable)) => {
-            Judged::Number(Some(Number::Variable(name, variable)))
+            number_judged(alloc, NumberKind::Variable(name, variable))
         }
-        Some(Meaning::Text(global)) => Judged::Words(Some(Words::Global(name, global))),
-        Some(Meaning::Array(_)) => Judged::Number(None),
+        Some(Meaning::Text(global)) => words_judged(alloc, WordsKind::Global(name, global)),
+        Some(Meaning::Array(_)) => Ok(Judged::Number(None)),
         Some(Meaning::Function(function)) => {
-            result_of(name, own_result(scope.routine, function))
+            result_of(alloc, name, own_result(scope.routine, function))
         }
-        Some(Meaning::Item(number)) => item(scope, name, number),
-        _ => Judged::Unknown,
+        Some(Meaning::Item(number)) => item(alloc, scope, name, number),
+        _ => Ok(Judged::Unknown),
     }
 }
 
 /// The result of the function in which its name stands; elsewhere the name is unknown.
-fn result_of<'a>(name: Lexeme<'a>, own: Option<Variable>) -> Judged<'a>
-    ensures { judged result ≡ spec.result_judged (written name.entry) own }
+fn result_of<'a>(
+    alloc: Global,
+    name: Lexeme<'a>,
+    own: Option<Variable>,
+) -> Result<Judged<'a>, AllocError>
+    ensures { IfOk result (λ r. judged r ≡ spec.result_judged (written name.entry) own) }
 {
     match own {
-        None => Judged::Unknown,
-        Some(variable) => Judged::Number(Some(Number::Variable(name, variable))),
+        None => Ok(Judged::Unknown),
+        Some(variable) => number_judged(alloc, NumberKind::Variable(name, variable)),
     }
 }
 
@@ -68,12 +75,12 @@ pub fn written_number(digits: &str) -> Option<u64>
 
 /// A literal.
 #[tactic(auto, unfolding(cse_logic_names::specs::WellTyped::value_of))]
-fn literal<'a>(digits: Lexeme<'a>) -> Option<Number<'a>>
-    ensures { option_map number result ≡ option_map (typed.Constant (written digits.entry)) (value_of (written digits.entry)) }
+fn literal<'a>(alloc: Global, digits: Lexeme<'a>) -> Result<Judged<'a>, AllocError>
+    ensures { IfOk result (λ r. judged r ≡ spec.AsNumber (option_map (typed.Constant (written digits.entry)) (value_of (written digits.entry)))) }
 {
     match written_number(digits.text) {
-        None => None,
-        Some(value) => Some(Number::Literal(digits, value as i64)),
+        None => Ok(Judged::Number(None)),
+        Some(value) => number_judged(alloc, NumberKind::Literal(digits, value as i64)),
     }
 }
 
@@ -98,35 +105,35 @@ pub fn expression<'a>(
 ) -> Result<Judged<'a>, AllocError>
     ensures { IfOk result (λ r. judged r ≡ judge scope.now top (expr x.now)) }
 {
-    match x {
-        Expression::Number(digits) => Ok(Judged::Number(literal(*digits))),
-        Expression::Text(text) => Ok(Judged::Words(Some(Words::Literal(*text)))),
-        Expression::Special(token, value) => {
-            Ok(Judged::Number(Some(Number::Special(*token, *value))))
+    match &*x.kind {
+        ExpressionKind::Number(digits) => literal(alloc, *digits),
+        ExpressionKind::Text(text) => words_judged(alloc, WordsKind::Literal(*text)),
+        ExpressionKind::Special(token, value) => {
+            number_judged(alloc, NumberKind::Special(*token, *value))
         }
-        Expression::Name(name) => Ok(bare(scope, *name)),
-        Expression::Indexed(name, arguments) => indexed(alloc, scope, *name, arguments),
-        Expression::Group(inner) => {
+        ExpressionKind::Name(name) => bare(alloc, scope, *name),
+        ExpressionKind::Indexed(name, arguments) => indexed(alloc, scope, *name, arguments),
+        ExpressionKind::Group(inner) => {
             let inner = expression(alloc, scope, false, inner)?;
             grouped(alloc, inner)
         }
-        Expression::Apply(function, argument) => { apply(alloc, scope, *function, argument) }
-        Expression::Query(query, name) => queried(alloc, scope, *query, *name),
-        Expression::InValueSet(item, set) => { Ok(Judged::Number(member(scope, *item, *set))) }
-        Expression::Minus(operand) => {
+        ExpressionKind::Apply(function, argument) => { apply(alloc, scope, *function, argument) }
+        ExpressionKind::Query(query, name) => queried(alloc, scope, *query, *name),
+        ExpressionKind::InValueSet(item, set) => member(alloc, scope, *item, *set),
+        ExpressionKind::Minus(operand) => {
             let operand = value(alloc, scope, false, operand)?;
             minus(alloc, operand)
         }
-        Expression::Not(operand) => {
+        ExpressionKind::Not(operand) => {
             let operand = value(alloc, scope, false, operand)?;
             negated(alloc, operand)
         }
-        Expression::Compare(left, relation, right) => {
+        ExpressionKind::Compare(left, relation, right) => {
             let earlier = expression(alloc, scope, false, left)?;
             let later = expression(alloc, scope, false, right)?;
             compared(alloc, *relation, earlier, later)
         }
-        Expression::Chain(first, others) => {
+        ExpressionKind::Chain(first, others) => {
             let start = value(alloc, scope, false, first)?;
             chain(alloc, scope, top, start, others)
         }
@@ -206,7 +213,7 @@ fn cell<'a>(
     }
     match all_values(alloc, scope, subscripts)? {
         None => Ok(Judged::Number(None)),
-        Some(subscripts) => Ok(Judged::Number(Some(Number::cell(name, array, subscripts)))),
+        Some(subscripts) => number_judged(alloc, NumberKind::cell(name, array, subscripts)),
     }
 }
 
@@ -226,7 +233,7 @@ fn call<'a>(
     }
     match all_values(alloc, scope, arguments)? {
         None => Ok(Judged::Number(None)),
-        Some(arguments) => Ok(Judged::Number(Some(Number::call(name, function, arguments)))),
+        Some(arguments) => number_judged(alloc, NumberKind::call(name, function, arguments)),
     }
 }
 
@@ -247,10 +254,7 @@ fn number_item_at<'a>(
     };
     match sole(all_values(alloc, scope, subscripts)?) {
         None => Ok(Judged::Number(None)),
-        Some(place) => {
-            let place = Box::new(alloc, place)?;
-            Ok(Judged::Number(Some(Number::ItemAt(name, field, place))))
-        }
+        Some(place) => number_judged(alloc, NumberKind::ItemAt(name, field, place)),
     }
 }
 
@@ -271,10 +275,7 @@ fn text_item_at<'a>(
     };
     match sole(all_values(alloc, scope, subscripts)?) {
         None => Ok(Judged::Words(None)),
-        Some(place) => {
-            let place = Box::new(alloc, place)?;
-            Ok(Judged::Words(Some(Words::ItemAt(name, field, place))))
-        }
+        Some(place) => words_judged(alloc, WordsKind::ItemAt(name, field, place)),
     }
 }
 

@@ -4,7 +4,7 @@ ghost use Rattle.std.specs.Prelude.{◌≡◌, map, Some, None, IfOk};
 ghost use Rattle.std.specs.Option.{option_map};
 ghost use Rattle.cse_syntax_tree.specs.Tree.{written};
 ghost use Rattle.cse_logic_tree.specs.Typed as typed;
-ghost use Rattle.cse_logic_tree.specs.Typed.{number, numbers, words};
+ghost use Rattle.cse_logic_tree.specs.Typed.{number, numbers};
 ghost use Rattle.cse_logic_names.specs.Scope.{kind_and_owner, has_case};
 ghost use Rattle.cse_logic_expressions.specs.Judge as spec;
 ghost use Rattle.cse_logic_expressions.specs.Judge.{judged, number_present};
@@ -12,9 +12,10 @@ ghost use Rattle.cse_logic_names.specs.Walk.{joined};
 ghost use Rattle.cse_logic_expressions.specs.Clauses.{numbers_made};
 
 use crate::judged::Judged;
+use crate::made::{number_judged, words_judged};
 use cse_logic_names::meaning::Meaning;
 use cse_logic_names::scope::{Scope, has_case, kind_and_owner};
-use cse_logic_tree::{Field, Number, Present, Words};
+use cse_logic_tree::{Field, Number, NumberKind, Present, WordsKind};
 use cse_syntax_tree::Lexeme;
 use cse_value::shape::ItemKind;
 use std::alloc::{AllocError, Global};
@@ -50,36 +51,47 @@ pub fn field_at(scope: &Scope<'_>, item: u16, owner: u8) -> Option<Field>
     Some(Field { owner, item })
 }
 
-fn number_item<'a>(name: Lexeme<'a>, item: Option<Present>) -> Option<Number<'a>>
-    ensures { option_map number result ≡ option_map (typed.Item (written name.entry)) item }
+fn number_item<'a>(
+    alloc: Global,
+    name: Lexeme<'a>,
+    item: Option<Present>,
+) -> Result<Judged<'a>, AllocError>
+    ensures { IfOk result (λ r. judged r ≡ spec.AsNumber (option_map (typed.Item (written name.entry)) item)) }
 {
     match item {
-        None => None,
-        Some(item) => Some(Number::Item(name, item)),
+        None => Ok(Judged::Number(None)),
+        Some(item) => number_judged(alloc, NumberKind::Item(name, item)),
     }
 }
 
-fn text_item<'a>(name: Lexeme<'a>, item: Option<Present>) -> Option<Words<'a>>
-    ensures { option_map words result ≡ option_map (typed.TextItem (written name.entry)) item }
+fn text_item<'a>(
+    alloc: Global,
+    name: Lexeme<'a>,
+    item: Option<Present>,
+) -> Result<Judged<'a>, AllocError>
+    ensures { IfOk result (λ r. judged r ≡ spec.AsWords (option_map (typed.TextItem (written name.entry)) item)) }
 {
     match item {
-        None => None,
-        Some(item) => Some(Words::Item(name, item)),
+        None => Ok(Judged::Words(None)),
+        Some(item) => words_judged(alloc, WordsKind::Item(name, item)),
     }
 }
 
 /// An item that is named without a subscript.
-pub fn item<'a>(scope: &Scope<'_>, name: Lexeme<'a>, item: u16) -> Judged<'a>
-    ensures { judged result ≡ spec.item_judged scope.now (written name.entry) item (kind_and_owner scope.now.dictionary item) }
+pub fn item<'a>(
+    alloc: Global,
+    scope: &Scope<'_>,
+    name: Lexeme<'a>,
+    item: u16,
+) -> Result<Judged<'a>, AllocError>
+    ensures { IfOk result (λ r. judged r ≡ spec.item_judged scope.now (written name.entry) item (kind_and_owner scope.now.dictionary item)) }
 {
     match kind_and_owner(scope.dictionary, item) {
         Some((ItemKind::Number, owner)) => {
-            Judged::Number(number_item(name, present_at(scope, item, owner)))
+            number_item(alloc, name, present_at(scope, item, owner))
         }
-        Some((ItemKind::Text, owner)) => {
-            Judged::Words(text_item(name, present_at(scope, item, owner)))
-        }
-        _ => Judged::Unknown,
+        Some((ItemKind::Text, owner)) => text_item(alloc, name, present_at(scope, item, owner)),
+        _ => Ok(Judged::Unknown),
     }
 }
 

@@ -1,6 +1,7 @@
 //! Expressions of logic, and statements that hold no others: from trees of syntax to typed ones.
 //!
 //! - `judged`, `item`, `set`, `deck`, `call`, `list`: what parts of an expression are found to be.
+//! - `made`: nodes, each as what it is found to be.
 //! - `operator`: what operators make of their operands.
 //! - `expression`: the walk over expressions.
 //! - `place`, `assign`: what a value is put into, and calls that stand alone.
@@ -21,6 +22,7 @@ mod item;
 pub mod judged;
 mod laws;
 pub mod list;
+mod made;
 mod operator;
 mod place;
 pub mod set;

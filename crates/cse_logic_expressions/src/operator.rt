@@ -9,7 +9,8 @@ ghost use Rattle.cse_logic_expressions.specs.Judge.{judged, compared};
 ghost use Rattle.cse_logic_names.specs.Walk.{joined};
 
 use crate::judged::Judged;
-use cse_logic_tree::{Number, Operation, Words};
+use crate::made::{number_found, number_judged, words_found};
+use cse_logic_tree::{Number, NumberKind, Operation, Words, WordsKind};
 use cse_syntax_tree::Relation;
 use std::alloc::{AllocError, Global};
 
@@ -19,7 +20,7 @@ pub fn minus<'a>(alloc: Global, x: Option<Number<'a>>) -> Result<Judged<'a>, All
 {
     match x {
         None => Ok(Judged::Number(None)),
-        Some(x) => Ok(Judged::Number(Some(Number::Minus(Box::new(alloc, x)?)))),
+        Some(x) => number_judged(alloc, NumberKind::Minus(x)),
     }
 }
 
@@ -29,7 +30,7 @@ pub fn negated<'a>(alloc: Global, x: Option<Number<'a>>) -> Result<Judged<'a>, A
 {
     match x {
         None => Ok(Judged::Number(None)),
-        Some(x) => Ok(Judged::Number(Some(Number::Not(Box::new(alloc, x)?)))),
+        Some(x) => number_judged(alloc, NumberKind::Not(x)),
     }
 }
 
@@ -39,7 +40,7 @@ pub fn int<'a>(alloc: Global, x: Option<Number<'a>>) -> Result<Judged<'a>, Alloc
 {
     match x {
         None => Ok(Judged::Number(None)),
-        Some(x) => Ok(Judged::Number(Some(Number::Int(Box::new(alloc, x)?)))),
+        Some(x) => number_judged(alloc, NumberKind::Int(x)),
     }
 }
 
@@ -49,7 +50,7 @@ pub fn is_special<'a>(alloc: Global, x: Option<Number<'a>>) -> Result<Judged<'a>
 {
     match x {
         None => Ok(Judged::Number(None)),
-        Some(x) => Ok(Judged::Number(Some(Number::IsSpecial(Box::new(alloc, x)?)))),
+        Some(x) => number_judged(alloc, NumberKind::IsSpecial(x)),
     }
 }
 
@@ -58,7 +59,7 @@ fn number_group<'a>(alloc: Global, x: Option<Number<'a>>) -> Result<Option<Numbe
 {
     match x {
         None => Ok(None),
-        Some(x) => Ok(Some(Number::Group(Box::new(alloc, x)?))),
+        Some(x) => number_found(alloc, NumberKind::Group(x)),
     }
 }
 
@@ -67,7 +68,7 @@ fn text_group<'a>(alloc: Global, x: Option<Words<'a>>) -> Result<Option<Words<'a
 {
     match x {
         None => Ok(None),
-        Some(x) => Ok(Some(Words::Group(Box::new(alloc, x)?))),
+        Some(x) => words_found(alloc, WordsKind::Group(x)),
     }
 }
 
@@ -95,11 +96,7 @@ fn compared_numbers<'a>(
     };
     match x.zip(y) {
         None => Ok(Judged::Number(None)),
-        Some((x, y)) => {
-            let x = Box::new(alloc, x)?;
-            let y = Box::new(alloc, y)?;
-            Ok(Judged::Number(Some(Number::Compare(x, relation, y))))
-        }
+        Some((x, y)) => number_judged(alloc, NumberKind::Compare(x, relation, y)),
     }
 }
 
@@ -116,11 +113,7 @@ fn compared_texts<'a>(
     };
     match x.zip(y) {
         None => Ok(Judged::Number(None)),
-        Some((x, y)) => {
-            let x = Box::new(alloc, x)?;
-            let y = Box::new(alloc, y)?;
-            Ok(Judged::Number(Some(Number::CompareTexts(x, relation, y))))
-        }
+        Some((x, y)) => number_judged(alloc, NumberKind::CompareTexts(x, relation, y)),
     }
 }
 
@@ -151,9 +144,6 @@ pub fn chained<'a>(
 {
     match first.zip(others) {
         None => Ok(Judged::Number(None)),
-        Some((first, others)) => {
-            let first = Box::new(alloc, first)?;
-            Ok(Judged::Number(Some(Number::chain(first, others))))
-        }
+        Some((first, others)) => number_judged(alloc, NumberKind::chain(first, others)),
     }
 }

@@ -1,22 +1,25 @@
 //! Value sets, records and hot decks in expressions.
 
-ghost use Rattle.std.specs.Prelude.{◌≡◌, ◌<◌, ◌≤◌, length, IfSome, nat_eq, position, slice_get, Some, None};
+ghost use Rattle.std.specs.Prelude.{◌≡◌, ◌<◌, ◌≤◌, length, IfOk, IfSome, nat_eq, position, slice_get, Some, None};
 ghost use Rattle.std.specs.Option.{option_map};
 ghost use Rattle.cse_syntax_tree.specs.Tree.{written};
 ghost use Rattle.cse_logic_tree.specs.Typed as typed;
-ghost use Rattle.cse_logic_tree.specs.Typed.{number};
 ghost use Rattle.cse_logic_names.specs.Scope.{meant};
 ghost use Rattle.cse_logic_names.specs.WellTyped as well;
 ghost use Rattle.cse_logic_expressions.specs.Judge as spec;
+ghost use Rattle.cse_logic_expressions.specs.Judge.{judged};
 ghost use Rattle.cse_logic_names.specs.Walk.{joined};
 
 use crate::item::number_present;
+use crate::judged::Judged;
+use crate::made::number_judged;
 use cse_dict::Dictionary;
 use cse_logic_names::meaning::Meaning;
 use cse_logic_names::scope::{Scope, has_case, kind_and_owner};
-use cse_logic_tree::{Number, Present};
+use cse_logic_tree::{NumberKind, Present};
 use cse_syntax_tree::Lexeme;
 use cse_value::shape::{ItemKind, SetShape};
+use std::alloc::{AllocError, Global};
 
 /// The item of a whole set.
 pub fn whole_set(dictionary: &Dictionary, set: u16) -> Option<u16>
@@ -104,38 +107,40 @@ pub fn number_set(scope: &Scope<'_>, meaning: Option<Meaning>) -> Option<u16>
 }
 
 fn in_set<'a>(
+    alloc: Global,
     name: Lexeme<'a>,
     set_name: Option<Lexeme<'a>>,
     item: Option<Present>,
     set: Option<u16>,
-) -> Option<Number<'a>>
-    ensures { option_map number result ≡ joined (spec.in_set (written name.entry) (option_map written set_name.entry)) item set }
+) -> Result<Judged<'a>, AllocError>
+    ensures { IfOk result (λ r. judged r ≡ spec.AsNumber (joined (spec.in_set (written name.entry) (option_map written set_name.entry)) item set)) }
 {
     match item {
-        None => None,
+        None => Ok(Judged::Number(None)),
         Some(item) => match set {
-            None => None,
-            Some(set) => Some(Number::InSet(name, item, set_name, set)),
+            None => Ok(Judged::Number(None)),
+            Some(set) => number_judged(alloc, NumberKind::InSet(name, item, set_name, set)),
         },
     }
 }
 
 /// Whether an item's value is in a set.
 pub fn member<'a>(
+    alloc: Global,
     scope: &Scope<'_>,
     name: Lexeme<'a>,
     set_name: Option<Lexeme<'a>>,
-) -> Option<Number<'a>>
-    ensures { option_map number result
-        ≡ spec.member scope.now (written name.entry) (option_map written set_name.entry) (meant scope.now (written name.entry)) }
+) -> Result<Judged<'a>, AllocError>
+    ensures { IfOk result (λ r. judged r
+        ≡ spec.AsNumber (spec.member scope.now (written name.entry) (option_map written set_name.entry) (meant scope.now (written name.entry)))) }
 {
     match scope.meant(name) {
         Some(Meaning::Item(item)) => {
             let present = number_present(scope, item);
             let set = number_set(scope, set_meant(scope, item, set_name));
-            in_set(name, set_name, present, set)
+            in_set(alloc, name, set_name, present, set)
         }
-        _ => None,
+        _ => Ok(Judged::Number(None)),
     }
 }
 
@@ -150,34 +155,47 @@ pub fn record_of(scope: &Scope<'_>, name: Lexeme<'_>) -> Option<u8>
 }
 
 /// `curocc` of a record, where an occurrence is meant.
-pub fn current<'a>(scope: &Scope<'_>, name: Lexeme<'a>, over: Option<u8>) -> Option<Number<'a>>
-    ensures { option_map number result ≡ spec.current scope.now (written name.entry) over }
+pub fn current<'a>(
+    alloc: Global,
+    scope: &Scope<'_>,
+    name: Lexeme<'a>,
+    over: Option<u8>,
+) -> Result<Judged<'a>, AllocError>
+    ensures { IfOk result (λ r. judged r ≡ spec.AsNumber (spec.current scope.now (written name.entry) over)) }
 {
     match over {
-        None => None,
+        None => Ok(Judged::Number(None)),
         Some(over) => match scope.found(u16::from(over)) {
-            None => None,
-            Some(found) => Some(Number::CurOcc(name, over, found)),
+            None => Ok(Judged::Number(None)),
+            Some(found) => number_judged(alloc, NumberKind::CurOcc(name, over, found)),
         },
     }
 }
 
 /// `totocc` of a record.
-pub fn tot_occ<'a>(name: Lexeme<'a>, over: Option<u8>) -> Option<Number<'a>>
-    ensures { option_map number result ≡ option_map (typed.TotOcc (written name.entry)) over }
+pub fn tot_occ<'a>(
+    alloc: Global,
+    name: Lexeme<'a>,
+    over: Option<u8>,
+) -> Result<Judged<'a>, AllocError>
+    ensures { IfOk result (λ r. judged r ≡ spec.AsNumber (option_map (typed.TotOcc (written name.entry)) over)) }
 {
     match over {
-        None => None,
-        Some(over) => Some(Number::TotOcc(name, over)),
+        None => Ok(Judged::Number(None)),
+        Some(over) => number_judged(alloc, NumberKind::TotOcc(name, over)),
     }
 }
 
 /// `maxocc` of a record.
-pub fn max_occ<'a>(name: Lexeme<'a>, over: Option<u8>) -> Option<Number<'a>>
-    ensures { option_map number result ≡ option_map (typed.MaxOcc (written name.entry)) over }
+pub fn max_occ<'a>(
+    alloc: Global,
+    name: Lexeme<'a>,
+    over: Option<u8>,
+) -> Result<Judged<'a>, AllocError>
+    ensures { IfOk result (λ r. judged r ≡ spec.AsNumber (option_map (typed.MaxOcc (written name.entry)) over)) }
 {
     match over {
-        None => None,
-        Some(over) => Some(Number::MaxOcc(name, over)),
+        None => Ok(Judged::Number(None)),
+        Some(over) => number_judged(alloc, NumberKind::MaxOcc(name, over)),
     }
 }

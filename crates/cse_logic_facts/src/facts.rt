@@ -9,7 +9,8 @@ ghost use Rattle.cse_logic_facts.specs.Gather.{gather, with_call, with_use, fact
 use cse_logic_names::names::Globals;
 use cse_logic_names::scope::Facts;
 use cse_logic_tree::{
-    Argument, Arm, Counting, Limit, Number, Operation, Statement, Variable, Which, Words,
+    Argument, Arm, Counting, Limit, Number, NumberKind, Operation, Statement, StatementKind,
+    Variable, Which, Words, WordsKind,
 };
 use std::alloc::{AllocError, Global};
 
@@ -71,48 +72,50 @@ fn assigned(
 #[cycle(gather)]
 #[tactic(auto, unfolding(crate::specs::Gather::gather), using(crate::proofs::Gathering::gather_both))]
 fn number(
+    x: &Number<'_>,
     functions: &[Option<Facts>],
     gathered: &mut Gathered,
-    x: &Number<'_>,
 ) -> Result<(), AllocError>
     ensures { OnOk result (gathered.new ≡ gather functions.now gathered.old (spec.uses (typed.number x.now))) }
 {
-    match x {
-        Number::Literal(_, _) | Number::Special(_, _) | Number::Variable(_, _) => Ok(()),
-        Number::Item(_, _)
-        | Number::Deck(_, _, _)
-        | Number::TotOcc(_, _)
-        | Number::MaxOcc(_, _)
-        | Number::CurOcc(_, _, _)
-        | Number::InSet(_, _, _, _) => {
+    match &*x.kind {
+        NumberKind::Literal(_, _) | NumberKind::Special(_, _) | NumberKind::Variable(_, _) => Ok(
+            (),
+        ),
+        NumberKind::Item(_, _)
+        | NumberKind::Deck(_, _, _)
+        | NumberKind::TotOcc(_, _)
+        | NumberKind::MaxOcc(_, _)
+        | NumberKind::CurOcc(_, _, _)
+        | NumberKind::InSet(_, _, _, _) => {
             case(functions, gathered);
             Ok(())
         }
-        Number::ItemAt(_, _, place) => {
+        NumberKind::ItemAt(_, _, place) => {
             case(functions, gathered);
-            number(functions, gathered, place)
+            number(place, functions, gathered)
         }
-        Number::Cell(_, _, subscripts) => numbers(functions, gathered, subscripts),
-        Number::Call(_, function, arguments) => {
+        NumberKind::Cell(_, _, subscripts) => numbers(subscripts, functions, gathered),
+        NumberKind::Call(_, function, arguments) => {
             call(functions, gathered, *function)?;
-            numbers(functions, gathered, arguments)
+            numbers(arguments, functions, gathered)
         }
-        Number::Group(inner)
-        | Number::Int(inner)
-        | Number::IsSpecial(inner)
-        | Number::Minus(inner)
-        | Number::Not(inner) => number(functions, gathered, inner),
-        Number::Compare(left, _, right) => {
-            number(functions, gathered, left)?;
-            number(functions, gathered, right)
+        NumberKind::Group(inner)
+        | NumberKind::Int(inner)
+        | NumberKind::IsSpecial(inner)
+        | NumberKind::Minus(inner)
+        | NumberKind::Not(inner) => number(inner, functions, gathered),
+        NumberKind::Compare(left, _, right) => {
+            number(left, functions, gathered)?;
+            number(right, functions, gathered)
         }
-        Number::CompareTexts(left, _, right) => {
-            words(functions, gathered, left)?;
-            words(functions, gathered, right)
+        NumberKind::CompareTexts(left, _, right) => {
+            words(left, functions, gathered)?;
+            words(right, functions, gathered)
         }
-        Number::Chain(first, others) => {
-            number(functions, gathered, first)?;
-            operations(functions, gathered, others)
+        NumberKind::Chain(first, others) => {
+            number(first, functions, gathered)?;
+            operations(others, functions, gathered)
         }
     }
 }
@@ -120,129 +123,129 @@ fn number(
 #[cycle(gather)]
 #[tactic(auto, unfolding(crate::specs::Gather::gather))]
 fn words(
+    x: &Words<'_>,
     functions: &[Option<Facts>],
     gathered: &mut Gathered,
-    x: &Words<'_>,
 ) -> Result<(), AllocError>
     ensures { OnOk result (gathered.new ≡ gather functions.now gathered.old (spec.uses_words (typed.words x.now))) }
 {
-    match x {
-        Words::Literal(_) => Ok(()),
-        Words::Global(_, _) => Ok(()),
-        Words::Item(_, _) => {
+    match &*x.kind {
+        WordsKind::Literal(_) => Ok(()),
+        WordsKind::Global(_, _) => Ok(()),
+        WordsKind::Item(_, _) => {
             case(functions, gathered);
             Ok(())
         }
-        Words::ItemAt(_, _, place) => {
+        WordsKind::ItemAt(_, _, place) => {
             case(functions, gathered);
-            number(functions, gathered, place)
+            number(place, functions, gathered)
         }
-        Words::Group(inner) => words(functions, gathered, inner),
+        WordsKind::Group(inner) => words(inner, functions, gathered),
     }
 }
 
 #[cycle(gather)]
 fn numbers(
+    all: &Vec<Number<'_>>,
     functions: &[Option<Facts>],
     gathered: &mut Gathered,
-    all: &Vec<Number<'_>>,
 ) -> Result<(), AllocError>
     ensures { OnOk result (gathered.new ≡ gather functions.now gathered.old (spec.uses_all (typed.numbers (map typed.number all.now.items)))) }
 {
     'all: for x in all {
-        number(functions, gathered, x)?;
+        number(x, functions, gathered)?;
     }
     Ok(())
 }
 
 #[cycle(gather)]
 fn operations(
+    all: &Vec<Operation<'_>>,
     functions: &[Option<Facts>],
     gathered: &mut Gathered,
-    all: &Vec<Operation<'_>>,
 ) -> Result<(), AllocError>
     ensures { OnOk result (gathered.new ≡ gather functions.now gathered.old (spec.uses_operations (typed.operations (map operation_tree all.now.items)))) }
 {
     'all: for x in all {
-        number(functions, gathered, &x.operand)?;
+        number(&x.operand, functions, gathered)?;
     }
     Ok(())
 }
 
 #[tactic(auto, unfolding(crate::specs::Gather::gather))]
 fn which(
+    x: &Which<'_>,
     functions: &[Option<Facts>],
     gathered: &mut Gathered,
-    x: &Which<'_>,
 ) -> Result<(), AllocError>
     ensures { OnOk result (gathered.new ≡ gather functions.now gathered.old (spec.uses_which (typed.which x.now))) }
 {
     match x {
         Which::Here(_) => Ok(()),
-        Which::At(place) => number(functions, gathered, place),
+        Which::At(place) => number(place, functions, gathered),
     }
 }
 
 /// A number is put into an item.
 #[tactic(auto, unfolding(crate::specs::Gather::gather), using(crate::proofs::Gathering::gather_both))]
 fn into_item(
-    functions: &[Option<Facts>],
-    gathered: &mut Gathered,
     place: &Which<'_>,
     value: &Number<'_>,
+    functions: &[Option<Facts>],
+    gathered: &mut Gathered,
 ) -> Result<(), AllocError>
     ensures { OnOk result (gathered.new
         ≡ gather functions.now gathered.old (spec.TheCase ∷ (spec.uses_which (typed.which place.now) ++ spec.uses (typed.number value.now)))) }
 {
     case(functions, gathered);
-    which(functions, gathered, place)?;
-    number(functions, gathered, value)
+    which(place, functions, gathered)?;
+    number(value, functions, gathered)
 }
 
 /// A text is put into an item.
 #[tactic(auto, unfolding(crate::specs::Gather::gather), using(crate::proofs::Gathering::gather_both))]
 fn text_into_item(
-    functions: &[Option<Facts>],
-    gathered: &mut Gathered,
     place: &Which<'_>,
     value: &Words<'_>,
+    functions: &[Option<Facts>],
+    gathered: &mut Gathered,
 ) -> Result<(), AllocError>
     ensures { OnOk result (gathered.new
         ≡ gather functions.now gathered.old (spec.TheCase ∷ (spec.uses_which (typed.which place.now) ++ spec.uses_words (typed.words value.now)))) }
 {
     case(functions, gathered);
-    which(functions, gathered, place)?;
-    words(functions, gathered, value)
+    which(place, functions, gathered)?;
+    words(value, functions, gathered)
 }
 
 fn argument(
+    x: &Argument<'_>,
     functions: &[Option<Facts>],
     gathered: &mut Gathered,
-    x: &Argument<'_>,
 ) -> Result<(), AllocError>
     ensures { OnOk result (gathered.new ≡ gather functions.now gathered.old (spec.uses_argument (typed.argument x.now))) }
 {
     match x {
-        Argument::Number(value) => number(functions, gathered, value),
-        Argument::Words(value) => words(functions, gathered, value),
+        Argument::Number(value) => number(value, functions, gathered),
+        Argument::Words(value) => words(value, functions, gathered),
     }
 }
 
 fn arguments(
+    all: &Vec<Argument<'_>>,
     functions: &[Option<Facts>],
     gathered: &mut Gathered,
-    all: &Vec<Argument<'_>>,
 ) -> Result<(), AllocError>
     ensures { OnOk result (gathered.new ≡ gather functions.now gathered.old (spec.uses_arguments (map typed.argument all.now.items))) }
 {
     'all: for x in all {
-        argument(functions, gathered, x)?;
+        argument(x, functions, gathered)?;
     }
     Ok(())
 }
 
 #[tactic(auto, unfolding(crate::specs::Gather::gather))]
-fn limit(functions: &[Option<Facts>], gathered: &mut Gathered, x: &Limit<'_>)
+fn limit(x: &Limit<'_>, functions: &[Option<Facts>], gathered: &mut Gathered)
     ensures { gathered.new ≡ gather functions.now gathered.old (spec.uses_limit (typed.limit x.now)) }
 {
     match x {
@@ -254,86 +257,86 @@ fn limit(functions: &[Option<Facts>], gathered: &mut Gathered, x: &Limit<'_>)
 /// What the head of a loop that counts uses.
 #[tactic(auto, using(crate::proofs::Gathering::gather_both))]
 fn head(
+    x: &Counting<'_>,
     functions: &[Option<Facts>],
     gathered: &mut Gathered,
-    x: &Counting<'_>,
 ) -> Result<(), AllocError>
     ensures { OnOk result (gathered.new ≡ gather functions.now (gather functions.now (gather functions.now gathered.old (spec.assigns x.now.variable))
         (spec.uses_limit (typed.limit x.now.from))) (spec.uses_limit (typed.limit x.now.to))) }
 {
     assigned(functions, gathered, x.variable)?;
-    limit(functions, gathered, &x.from);
-    limit(functions, gathered, &x.to);
+    limit(&x.from, functions, gathered);
+    limit(&x.to, functions, gathered);
     Ok(())
 }
 
 #[cycle(statements)]
 #[tactic(auto, unfolding(crate::specs::Gather::gather), using(crate::proofs::Gathering::gather_both))]
 fn statement(
+    x: &Statement<'_>,
     functions: &[Option<Facts>],
     gathered: &mut Gathered,
-    x: &Statement<'_>,
 ) -> Result<(), AllocError>
     ensures { OnOk result (gathered.new ≡ gather functions.now gathered.old (spec.uses_of (typed.statement x.now))) }
 {
-    match x {
-        Statement::Empty | Statement::Jump(_, _) => Ok(()),
-        Statement::Set(_, variable, value) => {
+    match &*x.kind {
+        StatementKind::Empty | StatementKind::Jump(_, _) => Ok(()),
+        StatementKind::Set(_, variable, value) => {
             assigned(functions, gathered, *variable)?;
-            number(functions, gathered, value)
+            number(value, functions, gathered)
         }
-        Statement::SetText(_, _, value) => words(functions, gathered, value),
-        Statement::SetItem(_, _, place, value) | Statement::Impute(_, _, place, value) => {
-            into_item(functions, gathered, place, value)
+        StatementKind::SetText(_, _, value) => words(value, functions, gathered),
+        StatementKind::SetItem(_, _, place, value) | StatementKind::Impute(_, _, place, value) => {
+            into_item(place, value, functions, gathered)
         }
-        Statement::SetTextItem(_, _, place, value) => {
-            text_into_item(functions, gathered, place, value)
+        StatementKind::SetTextItem(_, _, place, value) => {
+            text_into_item(place, value, functions, gathered)
         }
-        Statement::SetCell(_, _, subscripts, value) => {
-            numbers(functions, gathered, subscripts)?;
-            number(functions, gathered, value)
+        StatementKind::SetCell(_, _, subscripts, value) => {
+            numbers(subscripts, functions, gathered)?;
+            number(value, functions, gathered)
         }
-        Statement::Call(_, function, values) => {
+        StatementKind::Call(_, function, values) => {
             call(functions, gathered, *function)?;
-            numbers(functions, gathered, values)
+            numbers(values, functions, gathered)
         }
-        Statement::If(first, others, otherwise) => {
-            number(functions, gathered, &first.condition)?;
-            block(functions, gathered, &first.body)?;
-            arms(functions, gathered, others)?;
+        StatementKind::If(first, others, otherwise) => {
+            number(&first.condition, functions, gathered)?;
+            block(&first.body, functions, gathered)?;
+            arms(others, functions, gathered)?;
             match otherwise {
                 None => Ok(()),
-                Some(body) => block(functions, gathered, body),
+                Some(body) => block(body, functions, gathered),
             }
         }
-        Statement::For(_, variable, _, _, body) => {
+        StatementKind::For(_, variable, _, _, body) => {
             case(functions, gathered);
             assigned(functions, gathered, *variable)?;
-            block(functions, gathered, body)
+            block(body, functions, gathered)
         }
-        Statement::Do(counting, body) => {
-            head(functions, gathered, counting)?;
-            block(functions, gathered, body)
+        StatementKind::Do(counting, body) => {
+            head(counting, functions, gathered)?;
+            block(body, functions, gathered)
         }
-        Statement::PutDeck(_, _, _, value) => {
+        StatementKind::PutDeck(_, _, _, value) => {
             case(functions, gathered);
-            number(functions, gathered, value)
+            number(value, functions, gathered)
         }
-        Statement::ErrMsg(_, _, values, _) => arguments(functions, gathered, values),
+        StatementKind::ErrMsg(_, _, values, _) => arguments(values, functions, gathered),
     }
 }
 
 /// What statements use, behind what was known before.
 #[cycle(statements)]
 pub fn block(
+    all: &Vec<Statement<'_>>,
     functions: &[Option<Facts>],
     gathered: &mut Gathered,
-    all: &Vec<Statement<'_>>,
 ) -> Result<(), AllocError>
     ensures { OnOk result (gathered.new ≡ gather functions.now gathered.old (spec.uses_block (typed.block all.now.items))) }
 {
     'all: for x in all {
-        statement(functions, gathered, x)?;
+        statement(x, functions, gathered)?;
     }
     Ok(())
 }
@@ -341,25 +344,25 @@ pub fn block(
 /// One `elseif`.
 #[cycle(statements)]
 #[tactic(auto, using(crate::proofs::Gathering::gather_both))]
-fn arm(functions: &[Option<Facts>], gathered: &mut Gathered, x: &Arm<'_>) -> Result<(), AllocError>
-    ensures { OnOk result (gathered.new ≡ gather functions.now (gather functions.now gathered.old (spec.uses (typed.number x.now.condition)))
-        (spec.uses_block (typed.block x.now.body.items))) }
+fn arm(x: &Arm<'_>, functions: &[Option<Facts>], gathered: &mut Gathered) -> Result<(), AllocError>
+    ensures { OnOk result (gathered.new ≡ gather functions.now (gather functions.now gathered.old (spec.uses (typed.arm_tree x.now).0))
+        (spec.uses_block (typed.arm_tree x.now).1)) }
 {
-    number(functions, gathered, &x.condition)?;
-    block(functions, gathered, &x.body)
+    number(&x.condition, functions, gathered)?;
+    block(&x.body, functions, gathered)
 }
 
 /// Each `elseif`, without the `else`.
 #[cycle(statements)]
 fn arms(
+    all: &Vec<Arm<'_>>,
     functions: &[Option<Facts>],
     gathered: &mut Gathered,
-    all: &Vec<Arm<'_>>,
 ) -> Result<(), AllocError>
     ensures { OnOk result (gathered.new ≡ gather functions.now gathered.old (spec.uses_arms (typed.arms (map typed.arm_tree all.now.items) typed.no_arm))) }
 {
     'all: for x in all {
-        arm(functions, gathered, x)?;
+        arm(x, functions, gathered)?;
     }
     Ok(())
 }
@@ -367,10 +370,10 @@ fn arms(
 /// What is known of a function that has ended, after those before it: its parameters are so many.
 #[tactic(auto, using(crate::proofs::Gathering::gathered_facts))]
 pub fn facts_of(
+    body: &Vec<Statement<'_>>,
     alloc: Global,
     functions: &[Option<Facts>],
     parameters: usize,
-    body: &Vec<Statement<'_>>,
 ) -> Result<Facts, AllocError>
     ensures { IfOk result (λ f. f ≡ facts_from functions.now parameters (typed.block body.now.items)) }
 {
@@ -378,7 +381,7 @@ pub fn facts_of(
         needs_case: false,
         assigned: Globals::new(alloc),
     };
-    block(functions, &mut gathered, body)?;
+    block(body, functions, &mut gathered)?;
     Ok(Facts {
         parameters,
         needs_case: gathered.needs_case,

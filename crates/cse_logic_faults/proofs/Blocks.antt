@@ -5,9 +5,9 @@ use Rattle.std.specs.Global.{Vec}
 use Rattle.cse_syntax_tree.specs.declared.tree.Lexeme.{Lexeme}
 use Rattle.cse_syntax_tree.specs.declared.tree.Counting.{Counting}
 use Rattle.cse_syntax_tree.specs.declared.tree.Statement as rusts
-use Rattle.cse_syntax_tree.specs.declared.tree.Statement.TheVariants as v
+use Rattle.cse_syntax_tree.specs.declared.tree.StatementKind.TheVariants as v
 use Rattle.cse_syntax_tree.specs.declared.tree.Arm as rustarm
-use Rattle.cse_syntax_tree.specs.Tree.{Expr, expr, Stmts, Arms, no_arm, else_of, arms, written, stmt, block, arm_tree, otherwise_tree, counting}
+use Rattle.cse_syntax_tree.specs.Tree.{Expr, Stmts, Arms, no_arm, else_of, arms, written, stmt, stmt_kind, block, arm_tree, otherwise_tree, counting}
 use Rattle.cse_syntax_tree.proofs.Rows.{if_is, for_is, do_is}
 use Rattle.cse_logic_names.specs.Scope.{Scope}
 use Rattle.cse_logic_faults.specs.Faults.{Fault, Counts}
@@ -26,7 +26,7 @@ module _ (c : Counts) (s : Scope) where
 
   pub arms_more : (x : rustarm.Arm) (xs : List rustarm.Arm) → arms_faults c s (arms (map arm_tree (x ∷ xs)) no_arm) ≡ arm_faults c s (arm_tree x) ++ arms_faults c s (arms (map arm_tree xs) no_arm)
   unfolding arms_faults
-  arms_more x xs = sym (append_assoc (number_faults c s false (expr x.condition)) (stmts_faults c s (block x.body.items)) (arms_faults c s (arms (map arm_tree xs) no_arm)))
+  arms_more x xs = sym (append_assoc (number_faults c s false (arm_tree x).0) (stmts_faults c s (arm_tree x).1) (arms_faults c s (arms (map arm_tree xs) no_arm)))
 
   pub arms_none : arms_faults c s no_arm ≡ []
   unfolding arms_faults
@@ -45,12 +45,12 @@ module _ (c : Counts) (s : Scope) where
       ∙ sym (append_assoc own (body ++ rest) (arms_faults c s last))
 
   pub if_found : (first : rustarm.Arm) (others : Vec rustarm.Arm) (otherwise : Option (Vec rusts.Statement))
-      → stmt_faults c s (stmt (v.If first others otherwise))
+      → stmt_faults c s (stmt_kind (v.If first others otherwise))
       ≡ arm_faults c s (arm_tree first) ++ (arms_faults c s (arms (map arm_tree others.items) no_arm) ++ arms_faults c s (otherwise_tree otherwise))
   unfolding stmt_faults
   if_found first others otherwise =
-      let own = number_faults c s false (expr first.condition) in
-      let body = stmts_faults c s (block first.body.items) in
+      let own = number_faults c s false (arm_tree first).0 in
+      let body = stmts_faults c s (arm_tree first).1 in
       let rest = arms_faults c s (arms (map arm_tree others.items) no_arm) in
       let last = arms_faults c s (otherwise_tree otherwise) in
       ap (stmt_faults c s) (if_is first others otherwise)
@@ -62,18 +62,18 @@ module _ (c : Counts) (s : Scope) where
   else_found body = refl
 
   pub for_found : (name record_name : Lexeme) (body : Vec rusts.Statement)
-      → stmt_faults c s (stmt (v.For name record_name body)) ≡ for_faults s (written name) (written record_name) ++ stmts_faults c (for_scope s (written name) (written record_name)) (block body.items)
+      → stmt_faults c s (stmt_kind (v.For name record_name body)) ≡ for_faults s (written name) (written record_name) ++ stmts_faults c (for_scope s (written name) (written record_name)) (block body.items)
   unfolding stmt_faults
   for_found name record_name body = ap (stmt_faults c s) (for_is name record_name body)
 
   pub do_found : (head : Counting) (body : Vec rusts.Statement)
-      → stmt_faults c s (stmt (v.Do head body)) ≡ counting_faults s (counting head) ++ stmts_faults c (do_scope s (written head.variable)) (block body.items)
+      → stmt_faults c s (stmt_kind (v.Do head body)) ≡ counting_faults s (counting head) ++ stmts_faults c (do_scope s (written head.variable)) (block body.items)
   unfolding stmt_faults
   do_found head body = ap (stmt_faults c s) (do_is head body)
 
   -- what was found of an `if` before its last arm
   pub choice_found : (first : rustarm.Arm) (others : Vec rustarm.Arm) (otherwise : Option (Vec rusts.Statement)) (g h k : List Fault) (s' : Scope) → h ≡ g ++ arm_faults c s (arm_tree first) → s' ≡ s
-      → k ≡ h ++ arms_faults c s' (arms (map arm_tree others.items) no_arm) → k ++ arms_faults c s (otherwise_tree otherwise) ≡ g ++ stmt_faults c s (stmt (v.If first others otherwise))
+      → k ≡ h ++ arms_faults c s' (arms (map arm_tree others.items) no_arm) → k ++ arms_faults c s (otherwise_tree otherwise) ≡ g ++ stmt_faults c s (stmt_kind (v.If first others otherwise))
   choice_found first others otherwise g h k s' e same f =
       let own = arm_faults c s (arm_tree first) in
       let rest = arms_faults c s (arms (map arm_tree others.items) no_arm) in

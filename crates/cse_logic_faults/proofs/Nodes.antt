@@ -2,14 +2,14 @@
 use Rattle.std.proofs.Common.{◌≡◌, ℕ, ◌+◌, ◌-◌, ◌<◌, get_or, drop, Bool, false, List, [], ◌∷◌, ◌++◌, length, map, refl, ap, sym, ◌∙◌, arith, append_assoc}
 use Rattle.std.specs.Prelude.{◌==◌}
 use Rattle.std.proofs.lemmas.List.{length-map}
-use Rattle.std.specs.Global.{Vec, Box}
+use Rattle.std.specs.Global.{Vec}
 use Rattle.cse_lemmas.proofs.Lists.{drop_read}
 use Rattle.cse_syntax_tree.specs.declared.tree.Lexeme.{Lexeme}
 use Rattle.cse_syntax_tree.specs.declared.tree.Operation as rustop
 use Rattle.cse_syntax_tree.specs.declared.tree.Expression as rust
-use Rattle.cse_syntax_tree.specs.declared.tree.Expression.TheVariants as e
+use Rattle.cse_syntax_tree.specs.declared.tree.ExpressionKind.TheVariants as e
 use Rattle.cse_syntax_tree.specs.Tree as syntax
-use Rattle.cse_syntax_tree.specs.Tree.{written, expr, exprs, operations, operation_tree}
+use Rattle.cse_syntax_tree.specs.Tree.{written, expr, expr_kind, exprs, operations, operation_tree}
 use Rattle.cse_syntax_tree.proofs.Rows.{indexed_is, chain_is}
 use Rattle.cse_logic_names.specs.Scope.{Scope, meant}
 use Rattle.cse_syntax_tree.specs.First.{expr_token}
@@ -26,23 +26,23 @@ count_is (x ∷ xs) = omega (arith, count_is xs)
 pub values_count : (xs : List rust.Expression) → count_of (exprs (map expr xs)) ≡ length xs
 values_count xs = count_is (map expr xs) ∙ length-map xs expr
 
-pub indexed_sort_is : (s : Scope) (name : Lexeme) (arguments : Vec rust.Expression) → sort_of s (expr (e.Indexed name arguments)) ≡ indexed_sort s (meant s (written name))
+pub indexed_sort_is : (s : Scope) (name : Lexeme) (arguments : Vec rust.Expression) → sort_of s (expr_kind (e.Indexed name arguments)) ≡ indexed_sort s (meant s (written name))
 unfolding sort_of
 indexed_sort_is s name arguments = refl
 
-pub chain_sort_is : (s : Scope) (first : Box rust.Expression) (others : Vec rustop.Operation) → sort_of s (expr (e.Chain first others)) ≡ ANumber
+pub chain_sort_is : (s : Scope) (first : rust.Expression) (others : Vec rustop.Operation) → sort_of s (expr_kind (e.Chain first others)) ≡ ANumber
 unfolding sort_of
 chain_sort_is s first others = refl
 
 pub indexed_found : (c : Counts) (s : Scope) (top : Bool) (name : Lexeme) (arguments : Vec rust.Expression)
-    → expr_faults c s top (expr (e.Indexed name arguments)) ≡ numbers_faults c s (exprs (map expr arguments.items)) ++ indexed_faults c s name.token (length arguments.items) (meant s (written name))
+    → expr_faults c s top (expr_kind (e.Indexed name arguments)) ≡ numbers_faults c s (exprs (map expr arguments.items)) ++ indexed_faults c s name.token (length arguments.items) (meant s (written name))
 unfolding expr_faults
 indexed_found c s top name arguments =
     ap (expr_faults c s top) (indexed_is name arguments)
     ∙ ap (λ n. numbers_faults c s (exprs (map expr arguments.items)) ++ indexed_faults c s name.token n (meant s (written name))) (values_count arguments.items)
 
-pub chain_found : (c : Counts) (s : Scope) (top : Bool) (first : Box rust.Expression) (others : Vec rustop.Operation)
-    → expr_faults c s top (expr (e.Chain first others)) ≡ number_faults c s false (expr first.value) ++ operations_faults c s top (operations (map operation_tree others.items))
+pub chain_found : (c : Counts) (s : Scope) (top : Bool) (first : rust.Expression) (others : Vec rustop.Operation)
+    → expr_faults c s top (expr_kind (e.Chain first others)) ≡ number_faults c s false (expr first) ++ operations_faults c s top (operations (map operation_tree others.items))
 unfolding expr_faults
 chain_found c s top first others = ap (expr_faults c s top) (chain_is first others)
 

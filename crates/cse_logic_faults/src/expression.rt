@@ -20,7 +20,9 @@ use crate::name::{bare, indexed};
 use crate::set::{member, queried};
 use cse_fault_numbers::{MISPLACED_DIVISION, OTHER_KIND};
 use cse_logic_names::scope::Scope;
-use cse_syntax_tree::{Expression, Function, Lexeme, Operation, Operator, is_within};
+use cse_syntax_tree::{
+    Expression, ExpressionKind, Function, Lexeme, Operation, Operator, is_within,
+};
 use std::alloc::AllocError;
 
 /// Whether digits write a number that is at most 9,223,372,036,854,775,807.
@@ -96,27 +98,29 @@ pub fn expression(
 ) -> Result<(), AllocError>
     ensures { OnOk result (found.new ≡ found.old ++ spec.expr_faults counts.now scope.now top (expr x.now)) }
 {
-    match x {
-        Expression::Number(written) => digits(found, *written),
-        Expression::Text(_) => found.none(),
-        Expression::Special(_, _) => found.none(),
-        Expression::Name(name) => bare(scope, found, *name),
-        Expression::Indexed(name, arguments) => {
+    match &*x.kind {
+        ExpressionKind::Number(written) => digits(found, *written),
+        ExpressionKind::Text(_) => found.none(),
+        ExpressionKind::Special(_, _) => found.none(),
+        ExpressionKind::Name(name) => bare(scope, found, *name),
+        ExpressionKind::Indexed(name, arguments) => {
             numbers(scope, counts, found, arguments)?;
             indexed(scope, counts, found, *name, arguments.len())
         }
-        Expression::Group(inner) => expression(scope, counts, found, false, inner),
-        Expression::Apply(function, argument) => apply(scope, counts, found, *function, argument),
-        Expression::Query(query, name) => queried(scope, found, *query, *name),
-        Expression::InValueSet(item, set) => member(scope, found, *item, *set),
-        Expression::Minus(operand) => number(scope, counts, found, false, operand),
-        Expression::Not(operand) => number(scope, counts, found, false, operand),
-        Expression::Compare(left, _, right) => {
+        ExpressionKind::Group(inner) => expression(scope, counts, found, false, inner),
+        ExpressionKind::Apply(function, argument) => apply(
+            scope, counts, found, *function, argument,
+        ),
+        ExpressionKind::Query(query, name) => queried(scope, found, *query, *name),
+        ExpressionKind::InValueSet(item, set) => member(scope, found, *item, *set),
+        ExpressionKind::Minus(operand) => number(scope, counts, found, false, operand),
+        ExpressionKind::Not(operand) => number(scope, counts, found, false, operand),
+        ExpressionKind::Compare(left, _, right) => {
             expression(scope, counts, found, false, left)?;
             expression(scope, counts, found, false, right)?;
             both_kinds(scope, found, left, right)
         }
-        Expression::Chain(first, others) => {
+        ExpressionKind::Chain(first, others) => {
             number(scope, counts, found, false, first)?;
             operations_in(scope, counts, found, top, others)
         }

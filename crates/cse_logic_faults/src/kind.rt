@@ -10,7 +10,7 @@ ghost use Rattle.cse_logic_faults.specs.Listed.{sort};
 use cse_dict::Dictionary;
 use cse_logic_names::meaning::Meaning;
 use cse_logic_names::scope::{Scope, kind_and_owner, own_result};
-use cse_syntax_tree::{Expression, Lexeme};
+use cse_syntax_tree::{Expression, ExpressionKind, Lexeme};
 use cse_value::shape::ItemKind;
 
 /// A number or a text; none of them is known of a name that means neither.
@@ -110,20 +110,20 @@ fn indexed(scope: &Scope<'_>, name: Lexeme<'_>) -> Kind
 pub fn kind_of(scope: &Scope<'_>, x: &Expression<'_>) -> Kind
     ensures { sort result ≡ spec.sort_of scope.now (expr x.now) }
 {
-    match x {
-        Expression::Number(_) => Kind::Number,
-        Expression::Text(_) => Kind::Text,
-        Expression::Special(_, _) => Kind::Number,
-        Expression::Name(name) => bare(scope, *name),
-        Expression::Indexed(name, _) => indexed(scope, *name),
-        Expression::Group(inner) => kind_of(scope, inner),
-        Expression::Apply(_, _) => Kind::Number,
-        Expression::Query(_, _) => Kind::Number,
-        Expression::InValueSet(_, _) => Kind::Number,
-        Expression::Minus(_) => Kind::Number,
-        Expression::Not(_) => Kind::Number,
-        Expression::Compare(_, _, _) => Kind::Number,
-        Expression::Chain(_, _) => Kind::Number,
+    match &*x.kind {
+        ExpressionKind::Number(_) => Kind::Number,
+        ExpressionKind::Text(_) => Kind::Text,
+        ExpressionKind::Special(_, _) => Kind::Number,
+        ExpressionKind::Name(name) => bare(scope, *name),
+        ExpressionKind::Indexed(name, _) => indexed(scope, *name),
+        ExpressionKind::Group(inner) => kind_of(scope, inner),
+        ExpressionKind::Apply(_, _) => Kind::Number,
+        ExpressionKind::Query(_, _) => Kind::Number,
+        ExpressionKind::InValueSet(_, _) => Kind::Number,
+        ExpressionKind::Minus(_) => Kind::Number,
+        ExpressionKind::Not(_) => Kind::Number,
+        ExpressionKind::Compare(_, _, _) => Kind::Number,
+        ExpressionKind::Chain(_, _) => Kind::Number,
     }
 }
 
@@ -132,8 +132,8 @@ pub fn kind_of(scope: &Scope<'_>, x: &Expression<'_>) -> Kind
 pub fn text_token(x: &Expression<'_>) -> usize
     ensures { result ≡ spec.text_token (expr x.now) }
 {
-    match x {
-        Expression::Group(inner) => text_token(inner),
+    match &*x.kind {
+        ExpressionKind::Group(inner) => text_token(inner),
         _ => x.token(),
     }
 }

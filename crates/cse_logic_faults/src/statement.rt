@@ -18,7 +18,7 @@ use crate::place::{alone, assign, impute};
 use crate::set::deck;
 use cse_logic_names::scope::Scope;
 use cse_logic_tree::Variable;
-use cse_syntax_tree::{Arm, Expression, Lexeme, Place, Statement};
+use cse_syntax_tree::{Arm, Expression, Lexeme, Place, Statement, StatementKind};
 use std::alloc::AllocError;
 
 /// An assignment.
@@ -105,11 +105,11 @@ fn statement(
     ensures found { OnOk result (found.new ≡ found.old ++ spec.stmt_faults counts.now scope.old (stmt x.now)) }
     ensures same { OnOk result (scope.new ≡ scope.old) }
 {
-    match x {
-        Statement::Empty => found.none(),
-        Statement::Assign(place, value) => assignment(scope, counts, found, place, value),
-        Statement::Call(name, arguments) => call(scope, counts, found, *name, arguments),
-        Statement::If(first, others, otherwise) => {
+    match &*x.kind {
+        StatementKind::Empty => found.none(),
+        StatementKind::Assign(place, value) => assignment(scope, counts, found, place, value),
+        StatementKind::Call(name, arguments) => call(scope, counts, found, *name, arguments),
+        StatementKind::If(first, others, otherwise) => {
             arm(scope, counts, found, first)?;
             arms(scope, counts, found, others)?;
             match otherwise {
@@ -117,20 +117,22 @@ fn statement(
                 Some(body) => block(scope, counts, found, body),
             }
         }
-        Statement::For(name, record_name, body) => {
+        StatementKind::For(name, record_name, body) => {
             for_head(scope, found, *name, *record_name)?;
             let turns = for_turns(scope, *name, *record_name);
             body_of(scope, counts, found, turns, body)
         }
-        Statement::Do(head, body) => {
+        StatementKind::Do(head, body) => {
             counting(scope, found, *head)?;
             let turns = do_turns(scope, head.variable);
             body_of(scope, counts, found, turns, body)
         }
-        Statement::Jump(token, leaving) => jump(scope, found, *token, *leaving),
-        Statement::Impute(place, value) => imputation(scope, counts, found, place, value),
-        Statement::PutDeck(name, value) => put_deck(scope, counts, found, *name, value),
-        Statement::ErrMsg(message, values, _) => err_msg(scope, counts, found, *message, values),
+        StatementKind::Jump(token, leaving) => jump(scope, found, *token, *leaving),
+        StatementKind::Impute(place, value) => imputation(scope, counts, found, place, value),
+        StatementKind::PutDeck(name, value) => put_deck(scope, counts, found, *name, value),
+        StatementKind::ErrMsg(message, values, _) => err_msg(
+            scope, counts, found, *message, values,
+        ),
     }
 }
 

@@ -5,7 +5,7 @@ ghost use Rattle.std.specs.Option.{option_map};
 ghost use Rattle.cse_syntax_tree.specs.Tree as syntax;
 ghost use Rattle.cse_syntax_tree.specs.Tree.{written, stmt, arm_tree as parsed_arm, arms as parsed_arms, otherwise_tree as parsed_otherwise};
 ghost use Rattle.cse_logic_tree.specs.Typed as typed;
-ghost use Rattle.cse_logic_tree.specs.Typed.{number, statement, arm_tree, otherwise_tree, counting};
+ghost use Rattle.cse_logic_tree.specs.Typed.{number, statement, statement_kind, arm_tree, otherwise_tree, counting};
 ghost use Rattle.cse_logic_names.specs.WellTyped.{messages_in, messages_of};
 ghost use Rattle.cse_logic_expressions.specs.JudgeStatement as spec;
 ghost use Rattle.cse_logic_expressions.specs.JudgeStatement.{judge_statement, judge_block, judge_arm, judge_each, messages_each, for_head, counting_judged, opened};
@@ -20,9 +20,10 @@ use cse_logic_expressions::head::{counting, for_head};
 use cse_logic_expressions::list::{both_hold, keep};
 use cse_logic_names::scope::Scope;
 use cse_logic_parts::told::Told;
-use cse_logic_tree::{Arm, Counting, Number, Statement, Variable};
+use cse_logic_tree::{Arm, Counting, Number, Statement, StatementKind, Variable};
 use cse_syntax_tree::{
     Arm as ParsedArm, Counting as ParsedCounting, Expression, Lexeme, Message, Statement as Parsed,
+    StatementKind as ParsedKind,
 };
 use std::alloc::{AllocError, Global};
 
@@ -35,21 +36,30 @@ fn guarded<'a>(condition: Option<Number<'a>>, body: Option<Vec<Statement<'a>>>) 
     }
 }
 
+/// A statement of this kind.
+fn made<'a>(alloc: Global, kind: StatementKind<'a>) -> Result<Option<Statement<'a>>, AllocError>
+    ensures { IfOk result (λ r. option_map statement r ≡ Some (statement_kind kind.entry)) }
+{
+    Statement::new(alloc, kind).map(Some)
+}
+
 /// An `if`: its first arm, the others, and its `else`.
 fn chosen<'a>(
+    alloc: Global,
     first: Option<Arm<'a>>,
     others: Option<Vec<Arm<'a>>>,
     otherwise: Option<Option<Vec<Statement<'a>>>>,
-) -> Option<Statement<'a>>
-    ensures { option_map statement result ≡ spec.chosen (option_map arm_tree first.entry) (arms_made others.entry) (option_map otherwise_tree otherwise.entry) }
+) -> Result<Option<Statement<'a>>, AllocError>
+    ensures { IfOk result (λ r. option_map statement r
+        ≡ spec.chosen (option_map arm_tree first.entry) (arms_made others.entry) (option_map otherwise_tree otherwise.entry)) }
 {
     match first {
-        None => None,
+        None => Ok(None),
         Some(first) => match others {
-            None => None,
+            None => Ok(None),
             Some(others) => match otherwise {
-                None => None,
-                Some(otherwise) => Some(Statement::choice(first, others, otherwise)),
+                None => Ok(None),
+                Some(otherwise) => made(alloc, StatementKind::choice(first, others, otherwise)),
             },
         },
     }
@@ -83,31 +93,34 @@ fn do_loop(head: &Option<Counting<'_>>) -> Option<(Option<u16>, Variable)>
 }
 
 fn for_of<'a>(
+    alloc: Global,
     variable: Lexeme<'a>,
     record_name: Lexeme<'a>,
     head: Option<(Variable, u8)>,
     body: Option<Vec<Statement<'a>>>,
-) -> Option<Statement<'a>>
-    ensures { option_map statement result ≡ joined (spec.for_of (written variable.entry) (written record_name.entry)) head (block_made body.entry) }
+) -> Result<Option<Statement<'a>>, AllocError>
+    ensures { IfOk result (λ r. option_map statement r
+        ≡ joined (spec.for_of (written variable.entry) (written record_name.entry)) head (block_made body.entry)) }
 {
     match head.zip(body) {
-        None => None,
-        Some(((found, over), body)) => Some(Statement::each_occurrence(
-            variable,
-            found,
-            record_name,
-            over,
-            body,
-        )),
+        None => Ok(None),
+        Some(((found, over), body)) => {
+            let kind = StatementKind::each_occurrence(variable, found, record_name, over, body);
+            made(alloc, kind)
+        }
     }
 }
 
-fn do_of<'a>(head: Option<Counting<'a>>, body: Option<Vec<Statement<'a>>>) -> Option<Statement<'a>>
-    ensures { option_map statement result ≡ joined typed.Do (option_map counting head.entry) (block_made body.entry) }
+fn do_of<'a>(
+    alloc: Global,
+    head: Option<Counting<'a>>,
+    body: Option<Vec<Statement<'a>>>,
+) -> Result<Option<Statement<'a>>, AllocError>
+    ensures { IfOk result (λ r. option_map statement r ≡ joined typed.Do (option_map counting head.entry) (block_made body.entry)) }
 {
     match head.zip(body) {
-        None => None,
-        Some((head, body)) => Some(Statement::counted(head, body)),
+        None => Ok(None),
+        Some((head, body)) => made(alloc, StatementKind::counted(head, body)),
     }
 }
 
@@ -145,35 +158,35 @@ fn statement<'a>(
     ensures told { OnOk result (map told_of told.new.items ≡ map told_of told.old.items ++ messages_in (stmt x.now)) }
     ensures same { OnOk result (scope.new ≡ scope.old) }
 {
-    match x {
-        Parsed::Empty => Ok(Some(Statement::Empty)),
-        Parsed::Assign(place, value) => assignment(alloc, scope, place, value),
-        Parsed::Call(name, arguments) => alone(alloc, scope, *name, arguments),
-        Parsed::If(first, others, otherwise) => {
+    match &*x.kind {
+        ParsedKind::Empty => made(alloc, StatementKind::Empty),
+        ParsedKind::Assign(place, value) => assignment(alloc, scope, place, value),
+        ParsedKind::Call(name, arguments) => alone(alloc, scope, *name, arguments),
+        ParsedKind::If(first, others, otherwise) => {
             let start = arm(alloc, scope, told, first)?;
             let middle = arms(alloc, scope, told, others)?;
             match otherwise {
-                None => Ok(chosen(start, middle, Some(None))),
+                None => chosen(alloc, start, middle, Some(None)),
                 Some(body) => {
                     let last = block(alloc, scope, told, body)?;
-                    Ok(chosen(start, middle, behind(last)))
+                    chosen(alloc, start, middle, behind(last))
                 }
             }
         }
-        Parsed::For(variable, record_name, body) => {
+        ParsedKind::For(variable, record_name, body) => {
             let head = for_head(scope, *variable, *record_name);
             let inner = body_of(alloc, scope, told, for_loop(head), body)?;
-            Ok(for_of(*variable, *record_name, head, inner))
+            for_of(alloc, *variable, *record_name, head, inner)
         }
-        Parsed::Do(head, body) => {
+        ParsedKind::Do(head, body) => {
             let head = counting(scope, *head);
             let inner = body_of(alloc, scope, told, do_loop(&head), body)?;
-            Ok(do_of(head, inner))
+            do_of(alloc, head, inner)
         }
-        Parsed::Jump(token, leaving) => Ok(jump(scope, *token, *leaving)),
-        Parsed::Impute(place, value) => imputation(alloc, scope, place, value),
-        Parsed::PutDeck(deck, value) => deck_value(alloc, scope, *deck, value),
-        Parsed::ErrMsg(message, values, is_summary) => {
+        ParsedKind::Jump(token, leaving) => jump(alloc, scope, *token, *leaving),
+        ParsedKind::Impute(place, value) => imputation(alloc, scope, place, value),
+        ParsedKind::PutDeck(deck, value) => deck_value(alloc, scope, *deck, value),
+        ParsedKind::ErrMsg(message, values, is_summary) => {
             one_message(alloc, scope, told, *message, values, *is_summary)
         }
     }

@@ -15,10 +15,12 @@ use Rattle.cse_logic_tree.specs.declared.tree.Field.{Field}
 use Rattle.cse_logic_tree.specs.declared.tree.Present.{Present}
 use Rattle.cse_logic_tree.specs.declared.tree.Pick.{Pick}
 use Rattle.cse_logic_tree.specs.declared.tree.Owner.{Owner}
-use Rattle.cse_logic_tree.specs.declared.tree.Number as rust
-use Rattle.cse_logic_tree.specs.declared.tree.Number.TheVariants as n
-use Rattle.cse_logic_tree.specs.declared.tree.Words as rustw
-use Rattle.cse_logic_tree.specs.declared.tree.Words.TheVariants as w
+use Rattle.cse_logic_tree.specs.declared.tree.Number as rustnumber
+use Rattle.cse_logic_tree.specs.declared.tree.NumberKind as rust
+use Rattle.cse_logic_tree.specs.declared.tree.NumberKind.TheVariants as n
+use Rattle.cse_logic_tree.specs.declared.tree.Words as rustwords
+use Rattle.cse_logic_tree.specs.declared.tree.WordsKind as rustw
+use Rattle.cse_logic_tree.specs.declared.tree.WordsKind.TheVariants as w
 use Rattle.cse_logic_tree.specs.declared.tree.Operation as rustop
 use Rattle.cse_logic_tree.specs.declared.tree.Which as rustwhich
 use Rattle.cse_logic_tree.specs.declared.tree.Which.TheVariants as h
@@ -28,8 +30,9 @@ use Rattle.cse_logic_tree.specs.declared.tree.Whole as rustwhole
 use Rattle.cse_logic_tree.specs.declared.tree.Limit as rustlimit
 use Rattle.cse_logic_tree.specs.declared.tree.Limit.TheVariants as l
 use Rattle.cse_logic_tree.specs.declared.tree.Counting as rustcounting
-use Rattle.cse_logic_tree.specs.declared.tree.Statement as rusts
-use Rattle.cse_logic_tree.specs.declared.tree.Statement.TheVariants as s
+use Rattle.cse_logic_tree.specs.declared.tree.Statement as ruststatement
+use Rattle.cse_logic_tree.specs.declared.tree.StatementKind as rusts
+use Rattle.cse_logic_tree.specs.declared.tree.StatementKind.TheVariants as s
 use Rattle.cse_logic_tree.specs.declared.tree.Arm as rustarm
 use Rattle.cse_logic_tree.specs.declared.tree.Dimension as rustdimension
 use Rattle.cse_logic_tree.specs.declared.tree.Dimension.TheVariants as d
@@ -92,42 +95,48 @@ operations [] = no_operation
 operations (x ∷ xs) = operation_and x.0 x.1 (operations xs)
 
 abbrev mutual
-  pub number : rust.Number → Number
-  number (n.Literal x value) = Constant (written x) value
-  number (n.Special t value) = Special' t value
-  number (n.Variable x variable) = Variable' (written x) variable
-  number (n.Item x item) = Item (written x) item
-  number (n.ItemAt' x field p e) = ItemAt (written x) field (number e)
-  number (n.Cell' x array m row) = Cell (written x) array (number_row row)
-  number (n.Call' x function m row) = Call (written x) function (number_row row)
-  number (n.Group' p x) = Group (number x)
-  number (n.Int' p x) = Int (number x)
-  number (n.IsSpecial' p x) = IsSpecial (number x)
-  number (n.Deck x array picks) = Deck (written x) array picks.items
-  number (n.TotOcc x of) = TotOcc (written x) of
-  number (n.MaxOcc x of) = MaxOcc (written x) of
-  number (n.CurOcc x of found) = CurOcc (written x) of found
-  number (n.InSet x item set_name set) = InSet (written x) item (option_map written set_name) set
-  number (n.Minus' p x) = Minus (number x)
-  number (n.Not' p x) = Not (number x)
-  number (n.Compare' p x relation q y) = Compare relation (number x) (number y)
-  number (n.CompareTexts' p x relation q y) = CompareTexts relation (words x) (words y)
-  number (n.Chain' p x m row) = Chain (number x) (operation_row row)
+  pub number_kind : rust.NumberKind → Number
+  number_kind (n.Literal x value) = Constant (written x) value
+  number_kind (n.Special t value) = Special' t value
+  number_kind (n.Variable x variable) = Variable' (written x) variable
+  number_kind (n.Item x item) = Item (written x) item
+  number_kind (n.ItemAt' x field p e) = ItemAt (written x) field (number_kind e)
+  number_kind (n.Cell' x array m row) = Cell (written x) array (number_row row)
+  number_kind (n.Call' x function m row) = Call (written x) function (number_row row)
+  number_kind (n.Group' p x) = Group (number_kind x)
+  number_kind (n.Int' p x) = Int (number_kind x)
+  number_kind (n.IsSpecial' p x) = IsSpecial (number_kind x)
+  number_kind (n.Deck x array picks) = Deck (written x) array picks.items
+  number_kind (n.TotOcc x of) = TotOcc (written x) of
+  number_kind (n.MaxOcc x of) = MaxOcc (written x) of
+  number_kind (n.CurOcc x of found) = CurOcc (written x) of found
+  number_kind (n.InSet x item set_name set) = InSet (written x) item (option_map written set_name) set
+  number_kind (n.Minus' p x) = Minus (number_kind x)
+  number_kind (n.Not' p x) = Not (number_kind x)
+  number_kind (n.Compare' p x relation q y) = Compare relation (number_kind x) (number_kind y)
+  number_kind (n.CompareTexts' p x relation q y) = CompareTexts relation (words_kind x) (words_kind y)
+  number_kind (n.Chain' p x m row) = Chain (number_kind x) (operation_row row)
 
-  pub words : rustw.Words → Words
-  words (w.Literal x) = Quoted (written x)
-  words (w.Global x variable) = TextGlobal (written x) variable
-  words (w.Item x item) = TextItem (written x) item
-  words (w.ItemAt' x field p e) = TextItemAt (written x) field (number e)
-  words (w.Group' p x) = TextGroup (words x)
+  pub words_kind : rustw.WordsKind → Words
+  words_kind (w.Literal x) = Quoted (written x)
+  words_kind (w.Global x variable) = TextGlobal (written x) variable
+  words_kind (w.Item x item) = TextItem (written x) item
+  words_kind (w.ItemAt' x field p e) = TextItemAt (written x) field (number_kind e)
+  words_kind (w.Group' p x) = TextGroup (words_kind x)
 
   pub number_row : {m : _} → rust.Row_of-Number m → Numbers
   number_row rust.end_of-Number = no_number
-  number_row (rust.more_of-Number x xs) = number_and (number x) (number_row xs)
+  number_row (rust.more_of-Number p x xs) = number_and (number_kind x) (number_row xs)
 
   pub operation_row : {m : _} → rust.Row_of-Operation m → Operations
   operation_row rust.end_of-Operation = no_operation
-  operation_row (rust.more_of-Operation operator x xs) = operation_and operator (number x) (operation_row xs)
+  operation_row (rust.more_of-Operation operator p x xs) = operation_and operator (number_kind x) (operation_row xs)
+
+abbrev pub number : rustnumber.Number → Number
+number x = number_kind x.kind.value
+
+abbrev pub words : rustwords.Words → Words
+words x = words_kind x.kind.value
 
 abbrev pub operation_tree : rustop.Operation → Operator × Number
 operation_tree x = (x.operator, number x.operand)
@@ -225,41 +234,44 @@ counting x = record {
 }
 
 abbrev mutual
-  pub statement : rusts.Statement → Statement
-  statement s.Empty = Empty
-  statement (s.Set x variable value) = Set (written x) variable (number value)
-  statement (s.SetText x variable value) = SetText (written x) variable (words value)
-  statement (s.SetItem x field place value) = SetItem (written x) field (which place) (number value)
-  statement (s.SetTextItem x field place value) = SetTextItem (written x) field (which place) (words value)
-  statement (s.SetCell x array subscripts value) = SetCell (written x) array (numbers (map number subscripts.items)) (number value)
-  statement (s.Call x function arguments) = CallOf (written x) function (numbers (map number arguments.items))
-  statement (s.If' condition n body k others otherwise) = If (number condition) (statement_row body) (arm_row others (otherwise_of otherwise))
-  statement (s.For' x variable y of n body) = For (written x) variable (written y) of (statement_row body)
-  statement (s.Do' c n body) = Do (counting c) (statement_row body)
-  statement (s.Jump t jump) = Jump' t jump
-  statement (s.Impute x field place value) = Impute (written x) field (which place) (number value)
-  statement (s.PutDeck x array picks value) = PutDeck (written x) array picks.items (number value)
-  statement (s.ErrMsg x index values summary) = ErrMsg (message x) index (map argument values.items) summary
+  pub statement_kind : rusts.StatementKind → Statement
+  statement_kind s.Empty = Empty
+  statement_kind (s.Set x variable value) = Set (written x) variable (number value)
+  statement_kind (s.SetText x variable value) = SetText (written x) variable (words value)
+  statement_kind (s.SetItem x field place value) = SetItem (written x) field (which place) (number value)
+  statement_kind (s.SetTextItem x field place value) = SetTextItem (written x) field (which place) (words value)
+  statement_kind (s.SetCell x array subscripts value) = SetCell (written x) array (numbers (map number subscripts.items)) (number value)
+  statement_kind (s.Call x function arguments) = CallOf (written x) function (numbers (map number arguments.items))
+  statement_kind (s.If' (rustarm.Arm' condition n body) k others otherwise) = If (number condition) (statement_row body) (arm_row others (otherwise_of otherwise))
+  statement_kind (s.For' x variable y of n body) = For (written x) variable (written y) of (statement_row body)
+  statement_kind (s.Do' c n body) = Do (counting c) (statement_row body)
+  statement_kind (s.Jump t jump) = Jump' t jump
+  statement_kind (s.Impute x field place value) = Impute (written x) field (which place) (number value)
+  statement_kind (s.PutDeck x array picks value) = PutDeck (written x) array picks.items (number value)
+  statement_kind (s.ErrMsg x index values summary) = ErrMsg (message x) index (map argument values.items) summary
 
   pub statement_row : {n : _} → rusts.Row_of-Statement n → Statements
   statement_row rusts.end_of-Statement = no_statement
-  statement_row (rusts.more_of-Statement x xs) = statement_and (statement x) (statement_row xs)
+  statement_row (rusts.more_of-Statement p x xs) = statement_and (statement_kind x) (statement_row xs)
 
   pub arm_row : {n : _} → rusts.Row_of-Arm n → Arms → Arms
   arm_row rusts.end_of-Arm otherwise = otherwise
-  arm_row (rusts.more_of-Arm condition n body xs) otherwise = arm (number condition) (statement_row body) (arm_row xs otherwise)
+  arm_row (rusts.more_of-Arm (rustarm.Arm' condition n body) xs) otherwise = arm (number condition) (statement_row body) (arm_row xs otherwise)
 
-  pub otherwise_of : rusts.Held-Statement-If-2 → Arms
+  pub otherwise_of : rusts.Held-StatementKind-If-2 → Arms
   otherwise_of rusts.None' = no_arm
   otherwise_of (rusts.Some' n body) = else_of (statement_row body)
 
-abbrev pub block : List rusts.Statement → Statements
+abbrev pub statement : ruststatement.Statement → Statement
+statement x = statement_kind x.kind.value
+
+abbrev pub block : List ruststatement.Statement → Statements
 block xs = statements (map statement xs)
 
 abbrev pub arm_tree : rustarm.Arm → Number × Statements
-arm_tree a = (number a.condition, block a.body.items)
+arm_tree a = (number (rustarm.out-Arm a).condition, block (rustarm.out-Arm a).body.items)
 
-abbrev pub otherwise_tree : Option (Vec rusts.Statement) → Arms
+abbrev pub otherwise_tree : Option (Vec ruststatement.Statement) → Arms
 otherwise_tree None = no_arm
 otherwise_tree (Some body) = else_of (block body.items)
 

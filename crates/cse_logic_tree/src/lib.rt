@@ -13,6 +13,6 @@ mod tree;
 pub use laws::tokens_are_counted;
 pub use tree::{
     Argument, Arm, Array, Body, Counting, Declaration, Dimension, Field, Found, Function, Limit,
-    MessageEntry, Number, Operation, Owner, Pick, Present, Procedure, Statement, Tree, Variable,
-    Which, Whole, Words,
+    MessageEntry, Number, NumberKind, Operation, Owner, Pick, Present, Procedure, Statement,
+    StatementKind, Tree, Variable, Which, Whole, Words, WordsKind,
 };

@@ -1,5 +1,6 @@
 //! Trees of logic in which each name stands beside what it names.
 //!
+//! A node is a handle, and what it is stands behind a box (`Number { kind: Box<NumberKind> }`): so whatever holds a node is small.
 //! A number and a text are of different types, so that no text stands where a number is wanted. Names are slices of
 //! the source with their tokens, as in the trees of syntax. Globals, arrays, functions and messages are numbered from
 //! 0 in order of the source; items, records and value sets as in the dictionary.
@@ -60,7 +61,21 @@ pub struct Pick {
 
 /// A numeric expression, each name beside what it names.
 #[cycle(value)]
-pub enum Number<'a> {
+pub struct Number<'a> {
+    pub kind: Box<NumberKind<'a>>,
+}
+
+impl Drop for Number<'_> {
+    #[cycle(value)]
+    fn drop(self) {
+        let Number { kind } = self;
+        drop(kind);
+    }
+}
+
+/// What a numeric expression is.
+#[cycle(value)]
+pub enum NumberKind<'a> {
     /// With the number that the digits write.
     Literal(Lexeme<'a>, i64),
     /// With its token.
@@ -68,15 +83,15 @@ pub enum Number<'a> {
     Variable(Lexeme<'a>, Variable),
     Item(Lexeme<'a>, Present),
     /// With a subscript.
-    ItemAt(Lexeme<'a>, Field, Box<Number<'a>>),
+    ItemAt(Lexeme<'a>, Field, Number<'a>),
     /// A cell of an array, by its subscripts.
     Cell(Lexeme<'a>, usize, Vec<Number<'a>>),
     /// A call of a function.
     Call(Lexeme<'a>, usize, Vec<Number<'a>>),
     /// In parentheses.
-    Group(Box<Number<'a>>),
-    Int(Box<Number<'a>>),
-    IsSpecial(Box<Number<'a>>),
+    Group(Number<'a>),
+    Int(Number<'a>),
+    IsSpecial(Number<'a>),
     /// The cell of a hot deck.
     Deck(Lexeme<'a>, usize, Vec<Pick>),
     TotOcc(Lexeme<'a>, u8),
@@ -84,45 +99,45 @@ pub enum Number<'a> {
     CurOcc(Lexeme<'a>, u8, Found),
     /// Whether an item's value is in a set, with the set's name where one stands there.
     InSet(Lexeme<'a>, Present, Option<Lexeme<'a>>, u16),
-    Minus(Box<Number<'a>>),
-    Not(Box<Number<'a>>),
-    Compare(Box<Number<'a>>, Relation, Box<Number<'a>>),
-    CompareTexts(Box<Words<'a>>, Relation, Box<Words<'a>>),
+    Minus(Number<'a>),
+    Not(Number<'a>),
+    Compare(Number<'a>, Relation, Number<'a>),
+    CompareTexts(Words<'a>, Relation, Words<'a>),
     /// Operands of one level with its operators between them, which group to the left.
-    Chain(Box<Number<'a>>, Vec<Operation<'a>>),
+    Chain(Number<'a>, Vec<Operation<'a>>),
 }
 
 // Its drop is written out, as those of the trees below: what owns a tree calls it. A derived one is laid out, with a part for
 // each kind of node, wherever a tree may be dropped, in the crates above too.
-impl Drop for Number<'_> {
+impl Drop for NumberKind<'_> {
     #[cycle(value)]
     fn drop(self) {
         match self {
-            Number::Literal(_, _)
-            | Number::Special(_, _)
-            | Number::Variable(_, _)
-            | Number::Item(_, _)
-            | Number::TotOcc(_, _)
-            | Number::MaxOcc(_, _)
-            | Number::CurOcc(_, _, _)
-            | Number::InSet(_, _, _, _) => {}
-            Number::Deck(_, _, picks) => drop(picks),
-            Number::ItemAt(_, _, x)
-            | Number::Group(x)
-            | Number::Int(x)
-            | Number::IsSpecial(x)
-            | Number::Minus(x)
-            | Number::Not(x) => drop(x),
-            Number::Cell(_, _, inner) | Number::Call(_, _, inner) => drop(inner),
-            Number::Compare(left, _, right) => {
+            NumberKind::Literal(_, _)
+            | NumberKind::Special(_, _)
+            | NumberKind::Variable(_, _)
+            | NumberKind::Item(_, _)
+            | NumberKind::TotOcc(_, _)
+            | NumberKind::MaxOcc(_, _)
+            | NumberKind::CurOcc(_, _, _)
+            | NumberKind::InSet(_, _, _, _) => {}
+            NumberKind::Deck(_, _, picks) => drop(picks),
+            NumberKind::ItemAt(_, _, x)
+            | NumberKind::Group(x)
+            | NumberKind::Int(x)
+            | NumberKind::IsSpecial(x)
+            | NumberKind::Minus(x)
+            | NumberKind::Not(x) => drop(x),
+            NumberKind::Cell(_, _, inner) | NumberKind::Call(_, _, inner) => drop(inner),
+            NumberKind::Compare(left, _, right) => {
                 drop(left);
                 drop(right);
             }
-            Number::CompareTexts(left, _, right) => {
+            NumberKind::CompareTexts(left, _, right) => {
                 drop(left);
                 drop(right);
             }
-            Number::Chain(first, others) => {
+            NumberKind::Chain(first, others) => {
                 drop(first);
                 drop(others);
             }
@@ -132,24 +147,38 @@ impl Drop for Number<'_> {
 
 /// A text.
 #[cycle(value)]
-pub enum Words<'a> {
-    /// In quotes.
-    Literal(Lexeme<'a>),
-    Global(Lexeme<'a>, usize),
-    Item(Lexeme<'a>, Present),
-    /// With a subscript.
-    ItemAt(Lexeme<'a>, Field, Box<Number<'a>>),
-    /// In parentheses.
-    Group(Box<Words<'a>>),
+pub struct Words<'a> {
+    pub kind: Box<WordsKind<'a>>,
 }
 
 impl Drop for Words<'_> {
     #[cycle(value)]
     fn drop(self) {
+        let Words { kind } = self;
+        drop(kind);
+    }
+}
+
+/// What a text is.
+#[cycle(value)]
+pub enum WordsKind<'a> {
+    /// In quotes.
+    Literal(Lexeme<'a>),
+    Global(Lexeme<'a>, usize),
+    Item(Lexeme<'a>, Present),
+    /// With a subscript.
+    ItemAt(Lexeme<'a>, Field, Number<'a>),
+    /// In parentheses.
+    Group(Words<'a>),
+}
+
+impl Drop for WordsKind<'_> {
+    #[cycle(value)]
+    fn drop(self) {
         match self {
-            Words::Literal(_) | Words::Global(_, _) | Words::Item(_, _) => {}
-            Words::ItemAt(_, _, x) => drop(x),
-            Words::Group(x) => drop(x),
+            WordsKind::Literal(_) | WordsKind::Global(_, _) | WordsKind::Item(_, _) => {}
+            WordsKind::ItemAt(_, _, x) => drop(x),
+            WordsKind::Group(x) => drop(x),
         }
     }
 }
@@ -208,7 +237,21 @@ pub struct Counting<'a> {
 
 /// A statement, each name beside what it names.
 #[cycle(action)]
-pub enum Statement<'a> {
+pub struct Statement<'a> {
+    pub kind: Box<StatementKind<'a>>,
+}
+
+impl Drop for Statement<'_> {
+    #[cycle(action)]
+    fn drop(self) {
+        let Statement { kind } = self;
+        drop(kind);
+    }
+}
+
+/// What a statement is.
+#[cycle(action)]
+pub enum StatementKind<'a> {
     Empty,
     Set(Lexeme<'a>, Variable, Number<'a>),
     SetText(Lexeme<'a>, usize, Words<'a>),
@@ -230,37 +273,38 @@ pub enum Statement<'a> {
     ErrMsg(Message<'a>, usize, Vec<Argument<'a>>, bool),
 }
 
-impl Drop for Statement<'_> {
+impl Drop for StatementKind<'_> {
     #[cycle(action)]
     fn drop(self) {
         match self {
-            Statement::Empty | Statement::Jump(_, _) => {}
-            Statement::Set(_, _, value) => drop(value),
-            Statement::SetText(_, _, text) => drop(text),
-            Statement::SetItem(_, _, which, value) | Statement::Impute(_, _, which, value) => {
+            StatementKind::Empty | StatementKind::Jump(_, _) => {}
+            StatementKind::Set(_, _, value) => drop(value),
+            StatementKind::SetText(_, _, text) => drop(text),
+            StatementKind::SetItem(_, _, which, value)
+            | StatementKind::Impute(_, _, which, value) => {
                 drop(which);
                 drop(value);
             }
-            Statement::SetTextItem(_, _, which, text) => {
+            StatementKind::SetTextItem(_, _, which, text) => {
                 drop(which);
                 drop(text);
             }
-            Statement::SetCell(_, _, subscripts, value) => {
+            StatementKind::SetCell(_, _, subscripts, value) => {
                 drop(subscripts);
                 drop(value);
             }
-            Statement::PutDeck(_, _, picks, value) => {
+            StatementKind::PutDeck(_, _, picks, value) => {
                 drop(picks);
                 drop(value);
             }
-            Statement::Call(_, _, arguments) => drop(arguments),
-            Statement::ErrMsg(_, _, values, _) => drop(values),
-            Statement::If(first, others, otherwise) => {
+            StatementKind::Call(_, _, arguments) => drop(arguments),
+            StatementKind::ErrMsg(_, _, values, _) => drop(values),
+            StatementKind::If(first, others, otherwise) => {
                 drop(first);
                 drop(others);
                 drop(otherwise);
             }
-            Statement::For(_, _, _, _, body) | Statement::Do(_, body) => drop(body),
+            StatementKind::For(_, _, _, _, body) | StatementKind::Do(_, body) => drop(body),
         }
     }
 }

@@ -1,10 +1,10 @@
 //! From tokens to expressions, one method a rule of the grammar. `room` is how many more parentheses and
 //! statements may be open, so no text makes the methods call themselves without end.
 
-ghost use Rattle.std.specs.Prelude.{◌≡◌, [], ◌∷◌, length, map};
+ghost use Rattle.std.specs.Prelude.{◌≡◌, [], ◌∷◌, Some, length, map};
 ghost use Rattle.cse_syntax_tree.specs.Word.{words};
 ghost use Rattle.cse_syntax_tree.specs.Tree as tree;
-ghost use Rattle.cse_syntax_tree.specs.Tree.{written, expr, exprs, operation_tree, Compare};
+ghost use Rattle.cse_syntax_tree.specs.Tree.{written, expr, expr_kind, exprs, operation_tree, Compare};
 ghost use Rattle.std.specs.Option.{option_map};
 ghost use Rattle.cse_syntax.specs.Reading as spec;
 ghost use Rattle.cse_syntax.specs.Reading.{Reads, Makes};
@@ -12,7 +12,8 @@ ghost use Rattle.cse_syntax.specs.Reading.{Reads, Makes};
 use crate::error::ReadError;
 use crate::parser::{Level, Parser, refused};
 use cse_syntax_tree::{
-    Expression, Function, Kind, Lexeme, Mark, Operation, Query, Relation, Token, is_within,
+    Expression, ExpressionKind, Function, Kind, Lexeme, Mark, Operation, Query, Relation, Token,
+    is_within,
 };
 use std::alloc::Global;
 
@@ -20,6 +21,25 @@ use std::alloc::Global;
 pub const MOST: u64 = 9_223_372_036_854_775_807;
 
 impl<'t, 'a> Parser<'t, 'a> {
+    /// An expression of this kind, for which nothing more is read.
+    fn expression_of(&self, kind: ExpressionKind<'a>) -> Result<Expression<'a>, ReadError>
+        ensures { Reads expr (λ ws. Some (expr_kind kind.entry, ws)) result self.now.rest.now self.now.rest.now }
+    {
+        Ok(Expression::new(self.alloc, kind)?)
+    }
+
+    /// A name and what stands in parentheses after it.
+    fn indexed(
+        &self,
+        name: Lexeme<'a>,
+        arguments: Vec<Expression<'a>>,
+    ) -> Result<Expression<'a>, ReadError>
+        ensures { Reads expr (λ ws. Some (tree.Indexed (written name.entry) (exprs (map expr arguments.entry.items)), ws))
+            result self.now.rest.now self.now.rest.now }
+    {
+        self.expression_of(ExpressionKind::Indexed(name, arguments))
+    }
+
     /// An expression behind one more parenthesis or statement.
     #[cycle(expression)]
     #[tactic(auto, unfolding(crate::specs::Reading::nested, crate::specs::Reading::disjunction))]
@@ -88,12 +108,12 @@ impl<'t, 'a> Parser<'t, 'a> {
     /// An expression, up to the parenthesis that closes it.
     #[cycle(expression)]
     #[tactic(auto, unfolding(crate::specs::Reading::closed))]
-    fn closed(&mut self, room: usize) -> Result<Box<Expression<'a>>, ReadError>
-        ensures { Reads (λ b. expr b.value) (spec.closed room (spec.nested room)) result self.old.rest.now self.new.rest.now }
+    fn closed(&mut self, room: usize) -> Result<Expression<'a>, ReadError>
+        ensures { Reads expr (spec.closed room (spec.nested room)) result self.old.rest.now self.new.rest.now }
     {
         let inner = self.nested(room)?;
         self.expect(Mark::Close)?;
-        boxed(self.alloc, inner)
+        Ok(inner)
     }
 
     #[cycle(expression)]
@@ -103,7 +123,7 @@ impl<'t, 'a> Parser<'t, 'a> {
     {
         self.enter(room)?;
         let argument = self.closed(room)?;
-        Ok(Expression::Apply(function, argument))
+        self.expression_of(ExpressionKind::Apply(function, argument))
     }
 
     #[tactic(auto, unfolding(crate::specs::Reading::query))]
@@ -112,7 +132,7 @@ impl<'t, 'a> Parser<'t, 'a> {
     {
         self.enter(room)?;
         let name = self.name_before(Mark::Close)?;
-        Ok(Expression::Query(query, name))
+        self.expression_of(ExpressionKind::Query(query, name))
     }
 
     /// The set after an item, if one stands there.
@@ -135,7 +155,7 @@ impl<'t, 'a> Parser<'t, 'a> {
         let item = self.name()?;
         let set = self.set_after()?;
         self.expect(Mark::Close)?;
-        Ok(Expression::InValueSet(item, set))
+        self.expression_of(ExpressionKind::InValueSet(item, set))
     }
 
     /// What begins with a reserved word or a symbol, which is the last token.
@@ -152,7 +172,7 @@ impl<'t, 'a> Parser<'t, 'a> {
         match mark {
             Mark::Open => {
                 let inner = self.closed(room)?;
-                Ok(Expression::Group(inner))
+                self.expression_of(ExpressionKind::Group(inner))
             }
             Mark::Int => self.apply(room, Function::Int),
             Mark::Special => self.apply(room, Function::Special),
@@ -176,27 +196,30 @@ impl<'t, 'a> Parser<'t, 'a> {
         };
         match first.kind {
             Kind::Number if is_within(0, MOST, first.text) => {
-                Ok(Expression::Number(Lexeme {
+                self.expression_of(ExpressionKind::Number(Lexeme {
                     token: first.index,
                     text: first.text,
                 }))
             }
             Kind::Number => Err(self.out_of_range()),
-            Kind::Text => Ok(Expression::Text(Lexeme {
+            Kind::Text => self.expression_of(ExpressionKind::Text(Lexeme {
                 token: first.index,
                 text: first.text,
             })),
-            Kind::Special(special) => Ok(Expression::Special(first.index, special)),
+            Kind::Special(special) => self.expression_of(ExpressionKind::Special(
+                first.index,
+                special,
+            )),
             Kind::Name => {
                 let name = Lexeme {
                     token: first.index,
                     text: first.text,
                 };
                 if !self.sees(Mark::Open) {
-                    return Ok(Expression::Name(name));
+                    return self.expression_of(ExpressionKind::Name(name));
                 }
                 let arguments = self.arguments(room)?;
-                Ok(indexed(name, arguments))
+                self.indexed(name, arguments)
             }
             Kind::Mark(mark) => self.marked(room, mark, first),
             _ => Err(refused(&first)),
@@ -212,7 +235,7 @@ impl<'t, 'a> Parser<'t, 'a> {
             return self.prim(room);
         }
         let operand = self.prim(room)?;
-        Ok(Expression::Minus(boxed(self.alloc, operand)?))
+        self.expression_of(ExpressionKind::Minus(operand))
     }
 
     /// Operands of a level, with its operators between them.
@@ -260,7 +283,7 @@ impl<'t, 'a> Parser<'t, 'a> {
             return self.relation(room);
         }
         let operand = self.relation(room)?;
-        Ok(Expression::Not(boxed(self.alloc, operand)?))
+        self.expression_of(ExpressionKind::Not(operand))
     }
 
     #[cycle(expression)]
@@ -285,11 +308,11 @@ impl<'t, 'a> Parser<'t, 'a> {
     }
 }
 
-/// A tree in memory of its own.
-fn boxed<'a>(alloc: Global, tree: Expression<'a>) -> Result<Box<Expression<'a>>, ReadError>
-    ensures { Makes (λ b. expr b.value) result (expr tree.entry) }
+/// A node of this kind.
+fn made<'a>(alloc: Global, kind: ExpressionKind<'a>) -> Result<Expression<'a>, ReadError>
+    ensures { Makes expr result (expr_kind kind.entry) }
 {
-    Ok(Box::new(alloc, tree)?)
+    Ok(Expression::new(alloc, kind)?)
 }
 
 fn compare<'a>(
@@ -300,23 +323,19 @@ fn compare<'a>(
 ) -> Result<Expression<'a>, ReadError>
     ensures { Makes expr result (Compare relation (expr left.entry) (expr right.entry)) }
 {
-    let left = boxed(alloc, left)?;
-    let right = boxed(alloc, right)?;
-    Ok(Expression::Compare(left, relation, right))
+    made(alloc, ExpressionKind::Compare(left, relation, right))
 }
 
 // A node that holds a `Vec` is made in a function of its own, whose clause is its view.
 
-fn indexed<'a>(name: Lexeme<'a>, arguments: Vec<Expression<'a>>) -> Expression<'a>
-    ensures { expr result ≡ tree.Indexed (written name.entry) (exprs (map expr arguments.entry.items)) }
+fn chain_of<'a>(
+    alloc: Global,
+    first: Expression<'a>,
+    rest: Vec<Operation<'a>>,
+) -> Result<Expression<'a>, ReadError>
+    ensures { Makes expr result (tree.Chain (expr first.entry) (tree.operations (map operation_tree rest.entry.items))) }
 {
-    Expression::Indexed(name, arguments)
-}
-
-fn chain_of<'a>(first: Box<Expression<'a>>, rest: Vec<Operation<'a>>) -> Expression<'a>
-    ensures { expr result ≡ tree.Chain (expr first.entry.value) (tree.operations (map operation_tree rest.entry.items)) }
-{
-    Expression::Chain(first, rest)
+    made(alloc, ExpressionKind::Chain(first, rest))
 }
 
 fn chained<'a>(
@@ -329,5 +348,5 @@ fn chained<'a>(
     if rest.is_empty() {
         return Ok(first);
     }
-    Ok(chain_of(boxed(alloc, first)?, rest))
+    chain_of(alloc, first, rest)
 }

@@ -22,9 +22,9 @@ mod statement;
 mod word;
 
 pub use cse_syntax_tree::{
-    Arm, Array, Body, Count, Counting, Declaration, Dimension, Expression, Function, Jump, Kind,
-    Lexeme, Limit, Literal, Mark, Message, Operation, Operator, Parameter, Place, Procedure, Query,
-    Relation, Special, Statement, Token, Tree, number_of,
+    Arm, Array, Body, Count, Counting, Declaration, Dimension, Expression, ExpressionKind,
+    Function, Jump, Kind, Lexeme, Limit, Literal, Mark, Message, Operation, Operator, Parameter,
+    Place, Procedure, Query, Relation, Special, Statement, StatementKind, Token, Tree, number_of,
 };
 pub use error::SyntaxError;
 pub use laws::{longest_tokens, one_tree, skipped_text};

@@ -1,11 +1,11 @@
 //! From tokens to statements, one method a rule of the grammar.
 
-ghost use Rattle.std.specs.Prelude.{◌≡◌, ◌<◌, IfOk, [], ◌∷◌, length, map};
+ghost use Rattle.std.specs.Prelude.{◌≡◌, ◌<◌, IfOk, [], ◌∷◌, Some, length, map};
 ghost use Rattle.std.specs.Option.{option_map};
 ghost use Rattle.std.specs.Str.{str_eq_ignore_ascii_case};
 ghost use Rattle.cse_syntax_tree.specs.Word.{words};
 ghost use Rattle.cse_syntax_tree.specs.Tree as tree;
-ghost use Rattle.cse_syntax_tree.specs.Tree.{written, expr, exprs, stmt, stmts, block, arms, arm_tree, otherwise_tree};
+ghost use Rattle.cse_syntax_tree.specs.Tree.{written, expr, exprs, stmt, stmt_kind, stmts, block, arms, arm_tree, otherwise_tree};
 ghost use Rattle.cse_syntax.specs.Reading as spec;
 ghost use Rattle.cse_syntax.specs.Reading.{Reads};
 ghost use Rattle.cse_syntax.specs.ReadingStmt as rule;
@@ -15,7 +15,7 @@ use crate::expression::MOST;
 use crate::parser::{Parser, refused};
 use cse_syntax_tree::{
     Arm, Count, Counting, Expression, Jump, Kind, Lexeme, Limit, Literal, Mark, Message, Place,
-    Statement, Token, is_within,
+    Statement, StatementKind, Token, is_within,
 };
 
 /// The greatest limit of a `do`, and its greatest step.
@@ -45,6 +45,50 @@ fn is_same_name(a: &str, b: &str) -> bool
 }
 
 impl<'t, 'a> Parser<'t, 'a> {
+    /// A statement of this kind, for which nothing more is read.
+    fn statement_of(&self, kind: StatementKind<'a>) -> Result<Statement<'a>, ReadError>
+        ensures { Reads stmt (λ ws. Some (stmt_kind kind.entry, ws)) result self.now.rest.now self.now.rest.now }
+    {
+        Ok(Statement::new(self.alloc, kind)?)
+    }
+
+    // A node that holds a `Vec` of statements is made in a function of its own, whose clause is its view.
+
+    fn if_node(
+        &self,
+        first: Arm<'a>,
+        others: Vec<Arm<'a>>,
+        otherwise: Option<Vec<Statement<'a>>>,
+    ) -> Result<Statement<'a>, ReadError>
+        ensures { Reads stmt (λ ws. Some (tree.If (arm_tree first.entry).0 (arm_tree first.entry).1 (arms (map arm_tree others.entry.items) (otherwise_tree otherwise.entry)), ws))
+            result self.now.rest.now self.now.rest.now }
+    {
+        self.statement_of(StatementKind::If(first, others, otherwise))
+    }
+
+    fn for_node(
+        &self,
+        variable: Lexeme<'a>,
+        record_name: Lexeme<'a>,
+        body: Vec<Statement<'a>>,
+    ) -> Result<Statement<'a>, ReadError>
+        ensures { Reads stmt (λ ws. Some (tree.For (written variable.entry) (written record_name.entry) (block body.entry.items), ws))
+            result self.now.rest.now self.now.rest.now }
+    {
+        self.statement_of(StatementKind::For(variable, record_name, body))
+    }
+
+    fn do_node(
+        &self,
+        counting: Counting<'a>,
+        body: Vec<Statement<'a>>,
+    ) -> Result<Statement<'a>, ReadError>
+        ensures { Reads stmt (λ ws. Some (tree.Do (tree.counting counting.entry) (block body.entry.items), ws))
+            result self.now.rest.now self.now.rest.now }
+    {
+        self.statement_of(StatementKind::Do(counting, body))
+    }
+
     fn starts_statement(&self) -> bool
         ensures { result ≡ rule.starts_stmt (words self.now.rest.now) }
     {
@@ -205,7 +249,7 @@ impl<'t, 'a> Parser<'t, 'a> {
     {
         let value = self.expression(room)?;
         self.expect(Mark::Semicolon)?;
-        Ok(Statement::Assign(Place { name, subscripts }, value))
+        self.statement_of(StatementKind::Assign(Place { name, subscripts }, value))
     }
 
     /// What stands after a name and its parentheses: a value, if there was something in them, or nothing.
@@ -222,7 +266,7 @@ impl<'t, 'a> Parser<'t, 'a> {
             return self.assigned(room, name, arguments);
         }
         self.expect(Mark::Semicolon)?;
-        Ok(Statement::Call(name, arguments))
+        self.statement_of(StatementKind::Call(name, arguments))
     }
 
     /// What stands after a name that begins a statement.
@@ -246,7 +290,7 @@ impl<'t, 'a> Parser<'t, 'a> {
         let deck = self.name_before(Mark::Comma)?;
         let value = self.nested(room)?;
         self.ends(Mark::Close)?;
-        Ok(Statement::PutDeck(deck, value))
+        self.statement_of(StatementKind::PutDeck(deck, value))
     }
 
     /// Further values, each after a comma.
@@ -270,7 +314,7 @@ impl<'t, 'a> Parser<'t, 'a> {
         self.expect(Mark::Close)?;
         let is_summary = self.eat(Mark::Summary);
         self.expect(Mark::Semicolon)?;
-        Ok(Statement::ErrMsg(message, values, is_summary))
+        self.statement_of(StatementKind::ErrMsg(message, values, is_summary))
     }
 
     #[tactic(auto, unfolding(crate::specs::ReadingStmt::jump))]
@@ -278,7 +322,7 @@ impl<'t, 'a> Parser<'t, 'a> {
         ensures { Reads stmt (rule.jump room token jump) result self.old.rest.now self.new.rest.now }
     {
         self.expect(Mark::Semicolon)?;
-        Ok(Statement::Jump(token, jump))
+        self.statement_of(StatementKind::Jump(token, jump))
     }
 
     #[tactic(auto, unfolding(crate::specs::ReadingStmt::impute))]
@@ -302,7 +346,7 @@ impl<'t, 'a> Parser<'t, 'a> {
         self.expect(Mark::Comma)?;
         let value = self.expression(room)?;
         self.ends(Mark::Close)?;
-        Ok(Statement::Impute(Place { name, subscripts }, value))
+        self.statement_of(StatementKind::Impute(Place { name, subscripts }, value))
     }
 
     /// Statements, up to what begins none.
@@ -366,17 +410,17 @@ impl<'t, 'a> Parser<'t, 'a> {
         ensures { Reads stmt (rule.marked_stmt room (rule.body_at room) mark) result self.old.rest.now self.new.rest.now }
     {
         match mark {
-            Mark::Semicolon => Ok(Statement::Empty),
+            Mark::Semicolon => self.statement_of(StatementKind::Empty),
             Mark::If => self.conditional(room),
             Mark::For => {
                 let (variable, record_name) = self.visiting(room)?;
                 let body = self.body_to(room, Mark::EndDo)?;
-                Ok(for_node(variable, record_name, body))
+                self.for_node(variable, record_name, body)
             }
             Mark::Do => {
                 let counting = self.counting_at(room)?;
                 let body = self.body_to(room, Mark::EndDo)?;
-                Ok(do_node(counting, body))
+                self.do_node(counting, body)
             }
             Mark::Impute => self.impute(room),
             Mark::PutDeck => self.putdeck(room),
@@ -393,7 +437,7 @@ impl<'t, 'a> Parser<'t, 'a> {
     {
         let first = self.guarded(room)?;
         let (others, otherwise) = self.alternatives(room)?;
-        Ok(if_node(first, others, otherwise))
+        self.if_node(first, others, otherwise)
     }
 
     /// A condition and the statements that it guards.
@@ -451,33 +495,4 @@ impl<'t, 'a> Parser<'t, 'a> {
         self.ends(last)?;
         Ok(body)
     }
-}
-
-// A node that holds a `Vec` of statements is made in a function of its own, whose clause is its view.
-
-fn if_node<'a>(
-    first: Arm<'a>,
-    others: Vec<Arm<'a>>,
-    otherwise: Option<Vec<Statement<'a>>>,
-) -> Statement<'a>
-    ensures { stmt result
-        ≡ tree.If (expr first.entry.condition) (block first.entry.body.items) (arms (map arm_tree others.entry.items) (otherwise_tree otherwise.entry)) }
-{
-    Statement::If(first, others, otherwise)
-}
-
-fn for_node<'a>(
-    variable: Lexeme<'a>,
-    record_name: Lexeme<'a>,
-    body: Vec<Statement<'a>>,
-) -> Statement<'a>
-    ensures { stmt result ≡ tree.For (written variable.entry) (written record_name.entry) (block body.entry.items) }
-{
-    Statement::For(variable, record_name, body)
-}
-
-fn do_node<'a>(counting: Counting<'a>, body: Vec<Statement<'a>>) -> Statement<'a>
-    ensures { stmt result ≡ tree.Do (tree.counting counting.entry) (block body.entry.items) }
-{
-    Statement::Do(counting, body)
 }

@@ -11,8 +11,9 @@ use Rattle.cse_syntax_tree.specs.declared.tree.Query.{Query}
 use Rattle.cse_syntax_tree.specs.declared.tree.Count.{Count}
 use Rattle.cse_syntax_tree.specs.declared.tree.Jump.{Jump}
 use Rattle.cse_syntax_tree.specs.declared.tree.Lexeme.{Lexeme}
-use Rattle.cse_syntax_tree.specs.declared.tree.Expression as rust
-use Rattle.cse_syntax_tree.specs.declared.tree.Expression.TheVariants as e
+use Rattle.cse_syntax_tree.specs.declared.tree.Expression as rustexpression
+use Rattle.cse_syntax_tree.specs.declared.tree.ExpressionKind as rust
+use Rattle.cse_syntax_tree.specs.declared.tree.ExpressionKind.TheVariants as e
 use Rattle.cse_syntax_tree.specs.declared.tree.Operation as rustop
 use Rattle.cse_syntax_tree.specs.declared.tree.Literal as rustliteral
 use Rattle.cse_syntax_tree.specs.declared.tree.Limit as rustlimit
@@ -20,8 +21,9 @@ use Rattle.cse_syntax_tree.specs.declared.tree.Limit.TheVariants as l
 use Rattle.cse_syntax_tree.specs.declared.tree.Counting as rustcounting
 use Rattle.cse_syntax_tree.specs.declared.tree.Message as rustmessage
 use Rattle.cse_syntax_tree.specs.declared.tree.Message.TheVariants as g
-use Rattle.cse_syntax_tree.specs.declared.tree.Statement as rusts
-use Rattle.cse_syntax_tree.specs.declared.tree.Statement.TheVariants as s
+use Rattle.cse_syntax_tree.specs.declared.tree.Statement as ruststatement
+use Rattle.cse_syntax_tree.specs.declared.tree.StatementKind as rusts
+use Rattle.cse_syntax_tree.specs.declared.tree.StatementKind.TheVariants as s
 use Rattle.cse_syntax_tree.specs.declared.tree.Arm as rustarm
 use Rattle.cse_syntax_tree.specs.declared.tree.Dimension as rustdimension
 use Rattle.cse_syntax_tree.specs.declared.tree.Dimension.TheVariants as d
@@ -70,28 +72,31 @@ operations [] = no_operation
 operations (x ∷ xs) = operation_and x.0 x.1 (operations xs)
 
 abbrev mutual
-  pub expr : rust.Expression → Expr
-  expr (e.Number x) = Number (written x)
-  expr (e.Text x) = Text (written x)
-  expr (e.Special t value) = Special' t value
-  expr (e.Name x) = Bare (written x)
-  expr (e.Indexed' x n row) = Indexed (written x) (expr_row row)
-  expr (e.Group' p x) = Group (expr x)
-  expr (e.Apply' function p x) = Apply function (expr x)
-  expr (e.Query query x) = Query' query (written x)
-  expr (e.InValueSet x set) = InValueSet (written x) (option_map written set)
-  expr (e.Minus' p x) = Minus (expr x)
-  expr (e.Not' p x) = Not (expr x)
-  expr (e.Compare' p x relation q y) = Compare relation (expr x) (expr y)
-  expr (e.Chain' p x n row) = Chain (expr x) (operation_row row)
+  pub expr_kind : rust.ExpressionKind → Expr
+  expr_kind (e.Number x) = Number (written x)
+  expr_kind (e.Text x) = Text (written x)
+  expr_kind (e.Special t value) = Special' t value
+  expr_kind (e.Name x) = Bare (written x)
+  expr_kind (e.Indexed' x n row) = Indexed (written x) (expr_row row)
+  expr_kind (e.Group' p x) = Group (expr_kind x)
+  expr_kind (e.Apply' function p x) = Apply function (expr_kind x)
+  expr_kind (e.Query query x) = Query' query (written x)
+  expr_kind (e.InValueSet x set) = InValueSet (written x) (option_map written set)
+  expr_kind (e.Minus' p x) = Minus (expr_kind x)
+  expr_kind (e.Not' p x) = Not (expr_kind x)
+  expr_kind (e.Compare' p x relation q y) = Compare relation (expr_kind x) (expr_kind y)
+  expr_kind (e.Chain' p x n row) = Chain (expr_kind x) (operation_row row)
 
   pub expr_row : {n : _} → rust.Row_of-Expression n → Exprs
   expr_row rust.end_of-Expression = no_expr
-  expr_row (rust.more_of-Expression x xs) = expr_and (expr x) (expr_row xs)
+  expr_row (rust.more_of-Expression p x xs) = expr_and (expr_kind x) (expr_row xs)
 
   pub operation_row : {n : _} → rust.Row_of-Operation n → Operations
   operation_row rust.end_of-Operation = no_operation
-  operation_row (rust.more_of-Operation operator x xs) = operation_and operator (expr x) (operation_row xs)
+  operation_row (rust.more_of-Operation operator p x xs) = operation_and operator (expr_kind x) (operation_row xs)
+
+abbrev pub expr : rustexpression.Expression → Expr
+expr x = expr_kind x.kind.value
 
 abbrev pub operation_tree : rustop.Operation → Operator × Expr
 operation_tree x = (x.operator, expr x.operand)
@@ -165,37 +170,40 @@ message (g.Text x) = Own (written x)
 message (g.Number x) = Numbered (written x)
 
 abbrev mutual
-  pub stmt : rusts.Statement → Stmt
-  stmt s.Empty = Empty
-  stmt (s.Assign place value) = Assign (written place.name) (exprs (map expr place.subscripts.items)) (expr value)
-  stmt (s.Call x arguments) = Call (written x) (exprs (map expr arguments.items))
-  stmt (s.If' condition n body k others otherwise) = If (expr condition) (stmt_row body) (arm_row others (otherwise_of otherwise))
-  stmt (s.For' x y n body) = For (written x) (written y) (stmt_row body)
-  stmt (s.Do' c n body) = Do (counting c) (stmt_row body)
-  stmt (s.Jump t jump) = Jump' t jump
-  stmt (s.Impute place value) = Impute (written place.name) (exprs (map expr place.subscripts.items)) (expr value)
-  stmt (s.PutDeck x value) = PutDeck (written x) (expr value)
-  stmt (s.ErrMsg x values summary) = ErrMsg (message x) (exprs (map expr values.items)) summary
+  pub stmt_kind : rusts.StatementKind → Stmt
+  stmt_kind s.Empty = Empty
+  stmt_kind (s.Assign place value) = Assign (written place.name) (exprs (map expr place.subscripts.items)) (expr value)
+  stmt_kind (s.Call x arguments) = Call (written x) (exprs (map expr arguments.items))
+  stmt_kind (s.If' (rustarm.Arm' condition n body) k others otherwise) = If (expr condition) (stmt_row body) (arm_row others (otherwise_of otherwise))
+  stmt_kind (s.For' x y n body) = For (written x) (written y) (stmt_row body)
+  stmt_kind (s.Do' c n body) = Do (counting c) (stmt_row body)
+  stmt_kind (s.Jump t jump) = Jump' t jump
+  stmt_kind (s.Impute place value) = Impute (written place.name) (exprs (map expr place.subscripts.items)) (expr value)
+  stmt_kind (s.PutDeck x value) = PutDeck (written x) (expr value)
+  stmt_kind (s.ErrMsg x values summary) = ErrMsg (message x) (exprs (map expr values.items)) summary
 
   pub stmt_row : {n : _} → rusts.Row_of-Statement n → Stmts
   stmt_row rusts.end_of-Statement = no_stmt
-  stmt_row (rusts.more_of-Statement x xs) = stmt_and (stmt x) (stmt_row xs)
+  stmt_row (rusts.more_of-Statement p x xs) = stmt_and (stmt_kind x) (stmt_row xs)
 
   pub arm_row : {n : _} → rusts.Row_of-Arm n → Arms → Arms
   arm_row rusts.end_of-Arm otherwise = otherwise
-  arm_row (rusts.more_of-Arm condition n body xs) otherwise = arm (expr condition) (stmt_row body) (arm_row xs otherwise)
+  arm_row (rusts.more_of-Arm (rustarm.Arm' condition n body) xs) otherwise = arm (expr condition) (stmt_row body) (arm_row xs otherwise)
 
-  pub otherwise_of : rusts.Held-Statement-If-2 → Arms
+  pub otherwise_of : rusts.Held-StatementKind-If-2 → Arms
   otherwise_of rusts.None' = no_arm
   otherwise_of (rusts.Some' n body) = else_of (stmt_row body)
 
-abbrev pub block : List rusts.Statement → Stmts
+abbrev pub stmt : ruststatement.Statement → Stmt
+stmt x = stmt_kind x.kind.value
+
+abbrev pub block : List ruststatement.Statement → Stmts
 block xs = stmts (map stmt xs)
 
 abbrev pub arm_tree : rustarm.Arm → Expr × Stmts
-arm_tree a = (expr a.condition, block a.body.items)
+arm_tree a = (expr (rustarm.out-Arm a).condition, block (rustarm.out-Arm a).body.items)
 
-abbrev pub otherwise_tree : Option (Vec rusts.Statement) → Arms
+abbrev pub otherwise_tree : Option (Vec ruststatement.Statement) → Arms
 otherwise_tree None = no_arm
 otherwise_tree (Some body) = else_of (block body.items)
 

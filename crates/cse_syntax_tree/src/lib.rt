@@ -14,7 +14,7 @@ mod tree;
 pub use number::{is_within, number_of};
 pub use token::{Kind, Mark, Token};
 pub use tree::{
-    Arm, Array, Body, Count, Counting, Declaration, Dimension, Expression, Function, Jump, Lexeme,
-    Limit, Literal, Message, Operation, Operator, Parameter, Place, Procedure, Query, Relation,
-    Special, Statement, Tree,
+    Arm, Array, Body, Count, Counting, Declaration, Dimension, Expression, ExpressionKind,
+    Function, Jump, Lexeme, Limit, Literal, Message, Operation, Operator, Parameter, Place,
+    Procedure, Query, Relation, Special, Statement, StatementKind, Tree,
 };

@@ -1,11 +1,14 @@
-//! Syntax trees of logic. Names, numbers and texts are slices of the source, as written.
+//! Syntax trees of logic. Names, numbers and texts are slices of the source, as written. A node is a handle, and what it is stands
+//! behind a box (`Expression { kind: Box<ExpressionKind> }`): so whatever holds a node is small.
 //!
 //! Each leaf has the index of its token, counted from 0, so that a reader can tell its line and column. The token that
 //! another node begins with stands right before its first leaf: [`Expression::token`] and the like tell it.
 
-ghost use Rattle.std.specs.Prelude.{◌≡◌, ◌-◌};
-ghost use Rattle.cse_syntax_tree.specs.Tree.{expr, literal, message, stmt};
+ghost use Rattle.std.specs.Prelude.{◌≡◌, ◌-◌, IfOk};
+ghost use Rattle.cse_syntax_tree.specs.Tree.{expr, expr_kind, literal, message, stmt, stmt_kind};
 ghost use Rattle.cse_syntax_tree.specs.First.{expr_token, literal_token, message_token, stmt_token};
+
+use std::alloc::{AllocError, Global};
 
 /// A name, a number or a text (its quotes included), as written.
 #[derive(Clone, Copy)]
@@ -65,7 +68,21 @@ pub enum Query {
 
 /// An expression, as it is written.
 #[cycle(expr)]
-pub enum Expression<'a> {
+pub struct Expression<'a> {
+    pub kind: Box<ExpressionKind<'a>>,
+}
+
+impl Drop for Expression<'_> {
+    #[cycle(expr)]
+    fn drop(self) {
+        let Expression { kind } = self;
+        drop(kind);
+    }
+}
+
+/// What an expression is.
+#[cycle(expr)]
+pub enum ExpressionKind<'a> {
     Number(Lexeme<'a>),
     Text(Lexeme<'a>),
     /// With its token.
@@ -74,41 +91,41 @@ pub enum Expression<'a> {
     /// A name with parentheses after it: a place with subscripts, or a call.
     Indexed(Lexeme<'a>, Vec<Expression<'a>>),
     /// In parentheses.
-    Group(Box<Expression<'a>>),
-    Apply(Function, Box<Expression<'a>>),
+    Group(Expression<'a>),
+    Apply(Function, Expression<'a>),
     Query(Query, Lexeme<'a>),
     /// Whether an item's value is in a set, or in its first one.
     InValueSet(Lexeme<'a>, Option<Lexeme<'a>>),
-    Minus(Box<Expression<'a>>),
-    Not(Box<Expression<'a>>),
+    Minus(Expression<'a>),
+    Not(Expression<'a>),
     /// Two sums with a relation between them.
-    Compare(Box<Expression<'a>>, Relation, Box<Expression<'a>>),
+    Compare(Expression<'a>, Relation, Expression<'a>),
     /// Operands of one level with its operators between them, which group to the left. There is at least one operator.
-    Chain(Box<Expression<'a>>, Vec<Operation<'a>>),
+    Chain(Expression<'a>, Vec<Operation<'a>>),
 }
 
 // Its drop is written out, as those of the trees below: what owns a tree calls it. A derived one is laid out, with a part for
 // each kind of node, wherever a tree may be dropped, in the crates above too.
-impl Drop for Expression<'_> {
+impl Drop for ExpressionKind<'_> {
     #[cycle(expr)]
     fn drop(self) {
         match self {
-            Expression::Number(_)
-            | Expression::Text(_)
-            | Expression::Special(_, _)
-            | Expression::Name(_)
-            | Expression::Query(_, _)
-            | Expression::InValueSet(_, _) => {}
-            Expression::Indexed(_, subscripts) => drop(subscripts),
-            Expression::Group(inner)
-            | Expression::Apply(_, inner)
-            | Expression::Minus(inner)
-            | Expression::Not(inner) => drop(inner),
-            Expression::Compare(left, _, right) => {
+            ExpressionKind::Number(_)
+            | ExpressionKind::Text(_)
+            | ExpressionKind::Special(_, _)
+            | ExpressionKind::Name(_)
+            | ExpressionKind::Query(_, _)
+            | ExpressionKind::InValueSet(_, _) => {}
+            ExpressionKind::Indexed(_, subscripts) => drop(subscripts),
+            ExpressionKind::Group(inner)
+            | ExpressionKind::Apply(_, inner)
+            | ExpressionKind::Minus(inner)
+            | ExpressionKind::Not(inner) => drop(inner),
+            ExpressionKind::Compare(left, _, right) => {
                 drop(left);
                 drop(right);
             }
-            Expression::Chain(first, others) => {
+            ExpressionKind::Chain(first, others) => {
                 drop(first);
                 drop(others);
             }
@@ -190,7 +207,21 @@ pub enum Message<'a> {
 
 /// A statement, as it is written.
 #[cycle(stmt)]
-pub enum Statement<'a> {
+pub struct Statement<'a> {
+    pub kind: Box<StatementKind<'a>>,
+}
+
+impl Drop for Statement<'_> {
+    #[cycle(stmt)]
+    fn drop(self) {
+        let Statement { kind } = self;
+        drop(kind);
+    }
+}
+
+/// What a statement is.
+#[cycle(stmt)]
+pub enum StatementKind<'a> {
     Empty,
     Assign(Place<'a>, Expression<'a>),
     Call(Lexeme<'a>, Vec<Expression<'a>>),
@@ -207,23 +238,23 @@ pub enum Statement<'a> {
     ErrMsg(Message<'a>, Vec<Expression<'a>>, bool),
 }
 
-impl Drop for Statement<'_> {
+impl Drop for StatementKind<'_> {
     #[cycle(stmt)]
     fn drop(self) {
         match self {
-            Statement::Empty | Statement::Jump(_, _) => {}
-            Statement::Assign(place, value) | Statement::Impute(place, value) => {
+            StatementKind::Empty | StatementKind::Jump(_, _) => {}
+            StatementKind::Assign(place, value) | StatementKind::Impute(place, value) => {
                 drop(place);
                 drop(value);
             }
-            Statement::Call(_, values) | Statement::ErrMsg(_, values, _) => drop(values),
-            Statement::If(first, others, otherwise) => {
+            StatementKind::Call(_, values) | StatementKind::ErrMsg(_, values, _) => drop(values),
+            StatementKind::If(first, others, otherwise) => {
                 drop(first);
                 drop(others);
                 drop(otherwise);
             }
-            Statement::For(_, _, body) | Statement::Do(_, body) => drop(body),
-            Statement::PutDeck(_, value) => drop(value),
+            StatementKind::For(_, _, body) | StatementKind::Do(_, body) => drop(body),
+            StatementKind::PutDeck(_, value) => drop(value),
         }
     }
 }
@@ -303,25 +334,36 @@ pub struct Tree<'a> {
     pub procedures: Vec<Procedure<'a>>,
 }
 
+impl<'a> Expression<'a> {
+    /// An expression of this kind; want of memory (90) is its only fault.
+    pub fn new(alloc: Global, kind: ExpressionKind<'a>) -> Result<Expression<'a>, AllocError>
+        ensures { IfOk result (λ r. expr r ≡ expr_kind kind.entry) }
+    {
+        Ok(Expression {
+            kind: Box::new(alloc, kind)?,
+        })
+    }
+}
+
 impl Expression<'_> {
     /// The index of the first token.
     pub fn token(&self) -> usize
         ensures { result ≡ expr_token (expr self.now) }
     {
-        match self {
-            Expression::Number(lexeme) => lexeme.token,
-            Expression::Text(lexeme) => lexeme.token,
-            Expression::Name(lexeme) => lexeme.token,
-            Expression::Indexed(name, _) => name.token,
-            Expression::Special(token, _) => *token,
-            Expression::Group(inner) => inner.token().saturating_sub(1),
-            Expression::Apply(_, argument) => argument.token().saturating_sub(2),
-            Expression::Query(_, name) => name.token.saturating_sub(2),
-            Expression::InValueSet(item, _) => item.token.saturating_sub(2),
-            Expression::Minus(operand) => operand.token().saturating_sub(1),
-            Expression::Not(operand) => operand.token().saturating_sub(1),
-            Expression::Compare(first, _, _) => first.token(),
-            Expression::Chain(first, _) => first.token(),
+        match &*self.kind {
+            ExpressionKind::Number(lexeme) => lexeme.token,
+            ExpressionKind::Text(lexeme) => lexeme.token,
+            ExpressionKind::Name(lexeme) => lexeme.token,
+            ExpressionKind::Indexed(name, _) => name.token,
+            ExpressionKind::Special(token, _) => *token,
+            ExpressionKind::Group(inner) => inner.token().saturating_sub(1),
+            ExpressionKind::Apply(_, argument) => argument.token().saturating_sub(2),
+            ExpressionKind::Query(_, name) => name.token.saturating_sub(2),
+            ExpressionKind::InValueSet(item, _) => item.token.saturating_sub(2),
+            ExpressionKind::Minus(operand) => operand.token().saturating_sub(1),
+            ExpressionKind::Not(operand) => operand.token().saturating_sub(1),
+            ExpressionKind::Compare(first, _, _) => first.token(),
+            ExpressionKind::Chain(first, _) => first.token(),
         }
     }
 }
@@ -360,22 +402,33 @@ impl Message<'_> {
     }
 }
 
+impl<'a> Statement<'a> {
+    /// A statement of this kind; want of memory (90) is its only fault.
+    pub fn new(alloc: Global, kind: StatementKind<'a>) -> Result<Statement<'a>, AllocError>
+        ensures { IfOk result (λ r. stmt r ≡ stmt_kind kind.entry) }
+    {
+        Ok(Statement {
+            kind: Box::new(alloc, kind)?,
+        })
+    }
+}
+
 impl Statement<'_> {
     /// The index of the first token; an empty statement tells none.
     pub fn token(&self) -> Option<usize>
         ensures { result ≡ stmt_token (stmt self.now) }
     {
-        match self {
-            Statement::Empty => None,
-            Statement::Assign(place, _) => Some(place.name.token),
-            Statement::Call(name, _) => Some(name.token),
-            Statement::If(first, _, _) => Some(first.condition.token().saturating_sub(1)),
-            Statement::For(variable, _, _) => Some(variable.token.saturating_sub(1)),
-            Statement::Do(counting, _) => Some(counting.variable.token.saturating_sub(2)),
-            Statement::Jump(token, _) => Some(*token),
-            Statement::Impute(place, _) => Some(place.name.token.saturating_sub(2)),
-            Statement::PutDeck(deck, _) => Some(deck.token.saturating_sub(2)),
-            Statement::ErrMsg(message, _, _) => Some(message.token().saturating_sub(2)),
+        match &*self.kind {
+            StatementKind::Empty => None,
+            StatementKind::Assign(place, _) => Some(place.name.token),
+            StatementKind::Call(name, _) => Some(name.token),
+            StatementKind::If(first, _, _) => Some(first.condition.token().saturating_sub(1)),
+            StatementKind::For(variable, _, _) => Some(variable.token.saturating_sub(1)),
+            StatementKind::Do(counting, _) => Some(counting.variable.token.saturating_sub(2)),
+            StatementKind::Jump(token, _) => Some(*token),
+            StatementKind::Impute(place, _) => Some(place.name.token.saturating_sub(2)),
+            StatementKind::PutDeck(deck, _) => Some(deck.token.saturating_sub(2)),
+            StatementKind::ErrMsg(message, _, _) => Some(message.token().saturating_sub(2)),
         }
     }
 }

@@ -2,10 +2,12 @@
 
 use crate::persons::persons;
 use cse_dict::Dictionary;
-use cse_logic_tree::{Body, Field, Found, Number, Owner, Procedure, Statement, Tree, Which};
+use cse_logic_tree::{
+    Body, Field, Found, Number, NumberKind, Owner, Procedure, Statement, StatementKind, Tree, Which,
+};
 use cse_syntax_tree::{Lexeme, Special};
 use cse_written_items::items_written;
-use std::alloc::Global;
+use std::alloc::{AllocError, Global};
 
 /// AGE, the fourth item of the dictionary.
 const AGE: Field = Field { owner: 0, item: 3 };
@@ -19,13 +21,12 @@ fn is_pushed<T: Drop>(list: &mut Vec<T>, one: T) -> bool {
 }
 
 /// `impute(AGE, notappl);`
-fn imputes<'a>(text: &'a str) -> Statement<'a> {
+fn imputes<'a>(alloc: Global, text: &'a str) -> Result<Statement<'a>, AllocError> {
     let name = Lexeme { token: 4, text };
-    Statement::Impute(
-        name,
-        AGE,
-        Which::Here(Found::Event),
-        Number::Special(6, Special::NotAppl),
+    let value = Number::new(alloc, NumberKind::Special(6, Special::NotAppl))?;
+    Statement::new(
+        alloc,
+        StatementKind::Impute(name, AGE, Which::Here(Found::Event), value),
     )
 }
 
@@ -33,7 +34,10 @@ fn imputes<'a>(text: &'a str) -> Statement<'a> {
 fn add<'a>(alloc: Global, procedures: &mut Vec<Procedure<'a>>, text: &'a str) -> bool {
     let name = Lexeme { token: 1, text };
     let mut body = Vec::new(alloc);
-    let is_filled = is_pushed(&mut body, imputes(text));
+    let is_filled = match imputes(alloc, text) {
+        Ok(statement) => is_pushed(&mut body, statement),
+        Err(_) => false,
+    };
     let procedure = Procedure {
         name,
         owner: Owner::Item(AGE),

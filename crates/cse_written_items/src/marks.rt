@@ -5,7 +5,7 @@ ghost use Rattle.cse_logic_tree.specs.Typed.{arm_tree, arms, block, no_arm, numb
 ghost use Rattle.cse_written_items.specs.Items as spec;
 ghost use Rattle.cse_written_items.specs.Marks.{marked};
 
-use cse_logic_tree::{Arm, Statement};
+use cse_logic_tree::{Arm, Statement, StatementKind};
 
 /// One item is written; one that isn't in the dictionary has no mark.
 fn mark(marks: &mut [bool], item: u16)
@@ -22,20 +22,20 @@ fn mark(marks: &mut [bool], item: u16)
 fn statement(x: &Statement<'_>, marks: &mut [bool])
     ensures { marks.new ≡ marked marks.old (spec.written_by (statement x.now)) }
 {
-    match x {
-        Statement::Empty
-        | Statement::Set(_, _, _)
-        | Statement::SetText(_, _, _)
-        | Statement::SetCell(_, _, _, _)
-        | Statement::Call(_, _, _)
-        | Statement::Jump(_, _)
-        | Statement::PutDeck(_, _, _, _)
-        | Statement::ErrMsg(_, _, _, _) => {}
-        Statement::SetItem(_, field, _, _) | Statement::Impute(_, field, _, _) => {
+    match &*x.kind {
+        StatementKind::Empty
+        | StatementKind::Set(_, _, _)
+        | StatementKind::SetText(_, _, _)
+        | StatementKind::SetCell(_, _, _, _)
+        | StatementKind::Call(_, _, _)
+        | StatementKind::Jump(_, _)
+        | StatementKind::PutDeck(_, _, _, _)
+        | StatementKind::ErrMsg(_, _, _, _) => {}
+        StatementKind::SetItem(_, field, _, _) | StatementKind::Impute(_, field, _, _) => {
             mark(marks, field.item)
         }
-        Statement::SetTextItem(_, field, _, _) => mark(marks, field.item),
-        Statement::If(first, others, otherwise) => {
+        StatementKind::SetTextItem(_, field, _, _) => mark(marks, field.item),
+        StatementKind::If(first, others, otherwise) => {
             block(&first.body, marks);
             arms(others, marks);
             match otherwise {
@@ -43,8 +43,8 @@ fn statement(x: &Statement<'_>, marks: &mut [bool])
                 Some(body) => block(body, marks),
             }
         }
-        Statement::For(_, _, _, _, body) => block(body, marks),
-        Statement::Do(_, body) => block(body, marks),
+        StatementKind::For(_, _, _, _, body) => block(body, marks),
+        StatementKind::Do(_, body) => block(body, marks),
     }
 }
 

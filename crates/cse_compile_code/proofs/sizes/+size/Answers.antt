@@ -1,5 +1,5 @@
-use Rattle.std.proofs.Common.{◌≡◌, ◌+◌, ap, ◌∙◌, arith, map}
-use Rattle.cse_logic_tree.specs.Typed.{number, numbers, operations, operation_tree}
+use Rattle.std.proofs.Common.{◌≡◌, ◌+◌, ap, sym, ◌∙◌, arith, map}
+use Rattle.cse_logic_tree.specs.Typed.{number, number_kind, numbers, operations, operation_tree}
 use Rattle.cse_logic_tree.proofs.Rows.{cell_is, call_is, chain_is}
 use Rattle.cse_compile_code.specs.Numbers.{number_size, indexes_size, numbers_size, operations_size, behind}
 use Rattle.cse_compile_code.proofs.sizes.+size.Goals as goal
@@ -8,19 +8,19 @@ pub number_size-returns-in-Cell : goal.number_size-returns-in-Cell
 unfolding number_size
 number_size-returns-in-Cell t c =
     let e : number_size (number c.args.x.now) ≡ indexes_size (numbers (map number c.in-Cell.subscripts.items)) + (behind (numbers (map number c.in-Cell.subscripts.items)) + 3) =
-    ap (λ x. number_size (number x)) c.in-Cell.is ∙ ap number_size (cell_is c.in-Cell.field-0 c.in-Cell.field-1 c.in-Cell.subscripts) in
+    ap (λ x. number_size (number_kind x)) (sym c.deref.ensures ∙ c.in-Cell.is) ∙ ap number_size (cell_is c.in-Cell.field-0 c.in-Cell.field-1 c.in-Cell.subscripts) in
     omega (arith, e, c.indexes_size.ensures, c.behind.ensures, c.plus-in-Cell.ensures, c.plus-in-Cell-2.ensures)
 
 pub number_size-returns-in-Call : goal.number_size-returns-in-Call
 unfolding number_size
 number_size-returns-in-Call t c =
     let e : number_size (number c.args.x.now) ≡ numbers_size (numbers (map number c.in-Call.arguments.items)) + 1 =
-    ap (λ x. number_size (number x)) c.in-Call.is ∙ ap number_size (call_is c.in-Call.field-0 c.in-Call.field-1 c.in-Call.arguments) in
+    ap (λ x. number_size (number_kind x)) (sym c.deref.ensures ∙ c.in-Call.is) ∙ ap number_size (call_is c.in-Call.field-0 c.in-Call.field-1 c.in-Call.arguments) in
     omega (arith, e, c.numbers_size.ensures, c.plus-in-Call.ensures)
 
 pub number_size-returns-in-Chain : goal.number_size-returns-in-Chain
 unfolding number_size
 number_size-returns-in-Chain t c =
-    let e : number_size (number c.args.x.now) ≡ number_size (number c.in-Chain.first.value) + operations_size (operations (map operation_tree c.in-Chain.others.items)) =
-    ap (λ x. number_size (number x)) c.in-Chain.is ∙ ap number_size (chain_is c.in-Chain.first c.in-Chain.others) in
-    omega (arith, e, ap (λ x. number_size (number x)) c.deref-in-Chain.ensures, c.number_size-in-Chain.ensures, c.operations_size.ensures, c.plus-in-Chain.ensures)
+    let e : number_size (number c.args.x.now) ≡ number_size (number c.in-Chain.first) + operations_size (operations (map operation_tree c.in-Chain.others.items)) =
+    ap (λ x. number_size (number_kind x)) (sym c.deref.ensures ∙ c.in-Chain.is) ∙ ap number_size (chain_is c.in-Chain.first c.in-Chain.others) in
+    omega (arith, e, c.number_size-in-Chain.ensures, c.operations_size.ensures, c.plus-in-Chain.ensures)

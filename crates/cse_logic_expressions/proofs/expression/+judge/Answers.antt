@@ -3,7 +3,7 @@ use Rattle.std.specs.Prelude.{false, Option, IfOk, option_map}
 use Rattle.cse_syntax_tree.specs.declared.tree.Expression.{Expression}
 use Rattle.cse_syntax_tree.specs.declared.tree.Operation.{Operation}
 use Rattle.cse_syntax_tree.specs.Tree as syntax
-use Rattle.cse_syntax_tree.specs.Tree.{expr}
+use Rattle.cse_syntax_tree.specs.Tree.{expr, expr_kind}
 use Rattle.cse_logic_tree.specs.Typed as typed
 use Rattle.cse_logic_tree.specs.Typed.{Number, number}
 use Rattle.cse_logic_expressions.specs.Judge.{AsNumber, judged, judge, as_number, judge_operation, judge_operations}
@@ -14,15 +14,14 @@ use Rattle.cse_logic_expressions.proofs.expression.+judge.Goals as goal
 
 pub expression-returns-in-Indexed : goal.expression-returns-in-Indexed
 expression-returns-in-Indexed t c =
-    let same = ap (λ x. judge c.args.scope.now c.args.top (expr x)) c.in-Indexed.is ∙ indexed_judged c.args.scope.now c.args.top c.in-Indexed.name c.in-Indexed.arguments in
+    let same = ap (λ x. judge c.args.scope.now c.args.top (expr_kind x)) (sym c.deref.ensures ∙ c.in-Indexed.is) ∙ indexed_judged c.args.scope.now c.args.top c.in-Indexed.name c.in-Indexed.arguments in
     rw same c.indexed.ensures
 
 pub expression-returns-in_ok-start-in-Chain : goal.expression-returns-in_ok-start-in-Chain
 expression-returns-in_ok-start-in-Chain t c =
     let s = c.args.scope.now in
     let others = judge_operations s c.args.top (syntax.operations (map syntax.operation_tree c.in-Chain.others.items)) in
-    let same = ap (λ x. judge s c.args.top (expr x)) c.in-Chain.is ∙ chain_judged s c.args.top c.in-Chain.first c.in-Chain.others
-    ∙ ap (λ (x : Expression). AsNumber (joined typed.Chain (as_number (judge s false (expr x))) others)) (sym c.deref-in-Chain.ensures) in
+    let same = ap (λ x. judge s c.args.top (expr_kind x)) (sym c.deref.ensures ∙ c.in-Chain.is) ∙ chain_judged s c.args.top c.in-Chain.first c.in-Chain.others in
     rw same (subst (λ (y : Option Number). IfOk c.chain.result (λ r. judged r ≡ AsNumber (joined typed.Chain y others))) c.in_ok-start-in-Chain.ensures c.chain.ensures)
 
 pub all_values-returns-then-is_sound : goal.all_values-returns-then-is_sound

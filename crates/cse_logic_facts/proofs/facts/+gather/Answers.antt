@@ -1,5 +1,6 @@
 use Rattle.std.proofs.Common.{◌≡◌, ◌∙◌, ap, sym, ◌<◌, ◌≤◌, length, get_or, map, refl, subst, List, ◌++◌}
 use Rattle.cse_logic_tree.specs.declared.tree.Number.{Number}
+use Rattle.cse_logic_tree.specs.declared.tree.NumberKind.{NumberKind}
 use Rattle.cse_logic_tree.specs.declared.tree.Operation.{Operation}
 use Rattle.cse_logic_tree.specs.Typed as typed
 use Rattle.cse_logic_tree.proofs.Rows.{cell_is, call_is, chain_is}
@@ -10,14 +11,14 @@ use Rattle.cse_logic_facts.proofs.facts.+gather.Goals as goal
 
 pub number-returns-in-Cell : goal.number-returns-in-Cell
 number-returns-in-Cell t c =
-    let same = ap (λ (x : Number). spec.uses (typed.number x)) c.in-Cell.is ∙ ap spec.uses (cell_is c.in-Cell.field-0 c.in-Cell.field-1 c.in-Cell.subscripts) in
+    let same = ap (λ (x : NumberKind). spec.uses (typed.number_kind x)) (sym c.deref.ensures ∙ c.in-Cell.is) ∙ ap spec.uses (cell_is c.in-Cell.field-0 c.in-Cell.field-1 c.in-Cell.subscripts) in
     rw same c.numbers.ensures
 
 pub number-returns-in_ok-call-in-Call : goal.number-returns-in_ok-call-in-Call
 number-returns-in_ok-call-in-Call t c =
     let fs = c.args.functions.now in
     let us = spec.uses_all (typed.numbers (map typed.number c.in-Call.arguments.items)) in
-    let same = ap (λ (x : Number). gather fs c.args.gathered.now (spec.uses (typed.number x))) c.in-Call.is
+    let same = ap (λ (x : NumberKind). gather fs c.args.gathered.now (spec.uses (typed.number_kind x))) (sym c.deref.ensures ∙ c.in-Call.is)
     ∙ ap (λ (x : typed.Number). gather fs c.args.gathered.now (spec.uses x)) (call_is c.in-Call.field-0 c.in-Call.function c.in-Call.arguments)
     ∙ gather_call fs c.args.gathered.now c.in-Call.function us
     ∙ ap (λ z. gather fs z us) (sym c.in_ok-call-in-Call.ensures) in
@@ -27,9 +28,8 @@ pub number-returns-in_ok-number-in-Chain : goal.number-returns-in_ok-number-in-C
 number-returns-in_ok-number-in-Chain t c =
     let fs = c.args.functions.now in
     let us = spec.uses_operations (typed.operations (map typed.operation_tree c.in-Chain.others.items)) in
-    let same = ap (λ (x : Number). gather fs c.args.gathered.now (spec.uses (typed.number x))) c.in-Chain.is
+    let same = ap (λ (x : NumberKind). gather fs c.args.gathered.now (spec.uses (typed.number_kind x))) (sym c.deref.ensures ∙ c.in-Chain.is)
     ∙ ap (λ (x : typed.Number). gather fs c.args.gathered.now (spec.uses x)) (chain_is c.in-Chain.first c.in-Chain.others)
-    ∙ ap (λ (x : Number). gather fs c.args.gathered.now (spec.uses (typed.number x) ++ us)) (sym c.deref-in-Chain.ensures)
     ∙ gather_both fs c.args.gathered.now _ us
     ∙ ap (λ z. gather fs z us) (sym c.in_ok-number-in-Chain.ensures) in
     rw same c.operations.ensures

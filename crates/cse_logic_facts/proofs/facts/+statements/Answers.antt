@@ -1,6 +1,7 @@
 use Rattle.std.proofs.Common.{◌≡◌, ◌∙◌, ap, sym, ◌<◌, ◌≤◌, length, get_or, map, refl, subst, List, ◌++◌, append_assoc, Option}
 use Rattle.std.specs.Global.{Vec}
 use Rattle.cse_logic_tree.specs.declared.tree.Statement.{Statement}
+use Rattle.cse_logic_tree.specs.declared.tree.StatementKind.{StatementKind}
 use Rattle.cse_logic_tree.specs.declared.tree.Arm.{Arm}
 use Rattle.cse_logic_tree.specs.Typed as typed
 use Rattle.cse_logic_tree.proofs.Rows.{if_is, for_is, do_is}
@@ -31,11 +32,11 @@ arms-all-preserved t c =
     let whole = c.deref-x-items.ensures.value in
     let lt : c.all.x-index < length items = subst (λ (xs : List Arm). c.all.x-index < length xs) whole c.all-test.true in
     let is : x ≡ get_or items c.all.x-index x = subst (λ (xs : List Arm). x ≡ get_or xs c.all.x-index x) whole c.x-item.is in
-    let uses_arm : Arm → List spec.Use = λ (y : Arm). spec.uses (typed.number y.condition) ++ spec.uses_block (typed.block y.body.items) in
+    let uses_arm : Arm → List spec.Use = λ (y : Arm). spec.uses (typed.arm_tree y).0 ++ spec.uses_block (typed.arm_tree y).1 in
     gather_turn c.args.functions.now uses_arm (λ (ys : List Arm). spec.uses_arms (typed.arms (map typed.arm_tree ys) typed.no_arm))
-    (λ y ys. sym (append_assoc (spec.uses (typed.number y.condition)) (spec.uses_block (typed.block y.body.items)) (spec.uses_arms (typed.arms (map typed.arm_tree ys) typed.no_arm))))
+    (λ y ys. sym (append_assoc (spec.uses (typed.arm_tree y).0) (spec.uses_block (typed.arm_tree y).1) (spec.uses_arms (typed.arms (map typed.arm_tree ys) typed.no_arm))))
     items c.all.x-index x lt is _ _ _ c.all.invariant
-    (c.in_ok-arm.ensures ∙ sym (gather_both c.args.functions.now c.all.gathered (spec.uses (typed.number x.condition)) (spec.uses_block (typed.block x.body.items))))
+    (c.in_ok-arm.ensures ∙ sym (gather_both c.args.functions.now c.all.gathered (spec.uses (typed.arm_tree x).0) (spec.uses_block (typed.arm_tree x).1)))
 
 pub arms-returns : goal.arms-returns
 arms-returns t c =
@@ -49,12 +50,12 @@ statement-returns-in-None t c =
     let g = c.args.gathered.now in
     let others = map typed.arm_tree c.in-If.others.items in
     let last = typed.otherwise_tree c.in-If.otherwise in
-    let same = ap (λ (x : Statement). gather fs g (spec.uses_of (typed.statement x))) c.in-If.is
+    let same = ap (λ (x : StatementKind). gather fs g (spec.uses_of (typed.statement_kind x))) (sym c.deref.ensures ∙ c.in-If.is)
     ∙ ap (λ (x : typed.Statement). gather fs g (spec.uses_of x)) (if_is c.in-If.first c.in-If.others c.in-If.otherwise)
-    ∙ gather_if fs g (typed.number c.in-If.first.condition) (typed.block c.in-If.first.body.items) others last in
+    ∙ gather_if fs g (typed.arm_tree c.in-If.first).0 (typed.arm_tree c.in-If.first).1 others last in
     let none : last ≡ typed.no_arm = ap typed.otherwise_tree c.in-None.is in
     c.in_ok-arms-in-If.ensures
-    ∙ ap (λ z. gather fs z (spec.uses_arms (typed.arms others typed.no_arm))) (c.in_ok-block-in-If.ensures ∙ ap (λ z. gather fs z (spec.uses_block (typed.block c.in-If.first.body.items))) c.in_ok-number-in-If.ensures)
+    ∙ ap (λ z. gather fs z (spec.uses_arms (typed.arms others typed.no_arm))) (c.in_ok-block-in-If.ensures ∙ ap (λ z. gather fs z (spec.uses_block (typed.arm_tree c.in-If.first).1)) c.in_ok-number-in-If.ensures)
     ∙ sym (gather_last fs _ last none)
     ∙ sym same
 
@@ -66,10 +67,10 @@ statement-returns-in-Some t c =
     let last = typed.otherwise_tree c.in-If.otherwise in
     let body = typed.block c.in-Some.body.items in
     let is : last ≡ typed.else_of body = ap typed.otherwise_tree c.in-Some.is in
-    let same = ap (λ (x : Statement). gather fs g (spec.uses_of (typed.statement x))) c.in-If.is
+    let same = ap (λ (x : StatementKind). gather fs g (spec.uses_of (typed.statement_kind x))) (sym c.deref.ensures ∙ c.in-If.is)
     ∙ ap (λ (x : typed.Statement). gather fs g (spec.uses_of x)) (if_is c.in-If.first c.in-If.others c.in-If.otherwise)
-    ∙ gather_if fs g (typed.number c.in-If.first.condition) (typed.block c.in-If.first.body.items) others last
-    ∙ ap (λ z. gather fs (gather fs z (spec.uses_arms (typed.arms others typed.no_arm))) (spec.uses_arms last)) (ap (λ z. gather fs z (spec.uses_block (typed.block c.in-If.first.body.items))) (sym c.in_ok-number-in-If.ensures) ∙ sym c.in_ok-block-in-If.ensures)
+    ∙ gather_if fs g (typed.arm_tree c.in-If.first).0 (typed.arm_tree c.in-If.first).1 others last
+    ∙ ap (λ z. gather fs (gather fs z (spec.uses_arms (typed.arms others typed.no_arm))) (spec.uses_arms last)) (ap (λ z. gather fs z (spec.uses_block (typed.arm_tree c.in-If.first).1)) (sym c.in_ok-number-in-If.ensures) ∙ sym c.in_ok-block-in-If.ensures)
     ∙ ap (λ z. gather fs z (spec.uses_arms last)) (sym c.in_ok-arms-in-If.ensures)
     ∙ ap (λ z. gather fs c.arms.new.gathered (spec.uses_arms z)) is in
     rw same c.block-in-Some.ensures
@@ -80,7 +81,7 @@ statement-returns-in_ok-assigned-in-For t c =
     let g = c.args.gathered.now in
     let us = spec.assigns c.in-For.variable in
     let vs = spec.uses_block (typed.block c.in-For.body.items) in
-    let same = ap (λ (x : Statement). gather fs g (spec.uses_of (typed.statement x))) c.in-For.is
+    let same = ap (λ (x : StatementKind). gather fs g (spec.uses_of (typed.statement_kind x))) (sym c.deref.ensures ∙ c.in-For.is)
     ∙ ap (λ (x : typed.Statement). gather fs g (spec.uses_of x)) (for_is c.in-For.field-0 c.in-For.variable c.in-For.field-2 c.in-For.field-3 c.in-For.body)
     ∙ gather_for fs g us vs
     ∙ ap (λ z. gather fs (gather fs z us) vs) (sym c.case.ensures)
@@ -93,7 +94,7 @@ statement-returns-in_ok-head-in-Do t c =
     let g = c.args.gathered.now in
     let x = typed.counting c.in-Do.counting in
     let vs = spec.uses_block (typed.block c.in-Do.body.items) in
-    let same = ap (λ (x : Statement). gather fs g (spec.uses_of (typed.statement x))) c.in-Do.is
+    let same = ap (λ (x : StatementKind). gather fs g (spec.uses_of (typed.statement_kind x))) (sym c.deref.ensures ∙ c.in-Do.is)
     ∙ ap (λ (x : typed.Statement). gather fs g (spec.uses_of x)) (do_is c.in-Do.counting c.in-Do.body)
     ∙ gather_do fs g (spec.assigns x.variable) (spec.uses_limit x.start) (spec.uses_limit x.stop) vs
     ∙ ap (λ z. gather fs z vs) (sym c.in_ok-head-in-Do.ensures) in

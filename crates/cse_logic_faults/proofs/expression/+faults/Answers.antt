@@ -1,8 +1,9 @@
 use Rattle.std.proofs.Common.{◌≡◌, ◌∙◌, ap, sym, ◌<◌, ◌≤◌, length, get_or, map, subst, List, ◌++◌}
 use Rattle.std.specs.Prelude.{false}
 use Rattle.cse_syntax_tree.specs.declared.tree.Expression.{Expression}
+use Rattle.cse_syntax_tree.specs.declared.tree.ExpressionKind.{ExpressionKind}
 use Rattle.cse_syntax_tree.specs.declared.tree.Operation.{Operation}
-use Rattle.cse_syntax_tree.specs.Tree.{written, expr, exprs, operations, operation_tree}
+use Rattle.cse_syntax_tree.specs.Tree.{written, expr, expr_kind, exprs, operations, operation_tree}
 use Rattle.cse_logic_names.specs.Scope.{meant}
 use Rattle.cse_logic_faults.specs.FaultsOfExpressions.{expr_faults, number_faults, numbers_faults, operations_faults, indexed_faults}
 use Rattle.cse_logic_faults.proofs.Lists.{behind, turn, found_end}
@@ -49,7 +50,7 @@ expression-returns-in_ok-numbers-in-Indexed t c =
     let name = c.in-Indexed.name in
     let all = numbers_faults cs s (exprs (map expr c.in-Indexed.arguments.items)) in
     let own = indexed_faults cs s name.token (length c.in-Indexed.arguments.items) (meant s (written name)) in
-    let same = ap (λ (x : Expression). g ++ expr_faults cs s c.args.top (expr x)) c.in-Indexed.is
+    let same = ap (λ (x : ExpressionKind). g ++ expr_faults cs s c.args.top (expr_kind x)) (sym c.deref.ensures ∙ c.in-Indexed.is)
     ∙ ap (λ l. g ++ l) (indexed_found cs s c.args.top name c.in-Indexed.arguments)
     ∙ behind g all own
     ∙ ap (λ z. z ++ own) (sym c.in_ok-numbers-in-Indexed.ensures)
@@ -62,9 +63,8 @@ expression-returns-in_ok-number-in-Chain t c =
     let s = c.args.scope.now in
     let g = c.args.found.now in
     let others = operations_faults cs s c.args.top (operations (map operation_tree c.in-Chain.others.items)) in
-    let same = ap (λ (x : Expression). g ++ expr_faults cs s c.args.top (expr x)) c.in-Chain.is
+    let same = ap (λ (x : ExpressionKind). g ++ expr_faults cs s c.args.top (expr_kind x)) (sym c.deref.ensures ∙ c.in-Chain.is)
     ∙ ap (λ l. g ++ l) (chain_found cs s c.args.top c.in-Chain.first c.in-Chain.others)
-    ∙ ap (λ (x : Expression). g ++ (number_faults cs s false (expr x) ++ others)) (sym c.deref-in-Chain.ensures)
     ∙ behind g _ others
     ∙ ap (λ z. z ++ others) (sym c.in_ok-number-in-Chain.ensures) in
     rw same c.operations_in.ensures

@@ -1,9 +1,10 @@
 use Rattle.std.proofs.Common.{◌≡◌, ◌∙◌, ap, sym, ◌<◌, ◌≤◌, length, get_or, map, subst, List, [], ◌++◌}
 use Rattle.std.proofs.lemmas.List.{append-nil}
 use Rattle.cse_syntax_tree.specs.declared.tree.Statement.{Statement}
+use Rattle.cse_syntax_tree.specs.declared.tree.StatementKind.{StatementKind}
 use Rattle.cse_syntax_tree.specs.declared.tree.Arm.{Arm}
 use Rattle.cse_syntax_tree.specs.Tree as syntax
-use Rattle.cse_syntax_tree.specs.Tree.{written, stmt, block, arms, arm_tree, no_arm, otherwise_tree}
+use Rattle.cse_syntax_tree.specs.Tree.{written, stmt, stmt_kind, block, arms, arm_tree, no_arm, otherwise_tree}
 use Rattle.cse_logic_faults.specs.FaultsOfStatements.{stmt_faults, stmts_faults, arms_faults, for_faults, for_scope, counting_faults, do_scope}
 use Rattle.cse_logic_faults.specs.Operators.{arm_faults}
 use Rattle.cse_logic_faults.proofs.Lists.{behind, turn, found_end}
@@ -69,7 +70,7 @@ statement-returns-in-None-clause-found t c =
     sym (append-nil c.arms.new.found)
     ∙ ap (λ z. c.arms.new.found ++ z) (sym last)
     ∙ choice_found cs s first others c.in-If.otherwise g c.arm.new.found c.arms.new.found c.arm.new.scope c.in_ok-arm-in-If.ensures.found c.in_ok-arm-in-If.ensures.same c.in_ok-arms-in-If.ensures.found
-    ∙ ap (λ (x : Statement). g ++ stmt_faults cs s (stmt x)) (sym c.in-If.is)
+    ∙ ap (λ (x : StatementKind). g ++ stmt_faults cs s (stmt_kind x)) (sym (sym c.deref.ensures ∙ c.in-If.is))
 
 pub statement-returns-in-Some-clause-found : goal.statement-returns-in-Some-clause-found
 statement-returns-in-Some-clause-found t c =
@@ -83,7 +84,7 @@ statement-returns-in-Some-clause-found t c =
     let last : stmts_faults cs c.arms.new.scope body ≡ arms_faults cs s (otherwise_tree c.in-If.otherwise) =
     ap (λ z. stmts_faults cs z body) same ∙ sym (else_found cs s body) ∙ ap (λ o. arms_faults cs s (otherwise_tree o)) (sym c.in-Some.is) in
     let whole = choice_found cs s first others c.in-If.otherwise g c.arm.new.found c.arms.new.found c.arm.new.scope c.in_ok-arm-in-If.ensures.found c.in_ok-arm-in-If.ensures.same c.in_ok-arms-in-If.ensures.found
-    ∙ ap (λ (x : Statement). g ++ stmt_faults cs s (stmt x)) (sym c.in-If.is) in
+    ∙ ap (λ (x : StatementKind). g ++ stmt_faults cs s (stmt_kind x)) (sym (sym c.deref.ensures ∙ c.in-If.is)) in
     let all = ap (λ z. c.arms.new.found ++ z) last ∙ whole in
     rw (sym all) c.block.ensures.found
 
@@ -95,7 +96,7 @@ statement-returns-in_ok-for_head-in-For-clause-found t c =
     let name = written c.in-For.name in
     let of = written c.in-For.record_name in
     let body = block c.in-For.body.items in
-    let same = ap (λ (x : Statement). g ++ stmt_faults cs s (stmt x)) c.in-For.is
+    let same = ap (λ (x : StatementKind). g ++ stmt_faults cs s (stmt_kind x)) (sym c.deref.ensures ∙ c.in-For.is)
     ∙ ap (λ l. g ++ l) (for_found cs s c.in-For.name c.in-For.record_name c.in-For.body)
     ∙ behind g (for_faults s name of) (stmts_faults cs (for_scope s name of) body)
     ∙ ap (λ z. z ++ stmts_faults cs (for_scope s name of) body) (sym c.in_ok-for_head-in-For.ensures)
@@ -110,7 +111,7 @@ statement-returns-in_ok-counting-in-Do-clause-found t c =
     let head = syntax.counting c.in-Do.head in
     let name = written c.in-Do.head.variable in
     let body = block c.in-Do.body.items in
-    let same = ap (λ (x : Statement). g ++ stmt_faults cs s (stmt x)) c.in-Do.is
+    let same = ap (λ (x : StatementKind). g ++ stmt_faults cs s (stmt_kind x)) (sym c.deref.ensures ∙ c.in-Do.is)
     ∙ ap (λ l. g ++ l) (do_found cs s c.in-Do.head c.in-Do.body)
     ∙ behind g (counting_faults s head) (stmts_faults cs (do_scope s name) body)
     ∙ ap (λ z. z ++ stmts_faults cs (do_scope s name) body) (sym c.in_ok-counting-in-Do.ensures)

@@ -1,11 +1,12 @@
 use Rattle.std.proofs.Common.{◌≡◌, ap, ◌∙◌, refl, sym, subst, map, ◌+◌, ◌<◌, ◌≤◌, length, get_or, List}
 use Rattle.std.specs.Prelude.{◌++◌, option_map}
 use Rattle.std.proofs.lemmas.List.{append-nil}
+use Rattle.std.proofs.lemmas.Result.{IfOk-weaker}
 use Rattle.cse_lemmas.proofs.Results.{OnOk_from}
 use Rattle.cse_syntax_tree.specs.declared.tree.Statement as rusts
 use Rattle.cse_syntax_tree.specs.declared.tree.Arm as rustarm
 use Rattle.cse_syntax_tree.specs.Tree as syntax
-use Rattle.cse_syntax_tree.specs.Tree.{written, stmt, arm_tree as parsed_arm}
+use Rattle.cse_syntax_tree.specs.Tree.{written, stmt_kind, arm_tree as parsed_arm}
 use Rattle.cse_syntax_tree.proofs.Rows.{if_is, for_is, do_is}
 use Rattle.cse_logic_tree.specs.Typed.{statement, statements, arm_tree, counting, Do, else_of}
 use Rattle.cse_logic_names.specs.WellTyped.{messages_in, messages_of}
@@ -114,30 +115,32 @@ statement-returns-in_ok-inner-in-For-clause-value t c =
     let v = written c.in-For.variable in
     let r = written c.in-For.record_name in
     let h = c.for_head-head.result in
-    let same = ap stmt c.in-For.is ∙ for_is c.in-For.variable c.in-For.record_name c.in-For.body in
-    c.for_of.ensures ∙ ap (joined (for_of v r) h) c.in_ok-inner-in-For.ensures.value
+    let same = ap stmt_kind (sym c.deref.ensures ∙ c.in-For.is) ∙ for_is c.in-For.variable c.in-For.record_name c.in-For.body in
+    let rest = ap (joined (for_of v r) h) c.in_ok-inner-in-For.ensures.value
     ∙ for_judged s (length c.args.told.now.items) v r (syntax.block c.in-For.body.items) h c.for_loop.result c.for_head-head.ensures c.for_loop.ensures
-    ∙ ap (judge_statement s (length c.args.told.now.items)) (sym same)
+    ∙ ap (judge_statement s (length c.args.told.now.items)) (sym same) in
+    IfOk-weaker c.for_of.result _ _ (λ x p. p ∙ rest) c.for_of.ensures
 
 pub statement-returns-in_ok-inner-in-For-clause-told : goal.statement-returns-in_ok-inner-in-For-clause-told
 statement-returns-in_ok-inner-in-For-clause-told t c =
-    let same = ap stmt c.in-For.is ∙ for_is c.in-For.variable c.in-For.record_name c.in-For.body in
-    c.in_ok-inner-in-For.ensures.told ∙ ap (λ y. map told_of c.args.told.now.items ++ messages_in y) (sym same)
+    let same = ap stmt_kind (sym c.deref.ensures ∙ c.in-For.is) ∙ for_is c.in-For.variable c.in-For.record_name c.in-For.body in
+    OnOk_from c.for_of.result _ (c.in_ok-inner-in-For.ensures.told ∙ ap (λ y. map told_of c.args.told.now.items ++ messages_in y) (sym same))
 
 pub statement-returns-in_ok-inner-in-Do-clause-value : goal.statement-returns-in_ok-inner-in-Do-clause-value
 statement-returns-in_ok-inner-in-Do-clause-value t c =
     let s = c.args.scope.now in
     let n = length c.args.told.now.items in
     let h = option_map counting c.counting-head.result in
-    let same = ap stmt c.in-Do.is ∙ do_is c.in-Do.head c.in-Do.body in
-    c.do_of.ensures ∙ ap (joined Do h) c.in_ok-inner-in-Do.ensures.value
+    let same = ap stmt_kind (sym c.deref.ensures ∙ c.in-Do.is) ∙ do_is c.in-Do.head c.in-Do.body in
+    let rest = ap (joined Do h) c.in_ok-inner-in-Do.ensures.value
     ∙ do_judged s n (syntax.counting c.in-Do.head) (syntax.block c.in-Do.body.items) h c.do_loop.result c.counting-head.ensures c.do_loop.ensures
-    ∙ ap (judge_statement s n) (sym same)
+    ∙ ap (judge_statement s n) (sym same) in
+    IfOk-weaker c.do_of.result _ _ (λ x p. p ∙ rest) c.do_of.ensures
 
 pub statement-returns-in_ok-inner-in-Do-clause-told : goal.statement-returns-in_ok-inner-in-Do-clause-told
 statement-returns-in_ok-inner-in-Do-clause-told t c =
-    let same = ap stmt c.in-Do.is ∙ do_is c.in-Do.head c.in-Do.body in
-    c.in_ok-inner-in-Do.ensures.told ∙ ap (λ y. map told_of c.args.told.now.items ++ messages_in y) (sym same)
+    let same = ap stmt_kind (sym c.deref.ensures ∙ c.in-Do.is) ∙ do_is c.in-Do.head c.in-Do.body in
+    OnOk_from c.do_of.result _ (c.in_ok-inner-in-Do.ensures.told ∙ ap (λ y. map told_of c.args.told.now.items ++ messages_in y) (sym same))
 
 pub statement-returns-in-None-clause-value : goal.statement-returns-in-None-clause-value
 statement-returns-in-None-clause-value t c =
@@ -145,20 +148,20 @@ statement-returns-in-None-clause-value t c =
     let n = length c.args.told.now.items in
     let first = c.in-If.first in
     let xs = map parsed_arm c.in-If.others.items in
-    let same = ap stmt c.in-If.is ∙ if_is first c.in-If.others c.in-If.otherwise ∙ ap (λ o. syntax.If (syntax.expr first.condition) (syntax.block first.body.items) (syntax.arms xs (syntax.otherwise_tree o))) c.in-None.is in
+    let same = ap stmt_kind (sym c.deref.ensures ∙ c.in-If.is) ∙ if_is first c.in-If.others c.in-If.otherwise ∙ ap (λ o. syntax.If (parsed_arm first).0 (parsed_arm first).1 (syntax.arms xs (syntax.otherwise_tree o))) c.in-None.is in
     let k = length c.arm.new.told.items in
-    choice_value s (parsed_arm first) xs syntax.no_arm n k (k + length (messages_each xs)) c.arm.new.scope _ _ _ _
-    (told_count told_of c.arm.new.told.items c.args.told.now.items (messages_of (parsed_arm first).1) c.in_ok-start-in-If.ensures.told) refl c.in_ok-start-in-If.ensures.same
-    c.in_ok-start-in-If.ensures.value c.in_ok-middle-in-If.ensures.value (none_judged s (k + length (messages_each xs))) c.chosen.ensures
-    ∙ ap (judge_statement s n) (sym same)
+    let counted = told_count told_of c.arm.new.told.items c.args.told.now.items (messages_of (parsed_arm first).1) c.in_ok-start-in-If.ensures.told in
+    IfOk-weaker c.chosen.result _ _ (λ x p. choice_value s (parsed_arm first) xs syntax.no_arm n k (k + length (messages_each xs)) c.arm.new.scope _ _ _ _
+    counted refl c.in_ok-start-in-If.ensures.same c.in_ok-start-in-If.ensures.value c.in_ok-middle-in-If.ensures.value
+    (none_judged s (k + length (messages_each xs))) p ∙ ap (judge_statement s n) (sym same)) c.chosen.ensures
 
 pub statement-returns-in-None-clause-told : goal.statement-returns-in-None-clause-told
 statement-returns-in-None-clause-told t c =
     let first = c.in-If.first in
     let xs = map parsed_arm c.in-If.others.items in
-    let same = ap stmt c.in-If.is ∙ if_is first c.in-If.others c.in-If.otherwise ∙ ap (λ o. syntax.If (syntax.expr first.condition) (syntax.block first.body.items) (syntax.arms xs (syntax.otherwise_tree o))) c.in-None.is in
-    choice_told c.args.scope.now (parsed_arm first) xs syntax.no_arm _ _ _ _ c.in_ok-start-in-If.ensures.told c.in_ok-middle-in-If.ensures.told (sym (append-nil (map told_of c.arms.new.told.items)))
-    ∙ ap (λ y. map told_of c.args.told.now.items ++ messages_in y) (sym same)
+    let same = ap stmt_kind (sym c.deref.ensures ∙ c.in-If.is) ∙ if_is first c.in-If.others c.in-If.otherwise ∙ ap (λ o. syntax.If (parsed_arm first).0 (parsed_arm first).1 (syntax.arms xs (syntax.otherwise_tree o))) c.in-None.is in
+    OnOk_from c.chosen.result _ (choice_told c.args.scope.now (parsed_arm first) xs syntax.no_arm _ _ _ _ c.in_ok-start-in-If.ensures.told c.in_ok-middle-in-If.ensures.told (sym (append-nil (map told_of c.arms.new.told.items)))
+    ∙ ap (λ y. map told_of c.args.told.now.items ++ messages_in y) (sym same))
 
 pub statement-returns-in_ok-last-in-Some-clause-value : goal.statement-returns-in_ok-last-in-Some-clause-value
 statement-returns-in_ok-last-in-Some-clause-value t c =
@@ -167,45 +170,45 @@ statement-returns-in_ok-last-in-Some-clause-value t c =
     let first = c.in-If.first in
     let xs = map parsed_arm c.in-If.others.items in
     let body = syntax.block c.in-Some.body.items in
-    let same = ap stmt c.in-If.is ∙ if_is first c.in-If.others c.in-If.otherwise ∙ ap (λ o. syntax.If (syntax.expr first.condition) (syntax.block first.body.items) (syntax.arms xs (syntax.otherwise_tree o))) c.in-Some.is in
+    let same = ap stmt_kind (sym c.deref.ensures ∙ c.in-If.is) ∙ if_is first c.in-If.others c.in-If.otherwise ∙ ap (λ o. syntax.If (parsed_arm first).0 (parsed_arm first).1 (syntax.arms xs (syntax.otherwise_tree o))) c.in-Some.is in
     let k = length c.arm.new.told.items in
     let m = length c.arms.new.told.items in
     let where_at = c.in_ok-middle-in-If.ensures.same ∙ c.in_ok-start-in-If.ensures.same in
     let last = c.behind.ensures ∙ ap (option_map else_of) (c.in_ok-last-in-Some.ensures.value ∙ ap (λ z. judge_block z m body) where_at) ∙ else_judged s m body in
-    choice_value s (parsed_arm first) xs (syntax.else_of body) n k m c.arm.new.scope _ _ _ _
-    (told_count told_of c.arm.new.told.items c.args.told.now.items (messages_of (parsed_arm first).1) c.in_ok-start-in-If.ensures.told)
-    (told_count told_of c.arms.new.told.items c.arm.new.told.items (messages_each xs) c.in_ok-middle-in-If.ensures.told) c.in_ok-start-in-If.ensures.same
-    c.in_ok-start-in-If.ensures.value c.in_ok-middle-in-If.ensures.value last c.chosen-in-Some.ensures
-    ∙ ap (judge_statement s n) (sym same)
+    let counted = told_count told_of c.arm.new.told.items c.args.told.now.items (messages_of (parsed_arm first).1) c.in_ok-start-in-If.ensures.told in
+    let others = told_count told_of c.arms.new.told.items c.arm.new.told.items (messages_each xs) c.in_ok-middle-in-If.ensures.told in
+    IfOk-weaker c.chosen-in-Some.result _ _ (λ x p. choice_value s (parsed_arm first) xs (syntax.else_of body) n k m c.arm.new.scope _ _ _ _
+    counted others c.in_ok-start-in-If.ensures.same c.in_ok-start-in-If.ensures.value c.in_ok-middle-in-If.ensures.value
+    last p ∙ ap (judge_statement s n) (sym same)) c.chosen-in-Some.ensures
 
 pub statement-returns-in_ok-last-in-Some-clause-told : goal.statement-returns-in_ok-last-in-Some-clause-told
 statement-returns-in_ok-last-in-Some-clause-told t c =
     let first = c.in-If.first in
     let xs = map parsed_arm c.in-If.others.items in
     let body = syntax.block c.in-Some.body.items in
-    let same = ap stmt c.in-If.is ∙ if_is first c.in-If.others c.in-If.otherwise ∙ ap (λ o. syntax.If (syntax.expr first.condition) (syntax.block first.body.items) (syntax.arms xs (syntax.otherwise_tree o))) c.in-Some.is in
-    choice_told c.args.scope.now (parsed_arm first) xs (syntax.else_of body) _ _ _ _ c.in_ok-start-in-If.ensures.told c.in_ok-middle-in-If.ensures.told c.in_ok-last-in-Some.ensures.told
-    ∙ ap (λ y. map told_of c.args.told.now.items ++ messages_in y) (sym same)
+    let same = ap stmt_kind (sym c.deref.ensures ∙ c.in-If.is) ∙ if_is first c.in-If.others c.in-If.otherwise ∙ ap (λ o. syntax.If (parsed_arm first).0 (parsed_arm first).1 (syntax.arms xs (syntax.otherwise_tree o))) c.in-Some.is in
+    OnOk_from c.chosen-in-Some.result _ (choice_told c.args.scope.now (parsed_arm first) xs (syntax.else_of body) _ _ _ _ c.in_ok-start-in-If.ensures.told c.in_ok-middle-in-If.ensures.told c.in_ok-last-in-Some.ensures.told
+    ∙ ap (λ y. map told_of c.args.told.now.items ++ messages_in y) (sym same))
 
 -- ---- statements that hold no others
 
 pub statement-returns-in-Empty-clause-told : goal.statement-returns-in-Empty-clause-told
-statement-returns-in-Empty-clause-told t c = sym (append-nil (map told_of c.args.told.now.items)) ∙ ap (λ y. map told_of c.args.told.now.items ++ messages_in (stmt y)) (sym c.in-Empty.is)
+statement-returns-in-Empty-clause-told t c = OnOk_from c.made.result _ (sym (append-nil (map told_of c.args.told.now.items)) ∙ ap (λ y. map told_of c.args.told.now.items ++ messages_in (stmt_kind y)) (sym (sym c.deref.ensures ∙ c.in-Empty.is)))
 
 pub statement-returns-in-Assign-clause-told : goal.statement-returns-in-Assign-clause-told
-statement-returns-in-Assign-clause-told t c = OnOk_from c.assignment.result _ (sym (append-nil (map told_of c.args.told.now.items)) ∙ ap (λ y. map told_of c.args.told.now.items ++ messages_in (stmt y)) (sym c.in-Assign.is))
+statement-returns-in-Assign-clause-told t c = OnOk_from c.assignment.result _ (sym (append-nil (map told_of c.args.told.now.items)) ∙ ap (λ y. map told_of c.args.told.now.items ++ messages_in (stmt_kind y)) (sym (sym c.deref.ensures ∙ c.in-Assign.is)))
 
 pub statement-returns-in-Call-clause-told : goal.statement-returns-in-Call-clause-told
-statement-returns-in-Call-clause-told t c = OnOk_from c.alone.result _ (sym (append-nil (map told_of c.args.told.now.items)) ∙ ap (λ y. map told_of c.args.told.now.items ++ messages_in (stmt y)) (sym c.in-Call.is))
+statement-returns-in-Call-clause-told t c = OnOk_from c.alone.result _ (sym (append-nil (map told_of c.args.told.now.items)) ∙ ap (λ y. map told_of c.args.told.now.items ++ messages_in (stmt_kind y)) (sym (sym c.deref.ensures ∙ c.in-Call.is)))
 
 pub statement-returns-in-Jump-clause-told : goal.statement-returns-in-Jump-clause-told
-statement-returns-in-Jump-clause-told t c = sym (append-nil (map told_of c.args.told.now.items)) ∙ ap (λ y. map told_of c.args.told.now.items ++ messages_in (stmt y)) (sym c.in-Jump.is)
+statement-returns-in-Jump-clause-told t c = OnOk_from c.jump.result _ (sym (append-nil (map told_of c.args.told.now.items)) ∙ ap (λ y. map told_of c.args.told.now.items ++ messages_in (stmt_kind y)) (sym (sym c.deref.ensures ∙ c.in-Jump.is)))
 
 pub statement-returns-in-Impute-clause-told : goal.statement-returns-in-Impute-clause-told
-statement-returns-in-Impute-clause-told t c = OnOk_from c.imputation.result _ (sym (append-nil (map told_of c.args.told.now.items)) ∙ ap (λ y. map told_of c.args.told.now.items ++ messages_in (stmt y)) (sym c.in-Impute.is))
+statement-returns-in-Impute-clause-told t c = OnOk_from c.imputation.result _ (sym (append-nil (map told_of c.args.told.now.items)) ∙ ap (λ y. map told_of c.args.told.now.items ++ messages_in (stmt_kind y)) (sym (sym c.deref.ensures ∙ c.in-Impute.is)))
 
 pub statement-returns-in-PutDeck-clause-told : goal.statement-returns-in-PutDeck-clause-told
-statement-returns-in-PutDeck-clause-told t c = OnOk_from c.deck_value.result _ (sym (append-nil (map told_of c.args.told.now.items)) ∙ ap (λ y. map told_of c.args.told.now.items ++ messages_in (stmt y)) (sym c.in-PutDeck.is))
+statement-returns-in-PutDeck-clause-told t c = OnOk_from c.deck_value.result _ (sym (append-nil (map told_of c.args.told.now.items)) ∙ ap (λ y. map told_of c.args.told.now.items ++ messages_in (stmt_kind y)) (sym (sym c.deref.ensures ∙ c.in-PutDeck.is)))
 
 -- ---- an arm, and the body of a loop
 

@@ -1,5 +1,6 @@
 use Rattle.std.proofs.Common.{◌≡◌, ◌∙◌, ap, sym, ◌<◌, ◌≤◌, length, get_or, map, refl, subst, List}
 use Rattle.cse_logic_tree.specs.declared.tree.Statement.{Statement}
+use Rattle.cse_logic_tree.specs.declared.tree.StatementKind.{StatementKind}
 use Rattle.cse_logic_tree.specs.declared.tree.Arm.{Arm}
 use Rattle.cse_logic_tree.specs.Typed as typed
 use Rattle.cse_logic_tree.proofs.Rows.{if_is, for_is, do_is}
@@ -30,7 +31,7 @@ arms-all-preserved t c =
     let whole = c.deref-x-items.ensures.value in
     let lt : c.all.x-index < length items = subst (λ (xs : List Arm). c.all.x-index < length xs) whole c.all-test.true in
     let is : x ≡ get_or items c.all.x-index x = subst (λ (xs : List Arm). x ≡ get_or xs c.all.x-index x) whole c.x-item.is in
-    marked_turn (λ (y : Arm). spec.written_by_all (typed.block y.body.items)) (λ (ys : List Arm). spec.written_by_arms (typed.arms (map typed.arm_tree ys) typed.no_arm)) (λ y ys. refl)
+    marked_turn (λ (y : Arm). spec.written_by_all (typed.arm_tree y).1) (λ (ys : List Arm). spec.written_by_arms (typed.arms (map typed.arm_tree ys) typed.no_arm)) (λ y ys. refl)
     items c.all.x-index x lt is _ _ _ c.all.invariant c.block.ensures
 
 pub arms-returns : goal.arms-returns
@@ -42,11 +43,11 @@ arms-returns t c =
 pub statement-returns-in-None : goal.statement-returns-in-None
 statement-returns-in-None t c =
     let marks = c.args.marks.now in
-    let body = typed.block c.in-If.first.body.items in
+    let body = (typed.arm_tree c.in-If.first).1 in
     let others = map typed.arm_tree c.in-If.others.items in
     let last = typed.otherwise_tree c.in-If.otherwise in
     let none : last ≡ typed.no_arm = ap typed.otherwise_tree c.in-None.is in
-    let same = ap (λ (x : Statement). marked marks (spec.written_by (typed.statement x))) c.in-If.is
+    let same = ap (λ (x : StatementKind). marked marks (spec.written_by (typed.statement_kind x))) (sym c.deref.ensures ∙ c.in-If.is)
     ∙ ap (λ (x : typed.Statement). marked marks (spec.written_by x)) (if_is c.in-If.first c.in-If.others c.in-If.otherwise)
     ∙ marked_if marks body others last
     ∙ ap (λ (x : typed.Arms). marked (marked (marked marks (spec.written_by_all body)) (spec.written_by_arms (typed.arms others typed.no_arm))) (spec.written_by_arms x)) none
@@ -56,12 +57,12 @@ statement-returns-in-None t c =
 pub statement-returns-in-Some : goal.statement-returns-in-Some
 statement-returns-in-Some t c =
     let marks = c.args.marks.now in
-    let body = typed.block c.in-If.first.body.items in
+    let body = (typed.arm_tree c.in-If.first).1 in
     let others = map typed.arm_tree c.in-If.others.items in
     let last = typed.otherwise_tree c.in-If.otherwise in
     let rest = typed.block c.in-Some.body.items in
     let some : last ≡ typed.else_of rest = ap typed.otherwise_tree c.in-Some.is in
-    let same = ap (λ (x : Statement). marked marks (spec.written_by (typed.statement x))) c.in-If.is
+    let same = ap (λ (x : StatementKind). marked marks (spec.written_by (typed.statement_kind x))) (sym c.deref.ensures ∙ c.in-If.is)
     ∙ ap (λ (x : typed.Statement). marked marks (spec.written_by x)) (if_is c.in-If.first c.in-If.others c.in-If.otherwise)
     ∙ marked_if marks body others last
     ∙ ap (λ (x : typed.Arms). marked (marked (marked marks (spec.written_by_all body)) (spec.written_by_arms (typed.arms others typed.no_arm))) (spec.written_by_arms x)) some in
@@ -72,11 +73,11 @@ statement-returns-in-Some t c =
 pub statement-returns-in-For : goal.statement-returns-in-For
 statement-returns-in-For t c =
     c.block-in-For.ensures
-    ∙ sym (ap (λ (x : Statement). marked c.args.marks.now (spec.written_by (typed.statement x))) c.in-For.is
+    ∙ sym (ap (λ (x : StatementKind). marked c.args.marks.now (spec.written_by (typed.statement_kind x))) (sym c.deref.ensures ∙ c.in-For.is)
     ∙ ap (λ (x : typed.Statement). marked c.args.marks.now (spec.written_by x)) (for_is c.in-For.field-0 c.in-For.field-1 c.in-For.field-2 c.in-For.field-3 c.in-For.body))
 
 pub statement-returns-in-Do : goal.statement-returns-in-Do
 statement-returns-in-Do t c =
     c.block-in-Do.ensures
-    ∙ sym (ap (λ (x : Statement). marked c.args.marks.now (spec.written_by (typed.statement x))) c.in-Do.is
+    ∙ sym (ap (λ (x : StatementKind). marked c.args.marks.now (spec.written_by (typed.statement_kind x))) (sym c.deref.ensures ∙ c.in-Do.is)
     ∙ ap (λ (x : typed.Statement). marked c.args.marks.now (spec.written_by x)) (do_is c.in-Do.field-0 c.in-Do.body))

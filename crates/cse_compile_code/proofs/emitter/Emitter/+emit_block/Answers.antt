@@ -1,7 +1,7 @@
 use Rattle.std.proofs.Common.{rules, ◌≡◌, ◌+◌, ◌++◌, drop, ap, sym, ◌∙◌, arith, map}
 use Rattle.std.proofs.lemmas.List.{append-nil}
-use Rattle.cse_logic_tree.specs.declared.tree.Statement.{the_lemmas}
-use Rattle.cse_logic_tree.specs.Typed.{statement, block, arm_tree, otherwise_tree, counting}
+use Rattle.cse_logic_tree.specs.declared.tree.StatementKind.{the_lemmas}
+use Rattle.cse_logic_tree.specs.Typed.{statement, statement_kind, block, arm_tree, otherwise_tree, counting}
 use Rattle.cse_logic_tree.proofs.Rows.{for_is, do_is}
 use Rattle.cse_compile_code.specs.Setting.{setting}
 use Rattle.cse_compile_code.specs.Statements.{statement_size, statement_code, block_size, arms_size, arms_code, head_size, arms_alone_code}
@@ -13,19 +13,19 @@ unfolding statement_size
 statement-over-requires t c =
     let s = setting c.args.s.now in
     let e : statement_size s (statement c.args.x.now) ≡ block_size s (block c.in-For.body.items) + 5 =
-    ap (λ x. statement_size s (statement x)) c.in-For.is ∙ ap (statement_size s) (for_is c.in-For.field-0 c.in-For.variable c.in-For.field-2 c.in-For.of c.in-For.body) in
+    ap (λ x. statement_size s (statement_kind x)) (sym c.deref.ensures ∙ c.in-For.is) ∙ ap (statement_size s) (for_is c.in-For.field-0 c.in-For.variable c.in-For.field-2 c.in-For.of c.in-For.body) in
     (search (rules, the_lemmas), omega (arith, e, c.requires.room))
 
 pub statement-returns-in-For-clause-code : goal.statement-returns-in-For-clause-code
 unfolding statement_code
 statement-returns-in-For-clause-code t c =
-    let same = ap statement c.in-For.is ∙ for_is c.in-For.field-0 c.in-For.variable c.in-For.field-2 c.in-For.of c.in-For.body in
+    let same = ap statement_kind (sym c.deref.ensures ∙ c.in-For.is) ∙ for_is c.in-For.field-0 c.in-For.variable c.in-For.field-2 c.in-For.of c.in-For.body in
     rw same c.over.ensures.code
 
 pub statement-returns-in-For-clause-behind : goal.statement-returns-in-For-clause-behind
 unfolding statement_size
 statement-returns-in-For-clause-behind t c =
-    let same = ap statement c.in-For.is ∙ for_is c.in-For.field-0 c.in-For.variable c.in-For.field-2 c.in-For.of c.in-For.body in
+    let same = ap statement_kind (sym c.deref.ensures ∙ c.in-For.is) ∙ for_is c.in-For.field-0 c.in-For.variable c.in-For.field-2 c.in-For.of c.in-For.body in
     rw same c.over.ensures.behind
 
 pub statement-counted-requires : goal.statement-counted-requires
@@ -33,42 +33,42 @@ unfolding statement_size
 statement-counted-requires t c =
     let s = setting c.args.s.now in
     let e : statement_size s (statement c.args.x.now) ≡ head_size s.records (counting c.in-Do.head) + (block_size s (block c.in-Do.body.items) + 6) =
-    ap (λ x. statement_size s (statement x)) c.in-Do.is ∙ ap (statement_size s) (do_is c.in-Do.head c.in-Do.body) in
+    ap (λ x. statement_size s (statement_kind x)) (sym c.deref.ensures ∙ c.in-Do.is) ∙ ap (statement_size s) (do_is c.in-Do.head c.in-Do.body) in
     (search (rules, the_lemmas), omega (arith, e, c.requires.room))
 
 pub statement-returns-in-Do-clause-code : goal.statement-returns-in-Do-clause-code
 unfolding statement_code
 statement-returns-in-Do-clause-code t c =
-    let same = ap statement c.in-Do.is ∙ do_is c.in-Do.head c.in-Do.body in
+    let same = ap statement_kind (sym c.deref.ensures ∙ c.in-Do.is) ∙ do_is c.in-Do.head c.in-Do.body in
     rw same c.counted.ensures.code
 
 pub statement-returns-in-Do-clause-behind : goal.statement-returns-in-Do-clause-behind
 unfolding statement_size
 statement-returns-in-Do-clause-behind t c =
-    let same = ap statement c.in-Do.is ∙ do_is c.in-Do.head c.in-Do.body in
+    let same = ap statement_kind (sym c.deref.ensures ∙ c.in-Do.is) ∙ do_is c.in-Do.head c.in-Do.body in
     rw same c.counted.ensures.behind
 
 pub statement-arm-requires : goal.statement-arm-requires
 statement-arm-requires t c =
-    let sizes = told (setting c.args.s.now) c.in-If.first c.in-If.others c.in-If.otherwise c.args.x.now c.args.place c.otherwise_size-behind.result c.arms_size-rest.result c.in-If.is c.requires.room c.otherwise_size-behind.ensures c.arms_size-rest.ensures in
+    let sizes = told (setting c.args.s.now) c.in-If.first c.in-If.others c.in-If.otherwise c.args.x.now c.args.place c.otherwise_size-behind.result c.arms_size-rest.result (sym c.deref.ensures ∙ c.in-If.is) c.requires.room c.otherwise_size-behind.ensures c.arms_size-rest.ensures in
     (search (rules, the_lemmas), omega (arith, sizes.parts, sizes.behind_all, c.requires.room))
 
 pub statement-arms-requires : goal.statement-arms-requires
 statement-arms-requires t c =
-    let sizes = told (setting c.args.s.now) c.in-If.first c.in-If.others c.in-If.otherwise c.args.x.now c.args.place c.otherwise_size-behind.result c.arms_size-rest.result c.in-If.is c.requires.room c.otherwise_size-behind.ensures c.arms_size-rest.ensures in
+    let sizes = told (setting c.args.s.now) c.in-If.first c.in-If.others c.in-If.otherwise c.args.x.now c.args.place c.otherwise_size-behind.result c.arms_size-rest.result (sym c.deref.ensures ∙ c.in-If.is) c.requires.room c.otherwise_size-behind.ensures c.arms_size-rest.ensures in
     (search (rules, the_lemmas), omega (arith, sizes.parts, sizes.behind_all, c.requires.room, c.in_ok-second-in-If.ensures.behind))
 
 pub statement-returns-in-None-clause-behind : goal.statement-returns-in-None-clause-behind
 unfolding arms_size
 statement-returns-in-None-clause-behind t c =
-    let sizes = told (setting c.args.s.now) c.in-If.first c.in-If.others c.in-If.otherwise c.args.x.now c.args.place c.otherwise_size-behind.result c.arms_size-rest.result c.in-If.is c.requires.room c.otherwise_size-behind.ensures c.arms_size-rest.ensures in
+    let sizes = told (setting c.args.s.now) c.in-If.first c.in-If.others c.in-If.otherwise c.args.x.now c.args.place c.otherwise_size-behind.result c.arms_size-rest.result (sym c.deref.ensures ∙ c.in-If.is) c.requires.room c.otherwise_size-behind.ensures c.arms_size-rest.ensures in
     let none = ap (λ o. arms_size (setting c.args.s.now) (otherwise_tree o)) c.in-None.is in
     omega (arith, sizes.parts, sizes.behind_all, none, c.requires.room, c.in_ok-second-in-If.ensures.behind, c.in_ok-third-in-If.ensures.behind)
 
 pub statement-returns-in-None-clause-code : goal.statement-returns-in-None-clause-code
 unfolding arms_code
 statement-returns-in-None-clause-code t c =
-    let sizes = told (setting c.args.s.now) c.in-If.first c.in-If.others c.in-If.otherwise c.args.x.now c.args.place c.otherwise_size-behind.result c.arms_size-rest.result c.in-If.is c.requires.room c.otherwise_size-behind.ensures c.arms_size-rest.ensures in
+    let sizes = told (setting c.args.s.now) c.in-If.first c.in-If.others c.in-If.otherwise c.args.x.now c.args.place c.otherwise_size-behind.result c.arms_size-rest.result (sym c.deref.ensures ∙ c.in-If.is) c.requires.room c.otherwise_size-behind.ensures c.arms_size-rest.ensures in
     let end = c.args.place + c.statement_size.result in
     let third = c.in_ok-third-in-If.third in
     choice_code (setting c.args.s.now) c.args.around c.args.place c.in-If.first c.in-If.others c.in-If.otherwise c.args.x.now c.args.self.now c.arm.new.self c.arms.new.self c.arms.new.self end c.in_ok-second-in-If.second third c.arms_size-rest.result c.otherwise_size-behind.result
@@ -83,21 +83,21 @@ statement-returns-in-None-clause-code t c =
 pub statement-block-requires : goal.statement-block-requires
 unfolding arms_size
 statement-block-requires t c =
-    let sizes = told (setting c.args.s.now) c.in-If.first c.in-If.others c.in-If.otherwise c.args.x.now c.args.place c.otherwise_size-behind.result c.arms_size-rest.result c.in-If.is c.requires.room c.otherwise_size-behind.ensures c.arms_size-rest.ensures in
+    let sizes = told (setting c.args.s.now) c.in-If.first c.in-If.others c.in-If.otherwise c.args.x.now c.args.place c.otherwise_size-behind.result c.arms_size-rest.result (sym c.deref.ensures ∙ c.in-If.is) c.requires.room c.otherwise_size-behind.ensures c.arms_size-rest.ensures in
     let some = ap (λ o. arms_size (setting c.args.s.now) (otherwise_tree o)) c.in-Some.is in
     (search (rules, the_lemmas), omega (arith, sizes.parts, sizes.behind_all, some, c.requires.room, c.in_ok-second-in-If.ensures.behind, c.in_ok-third-in-If.ensures.behind))
 
 pub statement-returns-in_ok-last-in-Some-clause-behind : goal.statement-returns-in_ok-last-in-Some-clause-behind
 unfolding arms_size
 statement-returns-in_ok-last-in-Some-clause-behind t c =
-    let sizes = told (setting c.args.s.now) c.in-If.first c.in-If.others c.in-If.otherwise c.args.x.now c.args.place c.otherwise_size-behind.result c.arms_size-rest.result c.in-If.is c.requires.room c.otherwise_size-behind.ensures c.arms_size-rest.ensures in
+    let sizes = told (setting c.args.s.now) c.in-If.first c.in-If.others c.in-If.otherwise c.args.x.now c.args.place c.otherwise_size-behind.result c.arms_size-rest.result (sym c.deref.ensures ∙ c.in-If.is) c.requires.room c.otherwise_size-behind.ensures c.arms_size-rest.ensures in
     let some = ap (λ o. arms_size (setting c.args.s.now) (otherwise_tree o)) c.in-Some.is in
     omega (arith, sizes.parts, sizes.behind_all, some, c.requires.room, c.in_ok-second-in-If.ensures.behind, c.in_ok-third-in-If.ensures.behind, c.in_ok-last-in-Some.ensures.behind)
 
 pub statement-returns-in_ok-last-in-Some-clause-code : goal.statement-returns-in_ok-last-in-Some-clause-code
 unfolding arms_code
 statement-returns-in_ok-last-in-Some-clause-code t c =
-    let sizes = told (setting c.args.s.now) c.in-If.first c.in-If.others c.in-If.otherwise c.args.x.now c.args.place c.otherwise_size-behind.result c.arms_size-rest.result c.in-If.is c.requires.room c.otherwise_size-behind.ensures c.arms_size-rest.ensures in
+    let sizes = told (setting c.args.s.now) c.in-If.first c.in-If.others c.in-If.otherwise c.args.x.now c.args.place c.otherwise_size-behind.result c.arms_size-rest.result (sym c.deref.ensures ∙ c.in-If.is) c.requires.room c.otherwise_size-behind.ensures c.arms_size-rest.ensures in
     let end = c.args.place + c.statement_size.result in
     let third = c.in_ok-third-in-If.third in
     choice_code (setting c.args.s.now) c.args.around c.args.place c.in-If.first c.in-If.others c.in-If.otherwise c.args.x.now c.args.self.now c.arm.new.self c.arms.new.self c.block.new.self end c.in_ok-second-in-If.second third c.arms_size-rest.result c.otherwise_size-behind.result

@@ -3,7 +3,7 @@ use Rattle.std.proofs.lemmas.List.{map_push}
 use Rattle.cse_syntax_tree.specs.Word.{words}
 use Rattle.cse_syntax_tree.specs.Tree.{expr, operation_tree, Compare}
 use Rattle.cse_syntax.specs.Reading as spec
-use Rattle.cse_syntax.specs.Reading.{closed, relation, related, sum}
+use Rattle.cse_syntax.specs.Reading.{relation, related, sum}
 use Rattle.cse_syntax.proofs.Loops.{made_gives, one_operation, list_ends, awaits_first, awaits_next, awaits_last}
 use Rattle.cse_syntax.proofs.parser.Parser.+expression.Goals as goal
 
@@ -33,13 +33,6 @@ listed-returns-then-not-eat t c = record {
 }
 
 -- What a function outside the cycle makes is handed on as it is.
-pub closed-returns : goal.closed-returns
-unfolding closed
-closed-returns t c = record {
-  value = made_gives (λ b. expr b.value) c.boxed.result (expr c.in_ok-inner.inner) (closed c.args.room (spec.nested c.args.room) (words c.args.self.now.rest.now)) (words c.expect.new.self.rest.now) c.boxed.ensures (rw (c.in_ok-inner.ensures.value, c.in_ok-expect.ensures.value) refl);
-  shorter = omega (arith, c.in_ok-inner.ensures.shorter, c.expect.ensures.shorter);
-}
-
 pub chain-returns : goal.chain-returns
 chain-returns t c =
     let operand = spec.operand_of c.args.room (spec.nested c.args.room) c.args.level in
