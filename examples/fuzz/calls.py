@@ -10,18 +10,26 @@ WORDS = {
     "try": ["IMAGE"],
     "run": ["DICT", "IMAGE", "DATA", "OUT", "LIST", "FREQ", "--decks", "DECKS"],
     "compile": ["DICT", "LOGIC", "MADE", "--messages", "MESSAGES", "--order", "ORDER"],
+    "diff": ["DICT", "DATA", "DATA"],
+    "look": ["DICT", "DATA"],
+    "dict": ["DICT"],
+    "show": ["IMAGE", "DICT"],
 }
-WRITTEN = {"verify": [], "try": [], "run": ["OUT", "LIST", "FREQ"], "compile": ["MADE"]}
+WRITTEN = {"verify": [], "try": [], "run": ["OUT", "LIST", "FREQ"], "compile": ["MADE"], "diff": [], "look": [], "dict": [], "show": []}
 # The files that are read, and so the readers that a command reaches.
 READ = {name: [word for word in words if word not in WRITTEN[name] and word[0] != "-"] for name, words in WORDS.items()}
 
-FORM = re.compile(rb"refused (\d+)(?: line (\d+)(?: column (\d+))?| byte (\d+)| routine (\d+) place (\d+))?\n")
+FORM = re.compile(rb"refused (\d+)(?: line (\d+)(?: column (\d+))?| byte (\d+)| routine (\d+) place (\d+))?(?: in (?:DICT|DATA|IMAGE))?\n")
 TRAP = re.compile(rb"trap routine \d+ place \d+\n\Z")
 ANSWERS = {
     "verify": re.compile(rb"(routine \d+ \d+ steps\n)*case \d+ steps\nrun (\d+) steps\ndepth \d+ \d+ \d+ \d+\naccepted\n\Z"),
     "try": re.compile(rb"(?:.*\n)*?(\d+) steps\n\Z"),
     "run": re.compile(rb"cases \d+ lines \d+ unseen \d+\n\Z"),
     "compile": re.compile(rb"compiled (\d+) bytes\n\Z"),
+    "diff": re.compile(rb"cases \d+ changed 0\nlines \d+ changed 0\n\Z"),
+    "look": re.compile(rb"cases \d+\nlines \d+\nunknown \d+.*\nextra \d+.*\nids that come back \d+.*\n(?:.*\n)*\Z"),
+    "dict": re.compile(rb"dictionary .*\n(?:.*\n)*\Z"),
+    "show": re.compile(rb"(?:.*\n)+\Z"),
 }
 DICTIONARY, DATA, LOGIC, DECKS, IMAGE = range(10, 19), range(20, 23), range(30, 50), range(50, 54), range(60, 70)
 DEVICES = (70, 71, 72, 90)
@@ -30,6 +38,10 @@ NUMBERS = {
     "try": set(IMAGE),
     "run": {*DICTIONARY, *DATA, *DECKS, *IMAGE},
     "compile": {*DICTIONARY, *LOGIC, 64, 67},
+    "diff": {*DICTIONARY, *DATA},
+    "look": {*DICTIONARY, *DATA},
+    "dict": set(DICTIONARY),
+    "show": {*DICTIONARY, *range(60, 65)},
 }
 
 
@@ -115,6 +127,8 @@ def wrong_ending(answer, case, numbers):
         return None if ANSWERS[answer.command].match(answer.out) else "standard output is no answer of this command"
     if answer.command == "try" and answer.status == 1 and not answer.err:
         return None if TRAP.search(answer.out) else "no fault is told"
+    if answer.command == "look" and answer.status == 1 and not answer.err:
+        return None if ANSWERS["look"].match(answer.out) else "no fault is told"
     if not answer.number:
         return "standard error is no line of a fault"
     if answer.out:

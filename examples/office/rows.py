@@ -133,7 +133,7 @@ AGE      35      1   100.00
 """
 SHOWS = """message 0 number 1 "Hi"
 
-routine 0 application preproc, of the run, parameters 0, locals 0
+routine 0 application preproc, of the run, parameters 0, locals 0, at most 2 steps
   0 Message 0 "Hi"
   1 Return
 """

@@ -1,13 +1,39 @@
-//! The program `csbatch`. What its commands do stands in `cse_commands`, and in `cse_check` what `check` and `explain` do.
+//! The program `csbatch`. What its commands do stands in `cse_commands`; in `cse_check` what `check` and `explain` do, and in
+//! `cse_office` what `diff`, `look`, `dict`, `report` and `show` do. All run over one runtime, which tells a terminal how far a
+//! run is: with a second one, what is laid out where it is called would stand by itself.
 #![tactic(auto)]
 
-use cse_check::command::start as start_check;
-use cse_commands::start::{USAGE, start};
+use cse_check::command::carry_out as carry_out_check;
+use cse_commands::start::{USAGE, carry_out_and_tell};
+use cse_office::command::carry_out as carry_out_office;
+use cse_progress::meter::{Meter, Told};
+use cse_progress::runtime::Watched;
+use cse_progress::watched::{texts_of, watched_path, words_if};
+use cse_value::{Output, Writes};
+use std::io::IsTerminal;
 use std::process::ExitCode;
+use std::rt::{Env, Files};
+
+/// Does what the words ask for, tells what was not done, and answers the exit status.
+fn carry_out<R: Env + Files + Print + AllocGlobal, W: Output>(rt: &R, errors: &mut W) -> u8 {
+    if let Some(status) = carry_out_check(rt, USAGE, errors) {
+        return status;
+    }
+    match carry_out_office(rt, USAGE, errors) {
+        Some(status) => status,
+        None => carry_out_and_tell(rt, errors),
+    }
+}
 
 fn main(rt: HostRuntime) -> ExitCode {
-    match start_check(&rt, USAGE) {
-        Some(status) => status,
-        None => start(rt),
-    }
+    let given = words_if(&rt, rt.stderr().is_terminal());
+    let words = texts_of(rt.alloc(), &given);
+    let meter = Meter::new(&rt, rt.stderr());
+    let watched = Watched {
+        rt: &rt,
+        meter: &meter,
+        path: watched_path(rt.alloc(), &words),
+    };
+    let mut errors = Writes::new(Told { meter: &meter });
+    ExitCode::from(carry_out(&watched, &mut errors))
 }

@@ -1,10 +1,11 @@
 -- Laws of what was changed, place by place.
 use Rattle.std.proofs.Common.{◌≡◌, ℕ, zero, suc, ◌+◌, ◌-◌, ◌<◌, ◌≤◌, Bool, true, false, not, ◌||◌, ◌&&◌, List, [], ◌∷◌, length, get_or, take, drop, Option, None, Some, cond, refl, ap, sym, ◌∙◌, arith, add-one, eq-eqb, ne_eqb, nat_lt, drop_of_length-le, if◌then◌else◌, ltb-true, ltb-false, min, inl, inr}
 use Rattle.std.specs.Prelude.{count_by, ◌==◌}
-use Rattle.std.proofs.lemmas.Bool.{cases_lt, and_parts}
+use Rattle.std.proofs.lemmas.Bool.{cases_lt, and_parts, lt-ltb}
 use Rattle.std.proofs.lemmas.List.Sums.{sum_by-cons}
 use Rattle.std.proofs.Math.Seq.{drop-cons}
 use Rattle.std.proofs.lemmas.List.{get_or-map, length-map}
+use Rattle.cse_lines.specs.Bytes.{columns_by}
 use Rattle.cse_lines.specs.Columns.{LineText, no_line}
 use Rattle.cse_value.specs.declared.shape.ItemShape.{ItemShape}
 use Rattle.cse_value.specs.declared.shape.RecordShape.{RecordShape}
@@ -14,21 +15,25 @@ use Rattle.cse_changes.specs.Changes.{count_in, counted, differ, first_apart, ha
 
 -- ---- columns
 
-pub differ_on : (at n : ℕ) (a b : List ℕ) → 0 < n → get_or a at 32 ≡ get_or b at 32 → differ at n a b ≡ differ (at + 1) (n - 1) a b
-unfolding differ
-differ_on at zero a b h e = absurd (omega arith)
-differ_on at (suc n) a b h e =
-    let less : n ≡ suc n - 1 = omega arith in
-    ap (λ x. not x || differ (at + 1) n a b) (eq-eqb _ _ e) ∙ ap (λ k. differ (at + 1) k a b) less
-
-pub differ_here : (at n : ℕ) (a b : List ℕ) → 0 < n → (get_or a at 32 ≡ get_or b at 32 → ⊥) → differ at n a b ≡ true
-unfolding differ
-differ_here at zero a b h e = absurd (omega arith)
-differ_here at (suc n) a b h e = ap (λ x. not x || differ (at + 1) n a b) (ne_eqb _ _ e)
-
 pub differ_none : (at : ℕ) (a b : List ℕ) → differ at 0 a b ≡ false
 unfolding differ
 differ_none at a b = refl
+
+pub differ_step : (at n : ℕ) (a b : List ℕ) → 0 < n → differ at n a b ≡ (not (get_or a at 32 == get_or b at 32) || differ (at + 1) (n - 1) a b)
+unfolding differ
+differ_step at zero a b h = absurd (omega arith)
+differ_step at (suc n) a b h =
+    let less : n ≡ suc n - 1 = omega arith in
+    ap (λ k. not (get_or a at 32 == get_or b at 32) || differ (at + 1) k a b) less
+
+-- a byte of ASCII is its column
+pub ascii_column : (bytes beside : List ℕ) (i other : ℕ) → i < length bytes → get_or bytes i 0 < 128 → get_or (columns_by bytes beside) i other ≡ get_or bytes i 0
+unfolding columns_by
+ascii_column [] beside i other low few = absurd (omega (arith, low))
+ascii_column (b ∷ bytes) [] zero other low few = refl
+ascii_column (b ∷ bytes) (c ∷ beside) zero other low few = ap (λ t. cond t b c) (lt-ltb b 128 few)
+ascii_column (b ∷ bytes) [] (suc i) other low few = ascii_column bytes [] i other (omega (arith, low)) few
+ascii_column (b ∷ bytes) (c ∷ beside) (suc i) other low few = ascii_column bytes beside i other (omega (arith, low)) few
 
 -- ---- places
 

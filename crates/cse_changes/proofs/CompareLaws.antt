@@ -1,10 +1,12 @@
 -- Laws of a comparison of two files.
-use Rattle.std.proofs.Common.{◌≡◌, ◌≢◌, ℕ, zero, suc, ◌+◌, ◌^◌, ◌<◌, Bool, true, List, [], ◌∷◌, ◌++◌, length, get_or, None, Some, Ok, Err, refl, ap, sym, ◌∙◌, subst, arith, append_assoc, append-nil, add_assoc, ◌⊎◌, zero-add, replicate}
+use Rattle.std.proofs.Common.{◌≡◌, ◌≢◌, ℕ, zero, suc, ◌+◌, ◌^◌, ◌<◌, true, List, [], ◌∷◌, ◌++◌, length, get_or, None, Some, Ok, Err, refl, ap, sym, ◌∙◌, subst, arith, append_assoc, append-nil, add_assoc, ◌⊎◌, zero-add, replicate}
 use Rattle.cse_value.specs.Device.{FailsOnce, Given, IsAtEnd, IsUnfailing}
 use Rattle.std.proofs.lemmas.List.Sums.{sum_by-append}
 use Rattle.cse_value.specs.declared.shape.ItemShape.{ItemShape}
 use Rattle.cse_value.specs.declared.shape.RecordShape.{RecordShape}
 use Rattle.cse_changes.specs.declared.fault.CompareFault.{CompareFault}
+use Rattle.cse_changes.specs.declared.fault.SeenFault.{SeenFault}
+use Rattle.cse_changes.specs.declared.fault.SeenFault.TheVariants.{Compare, Seen}
 use Rattle.cse_changes.specs.declared.fault.CompareFault.TheVariants.{Apart, Data, Memory, Out}
 use Rattle.cse_dict.specs.Dictionary.{DictionaryText, shape_of}
 use Rattle.cse_lines.specs.declared.error.DataError.{DataError}
@@ -16,7 +18,7 @@ use Rattle.cse_lines.specs.Reader.{Next, ReaderText, held_of, is_front}
 use Rattle.cse_case.specs.Field.{item_at}
 use Rattle.cse_changes.specs.declared.count.Count.{Count}
 use Rattle.cse_changes.specs.Changes.{count_in, first_apart, no_count, plus}
-use Rattle.cse_changes.specs.Files.{AreCounts, AreFew, ArePairs, HasReadFault, HasWrittenFault, Stops, IfApart, IsApart, IsApartIn, IsCompared, IsRead, IsReadSoFar, RunPair, afters, apart_in, befores, lines_in, lines_of, total}
+use Rattle.cse_changes.specs.Files.{AreCounts, AreFew, ArePairs, HasReadFault, HasWrittenFault, Stops, StopsSeen, IfApart, IfSeenApart, IsApart, IsApartIn, IsCompared, IsRead, IsReadSoFar, RunPair, afters, apart_in, befores, lines_in, lines_of, total}
 use Rattle.cse_changes.proofs.FileLaws.{SoFar, SoFar-none, SoFar-run, as_many, gives, is_read, lines_now, run_lines, so_far, has_fault}
 
 plus_assoc : (a b c : Count) → plus (plus a b) c ≡ plus a (plus b c)
@@ -73,6 +75,12 @@ if_apart d before after before' after' P (Data e) h p = absurd p
 if_apart d before after before' after' P (Out e) h p = absurd p
 if_apart d before after before' after' P (Apart line) h p = h line p
 if_apart d before after before' after' P Memory h p = absurd p
+
+-- so of one that is watched
+pub if_seen_apart : {E : Type 0} (d : DictionaryText) (before after before' after' : Given) (P : ℕ → Type 0) (fault : SeenFault E) → ((line : ℕ) → P line → IsApart d before after before' after' line)
+    → IfSeenApart P fault → StopsSeen d before after before' after' fault
+if_seen_apart d before after before' after' P (Compare fault) h p = if_apart d before after before' after' P fault h p
+if_seen_apart d before after before' after' P (Seen e) h p = tt
 
 -- what a comparison knows between runs
 pub record Comparing (d : DictionaryText) (before now : Given) (r : ReaderText) (before' now' : Given) (r' : ReaderText) (counts : List Count) (lines : ℕ) : Type 0 where

@@ -1,3 +1,5 @@
 pub mod ChangeLaws
 pub mod FileLaws
 pub mod CompareLaws
+pub mod AlikeLaws
+pub mod SumLaws

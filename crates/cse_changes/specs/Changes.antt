@@ -1,7 +1,7 @@
 -- What a run changed, line beside line. A line that was read stands beside the one that was written in its place. An item
 -- occurs in the seen lines of its record, and an id item in each line. It is changed where one of its columns is another one;
 -- past its end a line has blanks. Ends of lines and the byte order mark are no columns.
-use Rattle.std.specs.Prelude.{ℕ, suc, zero, ◌+◌, ◌-◌, Bool, true, false, not, ◌==◌, ◌&&◌, ◌||◌, map, List, [], ◌∷◌, length, count_by, slice_index_or, Option, None, Some, if◌then◌else◌}
+use Rattle.std.specs.Prelude.{◌≡◌, ℕ, suc, zero, ◌+◌, ◌-◌, ◌<◌, Bool, true, false, not, ◌==◌, ◌&&◌, ◌||◌, map, List, [], ◌∷◌, length, count_by, slice_index_or, Option, None, Some, if◌then◌else◌}
 use Rattle.cse_value.specs.declared.shape.ItemShape.{ItemShape}
 use Rattle.cse_value.specs.declared.shape.RecordShape.{RecordShape}
 use Rattle.cse_lines.specs.Columns.{LineText, no_line}
@@ -17,6 +17,10 @@ differ at (suc n) before after = not (slice_index_or before at 32 == slice_index
 abbrev pub is_changed : ItemShape → List ℕ → List ℕ → Bool
 is_changed item before after = differ (item.start - 1) item.len before after
 
+-- the item is one of the owner's that is changed
+abbrev pub is_changed_own : ℕ → ItemShape → List ℕ → List ℕ → Bool
+is_changed_own owner item before after = item.owner == owner && is_changed item before after
+
 -- the records of lines
 abbrev pub types_of : List LineText → List (Option ℕ)
 types_of lines = map (λ line. line.record_number) lines
@@ -26,9 +30,13 @@ abbrev pub places_from : ℕ → List (Option ℕ) → List ℕ
 places_from n [] = []
 places_from n (line ∷ lines) = n ∷ places_from (n + 1) lines
 
--- the places in a run, from 0, at which an item occurs
+-- the places in a run, from 0, at which the items of an owner occur
+abbrev pub owner_places : List RecordShape → ℕ → List (Option ℕ) → List ℕ
+owner_places records owner lines = if owner == 255 then places_from 0 lines else occurrence_places records owner lines
+
+-- the places at which an item occurs
 abbrev pub item_places : List RecordShape → ItemShape → List (Option ℕ) → List ℕ
-item_places records item lines = if item.owner == 255 then places_from 0 lines else occurrence_places records item.owner lines
+item_places records item lines = owner_places records item.owner lines
 
 -- the line at a place
 abbrev pub columns_at : List LineText → ℕ → List ℕ
@@ -37,6 +45,10 @@ columns_at lines place = (slice_index_or lines place no_line).columns
 -- the item is changed at a place
 abbrev pub is_changed_at : ItemShape → List LineText → List LineText → ℕ → Bool
 is_changed_at item before after place = is_changed item (columns_at before place) (columns_at after place)
+
+-- it is one of the owner's that is changed there
+abbrev pub is_changed_own_at : ℕ → ItemShape → List LineText → List LineText → ℕ → Bool
+is_changed_own_at owner item before after place = is_changed_own owner item (columns_at before place) (columns_at after place)
 
 -- how many places there are, and at how many of them an item is changed
 abbrev pub counted : ItemShape → List LineText → List LineText → List ℕ → Count
@@ -49,6 +61,10 @@ count_in records item before after = counted item before after (item_places reco
 -- two counts as one
 abbrev pub plus : Count → Count → Count
 plus a b = record { occurrences = a.occurrences + b.occurrences; changed = a.changed + b.changed }
+
+-- so many changes more
+abbrev pub with_changes : Count → ℕ → Count
+with_changes count n = record { occurrences = count.occurrences; changed = count.changed + n }
 
 -- nothing is counted
 abbrev pub no_count : Count
@@ -76,3 +92,22 @@ first_apart items n [] [] = None
 first_apart items n [] (line ∷ lines) = Some n
 first_apart items n (line ∷ lines) [] = Some n
 first_apart items n (before ∷ befores) (after ∷ afters) = if is_pair items before after then first_apart items (n + 1) befores afters else Some n
+
+-- as many lines, of the same records, with the same columns
+pub record AreAlike (before after : List LineText) : Type 0 where
+  pub as_many : length before ≡ length after
+  pub records : (n : ℕ) → (slice_index_or before n no_line).record_number ≡ (slice_index_or after n no_line).record_number
+  pub columns : (n : ℕ) → columns_at before n ≡ columns_at after n
+
+-- the lines at a place are of the same record, and have the same columns
+pub record IsLike (before after : List LineText) (n : ℕ) : Type 0 where
+  pub records : (slice_index_or before n no_line).record_number ≡ (slice_index_or after n no_line).record_number
+  pub columns : columns_at before n ≡ columns_at after n
+
+-- what is remembered of the first lines: where it is true, they are alike
+abbrev pub AreLikes : List Bool → List LineText → List LineText → Type 0
+AreLikes likes before after = (n : ℕ) → n < length before → n < length after → slice_index_or likes n false ≡ true → IsLike before after n
+
+-- how often an item of an owner occurs in lines, where it is changed in none
+abbrev pub only_there : List RecordShape → ℕ → List LineText → Count
+only_there records owner lines = record { occurrences = length (owner_places records owner (types_of lines)); changed = 0 }

@@ -12,6 +12,8 @@ use Rattle.cse_case.specs.Field.{item_at}
 use Rattle.cse_changes.specs.declared.count.Count.{Count}
 use Rattle.cse_changes.specs.declared.fault.CompareFault.{CompareFault}
 use Rattle.cse_changes.specs.declared.fault.CompareFault.TheVariants.{Data, Out, Apart, Memory}
+use Rattle.cse_changes.specs.declared.fault.SeenFault.{SeenFault}
+use Rattle.cse_changes.specs.declared.fault.SeenFault.TheVariants.{Compare, Seen}
 use Rattle.cse_changes.specs.Changes.{count_in, first_apart, no_count, plus}
 
 -- a run that was read, and the one that was written in its place
@@ -138,12 +140,22 @@ Stops d before after before' after' (Out error) = HasWrittenFault d before after
 Stops d before after before' after' (Apart line) = IsApart d before after before' after' line
 Stops d before after before' after' Memory = Unit {0}
 
+-- why one stopped that is watched; where the watcher stops it, nothing is said
+abbrev pub StopsSeen : {E : Type 0} → DictionaryText → Given → Given → Given → Given → SeenFault E → Type 0
+StopsSeen d before after before' after' (Compare fault) = Stops d before after before' after' fault
+StopsSeen d before after before' after' (Seen e) = Unit {0}
+
 -- of two runs: no fault but one of a line that is apart
 abbrev pub IfApart : (ℕ → Type 0) → CompareFault → Type 0
 IfApart P (Data error) = ⊥
 IfApart P (Out error) = ⊥
 IfApart P (Apart line) = P line
 IfApart P Memory = ⊥
+
+-- and of two runs that are watched
+abbrev pub IfSeenApart : {E : Type 0} → (ℕ → Type 0) → SeenFault E → Type 0
+IfSeenApart P (Compare fault) = IfApart P fault
+IfSeenApart P (Seen e) = Unit {0}
 
 -- of two runs that come after so many lines: the line that is apart
 pub record IsApartIn (items : List ItemShape) (before after : List LineText) (lines line : ℕ) : Type 0 where

@@ -2,6 +2,7 @@
 
 ghost use Rattle.std.specs.Prelude.{◌≡◌};
 ghost use Rattle.cse_changes.specs.declared.fault.CompareFault.TheVariants.{Memory};
+ghost use Rattle.cse_changes.specs.declared.fault.SeenFault.TheVariants.{Compare};
 
 use cse_lines::DataError;
 use std::alloc::AllocError;
@@ -29,5 +30,22 @@ impl From<AllocError> for CompareFault {
 
     fn from(_refused: AllocError) -> CompareFault {
         CompareFault::Memory
+    }
+}
+
+/// Why a comparison stops that is watched.
+#[derive(Clone, Copy, Debug, PartialEq, Eq)]
+pub enum SeenFault<E> {
+    /// As each comparison does.
+    Compare(CompareFault),
+    /// The watcher stops it.
+    Seen(E),
+}
+
+impl<E> From<AllocError> for SeenFault<E> {
+    ghost from_gives = { λ _ e. e ≡ Compare Memory };
+
+    fn from(_refused: AllocError) -> SeenFault<E> {
+        SeenFault::Compare(CompareFault::Memory)
     }
 }

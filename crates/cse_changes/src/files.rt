@@ -1,15 +1,17 @@
 //! Two files, side by side.
 
-ghost use Rattle.std.specs.Prelude.{◌≡◌, ◌<◌, ◌≤◌, ◌+◌, ◌*◌, ◌^◌, ℕ, None, IfErr, IfOk, OnOk, length, replicate, slice_index_or};
+ghost use Rattle.std.specs.Prelude.{true, ◌≡◌, ◌<◌, ◌≤◌, ◌+◌, ◌*◌, ◌^◌, ℕ, None, IfErr, IfOk, OnOk, length, replicate, slice_index_or};
 ghost use Rattle.cse_case.specs.Field.{item_at};
-ghost use Rattle.cse_changes.specs.Changes.{count_in, first_apart, no_count, plus};
-ghost use Rattle.cse_changes.specs.Files.{AreFew, IfApart, IsApartIn, IsCompared, Stops};
+ghost use Rattle.cse_changes.specs.Changes.{AreAlike, AreLikes, count_in, first_apart, no_count, plus};
+ghost use Rattle.cse_changes.specs.Files.{AreFew, IfApart, IfSeenApart, IsApartIn, IsCompared, Stops, StopsSeen};
 
+use crate::alike::{MOST_KNOWN, are_alike};
 use crate::count::Count;
-use crate::fault::CompareFault;
+use crate::fault::{CompareFault, SeenFault};
 use crate::lines::RunLines;
 use crate::pair::first_apart;
-use crate::sums::add_run;
+use crate::sums::{add_like, add_run};
+use crate::watch::{Blind, Watch};
 use cse_dict::Dictionary;
 use cse_lines::{Run, RunReader};
 use cse_value::Input;
@@ -29,16 +31,58 @@ fn no_counts(alloc: Global, len: usize) -> Result<Vec<Count>, AllocError>
     Ok(counts)
 }
 
-/// Counts each item in the next runs of both files, if all their lines pair up, and adds it to what was counted. So many
-/// lines stand before them. Tells how many lines they have.
+/// Counts each item in the next runs of both files, which are known to be alike or not, if all their lines pair up, and adds
+/// it to what was counted. So many lines stand before them. Tells how many lines they have.
 fn add_runs(
+    records: &[RecordShape],
+    items: &[ItemShape],
+    before: &RunLines,
+    after: &RunLines,
+    likes: &[bool],
+    is_alike: bool,
+    lines: u64,
+    counts: &mut [Count],
+) -> Result<u64, CompareFault>
+    requires likes { AreLikes likes.now before.now after.now }
+    requires alike { is_alike ≡ true → AreAlike before.now after.now }
+    requires counts { length counts.old ≡ length items.now }
+    requires room { lines + length before.now ≤ 2 ^ 40 * 65536 }
+    requires few { AreFew items.now counts.old lines }
+    ensures len { length counts.new ≡ length counts.old }
+    ensures lines { IfOk result (λ n. n ≡ length before.now) }
+    ensures as_many { OnOk result (length before.now ≡ length after.now) }
+    ensures pairs { OnOk result (first_apart items.now 0 before.now after.now ≡ None) }
+    ensures each { OnOk result ((n : ℕ) → n < length items.now → slice_index_or counts.new n no_count
+        ≡ plus (slice_index_or counts.old n no_count) (count_in records.now (item_at items.now n) before.now after.now)) }
+    ensures few { OnOk result (AreFew items.now counts.new (lines + length before.now)) }
+    ensures apart { IfErr result (IfApart (IsApartIn items.now before.now after.now lines)) }
+{
+    let len = before.len() as u64;
+    if is_alike {
+        add_like(records, items, before, counts);
+        return Ok(len);
+    }
+    if let Some(place) = first_apart(items, likes, before, after) {
+        let line = lines + place as u64 + 1;
+        return Err(CompareFault::Apart { line });
+    }
+    add_run(records, items, likes, before, after, counts);
+    Ok(len)
+}
+
+/// Counts each item in the next runs of both files, as `add_runs` does, and lets the watcher see them. Then their memory goes
+/// back to the readers.
+fn see_runs<W: Watch>(
     records: &[RecordShape],
     items: &[ItemShape],
     before: Run,
     after: Run,
     lines: u64,
     counts: &mut [Count],
-) -> Result<u64, CompareFault>
+    watcher: &mut W,
+    reader: &mut RunReader<'_>,
+    other: &mut RunReader<'_>,
+) -> Result<u64, SeenFault<W::Fault>>
     requires some { 0 < length before.lines }
     requires some_after { 0 < length after.lines }
     requires counts { length counts.old ≡ length items.now }
@@ -50,7 +94,9 @@ fn add_runs(
     ensures each { OnOk result ((n : ℕ) → n < length items.now → slice_index_or counts.new n no_count
         ≡ plus (slice_index_or counts.old n no_count) (count_in records.now (item_at items.now n) before.lines after.lines)) }
     ensures few { OnOk result (AreFew items.now counts.new (lines + length before.lines)) }
-    ensures apart { IfErr result (IfApart (IsApartIn items.now before.lines after.lines lines)) }
+    ensures apart { IfErr result (IfSeenApart (IsApartIn items.now before.lines after.lines lines)) }
+    ensures reader { reader.new ≡ reader.old }
+    ensures other { other.new ≡ other.old }
 {
     let Some(before) = RunLines::of(before) else {
         unreachable!();
@@ -58,13 +104,78 @@ fn add_runs(
     let Some(after) = RunLines::of(after) else {
         unreachable!();
     };
-    let len = before.len() as u64;
-    if let Some(place) = first_apart(items, &before, &after) {
-        let line = lines + place as u64 + 1;
-        return Err(CompareFault::Apart { line });
+    let mut likes = [false; MOST_KNOWN];
+    let is_alike = are_alike(&before, &after, &mut likes);
+    match add_runs(
+        records, items, &before, &after, &likes, is_alike, lines, counts,
+    ) {
+        Err(fault) => Err(SeenFault::Compare(fault)),
+        Ok(len) => match watcher.see_runs(&before, &after, &likes, is_alike) {
+            Err(fault) => Err(SeenFault::Seen(fault)),
+            Ok(()) => {
+                reader.take_back(before.into_room());
+                other.take_back(after.into_room());
+                Ok(len)
+            }
+        },
     }
-    add_run(records, items, &before, &after, counts);
-    Ok(len)
+}
+
+/// Counts each item in a file that was read and one that was written in its place, as `compare` does, and lets a watcher see
+/// each two runs whose lines pair up, once they are counted. Its own fault stops the comparison.
+pub fn compare_seen<R: Input, S: Input, W: Watch>(
+    alloc: Global,
+    dictionary: &Dictionary,
+    read: &mut R,
+    written: &mut S,
+    watcher: &mut W,
+) -> Result<Vec<Count>, SeenFault<W::Fault>>
+    ensures ok { IfOk result
+        (λ counts. IsCompared dictionary.now (R.given read.old) (R.given read.new) (S.given written.old) (S.given written.new) counts.items) }
+    ensures stops { IfErr result (StopsSeen dictionary.now (R.given read.old) (R.given read.new) (S.given written.old) (S.given written.new)) }
+{
+    let shape = dictionary.shape();
+    let mut counts = no_counts(alloc, shape.items.len())?;
+    let mut reader = RunReader::new(alloc, dictionary);
+    let mut other = RunReader::new(alloc, dictionary);
+    let mut lines = 0u64;
+    'runs: loop {
+        match reader.next(read) {
+            Err(error) => return Err(SeenFault::Compare(CompareFault::Data(error))),
+            Ok(None) => match other.next(written) {
+                Err(error) => return Err(SeenFault::Compare(CompareFault::Out(error))),
+                Ok(None) => return Ok(counts),
+                Ok(Some(_)) => {
+                    let line = lines + 1;
+                    return Err(SeenFault::Compare(CompareFault::Apart { line }));
+                }
+            },
+            Ok(Some(before)) => match other.next(written) {
+                Err(error) => return Err(SeenFault::Compare(CompareFault::Out(error))),
+                Ok(None) => {
+                    let line = lines + 1;
+                    return Err(SeenFault::Compare(CompareFault::Apart { line }));
+                }
+                Ok(Some(after)) => {
+                    let added = see_runs(
+                        &shape.records,
+                        &shape.items,
+                        before,
+                        after,
+                        lines,
+                        &mut counts,
+                        watcher,
+                        &mut reader,
+                        &mut other,
+                    );
+                    match added {
+                        Ok(len) => lines += len,
+                        Err(fault) => return Err(fault),
+                    }
+                }
+            },
+        }
+    }
 }
 
 /// Counts each item in a file that was read and one that was written in its place, line beside line: how often it occurs,
@@ -79,43 +190,9 @@ pub fn compare<R: Input, S: Input>(
         (λ counts. IsCompared dictionary.now (R.given read.old) (R.given read.new) (S.given written.old) (S.given written.new) counts.items) }
     ensures stops { IfErr result (Stops dictionary.now (R.given read.old) (R.given read.new) (S.given written.old) (S.given written.new)) }
 {
-    let shape = dictionary.shape();
-    let mut counts = no_counts(alloc, shape.items.len())?;
-    let mut reader = RunReader::new(alloc, dictionary);
-    let mut other = RunReader::new(alloc, dictionary);
-    let mut lines = 0u64;
-    'runs: loop {
-        match reader.next(read) {
-            Err(error) => return Err(CompareFault::Data(error)),
-            Ok(None) => match other.next(written) {
-                Err(error) => return Err(CompareFault::Out(error)),
-                Ok(None) => return Ok(counts),
-                Ok(Some(_)) => {
-                    let line = lines + 1;
-                    return Err(CompareFault::Apart { line });
-                }
-            },
-            Ok(Some(before)) => match other.next(written) {
-                Err(error) => return Err(CompareFault::Out(error)),
-                Ok(None) => {
-                    let line = lines + 1;
-                    return Err(CompareFault::Apart { line });
-                }
-                Ok(Some(after)) => {
-                    let added = add_runs(
-                        &shape.records,
-                        &shape.items,
-                        before,
-                        after,
-                        lines,
-                        &mut counts,
-                    );
-                    match added {
-                        Ok(len) => lines += len,
-                        Err(fault) => return Err(fault),
-                    }
-                }
-            },
-        }
+    match compare_seen(alloc, dictionary, read, written, &mut Blind) {
+        Ok(counts) => Ok(counts),
+        Err(SeenFault::Compare(fault)) => Err(fault),
+        Err(SeenFault::Seen(never)) => match never {},
     }
 }

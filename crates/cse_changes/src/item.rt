@@ -1,19 +1,17 @@
-//! An item in two runs of lines, side by side.
+//! An item in two lines, side by side.
 
-ghost use Rattle.std.specs.Prelude.{◌≡◌, ◌<◌, ◌≤◌, ◌+◌, ◌^◌, ◌&&◌, length, get_or, nat_lt, take};
+ghost use Rattle.std.specs.Prelude.{◌≡◌, ◌<◌, ◌+◌, ◌^◌, ◌==◌, ◌&&◌, true, length, get_or, nat_lt};
 ghost use Rattle.cse_lines.specs.Bytes.{columns_lent};
-ghost use Rattle.cse_case.specs.Seen.{is_of, places_from as own_places};
+ghost use Rattle.cse_case.specs.Seen.{is_of};
 ghost use Rattle.cse_value.specs.Occurrences.{most_occurrences};
-ghost use Rattle.cse_changes.specs.Changes.{count_in, counted, differ, is_changed, places_from, types_of};
+ghost use Rattle.cse_changes.specs.Changes.{differ, is_changed, is_changed_own};
 
-use crate::count::Count;
-use crate::lines::RunLines;
 use cse_lines::Columns;
-use cse_value::shape::{ID_OWNER, ItemShape, RecordShape};
+use cse_value::shape::{ItemShape, RecordShape};
 
 /// A column, by its place from 0: a blank past the last.
 #[inline(always)]
-fn column_at(columns: Columns<'_>, place: usize) -> char
+pub fn column_at(columns: Columns<'_>, place: usize) -> char
     ensures { result ≡ get_or (columns_lent columns.entry) place 32 }
 {
     if place < columns.len() {
@@ -23,13 +21,44 @@ fn column_at(columns: Columns<'_>, place: usize) -> char
     }
 }
 
+/// Whether both have a byte at a place, and it is the same one, and ASCII.
+#[inline(always)]
+fn is_same_byte(before: &[u8], after: &[u8], place: usize) -> bool
+    ensures within { result ≡ true → place < length before.now }
+    ensures within_after { result ≡ true → place < length after.now }
+    ensures ascii { result ≡ true → get_or before.now place 0 < 128 }
+    ensures same { result ≡ true → get_or before.now place 0 ≡ get_or after.now place 0 }
+{
+    if before.len() <= place {
+        return false;
+    }
+    if after.len() <= place {
+        return false;
+    }
+    if before[place] >= 128 {
+        return false;
+    }
+    before[place] == after[place]
+}
+
+/// Whether a column is the same one. Bytes that are the same, and ASCII, are the columns there; all else is looked at.
+#[inline(always)]
+fn is_same_column(before: Columns<'_>, after: Columns<'_>, place: usize) -> bool
+    ensures { result ≡ (get_or (columns_lent before.entry) place 32 == get_or (columns_lent after.entry) place 32) }
+{
+    if is_same_byte(before.bytes, after.bytes, place) {
+        return true;
+    }
+    column_at(before, place) == column_at(after, place)
+}
+
 /// Whether one of so many columns from a place on is another one.
 fn differ(before: Columns<'_>, after: Columns<'_>, first: usize, len: usize) -> bool
     requires { first + len < 2 ^ 63 }
     ensures { result ≡ differ first len (columns_lent before.entry) (columns_lent after.entry) }
 {
     'columns: for i in 0..len {
-        if column_at(before, first + i) != column_at(after, first + i) {
+        if !is_same_column(before, after, first + i) {
             return true;
         }
     }
@@ -44,80 +73,35 @@ pub fn is_changed(item: &ItemShape, before: Columns<'_>, after: Columns<'_>) -> 
     differ(before, after, first, item.len as usize)
 }
 
+/// Whether an item is one of the owner's that is changed.
+pub fn is_changed_own(
+    item: &ItemShape,
+    owner: usize,
+    before: Columns<'_>,
+    after: Columns<'_>,
+) -> bool
+    ensures { result ≡ is_changed_own owner item.now (columns_lent before.entry) (columns_lent after.entry) }
+{
+    item.owner as usize == owner && is_changed(item, before, after)
+}
+
 /// Whether a line is one of the record's, and the next of so many at most.
 #[inline(always)]
-fn is_next(number: Option<u16>, owner: u8, seen: u16, most: u16) -> bool
+pub fn is_next(number: Option<u16>, owner: usize, seen: u16, most: u16) -> bool
     ensures { result ≡ (is_of owner number && nat_lt seen most) }
 {
     match number {
-        Some(number) => number == u16::from(owner) && seen < most,
+        Some(number) => number as usize == owner && seen < most,
         None => false,
     }
 }
 
-/// Counts an item of a record of which so many lines are seen at most.
-fn count_seen(item: &ItemShape, most: u16, before: &RunLines, after: &RunLines) -> Count
-    requires { length before.now ≡ length after.now }
-    ensures is { result ≡ counted item.now before.now after.now (take most (own_places 0 item.now.owner (types_of before.now))) }
-    ensures occurs { result.occurrences ≤ length before.now }
-    ensures few { result.changed ≤ length before.now }
-{
-    let mut seen = 0u16;
-    let mut changed = 0u64;
-    'lines: for place in 0..before.len() {
-        if is_next(before.record(place), item.owner, seen, most) {
-            changed += u64::from(is_changed(item, before.columns(place), after.columns(place)));
-            seen += 1;
-        }
-    }
-    Count {
-        occurrences: u64::from(seen),
-        changed,
-    }
-}
-
-/// Counts an item that occurs in each line.
-fn count_each(item: &ItemShape, before: &RunLines, after: &RunLines) -> Count
-    requires { length before.now ≡ length after.now }
-    ensures is { result ≡ counted item.now before.now after.now (places_from 0 (types_of before.now)) }
-    ensures occurs { result.occurrences ≤ length before.now }
-    ensures few { result.changed ≤ length before.now }
-{
-    let mut changed = 0u64;
-    'lines: for place in 0..before.len() {
-        changed += u64::from(is_changed(item, before.columns(place), after.columns(place)));
-    }
-    Count {
-        occurrences: before.len() as u64,
-        changed,
-    }
-}
-
 /// The most occurrences of a record; 0 where there is no such record.
-fn most_of(records: &[RecordShape], owner: u8) -> u16
+pub fn most_of(records: &[RecordShape], owner: usize) -> u16
     ensures { result ≡ most_occurrences records.now owner }
 {
-    match records.get(owner as usize) {
+    match records.get(owner) {
         Some(record) => record.max_records,
         None => 0,
     }
-}
-
-/// Counts an item in two runs of as many lines, side by side.
-pub fn count_item(
-    records: &[RecordShape],
-    item: &ItemShape,
-    before: &RunLines,
-    after: &RunLines,
-) -> Count
-    requires { length before.now ≡ length after.now }
-    ensures is { result ≡ count_in records.now item.now before.now after.now }
-    ensures occurs { result.occurrences ≤ length before.now }
-    ensures few { result.changed ≤ length before.now }
-{
-    if item.owner == ID_OWNER {
-        return count_each(item, before, after);
-    }
-    let most = most_of(records, item.owner);
-    count_seen(item, most, before, after)
 }

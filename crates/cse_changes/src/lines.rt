@@ -1,9 +1,9 @@
 //! The lines of a run, with their records and columns.
 
-ghost use Rattle.std.specs.Prelude.{◌≡◌, ◌<◌, [], IfNone, IfSome, length, slice_index_or};
+ghost use Rattle.std.specs.Prelude.{true, ◌≡◌, ◌<◌, [], IfNone, IfSome, length, slice_index_or};
 ghost use Rattle.cse_lines.specs.Bytes.{columns_lent};
 ghost use Rattle.cse_lines.specs.Columns.{no_line};
-ghost use Rattle.cse_changes.specs.Changes.{columns_at};
+ghost use Rattle.cse_changes.specs.Changes.{columns_at, is_same_record};
 
 use cse_lines::{Columns, Lines, Run};
 use std::marker::Model;
@@ -33,7 +33,7 @@ impl Drop for RunLines {
 
 impl RunLines {
     /// The lines of a run, if it has one.
-    pub fn of(run: Run) -> Option<RunLines>
+    pub(crate) fn of(run: Run) -> Option<RunLines>
         ensures lines { IfSome result (λ lines. lines ≡ run.lines) }
         ensures none { IfNone result (run.lines ≡ []) }
     {
@@ -67,8 +67,20 @@ impl RunLines {
     }
 
     /// The memory of the lines, for those of a later run.
-    pub fn into_room(self) -> Box<Lines> {
+    pub(crate) fn into_room(self) -> Box<Lines> {
         let RunLines { kept } = self;
         kept
+    }
+}
+
+/// Whether lines are of one record.
+pub fn is_same_record(before: Option<u16>, after: Option<u16>) -> bool
+    ensures is { result ≡ is_same_record before after }
+    ensures same { result ≡ true → before ≡ after }
+{
+    match (before, after) {
+        (None, None) => true,
+        (Some(one), Some(other)) => one == other,
+        _ => false,
     }
 }

@@ -70,6 +70,11 @@ pub const SECTIONS: &[u8] = b"10  Dictionary
   told at: the first line too many
   what to do: correct the file, or Start and Len of the id items
 
+23  What a run read and wrote
+- a line of OUT has none beside it in DATA, or the other way round; or one of another record or with other ids
+  told at: the line
+  what to do: hand in the file that the run read, and the one that it wrote
+
 30  Logic, as text
 - a character that no token has: `^`, `.`, `[`, `:`, `$`, `&`, `|`, `!`, `#`, a `_` at the front of a word, a letter beyond ASCII outside texts and comments, a `}` alone
   told at: line and column
@@ -125,6 +130,9 @@ pub const SECTIONS: &[u8] = b"10  Dictionary
 - an array in `getdeck` or `putdeck` that is no deck (a dimension is a number); `invalueset` of an item that has no set
   told at: the name
   what to do: declare it over value sets
+- a name behind `--by` is no id item of the dictionary
+  told at: nothing, and no file
+  what to do: name id items, with commas between them
 
 41  Names and kinds
 - an opaque item (decimals, several occurrences, too long, or over the columns of ids and record type), or a set of one
@@ -208,6 +216,16 @@ pub const SECTIONS: &[u8] = b"10  Dictionary
 - an array is unknown, not saved, or comes twice
   told at: the line
   what to do: take it out of the file
+
+54  What a run read and wrote
+- a line of LIST has another form than a listing, or `END` lacks
+  told at: the line
+  what to do: hand in the listing of a run that came to its end
+
+55  What a run read and wrote
+- a line of FREQ has another form than frequencies, or `END` lacks
+  told at: the line
+  what to do: hand in the frequencies of such a run
 
 60  Image
 - the file's first bytes are not `CSEB`, or the version isn't 1 or 2

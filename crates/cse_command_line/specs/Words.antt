@@ -47,7 +47,7 @@ compile_words = with_rules (new_app (codes "compile"))
 abbrev pub with_outputs : List Rule → List Rule
 with_outputs own =
     given (codes "DATA") ∷ given (codes "OUT") ∷ given (codes "LIST") ∷ given (codes "FREQ")
-    ∷ (own ++ named (codes "decks") ∷ named (codes "case-steps") ∷ flag (codes "sync") ∷ [])
+    ∷ (own ++ named (codes "decks") ∷ named (codes "case-steps") ∷ flag (codes "sync") ∷ flag (codes "quiet") ∷ [])
 
 abbrev pub run_words : App
 run_words = with_rules (new_app (codes "run")) (given (codes "DICT") ∷ given (codes "IMAGE") ∷ with_outputs [])
@@ -107,6 +107,7 @@ pub record AreRunPaths (rows : List Row) (p : RunPaths) : Type 0 where
   pub decks : MayBeGiven rows (codes "decks") p.decks
   pub case_steps : MayBeNumber (first_of (codes "case-steps") rows) p.case_steps
   pub sync : IsFlag rows (codes "sync") p.sync
+  pub quiet : IsFlag rows (codes "quiet") p.quiet
 
 -- a command is that of this name and these words
 abbrev pub IsCommandOf : List Row → Text → Command → Type 0

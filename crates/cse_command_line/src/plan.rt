@@ -18,7 +18,8 @@ pub enum Command<'a> {
     Verify { dict: &'a str, image: &'a str },
     /// `csbatch compile DICT LOGIC IMAGE [--messages F] [--order F]`: make an image of logic.
     Compile(CompilePaths<'a>),
-    /// `csbatch run DICT IMAGE DATA OUT LIST FREQ [--decks F] [--case-steps N] [--sync]`: run an image over a data file.
+    /// `csbatch run DICT IMAGE DATA OUT LIST FREQ [--decks F] [--case-steps N] [--sync] [--quiet]`: run an image over a
+    /// data file.
     Run(RunPaths<'a>),
     /// `csbatch edit DICT LOGIC DATA OUT LIST FREQ [--messages F] [--order F]`, and the options of `run`: run logic over a
     /// data file.
@@ -54,6 +55,8 @@ pub struct RunPaths<'a> {
     pub case_steps: Option<u64>,
     /// Whether the disk is to have the outputs before what was counted is told.
     pub sync: bool,
+    /// Whether a terminal is not to be told how far the run is.
+    pub quiet: bool,
 }
 
 /// The files of `edit`: those of `compile` and of `run`, with no image between.
@@ -211,6 +214,7 @@ fn run_paths<'a>(matches: &ArgMatches<'a>, image: &'a str) -> Result<RunPaths<'a
         decks: may(matches, "decks"),
         case_steps: number_of(case_steps)?,
         sync: is_given(matches, "sync"),
+        quiet: is_given(matches, "quiet"),
     })
 }
 

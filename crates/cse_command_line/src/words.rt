@@ -76,7 +76,7 @@ fn compile_words<'a>(alloc: Global) -> Result<Clap<'a>, AllocError>
     words_of(alloc, "compile", &words)
 }
 
-/// `run DICT IMAGE DATA OUT LIST FREQ [--decks F] [--case-steps N] [--sync]`.
+/// `run DICT IMAGE DATA OUT LIST FREQ [--decks F] [--case-steps N] [--sync] [--quiet]`.
 fn run_words<'a>(alloc: Global) -> Result<Clap<'a>, AllocError>
     ensures { IfOk result (AreWords run_words) }
 {
@@ -90,6 +90,7 @@ fn run_words<'a>(alloc: Global) -> Result<Clap<'a>, AllocError>
         Word::Named("decks"),
         Word::Named("case-steps"),
         Word::Flag("sync"),
+        Word::Flag("quiet"),
     ];
     words_of(alloc, "run", &words)
 }
@@ -110,6 +111,7 @@ fn edit_words<'a>(alloc: Global) -> Result<Clap<'a>, AllocError>
         Word::Named("decks"),
         Word::Named("case-steps"),
         Word::Flag("sync"),
+        Word::Flag("quiet"),
     ];
     words_of(alloc, "edit", &words)
 }

@@ -14,6 +14,7 @@
 
 use cse_check::command::carry_out;
 use cse_commands::start::{USAGE, carry_out_and_tell};
+use cse_office::command::carry_out as look;
 use cse_test_desk::desk::Desk;
 use cse_test_desk::row::Commands;
 use cse_test_desk::tables::show_tables;
@@ -29,7 +30,10 @@ impl Commands for All {
         desk: &Desk<'_, R>,
         errors: &mut W,
     ) -> u8 {
-        match carry_out(desk, USAGE, errors) {
+        if let Some(status) = carry_out(desk, USAGE, errors) {
+            return status;
+        }
+        match look(desk, USAGE, errors) {
             Some(status) => status,
             None => carry_out_and_tell(desk, errors),
         }

@@ -1,0 +1,17 @@
+use Rattle.std.proofs.Common.{◌≡◌, ◌≤◌, ◌-◌, ◌*◌, ◌^◌, None, true}
+use Rattle.cse_value.specs.Device.{IsAtEnd}
+use Rattle.cse_changes.proofs.CompareLaws.{Comparing}
+use Rattle.cse_changes.proofs.files.compare_seen.Given as goal
+
+abbrev pub invariant-runs : goal.invariant-runs
+invariant-runs g l = record {
+  comparing : Comparing l.dictionary (g.R.Input.given l.fn.read) (g.R.Input.given l.read) l.reader (g.S.Input.given l.fn.written) (g.S.Input.given l.written) l.other l.counts.items l.lines;
+  sound : l.reader.error ≡ None;
+  sound_other : l.other.error ≡ None;
+  end : l.reader.ended ≡ true → IsAtEnd (g.R.Input.given l.read);
+  end_other : l.other.ended ≡ true → IsAtEnd (g.S.Input.given l.written);
+  few : l.lines ≤ 2 ^ 40 * 65536;
+}
+
+abbrev pub decreases-runs : goal.decreases-runs
+decreases-runs g l = 2 ^ 40 * 65536 - l.lines

@@ -1,0 +1,140 @@
+//! `diff`: what a run changed, from the files of its words to what it prints.
+
+ghost use Rattle.cse_office.specs.Apart.{AreApart};
+ghost use Rattle.cse_office.specs.Roles.{uses};
+ghost use Rattle.cse_office.specs.declared.words.Command.TheVariants.{Diff as DiffCommand};
+
+use crate::files::{opened, print_text, sheet_of, write_text, written};
+use crate::stop::Stop;
+use crate::words::Asked;
+use cse_changes::{CompareFault, SeenFault};
+use cse_dict::Dictionary;
+use cse_diff::{Area, Diff, Watching, compare, put_diff, put_page, put_sheet};
+use cse_fault_numbers::{UNKNOWN_NAME, WANT_OF_MEMORY};
+use cse_tables::names::Names;
+use cse_tables::text::Text;
+use cse_value::shape::ID_OWNER;
+use std::alloc::Global;
+use std::rt::Files;
+
+/// The number of a line of OUT that is no pair of the line of DATA beside it.
+const APART: u8 = 23;
+
+/// The id item of a name.
+fn id_item(dictionary: &Dictionary, name: &str) -> Option<usize> {
+    let number = dictionary.find_item(name)? as usize;
+    match dictionary.shape().items.get(number) {
+        Some(item) if item.owner == ID_OWNER => Some(number),
+        _ => None,
+    }
+}
+
+/// The id items of names with commas between them: 40 where a name is none's.
+fn id_items<'a>(
+    alloc: Global,
+    dictionary: &Dictionary,
+    by: Option<&str>,
+) -> Result<Vec<usize>, Stop<'a>> {
+    let mut items = Vec::new(alloc);
+    if let Some(by) = by {
+        for name in by.split(',') {
+            let Some(number) = id_item(dictionary, name) else {
+                return Err(Stop::of_file(UNKNOWN_NAME, ""));
+            };
+            if items.push(number).is_err() {
+                return Err(Stop::of_memory());
+            }
+        }
+    }
+    Ok(items)
+}
+
+/// Why a comparison stopped, with the path of the file.
+fn stop_of<'a>(fault: SeenFault<u8>, asked: &Asked<'a>) -> Stop<'a> {
+    match fault {
+        SeenFault::Seen(number) => Stop::of_file(number, asked.cases.unwrap_or("")),
+        SeenFault::Compare(CompareFault::Data(error)) => {
+            Stop::at_line(error.number, error.line, asked.second)
+        }
+        SeenFault::Compare(CompareFault::Out(error)) => {
+            Stop::at_line(error.number, error.line, asked.third)
+        }
+        SeenFault::Compare(CompareFault::Apart { line }) => Stop::at_line(APART, line, asked.third),
+        SeenFault::Compare(CompareFault::Memory) => Stop::of_file(WANT_OF_MEMORY, ""),
+    }
+}
+
+/// Compares the files.
+fn compared<'n, 'a, R: Files + AllocGlobal>(
+    rt: &R,
+    asked: &Asked<'a>,
+    names: &Names<'n>,
+    diff: Diff<'n>,
+) -> Result<Diff<'n>, Stop<'a>> {
+    let mut data = opened(rt, asked.second)?;
+    let mut out = opened(rt, asked.third)?;
+    let rows = sheet_of(rt, asked.cases)?;
+    let mut watching = Watching::new(rt.alloc(), names, diff, rows);
+    let outcome = compare(
+        rt.alloc(),
+        names.dictionary,
+        &mut data.device,
+        &mut out.device,
+        &mut watching,
+    );
+    let (diff, failure) = watching.finish();
+    match outcome {
+        Ok(()) => {
+            written(failure, asked.cases)?;
+            Ok(diff)
+        }
+        Err(fault) => Err(stop_of(fault, asked)),
+    }
+}
+
+/// Writes what was changed: the page, the table, and what is printed.
+fn tell_changes<'v, 'a, R: Files + Print + AllocGlobal>(
+    rt: &R,
+    asked: &Asked<'a>,
+    names: &Names<'v>,
+    diff: &Diff<'_>,
+    kinds: &[(u64, u64, &'v [u8])],
+    areas: &'v [Area],
+) -> Result<(), Stop<'a>> {
+    let mut page = Text::new(rt.alloc());
+    if asked.html.is_some() {
+        put_page(&mut page, rt.alloc(), names, diff, kinds, areas);
+    }
+    write_text(rt, asked.html, page)?;
+    let mut sheet = sheet_of(rt, asked.csv)?;
+    if asked.csv.is_some() {
+        put_sheet(&mut sheet, names, diff, areas);
+    }
+    written(sheet.finish(), asked.csv)?;
+    let mut text = Text::new(rt.alloc());
+    put_diff(&mut text, names, diff, kinds, areas);
+    print_text(rt, text)
+}
+
+/// `diff`, where no file that is written is one of the others.
+pub(crate) fn diff_files<'a, R: Files + Print + AllocGlobal>(
+    rt: &R,
+    asked: &Asked<'a>,
+    names: &Names<'_>,
+) -> Result<(), Stop<'a>>
+    requires apart { AreApart (uses DiffCommand asked.now) }
+{
+    let by = id_items(rt.alloc(), names.dictionary, asked.by)?;
+    let shape = names.dictionary.shape();
+    let Ok(diff) = Diff::new(rt.alloc(), shape, by, asked.html.is_some()) else {
+        return Err(Stop::of_memory());
+    };
+    let diff = compared(rt, asked, names, diff)?;
+    let Ok(kinds) = diff.kinds() else {
+        return Err(Stop::of_memory());
+    };
+    let Ok(areas) = diff.areas(names) else {
+        return Err(Stop::of_memory());
+    };
+    tell_changes(rt, asked, &*names, &diff, &kinds, &areas)
+}

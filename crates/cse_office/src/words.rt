@@ -1,0 +1,165 @@
+//! What the words of a command line ask for.
+
+/// A command.
+#[derive(Clone, Copy, PartialEq, Eq)]
+pub(crate) enum Command {
+    /// `diff DICT DATA OUT [--by ITEM[,ITEM]] [--cases F] [--html F] [--csv F]`
+    Diff,
+    /// `look DICT DATA`
+    Look,
+    /// `dict DICT`
+    Dict,
+    /// `report DICT LIST FREQ [--html F] [--csv F]`
+    Report,
+    /// `show IMAGE [DICT]`
+    Show,
+}
+
+/// What the words of a command name: its paths, in their order, and its options.
+#[derive(Clone, Copy)]
+pub(crate) struct Asked<'a> {
+    /// How many paths there are; the others are empty.
+    pub count: usize,
+    pub first: &'a str,
+    pub second: &'a str,
+    pub third: &'a str,
+    /// The id items by which areas are told, with commas between them.
+    pub by: Option<&'a str>,
+    pub cases: Option<&'a str>,
+    pub html: Option<&'a str>,
+    pub csv: Option<&'a str>,
+}
+
+/// What the next word is.
+#[derive(Clone, Copy, PartialEq, Eq)]
+enum Next {
+    Any,
+    /// A path, whatever it begins with.
+    Path,
+    /// What stands behind the option of this number.
+    Value(usize),
+}
+
+/// The words so far.
+#[derive(Clone, Copy)]
+struct Reader<'a> {
+    paths: [&'a str; 3],
+    count: usize,
+    /// What stands behind `--by`, `--cases`, `--html` and `--csv`.
+    options: [Option<&'a str>; 4],
+    /// The first of these that the command has.
+    first_option: usize,
+    next: Next,
+    /// Whether these are no words of the command.
+    is_wrong: bool,
+}
+
+/// Whether a word can be no path, unless it stands behind `--`.
+fn is_option(word: &str) -> bool {
+    word.len() > 1 && word.starts_with('-')
+}
+
+/// The number of an option; of a word that is none the number behind the last.
+fn option_of(word: &str) -> usize {
+    match word {
+        "--by" => 0,
+        "--cases" => 1,
+        "--html" => 2,
+        "--csv" => 3,
+        _ => 4,
+    }
+}
+
+/// The fewest paths of a command, the most, and the first of the options that it has.
+fn form_of(command: Command) -> (usize, usize, usize) {
+    match command {
+        Command::Diff => (3, 3, 0),
+        Command::Look => (2, 2, 4),
+        Command::Dict => (1, 1, 4),
+        Command::Report => (3, 3, 2),
+        Command::Show => (1, 2, 4),
+    }
+}
+
+impl<'a> Reader<'a> {
+    /// A path.
+    fn put_path(&mut self, path: &'a str) {
+        let count = self.count;
+        match self.paths.get_mut(count) {
+            Some(place) => *place = path,
+            None => self.is_wrong = true,
+        }
+        self.count = count.saturating_add(1);
+    }
+
+    /// What stands behind an option.
+    fn put_value(&mut self, option: usize, value: &'a str) {
+        self.is_wrong |= option < self.first_option;
+        match self.options.get_mut(option) {
+            Some(place) if place.is_none() => *place = Some(value),
+            _ => self.is_wrong = true,
+        }
+        self.next = Next::Any;
+    }
+
+    /// The next word.
+    fn take(&mut self, word: &'a str) {
+        match self.next {
+            Next::Path => self.put_path(word),
+            Next::Value(option) => {
+                self.is_wrong |= is_option(word);
+                self.put_value(option, word);
+            }
+            Next::Any if word == "--" => self.next = Next::Path,
+            Next::Any if !is_option(word) => self.put_path(word),
+            Next::Any => match word.split_once('=') {
+                Some((option, value)) => self.put_value(option_of(option), value),
+                None => self.next = Next::Value(option_of(word)),
+            },
+        }
+    }
+}
+
+/// The command of a word, if it is one.
+pub(crate) fn command_of(word: &str) -> Option<Command> {
+    match word {
+        "diff" => Some(Command::Diff),
+        "look" => Some(Command::Look),
+        "dict" => Some(Command::Dict),
+        "report" => Some(Command::Report),
+        "show" => Some(Command::Show),
+        _ => None,
+    }
+}
+
+/// What the words behind a command name; none where they are no words of it.
+pub(crate) fn asked_of<'a>(command: Command, words: &'a [String]) -> Option<Asked<'a>> {
+    let (least, most, first_option) = form_of(command);
+    let mut reader = Reader {
+        paths: [""; 3],
+        count: 0,
+        options: [None; 4],
+        first_option,
+        next: Next::Any,
+        is_wrong: false,
+    };
+    for word in words {
+        reader.take(word.as_str());
+    }
+    let is_open = matches!(reader.next, Next::Value(_));
+    if reader.is_wrong || is_open || reader.count < least || reader.count > most {
+        return None;
+    }
+    let [first, second, third] = reader.paths;
+    let [by, cases, html, csv] = reader.options;
+    Some(Asked {
+        count: reader.count,
+        first,
+        second,
+        third,
+        by,
+        cases,
+        html,
+        csv,
+    })
+}
