@@ -8,7 +8,7 @@ use cse_commands::start::{USAGE, carry_out_and_tell};
 use cse_office::command::carry_out as carry_out_office;
 use cse_progress::meter::{Meter, Told};
 use cse_progress::runtime::Watched;
-use cse_progress::watched::{texts_of, watched_path, words_if};
+use cse_progress::watched::{watched_path, words_if};
 use cse_value::{Output, Writes};
 use std::io::IsTerminal;
 use std::process::ExitCode;
@@ -26,13 +26,14 @@ fn carry_out<R: Env + Files + Print + AllocGlobal, W: Output>(rt: &R, errors: &m
 }
 
 fn main(rt: HostRuntime) -> ExitCode {
-    let given = words_if(&rt, rt.stderr().is_terminal());
-    let words = texts_of(rt.alloc(), &given);
-    let meter = Meter::new(&rt, rt.stderr());
+    let words = words_if(&rt, rt.stderr().is_terminal());
+    let data = watched_path(rt.alloc(), &words);
+    let path = data.as_deref();
+    let meter = Meter::new(rt, rt.stderr());
     let watched = Watched {
         rt: &rt,
         meter: &meter,
-        path: watched_path(rt.alloc(), &words),
+        path,
     };
     let mut errors = Writes::new(Told { meter: &meter });
     ExitCode::from(carry_out(&watched, &mut errors))

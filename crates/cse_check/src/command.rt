@@ -11,7 +11,6 @@ use itoa::Buffer;
 use std::alloc::Global;
 use std::env;
 use std::io::{self, ErrorKind};
-use std::process::ExitCode;
 use std::rt::{Env, Files as Opens};
 
 /// The most bytes of a file.
@@ -283,14 +282,5 @@ pub fn carry_out<R: Env + Opens + Print + AllocGlobal, W: Output>(
     match words_given(rt) {
         Ok(words) => carry_out_words(rt, &words, usage, errors),
         Err(_) => None,
-    }
-}
-
-/// The same of the program, as the exit code.
-pub fn start(rt: &HostRuntime, usage: &str) -> Option<ExitCode> {
-    let mut errors = Writes::new(rt.stderr());
-    match carry_out(rt, usage, &mut errors) {
-        Some(status) => Some(ExitCode::from(status)),
-        None => None,
     }
 }

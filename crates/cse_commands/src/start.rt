@@ -1,7 +1,6 @@
 //! The start of the program: a command is carried out, what it has not done is told, and its status answered.
 
-ghost use Rattle.std.specs.Prelude.{◌≡◌, ℕ, Bool, List, [], false};
-ghost use Rattle.std.specs.Process.{exit_status as code_of};
+ghost use Rattle.std.specs.Prelude.{◌≡◌, false};
 ghost use Rattle.cse_value.specs.Device.{Appends};
 ghost use Rattle.cse_value.specs.Writing.{AppendsFront, FailsAtErr, WritesAll};
 ghost use Rattle.cse_command_parts.specs.Ending.{exit_status};
@@ -14,7 +13,6 @@ use crate::commands::carry_out;
 use cse_command_parts::fault::{fault_line, write_one_file, write_steps_above};
 use cse_command_parts::outcome::{Stop, exit_status};
 use cse_value::{Failed, Input, Output, Reads, Writes, write_all};
-use std::process::ExitCode;
 use std::rt::{Env, Files};
 
 /// What is told of words that are no command.
@@ -54,17 +52,6 @@ The status is 0 where it is done, 1 where something was refused, 2 for words tha
 one file, and 3 where a file, a device or memory failed. At 1, 2 and 3 standard error tells why, in a line where the
 words are a command; at 1 of check and explain, and of look for what it found, standard output does.
 ";
-
-/// The program: it does what its words ask for, and tells on standard error what it has not done.
-pub fn start(rt: HostRuntime) -> ExitCode
-    // The status is that of what the command came to, and standard error took what is told of it.
-    ensures { (failed : Bool) × ((new : List ℕ) × EndsProgram (told_by (⟦<Reads<<HostRuntime as Files>::File> as Input>⟧.given)
-        (⟦<Writes<<HostRuntime as Files>::File> as Output>⟧.taken) (⟦<Writes<<HostRuntime as Files>::File> as Output>⟧.has_failed))
-        USAGE.now (code_of result) failed [] new) }
-{
-    let mut errors = Writes::new(rt.stderr());
-    ExitCode::from(carry_out_and_tell(&rt, &mut errors))
-}
 
 /// Does what the words ask for, tells what was not done, and answers the exit status.
 pub fn carry_out_and_tell<R: Env + Files + Print + AllocGlobal, W: Output>(

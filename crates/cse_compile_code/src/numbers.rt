@@ -1,9 +1,10 @@
 //! The code of expressions: the place goes in, and the place behind comes out.
 
-ghost use Rattle.std.specs.Prelude.{◌≡◌, ◌+◌, ◌≤◌, [], ◌∷◌, ◌++◌, map, OnOk, IfOk};
+ghost use Rattle.std.specs.Prelude.{◌≡◌, ◌+◌, ◌≤◌, [], ◌∷◌, ◌++◌, pos, map, OnOk, IfOk};
+ghost use Rattle.cse_value.specs.Occurrences.{most_occurrences};
 ghost use Rattle.cse_image_parts.specs.declared.instruction.Op.TheVariants as ops;
 ghost use Rattle.cse_logic_tree.specs.Typed.{number, words, numbers, operations, operation_tree};
-ghost use Rattle.cse_compile_code.specs.Wide.{wide, with_a, with_c, pops};
+ghost use Rattle.cse_compile_code.specs.Wide.{Constant, wide, with_a, with_c, pops, undefined};
 ghost use Rattle.cse_compile_code.specs.Setting.{setting};
 ghost use Rattle.cse_compile_code.specs.Numbers as spec;
 ghost use Rattle.cse_compile_code.specs.Clauses.{all_numbers, cell_code, cell_end, cell_tail, guarded_code};
@@ -14,7 +15,8 @@ use crate::setting::Setting;
 use crate::sizes::{behind, indexes_size};
 use crate::wide::Wide;
 use cse_image_parts::instruction::Op;
-use cse_logic_tree::{Number, NumberKind, Operation, Words, WordsKind};
+use cse_logic_tree::{Field, Found, Number, NumberKind, Operation, Words, WordsKind};
+use cse_syntax_tree::Special;
 use std::alloc::AllocError;
 
 impl<'a> Emitter<'a> {
@@ -36,6 +38,36 @@ impl<'a> Emitter<'a> {
         self.one(place + (count + 2), UNDEFINED)
     }
 
+    /// A special value.
+    fn special(&mut self, place: usize, value: Special) -> Result<usize, AllocError>
+        requires room { place + 1 ≤ 1000000 }
+        ensures code { OnOk result (self.new ≡ self.old ++ with_a ops.Special (spec.special_number value) ∷ []) }
+        ensures behind { IfOk result (λ n. n ≡ place + 1) }
+    {
+        let special = special_number(value);
+        self.one(place, Wide::Plain(Op::Special, special, 0, 0))
+    }
+
+    /// The most occurrences of a record.
+    fn most(&mut self, s: &Setting, place: usize, of: u8) -> Result<usize, AllocError>
+        requires room { place + 1 ≤ 1000000 }
+        ensures code { OnOk result (self.new ≡ self.old ++ Constant (pos (most_occurrences (setting s.now).records of)) ∷ []) }
+        ensures behind { IfOk result (λ n. n ≡ place + 1) }
+    {
+        let most = s.most_occurrences(of);
+        self.one(place, Wide::Constant(most as i64))
+    }
+
+    /// The number of the occurrence that an event or a loop has.
+    fn current(&mut self, place: usize, of: u8, found: Found) -> Result<usize, AllocError>
+        requires room { place + spec.here_size found ≤ 1000000 }
+        ensures code { OnOk result (self.new ≡ self.old ++ spec.here_code (with_a ops.OccurrenceNumber of) undefined of place found) }
+        ensures behind { IfOk result (λ n. n ≡ place + spec.here_size found) }
+    {
+        let taken = Wide::Plain(Op::OccurrenceNumber, of, 0, 0);
+        self.here(place, taken, UNDEFINED, of, found)
+    }
+
     /// Emits the code of a number, and tells the place behind it.
     #[cycle(emit)]
     #[tactic(auto, unfolding(crate::specs::Numbers::number_size, crate::specs::Numbers::number_code))]
@@ -46,16 +78,10 @@ impl<'a> Emitter<'a> {
     {
         match &*x.kind {
             NumberKind::Literal(_, value) => self.one(place, Wide::Constant(*value)),
-            NumberKind::Special(_, value) => {
-                let special = special_number(*value);
-                self.one(place, Wide::Plain(Op::Special, special, 0, 0))
-            }
+            NumberKind::Special(_, value) => self.special(place, *value),
             NumberKind::Variable(_, variable) => self.number_of_variable(s, place, *variable),
             NumberKind::Item(_, item) => self.number_of_item(place, *item),
-            NumberKind::ItemAt(_, field, subscript) => {
-                let taken = Wide::Plain(Op::ItemNumber, 0, 0, field.item as usize);
-                self.subscripted(s, place, subscript, taken, UNDEFINED, field.owner)
-            }
+            NumberKind::ItemAt(_, field, subscript) => self.number_at(s, place, *field, subscript),
             NumberKind::Cell(_, array, subscripts) => {
                 self.number_of_cell(s, place, *array, subscripts)
             }
@@ -69,14 +95,8 @@ impl<'a> Emitter<'a> {
                 place,
                 Wide::Plain(Op::TotalOccurrences, *of, 0, 0),
             ),
-            NumberKind::MaxOcc(_, of) => {
-                let most = s.most_occurrences(*of);
-                self.one(place, Wide::Constant(most as i64))
-            }
-            NumberKind::CurOcc(_, of, found) => {
-                let taken = Wide::Plain(Op::OccurrenceNumber, *of, 0, 0);
-                self.here(place, taken, UNDEFINED, *of, *found)
-            }
+            NumberKind::MaxOcc(_, of) => self.most(s, place, *of),
+            NumberKind::CurOcc(_, of, found) => self.current(place, *of, *found),
             NumberKind::InSet(_, item, _, set) => self.in_set(place, *item, *set),
             NumberKind::Minus(operand) => self.applied(s, place, operand, Op::Negate, 0),
             NumberKind::Not(operand) => self.applied(s, place, operand, Op::Not, 0),
@@ -172,6 +192,24 @@ impl<'a> Emitter<'a> {
     {
         let at = self.number(s, place, subscript)?;
         self.guarded(at, taken, none, of)
+    }
+
+    /// A numeric item of an occurrence.
+    #[cycle(emit)]
+    fn number_at(
+        &mut self,
+        s: &Setting,
+        place: usize,
+        field: Field,
+        subscript: &Number<'a>,
+    ) -> Result<usize, AllocError>
+        requires room { place + (spec.number_size (number subscript.now) + 4) ≤ 1000000 }
+        ensures code { OnOk result (self.new
+            ≡ self.old ++ guarded_code (setting s.now) place (number subscript.now) (with_c ops.ItemNumber field.item) undefined field.owner) }
+        ensures behind { IfOk result (λ n. n ≡ place + (spec.number_size (number subscript.now) + 4)) }
+    {
+        let taken = Wide::Plain(Op::ItemNumber, 0, 0, field.item as usize);
+        self.subscripted(s, place, subscript, taken, UNDEFINED, field.owner)
     }
 
     /// Indexes, and the cell that they lead to.

@@ -68,9 +68,7 @@ impl<'a> Emitter<'a> {
     {
         match &*x.kind {
             StatementKind::Empty => Ok(place),
-            StatementKind::Set(_, variable, value) => {
-                self.number_into_variable(s, place, *variable, value)
-            }
+            StatementKind::Set(_, into, value) => self.number_into_variable(s, place, *into, value),
             StatementKind::SetText(_, variable, value) => {
                 self.words_into_variable(s, place, *variable, value)
             }
@@ -83,9 +81,7 @@ impl<'a> Emitter<'a> {
             StatementKind::SetCell(_, array, subscripts, value) => {
                 self.number_into_cell(s, place, *array, subscripts, value)
             }
-            StatementKind::Call(_, function, arguments) => {
-                self.call_alone(s, place, *function, arguments)
-            }
+            StatementKind::Call(_, called, values) => self.call_alone(s, place, *called, values),
             StatementKind::If(first, others, otherwise) => {
                 let behind = otherwise_size(s, otherwise);
                 let rest = arms_size(s, others, behind);
@@ -94,15 +90,10 @@ impl<'a> Emitter<'a> {
                 let third = self.arms(s, around, end, second, others, behind)?;
                 match otherwise {
                     None => Ok(third),
-                    Some(body) => {
-                        let last = self.block(s, around, third, body)?;
-                        Ok(last)
-                    }
+                    Some(body) => self.block(s, around, third, body),
                 }
             }
-            StatementKind::For(_, variable, _, of, body) => self.over(
-                s, place, *variable, *of, body,
-            ),
+            StatementKind::For(_, into, _, of, body) => self.over(s, place, *into, *of, body),
             StatementKind::Do(head, body) => self.counted(s, place, head, body),
             StatementKind::Jump(_, jump) => self.jump(s, around, place, *jump),
             StatementKind::Impute(_, field, at, value) => {

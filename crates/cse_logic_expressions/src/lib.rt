@@ -28,3 +28,4 @@ mod place;
 pub mod set;
 
 pub use laws::expressions_are_judged;
+pub use made::statement_found;

@@ -5,7 +5,7 @@ ghost use Rattle.std.specs.Option.{option_map};
 ghost use Rattle.cse_syntax_tree.specs.Tree as syntax;
 ghost use Rattle.cse_syntax_tree.specs.Tree.{written, stmt, arm_tree as parsed_arm, arms as parsed_arms, otherwise_tree as parsed_otherwise};
 ghost use Rattle.cse_logic_tree.specs.Typed as typed;
-ghost use Rattle.cse_logic_tree.specs.Typed.{number, statement, statement_kind, arm_tree, otherwise_tree, counting};
+ghost use Rattle.cse_logic_tree.specs.Typed.{number, statement, arm_tree, otherwise_tree, counting};
 ghost use Rattle.cse_logic_names.specs.WellTyped.{messages_in, messages_of};
 ghost use Rattle.cse_logic_expressions.specs.JudgeStatement as spec;
 ghost use Rattle.cse_logic_expressions.specs.JudgeStatement.{judge_statement, judge_block, judge_arm, judge_each, messages_each, for_head, counting_judged, opened};
@@ -18,6 +18,7 @@ use cse_logic_expressions::errmsg::err_msg;
 use cse_logic_expressions::expression::value;
 use cse_logic_expressions::head::{counting, for_head};
 use cse_logic_expressions::list::{both_hold, keep};
+use cse_logic_expressions::statement_found;
 use cse_logic_names::scope::Scope;
 use cse_logic_parts::told::Told;
 use cse_logic_tree::{Arm, Counting, Number, Statement, StatementKind, Variable};
@@ -36,13 +37,6 @@ fn guarded<'a>(condition: Option<Number<'a>>, body: Option<Vec<Statement<'a>>>) 
     }
 }
 
-/// A statement of this kind.
-fn made<'a>(alloc: Global, kind: StatementKind<'a>) -> Result<Option<Statement<'a>>, AllocError>
-    ensures { IfOk result (λ r. option_map statement r ≡ Some (statement_kind kind.entry)) }
-{
-    Statement::new(alloc, kind).map(Some)
-}
-
 /// An `if`: its first arm, the others, and its `else`.
 fn chosen<'a>(
     alloc: Global,
@@ -59,7 +53,10 @@ fn chosen<'a>(
             None => Ok(None),
             Some(others) => match otherwise {
                 None => Ok(None),
-                Some(otherwise) => made(alloc, StatementKind::choice(first, others, otherwise)),
+                Some(otherwise) => statement_found(
+                    alloc,
+                    StatementKind::choice(first, others, otherwise),
+                ),
             },
         },
     }
@@ -106,7 +103,7 @@ fn for_of<'a>(
         None => Ok(None),
         Some(((found, over), body)) => {
             let kind = StatementKind::each_occurrence(variable, found, record_name, over, body);
-            made(alloc, kind)
+            statement_found(alloc, kind)
         }
     }
 }
@@ -120,7 +117,7 @@ fn do_of<'a>(
 {
     match head.zip(body) {
         None => Ok(None),
-        Some((head, body)) => made(alloc, StatementKind::counted(head, body)),
+        Some((head, body)) => statement_found(alloc, StatementKind::counted(head, body)),
     }
 }
 
@@ -159,7 +156,7 @@ fn statement<'a>(
     ensures same { OnOk result (scope.new ≡ scope.old) }
 {
     match &*x.kind {
-        ParsedKind::Empty => made(alloc, StatementKind::Empty),
+        ParsedKind::Empty => statement_found(alloc, StatementKind::Empty),
         ParsedKind::Assign(place, value) => assignment(alloc, scope, place, value),
         ParsedKind::Call(name, arguments) => alone(alloc, scope, *name, arguments),
         ParsedKind::If(first, others, otherwise) => {

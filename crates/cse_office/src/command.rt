@@ -12,9 +12,8 @@ use crate::stop::{Stop, tell};
 use crate::words::{Asked, Command, asked_of, command_of};
 use cse_tables::names::Names;
 use cse_tables::text::Text;
-use cse_value::{Output, Writes};
+use cse_value::Output;
 use cse_views::put_dict;
-use std::process::ExitCode;
 use std::rt::{Env, Files};
 use std::{env, io};
 
@@ -127,14 +126,5 @@ pub fn carry_out<R: Env + Files + Print + AllocGlobal, W: Output>(
     match words_given(rt) {
         Ok(words) => carry_out_words(rt, &words, usage, errors),
         Err(_) => None,
-    }
-}
-
-/// The same of the program, as the exit code.
-pub fn start(rt: &HostRuntime, usage: &str) -> Option<ExitCode> {
-    let mut errors = Writes::new(rt.stderr());
-    match carry_out(rt, usage, &mut errors) {
-        Some(status) => Some(ExitCode::from(status)),
-        None => None,
     }
 }

@@ -10,7 +10,7 @@ use std::rt::Clock;
 #[derive(Drop)]
 pub struct Counted<'a, F, R, T> {
     pub file: F,
-    pub meter: Option<&'a Meter<'a, R, T>>,
+    pub meter: Option<&'a Meter<R, T>>,
 }
 
 impl<F: Read, R: Clock, T: Print> Read for Counted<'_, F, R, T> {

@@ -27,8 +27,8 @@ struct Progress {
 
 /// How much was read of a file, and the terminal that is told of it.
 #[derive(Drop)]
-pub struct Meter<'a, R, T> {
-    clock: &'a R,
+pub struct Meter<R, T> {
+    clock: R,
     terminal: T,
     progress: Cell<Progress>,
 }
@@ -79,9 +79,9 @@ fn nothing_read(began: u64, size: Option<u64>) -> Progress {
     }
 }
 
-impl<'a, R: Clock, T: Print> Meter<'a, R, T> {
+impl<R: Clock, T: Print> Meter<R, T> {
     /// No file was opened so far.
-    pub fn new(clock: &'a R, terminal: T) -> Meter<'a, R, T> {
+    pub fn new(clock: R, terminal: T) -> Meter<R, T> {
         Meter {
             clock,
             terminal,
@@ -121,7 +121,7 @@ impl<'a, R: Clock, T: Print> Meter<'a, R, T> {
     }
 }
 
-impl<R, T: Print> Meter<'_, R, T> {
+impl<R, T: Print> Meter<R, T> {
     /// Does away with the line that stands on the terminal, if one does.
     pub fn clear(&self) {
         let mut progress = self.progress.get();
@@ -136,7 +136,7 @@ impl<R, T: Print> Meter<'_, R, T> {
 /// The terminal, as a writer. The line that stands there goes before anything else is told.
 #[derive(Drop)]
 pub struct Told<'a, R, T> {
-    pub meter: &'a Meter<'a, R, T>,
+    pub meter: &'a Meter<R, T>,
 }
 
 impl<R, T: Print> Write for Told<'_, R, T> {

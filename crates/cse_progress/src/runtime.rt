@@ -16,7 +16,7 @@ use std::rt::{Clock, Env, Files};
 #[derive(Drop)]
 pub struct Watched<'a, R, T> {
     pub rt: &'a R,
-    pub meter: &'a Meter<'a, R, T>,
+    pub meter: &'a Meter<R, T>,
     /// The path of that file. Where there is none, nothing is told.
     pub path: Option<&'a str>,
 }
@@ -36,12 +36,7 @@ fn size_of<F: OpenFile>(file: &F) -> Option<u64> {
 
 impl<'a, R: Files + Clock, T: Print> Watched<'a, R, T> {
     /// What counts the reads of an open file: of the one at the path, if it is opened to be read.
-    fn meter_of(
-        &self,
-        how: &OpenOptions,
-        path: &str,
-        file: &R::File,
-    ) -> Option<&'a Meter<'a, R, T>> {
+    fn meter_of(&self, how: &OpenOptions, path: &str, file: &R::File) -> Option<&'a Meter<R, T>> {
         match self.path {
             Some(watched) if !how.asks_write() && watched == path => {
                 self.meter.begin(size_of(file));

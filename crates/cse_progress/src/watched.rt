@@ -19,7 +19,7 @@ pub fn words_if<R: Env + AllocGlobal>(rt: &R, is_terminal: bool) -> Vec<String> 
 }
 
 /// The words as texts. Where memory lacks, words are missing.
-pub fn texts_of<'a>(alloc: Global, words: &'a [String]) -> Vec<&'a str> {
+fn texts_of<'a>(alloc: Global, words: &'a [String]) -> Vec<&'a str> {
     let mut texts = Vec::new(alloc);
     for word in words {
         let _ = texts.push(word.as_str());
@@ -27,14 +27,28 @@ pub fn texts_of<'a>(alloc: Global, words: &'a [String]) -> Vec<&'a str> {
     texts
 }
 
+/// A path of its own; none where memory lacks.
+fn owned(alloc: Global, path: &str) -> Option<String> {
+    let mut own = String::new(alloc);
+    match own.push_str(path) {
+        Ok(()) => Some(own),
+        Err(_) => None,
+    }
+}
+
 /// The data file of a run or an edit, unless it is to be quiet; none of other words.
-pub fn watched_path<'a>(alloc: Global, words: &'a [&'a str]) -> Option<&'a str> {
+fn data_of(alloc: Global, words: &[&str]) -> Option<String> {
     if words.is_empty() {
         return None;
     }
     match plan(alloc, words) {
-        Ok(Command::Run(paths)) if !paths.quiet => Some(paths.data),
-        Ok(Command::Edit(paths)) if !paths.run.quiet => Some(paths.run.data),
+        Ok(Command::Run(paths)) if !paths.quiet => owned(alloc, paths.data),
+        Ok(Command::Edit(paths)) if !paths.run.quiet => owned(alloc, paths.run.data),
         _ => None,
     }
+}
+
+/// The data file of the run or the edit that these words ask for, unless it is to be quiet; none of other words.
+pub fn watched_path(alloc: Global, words: &[String]) -> Option<String> {
+    data_of(alloc, &texts_of(alloc, words))
 }

@@ -25,7 +25,7 @@ impl<'t, 'a> Parser<'t, 'a> {
     fn expression_of(&self, kind: ExpressionKind<'a>) -> Result<Expression<'a>, ReadError>
         ensures { Reads expr (λ ws. Some (expr_kind kind.entry, ws)) result self.now.rest.now self.now.rest.now }
     {
-        Ok(Expression::new(self.alloc, kind)?)
+        made(self.alloc, kind)
     }
 
     /// A name and what stands in parentheses after it.

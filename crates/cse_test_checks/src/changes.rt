@@ -130,7 +130,7 @@ fn right_rows(alloc: Global) -> usize {
     right
 }
 
-#[test]
-fn comparisons(rt: HostRuntime) {
-    assert!(rt; right_rows(rt.alloc()) == 24);
+/// Whether all comparisons tell what they should.
+pub(crate) fn are_right(alloc: Global) -> bool {
+    right_rows(alloc) == 24
 }

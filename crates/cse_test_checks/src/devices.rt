@@ -20,9 +20,7 @@ fn is_taken(alloc: Global) -> bool {
     (first == Ok(2)) & (second == Ok(())) & (out.into_inner().as_slice() == b"abcd".as_slice())
 }
 
-#[test]
-fn devices(rt: HostRuntime) {
-    assert!(rt; is_read());
-    assert!(rt; is_taken(rt.alloc()));
-    assert!(rt; OutOfMemory::from(AllocError) == OutOfMemory);
+/// Whether devices give and take what they should.
+pub(crate) fn are_right(alloc: Global) -> bool {
+    is_read() & is_taken(alloc) & (OutOfMemory::from(AllocError) == OutOfMemory)
 }

@@ -50,14 +50,9 @@ fn runs_are_given(alloc: Global, dictionary: &Dictionary) -> bool {
 }
 
 /// Whether the rows come out as they should.
-fn is_right(alloc: Global) -> bool {
+pub(crate) fn are_right(alloc: Global) -> bool {
     match persons(alloc) {
         Ok(dictionary) => runs_are_given(alloc, &dictionary),
         Err(_) => false,
     }
-}
-
-#[test]
-fn files(rt: HostRuntime) {
-    assert!(rt; is_right(rt.alloc()));
 }

@@ -48,9 +48,8 @@ fn is_shown(alloc: Global, error: &ImageError, wanted: &str) -> bool {
     }
 }
 
-#[test]
-fn images(rt: HostRuntime) {
+/// Whether an image is read as it was written, and its fault is shown.
+pub(crate) fn are_right(alloc: Global) -> bool {
     let error = ImageError { number: 61, at: 93 };
-    assert!(rt; is_read(rt.alloc(), &HELLO));
-    assert!(rt; is_shown(rt.alloc(), &error, "fault 61 at byte 93"));
+    is_read(alloc, &HELLO) & is_shown(alloc, &error, "fault 61 at byte 93")
 }

@@ -1,7 +1,6 @@
 //! Images in which one bit was turned. Each byte with each other value: `examples/fuzz`.
 
 use crate::hello::{HELLO, put_hello};
-use crate::told::assert_count;
 use cse_command_try::try_image::try_to;
 use cse_dict::Dictionary;
 use cse_value::Writes;
@@ -75,8 +74,7 @@ fn first_turned_of_hello(alloc: Global) -> Option<usize> {
     }
 }
 
-#[test]
-fn turned_bits(rt: HostRuntime) {
-    assert_count(&rt, first_turned(rt.alloc(), &HELLO), 94);
-    assert_count(&rt, first_turned_of_hello(rt.alloc()), 98);
+/// Whether each byte of both images could be turned.
+pub(crate) fn are_right(alloc: Global) -> bool {
+    (first_turned(alloc, &HELLO) == Some(94)) & (first_turned_of_hello(alloc) == Some(98))
 }

@@ -45,9 +45,7 @@ fn reads_and_writes_texts() -> bool {
         & compare_text(Rel::Less, &longest, &read_text(&columns))
 }
 
-#[test]
-fn values(rt: HostRuntime) {
-    assert!(rt; computes());
-    assert!(rt; reads_and_writes_numbers());
-    assert!(rt; reads_and_writes_texts());
+/// Whether values are computed, read and written as they should be.
+pub(crate) fn are_right() -> bool {
+    computes() & reads_and_writes_numbers() & reads_and_writes_texts()
 }

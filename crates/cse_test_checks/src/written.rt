@@ -61,14 +61,9 @@ fn is_written<'a>(alloc: Global, dictionary: &Dictionary, text: &'a str) -> bool
 }
 
 /// Whether it is so under the dictionary of persons.
-fn is_right(alloc: Global) -> bool {
+pub(crate) fn are_right(alloc: Global) -> bool {
     match persons(alloc) {
         Ok(dictionary) => is_written(alloc, &dictionary, "AGE"),
         Err(_) => false,
     }
-}
-
-#[test]
-fn an_item_that_is_imputed(rt: HostRuntime) {
-    assert!(rt; is_right(rt.alloc()));
 }

@@ -9,12 +9,14 @@
 //! derived from the rules, as those of the household sample were, but for `AGE.img`: as `HOUSEHOLD.img` it is what the
 //! compiler gave, read field by field.
 //!
-//! `cse_test_desk` says what a row is, and how it is carried out by commands. Here are the commands.
+//! `cse_test_desk` says what a row is, and how it is carried out by commands. Here are the commands. Before the rows come those of
+//! `cse_test_checks`, which look at calls that no command makes.
 #![tactic(auto)]
 
 use cse_check::command::carry_out;
 use cse_commands::start::{USAGE, carry_out_and_tell};
 use cse_office::command::carry_out as look;
+use cse_test_checks::show::show_parts;
 use cse_test_desk::desk::Desk;
 use cse_test_desk::row::Commands;
 use cse_test_desk::tables::show_tables;
@@ -41,5 +43,6 @@ impl Commands for All {
 }
 
 fn main(rt: HostRuntime) {
+    show_parts(&rt);
     show_tables(&rt, USAGE, &All);
 }

@@ -193,7 +193,7 @@ statement-returns-in_ok-last-in-Some-clause-told t c =
 -- ---- statements that hold no others
 
 pub statement-returns-in-Empty-clause-told : goal.statement-returns-in-Empty-clause-told
-statement-returns-in-Empty-clause-told t c = OnOk_from c.made.result _ (sym (append-nil (map told_of c.args.told.now.items)) ∙ ap (λ y. map told_of c.args.told.now.items ++ messages_in (stmt_kind y)) (sym (sym c.deref.ensures ∙ c.in-Empty.is)))
+statement-returns-in-Empty-clause-told t c = OnOk_from c.statement_found.result _ (sym (append-nil (map told_of c.args.told.now.items)) ∙ ap (λ y. map told_of c.args.told.now.items ++ messages_in (stmt_kind y)) (sym (sym c.deref.ensures ∙ c.in-Empty.is)))
 
 pub statement-returns-in-Assign-clause-told : goal.statement-returns-in-Assign-clause-told
 statement-returns-in-Assign-clause-told t c = OnOk_from c.assignment.result _ (sym (append-nil (map told_of c.args.told.now.items)) ∙ ap (λ y. map told_of c.args.told.now.items ++ messages_in (stmt_kind y)) (sym (sym c.deref.ensures ∙ c.in-Assign.is)))

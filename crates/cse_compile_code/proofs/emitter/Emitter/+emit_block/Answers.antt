@@ -1,10 +1,10 @@
-use Rattle.std.proofs.Common.{rules, ◌≡◌, ◌+◌, ◌++◌, drop, ap, sym, ◌∙◌, arith, map}
+use Rattle.std.proofs.Common.{rules, ◌≡◌, ◌+◌, ◌++◌, drop, refl, ap, sym, ◌∙◌, arith, map}
 use Rattle.std.proofs.lemmas.List.{append-nil}
 use Rattle.cse_logic_tree.specs.declared.tree.StatementKind.{the_lemmas}
 use Rattle.cse_logic_tree.specs.Typed.{statement, statement_kind, block, arm_tree, otherwise_tree, counting}
 use Rattle.cse_logic_tree.proofs.Rows.{for_is, do_is}
 use Rattle.cse_compile_code.specs.Setting.{setting}
-use Rattle.cse_compile_code.specs.Statements.{statement_size, statement_code, block_size, arms_size, arms_code, head_size, arms_alone_code}
+use Rattle.cse_compile_code.specs.Statements.{statement_size, statement_code, block_size, block_code, arms_size, arms_code, head_size, arms_alone_code}
 use Rattle.cse_compile_code.proofs.Arms.{told, choice_code, turn, arms_step_code}
 use Rattle.cse_compile_code.proofs.emitter.Emitter.+emit_block.Goals as goal
 
@@ -13,19 +13,19 @@ unfolding statement_size
 statement-over-requires t c =
     let s = setting c.args.s.now in
     let e : statement_size s (statement c.args.x.now) ≡ block_size s (block c.in-For.body.items) + 5 =
-    ap (λ x. statement_size s (statement_kind x)) (sym c.deref.ensures ∙ c.in-For.is) ∙ ap (statement_size s) (for_is c.in-For.field-0 c.in-For.variable c.in-For.field-2 c.in-For.of c.in-For.body) in
+    ap (λ x. statement_size s (statement_kind x)) (sym c.deref.ensures ∙ c.in-For.is) ∙ ap (statement_size s) (for_is c.in-For.field-0 c.in-For.into c.in-For.field-2 c.in-For.of c.in-For.body) in
     (search (rules, the_lemmas), omega (arith, e, c.requires.room))
 
 pub statement-returns-in-For-clause-code : goal.statement-returns-in-For-clause-code
 unfolding statement_code
 statement-returns-in-For-clause-code t c =
-    let same = ap statement_kind (sym c.deref.ensures ∙ c.in-For.is) ∙ for_is c.in-For.field-0 c.in-For.variable c.in-For.field-2 c.in-For.of c.in-For.body in
+    let same = ap statement_kind (sym c.deref.ensures ∙ c.in-For.is) ∙ for_is c.in-For.field-0 c.in-For.into c.in-For.field-2 c.in-For.of c.in-For.body in
     rw same c.over.ensures.code
 
 pub statement-returns-in-For-clause-behind : goal.statement-returns-in-For-clause-behind
 unfolding statement_size
 statement-returns-in-For-clause-behind t c =
-    let same = ap statement_kind (sym c.deref.ensures ∙ c.in-For.is) ∙ for_is c.in-For.field-0 c.in-For.variable c.in-For.field-2 c.in-For.of c.in-For.body in
+    let same = ap statement_kind (sym c.deref.ensures ∙ c.in-For.is) ∙ for_is c.in-For.field-0 c.in-For.into c.in-For.field-2 c.in-For.of c.in-For.body in
     rw same c.over.ensures.behind
 
 pub statement-counted-requires : goal.statement-counted-requires
@@ -87,27 +87,35 @@ statement-block-requires t c =
     let some = ap (λ o. arms_size (setting c.args.s.now) (otherwise_tree o)) c.in-Some.is in
     (search (rules, the_lemmas), omega (arith, sizes.parts, sizes.behind_all, some, c.requires.room, c.in_ok-second-in-If.ensures.behind, c.in_ok-third-in-If.ensures.behind))
 
-pub statement-returns-in_ok-last-in-Some-clause-behind : goal.statement-returns-in_ok-last-in-Some-clause-behind
+pub statement-returns-in-Some-clause-behind : goal.statement-returns-in-Some-clause-behind
 unfolding arms_size
-statement-returns-in_ok-last-in-Some-clause-behind t c =
+statement-returns-in-Some-clause-behind t c =
     let sizes = told (setting c.args.s.now) c.in-If.first c.in-If.others c.in-If.otherwise c.args.x.now c.args.place c.otherwise_size-behind.result c.arms_size-rest.result (sym c.deref.ensures ∙ c.in-If.is) c.requires.room c.otherwise_size-behind.ensures c.arms_size-rest.ensures in
     let some = ap (λ o. arms_size (setting c.args.s.now) (otherwise_tree o)) c.in-Some.is in
-    omega (arith, sizes.parts, sizes.behind_all, some, c.requires.room, c.in_ok-second-in-If.ensures.behind, c.in_ok-third-in-If.ensures.behind, c.in_ok-last-in-Some.ensures.behind)
+    let place : c.args.place + statement_size (setting c.args.s.now) (statement c.args.x.now) ≡ c.in_ok-third-in-If.third + block_size (setting c.args.s.now) (block c.in-Some.body.items) =
+    omega (arith, sizes.parts, sizes.behind_all, some, c.requires.room, c.in_ok-second-in-If.ensures.behind, c.in_ok-third-in-If.ensures.behind) in
+    rw place c.block.ensures.behind
 
-pub statement-returns-in_ok-last-in-Some-clause-code : goal.statement-returns-in_ok-last-in-Some-clause-code
+pub statement-returns-in-Some-clause-code : goal.statement-returns-in-Some-clause-code
 unfolding arms_code
-statement-returns-in_ok-last-in-Some-clause-code t c =
+statement-returns-in-Some-clause-code t c =
     let sizes = told (setting c.args.s.now) c.in-If.first c.in-If.others c.in-If.otherwise c.args.x.now c.args.place c.otherwise_size-behind.result c.arms_size-rest.result (sym c.deref.ensures ∙ c.in-If.is) c.requires.room c.otherwise_size-behind.ensures c.arms_size-rest.ensures in
+    let s = setting c.args.s.now in
     let end = c.args.place + c.statement_size.result in
     let third = c.in_ok-third-in-If.third in
-    choice_code (setting c.args.s.now) c.args.around c.args.place c.in-If.first c.in-If.others c.in-If.otherwise c.args.x.now c.args.self.now c.arm.new.self c.arms.new.self c.block.new.self end c.in_ok-second-in-If.second third c.arms_size-rest.result c.otherwise_size-behind.result
+    let last = arms_code s c.args.around end third (otherwise_tree c.in-If.otherwise) in
+    let whole : c.arms.new.self ++ last ≡ c.args.self.now ++ statement_code s c.args.around c.args.place (statement c.args.x.now) =
+    choice_code s c.args.around c.args.place c.in-If.first c.in-If.others c.in-If.otherwise c.args.x.now c.args.self.now c.arm.new.self c.arms.new.self (c.arms.new.self ++ last) end c.in_ok-second-in-If.second third c.arms_size-rest.result c.otherwise_size-behind.result
     sizes
     (omega (arith, c.statement_size.ensures, c.requires.room))
     c.in_ok-second-in-If.ensures.behind
     c.in_ok-third-in-If.ensures.behind
     c.in_ok-second-in-If.ensures.code
     c.in_ok-third-in-If.ensures.code
-    (c.in_ok-last-in-Some.ensures.code ∙ ap (λ o. c.arms.new.self ++ arms_code (setting c.args.s.now) c.args.around end third (otherwise_tree o)) (sym c.in-Some.is))
+    refl in
+    let same : c.args.self.now ++ statement_code s c.args.around c.args.place (statement c.args.x.now) ≡ c.arms.new.self ++ block_code s c.args.around third (block c.in-Some.body.items) =
+    sym whole ∙ ap (λ o. c.arms.new.self ++ arms_code s c.args.around end third (otherwise_tree o)) c.in-Some.is in
+    rw same c.block.ensures.code
 
 pub arms-arm-requires : goal.arms-arm-requires
 arms-arm-requires t c =
