@@ -16,6 +16,9 @@ use std::rt::{Env, Files as Opens};
 /// The most bytes of a file.
 const MOST_TEXT: u64 = 268_435_456;
 
+/// What is told where memory lacks for the words, so that it isn't known what they ask for.
+const NO_MEMORY: &[u8] = b"refused 90\n";
+
 /// Why a command has not printed all.
 #[derive(Clone, Copy)]
 enum Stop<'a> {
@@ -270,7 +273,8 @@ fn words_given<R: Env + AllocGlobal>(rt: &R) -> io::Result<Vec<String>> {
 }
 
 /// Does what the words ask for, if the first is `check` or `explain`, and answers the exit status, 3 at most. Else nothing is done
-/// or told, and none is answered. Other words behind these are told by the usage.
+/// or told, and none is answered; but where memory lacks for the words, that is told (90), whatever they ask for. Other words
+/// behind these are told by the usage.
 pub fn carry_out<R: Env + Opens + Print + AllocGlobal, W: Output>(
     rt: &R,
     usage: &str,
@@ -281,6 +285,10 @@ pub fn carry_out<R: Env + Opens + Print + AllocGlobal, W: Output>(
 {
     match words_given(rt) {
         Ok(words) => carry_out_words(rt, &words, usage, errors),
+        Err(error) if error.kind() == ErrorKind::OutOfMemory => {
+            let _ = write_all(errors, NO_MEMORY);
+            Some(3)
+        }
         Err(_) => None,
     }
 }

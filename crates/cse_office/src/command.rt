@@ -14,6 +14,7 @@ use cse_tables::names::Names;
 use cse_tables::text::Text;
 use cse_value::Output;
 use cse_views::put_dict;
+use std::io::ErrorKind;
 use std::rt::{Env, Files};
 use std::{env, io};
 
@@ -113,8 +114,8 @@ fn words_given<R: Env + AllocGlobal>(rt: &R) -> io::Result<Vec<String>> {
     Ok(words)
 }
 
-/// Does what the words ask for, if the first is one of these commands, and answers the exit status, 3 at most. Else, and where
-/// the words can't be read, nothing is done or told, and none is answered.
+/// Does what the words ask for, if the first is one of these commands, and answers the exit status, 3 at most. Else nothing is
+/// done or told, and none is answered; but where memory lacks for the words, that is told (90), whatever they ask for.
 pub fn carry_out<R: Env + Files + Print + AllocGlobal, W: Output>(
     rt: &R,
     usage: &str,
@@ -125,6 +126,9 @@ pub fn carry_out<R: Env + Files + Print + AllocGlobal, W: Output>(
 {
     match words_given(rt) {
         Ok(words) => carry_out_words(rt, &words, usage, errors),
+        Err(error) if error.kind() == ErrorKind::OutOfMemory => {
+            Some(tell(Stop::of_memory(), usage, errors))
+        }
         Err(_) => None,
     }
 }
