@@ -61,6 +61,9 @@ enum Content {
 /// The most columns of an item of which each number is looked up once.
 const MOST_KEPT: u16 = 3;
 
+/// How many bytes of one column are looked up once each, from the blank on.
+const BYTES_KEPT: usize = 96;
+
 /// The most columns of a number.
 const MOST_DIGITS: usize = 15;
 
@@ -75,9 +78,10 @@ pub struct Field {
     code: Option<i64>,
     /// The first value set, where that is whole and has rows.
     set: Option<u16>,
-    /// What each number of so many columns is, once it was looked up; none of an item with more.
+    /// What each byte of one column is from the blank on, or each number of two or three, once it was looked up; none of an item
+    /// with more.
     kinds: Vec<FieldKind>,
-    /// How many fields are of each kind.
+    /// How many fields are of each kind but plain.
     found: [Found; 6],
 }
 
@@ -114,12 +118,12 @@ fn code_of(names: &Names<'_>, item: usize) -> Option<i64> {
     names.dictionary.code(number)
 }
 
-/// How many numbers have so many columns, where each of them is looked up once.
-fn numbers_kept(len: u16) -> usize {
-    if len <= MOST_KEPT {
-        10usize.saturating_pow(u32::from(len))
-    } else {
-        0
+/// How many bytes of one column, or numbers of so many columns, are looked up once each.
+fn most_kept(len: u16) -> usize {
+    match len {
+        1 => BYTES_KEPT,
+        2..=MOST_KEPT => 10usize.saturating_pow(u32::from(len)),
+        _ => 0,
     }
 }
 
@@ -236,7 +240,7 @@ impl Field {
         let is_number = shape.kind == ItemKind::Number;
         let mut kinds = Vec::new(alloc);
         if is_number {
-            kinds.resize(numbers_kept(shape.len), FieldKind::Unknown)?;
+            kinds.resize(most_kept(shape.len), FieldKind::Unknown)?;
         }
         let place = (shape.start as usize).saturating_sub(1);
         Ok(Field {
@@ -252,7 +256,7 @@ impl Field {
         })
     }
 
-    /// How many fields are of a kind.
+    /// How many fields are of a kind; of plain ones none is counted.
     pub fn found(&self, kind: FieldKind) -> Found {
         self.found
             .get(kind as u8 as usize)
@@ -277,17 +281,53 @@ impl Field {
         }
     }
 
-    /// What digits are. Those of few columns are looked up once.
+    /// What was looked up at a place.
     #[inline(always)]
-    fn kind_of_number(&mut self, dictionary: &Dictionary, number: u64) -> FieldKind {
-        match self.kinds.get(number as usize) {
-            Some(FieldKind::Unknown) | None => {}
-            Some(kind) => return *kind,
+    fn known_at(&self, place: usize) -> Option<FieldKind> {
+        match self.kinds.get(place) {
+            Some(FieldKind::Unknown) | None => None,
+            Some(kind) => Some(*kind),
         }
-        let kind = self.kind_of_digits(dictionary, number);
-        if let Some(kept) = self.kinds.get_mut(number as usize) {
+    }
+
+    /// Keeps what was looked up at a place, if there is room.
+    #[inline(always)]
+    fn keep_at(&mut self, place: usize, kind: FieldKind) {
+        if let Some(kept) = self.kinds.get_mut(place) {
             *kept = kind;
         }
+    }
+
+    /// What digits are. Those of two and three columns are looked up once.
+    #[inline(always)]
+    fn kind_of_number(&mut self, dictionary: &Dictionary, number: u64) -> FieldKind {
+        if let Some(kind) = self.known_at(number as usize) {
+            return kind;
+        }
+        let kind = self.kind_of_digits(dictionary, number);
+        self.keep_at(number as usize, kind);
+        kind
+    }
+
+    /// What a field of one column is, looked up.
+    fn kind_of_one(&self, dictionary: &Dictionary, columns: Columns<'_>, byte: u8) -> FieldKind {
+        match content_of_one(byte) {
+            Content::Blank => FieldKind::Blank,
+            Content::Number(number) => self.kind_of_digits(dictionary, number),
+            Content::Other => self.read(dictionary, columns),
+        }
+    }
+
+    /// What a field of one column is. Each byte is looked up once.
+    #[inline(always)]
+    fn kind_of_byte(&mut self, dictionary: &Dictionary, columns: Columns<'_>) -> FieldKind {
+        let byte = byte_at(columns.bytes, self.place);
+        let place = byte.wrapping_sub(b' ') as usize;
+        if let Some(kind) = self.known_at(place) {
+            return kind;
+        }
+        let kind = self.kind_of_one(dictionary, columns, byte);
+        self.keep_at(place, kind);
         kind
     }
 
@@ -305,17 +345,16 @@ impl Field {
         }
     }
 
-    /// What the bytes of a line spell in the field of a number.
+    /// What the bytes of a line spell in the field of a number of two columns or more.
     #[inline(always)]
     fn content(&self, bytes: &[u8]) -> Content {
-        match self.len {
-            1 => content_of_one(byte_at(bytes, self.place)),
-            2 => content_of_two(
-                byte_at(bytes, self.place),
-                byte_at(bytes, self.place.saturating_add(1)),
-            ),
-            _ => content_of(bytes_of(bytes, self.place, self.end)),
+        if self.len != 2 {
+            return content_of(bytes_of(bytes, self.place, self.end));
         }
+        content_of_two(
+            byte_at(bytes, self.place),
+            byte_at(bytes, self.place.saturating_add(1)),
+        )
     }
 
     /// What the field of a line is.
@@ -329,6 +368,9 @@ impl Field {
                 FieldKind::Plain
             };
         }
+        if self.len == 1 {
+            return self.kind_of_byte(dictionary, columns);
+        }
         match self.content(columns.bytes) {
             Content::Blank => FieldKind::Blank,
             Content::Number(number) => self.kind_of_number(dictionary, number),
@@ -340,6 +382,9 @@ impl Field {
     #[inline(always)]
     pub fn look(&mut self, dictionary: &Dictionary, columns: Columns<'_>, line: u64) {
         let kind = self.kind_of(dictionary, columns);
+        if matches!(kind, FieldKind::Plain) {
+            return;
+        }
         if let Some(found) = self.found.get_mut(kind as u8 as usize) {
             found.add(line);
         }
