@@ -18,7 +18,7 @@ use Rattle.cse_lines.specs.Reader.{Next, ReaderText, held_of, is_front}
 use Rattle.cse_case.specs.Field.{item_at}
 use Rattle.cse_changes.specs.declared.count.Count.{Count}
 use Rattle.cse_changes.specs.Changes.{count_in, first_apart, no_count, plus}
-use Rattle.cse_changes.specs.Files.{AreCounts, AreFew, ArePairs, HasReadFault, HasWrittenFault, Stops, StopsSeen, IfApart, IfSeenApart, IsApart, IsApartIn, IsCompared, IsRead, IsReadSoFar, RunPair, afters, apart_in, befores, lines_in, lines_of, total}
+use Rattle.cse_changes.specs.Files.{AreCounts, ArePairs, HasReadFault, HasWrittenFault, Stops, StopsSeen, IfApart, IfSeenApart, IsApart, IsApartIn, IsCompared, IsRead, IsReadSoFar, RunPair, afters, apart_in, befores, lines_in, lines_of, total}
 use Rattle.cse_changes.proofs.FileLaws.{SoFar, SoFar-none, SoFar-run, as_many, gives, is_read, lines_now, run_lines, so_far, has_fault}
 
 plus_assoc : (a b c : Count) → plus (plus a b) c ≡ plus a (plus b c)
@@ -66,7 +66,6 @@ pub record IsAdded (records : List RecordShape) (items : List ItemShape) (before
   pub pair : first_apart items 0 before after ≡ None
   pub len : length new ≡ length old
   pub each : (n : ℕ) → n < length items → get_or new n no_count ≡ plus (get_or old n no_count) (count_in records (item_at items n) before after)
-  pub few : AreFew items new (lines + length before)
 
 -- what a fault says follows
 pub if_apart : (d : DictionaryText) (before after before' after' : Given) (P : ℕ → Type 0) (fault : CompareFault) → ((line : ℕ) → P line → IsApart d before after before' after' line) → IfApart P fault
@@ -91,9 +90,19 @@ pub record Comparing (d : DictionaryText) (before now : Given) (r : ReaderText) 
   pub written : SoFar before' now' d r' text' (afters pairs)
   pub are_pairs : ArePairs d pairs
   pub counts_are : AreCounts d pairs counts
-  pub few : AreFew (shape_of d).items counts lines
   pub lines_are : lines ≡ r.lines
   pub lines_in_are : lines ≡ lines_in pairs
+
+-- other counts that are the same ones
+pub same_counts : (d : DictionaryText) (before after before' after' : Given) (counts counts' : List Count) → IsCompared d before after before' after' counts → length counts' ≡ length counts
+    → ((n : ℕ) → n < length (shape_of d).items → get_or counts' n no_count ≡ get_or counts n no_count) → IsCompared d before after before' after' counts'
+same_counts d before after before' after' counts counts' is len each = record {
+  pairs = is.pairs;
+  read = is.read;
+  written = is.written;
+  are_pairs = is.are_pairs;
+  counts_are = record { as_many = len ∙ is.counts_are.as_many; each = λ n low. each n low ∙ is.counts_are.each n low };
+}
 
 none_of : (n k : ℕ) → get_or (replicate n no_count) k no_count ≡ no_count
 none_of zero k = refl
@@ -113,7 +122,6 @@ Comparing-none d now now' r r' counts same none unread front same' none' unread'
       written = SoFar-none now' d r' same' none' unread' front';
       are_pairs = tt;
       counts_are = record { as_many = len; each = λ n low. each n };
-      few = λ n low. (omega (arith, ap (λ (x : Count). x.occurrences) (each n)), omega (arith, ap (λ (x : Count). x.changed) (each n)));
       lines_are = sym front;
       lines_in_are = refl;
     }
@@ -167,7 +175,6 @@ module _ (d : DictionaryText) (before now after before' now' after' : Given) (r 
                 ∙ (ap (λ l. plus (total d item c.pairs) (count_in (shape_of d).records item l run'.lines)) first_lines
                 ∙ (ap (λ l. plus (total d item c.pairs) (count_in (shape_of d).records item (lines_of d first) l)) second_lines ∙ sym (total_more d item c.pairs p))));
           };
-          few = a.few;
           lines_are = omega (arith, c.lines_are, first_len, lines_now before now after d r s c.text (befores c.pairs) c.read run n);
           lines_in_are = omega (arith, c.lines_in_are, first_len, lines_more c.pairs p);
         }

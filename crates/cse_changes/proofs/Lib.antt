@@ -3,3 +3,5 @@ pub mod FileLaws
 pub mod CompareLaws
 pub mod AlikeLaws
 pub mod SumLaws
+pub mod PartLaws
+pub mod CountLaws

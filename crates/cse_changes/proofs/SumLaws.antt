@@ -13,7 +13,7 @@ use Rattle.cse_case.specs.Field.{item_at, no_item}
 use Rattle.cse_case.specs.Seen.{places_from as own_places}
 use Rattle.cse_case.proofs.SeenLaws.{most_past}
 use Rattle.cse_changes.specs.declared.count.Count.{Count}
-use Rattle.cse_changes.specs.Changes.{columns_at, count_in, first_apart, has_same_ids, is_changed, is_changed_at, is_changed_own, is_changed_own_at, is_pair, is_same_record, only_there, owner_places, places_from, plus, types_of, with_changes}
+use Rattle.cse_changes.specs.Changes.{columns_at, count_in, first_apart, has_same_ids, is_changed, is_changed_at, is_changed_own, is_changed_own_at, is_pair, is_same_record, places_from, types_of, with_changes}
 use Rattle.cse_changes.proofs.AlikeLaws.{count_none, same_ids, unchanged}
 use Rattle.cse_changes.proofs.ChangeLaws.{id_counts, own_counts}
 
@@ -25,15 +25,6 @@ with_none count = ap (λ n. record { occurrences = count.occurrences; changed = 
 pub is_with : (old new : Count) (n : ℕ) → new.occurrences ≡ old.occurrences → new.changed ≡ old.changed + n → new ≡ with_changes old n
 is_with old new n occurrences changed =
     ap (λ x. record { occurrences = x; changed = new.changed }) occurrences ∙ ap (λ x. record { occurrences = old.occurrences; changed = x }) changed
-
--- what is counted of lines, and then of their changes
-pub sum_is : (records : List RecordShape) (item : ItemShape) (a b : List LineText) (old mid new : Count) → mid ≡ plus old (only_there records item.owner a) → new ≡ with_changes mid (count_in records item a b).changed
-    → new ≡ plus old (count_in records item a b)
-unfolding count_in
-sum_is records item a b old mid new first second =
-    let changes = (count_in records item a b).changed in
-    second ∙ (ap (λ x. with_changes x changes) first
-    ∙ ap (λ n. record { occurrences = old.occurrences + length (owner_places records item.owner (types_of a)); changed = n + changes }) (let e : old.changed + 0 ≡ old.changed = omega arith in e))
 
 -- ---- items
 

@@ -1,10 +1,11 @@
 -- What a run changed, line beside line. A line that was read stands beside the one that was written in its place. An item
 -- occurs in the seen lines of its record, and an id item in each line. It is changed where one of its columns is another one;
 -- past its end a line has blanks. Ends of lines and the byte order mark are no columns.
-use Rattle.std.specs.Prelude.{◌≡◌, ℕ, suc, zero, ◌+◌, ◌-◌, ◌<◌, Bool, true, false, not, ◌==◌, ◌&&◌, ◌||◌, map, List, [], ◌∷◌, length, count_by, slice_index_or, Option, None, Some, if◌then◌else◌}
+use Rattle.std.specs.Prelude.{◌≡◌, ℕ, suc, zero, ◌+◌, ◌-◌, ◌<◌, ◌≤◌, Bool, true, false, not, ◌==◌, ◌&&◌, ◌||◌, map, List, [], ◌∷◌, length, count_by, slice_index_or, Option, None, Some, if◌then◌else◌}
 use Rattle.cse_value.specs.declared.shape.ItemShape.{ItemShape}
 use Rattle.cse_value.specs.declared.shape.RecordShape.{RecordShape}
 use Rattle.cse_lines.specs.Columns.{LineText, no_line}
+use Rattle.cse_case.specs.Field.{item_at}
 use Rattle.cse_case.specs.Seen.{occurrence_places}
 use Rattle.cse_changes.specs.declared.count.Count.{Count}
 
@@ -108,6 +109,47 @@ pub record IsLike (before after : List LineText) (n : ℕ) : Type 0 where
 abbrev pub AreLikes : List Bool → List LineText → List LineText → Type 0
 AreLikes likes before after = (n : ℕ) → n < length before → n < length after → slice_index_or likes n false ≡ true → IsLike before after n
 
+-- how many lines of a record are seen
+abbrev pub seen_of : List RecordShape → ℕ → List LineText → ℕ
+seen_of records number lines = length (occurrence_places records number (types_of lines))
+
+-- how often the items of an owner occur, where so many lines of each record are seen, of so many in all
+abbrev pub times_of : List ℕ → ℕ → ℕ → ℕ
+times_of seen lines owner = if owner == 255 then lines else slice_index_or seen owner 0
+
+-- the counts of items, of which it is counted how often each is changed, where so many lines of each record are seen, of so many in all
+unfoldable pub counts_so_far : List ℕ → ℕ → List ItemShape → List Count → List Count
+counts_so_far seen lines [] counts = []
+counts_so_far seen lines (item ∷ items) [] = []
+counts_so_far seen lines (item ∷ items) (count ∷ counts) =
+    record { occurrences = times_of seen lines item.owner; changed = count.changed } ∷ counts_so_far seen lines items counts
+
+-- the lines of each record that are seen were added
+abbrev pub AreSeen : List RecordShape → List LineText → List ℕ → List ℕ → Type 0
+AreSeen records lines old new = (n : ℕ) → n < length records → slice_index_or new n 0 ≡ slice_index_or old n 0 + seen_of records n lines
+
+-- how often each item is changed was added
+abbrev pub AreChanges : List RecordShape → List ItemShape → List LineText → List LineText → List Count → List Count → Type 0
+AreChanges records items before after old new = (n : ℕ) → n < length items
+    → (slice_index_or new n no_count).changed ≡ (slice_index_or old n no_count).changed + (count_in records (item_at items n) before after).changed
+
+-- of no record more lines are seen, and no item is changed more often
+pub record AreFew (seen : List ℕ) (counts : List Count) (most : ℕ) : Type 0 where
+  pub seen_few : (n : ℕ) → slice_index_or seen n 0 ≤ most
+  pub changed_few : (n : ℕ) → (slice_index_or counts n no_count).changed ≤ most
+
 -- how often an item of an owner occurs in lines, where it is changed in none
 abbrev pub only_there : List RecordShape → ℕ → List LineText → Count
 only_there records owner lines = record { occurrences = length (owner_places records owner (types_of lines)); changed = 0 }
+
+-- bytes have the same one at a place, and it is ASCII
+pub record IsSameByte (before after : List ℕ) (p : ℕ) : Type 0 where
+  pub within : p < length before
+  pub within_after : p < length after
+  pub ascii : slice_index_or before p 0 < 128
+  pub same : slice_index_or before p 0 ≡ slice_index_or after p 0
+
+-- lines are the same before a place, and from another one on
+pub record DifferWithin (first end : ℕ) (before after : List ℕ) : Type 0 where
+  pub front : (p : ℕ) → p < first → slice_index_or before p 32 ≡ slice_index_or after p 32
+  pub back : (p : ℕ) → end ≤ p → slice_index_or before p 32 ≡ slice_index_or after p 32

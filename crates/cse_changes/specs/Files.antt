@@ -162,7 +162,3 @@ pub record IsApartIn (items : List ItemShape) (before after : List LineText) (li
   pub place : ℕ
   pub apart : first_apart items 0 before after ≡ Some place
   pub line_is : line ≡ lines + place + 1
-
--- no count is above this
-abbrev pub AreFew : List ItemShape → List Count → ℕ → Type 0
-AreFew items counts most = (n : ℕ) → n < length items → ((slice_index_or counts n no_count).occurrences ≤ most) × ((slice_index_or counts n no_count).changed ≤ most)

@@ -1,6 +1,7 @@
 //! Whether two runs have the same lines, by what they lie in: then no item has to be looked at.
 
 ghost use Rattle.std.specs.Prelude.{◌≡◌, ◌<◌, ℕ, [], true, false, length, slice_index_or, take};
+ghost use Rattle.std.specs.Str.{IsAscii};
 ghost use Rattle.cse_lines.specs.Bytes.{columns_by, columns_lent};
 ghost use Rattle.cse_changes.specs.Changes.{AreAlike, AreLikes, IsLike};
 
@@ -52,6 +53,17 @@ fn are_same_bytes(before: &[u8], after: &[u8]) -> bool
     before == after
 }
 
+/// Whether all bytes are ASCII.
+fn are_ascii(bytes: &[u8]) -> bool
+    ensures { result ≡ true → IsAscii bytes.now }
+{
+    let mut bits = 0u8;
+    'bytes: for i in 0..bytes.len() {
+        bits |= bytes[i];
+    }
+    bits < 128
+}
+
 /// Whether characters are.
 fn are_same_characters(before: &[char], after: &[char]) -> bool
     ensures { result ≡ true → before.now ≡ after.now }
@@ -67,6 +79,9 @@ fn is_same(before: Columns<'_>, after: Columns<'_>) -> bool
         return false;
     }
     if have_none_beside(before, after) {
+        return true;
+    }
+    if are_ascii(before.bytes) {
         return true;
     }
     are_same_characters(beside(before), beside(after))

@@ -1,16 +1,16 @@
 //! Two files, side by side.
 
-ghost use Rattle.std.specs.Prelude.{true, ◌≡◌, ◌<◌, ◌≤◌, ◌+◌, ◌*◌, ◌^◌, ℕ, None, IfErr, IfOk, OnOk, length, replicate, slice_index_or};
-ghost use Rattle.cse_case.specs.Field.{item_at};
-ghost use Rattle.cse_changes.specs.Changes.{AreAlike, AreLikes, count_in, first_apart, no_count, plus};
-ghost use Rattle.cse_changes.specs.Files.{AreFew, IfApart, IfSeenApart, IsApartIn, IsCompared, Stops, StopsSeen};
+ghost use Rattle.std.specs.Prelude.{true, ◌≡◌, ◌<◌, ◌≤◌, ◌+◌, ◌*◌, ◌^◌, None, IfErr, IfOk, OnOk, length, replicate};
+ghost use Rattle.cse_changes.specs.Changes.{AreAlike, AreChanges, AreFew, AreLikes, AreSeen, first_apart, no_count};
+ghost use Rattle.cse_changes.specs.Files.{IfApart, IfSeenApart, IsApartIn, IsCompared, Stops, StopsSeen};
 
 use crate::alike::{MOST_KNOWN, are_alike};
 use crate::count::Count;
 use crate::fault::{CompareFault, SeenFault};
 use crate::lines::RunLines;
 use crate::pair::first_apart;
-use crate::sums::{add_like, add_run};
+use crate::seen::add_seen;
+use crate::sums::{add_changes, put_occurrences};
 use crate::watch::{Blind, Watch};
 use cse_dict::Dictionary;
 use cse_lines::{Run, RunReader};
@@ -31,8 +31,18 @@ fn no_counts(alloc: Global, len: usize) -> Result<Vec<Count>, AllocError>
     Ok(counts)
 }
 
-/// Counts each item in the next runs of both files, which are known to be alike or not, if all their lines pair up, and adds
-/// it to what was counted. So many lines stand before them. Tells how many lines they have.
+/// So many numbers 0.
+fn no_numbers(alloc: Global, len: usize) -> Result<Vec<u64>, AllocError>
+    ensures { IfOk result (λ numbers. numbers.items ≡ replicate len 0) }
+{
+    let mut numbers = Vec::new(alloc);
+    numbers.resize(len, 0)?;
+    Ok(numbers)
+}
+
+/// Counts the next runs of both files, which are known to be alike or not, if all their lines pair up, and adds to what was counted
+/// how many lines of each record are seen, and how often each item is changed. So many lines stand before them. Tells how many lines
+/// they have.
 fn add_runs(
     records: &[RecordShape],
     items: &[ItemShape],
@@ -41,43 +51,48 @@ fn add_runs(
     likes: &[bool],
     is_alike: bool,
     lines: u64,
+    seen: &mut [u64],
     counts: &mut [Count],
 ) -> Result<u64, CompareFault>
     requires likes { AreLikes likes.now before.now after.now }
     requires alike { is_alike ≡ true → AreAlike before.now after.now }
+    requires seen { length seen.old ≡ length records.now }
     requires counts { length counts.old ≡ length items.now }
     requires room { lines + length before.now ≤ 2 ^ 40 * 65536 }
-    requires few { AreFew items.now counts.old lines }
+    requires few { AreFew seen.old counts.old lines }
+    ensures len_seen { length seen.new ≡ length seen.old }
     ensures len { length counts.new ≡ length counts.old }
     ensures lines { IfOk result (λ n. n ≡ length before.now) }
     ensures as_many { OnOk result (length before.now ≡ length after.now) }
     ensures pairs { OnOk result (first_apart items.now 0 before.now after.now ≡ None) }
-    ensures each { OnOk result ((n : ℕ) → n < length items.now → slice_index_or counts.new n no_count
-        ≡ plus (slice_index_or counts.old n no_count) (count_in records.now (item_at items.now n) before.now after.now)) }
-    ensures few { OnOk result (AreFew items.now counts.new (lines + length before.now)) }
+    ensures seen { OnOk result (AreSeen records.now before.now seen.old seen.new) }
+    ensures changes { OnOk result (AreChanges records.now items.now before.now after.now counts.old counts.new) }
+    ensures few { OnOk result (AreFew seen.new counts.new (lines + length before.now)) }
     ensures apart { IfErr result (IfApart (IsApartIn items.now before.now after.now lines)) }
 {
     let len = before.len() as u64;
     if is_alike {
-        add_like(records, items, before, counts);
+        add_seen(records, before, seen);
         return Ok(len);
     }
     if let Some(place) = first_apart(items, likes, before, after) {
         let line = lines + place as u64 + 1;
         return Err(CompareFault::Apart { line });
     }
-    add_run(records, items, likes, before, after, counts);
+    add_changes(records, items, likes, before, after, counts);
+    add_seen(records, before, seen);
     Ok(len)
 }
 
-/// Counts each item in the next runs of both files, as `add_runs` does, and lets the watcher see them. Then their memory goes
-/// back to the readers.
+/// Counts the next runs of both files, as `add_runs` does, and lets the watcher see them. Then their memory goes back to the
+/// readers.
 fn see_runs<W: Watch>(
     records: &[RecordShape],
     items: &[ItemShape],
     before: Run,
     after: Run,
     lines: u64,
+    seen: &mut [u64],
     counts: &mut [Count],
     watcher: &mut W,
     reader: &mut RunReader<'_>,
@@ -85,15 +100,17 @@ fn see_runs<W: Watch>(
 ) -> Result<u64, SeenFault<W::Fault>>
     requires some { 0 < length before.lines }
     requires some_after { 0 < length after.lines }
+    requires seen { length seen.old ≡ length records.now }
     requires counts { length counts.old ≡ length items.now }
     requires room { lines + length before.lines ≤ 2 ^ 40 * 65536 }
-    requires few { AreFew items.now counts.old lines }
+    requires few { AreFew seen.old counts.old lines }
+    ensures len_seen { length seen.new ≡ length seen.old }
     ensures len { length counts.new ≡ length counts.old }
     ensures lines { IfOk result (λ n. n ≡ length before.lines) }
     ensures pairs { OnOk result (first_apart items.now 0 before.lines after.lines ≡ None) }
-    ensures each { OnOk result ((n : ℕ) → n < length items.now → slice_index_or counts.new n no_count
-        ≡ plus (slice_index_or counts.old n no_count) (count_in records.now (item_at items.now n) before.lines after.lines)) }
-    ensures few { OnOk result (AreFew items.now counts.new (lines + length before.lines)) }
+    ensures seen { OnOk result (AreSeen records.now before.lines seen.old seen.new) }
+    ensures changes { OnOk result (AreChanges records.now items.now before.lines after.lines counts.old counts.new) }
+    ensures few { OnOk result (AreFew seen.new counts.new (lines + length before.lines)) }
     ensures apart { IfErr result (IfSeenApart (IsApartIn items.now before.lines after.lines lines)) }
     ensures reader { reader.new ≡ reader.old }
     ensures other { other.new ≡ other.old }
@@ -107,7 +124,7 @@ fn see_runs<W: Watch>(
     let mut likes = [false; MOST_KNOWN];
     let is_alike = are_alike(&before, &after, &mut likes);
     match add_runs(
-        records, items, &before, &after, &likes, is_alike, lines, counts,
+        records, items, &before, &after, &likes, is_alike, lines, seen, counts,
     ) {
         Err(fault) => Err(SeenFault::Compare(fault)),
         Ok(len) => match watcher.see_runs(&before, &after, &likes, is_alike) {
@@ -136,6 +153,7 @@ pub fn compare_seen<R: Input, S: Input, W: Watch>(
 {
     let shape = dictionary.shape();
     let mut counts = no_counts(alloc, shape.items.len())?;
+    let mut seen = no_numbers(alloc, shape.records.len())?;
     let mut reader = RunReader::new(alloc, dictionary);
     let mut other = RunReader::new(alloc, dictionary);
     let mut lines = 0u64;
@@ -144,7 +162,10 @@ pub fn compare_seen<R: Input, S: Input, W: Watch>(
             Err(error) => return Err(SeenFault::Compare(CompareFault::Data(error))),
             Ok(None) => match other.next(written) {
                 Err(error) => return Err(SeenFault::Compare(CompareFault::Out(error))),
-                Ok(None) => return Ok(counts),
+                Ok(None) => {
+                    put_occurrences(&shape.items, &seen, lines, &mut counts);
+                    return Ok(counts);
+                }
                 Ok(Some(_)) => {
                     let line = lines + 1;
                     return Err(SeenFault::Compare(CompareFault::Apart { line }));
@@ -163,6 +184,7 @@ pub fn compare_seen<R: Input, S: Input, W: Watch>(
                         before,
                         after,
                         lines,
+                        &mut seen,
                         &mut counts,
                         watcher,
                         &mut reader,

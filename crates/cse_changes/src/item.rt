@@ -4,8 +4,9 @@ ghost use Rattle.std.specs.Prelude.{◌≡◌, ◌<◌, ◌+◌, ◌^◌, ◌==�
 ghost use Rattle.cse_lines.specs.Bytes.{columns_lent};
 ghost use Rattle.cse_case.specs.Seen.{is_of};
 ghost use Rattle.cse_value.specs.Occurrences.{most_occurrences};
-ghost use Rattle.cse_changes.specs.Changes.{differ, is_changed, is_changed_own};
+ghost use Rattle.cse_changes.specs.Changes.{DifferWithin, differ, is_changed, is_changed_own};
 
+use crate::part::{Part, is_outside};
 use cse_lines::Columns;
 use cse_value::shape::{ItemShape, RecordShape};
 
@@ -23,7 +24,7 @@ pub fn column_at(columns: Columns<'_>, place: usize) -> char
 
 /// Whether both have a byte at a place, and it is the same one, and ASCII.
 #[inline(always)]
-fn is_same_byte(before: &[u8], after: &[u8], place: usize) -> bool
+pub(crate) fn is_same_byte(before: &[u8], after: &[u8], place: usize) -> bool
     ensures within { result ≡ true → place < length before.now }
     ensures within_after { result ≡ true → place < length after.now }
     ensures ascii { result ≡ true → get_or before.now place 0 < 128 }
@@ -83,6 +84,24 @@ pub fn is_changed_own(
     ensures { result ≡ is_changed_own owner item.now (columns_lent before.entry) (columns_lent after.entry) }
 {
     item.owner as usize == owner && is_changed(item, before, after)
+}
+
+/// The same, where lines are known to differ in a part alone.
+#[inline(always)]
+pub fn is_changed_own_in(
+    item: &ItemShape,
+    owner: usize,
+    part: Part,
+    before: Columns<'_>,
+    after: Columns<'_>,
+) -> bool
+    requires { DifferWithin part.first part.end (columns_lent before) (columns_lent after) }
+    ensures { result ≡ is_changed_own owner item.now (columns_lent before.entry) (columns_lent after.entry) }
+{
+    if is_outside(item, part) {
+        return false;
+    }
+    is_changed_own(item, owner, before, after)
 }
 
 /// Whether a line is one of the record's, and the next of so many at most.

@@ -7,6 +7,7 @@
 //! - `lines`: the lines of a run, with their records and columns.
 //! - `item`: an item in two lines, side by side.
 //! - `pair`: which lines pair up.
+//! - `part`: the part of two lines in which they differ.
 //! - `seen`: how often the items of an owner occur.
 //! - `sums`: the counts of all items.
 //! - `watch`: what sees the runs of a comparison.
@@ -19,6 +20,7 @@ mod files;
 mod item;
 mod lines;
 mod pair;
+mod part;
 mod seen;
 mod sums;
 mod watch;
@@ -29,4 +31,5 @@ pub use fault::{CompareFault, SeenFault};
 pub use files::{compare, compare_seen};
 pub use item::{column_at, is_changed};
 pub use lines::RunLines;
+pub use part::{Part, differing, is_outside};
 pub use watch::Watch;

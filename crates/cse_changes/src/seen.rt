@@ -1,13 +1,12 @@
-//! How often the items of an owner occur in a run.
+//! How many lines of each record are seen.
 
-ghost use Rattle.std.specs.Prelude.{◌≡◌, ◌≤◌, length, take};
+ghost use Rattle.std.specs.Prelude.{◌≡◌, ◌≤◌, ◌<◌, ◌+◌, ◌^◌, ℕ, length, slice_index_or, take};
 ghost use Rattle.cse_case.specs.Seen.{places_from as own_places};
-ghost use Rattle.cse_changes.specs.Changes.{only_there, owner_places, types_of};
+ghost use Rattle.cse_changes.specs.Changes.{AreSeen, seen_of, types_of};
 
-use crate::count::Count;
 use crate::item::{is_next, most_of};
 use crate::lines::RunLines;
-use cse_value::shape::{ID_OWNER, ItemShape, RecordShape};
+use cse_value::shape::RecordShape;
 
 /// How many lines of a record are seen, of so many at most.
 fn seen_lines(owner: usize, most: u16, lines: &RunLines) -> u64
@@ -23,54 +22,23 @@ fn seen_lines(owner: usize, most: u16, lines: &RunLines) -> u64
     u64::from(seen)
 }
 
-/// How often the items of an owner occur in a run.
-pub fn occurrences(records: &[RecordShape], owner: u8, lines: &RunLines) -> u64
-    ensures is { result ≡ length (owner_places records.now owner (types_of lines.now)) }
+/// How many lines of a record are seen.
+fn seen_of(records: &[RecordShape], number: usize, lines: &RunLines) -> u64
+    ensures is { result ≡ seen_of records.now number lines.now }
     ensures few { result ≤ length lines.now }
 {
-    if owner == ID_OWNER {
-        return lines.len() as u64;
-    }
-    seen_lines(owner as usize, most_of(records, owner as usize), lines)
+    seen_lines(number, most_of(records, number), lines)
 }
 
-/// How often the items of an owner occur, where it is known of the owner before. Items of one record mostly stand together.
-fn occurrences_next(
-    records: &[RecordShape],
-    before: u8,
-    known: u64,
-    owner: u8,
-    lines: &RunLines,
-) -> u64
-    requires is { known ≡ length (owner_places records.now before (types_of lines.now)) }
-    requires few { known ≤ length lines.now }
-    ensures is { result ≡ length (owner_places records.now owner (types_of lines.now)) }
-    ensures few { result ≤ length lines.now }
+/// Counts how many lines of each record are seen in a run, and adds it to what was counted.
+pub fn add_seen(records: &[RecordShape], lines: &RunLines, seen: &mut [u64])
+    requires len { length seen.old ≡ length records.now }
+    requires few { (n : ℕ) → slice_index_or seen.old n 0 + length lines.now < 2 ^ 64 }
+    ensures len { length seen.new ≡ length seen.old }
+    ensures each { AreSeen records.now lines.now seen.old seen.new }
+    ensures few { (n : ℕ) → slice_index_or seen.new n 0 ≤ slice_index_or seen.old n 0 + length lines.now }
 {
-    if owner == before {
-        return known;
-    }
-    occurrences(records, owner, lines)
-}
-
-/// Counts an item in lines beside which such lines stand, where it is known how often those of the owner before occur.
-pub fn count_like(
-    records: &[RecordShape],
-    item: &ItemShape,
-    before: u8,
-    known: u64,
-    lines: &RunLines,
-) -> Count
-    requires is { known ≡ length (owner_places records.now before (types_of lines.now)) }
-    requires few { known ≤ length lines.now }
-    ensures is { result ≡ only_there records.now item.now.owner lines.now }
-    ensures seen { result.occurrences ≡ length (owner_places records.now item.now.owner (types_of lines.now)) }
-    ensures occurs { result.occurrences ≤ length lines.now }
-    ensures few { result.changed ≤ length lines.now }
-{
-    let seen = occurrences_next(records, before, known, item.owner, lines);
-    Count {
-        occurrences: seen,
-        changed: 0,
+    'records: for number in 0..records.len() {
+        seen[number] += seen_of(records, number, lines);
     }
 }

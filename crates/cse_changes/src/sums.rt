@@ -1,73 +1,36 @@
-//! The counts of all items.
+//! How often each item is changed, and with that the counts of all items. How often an item occurs hangs on its owner alone: so the
+//! lines of each record are counted, and items are looked at only where two lines differ.
 
 ghost use Rattle.std.specs.Prelude.{◌≡◌, ◌<◌, ◌≤◌, ◌+◌, ◌^◌, ℕ, None, true, cond, count_by, length, slice_index_or, take};
 ghost use Rattle.cse_lines.specs.Bytes.{columns_lent};
 ghost use Rattle.cse_case.specs.Field.{item_at};
 ghost use Rattle.cse_case.specs.Seen.{places_from as own_places};
-ghost use Rattle.cse_changes.specs.Changes.{AreLikes, count_in, first_apart, is_changed_own, is_changed_own_at, no_count, only_there, plus, types_of, with_changes};
+ghost use Rattle.cse_changes.specs.Changes.{AreChanges, AreLikes, first_apart, is_changed_own, is_changed_own_at, no_count, times_of, types_of, with_changes};
 
 use crate::alike::is_known_like;
 use crate::count::Count;
-use crate::item::{is_changed_own, is_next, most_of};
+use crate::item::{is_changed_own_in, is_next, most_of};
 use crate::lines::RunLines;
-use crate::seen::{count_like, occurrences};
+use crate::part::differing;
 use cse_lines::Columns;
 use cse_value::shape::{ID_OWNER, ItemShape, RecordShape};
 
-/// Two counts as one.
-fn sum(one: Count, other: Count) -> Count
-    requires occurs { one.occurrences + other.occurrences < 2 ^ 64 }
-    requires few { one.changed + other.changed < 2 ^ 64 }
-    ensures { result ≡ plus one other }
-{
-    Count {
-        occurrences: one.occurrences + other.occurrences,
-        changed: one.changed + other.changed,
-    }
-}
-
-/// Counts how often each item occurs in a run, and adds it to what was counted. No item is looked at: so none is changed.
-pub fn add_like(
-    records: &[RecordShape],
-    items: &[ItemShape],
-    lines: &RunLines,
-    counts: &mut [Count],
-)
-    requires counts { length counts.old ≡ length items.now }
-    requires occurs { (n : ℕ) → n < length items.now → (slice_index_or counts.old n no_count).occurrences + length lines.now < 2 ^ 64 }
-    requires few { (n : ℕ) → n < length items.now → (slice_index_or counts.old n no_count).changed + length lines.now < 2 ^ 64 }
-    ensures len { length counts.new ≡ length counts.old }
-    ensures each { (n : ℕ) → n < length items.now → slice_index_or counts.new n no_count
-        ≡ plus (slice_index_or counts.old n no_count) (only_there records.now (item_at items.now n).owner lines.now) }
-    ensures occurs { (n : ℕ) → n < length items.now
-        → (slice_index_or counts.new n no_count).occurrences ≤ (slice_index_or counts.old n no_count).occurrences + length lines.now }
-    ensures few { (n : ℕ) → n < length items.now
-        → (slice_index_or counts.new n no_count).changed ≤ (slice_index_or counts.old n no_count).changed + length lines.now }
-{
-    let mut owner = ID_OWNER;
-    let mut seen = occurrences(records, owner, lines);
-    'items: for n in 0..items.len() {
-        let item = &items[n];
-        let found = count_like(records, item, owner, seen, lines);
-        counts[n] = sum(counts[n], found);
-        owner = item.owner;
-        seen = found.occurrences;
-    }
-}
-
-/// One change more, if there is one.
+/// Counts one change more at a place, if there is one.
 #[inline(always)]
-fn with_change(count: Count, is_changed: bool) -> Count
-    requires { is_changed ≡ true → count.changed + 1 < 2 ^ 64 }
-    ensures { result ≡ with_changes count (cond is_changed 1 0) }
+fn add_change(counts: &mut [Count], n: usize, is_changed: bool)
+    requires there { n < length counts.old }
+    requires few { is_changed ≡ true → (slice_index_or counts.old n no_count).changed + 1 < 2 ^ 64 }
+    ensures len { length counts.new ≡ length counts.old }
+    ensures here { slice_index_or counts.new n no_count ≡ with_changes (slice_index_or counts.old n no_count) (cond is_changed 1 0) }
+    ensures others { (k : ℕ) → (k ≡ n → ⊥) → slice_index_or counts.new k no_count ≡ slice_index_or counts.old k no_count }
 {
-    if is_changed {
-        return Count {
-            occurrences: count.occurrences,
-            changed: count.changed + 1,
-        };
+    if !is_changed {
+        return;
     }
-    count
+    counts[n] = Count {
+        occurrences: counts[n].occurrences,
+        changed: counts[n].changed + 1,
+    };
 }
 
 /// Counts the changes of an owner's items in two lines.
@@ -85,9 +48,10 @@ fn add_line(
     ensures each { (n : ℕ) → n < length items.now → slice_index_or counts.new n no_count ≡ with_changes (slice_index_or counts.old n no_count)
         (cond (is_changed_own owner (item_at items.now n) (columns_lent before.entry) (columns_lent after.entry)) 1 0) }
 {
+    let part = differing(before, after);
     'items: for n in 0..items.len() {
-        let is_changed = is_changed_own(&items[n], owner, before, after);
-        counts[n] = with_change(counts[n], is_changed);
+        let is_changed = is_changed_own_in(&items[n], owner, part, before, after);
+        add_change(counts, n, is_changed);
     }
 }
 
@@ -156,7 +120,7 @@ fn add_record(
 }
 
 /// Counts how often each item is changed in two runs whose lines all pair up. So no id item is.
-fn add_changes(
+pub fn add_changes(
     records: &[RecordShape],
     items: &[ItemShape],
     likes: &[bool],
@@ -170,8 +134,7 @@ fn add_changes(
     requires counts { length counts.old ≡ length items.now }
     requires few { (n : ℕ) → n < length items.now → (slice_index_or counts.old n no_count).changed + length before.now < 2 ^ 64 }
     ensures len { length counts.new ≡ length counts.old }
-    ensures each { (n : ℕ) → n < length items.now → slice_index_or counts.new n no_count
-        ≡ with_changes (slice_index_or counts.old n no_count) (count_in records.now (item_at items.now n) before.now after.now).changed }
+    ensures each { AreChanges records.now items.now before.now after.now counts.old counts.new }
     ensures few { (n : ℕ) → n < length items.now
         → (slice_index_or counts.new n no_count).changed ≤ (slice_index_or counts.old n no_count).changed + length before.now }
 {
@@ -181,29 +144,30 @@ fn add_changes(
     }
 }
 
-/// Counts each item in two runs whose lines all pair up, side by side, and adds it to what was counted.
-pub fn add_run(
-    records: &[RecordShape],
-    items: &[ItemShape],
-    likes: &[bool],
-    before: &RunLines,
-    after: &RunLines,
-    counts: &mut [Count],
-)
-    requires likes { AreLikes likes.now before.now after.now }
-    requires pairs { first_apart items.now 0 before.now after.now ≡ None }
-    requires as_many { length before.now ≡ length after.now }
-    requires counts { length counts.old ≡ length items.now }
-    requires occurs { (n : ℕ) → n < length items.now → (slice_index_or counts.old n no_count).occurrences + length before.now < 2 ^ 64 }
-    requires few { (n : ℕ) → n < length items.now → (slice_index_or counts.old n no_count).changed + length before.now < 2 ^ 64 }
-    ensures len { length counts.new ≡ length counts.old }
-    ensures each { (n : ℕ) → n < length items.now → slice_index_or counts.new n no_count
-        ≡ plus (slice_index_or counts.old n no_count) (count_in records.now (item_at items.now n) before.now after.now) }
-    ensures occurs { (n : ℕ) → n < length items.now
-        → (slice_index_or counts.new n no_count).occurrences ≤ (slice_index_or counts.old n no_count).occurrences + length before.now }
-    ensures few { (n : ℕ) → n < length items.now
-        → (slice_index_or counts.new n no_count).changed ≤ (slice_index_or counts.old n no_count).changed + length before.now }
+/// How often the items of an owner occur, where so many lines of each record are seen, of so many in all.
+fn times_of(seen: &[u64], lines: u64, owner: u8) -> u64
+    ensures { result ≡ times_of seen.now lines owner }
 {
-    add_like(records, items, before, counts);
-    add_changes(records, items, likes, before, after, counts);
+    if owner == ID_OWNER {
+        return lines;
+    }
+    let place = owner as usize;
+    if place < seen.len() { seen[place] } else { 0 }
+}
+
+/// Writes how often each item occurs, where so many lines of each record are seen, of so many in all.
+pub fn put_occurrences(items: &[ItemShape], seen: &[u64], lines: u64, counts: &mut [Count])
+    requires counts { length counts.old ≡ length items.now }
+    ensures len { length counts.new ≡ length counts.old }
+    ensures each { (n : ℕ) → n < length items.now → slice_index_or counts.new n no_count ≡ record {
+      occurrences = times_of seen.now lines (item_at items.now n).owner;
+      changed = (slice_index_or counts.old n no_count).changed;
+    } }
+{
+    'items: for n in 0..items.len() {
+        counts[n] = Count {
+            occurrences: times_of(seen, lines, items[n].owner),
+            changed: counts[n].changed,
+        };
+    }
 }

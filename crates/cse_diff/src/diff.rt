@@ -7,7 +7,7 @@ use crate::areas::{Area, Areas, SEEN};
 use crate::counts::Counts;
 use crate::kinds::Kinds;
 use crate::shares::Shares;
-use cse_changes::{Count, is_changed};
+use cse_changes::{Count, Part, is_changed, is_outside};
 use cse_lines::Columns;
 use cse_tables::names::Names;
 use cse_value::shape::{ItemShape, Shape};
@@ -116,18 +116,18 @@ impl<'a> Diff<'a> {
         }
     }
 
-    /// Looks at an item of two lines, which are known to be the same or not. Tells whether it is changed.
+    /// Looks at an item of two lines, which differ in a part alone. Tells whether it is changed.
     pub(crate) fn see_item(
         &mut self,
         item: usize,
-        is_same: bool,
+        part: Part,
         before: Columns<'_>,
         after: Columns<'_>,
     ) -> bool {
         let Some(shape) = self.shape.items.get(item) else {
             return false;
         };
-        let changed = !is_same && is_changed(shape, before, after);
+        let changed = !is_outside(shape, part) && is_changed(shape, before, after);
         self.shares.add(item, shape, after, changed);
         changed
     }

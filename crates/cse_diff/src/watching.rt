@@ -7,7 +7,9 @@ ghost use Rattle.cse_changes.specs.Files.{IsCompared};
 
 use crate::areas::put_field;
 use crate::diff::Diff;
-use cse_changes::{RunLines, SeenFault, Watch, compare_seen, is_known_like};
+use cse_changes::{
+    Part, RunLines, SeenFault, Watch, compare_seen, differing, is_known_like, is_outside,
+};
 use cse_dict::Dictionary;
 use cse_lines::Columns;
 use cse_tables::names::Names;
@@ -54,6 +56,15 @@ fn ids_end(items: &[ItemShape]) -> usize {
         }
     }
     end
+}
+
+/// Whether an item has a column in the part in which two lines differ.
+#[inline(always)]
+fn may_differ(items: &[ItemShape], item: usize, part: Part) -> bool {
+    match items.get(item) {
+        Some(shape) => !is_outside(shape, part),
+        None => false,
+    }
 }
 
 impl<'w, 'a, W: Output + Drop> Watching<'w, 'a, W> {
@@ -167,9 +178,18 @@ impl<'w, 'a, W: Output + Drop> Watching<'w, 'a, W> {
         if is_same && self.diff.shares.is_empty() {
             return;
         }
+        let part = if is_same {
+            Part::NONE
+        } else {
+            differing(before, after)
+        };
+        let shape = self.diff.shape;
+        let sees_all = !self.diff.shares.is_empty();
         let mut changes = 0u64;
         for item in first..end {
-            if self.diff.see_item(item, is_same, before, after) {
+            if (sees_all || may_differ(&shape.items, item, part))
+                && self.diff.see_item(item, part, before, after)
+            {
                 self.add_change(item, occurrence, before, after);
                 changes = changes.saturating_add(1);
             }

@@ -4,7 +4,7 @@ use Rattle.cse_case.specs.Field.{item_at}
 use Rattle.cse_case.specs.Seen.{places_from as own_places}
 use Rattle.cse_changes.specs.declared.count.Count.{Count}
 use Rattle.cse_changes.specs.Changes.{count_in, no_count, types_of, with_changes}
-use Rattle.cse_changes.proofs.SumLaws.{is_with, none_total, own_total, same_count, with_none}
+use Rattle.cse_changes.proofs.SumLaws.{is_with, none_total, own_total, same_count}
 use Rattle.cse_changes.proofs.sums.add_changes.Goals as goal
 
 pub add_record-requires-clause-few : goal.add_record-requires-clause-few
@@ -46,7 +46,6 @@ returns-clause-each c n within =
     let records = c.args.records.now in
     let old = get_or c.args.counts.now n no_count in
     elim (cases_lt (item_at items n).owner (length records)) [
-      | inl less ↦ c.records.invariant.done n within (omega (arith, less))
-      | inr past ↦ c.records.invariant.later n within (omega (arith, past))
-          ∙ (sym (with_none old) ∙ ap (λ m. with_changes old m) (sym (none_total records items n c.args.before.now c.args.after.now c.requires.pairs within past)))
+      | inl less ↦ ap (λ (x : Count). x.changed) (c.records.invariant.done n within (omega (arith, less)))
+      | inr past ↦ omega (arith, ap (λ (x : Count). x.changed) (c.records.invariant.later n within (omega (arith, past))), none_total records items n c.args.before.now c.args.after.now c.requires.pairs within past)
     ]
