@@ -1,19 +1,18 @@
 -- Whether the files of a command are apart.
 use Rattle.std.specs.Prelude.{◌≡◌, ◌<◌, ℕ, Bool, List, Option, None, Some, length, map, take, slice_index_or, nat_eq, codes, not}
 use Rattle.std.specs.List.{starts_with}
-use Rattle.std.specs.Borrow.{Bor}
 use Rattle.cse_files.specs.declared.clashing.Named.{Named}
 use Rattle.cse_files.specs.Clashes.{clash_before}
 use Rattle.cse_office.specs.declared.apart.Role.{Role}
 use Rattle.cse_office.specs.declared.apart.Use.{Use}
 use Rattle.cse_office.specs.declared.stop.Stop.{Stop}
-use Rattle.cse_office.specs.declared.stop.Stop.TheVariants.{Usage, OneFile, Refused}
+use Rattle.cse_office.specs.declared.stop.Stop.TheVariants.{OneFile, Refused}
 use Rattle.cse_office.specs.declared.stop.Fault.{Fault}
 use Rattle.cse_office.specs.declared.stop.Spot.TheVariants.{Whole}
 
--- a fault that tells no place
-abbrev pub plain : ℕ → Bor (List ℕ) → Fault
-plain number path = record { number = number; spot = Whole; path = path }
+-- a fault that tells no place and no file
+abbrev pub plain : ℕ → Fault
+plain number = record { number = number; spot = Whole; slot = None }
 
 -- what is done with a file, and whether its path begins with /dev/
 abbrev pub done_with : Named → Bool × Bool × Bool
@@ -48,6 +47,5 @@ pub record AreOne (uses : List Use) (first second : Role) : Type 0 where
 
 -- It tells two files that are one, or want of memory.
 abbrev pub TellsOneFile : List Use → Stop → Type 0
-TellsOneFile uses Usage = ⊥
 TellsOneFile uses (OneFile first second) = AreOne uses first second
 TellsOneFile uses (Refused fault) = fault.number ≡ 90

@@ -103,11 +103,11 @@ fn uses_of<'a>(
 }
 
 /// Sees that no file that a command writes is one of its others. Nothing is opened.
-pub(crate) fn see_files_apart<'a, R: Files + AllocGlobal>(
+pub(crate) fn see_files_apart<R: Files + AllocGlobal>(
     rt: &R,
     command: Command,
     asked: &Asked<'_>,
-) -> Result<(), Stop<'a>>
+) -> Result<(), Stop>
     ensures { OnOk result (AreApart (uses command asked.now)) }
 {
     match uses_of(rt.alloc(), command, asked) {
@@ -117,7 +117,7 @@ pub(crate) fn see_files_apart<'a, R: Files + AllocGlobal>(
 }
 
 /// Sees that no file that is written is one of the others. Nothing is opened.
-fn see_apart<'a, R: Files + AllocGlobal>(rt: &R, uses: &[Use<'_>]) -> Result<(), Stop<'a>>
+fn see_apart<R: Files + AllocGlobal>(rt: &R, uses: &[Use<'_>]) -> Result<(), Stop>
     ensures apart { OnOk result (AreApart uses.now) }
     ensures one_file { IfErr result (TellsOneFile uses.now) }
 {

@@ -8,8 +8,8 @@ use crate::apart::see_files_apart;
 use crate::diff::diff_files;
 use crate::files::{dict_text, dictionary_of, names_of, print_text};
 use crate::others::{look_files, report_files, show_files};
-use crate::stop::{Stop, tell};
-use crate::words::{Asked, Command, asked_of, command_of};
+use crate::stop::{Stop, tell, tell_memory, tell_usage};
+use crate::words::{Asked, Command, Slot, asked_of, command_of};
 use cse_tables::names::Names;
 use cse_tables::text::Text;
 use cse_value::Output;
@@ -19,7 +19,7 @@ use std::rt::{Env, Files};
 use std::{env, io};
 
 /// The status of work that is done: 0.
-fn done(outcome: Result<(), Stop<'_>>) -> Result<u8, Stop<'_>>
+fn done(outcome: Result<(), Stop>) -> Result<u8, Stop>
     ensures { IfOk result (λ status. status ≤ 1) }
 {
     match outcome {
@@ -29,12 +29,12 @@ fn done(outcome: Result<(), Stop<'_>>) -> Result<u8, Stop<'_>>
 }
 
 /// A command, with the names of its dictionary.
-fn with_names<'a, R: Files + Print + AllocGlobal>(
+fn with_names<R: Files + Print + AllocGlobal>(
     rt: &R,
     command: Command,
-    asked: &Asked<'a>,
+    asked: &Asked<'_>,
     names: &Names<'_>,
-) -> Result<u8, Stop<'a>>
+) -> Result<u8, Stop>
     requires apart { AreApart (uses command asked.now) }
     ensures { IfOk result (λ status. status ≤ 1) }
 {
@@ -51,35 +51,32 @@ fn with_names<'a, R: Files + Print + AllocGlobal>(
 }
 
 /// A command whose dictionary stands first.
-fn with_dictionary<'a, R: Files + Print + AllocGlobal>(
+fn with_dictionary<R: Files + Print + AllocGlobal>(
     rt: &R,
     command: Command,
-    asked: &Asked<'a>,
-) -> Result<u8, Stop<'a>>
+    asked: &Asked<'_>,
+) -> Result<u8, Stop>
     requires apart { AreApart (uses command asked.now) }
     ensures { IfOk result (λ status. status ≤ 1) }
 {
-    let text = dict_text(rt, asked.first)?;
-    let dictionary = dictionary_of(rt.alloc(), text.bytes(), asked.first)?;
+    let text = dict_text(rt, asked, Slot::First)?;
+    let dictionary = dictionary_of(rt.alloc(), text.bytes(), Slot::First)?;
     let names = names_of(rt.alloc(), &dictionary, text.bytes())?;
     with_names(rt, command, asked, &names)
 }
 
-/// A command, if its words are words of it.
-fn carried_out<'a, R: Files + Print + AllocGlobal>(
+/// A command.
+fn carried_out<R: Files + Print + AllocGlobal>(
     rt: &R,
     command: Command,
-    words: &'a [String],
-) -> Result<u8, Stop<'a>>
+    asked: &Asked<'_>,
+) -> Result<u8, Stop>
     ensures { IfOk result (λ status. status ≤ 1) }
 {
-    let Some(asked) = asked_of(command, words) else {
-        return Err(Stop::Usage);
-    };
-    see_files_apart(rt, command, &asked)?;
+    see_files_apart(rt, command, asked)?;
     match command {
-        Command::Show => done(show_files(rt, &asked)),
-        _ => with_dictionary(rt, command, &asked),
+        Command::Show => done(show_files(rt, asked)),
+        _ => with_dictionary(rt, command, asked),
     }
 }
 
@@ -99,9 +96,12 @@ fn carry_out_words<R: Files + Print + AllocGlobal, W: Output>(
     let Some(command) = command_of(first.as_str()) else {
         return None;
     };
-    Some(match carried_out(rt, command, rest) {
+    let Some(asked) = asked_of(command, rest) else {
+        return Some(tell_usage(usage, errors));
+    };
+    Some(match carried_out(rt, command, &asked) {
         Ok(status) => status,
-        Err(stop) => tell(stop, usage, errors),
+        Err(stop) => tell(stop, &asked, errors),
     })
 }
 
@@ -126,9 +126,7 @@ pub fn carry_out<R: Env + Files + Print + AllocGlobal, W: Output>(
 {
     match words_given(rt) {
         Ok(words) => carry_out_words(rt, &words, usage, errors),
-        Err(error) if error.kind() == ErrorKind::OutOfMemory => {
-            Some(tell(Stop::of_memory(), usage, errors))
-        }
+        Err(error) if error.kind() == ErrorKind::OutOfMemory => Some(tell_memory(errors)),
         Err(_) => None,
     }
 }

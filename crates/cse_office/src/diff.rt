@@ -6,11 +6,11 @@ ghost use Rattle.cse_office.specs.declared.words.Command.TheVariants.{Diff as Di
 
 use crate::files::{opened, print_text, sheet_of, write_text, written};
 use crate::stop::Stop;
-use crate::words::Asked;
+use crate::words::{Asked, Slot};
 use cse_changes::{CompareFault, SeenFault};
 use cse_dict::Dictionary;
 use cse_diff::{Area, Diff, Watching, compare, put_diff, put_page, put_sheet};
-use cse_fault_numbers::{UNKNOWN_NAME, WANT_OF_MEMORY};
+use cse_fault_numbers::UNKNOWN_NAME;
 use cse_tables::names::Names;
 use cse_tables::text::Text;
 use cse_value::shape::ID_OWNER;
@@ -30,16 +30,12 @@ fn id_item(dictionary: &Dictionary, name: &str) -> Option<usize> {
 }
 
 /// The id items of names with commas between them: 40 where a name is none's.
-fn id_items<'a>(
-    alloc: Global,
-    dictionary: &Dictionary,
-    by: Option<&str>,
-) -> Result<Vec<usize>, Stop<'a>> {
+fn id_items(alloc: Global, dictionary: &Dictionary, by: Option<&str>) -> Result<Vec<usize>, Stop> {
     let mut items = Vec::new(alloc);
     if let Some(by) = by {
         for name in by.split(',') {
             let Some(number) = id_item(dictionary, name) else {
-                return Err(Stop::of_file(UNKNOWN_NAME, ""));
+                return Err(Stop::of_number(UNKNOWN_NAME));
             };
             if items.push(number).is_err() {
                 return Err(Stop::of_memory());
@@ -49,31 +45,33 @@ fn id_items<'a>(
     Ok(items)
 }
 
-/// Why a comparison stopped, with the path of the file.
-fn stop_of<'a>(fault: SeenFault<u8>, asked: &Asked<'a>) -> Stop<'a> {
+/// Why a comparison stopped, with the file.
+fn stop_of(fault: SeenFault<u8>) -> Stop {
     match fault {
-        SeenFault::Seen(number) => Stop::of_file(number, asked.cases.unwrap_or("")),
+        SeenFault::Seen(number) => Stop::of_file(number, Slot::Cases),
         SeenFault::Compare(CompareFault::Data(error)) => {
-            Stop::at_line(error.number, error.line, asked.second)
+            Stop::at_line(error.number, error.line, Slot::Second)
         }
         SeenFault::Compare(CompareFault::Out(error)) => {
-            Stop::at_line(error.number, error.line, asked.third)
+            Stop::at_line(error.number, error.line, Slot::Third)
         }
-        SeenFault::Compare(CompareFault::Apart { line }) => Stop::at_line(APART, line, asked.third),
-        SeenFault::Compare(CompareFault::Memory) => Stop::of_file(WANT_OF_MEMORY, ""),
+        SeenFault::Compare(CompareFault::Apart { line }) => {
+            Stop::at_line(APART, line, Slot::Third)
+        }
+        SeenFault::Compare(CompareFault::Memory) => Stop::of_memory(),
     }
 }
 
 /// Compares the files.
-fn compared<'n, 'a, R: Files + AllocGlobal>(
+fn compared<'n, R: Files + AllocGlobal>(
     rt: &R,
-    asked: &Asked<'a>,
+    asked: &Asked<'_>,
     names: &Names<'n>,
     diff: Diff<'n>,
-) -> Result<Diff<'n>, Stop<'a>> {
-    let mut data = opened(rt, asked.second)?;
-    let mut out = opened(rt, asked.third)?;
-    let rows = sheet_of(rt, asked.cases)?;
+) -> Result<Diff<'n>, Stop> {
+    let mut data = opened(rt, asked, Slot::Second)?;
+    let mut out = opened(rt, asked, Slot::Third)?;
+    let rows = sheet_of(rt, asked, Slot::Cases)?;
     let mut watching = Watching::new(rt.alloc(), names, diff, rows);
     let outcome = compare(
         rt.alloc(),
@@ -85,43 +83,43 @@ fn compared<'n, 'a, R: Files + AllocGlobal>(
     let (diff, failure) = watching.finish();
     match outcome {
         Ok(()) => {
-            written(failure, asked.cases)?;
+            written(failure, Slot::Cases)?;
             Ok(diff)
         }
-        Err(fault) => Err(stop_of(fault, asked)),
+        Err(fault) => Err(stop_of(fault)),
     }
 }
 
 /// Writes what was changed: the page, the table, and what is printed.
-fn tell_changes<'v, 'a, R: Files + Print + AllocGlobal>(
+fn tell_changes<'v, R: Files + Print + AllocGlobal>(
     rt: &R,
-    asked: &Asked<'a>,
+    asked: &Asked<'_>,
     names: &Names<'v>,
     diff: &Diff<'_>,
     kinds: &[(u64, u64, &'v [u8])],
     areas: &'v [Area],
-) -> Result<(), Stop<'a>> {
+) -> Result<(), Stop> {
     let mut page = Text::new(rt.alloc());
     if asked.html.is_some() {
         put_page(&mut page, rt.alloc(), names, diff, kinds, areas);
     }
-    write_text(rt, asked.html, page)?;
-    let mut sheet = sheet_of(rt, asked.csv)?;
+    write_text(rt, asked, Slot::Page, page)?;
+    let mut sheet = sheet_of(rt, asked, Slot::Table)?;
     if asked.csv.is_some() {
         put_sheet(&mut sheet, names, diff, areas);
     }
-    written(sheet.finish(), asked.csv)?;
+    written(sheet.finish(), Slot::Table)?;
     let mut text = Text::new(rt.alloc());
     put_diff(&mut text, names, diff, kinds, areas);
     print_text(rt, text)
 }
 
 /// `diff`, where no file that is written is one of the others.
-pub(crate) fn diff_files<'a, R: Files + Print + AllocGlobal>(
+pub(crate) fn diff_files<R: Files + Print + AllocGlobal>(
     rt: &R,
-    asked: &Asked<'a>,
+    asked: &Asked<'_>,
     names: &Names<'_>,
-) -> Result<(), Stop<'a>>
+) -> Result<(), Stop>
     requires apart { AreApart (uses DiffCommand asked.now) }
 {
     let by = id_items(rt.alloc(), names.dictionary, asked.by)?;

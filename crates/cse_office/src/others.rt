@@ -10,7 +10,7 @@ use crate::files::{
     write_text, written,
 };
 use crate::stop::Stop;
-use crate::words::Asked;
+use crate::words::{Asked, Slot};
 use cse_image::{Program, read_image};
 use cse_tables::names::Names;
 use cse_tables::text::Text;
@@ -24,17 +24,17 @@ use std::rt::Files;
 const MOST_IMAGE: u64 = 156_358_936;
 
 /// `look`. The status is 1 where no line is seen or ids come back.
-pub(crate) fn look_files<'a, R: Files + Print + AllocGlobal>(
+pub(crate) fn look_files<R: Files + Print + AllocGlobal>(
     rt: &R,
-    asked: &Asked<'a>,
+    asked: &Asked<'_>,
     names: &Names<'_>,
-) -> Result<u8, Stop<'a>>
+) -> Result<u8, Stop>
     ensures { IfOk result (λ status. status ≤ 1) }
 {
-    let mut input = opened(rt, asked.second)?;
+    let mut input = opened(rt, asked, Slot::Second)?;
     let look = match look_at(rt.alloc(), names, &mut input.device) {
         Ok(look) => look,
-        Err(error) => return Err(Stop::at_line(error.number, error.line, asked.second)),
+        Err(error) => return Err(Stop::at_line(error.number, error.line, Slot::Second)),
     };
     let mut text = Text::new(rt.alloc());
     put_look(&mut text, names, &look);
@@ -43,94 +43,95 @@ pub(crate) fn look_files<'a, R: Files + Print + AllocGlobal>(
 }
 
 /// Reads a listing or frequencies, by the number of a line of another form.
-fn read<'a, R: Files + AllocGlobal>(
+fn read<R: Files + AllocGlobal>(
     rt: &R,
     report: &mut Report,
-    path: &'a str,
+    asked: &Asked<'_>,
+    slot: Slot,
     form: u8,
-) -> Result<(), Stop<'a>> {
-    let source = source_of(rt, path)?;
+) -> Result<(), Stop> {
+    let source = source_of(rt, asked, slot)?;
     match report.read(source, form) {
         Ok(()) => Ok(()),
-        Err(trouble) => Err(Stop::at_line(trouble.number, trouble.line, path)),
+        Err(trouble) => Err(Stop::at_line(trouble.number, trouble.line, slot)),
     }
 }
 
 /// `report`, where no file that is written is one of the others.
-pub(crate) fn report_files<'a, R: Files + Print + AllocGlobal>(
+pub(crate) fn report_files<R: Files + Print + AllocGlobal>(
     rt: &R,
-    asked: &Asked<'a>,
+    asked: &Asked<'_>,
     names: &Names<'_>,
-) -> Result<(), Stop<'a>>
+) -> Result<(), Stop>
     requires apart { AreApart (uses ReportCommand asked.now) }
 {
     let mut report = Report::new(rt.alloc());
-    read(rt, &mut report, asked.second, NO_LISTING)?;
-    read(rt, &mut report, asked.third, NO_FREQUENCIES)?;
+    read(rt, &mut report, asked, Slot::Second, NO_LISTING)?;
+    read(rt, &mut report, asked, Slot::Third, NO_FREQUENCIES)?;
     let mut page = Text::new(rt.alloc());
     if asked.html.is_some() {
         put_report_page(&mut page, &*names, &report);
     }
-    write_text(rt, asked.html, page)?;
-    let mut sheet = sheet_of(rt, asked.csv)?;
+    write_text(rt, asked, Slot::Page, page)?;
+    let mut sheet = sheet_of(rt, asked, Slot::Table)?;
     if asked.csv.is_some() {
         put_report_sheet(&mut sheet, &*names, &report);
     }
-    written(sheet.finish(), asked.csv)?;
+    written(sheet.finish(), Slot::Table)?;
     let mut text = Text::new(rt.alloc());
     put_report(&mut text, &*names, &report);
     print_text(rt, text)
 }
 
 /// The program of an image.
-fn program_of<'a, R: Files + AllocGlobal>(rt: &R, path: &'a str) -> Result<Program, Stop<'a>> {
-    let file = bytes_of(rt, path, MOST_IMAGE)?;
+fn program_of<R: Files + AllocGlobal>(rt: &R, asked: &Asked<'_>) -> Result<Program, Stop> {
+    let file = bytes_of(rt, asked, Slot::First, MOST_IMAGE)?;
     match read_image(rt.alloc(), file.bytes()) {
         Ok(program) => Ok(program),
-        Err(error) => Err(Stop::at_byte(error.number, error.at as u64, path)),
+        Err(error) => Err(Stop::at_byte(error.number, error.at as u64, Slot::First)),
     }
 }
 
 /// Prints a program, with the names of a dictionary if there is one.
-fn print_image<'a, R: Print + AllocGlobal>(
+fn print_image<R: Print + AllocGlobal>(
     rt: &R,
     program: &Program,
     names: Option<&Names<'_>>,
-) -> Result<(), Stop<'a>> {
+) -> Result<(), Stop> {
     let mut text = Text::new(rt.alloc());
     put_image(&mut text, rt.alloc(), program, names);
     print_text(rt, text)
 }
 
 /// Prints a program with the names of a dictionary.
-fn print_with<'a, R: Print + AllocGlobal>(
+fn print_with<R: Print + AllocGlobal>(
     rt: &R,
     program: &Program,
     names: &Names<'_>,
-) -> Result<(), Stop<'a>> {
+) -> Result<(), Stop> {
     print_image(rt, program, Some(names))
 }
 
 /// `show` with a dictionary.
-fn show_with<'a, R: Files + Print + AllocGlobal>(
+fn show_with<R: Files + Print + AllocGlobal>(
     rt: &R,
     program: &Program,
-    path: &'a str,
-) -> Result<(), Stop<'a>> {
-    let text = dict_text(rt, path)?;
-    let dictionary = dictionary_of(rt.alloc(), text.bytes(), path)?;
+    asked: &Asked<'_>,
+) -> Result<(), Stop> {
+    let text = dict_text(rt, asked, Slot::Second)?;
+    let dictionary = dictionary_of(rt.alloc(), text.bytes(), Slot::Second)?;
     let names = names_of(rt.alloc(), &dictionary, text.bytes())?;
     print_with(rt, program, &names)
 }
 
 /// `show`.
-pub(crate) fn show_files<'a, R: Files + Print + AllocGlobal>(
+pub(crate) fn show_files<R: Files + Print + AllocGlobal>(
     rt: &R,
-    asked: &Asked<'a>,
-) -> Result<(), Stop<'a>> {
-    let program = program_of(rt, asked.first)?;
+    asked: &Asked<'_>,
+) -> Result<(), Stop> {
+    let program = program_of(rt, asked)?;
     if asked.count < 2 {
         return print_image(rt, &program, None);
     }
-    show_with(rt, &program, asked.second)
+    show_with(rt, &program, asked)
 }

@@ -5,6 +5,7 @@ ghost use Rattle.cse_office.specs.Apart.{TellsOneFile, plain};
 ghost use Rattle.cse_office.specs.declared.apart.Use.{Use};
 
 use crate::apart::Role;
+use crate::words::{Asked, Slot};
 use cse_fault_numbers::{NOT_OPENED, READ_FAILED, WANT_OF_MEMORY, WRITE_FAILED};
 use cse_files::{ReadFault, WriteFault};
 use cse_value::{Output, write_all};
@@ -22,85 +23,92 @@ pub(crate) enum Spot {
     Byte(u64),
 }
 
-/// A fault: its number, its place, and the path of the file. An empty path is not told.
+/// A fault: its number, its place, and which file it is of, if that is told.
 #[derive(Clone, Copy)]
-pub(crate) struct Fault<'a> {
+pub(crate) struct Fault {
     pub number: u8,
     pub spot: Spot,
-    pub path: &'a str,
+    pub slot: Option<Slot>,
 }
 
 /// Why a command has not done its work.
 #[derive(Clone, Copy)]
-pub(crate) enum Stop<'a> {
-    /// The words are no command.
-    Usage,
+pub(crate) enum Stop {
     /// Two words lead to one file, which would be overwritten; the earlier one first.
     OneFile(Role, Role),
     /// A fault.
-    Refused(Fault<'a>),
+    Refused(Fault),
 }
 
-impl<'a> Stop<'a> {
-    /// A fault of a file that tells no place.
-    pub(crate) fn of_file(number: u8, path: &'a str) -> Stop<'a>
-        ensures { result ≡ Stop.Refused (plain number path.entry) }
+impl Stop {
+    /// A fault that is of no file, or tells none.
+    pub(crate) fn of_number(number: u8) -> Stop
+        ensures { result ≡ Stop.Refused (plain number) }
     {
         Stop::Refused(Fault {
             number,
             spot: Spot::Whole,
-            path,
+            slot: None,
+        })
+    }
+
+    /// A fault of a file that tells no place.
+    pub(crate) fn of_file(number: u8, slot: Slot) -> Stop {
+        Stop::Refused(Fault {
+            number,
+            spot: Spot::Whole,
+            slot: Some(slot),
         })
     }
 
     /// A fault at a line of a file.
-    pub(crate) fn at_line(number: u8, line: u64, path: &'a str) -> Stop<'a> {
+    pub(crate) fn at_line(number: u8, line: u64, slot: Slot) -> Stop {
         Stop::Refused(Fault {
             number,
             spot: Spot::Line(line),
-            path,
+            slot: Some(slot),
         })
     }
 
     /// A fault at a byte of a file.
-    pub(crate) fn at_byte(number: u8, byte: u64, path: &'a str) -> Stop<'a> {
+    pub(crate) fn at_byte(number: u8, byte: u64, slot: Slot) -> Stop {
         Stop::Refused(Fault {
             number,
             spot: Spot::Byte(byte),
-            path,
+            slot: Some(slot),
         })
     }
 
     /// Want of memory.
-    pub(crate) fn of_memory() -> Stop<'a>
+    pub(crate) fn of_memory() -> Stop
         ensures { (uses : List Use) → TellsOneFile uses result }
     {
-        Stop::of_file(WANT_OF_MEMORY, "")
+        Stop::of_number(WANT_OF_MEMORY)
     }
 
     /// A file that can't be opened.
-    pub(crate) fn of_open(kind: ErrorKind, path: &'a str) -> Stop<'a> {
+    pub(crate) fn of_open(kind: ErrorKind, slot: Slot) -> Stop {
         match kind {
-            ErrorKind::OutOfMemory => Stop::of_file(WANT_OF_MEMORY, path),
-            _ => Stop::of_file(NOT_OPENED, path),
+            ErrorKind::OutOfMemory => Stop::of_file(WANT_OF_MEMORY, slot),
+            _ => Stop::of_file(NOT_OPENED, slot),
         }
     }
 
     /// A file that was not read.
-    pub(crate) fn of_read(fault: ReadFault, path: &'a str) -> Stop<'a> {
+    pub(crate) fn of_read(fault: ReadFault, slot: Slot) -> Stop {
         match fault {
-            ReadFault::NotOpened => Stop::of_file(NOT_OPENED, path),
-            ReadFault::NotRead => Stop::of_file(READ_FAILED, path),
-            ReadFault::Memory => Stop::of_file(WANT_OF_MEMORY, path),
+            ReadFault::NotOpened => Stop::of_file(NOT_OPENED, slot),
+            ReadFault::NotRead => Stop::of_file(READ_FAILED, slot),
+            ReadFault::Memory => Stop::of_file(WANT_OF_MEMORY, slot),
         }
     }
 
     /// A file that was not written.
-    pub(crate) fn of_write(fault: WriteFault, path: &'a str) -> Stop<'a> {
+    pub(crate) fn of_write(fault: WriteFault, slot: Slot) -> Stop {
         match fault {
-            WriteFault::NotOpened => Stop::of_file(NOT_OPENED, path),
-            WriteFault::NotWritten => Stop::of_file(WRITE_FAILED, path),
-            WriteFault::Memory => Stop::of_file(WANT_OF_MEMORY, path),
+            WriteFault::NotOpened => Stop::of_file(NOT_OPENED, slot),
+            WriteFault::NotWritten => Stop::of_file(WRITE_FAILED, slot),
+            WriteFault::Memory => Stop::of_file(WANT_OF_MEMORY, slot),
         }
     }
 }
@@ -119,8 +127,9 @@ fn put_number<W: Output>(errors: &mut W, words: &str, number: u64) {
     put(errors, &[buffer.format(number)]);
 }
 
-/// Writes the line of a fault: `refused N`, its place, and ` in PATH`. Of want of memory the number alone is told.
-fn put_fault<W: Output>(errors: &mut W, fault: &Fault<'_>) {
+/// Writes the line of a fault: `refused N`, its place, and ` in PATH`, if the path is not empty. Of want of memory the number
+/// alone is told.
+fn put_fault<W: Output>(errors: &mut W, fault: &Fault, path: &str) {
     put_number(errors, "refused ", u64::from(fault.number));
     match fault.spot {
         _ if fault.number == WANT_OF_MEMORY => {}
@@ -128,8 +137,8 @@ fn put_fault<W: Output>(errors: &mut W, fault: &Fault<'_>) {
         Spot::Line(line) => put_number(errors, " line ", line),
         Spot::Byte(byte) => put_number(errors, " byte ", byte),
     }
-    if fault.number != WANT_OF_MEMORY && !fault.path.is_empty() {
-        put(errors, &[" in ", fault.path]);
+    if fault.number != WANT_OF_MEMORY && !path.is_empty() {
+        put(errors, &[" in ", path]);
     }
     put(errors, &["\n"]);
 }
@@ -144,16 +153,33 @@ fn ending(number: u8) -> u8
     }
 }
 
-/// Tells why a command has not done its work, and answers the exit status: the usage where its words are none, two files that are
-/// one as a sentence, and a fault as a line.
-pub(crate) fn tell<W: Output>(stop: Stop<'_>, usage: &str, errors: &mut W) -> u8
+/// Tells the usage, and answers the exit status.
+pub(crate) fn tell_usage<W: Output>(usage: &str, errors: &mut W) -> u8
+    ensures { result ≤ 3 }
+{
+    put(errors, &[usage]);
+    2
+}
+
+/// Tells that memory lacks, and answers the exit status.
+pub(crate) fn tell_memory<W: Output>(errors: &mut W) -> u8
+    ensures { result ≤ 3 }
+{
+    let fault = Fault {
+        number: WANT_OF_MEMORY,
+        spot: Spot::Whole,
+        slot: None,
+    };
+    put_fault(errors, &fault, "");
+    ending(WANT_OF_MEMORY)
+}
+
+/// Tells why a command has not done its work, and answers the exit status: two files that are one as a sentence, and a fault as a
+/// line.
+pub(crate) fn tell<W: Output>(stop: Stop, asked: &Asked<'_>, errors: &mut W) -> u8
     ensures { result ≤ 3 }
 {
     match stop {
-        Stop::Usage => {
-            put(errors, &[usage]);
-            2
-        }
         Stop::OneFile(first, second) => {
             put(
                 errors,
@@ -168,7 +194,11 @@ pub(crate) fn tell<W: Output>(stop: Stop<'_>, usage: &str, errors: &mut W) -> u8
             2
         }
         Stop::Refused(fault) => {
-            put_fault(errors, &fault);
+            let path = match fault.slot {
+                Some(slot) => asked.path(slot),
+                None => "",
+            };
+            put_fault(errors, &fault, path);
             ending(fault.number)
         }
     }

@@ -30,6 +30,37 @@ pub(crate) struct Asked<'a> {
     pub csv: Option<&'a str>,
 }
 
+/// Which path of a command it is.
+#[derive(Clone, Copy)]
+pub(crate) enum Slot {
+    First,
+    Second,
+    Third,
+    /// The one behind `--cases`, `--html` or `--csv`.
+    Cases,
+    Page,
+    Table,
+}
+
+impl<'a> Asked<'a> {
+    /// The path, if it is named.
+    pub(crate) fn path_if(&self, slot: Slot) -> Option<&'a str> {
+        match slot {
+            Slot::First => Some(self.first),
+            Slot::Second => Some(self.second),
+            Slot::Third => Some(self.third),
+            Slot::Cases => self.cases,
+            Slot::Page => self.html,
+            Slot::Table => self.csv,
+        }
+    }
+
+    /// The path; an empty one where it is not named.
+    pub(crate) fn path(&self, slot: Slot) -> &'a str {
+        self.path_if(slot).unwrap_or("")
+    }
+}
+
 /// What the next word is.
 #[derive(Clone, Copy, PartialEq, Eq)]
 enum Next {
