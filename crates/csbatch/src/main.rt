@@ -8,7 +8,7 @@ use cse_commands::start::{USAGE, carry_out_and_tell};
 use cse_office::command::carry_out as carry_out_office;
 use cse_progress::meter::{Meter, Told};
 use cse_progress::runtime::Watched;
-use cse_progress::watched::{watched_path, words_if};
+use cse_progress::watched::{watched_paths, words_if};
 use cse_value::{Output, Writes};
 use std::io::IsTerminal;
 use std::process::ExitCode;
@@ -27,13 +27,13 @@ fn carry_out<R: Env + Files + Print + AllocGlobal, W: Output>(rt: &R, errors: &m
 
 fn main(rt: HostRuntime) -> ExitCode {
     let words = words_if(&rt, rt.stderr().is_terminal());
-    let data = watched_path(rt.alloc(), &words);
-    let path = data.as_deref();
-    let meter = Meter::new(rt, rt.stderr());
+    let named = watched_paths(rt.alloc(), &words);
+    let paths = named.as_ref();
+    let meter = Meter::new(rt.alloc(), rt, rt.stderr());
     let watched = Watched {
         rt: &rt,
         meter: &meter,
-        path,
+        paths,
     };
     let mut errors = Writes::new(Told { meter: &meter });
     ExitCode::from(carry_out(&watched, &mut errors))

@@ -1,16 +1,33 @@
 //! An open file, of which may be told how far it is read.
 
+ghost use Rattle.std.specs.Prelude.{◌≡◌};
+
+use crate::cases::Cases;
 use crate::meter::Meter;
 use crate::runtime::unsupported;
 use std::fs::{Metadata, OpenFile, Permissions};
 use std::io::{self, Read, Seek, SeekFrom, Write};
 use std::rt::Clock;
 
-/// An open file, with what counts the bytes that are read of it, where that is told.
+/// Which file it is.
+#[derive(Clone, Copy, PartialEq, Eq)]
+pub enum Role {
+    /// The dictionary, which tells the id columns.
+    Dictionary,
+    /// The data file.
+    Data,
+    /// Another one. Nothing is told of it.
+    Other,
+}
+
+/// An open file, and what is told of the bytes that are read of it.
 #[derive(Drop)]
 pub struct Counted<'a, F, R, T> {
     pub file: F,
-    pub meter: Option<&'a Meter<R, T>>,
+    pub role: Role,
+    pub meter: &'a Meter<R, T>,
+    /// The cases of the data file, where the id columns are known.
+    pub cases: Option<Cases>,
 }
 
 impl<F: Read, R: Clock, T: Print> Read for Counted<'_, F, R, T> {
@@ -28,12 +45,34 @@ impl<F: Read, R: Clock, T: Print> Read for Counted<'_, F, R, T> {
 }
 
 impl<F, R: Clock, T: Print> Counted<'_, F, R, T> {
+    /// How many cases begin in bytes of the data file, where that can be told. Where memory lacked, it can't be told any more.
+    fn begun_in(&mut self, bytes: &[u8]) -> Option<u64>
+        ensures { self.new.file ≡ self.old.file }
+    {
+        let begun = match &mut self.cases {
+            Some(cases) => cases.see(bytes).ok(),
+            None => None,
+        };
+        if begun.is_none() {
+            self.cases = None;
+        }
+        begun
+    }
+
     /// Counts so many bytes from the front, which were read.
-    fn count(&self, bytes: &[u8], len: usize) {
-        if let Some(meter) = self.meter {
-            if let Some(read) = bytes.get(..len) {
-                meter.add(read);
+    fn count(&mut self, bytes: &[u8], len: usize)
+        ensures { self.new.file ≡ self.old.file }
+    {
+        let Some(read) = bytes.get(..len) else {
+            return;
+        };
+        match self.role {
+            Role::Dictionary => self.meter.hold(read),
+            Role::Data => {
+                let begun = self.begun_in(read);
+                self.meter.add(read.len(), begun);
             }
+            Role::Other => {}
         }
     }
 }
@@ -79,7 +118,12 @@ impl<F: OpenFile, R, T> OpenFile for Counted<'_, F, R, T> {
 
     fn try_clone(&self) -> io::Result<Self> {
         match self.file.try_clone() {
-            Ok(file) => Ok(Counted { file, meter: None }),
+            Ok(file) => Ok(Counted {
+                file,
+                role: Role::Other,
+                meter: self.meter,
+                cases: None,
+            }),
             Err(error) => Err(error),
         }
     }

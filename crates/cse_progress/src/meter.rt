@@ -1,5 +1,8 @@
-//! How much was read of a file, and what a terminal is told of it.
+//! How much was read of a data file, and what a terminal is told of it.
 
+use crate::cases::Cases;
+use cse_dict::Dictionary;
+use std::alloc::Global;
 use std::cell::Cell;
 use std::io::{self, Write};
 use std::rt::Clock;
@@ -7,17 +10,19 @@ use std::rt::Clock;
 /// The fewest milliseconds between two lines.
 const BETWEEN: u64 = 250;
 
-/// What a terminal does away with its line by.
+/// What a terminal does away with its line by, and with what stands behind.
 const CLEAR: &[u8] = b"\r\x1b[K";
 
-/// How much was read of a file.
+const REST: &[u8] = b"\x1b[K";
+
+/// How much was read of a data file.
 #[derive(Clone, Copy)]
 struct Progress {
     /// The bytes that were read, and those of the file, where that is known.
     bytes: u64,
     size: Option<u64>,
-    /// The lines that were read.
-    lines: u64,
+    /// The cases that began in them, where that is known.
+    cases: Option<u64>,
     /// The milliseconds at which the file was opened, and those at which the last line was told.
     began: u64,
     told: u64,
@@ -25,21 +30,15 @@ struct Progress {
     stands: bool,
 }
 
-/// How much was read of a file, and the terminal that is told of it.
+/// How much was read of a data file, and the terminal that is told of it.
 #[derive(Drop)]
 pub struct Meter<R, T> {
+    alloc: Global,
     clock: R,
     terminal: T,
+    /// The text of the dictionary, as far as it was read; none where memory lacked, or once its id columns are known.
+    dictionary: Cell<Option<Vec<u8>>>,
     progress: Cell<Progress>,
-}
-
-/// How many lines end in bytes.
-fn line_ends(bytes: &[u8]) -> u64 {
-    let mut ends = 0u64;
-    for byte in bytes {
-        ends = ends.wrapping_add(u64::from(*byte == b'\n'));
-    }
-    ends
 }
 
 /// How many of a hundred a part of a whole is.
@@ -50,21 +49,34 @@ fn percent(part: u64, whole: u64) -> u64 {
     }
 }
 
-/// Tells a terminal how far a file is read at these milliseconds, in place of the line that stands there:
-/// `12345 of 67890 bytes, 18 %, 450 lines, 1200 a second`.
-fn tell<T: Print>(terminal: &T, progress: Progress, now: u64) -> io::Result<()> {
+/// Tells a terminal how much was read: `12345 of 67890 bytes, 18 %`.
+fn tell_bytes<T: Print>(terminal: &T, progress: Progress) -> io::Result<()> {
     let bytes = progress.bytes;
-    let lines = progress.lines;
-    let rate = percent(lines.saturating_mul(10), now.saturating_sub(progress.began));
     match progress.size {
         Some(size) => {
             let part = percent(bytes, size);
-            print!(terminal;
-                "\r{bytes} of {size} bytes, {part} %, {lines} lines, {rate} a second\x1b[K"
-            )
+            print!(terminal; "\r{bytes} of {size} bytes, {part} %")
         }
-        None => print!(terminal; "\r{bytes} bytes, {lines} lines, {rate} a second\x1b[K"),
+        None => print!(terminal; "\r{bytes} bytes"),
     }
+}
+
+/// Tells it how many cases began until these milliseconds, where that is known: `, 450 cases, 1200 a second`.
+fn tell_cases<T: Print>(terminal: &T, progress: Progress, now: u64) -> io::Result<()> {
+    match progress.cases {
+        Some(cases) => {
+            let rate = percent(cases.saturating_mul(10), now.saturating_sub(progress.began));
+            print!(terminal; ", {cases} cases, {rate} a second")
+        }
+        None => Ok(()),
+    }
+}
+
+/// Tells a terminal how far a file is read at these milliseconds, in place of the line that stands there.
+fn tell<T: Print>(terminal: &T, progress: Progress, now: u64) -> io::Result<()> {
+    tell_bytes(terminal, progress)?;
+    tell_cases(terminal, progress, now)?;
+    terminal.write_all(REST)
 }
 
 /// Nothing was read of a file that was opened at these milliseconds.
@@ -72,7 +84,7 @@ fn nothing_read(began: u64, size: Option<u64>) -> Progress {
     Progress {
         bytes: 0,
         size,
-        lines: 0,
+        cases: Some(0),
         began,
         told: began,
         stands: false,
@@ -81,10 +93,12 @@ fn nothing_read(began: u64, size: Option<u64>) -> Progress {
 
 impl<R: Clock, T: Print> Meter<R, T> {
     /// No file was opened so far.
-    pub fn new(clock: R, terminal: T) -> Meter<R, T> {
+    pub fn new(alloc: Global, clock: R, terminal: T) -> Meter<R, T> {
         Meter {
+            alloc,
             clock,
             terminal,
+            dictionary: Cell::new(Some(Vec::new(alloc))),
             progress: Cell::new(nothing_read(0, None)),
         }
     }
@@ -100,17 +114,24 @@ impl<R: Clock, T: Print> Meter<R, T> {
         }
     }
 
-    /// A file of this size was opened.
-    pub fn begin(&self, size: Option<u64>) {
+    /// The data file was opened, which has this size. Answers what counts its cases, where a dictionary was read.
+    pub fn begin(&self, size: Option<u64>) -> Option<Cases> {
         self.progress.set(nothing_read(self.now(), size));
+        let text = self.dictionary.replace(None)?;
+        let dictionary = Dictionary::read(self.alloc, &text).ok()?;
+        Cases::new(self.alloc, &dictionary).ok()
     }
 
-    /// Counts bytes that were read, and tells how far the file is read where that was not told for a while.
+    /// Counts so many bytes that were read, in which so many cases began, where that is known. Tells how far the file is read
+    /// where that was not told for a while.
     #[inline(never)]
-    pub fn add(&self, bytes: &[u8]) {
+    pub fn add(&self, bytes: usize, begun: Option<u64>) {
         let mut progress = self.progress.get();
-        progress.bytes = progress.bytes.saturating_add(bytes.len() as u64);
-        progress.lines = progress.lines.saturating_add(line_ends(bytes));
+        progress.bytes = progress.bytes.saturating_add(bytes as u64);
+        progress.cases = match (progress.cases, begun) {
+            (Some(cases), Some(begun)) => Some(cases.saturating_add(begun)),
+            _ => None,
+        };
         let now = self.now();
         if now.saturating_sub(progress.told) >= BETWEEN {
             progress.told = now;
@@ -118,6 +139,18 @@ impl<R: Clock, T: Print> Meter<R, T> {
             let _ = tell(&self.terminal, progress, now);
         }
         self.progress.set(progress);
+    }
+}
+
+impl<R, T> Meter<R, T> {
+    /// Holds bytes of the dictionary, which were read.
+    #[inline(never)]
+    pub fn hold(&self, bytes: &[u8]) {
+        if let Some(mut text) = self.dictionary.replace(None) {
+            if text.extend_from_slice(bytes).is_ok() {
+                self.dictionary.set(Some(text));
+            }
+        }
     }
 }
 

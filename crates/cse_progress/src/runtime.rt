@@ -1,7 +1,8 @@
-//! A runtime that passes on to another one what csbatch asks of it, and has the reads of one file told.
+//! A runtime that passes on to another one what csbatch asks of it, and has the reads of two files told.
 
-use crate::file::Counted;
+use crate::file::{Counted, Role};
 use crate::meter::Meter;
+use crate::watched::WatchedPaths;
 use std::alloc::{Allocator, Global};
 use std::env::FillError;
 use std::fmt::Display;
@@ -12,13 +13,13 @@ use std::os::unix::net::SocketAddr;
 use std::path::PathBuf;
 use std::rt::{Clock, Env, Files};
 
-/// A runtime that passes on to another one what csbatch asks of it. A terminal is told how far one file is read.
+/// A runtime that passes on to another one what csbatch asks of it. A terminal is told how far the data file is read.
 #[derive(Drop)]
 pub struct Watched<'a, R, T> {
     pub rt: &'a R,
     pub meter: &'a Meter<R, T>,
-    /// The path of that file. Where there is none, nothing is told.
-    pub path: Option<&'a str>,
+    /// The paths of that file and of its dictionary. Where there are none, nothing is told.
+    pub paths: Option<&'a WatchedPaths>,
 }
 
 /// What is not passed on, since csbatch doesn't ask it.
@@ -34,15 +35,33 @@ fn size_of<F: OpenFile>(file: &F) -> Option<u64> {
     }
 }
 
+/// Which file is opened at a path to be read.
+fn role_of(paths: Option<&WatchedPaths>, path: &str) -> Role {
+    match paths {
+        Some(paths) if paths.dictionary.as_str() == path => Role::Dictionary,
+        Some(paths) if paths.data.as_str() == path => Role::Data,
+        _ => Role::Other,
+    }
+}
+
 impl<'a, R: Files + Clock, T: Print> Watched<'a, R, T> {
-    /// What counts the reads of an open file: of the one at the path, if it is opened to be read.
-    fn meter_of(&self, how: &OpenOptions, path: &str, file: &R::File) -> Option<&'a Meter<R, T>> {
-        match self.path {
-            Some(watched) if !how.asks_write() && watched == path => {
-                self.meter.begin(size_of(file));
-                Some(self.meter)
-            }
-            _ => None,
+    /// An open file, with what is told of its reads.
+    fn counted(&self, how: &OpenOptions, path: &str, file: R::File) -> Counted<'a, R::File, R, T> {
+        let role = if how.asks_write() {
+            Role::Other
+        } else {
+            role_of(self.paths, path)
+        };
+        let cases = if role == Role::Data {
+            self.meter.begin(size_of(&file))
+        } else {
+            None
+        };
+        Counted {
+            file,
+            role,
+            meter: self.meter,
+            cases,
         }
     }
 }
@@ -97,10 +116,7 @@ impl<'a, R: Files + Clock, T: Print> Files for Watched<'a, R, T> {
 
     fn open_file(&self, how: &OpenOptions, path: &str) -> io::Result<Counted<'a, R::File, R, T>> {
         match self.rt.open_file(how, path) {
-            Ok(file) => {
-                let meter = self.meter_of(how, path, &file);
-                Ok(Counted { file, meter })
-            }
+            Ok(file) => Ok(self.counted(how, path, file)),
             Err(error) => Err(error),
         }
     }

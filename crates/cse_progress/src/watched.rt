@@ -1,7 +1,7 @@
-//! The file of a command whose reads are told.
+//! The files of a command whose reads are told.
 
-use cse_command_line::plan::{Command, plan};
-use std::alloc::Global;
+use cse_command_line::plan::{Command, RunPaths, plan};
+use std::alloc::{AllocError, Global};
 use std::env;
 use std::rt::Env;
 
@@ -27,28 +27,34 @@ fn texts_of<'a>(alloc: Global, words: &'a [String]) -> Vec<&'a str> {
     texts
 }
 
-/// A path of its own; none where memory lacks.
-fn owned(alloc: Global, path: &str) -> Option<String> {
-    let mut own = String::new(alloc);
-    match own.push_str(path) {
-        Ok(()) => Some(own),
-        Err(_) => None,
-    }
+/// The files of a command whose reads are told.
+#[derive(Drop)]
+pub struct WatchedPaths {
+    pub dictionary: String,
+    pub data: String,
 }
 
-/// The data file of a run or an edit, unless it is to be quiet; none of other words.
-fn data_of(alloc: Global, words: &[&str]) -> Option<String> {
+/// Paths of their own.
+fn owned(alloc: Global, paths: &RunPaths<'_>) -> Result<WatchedPaths, AllocError> {
+    Ok(WatchedPaths {
+        dictionary: String::from_str(alloc, paths.dict)?,
+        data: String::from_str(alloc, paths.data)?,
+    })
+}
+
+/// The files of a run or an edit, unless it is to be quiet; none of other words, and where memory lacks.
+fn paths_of(alloc: Global, words: &[&str]) -> Option<WatchedPaths> {
     if words.is_empty() {
         return None;
     }
     match plan(alloc, words) {
-        Ok(Command::Run(paths)) if !paths.quiet => owned(alloc, paths.data),
-        Ok(Command::Edit(paths)) if !paths.run.quiet => owned(alloc, paths.run.data),
+        Ok(Command::Run(paths)) if !paths.quiet => owned(alloc, &paths).ok(),
+        Ok(Command::Edit(paths)) if !paths.run.quiet => owned(alloc, &paths.run).ok(),
         _ => None,
     }
 }
 
-/// The data file of the run or the edit that these words ask for, unless it is to be quiet; none of other words.
-pub fn watched_path(alloc: Global, words: &[String]) -> Option<String> {
-    data_of(alloc, &texts_of(alloc, words))
+/// The files of the run or the edit that these words ask for, unless it is to be quiet; none of other words.
+pub fn watched_paths(alloc: Global, words: &[String]) -> Option<WatchedPaths> {
+    paths_of(alloc, &texts_of(alloc, words))
 }

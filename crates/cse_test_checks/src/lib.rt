@@ -6,7 +6,7 @@
 //! - `values`, `parts`: numbers, texts and their columns; placeholders, names, single fields and instructions of images.
 //! - `devices`: what a reader gave and a writer took. `images`: an image that is read and written, and jumps alone.
 //! - `files`: runs of lines. `changes`: what a run changed. `written`: the items that logic may change.
-//! - `joined`: forms of statements.
+//! - `joined`: forms of statements. `progress`: the cases that a terminal is told of.
 //! - `failing`: what a command tells of devices that move few bytes in a call, and that fail (`device`). `turned`: images in which
 //!   one bit was turned. `hello`: the image that both look at. `statuses`: the status of each number.
 //! - `show`: all of them, by what each looks at.
@@ -22,6 +22,7 @@ mod images;
 mod joined;
 mod parts;
 mod persons;
+mod progress;
 pub mod show;
 mod statuses;
 mod turned;

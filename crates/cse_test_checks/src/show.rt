@@ -1,7 +1,8 @@
 //! The rows of all modules here, by what each looks at.
 
 use crate::{
-    changes, devices, failing, files, images, joined, parts, statuses, turned, values, written,
+    changes, devices, failing, files, images, joined, parts, progress, statuses, turned, values,
+    written,
 };
 use std::alloc::Global;
 
@@ -21,11 +22,12 @@ fn parts(alloc: Global) -> [Part; 6] {
 }
 
 /// The rows of what commands do.
-fn acts(alloc: Global) -> [Part; 5] {
+fn acts(alloc: Global) -> [Part; 6] {
     [
         ("runs of lines", files::are_right(alloc)),
         ("changes of a run", changes::are_right(alloc)),
         ("items that logic may change", written::are_right(alloc)),
+        ("cases as they are read", progress::are_right(alloc)),
         ("devices that fail", failing::are_right(alloc)),
         ("statuses", statuses::are_right()),
     ]
