@@ -8,16 +8,19 @@ usage: docs/gate-cost.py ./gate            runs the gate, and puts what it took 
 
 A crate that the command took from what an earlier run on this machine proved has no check. Its row stays the one of that run.
 
-Beforehand it times one program that is always the same, so that the tables of two machines can be compared. While the command
-runs, it looks at the checks below it twice a second, so each one is short by half a second at most. The table is printed too,
-to standard error. Where `./gate` fails nothing is written, and FILE is written all the same. The status is the command's.
+Beforehand it times one program that is always the same, and before and behind the command a proof that is always the same
+(`rt selftest`), so that the tables of two machines, and of two hours of one, can be compared. While the command runs, it looks at
+the checks below it twice a second, so each one is short by half a second at most. The table is printed too, to standard error.
+Where `./gate` fails nothing is written, and FILE is written all the same. The status is the command's.
 """
 import collections
 import csv
 import os
 import re
+import resource
 import subprocess
 import sys
+import tempfile
 import time
 
 ROOT = os.path.dirname(os.path.dirname(os.path.realpath(__file__)))
@@ -37,6 +40,15 @@ def fixed_program():
         number = (number * 1_103_515_245 + 12_345) % 2_147_483_648
         table[number >> 19] = turn
     return time.process_time() - began
+
+
+def fixed_proof():
+    """The processor seconds of a proof that is always the same, the kit's own example; nothing where it fails."""
+    began = resource.getrusage(resource.RUSAGE_CHILDREN)
+    with tempfile.TemporaryDirectory() as room:
+        failed = subprocess.run(["rt", "selftest"], cwd=room, stdout=subprocess.DEVNULL, stderr=subprocess.DEVNULL).returncode
+    ended = resource.getrusage(resource.RUSAGE_CHILDREN)
+    return "" if failed else f"{ended.ru_utime + ended.ru_stime - began.ru_utime - began.ru_stime:.0f}"
 
 
 def said(*words):
@@ -192,6 +204,8 @@ def table(head, costs):
     sums = [sum(cost[kind] for cost in costs.values()) for kind in KINDS]
     yield row("**sum, minutes**", (f"**{it / 60:.0f}**" for it in sums))
     speed = f"{head['speed']} seconds for the fixed program" if head["speed"] else "speed not taken"
+    if head.get("proof"):
+        speed += f", {' and '.join(head['proof'].split())} for the fixed proof before and behind"
     yield f"\n{head['machine']}, {head['processors']} processors, {speed}; {head['date']}, commit {head['commit']}, {head['kit']}. "
     chain = head["chain"].split()
     minutes = [sum(costs.get(name, {}).get(it, 0) for name in chain) / 60 for it in (CLOCK, "proof")]
@@ -225,7 +239,9 @@ def main(words):
     if not words or words[0].startswith("-"):
         sys.exit(__doc__)
     head = machine()
+    head["proof"] = fixed_proof()
     status, costs = run(words)
+    head["proof"] += f" {fixed_proof()}"
     costs = with_kept(head, costs, to)
     head["chain"] = " ".join(longest_chain(costs))
     print("".join(table(head, costs)), end="", file=sys.stderr)
