@@ -18,6 +18,7 @@ class Library:
     def __init__(self, root, name):
         self.name, self.folder = name, os.path.join(root, "crates", name)
         self.items, self.imports, self.handed_on = {}, {}, {}
+        found = []
         for path in sources.files(os.path.join(self.folder, "src"), ".rt"):
             text = sources.read(path)
             imports = sources.rust_imports(text)
@@ -25,15 +26,20 @@ class Library:
                 for it in paths:
                     if it.startswith("cse_"):
                         self.handed_on.setdefault(bound, set()).add(it)
-            for item in sources.items_of(sources.rust_tokens(text)):
-                if item.kind == "other" or item.kind in ("fn", "method", "member") and not item.is_public:
-                    continue
-                item.said, item.words = item.text, sources.words(item.text)
-                item.paths = {path for bound, paths in imports.items() for path in paths
-                              if bound in item.words or not bound.isidentifier() and bound.strip("◌") in item.said}
-                self.items.setdefault(item.owner or item.name, []).append(item)
+            found += [(it, imports) for it in sources.items_of(sources.rust_tokens(text))]
+        # (of a type with a value the crates above know the value)
+        valued = {it.owner for it, _ in found if it.ghost_of("Model") == "Value"}
+        for item, imports in found:
+            if item.kind == "other" or item.kind in ("fn", "method", "member") and not item.is_public:
+                continue
+            if item.owner in valued and item.ghost_of("Model") in ("view", "invariant"):
+                continue
+            item.said = item.shown() if item.kind == "type" and item.name in valued else item.text
+            item.words = sources.words(item.said)
+            item.paths = {path for bound, paths in imports.items() for path in paths
+                          if bound in item.words or not bound.isidentifier() and bound.strip("◌") in item.said}
+            self.items.setdefault(item.owner or item.name, []).append(item)
         self.types = {name for name, items in self.items.items() if any(it.kind not in ("fn", "method") for it in items)}
-
 
     @functools.lru_cache(maxsize=None)
     def antt(self, path):

@@ -101,6 +101,32 @@ class Item:
         head = self.tokens[self.start:self.head]
         return self.is_const or "impl" in head or not any(it in CLAUSE for it in head)
 
+    def ghost_of(self, trait):
+        """The name of the ghost member that this is, of an impl of a trait; nothing where it is none."""
+        words = [it for it in self.tokens[self.start:self.end] if it.strip()]
+        return words[1] if self.kind == "part" and self.trait == trait and words[:1] == ["ghost"] else ""
+
+    def shown(self):
+        """A struct without the fields that its own crate alone reads."""
+        tokens = self.tokens[self.start:self.end + 1]
+        at = next((k for k, it in enumerate(tokens) if it in ("{", "(") and "struct" in tokens[:k]), None)
+        if "struct" not in tokens or at is None:
+            return self.text
+        last, fields, begin, k = end_of_group(tokens, at), [], at + 1, at + 1
+        while k <= last:
+            if tokens[k] == "," or k == last:
+                fields.append([it for it in tokens[begin:k] if it.strip()])
+                begin = k + 1
+            elif tokens[k] in PAIRS:
+                k = end_of_group(tokens, k)
+            elif tokens[k] == "<":
+                depth = 0
+                while k < last and (depth := depth + (tokens[k] == "<") - (tokens[k] == ">")):
+                    k += 1
+            k += 1
+        seen = [" ".join(it) for it in fields if it[:1] == ["pub"] and it[1:2] != ["("]]
+        return derived(self.attributes) + "".join(tokens[:at + 1]) + ", ".join(seen) + "".join(tokens[last:])
+
     @property
     def text(self):
         """What the crates above read of the item."""
@@ -174,7 +200,9 @@ def declaration(tokens, start, at, holder, attributes):
         kind = "import"
     elif tokens[at] == "ghost" and holder:
         kind = "part"
-    return Item(kind, holder.name if holder else name, holder.name if holder else None, (tokens, start, end, end), attributes)
+    found = Item(kind, holder.name if holder else name, holder.name if holder else None, (tokens, start, end, end), attributes)
+    found.trait = holder.trait if holder else ""
+    return found
 
 
 def items_of(tokens, at=0, stop=None, holder=None):

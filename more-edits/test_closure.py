@@ -23,7 +23,14 @@ FILES = {
     "crates/cse_low/src/lib.rt": """#![tactic(auto)]
 ghost use Rattle.cse_low.specs.Low.{low_of, other_low};
 /// A low row.
-pub struct Low { pub size: u32 }
+pub struct Low { pub size: u32, pub seen: Seen }
+/// What is kept in a way that no other crate reads.
+pub struct Seen { table: Vec<(u32, u32)>, pub(crate) least: u32, pub most: u32 }
+impl Model for Seen {
+    ghost Value = { List ℕ };
+    ghost view = { λ s. map (λ e. e.0) s.table.items };
+    ghost invariant = { λ s. s.least ≤ s.most };
+}
 /// The low number.
 pub fn low(x: &Low) -> u32
     ensures { result ≡ low_of x.now }
@@ -175,6 +182,7 @@ CALL = "file: src/rows.rt\nold:         self.kept.keep(half(x));\nnew:         b
 BODY = "crates/cse_high/src/rows.rt"
 BESIDE = "crates/cse_high/src/beside.rt"
 LAWS = "crates/cse_high/proofs/Laws.antt"
+LOW = "crates/cse_low/src/lib.rt"
 ANSWERS = "crates/cse_high/proofs/rows/Row/put/Answers.antt"
 STAYS, CHANGES = False, True
 
@@ -195,6 +203,13 @@ ROWS = [
     ("a definition that is not cited", "crates/cse_high/specs/Rows.antt", "n ≡ 7", "n ≡ 8", STAYS),
     ("a definition that is not cited, beside a cited one", "crates/cse_high/specs/Steps.antt", "unused x = x", "unused x = 1", STAYS),
     ("a body of the crate below", "crates/cse_low/src/lib.rt", "x.size\n}\n/// An", "(x.size)\n}\n/// An", STAYS),
+    ("a private field of a type with a value, of the crate below", LOW, "table: Vec<(u32, u32)>", "table: Vec<u32>, more: u8", STAYS),
+    ("a field of the crate below that its own crate reads", LOW, "pub(crate) least: u32", "pub(crate) least: u64", STAYS),
+    ("how a type of the crate below is viewed", LOW, "λ e. e.0) s", "λ e. e.1) s", STAYS),
+    ("the invariant of a type of the crate below", LOW, "s.least ≤ s.most", "s.least < s.most", STAYS),
+    ("a public field of a type with a value, of the crate below", LOW, "pub most: u32", "pub most: u64", CHANGES),
+    ("the value of a type of the crate below", LOW, "ghost Value = { List ℕ }", "ghost Value = { List ℤ }", CHANGES),
+    ("a type of the crate below that loses its value", LOW, "impl Model for Seen {", "impl Other for Seen {", CHANGES),
     ("a clause of the crate below that is not named", "crates/cse_low/src/lib.rt", "other_low x.now", "low_of x.now", STAYS),
     ("the body of the edited function", BODY, "return false;", "return true;", CHANGES),
     ("a clause of the edited function", BODY, "ensures { put_in self.old self.new x }", "ensures { put_in self.new self.old x }", CHANGES),
@@ -220,7 +235,7 @@ ROWS = [
     ("the crate's line", "crates.txt", "cse_low arrayvec", "cse_low", CHANGES),
     ("a clause of the crate below", "crates/cse_low/src/lib.rt", "result ≡ low_of x.now", "result ≡ 1", CHANGES),
     ("a definition of the crate below", "crates/cse_low/specs/Low.antt", "low_of x = x.size", "low_of x = 1", CHANGES),
-    ("a field of a type of the crate below", "crates/cse_low/src/lib.rt", "pub struct Low { pub size: u32 }", "pub struct Low { pub size: u64 }", CHANGES),
+    ("a field of a type of the crate below", "crates/cse_low/src/lib.rt", "pub struct Low { pub size: u32,", "pub struct Low { pub size: u64,", CHANGES),
 ]
 # (of an edit that ended at a limit, was refused elsewhere, or turns no body, the whole crate counts)
 WHOLE = [

@@ -7,20 +7,20 @@ ghost use Rattle.cse_dict.specs.Dictionary.{places_from, with_place};
 ghost use Rattle.cse_dict.specs.Keys.{kept_name};
 
 use crate::parts::{Item, Record, Set};
-use indexmap::IndexMap;
+use cse_ordered::named::Named;
 use std::alloc::{AllocError, Global};
 use std::marker::Model;
 
 /// Names with the place where each first stands.
 #[derive(Drop)]
 pub struct Places {
-    table: IndexMap<Vec<u8>, u16>,
+    table: Named<u16>,
 }
 
 impl Model for Places {
     ghost Value = { List (List ℕ × ℕ) };
 
-    ghost view = { λ p. map (λ e. (e.0.items, e.1)) p.table.entries };
+    ghost view = { λ p. p.table };
 }
 
 impl Places {
@@ -29,7 +29,7 @@ impl Places {
         ensures { result ≡ [] }
     {
         Places {
-            table: IndexMap::new(alloc),
+            table: Named::new(alloc),
         }
     }
 
@@ -41,7 +41,7 @@ impl Places {
         if self.table.get(bytes).is_some() {
             return Ok(());
         }
-        self.table.insert(Vec::from_slice(alloc, bytes)?, place)?;
+        self.table.push(Vec::from_slice(alloc, bytes)?, place)?;
         Ok(())
     }
 

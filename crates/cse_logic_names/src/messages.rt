@@ -12,10 +12,10 @@ use crate::error::{FileStop, TypeError, error_at};
 use crate::gaps::{begins_with_gap, digit_count, without_gaps};
 use cse_fault_numbers::{OUT_OF_RANGE, UNREADABLE};
 use cse_image_parts::texts::{is_short_text, plain_text};
+use cse_ordered::keyed::Keyed;
 use cse_sections::number::number_between;
 use cse_sections::sections::{after_mark, first_line};
 use cse_sections::text::is_utf8;
-use indexmap::IndexMap;
 use std::alloc::{AllocError, Global};
 use std::marker::Model;
 
@@ -90,13 +90,13 @@ fn line_of(line: &[u8]) -> Result<Option<MessageLine<'_>>, u8>
 /// The messages that were read so far, in order, each number once.
 #[derive(Drop)]
 struct Found {
-    table: IndexMap<u32, String>,
+    table: Keyed<u32, String>,
 }
 
 impl Model for Found {
     ghost Value = { List MessageText };
 
-    ghost view = { λ f. map (λ e. record { number = e.0; text = string_bytes e.1 }) f.table.entries };
+    ghost view = { λ f. map (λ e. record { number = e.0; text = string_bytes e.1 }) f.table };
 }
 
 impl Found {
@@ -104,11 +104,11 @@ impl Found {
     fn add(&mut self, alloc: Global, message: MessageLine<'_>) -> Result<(), AllocError>
         ensures { OnOk result (self.new ≡ with_message self.old message.entry) }
     {
-        if self.table.get(&message.number).is_some() {
+        if self.table.get(message.number).is_some() {
             return Ok(());
         }
         let text = String::from_str(alloc, message.text)?;
-        self.table.insert(message.number, text)?;
+        self.table.push(message.number, text)?;
         Ok(())
     }
 
@@ -132,7 +132,7 @@ impl Found {
         ensures { ReadsMessages result (lines_of text.now) }
     {
         let mut found = Found {
-            table: IndexMap::new(alloc),
+            table: Keyed::new(alloc),
         };
         let mut rest = text;
         let mut number = 0u64;
@@ -151,7 +151,7 @@ impl Found {
 
 /// The messages of a message file, in order, each number once.
 pub struct Messages {
-    table: IndexMap<u32, String>,
+    table: Keyed<u32, String>,
 }
 
 // Written out, so that a crate that owns messages calls this drop and does not prove one for each part.
@@ -164,9 +164,9 @@ impl Drop for Messages {
 impl Model for Messages {
     ghost Value = { List MessageText };
 
-    ghost view = { λ m. map (λ e. record { number = e.0; text = string_bytes e.1 }) m.table.entries };
+    ghost view = { λ m. map (λ e. record { number = e.0; text = string_bytes e.1 }) m.table };
 
-    ghost invariant = { λ m. AreTexts (map (λ e. record { number = e.0; text = string_bytes e.1 }) m.table.entries) };
+    ghost invariant = { λ m. AreTexts (map (λ e. record { number = e.0; text = string_bytes e.1 }) m.table) };
 }
 
 impl Messages {
@@ -204,14 +204,14 @@ impl Messages {
     pub fn find(&self, number: u32) -> Option<usize>
         ensures { result ≡ position (nat_eq number) (map (λ (m : MessageText). m.number) self.now) }
     {
-        self.table.get_index_of(&number)
+        self.table.place_of(number)
     }
 
     /// The text of the message of this number.
     pub fn get(&self, number: u32) -> Option<&str>
         ensures { option_map (λ t. record { number = number; text = t.now }) result ≡ find (λ (m : MessageText). nat_eq number m.number) self.now }
     {
-        match self.table.get(&number) {
+        match self.table.get(number) {
             None => None,
             Some(text) => Some(text.as_str()),
         }
@@ -222,10 +222,7 @@ impl Messages {
         requires { place < length self.now }
         ensures { option_map (λ (m : MessageText). m.number) (slice_get self.now place) ≡ Some result }
     {
-        match self.table.get_index(place) {
-            Some((number, _)) => *number,
-            None => unreachable!(),
-        }
+        self.table.at(place).0
     }
 
     /// The text of the message at a place.
@@ -233,9 +230,6 @@ impl Messages {
         requires { place < length self.now }
         ensures { option_map (λ (m : MessageText). m.text) (slice_get self.now place) ≡ Some result.now }
     {
-        match self.table.get_index(place) {
-            Some((_, text)) => text.as_str(),
-            None => unreachable!(),
-        }
+        self.table.at(place).1.as_str()
     }
 }

@@ -2,7 +2,7 @@
 
 ghost use Rattle.std.specs.Prelude.{◌≡◌, ◌<◌, ℕ, List, [], ◌∷◌, ◌++◌, length, map, position, slice_get, Some, false, OnOk, IfOk};
 ghost use Rattle.std.specs.List.{list_any};
-ghost use Rattle.std.specs.Map.{lookup};
+ghost use Rattle.std.specs.Map.{keys_of, lookup};
 ghost use Rattle.std.specs.Str.{bytes_eq};
 ghost use Rattle.cse_logic_names.specs.declared.meaning.Meaning.{Meaning};
 ghost use Rattle.cse_dict.specs.Keys.{kept_name};
@@ -11,20 +11,21 @@ ghost use Rattle.cse_logic_names.specs.Uses.{with_global, with_globals};
 ghost use Rattle.cse_logic_names.specs.Walk.{is_there};
 
 use crate::meaning::Meaning;
-use indexmap::IndexMap;
+use cse_ordered::keyed::Keyed;
+use cse_ordered::named::Named;
 use std::alloc::{AllocError, Global};
 use std::marker::Model;
 
 /// What is declared, with what it means.
 #[derive(Drop)]
 pub struct Names {
-    table: IndexMap<Vec<u8>, Meaning>,
+    table: Named<Meaning>,
 }
 
 impl Model for Names {
     ghost Value = { List (List ℕ × Meaning) };
 
-    ghost view = { λ n. map (λ e. (e.0.items, e.1)) n.table.entries };
+    ghost view = { λ n. n.table };
 }
 
 impl Names {
@@ -33,7 +34,7 @@ impl Names {
         ensures { result ≡ [] }
     {
         Names {
-            table: IndexMap::new(alloc),
+            table: Named::new(alloc),
         }
     }
 
@@ -42,8 +43,7 @@ impl Names {
         requires { is_there (lookup (bytes_eq kept.items) self.old) ≡ false }
         ensures { OnOk result (self.new ≡ self.old ++ (kept.items, meaning) ∷ []) }
     {
-        self.table.insert(kept, meaning)?;
-        Ok(())
+        self.table.push(kept, meaning)
     }
 
     /// What a name in upper case means.
@@ -57,13 +57,13 @@ impl Names {
 /// The parameters of a function.
 #[derive(Drop)]
 pub struct Parameters {
-    table: IndexMap<Vec<u8>, ()>,
+    table: Named<()>,
 }
 
 impl Model for Parameters {
     ghost Value = { List (List ℕ) };
 
-    ghost view = { λ p. map (λ e. e.0.items) p.table.entries };
+    ghost view = { λ p. keys_of p.table };
 }
 
 impl Parameters {
@@ -72,7 +72,7 @@ impl Parameters {
         ensures { result ≡ [] }
     {
         Parameters {
-            table: IndexMap::new(alloc),
+            table: Named::new(alloc),
         }
     }
 
@@ -81,7 +81,7 @@ impl Parameters {
         requires { list_any (bytes_eq kept.items) self.old ≡ false }
         ensures { OnOk result (self.new ≡ self.old ++ kept.items ∷ []) }
     {
-        self.table.insert(kept, ())?;
+        self.table.push(kept, ())?;
         Ok(())
     }
 
@@ -96,20 +96,20 @@ impl Parameters {
     pub fn find(&self, kept: &[u8]) -> Option<usize>
         ensures { result ≡ position (bytes_eq kept.now) self.now }
     {
-        self.table.get_index_of(kept)
+        self.table.place_of(kept)
     }
 }
 
 /// Globals, by their numbers, each once.
 #[derive(Drop)]
 pub struct Globals {
-    table: IndexMap<usize, ()>,
+    table: Keyed<usize, ()>,
 }
 
 impl Model for Globals {
     ghost Value = { List ℕ };
 
-    ghost view = { λ g. map (λ e. e.0) g.table.entries };
+    ghost view = { λ g. keys_of g.table };
 }
 
 impl Globals {
@@ -118,7 +118,7 @@ impl Globals {
         ensures { result ≡ [] }
     {
         Globals {
-            table: IndexMap::new(alloc),
+            table: Keyed::new(alloc),
         }
     }
 
@@ -129,7 +129,7 @@ impl Globals {
         if self.has(global) {
             return Ok(());
         }
-        self.table.insert(global, ())?;
+        self.table.push(global, ())?;
         Ok(())
     }
 
@@ -153,17 +153,14 @@ impl Globals {
         requires { place < length self.now }
         ensures { slice_get self.now place ≡ Some result }
     {
-        match self.table.get_index(place) {
-            Some((global, _)) => *global,
-            None => unreachable!(),
-        }
+        self.table.at(place).0
     }
 
     /// Whether this global is one of them.
     pub fn has(&self, global: usize) -> bool
         ensures { result ≡ has_global self.now global }
     {
-        self.table.get(&global).is_some()
+        self.table.get(global).is_some()
     }
 }
 

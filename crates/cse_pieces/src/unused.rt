@@ -5,8 +5,8 @@ use crate::found::Finding;
 use crate::gathered::Gathered;
 use crate::line::lines_of;
 use crate::token::{Role, Token, part, tokens_in};
-use indexmap::IndexMap;
 use std::alloc::{AllocError, Global};
+use std::collections::{HashMap, HashSet};
 
 /// The first and the last token of a name.
 #[derive(Clone, Copy)]
@@ -16,15 +16,15 @@ struct Span {
 }
 
 /// Where each name of a text in upper case stands.
-type Spans<'a> = IndexMap<&'a [u8], Span>;
+type Spans<'a> = HashMap<&'a [u8], Span>;
 
 /// Where the names of a text in upper case stand.
 fn spans_of<'a>(alloc: Global, upper: &'a [u8], tokens: &[Token]) -> Result<Spans<'a>, AllocError> {
-    let mut spans = IndexMap::new(alloc);
+    let mut spans = HashMap::new(alloc);
     for (at, token) in tokens.iter().enumerate() {
         if token.is_name() {
             let name = token.of(upper);
-            let first = match spans.get(name) {
+            let first = match spans.get(&name) {
                 Some(Span { first, .. }) => *first,
                 None => at,
             };
@@ -36,7 +36,7 @@ fn spans_of<'a>(alloc: Global, upper: &'a [u8], tokens: &[Token]) -> Result<Span
 
 /// Whether a name stands nowhere else than from here up to there.
 fn stays_within(spans: &Spans<'_>, name: &[u8], first: usize, last: usize) -> bool {
-    match spans.get(name) {
+    match spans.get(&name) {
         Some(span) => first <= span.first && span.last < last,
         None => false,
     }
@@ -139,11 +139,11 @@ fn numbers_of<'a>(
     alloc: Global,
     logic: &'a [u8],
     tokens: &[Token],
-) -> Result<IndexMap<&'a [u8], ()>, AllocError> {
-    let mut numbers = IndexMap::new(alloc);
+) -> Result<HashSet<&'a [u8]>, AllocError> {
+    let mut numbers = HashSet::new(alloc);
     for (first, token) in tokens.iter().zip(tokens.iter().skip(2)) {
         if first.is(logic, b"errmsg") {
-            numbers.insert(digits_of(token.of(logic)), ())?;
+            numbers.insert(digits_of(token.of(logic)))?;
         }
     }
     Ok(numbers)
@@ -161,7 +161,7 @@ pub fn unused_messages(
     let mut found = Gathered::new(alloc);
     for line in &lines {
         let digits = digits_of(part(text, line.start, line.end));
-        if !digits.is_empty() && numbers.get(digits).is_none() {
+        if !digits.is_empty() && !numbers.contains(&digits) {
             found.add(Finding {
                 start: line.start,
                 number: 103,

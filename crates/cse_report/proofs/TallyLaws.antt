@@ -1,7 +1,11 @@
 -- What a value more makes of the counts that are looked up.
-use Rattle.std.proofs.Common.{◌≡◌, ℕ, true, false, Bool, cond, List, [], ◌∷◌, Option, Some, None, refl, ap, ◌∙◌}
-use Rattle.std.specs.Map.{lookup}
-use Rattle.indexmap.specs.IndexMap.{insert_entry}
+use Rattle.std.proofs.Common.{◌≡◌, ◌∙◌, ◌+◌, ℕ, zero, suc, true, false, Bool, cond, List, [], ◌∷◌, ◌++◌, Some, None, refl, sym, ap, arith}
+use Rattle.std.specs.Prelude.{position, slice_get, slice_set}
+use Rattle.std.specs.List.{position_from}
+use Rattle.std.specs.Map.{keys_of, lookup}
+use Rattle.std.proofs.lemmas.Option.{same_Some}
+use Rattle.std.proofs.lemmas.Iterator.Adapters.{position_from-zero}
+use Rattle.cse_ordered.proofs.Laws.{from_on}
 use Rattle.cse_value.specs.declared.number.Num.{Num}
 use Rattle.cse_value.specs.declared.number.Num.TheVariants as nums
 use Rattle.cse_value.specs.Number.{is_same}
@@ -37,24 +41,45 @@ same_keys nums.Undef values.NotAppl = refl
 same_keys nums.Undef values.Missing = refl
 same_keys nums.Undef values.Undef = refl
 
--- the count of a value more
-abbrev pub next_count : Option ℕ → ℕ
-next_count None = 1
-next_count (Some n) = one_more n
-
 module _ (eq : Value → Value → Bool) (v : Num) (same : (k : Value) → eq (key_of v) k ≡ is_same v (num_of k)) where
   abbrev test : Value → Bool
   test = eq (key_of v)
 
-  step : (b : Bool) (e : Value × ℕ) (es : List (Value × ℕ)) → table_of (insert_entry eq es (key_of v) (next_count (lookup test es))) ≡ tallied v (table_of es)
-      → table_of (cond b ((e.0, next_count (cond b (Some e.1) (lookup test es))) ∷ es) (e ∷ insert_entry eq es (key_of v) (next_count (cond b (Some e.1) (lookup test es)))))
-      ≡ cond b ((num_of e.0, one_more e.1) ∷ table_of es) ((num_of e.0, e.1) ∷ tallied v (table_of es))
-  step true e es h = refl
-  step false e es h = ap (λ (t : Table). (num_of e.0, e.1) ∷ t) h
+  first : (es : List (Value × ℕ)) → lookup test es ≡ None → table_of (es ++ (key_of v, 1) ∷ []) ≡ tallied v (table_of es)
+  first [] h = ap (λ (n : Num). (n, 1) ∷ []) (num_of-key_of v)
+  first (e ∷ es) h = rw (← same e.0) (by (first es) (test e.0) h)
+    where
+      by : (lookup test es ≡ None → table_of (es ++ (key_of v, 1) ∷ []) ≡ tallied v (table_of es)) → (b : Bool) → cond b (Some e.1) (lookup test es) ≡ None
+          → (num_of e.0, e.1) ∷ table_of (es ++ (key_of v, 1) ∷ []) ≡ cond b ((num_of e.0, one_more e.1) ∷ table_of es) ((num_of e.0, e.1) ∷ tallied v (table_of es))
+      by rest true k = cc
+      by rest false k = ap (λ (t : Table). (num_of e.0, e.1) ∷ t) (rest k)
 
-  inserted : (es : List (Value × ℕ)) → table_of (insert_entry eq es (key_of v) (next_count (lookup test es))) ≡ tallied v (table_of es)
-  inserted [] = ap (λ (n : Num). (n, 1) ∷ []) (num_of-key_of v)
-  inserted (e ∷ es) = rw (same e.0) (step (is_same v (num_of e.0)) e es (inserted es))
+  again : (es : List (Value × ℕ)) (n i : ℕ) (e : Value × ℕ) → position_from test n (keys_of es) ≡ Some (n + i) → slice_get es i ≡ Some e
+      → table_of (slice_set es i (e.0, one_more e.1)) ≡ tallied v (table_of es)
+  again [] n i e h at = cc
+  again (x ∷ es) n i e h at = rw (← same x.0) (by (again es (n + 1)) (test x.0) i h at)
+    where
+      by : ((i : ℕ) (e : Value × ℕ) → position_from test (n + 1) (keys_of es) ≡ Some (n + 1 + i) → slice_get es i ≡ Some e → table_of (slice_set es i (e.0, one_more e.1)) ≡ tallied v (table_of es))
+          → (b : Bool) → (i : ℕ) → cond b (Some n) (position_from test (n + 1) (keys_of es)) ≡ Some (n + i) → slice_get (x ∷ es) i ≡ Some e
+          → table_of (slice_set (x ∷ es) i (e.0, one_more e.1)) ≡ cond b ((num_of x.0, one_more x.1) ∷ table_of es) ((num_of x.0, x.1) ∷ tallied v (table_of es))
+      by rest true zero k at = ap (λ (y : Value × ℕ). (num_of y.0, one_more y.1) ∷ table_of es) (sym (same_Some x e at))
+      by rest true (suc i) k at =
+          let is = same_Some n (n + suc i) k in
+          absurd (omega arith)
+      by rest false zero k at =
+          let le = from_on test (keys_of es) (n + 1) (n + 0) k in
+          absurd (omega arith)
+      by rest false (suc i) k at =
+          let is : n + suc i ≡ n + 1 + i = omega arith in
+          ap (λ (t : Table). (num_of x.0, x.1) ∷ t) (rest i e (k ∙ ap (λ p. Some p) is) at)
 
-pub tally_insert : (v : Num) (es new : List (Value × ℕ)) (count : ℕ) → new ≡ insert_entry eq-value.it es (key_of v) count → count ≡ next_count (lookup (eq-value.it (key_of v)) es) → table_of new ≡ tallied v (table_of es)
-tally_insert v es new count e n = ap table_of (e ∙ ap (λ c. insert_entry eq-value.it es (key_of v) c) n) ∙ inserted eq-value.it v (same_keys v) es
+-- a value that is not there comes last
+pub tally_first : (v : Num) (es : List (Value × ℕ)) → lookup (eq-value.it (key_of v)) es ≡ None → table_of (es ++ (key_of v, 1) ∷ []) ≡ tallied v (table_of es)
+tally_first v es h = first eq-value.it v (same_keys v) es h
+
+-- one that is there is counted at its place
+pub tally_again : (v : Num) (es : List (Value × ℕ)) (i : ℕ) (e : Value × ℕ) → position (eq-value.it (key_of v)) (keys_of es) ≡ Some i → slice_get es i ≡ Some e
+    → table_of (slice_set es i (e.0, one_more e.1)) ≡ tallied v (table_of es)
+tally_again v es i e h at =
+    let is : i ≡ 0 + i = omega arith in
+    again eq-value.it v (same_keys v) es 0 i e (sym (position_from-zero (eq-value.it (key_of v)) (keys_of es)) ∙ h ∙ ap (λ p. Some p) is) at

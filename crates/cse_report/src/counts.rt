@@ -6,9 +6,9 @@ ghost use Rattle.cse_output.specs.Gathering.{behind, Puts};
 ghost use Rattle.cse_report.specs.Frequency.{tallied, total, value_line, item_line, item_lines};
 ghost use Rattle.cse_report.specs.Values.{num_of, key_of};
 
+use cse_ordered::keyed::Keyed;
 use cse_output::Gatherer;
 use cse_value::{Num, OutOfMemory, Output, show_num};
-use indexmap::IndexMap;
 use itoa::Buffer;
 use std::alloc::Global;
 use std::marker::Model;
@@ -37,7 +37,7 @@ fn key_of(value: Num) -> Value
 /// The values imputed to one item, in order of first imputation, and how often each was.
 #[derive(Drop)]
 pub struct ValueCounts {
-    counts: IndexMap<Value, u64>,
+    counts: Keyed<Value, u64>,
 }
 
 impl Model for ValueCounts {
@@ -46,7 +46,7 @@ impl Model for ValueCounts {
 
     ghost Value = { Table };
 
-    ghost view = { λ s. table_of s.counts.entries };
+    ghost view = { λ s. table_of s.counts };
 }
 
 impl ValueCounts {
@@ -55,7 +55,7 @@ impl ValueCounts {
         ensures { result ≡ [] }
     {
         ValueCounts {
-            counts: IndexMap::new(alloc),
+            counts: Keyed::new(alloc),
         }
     }
 
@@ -65,11 +65,13 @@ impl ValueCounts {
         ensures err { OnErr result (self.new ≡ self.old) }
     {
         let key = key_of(value);
-        let count = match self.counts.get(&key) {
-            Some(count) => count.saturating_add(1),
-            None => 1,
-        };
-        self.counts.insert(key, count)?;
+        match self.counts.place_of(key) {
+            Some(place) => {
+                let count = self.counts.at(place).1.saturating_add(1);
+                self.counts.set(place, count);
+            }
+            None => self.counts.push(key, 1)?,
+        }
         Ok(())
     }
 }
@@ -87,9 +89,7 @@ impl ValueCounts {
         requires { i < length self.now }
         ensures { slice_get self.now i ≡ Some result }
     {
-        let Some((value, count)) = self.counts.get_index(i) else {
-            unreachable!();
-        };
+        let (value, count) = self.counts.at(i);
         (num_of(*value), *count)
     }
 }

@@ -7,5 +7,5 @@ use Rattle.cse_logic_names.proofs.messages.Messages.find.Goals as goal
 
 pub returns : goal.returns
 returns c =
-    c.get_index_of.ensures.index
-    ∙ ap (position (nat_eq c.args.number)) (sym (numbers_told string_bytes c.self.inside.table.entries) ∙ ap (map (λ (m : MessageText). m.number)) c.self.view_is)
+    c.place_of.ensures
+    ∙ ap (position (nat_eq c.args.number)) (sym (numbers_told string_bytes c.self.inside.table) ∙ ap (map (λ (m : MessageText). m.number)) c.self.view_is)

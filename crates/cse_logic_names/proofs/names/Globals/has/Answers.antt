@@ -6,6 +6,6 @@ use Rattle.cse_logic_names.proofs.names.Globals.has.Goals as goal
 
 pub returns : goal.returns
 returns c =
-    c.is_some.ensures ∙ sym (is_some-copied c.get.result) ∙ ap is_some c.get.ensures.value
-    ∙ sym (has_key c.args.global c.self.inside.table.entries)
+    c.is_some.ensures ∙ sym (is_some-copied c.get.result) ∙ ap is_some c.get.ensures
+    ∙ sym (has_key c.args.global c.self.inside.table)
     ∙ ap (λ gs. has_global gs c.args.global) c.self.view_is

@@ -1,17 +1,19 @@
-use Rattle.std.proofs.Common.{◌≡◌, ◌∙◌, ap, sym, [], ◌∷◌, ◌++◌, map}
+use Rattle.std.proofs.Common.{◌∙◌, ap, [], ◌∷◌, ◌++◌}
 use Rattle.std.specs.List.{list_any}
+use Rattle.std.specs.Map.{keys_of}
 use Rattle.std.specs.Str.{bytes_eq}
 use Rattle.std.proofs.lemmas.List.{map_push}
-use Rattle.indexmap.proofs.CallerLemmas.{insert_entry-new}
+use Rattle.std.proofs.lemmas.Map.Made.{is_some-lookup}
 use Rattle.cse_lemmas.proofs.Options.{none_from_is_some}
-use Rattle.cse_logic_names.proofs.NameLaws.{has_named}
 use Rattle.cse_logic_names.proofs.names.Parameters.add.Goals as goal
+
+pub push-requires : goal.push-requires
+push-requires c =
+    let key = c.args.kept.items in
+    none_from_is_some _ (is_some-lookup (bytes_eq key) c.self.inside.table ∙ ap (list_any (bytes_eq key)) c.self.view_is ∙ c.requires)
 
 pub returns : goal.returns
 returns c =
-    let key = c.args.kept in
-    let es = c.self.inside.table.entries in
-    let none = none_from_is_some _ (sym (has_named (λ k. k.items) (bytes_eq key.items) es) ∙ ap (list_any (bytes_eq key.items)) c.self.view_is ∙ c.requires) in
-    ap (map (λ e. e.0.items)) (c.in_ok-insert.ensures.entries ∙ insert_entry-new (λ x y. bytes_eq x.items y.items) c.self.inside.table key tt none)
-    ∙ map_push (λ e. e.0.items) es (key, tt)
-    ∙ ap (λ ps. ps ++ key.items ∷ []) c.self.view_is
+    ap keys_of c.in_ok-push.ensures.added
+    ∙ map_push (λ e. e.0) c.self.inside.table (c.args.kept.items, tt)
+    ∙ ap (λ ps. ps ++ c.args.kept.items ∷ []) c.self.view_is
