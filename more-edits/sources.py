@@ -90,7 +90,7 @@ class Item:
 
     def whole(self):
         """The item with its attributes and its body."""
-        return self.attributes + "".join(self.tokens[self.start:self.end + 1])
+        return without_comparison(self.attributes) + "".join(self.tokens[self.start:self.end + 1])
 
     def seen(self):
         """What another function of the crate reads of this one: its head with its clauses. Where it has none, or hides its type, the body counts too."""
@@ -138,7 +138,15 @@ class Item:
 
 
 def derived(attributes):
-    return "".join(re.findall(r"#\[derive[^\]]*\]", attributes))
+    return "".join(re.findall(r"#\[derive[^\]]*\]", without_comparison(attributes)))
+
+
+def without_comparison(attributes):
+    """Attributes without the derives that compare: what text compares has them, or it would not compile."""
+    def rest(it):
+        words = [word for word in re.findall(r"\w+", it[1]) if word not in ("PartialEq", "Eq")]
+        return f"#[derive({','.join(words)})]" if words else ""
+    return re.sub(r"#\[derive\(([^)]*)\)\]", rest, attributes)
 
 
 def end_of_item(tokens, at):

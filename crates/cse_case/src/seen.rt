@@ -21,7 +21,7 @@ fn emptied<T: Drop>(mut room: Vec<T>) -> Vec<T>
 }
 
 /// The occurrences of a record: where they begin in the table, and how many there are.
-#[derive(Clone, Copy, PartialEq, Eq)]
+#[derive(Clone, Copy)]
 pub struct OccurrenceSpan {
     pub start: usize,
     pub count: u16,

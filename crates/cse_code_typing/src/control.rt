@@ -9,7 +9,7 @@ use cse_image_parts::instruction::{Instr, Op};
 
 /// What an instruction means for the places that follow, for brackets and calls. Places count from 0
 /// in the routine.
-#[derive(Clone, Copy, PartialEq, Eq)]
+#[derive(Clone, Copy)]
 pub enum Control {
     /// Goes on to the next place.
     Step,

@@ -6,7 +6,7 @@ ghost use Rattle.cse_code_typing.specs.Depth.{◌⊕◌, greater, one_of};
 use crate::kind::Kind;
 
 /// So many numbers, texts and ordinals, which are indexes and occurrences.
-#[derive(Clone, Copy, PartialEq, Eq)]
+#[derive(Clone, Copy)]
 pub struct Depth {
     pub numbers: u64,
     pub texts: u64,

@@ -9,7 +9,7 @@ use cse_logic_tree::{Body, Declaration, Owner, Procedure, Statement, StatementKi
 use std::alloc::{AllocError, Global};
 
 /// What a routine is made of.
-#[derive(Clone, Copy, PartialEq, Eq)]
+#[derive(Clone, Copy)]
 pub enum RoutineSort {
     /// A function: how many parameters it has, and whether it needs a case.
     Function(usize, bool),

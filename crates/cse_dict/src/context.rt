@@ -9,7 +9,7 @@ use cse_sections::sections::Section;
 use std::alloc::{AllocError, Global};
 
 /// What the items behind a section belong to.
-#[derive(Clone, Copy, PartialEq, Eq)]
+#[derive(Clone, Copy)]
 pub enum Owner {
     Nobody,
     Ids,
@@ -18,7 +18,7 @@ pub enum Owner {
 }
 
 /// The owner of items, the type of the last item, and counts up to one past their limits.
-#[derive(Clone, Copy, PartialEq, Eq)]
+#[derive(Clone, Copy)]
 pub struct Context {
     pub owner: Owner,
     pub data_type: DataType,

@@ -9,14 +9,14 @@ use cse_sections::sections::Section;
 use cse_value::shape::ItemKind;
 
 /// A range of columns: the first, counted from 1, and how many.
-#[derive(Clone, Copy, PartialEq, Eq)]
+#[derive(Clone, Copy)]
 pub struct Columns {
     pub start: u32,
     pub len: u32,
 }
 
 /// An item whose numbers are all readable.
-#[derive(Clone, Copy, PartialEq, Eq)]
+#[derive(Clone, Copy)]
 pub struct Field {
     pub columns: Columns,
     pub occurrences: u32,

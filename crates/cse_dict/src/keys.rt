@@ -9,7 +9,7 @@ use cse_sections::sections::{Entry, Section};
 use cse_sections::text::is_same;
 
 /// What a heading says.
-#[derive(Clone, Copy, PartialEq, Eq)]
+#[derive(Clone, Copy)]
 pub enum Kind {
     Dictionary,
     Level,
@@ -21,7 +21,7 @@ pub enum Kind {
 }
 
 /// The type of an item's values.
-#[derive(Clone, Copy, PartialEq, Eq)]
+#[derive(Clone, Copy)]
 pub enum DataType {
     Numeric,
     Alpha,

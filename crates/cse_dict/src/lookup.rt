@@ -163,7 +163,7 @@ impl Dictionary {
 }
 
 /// A line that is no occurrence of its run.
-#[derive(Clone, Copy, PartialEq, Eq)]
+#[derive(Clone, Copy)]
 pub enum Unseen {
     /// Its record type is no record's.
     Unknown,

@@ -9,7 +9,7 @@ use cse_sections::sections::Entry;
 use cse_sections::text::{is_same, place_of};
 
 /// What a piece of a `Value` line is.
-#[derive(Clone, Copy, PartialEq, Eq)]
+#[derive(Clone, Copy)]
 pub enum Pair {
     /// No piece at all.
     Nothing,

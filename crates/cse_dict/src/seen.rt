@@ -12,7 +12,7 @@ pub struct Seen {
 }
 
 /// The rows of a set and the pairs of the dictionary so far, up to one past their limits.
-#[derive(Clone, Copy, PartialEq, Eq)]
+#[derive(Clone, Copy)]
 pub struct Filled {
     pub rows: u16,
     pub pairs: u32,

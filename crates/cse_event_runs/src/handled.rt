@@ -8,7 +8,7 @@ use cse_image::{Code, Event};
 use cse_verify::Verified;
 
 /// An event with the routine that a program has for it.
-#[derive(Clone, Copy, PartialEq, Eq)]
+#[derive(Clone, Copy)]
 pub struct Handled {
     pub event: Event,
     pub routine: u32,

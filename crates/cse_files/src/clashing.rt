@@ -7,7 +7,7 @@ ghost use Rattle.cse_files.specs.declared.clashing.Named.{Named};
 use crate::place::Place;
 
 /// A file of a command: where its path leads, and what is done with it.
-#[derive(Clone, Copy, Debug, PartialEq, Eq)]
+#[derive(Clone, Copy, Debug)]
 pub struct Named<'a> {
     pub place: Place<'a>,
     pub is_read: bool,

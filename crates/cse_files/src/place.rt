@@ -8,7 +8,7 @@ use std::rt::Files;
 /// Where a path leads: a file or a folder of the system, by its device and its number there, and what of the path
 /// stands behind it. That is nothing where the path's file is there, its name where only its folder is, and the whole
 /// path, behind 0 and 0, where neither is.
-#[derive(Clone, Copy, Debug, PartialEq, Eq)]
+#[derive(Clone, Copy, Debug)]
 pub struct Place<'a> {
     pub device: u64,
     pub number: u64,

@@ -6,7 +6,7 @@ ghost use Rattle.cse_image_codec.specs.declared.fault.ReadStop.TheVariants as st
 use std::alloc::{AllocError, AllocFailed};
 
 /// The rule that a field breaks, with its number.
-#[derive(Clone, Copy, PartialEq, Eq)]
+#[derive(Clone, Copy)]
 pub enum Rule {
     /// The magic bytes or the version.
     Header = 60,
@@ -21,14 +21,14 @@ pub enum Rule {
 }
 
 /// The first rule that is broken, and how many bytes stand from the field that breaks it to the end.
-#[derive(Clone, Copy, PartialEq, Eq)]
+#[derive(Clone, Copy)]
 pub struct FieldFault {
     pub rule: Rule,
     pub left: usize,
 }
 
 /// Why reading stopped: memory ran out, or the bytes are at fault.
-#[derive(Clone, Copy, PartialEq, Eq)]
+#[derive(Clone, Copy)]
 pub enum ReadStop {
     Memory,
     Fault(FieldFault),

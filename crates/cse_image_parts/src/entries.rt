@@ -4,14 +4,14 @@ use crate::instruction::Instr;
 use cse_value::shape::{ItemShape, RecordShape, SetShape};
 
 /// The kind of a global's value.
-#[derive(Clone, Copy, PartialEq, Eq)]
+#[derive(Clone, Copy)]
 pub enum GlobalKind {
     Number = 1,
     Text = 2,
 }
 
 /// A variable that keeps its value over the whole run.
-#[derive(Clone, Copy, PartialEq, Eq)]
+#[derive(Clone, Copy)]
 pub struct GlobalVariable {
     pub kind: GlobalKind,
     /// The declared length of a text, in characters from 1 to 255; 0 for a number.
@@ -19,7 +19,7 @@ pub struct GlobalVariable {
 }
 
 /// The kind of a local's value.
-#[derive(Clone, Copy, PartialEq, Eq)]
+#[derive(Clone, Copy)]
 pub enum LocalKind {
     Number = 1,
     Text = 2,
@@ -28,7 +28,7 @@ pub enum LocalKind {
 }
 
 /// A variable of one call.
-#[derive(Clone, Copy, PartialEq, Eq)]
+#[derive(Clone, Copy)]
 pub struct Local {
     pub kind: LocalKind,
     /// The record of an occurrence; 0 for another kind.
@@ -60,7 +60,7 @@ pub struct Message {
 }
 
 /// What code of a routine may ask for.
-#[derive(Clone, Copy, PartialEq, Eq)]
+#[derive(Clone, Copy)]
 pub enum Ambient {
     /// What stays over the whole run.
     Run = 0,
@@ -69,7 +69,7 @@ pub enum Ambient {
 }
 
 /// What a call of a routine leaves.
-#[derive(Clone, Copy, PartialEq, Eq)]
+#[derive(Clone, Copy)]
 pub enum Gift {
     Nothing = 0,
     Number = 1,
@@ -90,7 +90,7 @@ pub struct Routine {
 }
 
 /// The moments at which a batch runs a routine.
-#[derive(Clone, Copy, PartialEq, Eq)]
+#[derive(Clone, Copy)]
 pub enum EventCode {
     ApplicationPreproc = 0,
     ApplicationPostproc = 1,
@@ -103,7 +103,7 @@ pub enum EventCode {
 }
 
 /// A moment of a batch: of the application, the level, a record or an item.
-#[derive(Clone, Copy, PartialEq, Eq)]
+#[derive(Clone, Copy)]
 pub struct Event {
     pub code: EventCode,
     /// The number of the record or item, else 0.
@@ -111,7 +111,7 @@ pub struct Event {
 }
 
 /// An event, and the routine that it runs.
-#[derive(Clone, Copy, PartialEq, Eq)]
+#[derive(Clone, Copy)]
 pub struct EventEntry {
     pub code: EventCode,
     /// The number of the record or item, else 0.

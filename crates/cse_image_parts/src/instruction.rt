@@ -1,7 +1,7 @@
 //! The instructions of the machine.
 
 /// An opcode. In brackets the name that listings of code use.
-#[derive(Clone, Copy, PartialEq, Eq)]
+#[derive(Clone, Copy)]
 pub enum Op {
     /// A constant (NUM).
     Number = 1,
@@ -96,7 +96,7 @@ pub enum Op {
 }
 
 /// An instruction: an opcode and its three fields. A step of the machine is one instruction.
-#[derive(Clone, Copy, PartialEq, Eq)]
+#[derive(Clone, Copy)]
 pub struct Instr {
     pub op: Op,
     pub a: u8,

@@ -72,7 +72,7 @@ pub fn op_number(op: Op) -> u8
 }
 
 /// The numbers from low to high.
-#[derive(Clone, Copy, PartialEq, Eq)]
+#[derive(Clone, Copy)]
 pub struct FieldRange {
     low: u32,
     high: u32,

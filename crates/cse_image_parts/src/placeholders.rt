@@ -15,14 +15,14 @@ ghost use Rattle.cse_image_parts.specs.Written.{written, IsWritable, BeginsNoPie
 use crate::limits::MOST_PLACEHOLDERS;
 
 /// The kind of an argument of a message.
-#[derive(Clone, Copy, PartialEq, Eq)]
+#[derive(Clone, Copy)]
 pub enum ArgumentKind {
     Number,
     Text,
 }
 
 /// A piece of a message's text.
-#[derive(Clone, Copy, PartialEq, Eq)]
+#[derive(Clone, Copy)]
 pub enum Piece {
     /// A byte that stands for itself.
     Plain(u8),

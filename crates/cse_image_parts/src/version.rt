@@ -12,7 +12,7 @@ use crate::entries::Gift;
 use crate::instruction::Op;
 
 /// A version of the image format.
-#[derive(Clone, Copy, PartialEq, Eq)]
+#[derive(Clone, Copy)]
 pub enum Version {
     One = 1,
     Two = 2,

@@ -13,7 +13,7 @@ use std::marker::Model;
 pub const CHUNK: usize = 65_536;
 
 /// Why no bytes could be read.
-#[derive(Clone, Copy, PartialEq, Eq)]
+#[derive(Clone, Copy)]
 pub enum ReadFault {
     Device,
     Memory,

@@ -24,7 +24,7 @@ use std::alloc::AllocError;
 pub const MOST_COLUMNS: usize = 65_536;
 
 /// Why a line isn't taken: want of memory, or a fault of this number.
-#[derive(Clone, Copy, PartialEq, Eq)]
+#[derive(Clone, Copy)]
 pub enum LineStop {
     Memory,
     Fault(u8),
@@ -39,7 +39,7 @@ impl From<AllocError> for LineStop {
 }
 
 /// How a line begins, beside the line before it.
-#[derive(Clone, Copy, PartialEq, Eq)]
+#[derive(Clone, Copy)]
 pub enum Beginning {
     /// As that line, up to the least width of a line.
     Alike,
@@ -50,7 +50,7 @@ pub enum Beginning {
 }
 
 /// What a line is beside its columns.
-#[derive(Clone, Copy, PartialEq, Eq)]
+#[derive(Clone, Copy)]
 pub struct Head {
     /// How many columns it has in the file.
     pub len: usize,

@@ -13,7 +13,7 @@ use std::alloc::{AllocError, Global};
 use std::marker::Model;
 
 /// Columns of a line: the first of them, counted from 1, and how many.
-#[derive(Clone, Copy, PartialEq, Eq)]
+#[derive(Clone, Copy)]
 pub struct ColumnSpan {
     pub start: u32,
     pub len: u32,

@@ -4,7 +4,7 @@ ghost use Rattle.std.specs.Prelude.{◌≡◌};
 ghost use Rattle.cse_lines.specs.Line.{end_bytes};
 
 /// How a line ends.
-#[derive(Clone, Copy, PartialEq, Eq)]
+#[derive(Clone, Copy)]
 pub enum Ending {
     /// At the end of the file.
     FileEnd,
@@ -29,7 +29,7 @@ impl Ending {
 
 /// A line of a run. Its columns are `width` columns of the run, from the place `first` on: those that
 /// the line had in the file, `len` of them, and blanks behind them.
-#[derive(Clone, Copy, PartialEq, Eq)]
+#[derive(Clone, Copy)]
 pub struct Line {
     pub first: usize,
     pub width: usize,

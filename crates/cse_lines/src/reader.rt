@@ -18,7 +18,7 @@ use std::marker::Model;
 const MOST_ROOM: usize = 65_536;
 
 /// How much a reader holds: lines that are cut and not yet given, and bytes that aren't cut.
-#[derive(Clone, Copy, PartialEq, Eq)]
+#[derive(Clone, Copy)]
 pub struct Kept {
     pub lines: usize,
     pub bytes: usize,

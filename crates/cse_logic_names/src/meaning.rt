@@ -3,7 +3,7 @@
 use cse_logic_tree::{Owner, Variable};
 
 /// What a name means.
-#[derive(Clone, Copy, PartialEq, Eq)]
+#[derive(Clone, Copy)]
 pub enum Meaning {
     /// A number: a global or a parameter.
     Variable(Variable),
@@ -20,7 +20,7 @@ pub enum Meaning {
 }
 
 /// The routine in which logic stands.
-#[derive(Clone, Copy, PartialEq, Eq)]
+#[derive(Clone, Copy)]
 pub enum Routine {
     Procedure(Owner),
     Function(usize),

@@ -12,7 +12,7 @@ use cse_syntax_tree::{
 // ---- what names mean
 
 /// A variable that holds a number.
-#[derive(Clone, Copy, PartialEq, Eq)]
+#[derive(Clone, Copy)]
 pub enum Variable {
     Global(usize),
     /// By its place among the parameters, from 0.
@@ -22,7 +22,7 @@ pub enum Variable {
 }
 
 /// Which occurrence an item of a record means where no subscript stands.
-#[derive(Clone, Copy, PartialEq, Eq)]
+#[derive(Clone, Copy)]
 pub enum Found {
     /// That of the innermost `for` over the record.
     Loop,
@@ -33,7 +33,7 @@ pub enum Found {
 }
 
 /// An item of a record.
-#[derive(Clone, Copy, PartialEq, Eq)]
+#[derive(Clone, Copy)]
 pub struct Field {
     /// The number of its record.
     pub owner: u8,
@@ -41,7 +41,7 @@ pub struct Field {
 }
 
 /// An item without a subscript.
-#[derive(Clone, Copy, PartialEq, Eq)]
+#[derive(Clone, Copy)]
 pub enum Present {
     /// An id item.
     Id(u16),
@@ -49,7 +49,7 @@ pub enum Present {
 }
 
 /// What picks one index of a hot deck: the row of an item's value in a value set.
-#[derive(Clone, Copy, PartialEq, Eq)]
+#[derive(Clone, Copy)]
 pub struct Pick {
     pub item: Present,
     pub set: u16,
@@ -375,7 +375,7 @@ pub enum Body<'a> {
 }
 
 /// What a procedure belongs to.
-#[derive(Clone, Copy, PartialEq, Eq)]
+#[derive(Clone, Copy)]
 pub enum Owner {
     Application,
     Level,

@@ -1,7 +1,7 @@
 //! What the words of a command line ask for.
 
 /// A command.
-#[derive(Clone, Copy, PartialEq, Eq)]
+#[derive(Clone, Copy)]
 pub(crate) enum Command {
     /// `diff DICT DATA OUT [--by ITEM[,ITEM]] [--cases F] [--html F] [--csv F]`
     Diff,
@@ -62,7 +62,7 @@ impl<'a> Asked<'a> {
 }
 
 /// What the next word is.
-#[derive(Clone, Copy, PartialEq, Eq)]
+#[derive(Clone, Copy)]
 enum Next {
     Any,
     /// A path, whatever it begins with.

@@ -5,7 +5,7 @@ use crate::token::{Role, Sort, Token};
 use std::alloc::{AllocError, Global};
 
 /// What a clause is.
-#[derive(Clone, Copy, PartialEq, Eq)]
+#[derive(Clone, Copy)]
 pub enum Form {
     /// `if .. then`.
     If,

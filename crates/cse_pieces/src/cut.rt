@@ -5,7 +5,7 @@ use crate::token::{Role, Token};
 use std::alloc::{AllocError, Global};
 
 /// What a piece of a text is.
-#[derive(Clone, Copy, PartialEq, Eq)]
+#[derive(Clone, Copy)]
 pub enum Kind {
     /// What stands before the first `PROC`.
     Front,

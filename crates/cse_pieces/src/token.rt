@@ -1,7 +1,7 @@
 //! The tokens of a text that may be faulty.
 
 /// What a token is.
-#[derive(Clone, Copy, PartialEq, Eq)]
+#[derive(Clone, Copy)]
 pub enum Sort {
     /// A letter, and letters, digits and `_`.
     Word,
@@ -20,7 +20,7 @@ pub enum Sort {
 }
 
 /// What a word or a symbol does in a text: how the text is taken apart is seen by it.
-#[derive(Clone, Copy, PartialEq, Eq)]
+#[derive(Clone, Copy)]
 pub enum Role {
     Proc,
     Global,

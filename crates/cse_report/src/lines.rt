@@ -16,7 +16,7 @@ use itoa::Buffer;
 use std::alloc::AllocError;
 
 /// The heading that waits for the next line.
-#[derive(Clone, Copy, PartialEq, Eq)]
+#[derive(Clone, Copy)]
 pub enum Heading {
     Nothing,
     /// Of the application's preproc or postproc.

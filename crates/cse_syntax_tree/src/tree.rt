@@ -20,7 +20,7 @@ pub struct Lexeme<'a> {
 // ---- expressions
 
 /// The operators that group to the left.
-#[derive(Clone, Copy, PartialEq, Eq)]
+#[derive(Clone, Copy)]
 pub enum Operator {
     Or,
     And,
@@ -32,7 +32,7 @@ pub enum Operator {
 }
 
 /// A relation of two values.
-#[derive(Clone, Copy, PartialEq, Eq)]
+#[derive(Clone, Copy)]
 pub enum Relation {
     Equal,
     Differs,
@@ -51,14 +51,14 @@ pub enum Special {
 }
 
 /// The functions of one value.
-#[derive(Clone, Copy, PartialEq, Eq)]
+#[derive(Clone, Copy)]
 pub enum Function {
     Int,
     Special,
 }
 
 /// The functions of one name.
-#[derive(Clone, Copy, PartialEq, Eq)]
+#[derive(Clone, Copy)]
 pub enum Query {
     GetDeck,
     TotOcc,
@@ -167,7 +167,7 @@ pub struct Literal<'a> {
 }
 
 /// What a limit of a `do` counts.
-#[derive(Clone, Copy, PartialEq, Eq)]
+#[derive(Clone, Copy)]
 pub enum Count {
     TotOcc,
     MaxOcc,

@@ -10,29 +10,28 @@ use cse_image_parts::rules::*;
 use cse_image_parts::texts::*;
 use cse_image_parts::version::*;
 
-/// How many pieces a text has, and the last placeholder of a number.
-fn count_pieces(text: &[u8]) -> (u64, Option<Piece>) {
+/// How many pieces a text has, and the width of the last placeholder of a number, with whether it is filled with zeros.
+fn count_pieces(text: &[u8]) -> (u64, Option<(u8, bool)>) {
     let mut count = 0u64;
     let mut number = None;
     for piece in Pieces::new(text) {
         count = count.saturating_add(1);
-        if piece.argument() == Some(ArgumentKind::Number) {
-            number = Some(piece);
+        if let (Some(ArgumentKind::Number), Piece::Number { width, zeros }) = (
+            piece.argument(),
+            piece,
+        ) {
+            number = Some((width, zeros));
         }
     }
     (count, number)
 }
 
 fn placeholders() -> bool {
-    let last = Piece::Number {
-        width: 99,
-        zeros: true,
-    };
     let text = b"adults %d of %s".as_slice();
-    (count_pieces(b"a%%%s%3%099d%0d") == (9, Some(last)))
+    (count_pieces(b"a%%%s%3%099d%0d") == (9, Some((99, true))))
         & (count_placeholders(text) == 2)
         & are_few_placeholders(text)
-        & (kind_at(text, 1) == Some(ArgumentKind::Text))
+        & matches!(kind_at(text, 1), Some(ArgumentKind::Text))
         & kind_at(text, 2).is_none()
 }
 
@@ -62,7 +61,7 @@ fn fields() -> bool {
 }
 
 fn instructions() -> bool {
-    (op_named(24) == Some(Op::Row))
+    matches!(op_named(24), Some(Op::Row))
         & op_named(46).is_none()
         & is_right_a(Op::Row, 1)
         & is_right_b(Version::One, Op::Row, 65535)

@@ -19,7 +19,7 @@ pub enum Num {
 }
 
 /// A relation of two values.
-#[derive(Clone, Copy, PartialEq, Eq)]
+#[derive(Clone, Copy)]
 pub enum Rel {
     Equal = 0,
     NotEqual = 1,

@@ -8,7 +8,7 @@ use cse_code_typing::Depth as Cells;
 
 /// How much a run keeps at most at once, over all of its calls: numbers, texts, ordinals (indexes and
 /// occurrences), and open brackets.
-#[derive(Clone, Copy, PartialEq, Eq)]
+#[derive(Clone, Copy)]
 pub struct Depth {
     pub nums: u64,
     pub texts: u64,
