@@ -1,5 +1,6 @@
 //! What is amiss at a desk.
 
+use std::alloc::Global;
 use std::fs;
 use std::os::unix::fs::symlink;
 use std::rt::Files;
@@ -29,11 +30,11 @@ enum Kind {
 }
 
 /// What is amiss at a desk, with the file that it is amiss of, and another one.
-#[derive(Clone, Copy)]
-pub struct Amiss<'a> {
+#[derive(Drop)]
+pub struct Amiss {
     kind: Kind,
-    file: &'a str,
-    other: &'a str,
+    file: String,
+    other: String,
 }
 
 /// What is amiss by its word; nothing where no word is known.
@@ -53,12 +54,16 @@ fn kind_of(word: &str) -> Option<Kind> {
     }
 }
 
-/// What is amiss, by a word and the files of it; nothing where no word is known.
-pub fn amiss_of(said: &str) -> Option<Amiss<'_>> {
+/// What is amiss, by a word and the files of it; nothing where no word is known, or memory lacks.
+pub fn amiss_of(alloc: Global, said: &str) -> Option<Amiss> {
     let (word, files) = said.split_once(' ').unwrap_or((said, ""));
     let (file, other) = files.split_once(' ').unwrap_or((files, ""));
     match kind_of(word) {
-        Some(kind) => Some(Amiss { kind, file, other }),
+        Some(kind) => Some(Amiss {
+            kind,
+            file: String::from_str(alloc, file).ok()?,
+            other: String::from_str(alloc, other).ok()?,
+        }),
         None => None,
     }
 }
@@ -76,29 +81,29 @@ fn is_by(path: &str, file: &str) -> bool {
     (path == file) | is_beside(path, file)
 }
 
-impl Amiss<'_> {
+impl Amiss {
     /// Makes the link, or the second name.
     pub fn tie<R: Files>(&self, rt: &R) -> bool {
         match self.kind {
-            Kind::Link => symlink(rt, self.other, self.file).is_ok(),
-            Kind::Name => fs::hard_link(rt, self.other, self.file).is_ok(),
+            Kind::Link => symlink(rt, &self.other, &self.file).is_ok(),
+            Kind::Name => fs::hard_link(rt, &self.other, &self.file).is_ok(),
             _ => true,
         }
     }
 
     /// Whether this is amiss of a file.
     fn is(&self, kind: Kind, path: &str) -> bool {
-        (self.kind == kind) & (path == self.file)
+        (self.kind == kind) & (path == self.file.as_str())
     }
 
     /// Whether this is amiss of a file that is written, or of the file that it is made beside.
     fn is_by(&self, kind: Kind, path: &str, writes: bool) -> bool {
-        (self.kind == kind) & writes & is_by(path, self.file)
+        (self.kind == kind) & writes & is_by(path, &self.file)
     }
 
     /// Whether a file may not be opened.
     pub fn denies(&self, path: &str, writes: bool) -> bool {
-        let is_alone = (self.kind == Kind::Alone) & is_beside(path, self.file);
+        let is_alone = (self.kind == Kind::Alone) & is_beside(path, &self.file);
         self.is(Kind::Closed, path) | (self.is(Kind::Kept, path) & writes) | is_alone
     }
 

@@ -13,6 +13,7 @@
 //! `text DICT:` is a text, and `DICT` may stand for a stored file. Its lines are indented by four blanks and `|` (`text`).
 //! `text printed:` and `text told:` are what a row prints and tells, byte by byte.
 
+use std::alloc::{AllocError, Global};
 use std::str::SplitAsciiWhitespace;
 
 /// The heads of the blocks: what is stored before the commands of a row.
@@ -44,14 +45,23 @@ pub const STATUS: &str = "\nstatus:";
 
 const TEXT: &str = "\ntext ";
 
-/// The lines of a row, those that it shares with rows below a comment, and those that it shares with all.
+/// What rows share: the lines of a comment above them, and those of the text.
 #[derive(Clone, Copy)]
-pub struct Row<'a> {
-    pub own: &'a str,
+pub struct Shared<'a> {
     pub part: &'a str,
     pub all: &'a str,
     /// What `usage` stands for in what is told.
     pub usage: &'a str,
+}
+
+/// The lines of a row, those that it shares with rows below a comment, and those that it shares with all. It keeps copies, since
+/// what holds a text by reference is proved at more cost wherever it is handed on.
+#[derive(Drop)]
+pub struct Row {
+    own: String,
+    part: String,
+    all: String,
+    usage: String,
 }
 
 /// How many bytes a value has: its first line, and those behind it that are indented.
@@ -90,39 +100,54 @@ fn text_in<'a>(block: &'a str, name: &str) -> Option<&'a str> {
     None
 }
 
-impl<'a> Row<'a> {
+impl Row {
+    /// A row that has these lines of its own.
+    pub fn new(alloc: Global, own: &str, shared: Shared<'_>) -> Result<Row, AllocError> {
+        Ok(Row {
+            own: String::from_str(alloc, own)?,
+            part: String::from_str(alloc, shared.part)?,
+            all: String::from_str(alloc, shared.all)?,
+            usage: String::from_str(alloc, shared.usage)?,
+        })
+    }
+
     /// What stands behind a word: that of the row, or else of what it shares.
-    pub fn of(&self, word: &str) -> &'a str {
-        said(self.own, word)
-            .or(said(self.part, word))
-            .or(said(self.all, word))
+    pub fn of(&self, word: &str) -> &str {
+        said(&self.own, word)
+            .or(said(&self.part, word))
+            .or(said(&self.all, word))
             .unwrap_or("")
     }
 
+    /// What `usage` stands for in what is told.
+    pub fn usage(&self) -> &str {
+        &self.usage
+    }
+
     /// The files behind a word.
-    pub fn files(&self, word: &str) -> SplitAsciiWhitespace<'a> {
+    pub fn files(&self, word: &str) -> SplitAsciiWhitespace<'_> {
         self.of(word).split_ascii_whitespace()
     }
 
     /// The text of a name: that of the row, or else of what it shares.
-    pub fn text(&self, name: &str) -> Option<&'a str> {
-        text_in(self.own, name)
-            .or(text_in(self.part, name))
-            .or(text_in(self.all, name))
+    pub fn text(&self, name: &str) -> Option<&str> {
+        text_in(&self.own, name)
+            .or(text_in(&self.part, name))
+            .or(text_in(&self.all, name))
     }
 
     /// The text of a name that the row alone has.
-    pub fn own_text(&self, name: &str) -> Option<&'a str> {
-        text_in(self.own, name)
+    pub fn own_text(&self, name: &str) -> Option<&str> {
+        text_in(&self.own, name)
     }
 
     /// Its first line.
-    pub fn name(&self) -> &'a str {
+    pub fn name(&self) -> &str {
         self.own.lines().next().unwrap_or("")
     }
 
     /// A file: its path there, and the stored file or the text that has its bytes.
-    pub fn kept(&self, file: &'a str) -> (&'a str, &'a str) {
+    pub fn kept<'a>(&'a self, file: &'a str) -> (&'a str, &'a str) {
         match file.split_once('=') {
             Some(kept) => kept,
             None => (file, self.stored(file)),
@@ -130,7 +155,7 @@ impl<'a> Row<'a> {
     }
 
     /// The stored file or the text that has the bytes of a file for which none is named.
-    fn stored(&self, file: &'a str) -> &'a str {
+    fn stored<'a>(&'a self, file: &'a str) -> &'a str {
         match self.own_text(file) {
             Some(_) => file,
             None => stored_in(self.files(STORED), file),

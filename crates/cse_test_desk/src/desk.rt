@@ -29,7 +29,7 @@ pub struct Desk<'a, R> {
     pub alloc: Global,
     /// The words after the program's name, with blanks between them.
     pub words: &'a str,
-    pub amiss: Amiss<'a>,
+    pub amiss: &'a Amiss,
     pub notes: &'a Notes,
 }
 

@@ -22,13 +22,13 @@ pub trait Commands {
 /// Carries out the commands of a row, and answers whether all is as it should be. Prints what is not.
 pub fn is_right<R: Files + Print + AllocGlobal + Clone + Drop, C: Commands>(
     rt: &R,
-    row: &Row<'_>,
+    row: &Row,
     commands: &C,
 ) -> bool {
     let before = files_in(rt);
-    let well = match amiss_of(row.of(AMISS)) {
+    let well = match amiss_of(rt.alloc(), row.of(AMISS)) {
         Some(amiss) => {
-            lay_out(rt, row) && amiss.tie(rt) && is_carried_out(rt, row, amiss, commands)
+            lay_out(rt, row) && amiss.tie(rt) && is_carried_out(rt, row, &amiss, commands)
         }
         None => false,
     };
@@ -38,7 +38,7 @@ pub fn is_right<R: Files + Print + AllocGlobal + Clone + Drop, C: Commands>(
 }
 
 /// Prints what is not as it should be, and what it is. Answers that it isn't.
-fn tell<R: Print>(rt: &R, row: &Row<'_>, what: &str, found: &[u8]) -> bool {
+fn tell<R: Print>(rt: &R, row: &Row, what: &str, found: &[u8]) -> bool {
     let _ = println!(rt; "{}: {what} is not as it should be", row.name());
     let _ = rt.write_all(found);
     let _ = rt.write_all(b"\n");
@@ -46,12 +46,7 @@ fn tell<R: Print>(rt: &R, row: &Row<'_>, what: &str, found: &[u8]) -> bool {
 }
 
 /// Puts the bytes of a file of a row: those of texts and stored files, with `+` between them.
-fn put_bytes<R: Files + AllocGlobal>(
-    rt: &R,
-    row: &Row<'_>,
-    stored: &str,
-    into: &mut Vec<u8>,
-) -> bool {
+fn put_bytes<R: Files + AllocGlobal>(rt: &R, row: &Row, stored: &str, into: &mut Vec<u8>) -> bool {
     let mut well = true;
     for name in stored.split('+') {
         well &= match row.text(name) {
@@ -71,13 +66,13 @@ fn put_file<R: Files + AllocGlobal>(rt: &R, path: &str, into: &mut Vec<u8>) -> b
 }
 
 /// Makes a file.
-fn make<R: Files + AllocGlobal>(rt: &R, row: &Row<'_>, path: &str, stored: &str) -> bool {
+fn make<R: Files + AllocGlobal>(rt: &R, row: &Row, path: &str, stored: &str) -> bool {
     let mut bytes = Vec::new(rt.alloc());
     put_bytes(rt, row, stored, &mut bytes) && fs::write(rt, path, bytes.as_slice()).is_ok()
 }
 
 /// Makes the files of a row.
-fn lay_out<R: Files + Print + AllocGlobal>(rt: &R, row: &Row<'_>) -> bool {
+fn lay_out<R: Files + Print + AllocGlobal>(rt: &R, row: &Row) -> bool {
     let mut well = true;
     for file in row.files(FILES) {
         let (path, stored) = row.kept(file);
@@ -91,8 +86,8 @@ fn lay_out<R: Files + Print + AllocGlobal>(rt: &R, row: &Row<'_>) -> bool {
 /// Carries out the commands, and answers whether the files were opened in their order, and the lines and the status are the row's.
 fn is_carried_out<R: Files + Print + AllocGlobal, C: Commands>(
     rt: &R,
-    row: &Row<'_>,
-    amiss: Amiss<'_>,
+    row: &Row,
+    amiss: &Amiss,
     commands: &C,
 ) -> bool {
     let notes = Notes {
@@ -119,13 +114,13 @@ fn is_carried_out<R: Files + Print + AllocGlobal, C: Commands>(
 }
 
 /// Whether this status is the row's.
-fn has_status<R: Print>(rt: &R, row: &Row<'_>, status: u8) -> bool {
+fn has_status<R: Print>(rt: &R, row: &Row, status: u8) -> bool {
     row.of(STATUS).parse::<u8>() == Ok(status)
         || tell(rt, row, "status", &[b'0'.saturating_add(status)])
 }
 
 /// Whether the files that were opened are the row's.
-fn is_opened<R: Print>(rt: &R, row: &Row<'_>, notes: &Notes) -> bool {
+fn is_opened<R: Print>(rt: &R, row: &Row, notes: &Notes) -> bool {
     match notes.opened.try_borrow() {
         Ok(opened) => {
             opened.as_slice().trim_ascii_start() == row.of(OPENED).as_bytes()
@@ -136,7 +131,7 @@ fn is_opened<R: Print>(rt: &R, row: &Row<'_>, notes: &Notes) -> bool {
 }
 
 /// Whether what was printed is the row's.
-fn is_printed<R: Print + AllocGlobal>(rt: &R, row: &Row<'_>, notes: &Notes) -> bool {
+fn is_printed<R: Print + AllocGlobal>(rt: &R, row: &Row, notes: &Notes) -> bool {
     match notes.printed.try_borrow() {
         Ok(printed) => is_said(rt, row, PRINTED, "printed", &printed),
         Err(_) => false,
@@ -144,12 +139,12 @@ fn is_printed<R: Print + AllocGlobal>(rt: &R, row: &Row<'_>, notes: &Notes) -> b
 }
 
 /// Puts what a row says behind a word, or by the text of this name.
-fn put_said(row: &Row<'_>, word: &str, name: &str, into: &mut Vec<u8>) -> bool {
+fn put_said(row: &Row, word: &str, name: &str, into: &mut Vec<u8>) -> bool {
     if let Some(text) = row.own_text(name) {
         return put_text(into, text);
     }
     match row.of(word) {
-        "usage" => put(into, row.usage),
+        "usage" => put(into, row.usage()),
         lines => put_lines(into, lines),
     }
 }
@@ -157,7 +152,7 @@ fn put_said(row: &Row<'_>, word: &str, name: &str, into: &mut Vec<u8>) -> bool {
 /// Whether bytes are what the row says.
 fn is_said<R: Print + AllocGlobal>(
     rt: &R,
-    row: &Row<'_>,
+    row: &Row,
     word: &str,
     name: &str,
     found: &[u8],
@@ -168,7 +163,7 @@ fn is_said<R: Print + AllocGlobal>(
 }
 
 /// Whether a file of a row is made anew.
-fn is_made(row: &Row<'_>, path: &str) -> bool {
+fn is_made(row: &Row, path: &str) -> bool {
     for made in row.files(MADE) {
         if row.kept(made).0 == path {
             return true;
@@ -178,7 +173,7 @@ fn is_made(row: &Row<'_>, path: &str) -> bool {
 }
 
 /// Whether a file has its bytes.
-fn has_bytes<R: Files + AllocGlobal>(rt: &R, row: &Row<'_>, path: &str, stored: &str) -> bool {
+fn has_bytes<R: Files + AllocGlobal>(rt: &R, row: &Row, path: &str, stored: &str) -> bool {
     let mut wanted = Vec::new(rt.alloc());
     let mut found = Vec::new(rt.alloc());
     put_bytes(rt, row, stored, &mut wanted)
@@ -187,13 +182,13 @@ fn has_bytes<R: Files + AllocGlobal>(rt: &R, row: &Row<'_>, path: &str, stored: 
 }
 
 /// Whether a file is as it should be.
-fn is_file<R: Files + Print + AllocGlobal>(rt: &R, row: &Row<'_>, file: &str) -> bool {
+fn is_file<R: Files + Print + AllocGlobal>(rt: &R, row: &Row, file: &str) -> bool {
     let (path, stored) = row.kept(file);
     has_bytes(rt, row, path, stored) || tell_file(rt, row, path)
 }
 
 /// Prints a file that is not as it should be.
-fn tell_file<R: Files + Print + AllocGlobal>(rt: &R, row: &Row<'_>, path: &str) -> bool {
+fn tell_file<R: Files + Print + AllocGlobal>(rt: &R, row: &Row, path: &str) -> bool {
     let mut found = Vec::new(rt.alloc());
     let _ = put_file(rt, path, &mut found);
     tell(rt, row, path, &found)
@@ -208,7 +203,7 @@ fn files_in<R: Files + AllocGlobal + Clone + Drop>(rt: &R) -> usize {
 }
 
 /// Whether the files that a row makes are as they should be, and those that it leaves.
-fn are_files<R: Files + Print + AllocGlobal>(rt: &R, row: &Row<'_>) -> Option<usize> {
+fn are_files<R: Files + Print + AllocGlobal>(rt: &R, row: &Row) -> Option<usize> {
     let mut count = 0usize;
     for file in row.files(MADE) {
         if !is_file(rt, row, file) {
@@ -230,7 +225,7 @@ fn are_files<R: Files + Print + AllocGlobal>(rt: &R, row: &Row<'_>) -> Option<us
 /// Whether the folder has the files that it should have, and no other beside those that were there before.
 fn has_its_files<R: Files + Print + AllocGlobal + Clone + Drop>(
     rt: &R,
-    row: &Row<'_>,
+    row: &Row,
     before: usize,
 ) -> bool {
     match are_files(rt, row) {
@@ -240,7 +235,7 @@ fn has_its_files<R: Files + Print + AllocGlobal + Clone + Drop>(
 }
 
 /// Removes the files of a row.
-fn clear<R: Files>(rt: &R, row: &Row<'_>) {
+fn clear<R: Files>(rt: &R, row: &Row) {
     for file in row.files(MADE) {
         let _ = fs::remove_file(rt, row.kept(file).0);
     }

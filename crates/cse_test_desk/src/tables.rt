@@ -1,6 +1,6 @@
 //! Tables of rows, carried out.
 
-use crate::block::{Row, has_words, is_row};
+use crate::block::{Row, Shared, has_words, is_row};
 use crate::row::{Commands, is_right};
 use std::fs;
 use std::rt::Files;
@@ -46,12 +46,7 @@ fn right_rows<R: Files + Print + AllocGlobal + Clone + Drop, C: Commands>(
     let mut right = 0usize;
     for rows in text.split("\n\n#") {
         if let Some((part, rows)) = rows.split_once("\n\n") {
-            let shared = Row {
-                own: "",
-                part,
-                all,
-                usage,
-            };
+            let shared = Shared { part, all, usage };
             right = right.saturating_add(right_below(rt, shared, rows, commands));
         }
     }
@@ -61,18 +56,30 @@ fn right_rows<R: Files + Print + AllocGlobal + Clone + Drop, C: Commands>(
 /// How many rows below a comment are as they should be, by what they share.
 fn right_below<R: Files + Print + AllocGlobal + Clone + Drop, C: Commands>(
     rt: &R,
-    shared: Row<'_>,
+    shared: Shared<'_>,
     rows: &str,
     commands: &C,
 ) -> usize {
     let mut right = 0usize;
     for own in rows.split("\n\n") {
-        let row = Row { own, ..shared };
-        if is_row(own) && has_words(row.part) && is_right(rt, &row, commands) {
+        if is_row(own) && has_words(shared.part) && is_right_by(rt, own, shared, commands) {
             right = right.saturating_add(1);
         } else {
-            let _ = println!(rt; "{}: not as it should be", row.name());
+            let _ = println!(rt; "{}: not as it should be", own.lines().next().unwrap_or(""));
         }
     }
     right
+}
+
+/// Whether a row is as it should be, by its lines and what it shares.
+fn is_right_by<R: Files + Print + AllocGlobal + Clone + Drop, C: Commands>(
+    rt: &R,
+    own: &str,
+    shared: Shared<'_>,
+    commands: &C,
+) -> bool {
+    match Row::new(rt.alloc(), own, shared) {
+        Ok(row) => is_right(rt, &row, commands),
+        Err(_) => false,
+    }
 }
