@@ -13,7 +13,7 @@ use Rattle.cse_dict.specs.Dictionary.{item_names}
 use Rattle.cse_lines.specs.Runs.{fault_in, given_runs}
 use Rattle.cse_decks.specs.Store.{Kept}
 use Rattle.cse_decks.specs.Deck.{deck_text}
-use Rattle.cse_output.specs.Gathering.{Finishes, GaveUp, Gathered, Gathering, Going, Puts}
+use Rattle.cse_value.specs.Gathering.{Finishes, GaveUp, Gathered, Gathering, Going, Puts}
 use Rattle.cse_report.specs.Held.{Held, begun as no_reports, ending, flushed}
 use Rattle.cse_report.specs.Frequency.{frequencies_text}
 use Rattle.cse_report.specs.Listing.{listing}

@@ -11,7 +11,7 @@ use Rattle.cse_lines.specs.Run.{written_run}
 use Rattle.cse_case.specs.Case.{CaseText}
 use Rattle.cse_code_bounds.specs.CaseEvents.{Moment, moment}
 use Rattle.cse_decks.specs.Store.{Kept, StoreFits}
-use Rattle.cse_output.specs.Gathering.{Going, Gathering, Puts}
+use Rattle.cse_value.specs.Gathering.{Going, Gathering, Puts}
 use Rattle.cse_report.specs.Listing.{BeginsCase, BeginsRun, Report}
 use Rattle.cse_report.specs.Held.{Held, begun as no_reports, flushed, reported}
 use Rattle.cse_report.specs.Unended.{unended}

@@ -14,7 +14,7 @@ use Rattle.cse_case.specs.Case.{CaseText, case_of, records_of, types_of, unseen_
 use Rattle.cse_case.specs.Seen.{is_case}
 use Rattle.cse_case.specs.Reading.{NextCase}
 use Rattle.cse_decks.specs.Store.{Kept}
-use Rattle.cse_output.specs.Gathering.{Going, Gathering, Puts}
+use Rattle.cse_value.specs.Gathering.{Going, Gathering, Puts}
 use Rattle.cse_report.specs.Held.{Held, begun as no_reports, flushed}
 use Rattle.cse_report.specs.Listing.{first_line}
 use Rattle.cse_report.specs.Unended.{unended}

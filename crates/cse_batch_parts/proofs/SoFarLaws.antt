@@ -18,7 +18,7 @@ use Rattle.cse_lines.proofs.RunLaws.{later_by-zero, later_by-later_by, nothing_g
 use Rattle.std.proofs.lemmas.Bool.{MatchBool-at_true}
 use Rattle.cse_value.specs.declared.device.Failed.{Failed}
 use Rattle.cse_value.specs.Writing.{AppendsFront, FailsAtErr, WritesAll}
-use Rattle.cse_output.specs.Gathering.{Gathered, Gathering, GaveUp, Going}
+use Rattle.cse_value.specs.Gathering.{Gathered, Gathering, GaveUp, Going}
 use Rattle.cse_case.specs.Case.{CaseText, records_of, types_of, unseen_lines}
 use Rattle.cse_case.specs.Seen.{is_case, unseen_of}
 use Rattle.cse_case.specs.Reading.{NextCase, GivesCase}

@@ -5,8 +5,8 @@ use Rattle.cse_image_parts.specs.declared.entries.EventCode.{EventCode}
 use Rattle.cse_case.specs.Case.{CaseText}
 use Rattle.cse_code_bounds.specs.CaseEvents.{moment}
 use Rattle.cse_decks.specs.Store.{Kept}
-use Rattle.cse_output.specs.Gathering.{Going, Gathering, behind}
-use Rattle.cse_output.specs.declared.gatherer.Gatherer.{Gatherer}
+use Rattle.cse_value.specs.Gathering.{Going, Gathering, behind}
+use Rattle.cse_value.specs.declared.gatherer.Gatherer.{Gatherer}
 use Rattle.cse_report.specs.Held.{begun as no_reports, flushed}
 use Rattle.cse_report.specs.Unended.{unended}
 use Rattle.cse_report.specs.AllReported.{all_reported}

@@ -5,7 +5,7 @@ use Rattle.cse_value.specs.declared.device.Output.{Ghosts as Takes}
 use Rattle.cse_lines.specs.Reader.{ReaderText}
 use Rattle.cse_case.specs.declared.reader.CaseReader.{CaseReader}
 use Rattle.cse_decks.specs.Store.{Kept, StoreFits}
-use Rattle.cse_output.specs.Gathering.{Going, behind}
+use Rattle.cse_value.specs.Gathering.{Going, behind}
 use Rattle.cse_report.specs.Reports.{ReportsFit}
 use Rattle.cse_report.specs.declared.reports.Reports.{Reports}
 use Rattle.cse_verify.specs.Verified.{VerifiedProgram}

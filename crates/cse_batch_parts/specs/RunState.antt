@@ -7,7 +7,7 @@ use Rattle.cse_lines.specs.Reader.{ReaderText, held_of}
 use Rattle.cse_dict.specs.Dictionary.{item_names}
 use Rattle.cse_decks.specs.Store.{Kept}
 use Rattle.cse_decks.specs.Deck.{deck_text}
-use Rattle.cse_output.specs.Gathering.{Going, Gathering}
+use Rattle.cse_value.specs.Gathering.{Going, Gathering}
 use Rattle.cse_report.specs.Held.{begun as no_reports, ending}
 use Rattle.cse_report.specs.Frequency.{frequencies_text}
 use Rattle.cse_report.specs.Unended.{Begins}

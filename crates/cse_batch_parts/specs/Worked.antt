@@ -5,7 +5,7 @@ use Rattle.cse_value.specs.declared.shape.ItemShape.{ItemShape}
 use Rattle.cse_value.specs.declared.shape.RecordShape.{RecordShape}
 use Rattle.cse_dict.specs.Dictionary.{DictionaryText}
 use Rattle.cse_decks.specs.Store.{Kept}
-use Rattle.cse_output.specs.Gathering.{line}
+use Rattle.cse_value.specs.Gathering.{line}
 use Rattle.cse_verify.specs.Verified.{VerifiedProgram}
 use Rattle.cse_batch_parts.specs.Batch.{Batch, batch}
 

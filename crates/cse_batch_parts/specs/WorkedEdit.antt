@@ -8,7 +8,7 @@ use Rattle.cse_image_parts.specs.declared.entries.Gift.TheVariants as gifts
 use Rattle.cse_image_parts.specs.declared.instruction.Instr.{Instr}
 use Rattle.cse_image_parts.specs.declared.instruction.Op.TheVariants as ops
 use Rattle.cse_dict.specs.Dictionary.{DictionaryText}
-use Rattle.cse_output.specs.Gathering.{line}
+use Rattle.cse_value.specs.Gathering.{line}
 use Rattle.cse_verify.specs.Verified.{VerifiedProgram}
 use Rattle.cse_steps.specs.Worked.{instr}
 use Rattle.cse_batch_parts.specs.Batch.{batch}

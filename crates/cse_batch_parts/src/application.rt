@@ -1,7 +1,7 @@
 //! The events of the application, which stand around the cases.
 
 ghost use Rattle.std.specs.Prelude.{◌≡◌, [], OnOk, OnErr, true};
-ghost use Rattle.cse_output.specs.Gathering.{behind, Puts};
+ghost use Rattle.cse_value.specs.Gathering.{behind, Puts};
 ghost use Rattle.cse_decks.specs.Store.{StoreFits};
 ghost use Rattle.cse_report.specs.Reports.{ReportsFit};
 ghost use Rattle.cse_steps.specs.Fits.{is_of_run};
@@ -10,10 +10,9 @@ ghost use Rattle.cse_batch_parts.specs.Edits.{Applies, KeepsOn};
 use cse_decks::Store;
 use cse_event_runs::runs::Runs;
 use cse_image::{Code, Event, EventCode};
-use cse_output::Gatherer;
 use cse_report::Reports;
 use cse_steps::event_ends;
-use cse_value::{OutOfMemory, Output};
+use cse_value::{Gatherer, OutOfMemory, Output};
 use cse_verify::Verified;
 
 /// Runs the preproc or the postproc of the application.

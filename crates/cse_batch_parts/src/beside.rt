@@ -2,15 +2,14 @@
 
 ghost use Rattle.std.specs.Prelude.{◌≡◌};
 ghost use Rattle.cse_lines.specs.Run.{written_run};
-ghost use Rattle.cse_output.specs.Gathering.{behind, Puts};
+ghost use Rattle.cse_value.specs.Gathering.{behind, Puts};
 ghost use Rattle.cse_report.specs.Held.{flushed};
 ghost use Rattle.cse_batch_parts.specs.Outputs.{AreSame, LeavesEnd, lines_so_far, listing_so_far};
 
 use crate::outputs::Outputs;
 use cse_case::Case;
-use cse_output::Gatherer;
 use cse_report::Listing;
-use cse_value::Output;
+use cse_value::{Gatherer, Output};
 
 /// Puts the lines that a listing holds. Where lines of the data were just written, what waits for the listing's file is written
 /// too: a run that is stopped leaves both as far, but for what waited.

@@ -1,10 +1,9 @@
 //! Where a run writes.
 
 ghost use Rattle.std.specs.Prelude.{◌≡◌};
-ghost use Rattle.cse_output.specs.Gathering.{behind, Finishes};
+ghost use Rattle.cse_value.specs.Gathering.{behind, Finishes};
 
-use cse_output::Gatherer;
-use cse_value::{Failed, Output};
+use cse_value::{Failed, Gatherer, Output};
 
 /// Where a run writes, and what waits to be written.
 #[derive(Drop)]

@@ -4,7 +4,7 @@ ghost use Rattle.std.specs.Prelude.{◌≡◌, ◌<◌, ◌≤◌, ◌+◌, ◌^
 ghost use Rattle.std.specs.Bool.{OnTrue, OnFalse};
 ghost use Rattle.cse_value.specs.declared.shape.ItemKind.TheVariants.{Number as ANumber, Opaque as AnOpaque, Text as AText};
 ghost use Rattle.cse_value.specs.Writing.{WritesAll, FailsAtErr};
-ghost use Rattle.cse_output.specs.Gathering.{behind, Puts};
+ghost use Rattle.cse_value.specs.Gathering.{behind, Puts};
 ghost use Rattle.cse_dict.specs.Sound.{IsSound};
 ghost use Rattle.cse_lines.specs.Run.{line_at, written_run};
 ghost use Rattle.cse_case.specs.Seen.{is_case};
@@ -24,9 +24,8 @@ use crate::text::text_of;
 use crate::write::{mark, put_lines};
 use cse_dict::Unseen;
 use cse_lines::{Columns, Lines, Run};
-use cse_output::Gatherer;
 use cse_value::shape::{ID_OWNER, ItemKind, ItemShape};
-use cse_value::{Failed, Num, Output, Text};
+use cse_value::{Failed, Gatherer, Num, Output, Text};
 use std::alloc::{AllocError, Global};
 use std::marker::Model;
 

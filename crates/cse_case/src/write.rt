@@ -3,7 +3,7 @@
 
 ghost use Rattle.std.specs.Prelude.{◌≡◌, ◌≤◌, ◌+◌, ◌-◌, ◌*◌, length, take, encode_utf8, encode_utf8_all, true};
 ghost use Rattle.std.specs.List.{flat_map};
-ghost use Rattle.cse_output.specs.Gathering.{behind, Puts};
+ghost use Rattle.cse_value.specs.Gathering.{behind, Puts};
 ghost use Rattle.cse_lines.specs.Bytes.{columns_lent};
 ghost use Rattle.cse_lines.specs.Laid.{IsLaid, laid_line, laid_lines};
 ghost use Rattle.cse_lines.specs.Line.{end_bytes};
@@ -11,8 +11,7 @@ ghost use Rattle.cse_lines.specs.Written.{kept_columns, mark_bytes, written_line
 
 use crate::field::line_columns;
 use cse_lines::{Columns, Ending, Line};
-use cse_output::Gatherer;
-use cse_value::Output;
+use cse_value::{Gatherer, Output};
 
 /// How many columns are encoded at a time, at most.
 const PART: usize = 127;

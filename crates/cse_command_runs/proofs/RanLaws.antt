@@ -5,7 +5,7 @@ use Rattle.cse_verify.specs.Verified.{VerifiedProgram}
 use Rattle.cse_decks.specs.Store.{Kept}
 use Rattle.cse_batch_parts.specs.declared.totals.Totals.{Totals}
 use Rattle.cse_batch_parts.specs.RunClauses.{Contents, Failures, RunsWhole, contents}
-use Rattle.cse_memory.specs.declared.gathered.Gathered.{Gathered}
+use Rattle.cse_value.specs.declared.gathered.Gathered.{Gathered}
 use Rattle.cse_command_parts.specs.declared.outcome.Stop.{Stop}
 use Rattle.cse_command_runs.specs.Ran.{Tells, none_taken, unread}
 use Rattle.cse_command_runs.specs.Telling.{TellsRunFault}

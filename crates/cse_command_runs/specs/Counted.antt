@@ -1,6 +1,6 @@
 -- What a command tells that it counted.
 use Rattle.std.specs.Prelude.{Result, Ok, Err}
-use Rattle.cse_memory.specs.declared.gathered.Gathered.{Gathered}
+use Rattle.cse_value.specs.declared.gathered.Gathered.{Gathered}
 use Rattle.cse_batch_parts.specs.declared.totals.Totals.{Totals}
 use Rattle.cse_command_parts.specs.declared.outcome.Stop.{Stop}
 

@@ -2,7 +2,7 @@
 use Rattle.std.specs.Prelude.{◌≡◌, ℕ, Bool, false, List, [], Option, None, Some, option_map, Result, Ok, Err, IfOk}
 use Rattle.cse_value.specs.Device.{Given, IsAtEnd}
 use Rattle.cse_value.specs.Sound.{are_given}
-use Rattle.cse_memory.specs.declared.gathered.Gathered.{Gathered}
+use Rattle.cse_value.specs.declared.gathered.Gathered.{Gathered}
 use Rattle.cse_files.specs.declared.replacing.Replaced.{Replaced}
 use Rattle.cse_dict.specs.Dictionary.{DictionaryText, shape_of}
 use Rattle.cse_verify.specs.Verified.{VerifiedProgram}

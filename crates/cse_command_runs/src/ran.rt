@@ -6,7 +6,7 @@ ghost use Rattle.cse_command_runs.specs.Counted.{counted};
 use cse_batch::Totals;
 use cse_command_parts::outcome::Stop;
 use cse_files::{OpenedInput, OpenedOutput, Replaced, WholeFile};
-use cse_memory::Gathered;
+use cse_value::Gathered;
 
 /// What a run from a store came to, and the files that it opened: each tells its path, and what it gave or took.
 #[derive(Drop)]

@@ -10,7 +10,7 @@ use Rattle.cse_batch_parts.specs.RunClauses.{Contents, Failures}
 use Rattle.cse_edit.specs.Edit.{IsRead, IsStartOf, devices}
 use Rattle.cse_edit.specs.Laws.{BatchesMean}
 use Rattle.cse_edit.proofs.Edits.{edits, stops}
-use Rattle.cse_memory.specs.declared.gathered.Gathered.{Gathered}
+use Rattle.cse_value.specs.declared.gathered.Gathered.{Gathered}
 use Rattle.cse_command_parts.specs.declared.outcome.Stop.{Stop}
 use Rattle.cse_command_runs.specs.Ran.{Tells, none_taken, unread}
 use Rattle.cse_command_parts.specs.Told.{Told}

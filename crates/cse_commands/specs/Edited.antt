@@ -1,7 +1,7 @@
 -- What an edit over files comes to: by which paths they were opened, what they gave, and what they took.
 use Rattle.std.specs.Prelude.{◌≡◌, ℕ, Bool, List, [], Option, option_map, Result, Ok, Err}
 use Rattle.cse_value.specs.Device.{Given, IsAtEnd}
-use Rattle.cse_memory.specs.declared.gathered.Gathered.{Gathered}
+use Rattle.cse_value.specs.declared.gathered.Gathered.{Gathered}
 use Rattle.cse_dict.specs.Dictionary.{DictionaryText}
 use Rattle.cse_batch_parts.specs.declared.totals.Totals.{Totals}
 use Rattle.cse_batch_parts.specs.declared.totals.RunFault.{RunFault}

@@ -12,7 +12,7 @@ use Rattle.cse_value.specs.declared.number.Num.{Num}
 use Rattle.cse_image_parts.specs.Image.{Image, ArrayLists}
 use Rattle.cse_image_codec.specs.Reader.{AllAfter}
 use Rattle.cse_image.specs.Spelling.{ArrayFits, Fits}
-use Rattle.cse_output.specs.Gathering.{line}
+use Rattle.cse_value.specs.Gathering.{line}
 use Rattle.cse_decks.specs.declared.due.Due.{Due}
 use Rattle.cse_decks.specs.declared.due.Due.TheVariants.{Opening, Nothing}
 use Rattle.cse_decks.specs.declared.error.DeckError.{DeckError}

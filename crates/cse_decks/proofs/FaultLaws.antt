@@ -10,7 +10,7 @@ use Rattle.cse_value.specs.declared.number.Num.{Num}
 use Rattle.cse_value.specs.declared.number.Num.TheVariants.{Whole}
 use Rattle.cse_image_parts.specs.Image.{Image, ArrayLists}
 use Rattle.cse_image.specs.Spelling.{Fits}
-use Rattle.cse_output.specs.Gathering.{line}
+use Rattle.cse_value.specs.Gathering.{line}
 use Rattle.cse_decks.specs.declared.due.Due.{Due}
 use Rattle.cse_decks.specs.declared.due.Due.TheVariants.{Heading, Opening, Cell, Nothing}
 use Rattle.cse_decks.specs.declared.error.DeckError.{DeckError}

@@ -3,7 +3,7 @@ use Rattle.std.proofs.Common.{◌≡◌, ℕ, ◌+◌, Bool, true, false, eqb, L
 use Rattle.std.specs.List.{AllByRecursion, flat_map, list_all}
 use Rattle.std.proofs.lemmas.Bool.{cond-true, cond-false, and_parts, eqb-true}
 use Rattle.cse_image_parts.specs.Image.{ArrayLists}
-use Rattle.cse_output.specs.Gathering.{line}
+use Rattle.cse_value.specs.Gathering.{line}
 use Rattle.cse_decks.specs.Loading.{Cut, joined, cut, Reading, line_read, go_on, read_from, read_text}
 
 -- ---- all of a list

@@ -6,7 +6,7 @@ use Rattle.std.specs.Option.{option_map_or}
 use Rattle.std.proofs.lemmas.Bool.{ne_eqb}
 use Rattle.cse_value.specs.declared.number.Num.{Num}
 use Rattle.cse_image_parts.specs.Image.{Image, ArrayLists}
-use Rattle.cse_output.specs.Gathering.{line}
+use Rattle.cse_value.specs.Gathering.{line}
 use Rattle.cse_decks.specs.Store.{Kept, CellsFit, ArraysFit, StoreFits, cell_count, first_cells, first_kept}
 use Rattle.cse_decks.specs.Deck.{heading, ending, block, blocks, deck_text}
 use Rattle.cse_decks.specs.DeckText.{HotDeck, IsDeckOf, IsDeckOfEntry, DeckFits, lines_of, with_decks, IsDeckText, saved_cells, saved_kept, LoadsWhatWasSaved}

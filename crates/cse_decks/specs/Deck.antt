@@ -5,7 +5,7 @@ use Rattle.std.specs.Fmt.{decimal}
 use Rattle.cse_value.specs.declared.number.Num.{Num}
 use Rattle.cse_value.specs.Field.{shown}
 use Rattle.cse_image_parts.specs.Image.{Image, ArrayLists}
-use Rattle.cse_output.specs.Gathering.{line}
+use Rattle.cse_value.specs.Gathering.{line}
 use Rattle.cse_decks.specs.Store.{Kept}
 
 abbrev pub heading : List ℕ

@@ -7,7 +7,7 @@ use Rattle.std.specs.Option.{option_map_or}
 use Rattle.cse_value.specs.declared.number.Num.{Num}
 use Rattle.cse_image_parts.specs.Image.{Image, ArrayLists}
 use Rattle.cse_image.specs.Spelling.{Fits}
-use Rattle.cse_output.specs.Gathering.{line}
+use Rattle.cse_value.specs.Gathering.{line}
 use Rattle.cse_decks.specs.declared.error.DeckError.{DeckError}
 use Rattle.cse_decks.specs.Store.{Kept, CellsFit, ArraysFit, StoreFits, cell_count, first_cells, first_kept}
 use Rattle.cse_decks.specs.Deck.{heading, ending, block, deck_text}

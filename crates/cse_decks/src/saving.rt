@@ -8,13 +8,12 @@ ghost use Rattle.cse_decks.specs.Store.{StoreFits};
 ghost use Rattle.cse_decks.specs.Deck.{size_word, cell_line, array_line, saved_block, blocks, deck_text};
 ghost use Rattle.cse_decks.specs.DeckText.{saved_kept};
 ghost use Rattle.cse_decks.specs.Loading.{loaded};
-ghost use Rattle.cse_output.specs.Gathering.{behind, line, Puts};
+ghost use Rattle.cse_value.specs.Gathering.{behind, line, Puts};
 
 use crate::cells::ArrayCells;
 use crate::store::Store;
 use cse_image::{Array, Code, Program};
-use cse_output::Gatherer;
-use cse_value::{Failed, Num, Output, show_num};
+use cse_value::{Failed, Gatherer, Num, Output, show_num};
 use itoa::Buffer;
 
 /// Writes the text that keeps the saved arrays of a store (own): a heading, for each saved array a line with

@@ -7,7 +7,7 @@ use Rattle.cse_value.specs.Shape.{ShapeLists}
 use Rattle.cse_image_parts.specs.declared.entries.EventCode.{EventCode}
 use Rattle.cse_image_parts.specs.declared.entries.EventCode.TheVariants as codes
 use Rattle.cse_image_parts.specs.Image.{Image, MessageLists, ArrayLists}
-use Rattle.cse_output.specs.Gathering.{line}
+use Rattle.cse_value.specs.Gathering.{line}
 use Rattle.cse_dict.specs.Dictionary.{DictionaryText, item_names, shape_of}
 use Rattle.cse_dict.specs.Sound.{IsSound}
 use Rattle.cse_lines.specs.Line.{FileLine, lines_in}

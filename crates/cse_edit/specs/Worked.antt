@@ -3,7 +3,7 @@
 use Rattle.std.specs.Prelude.{◌≡◌, ℕ, ℤ, pos, Bool, true, false, List, [], ◌∷◌, map, codes, Option, Some, None, Ok}
 use Rattle.std.specs.List.{flat_map}
 use Rattle.cse_value.specs.declared.shape.ItemKind.TheVariants as kinds
-use Rattle.cse_output.specs.Gathering.{line}
+use Rattle.cse_value.specs.Gathering.{line}
 use Rattle.cse_dict.specs.Dictionary.{DictionaryText, ItemText}
 use Rattle.cse_logic_tree.specs.declared.tree.Owner.TheVariants as owners
 use Rattle.cse_logic_tree.specs.declared.tree.Variable.TheVariants as v

@@ -1,7 +1,7 @@
 -- What is told of a run, from what the calls beneath say.
 use Rattle.std.proofs.Common.{◌≡◌, ◌∙◌, ap, inr, sym, subst, ℕ, Bool, ◌&&◌, List, [], Result, Ok, Err, IfErr}
 use Rattle.cse_value.specs.Device.{Consumes, Given}
-use Rattle.cse_memory.specs.Slice.{ReadOf}
+use Rattle.cse_value.specs.Slice.{ReadOf}
 use Rattle.cse_dict.specs.Dictionary.{DictionaryText, shape_of}
 use Rattle.cse_verify.specs.Verified.{VerifiedProgram}
 use Rattle.cse_batch_parts.specs.declared.totals.Totals.{Totals}

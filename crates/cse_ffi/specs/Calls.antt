@@ -2,7 +2,7 @@
 use Rattle.std.specs.Prelude.{◌≡◌, ◌==◌, ◌⊎◌, ℕ, Bool, List, [], length, false, Result, Ok, Err, if◌then◌else◌}
 use Rattle.cse_value.specs.Device.{Consumes, Given}
 use Rattle.cse_value.specs.Sound.{are_given}
-use Rattle.cse_memory.specs.Slice.{ReadOf}
+use Rattle.cse_value.specs.Slice.{ReadOf}
 use Rattle.cse_image_parts.specs.Image.{Image}
 use Rattle.cse_sections.specs.Sections.{sections_of}
 use Rattle.cse_dict.specs.Dictionary.{DictionaryText, dictionary_of, shape_of}

@@ -11,8 +11,7 @@ use cse_build::build;
 use cse_decks::{Store, load};
 use cse_dict::Dictionary;
 use cse_image::{Code, Program};
-use cse_memory::{FromSlice, Gathered};
-use cse_value::{Input, Output};
+use cse_value::{FromSlice, Gathered, Input, Output};
 use cse_verify::{Verified, check_image};
 use std::alloc::Global;
 

@@ -11,8 +11,8 @@ use Rattle.cse_dict.specs.Dictionary.{DictionaryText, ItemText, item_names, item
 use Rattle.cse_image_parts.specs.declared.entries.Message.{Message}
 use Rattle.cse_image_parts.specs.Image.{message_lists}
 use Rattle.cse_report.specs.Listing.{count_line, count_lines}
-use Rattle.cse_output.specs.Gathering.{Going, Puts, line}
-use Rattle.cse_output.proofs.GatherLaws.{Puts-then, Puts-as}
+use Rattle.cse_value.specs.Gathering.{Going, Puts, line}
+use Rattle.cse_value.proofs.GatherLaws.{Puts-then, Puts-as}
 use Rattle.cse_value.specs.declared.number.Num.{Num}
 use Rattle.cse_report.specs.Counts.{most_count, capped}
 use Rattle.cse_report.specs.Frequency.{Table, total, item_lines, items_lines}

@@ -5,7 +5,7 @@ use Rattle.std.specs.Fmt.{decimal}
 use Rattle.cse_value.specs.declared.number.Num.{Num}
 use Rattle.cse_value.specs.Number.{is_same}
 use Rattle.cse_value.specs.Field.{shown}
-use Rattle.cse_output.specs.Gathering.{line}
+use Rattle.cse_value.specs.Gathering.{line}
 use Rattle.cse_report.specs.Counts.{capped, one_more}
 
 -- the values imputed to an item in order of first imputation, and how often each was

@@ -9,7 +9,7 @@ use Rattle.std.specs.Str.{encode_utf8_all}
 use Rattle.cse_dict.specs.declared.lookup.Unseen.{Unseen}
 use Rattle.cse_dict.specs.declared.lookup.Unseen.TheVariants.{Unknown, Extra}
 use Rattle.cse_image_parts.specs.Image.{MessageLists}
-use Rattle.cse_output.specs.Gathering.{line}
+use Rattle.cse_value.specs.Gathering.{line}
 use Rattle.cse_report.specs.declared.argument.Arg.{Arg}
 use Rattle.cse_report.specs.MessageText.{message_text}
 use Rattle.cse_report.specs.Counts.{capped}

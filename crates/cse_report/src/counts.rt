@@ -2,13 +2,12 @@
 
 ghost use Rattle.std.specs.Prelude.{◌≡◌, ◌<◌, [], Some, OnOk, OnErr, length, slice_get};
 ghost use Rattle.std.specs.List.{flat_map};
-ghost use Rattle.cse_output.specs.Gathering.{behind, Puts};
+ghost use Rattle.cse_value.specs.Gathering.{behind, Puts};
 ghost use Rattle.cse_report.specs.Frequency.{tallied, total, value_line, item_line, item_lines};
 ghost use Rattle.cse_report.specs.Values.{num_of, key_of};
 
 use cse_ordered::keyed::Keyed;
-use cse_output::Gatherer;
-use cse_value::{Num, OutOfMemory, Output, show_num};
+use cse_value::{Gatherer, Num, OutOfMemory, Output, show_num};
 use itoa::Buffer;
 use std::alloc::Global;
 use std::marker::Model;

@@ -3,13 +3,12 @@
 ghost use Rattle.std.specs.Prelude.{◌≡◌, ◌<◌, ◌≤◌, [], OnOk, OnErr, IfOk, length, map, replicate};
 ghost use Rattle.cse_value.specs.Writing.{WritesAll, FailsAtErr};
 ghost use Rattle.cse_dict.specs.Dictionary.{item_names};
-ghost use Rattle.cse_output.specs.Gathering.{behind, Puts};
+ghost use Rattle.cse_value.specs.Gathering.{behind, Puts};
 ghost use Rattle.cse_report.specs.Frequency.{imputed, items_lines, frequencies_text};
 
 use crate::counts::{ValueCounts, put_item};
 use cse_dict::Dictionary;
-use cse_output::Gatherer;
-use cse_value::{Failed, Num, OutOfMemory, Output};
+use cse_value::{Failed, Gatherer, Num, OutOfMemory, Output};
 use std::alloc::{AllocError, Global};
 use std::marker::Model;
 

@@ -1,13 +1,12 @@
 //! The summary at the end of a listing.
 
 ghost use Rattle.std.specs.Prelude.{◌≡◌, length, map};
-ghost use Rattle.cse_output.specs.Gathering.{behind, Puts};
+ghost use Rattle.cse_value.specs.Gathering.{behind, Puts};
 ghost use Rattle.cse_image_parts.specs.Image.{message_lists};
 ghost use Rattle.cse_report.specs.Listing.{number_line, number_word, count_line, count_lines, summary};
 
 use cse_image::Message;
-use cse_output::Gatherer;
-use cse_value::Output;
+use cse_value::{Gatherer, Output};
 use itoa::Buffer;
 
 /// Puts a line of a word and a number.

@@ -1,8 +1,7 @@
 //! Tables as CSV: fields with commas between them, one row a line.
 
 use crate::text::{Cell, Text};
-use cse_output::Gatherer;
-use cse_value::Output;
+use cse_value::{Gatherer, Output};
 use std::alloc::Global;
 
 /// Want of memory.

@@ -16,6 +16,8 @@ ghost use Rattle.cse_types.specs.TheFault.{IsLeast};
 ghost use Rattle.cse_logic_names.specs.WellTyped.{IsTypedAs};
 ghost use Rattle.cse_logic_names.specs.Walk.{is_there};
 
+use crate::collected::faults;
+use crate::parts::judged;
 use crate::reading::read_tokens;
 use crate::typed::Typed;
 use cse_dict::Dictionary;
@@ -25,9 +27,7 @@ use cse_logic_names::error::TypeError;
 use cse_logic_names::faults::Fault;
 use cse_logic_names::messages::Messages;
 use cse_logic_names::order::Order;
-use cse_logic_source_faults::faults;
 use cse_logic_tree::Tree;
-use cse_logic_whole::judged;
 use cse_syntax::Source;
 use std::alloc::Global;
 

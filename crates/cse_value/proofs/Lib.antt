@@ -6,3 +6,5 @@ pub mod TextLaws
 pub mod WidthLaws
 pub mod WriteLaws
 pub mod DigitLaws
+pub mod GatherLaws
+pub mod SliceLaws

@@ -6,3 +6,6 @@ pub mod Occurrences
 pub mod Shape
 pub mod Texts
 pub mod Writing
+pub mod Waiting
+pub mod Gathering
+pub mod Slice

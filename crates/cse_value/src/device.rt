@@ -9,7 +9,7 @@ ghost use Rattle.cse_value.specs.Device.{Given, ReadGives, CountsFailure, WriteT
 ghost use Rattle.cse_value.specs.Sound.{are_given, counts_failures, unfailed-prop};
 ghost use Rattle.cse_value.specs.Writing.{WritesAll, FailsAtErr};
 
-use cse_devices::{History, Record};
+use crate::{History, Record};
 use std::error::Error;
 use std::{fmt, io};
 

@@ -1,5 +1,5 @@
 use Rattle.std.proofs.Common.{append-nil}
-use Rattle.cse_output.proofs.GatherLaws.{Puts-as, Puts-then}
+use Rattle.cse_value.proofs.GatherLaws.{Puts-as, Puts-then}
 use Rattle.cse_batch_parts.proofs.beside.put_beside.Goals as goal
 
 pub returns-then-are_written-clause-puts : goal.returns-then-are_written-clause-puts

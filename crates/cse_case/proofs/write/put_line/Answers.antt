@@ -6,7 +6,7 @@ use Rattle.cse_lines.specs.Bytes.{columns_lent}
 use Rattle.cse_lines.specs.Laid.{laid_line}
 use Rattle.cse_lines.specs.Line.{end_bytes}
 use Rattle.cse_lines.specs.Written.{kept_columns, written_line}
-use Rattle.cse_output.proofs.GatherLaws.{Puts-then, Puts-as}
+use Rattle.cse_value.proofs.GatherLaws.{Puts-then, Puts-as}
 use Rattle.cse_case.proofs.WriteLaws.{length-rest, put_after}
 use Rattle.cse_case.proofs.write.put_line.Goals as goal
 

@@ -6,7 +6,7 @@ use Rattle.std.specs.List.{flat_map}
 use Rattle.cse_lines.specs.Laid.{laid_line, laid_lines}
 use Rattle.cse_lines.specs.Written.{written_line}
 use Rattle.cse_lines.proofs.LaidLaws.{laid_within, laid_fits}
-use Rattle.cse_output.proofs.GatherLaws.{Puts-then, Puts-as}
+use Rattle.cse_value.proofs.GatherLaws.{Puts-then, Puts-as}
 use Rattle.cse_lines.specs.Bytes.{columns_lent}
 use Rattle.cse_case.proofs.CaseLaws.{written-more}
 use Rattle.cse_case.proofs.write.put_lines.Goals as goal

@@ -3,9 +3,9 @@ use Rattle.std.specs.Prelude.{codes}
 use Rattle.std.specs.List.{flat_map}
 use Rattle.std.specs.String.{string_bytes}
 use Rattle.cse_image_parts.specs.Image.{array_lists}
-use Rattle.cse_output.specs.Gathering.{line}
+use Rattle.cse_value.specs.Gathering.{line}
 use Rattle.cse_decks.specs.Deck.{size_word, array_line}
-use Rattle.cse_output.proofs.GatherLaws.{Puts-then, Puts-as}
+use Rattle.cse_value.proofs.GatherLaws.{Puts-then, Puts-as}
 use Rattle.cse_decks.proofs.saving.put_array_line.Goals as goal
 
 pub returns : goal.returns

@@ -3,7 +3,7 @@ use Rattle.std.specs.Prelude.{map}
 use Rattle.cse_value.specs.declared.number.Num.{Num}
 use Rattle.cse_image_parts.specs.Image.{array_lists}
 use Rattle.cse_decks.specs.Deck.{blocks, saved_block}
-use Rattle.cse_output.proofs.GatherLaws.{Puts-then, Puts-as}
+use Rattle.cse_value.proofs.GatherLaws.{Puts-then, Puts-as}
 use Rattle.cse_decks.proofs.SaveLaws.{blocks_more}
 use Rattle.cse_decks.proofs.saving.put_blocks.Goals as goal
 

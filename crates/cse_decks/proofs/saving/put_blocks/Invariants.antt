@@ -2,7 +2,7 @@ use Rattle.std.proofs.Common.{take}
 use Rattle.std.specs.Prelude.{map}
 use Rattle.cse_image_parts.specs.Image.{array_lists}
 use Rattle.cse_decks.specs.Deck.{blocks}
-use Rattle.cse_output.specs.Gathering.{behind, Puts}
+use Rattle.cse_value.specs.Gathering.{behind, Puts}
 use Rattle.cse_decks.proofs.saving.put_blocks.Given as goal
 
 -- the arrays so far

@@ -1,7 +1,7 @@
 use Rattle.std.proofs.Common.{take}
 use Rattle.std.specs.List.{flat_map}
 use Rattle.cse_decks.specs.Deck.{cell_line}
-use Rattle.cse_output.specs.Gathering.{behind, Puts}
+use Rattle.cse_value.specs.Gathering.{behind, Puts}
 use Rattle.cse_decks.proofs.saving.put_cells.Given as goal
 
 -- the lines so far

@@ -1,9 +1,9 @@
 use Rattle.std.proofs.Common.{Bool, cond, [], ap, sym}
 use Rattle.std.specs.List.{flat_map}
 use Rattle.cse_image_parts.specs.Image.{array_lists}
-use Rattle.cse_output.specs.Gathering.{line}
+use Rattle.cse_value.specs.Gathering.{line}
 use Rattle.cse_decks.specs.Deck.{array_line, cell_line, block}
-use Rattle.cse_output.proofs.GatherLaws.{Puts-then, Puts-as}
+use Rattle.cse_value.proofs.GatherLaws.{Puts-then, Puts-as}
 use Rattle.cse_decks.proofs.saving.put_saved.Goals as goal
 
 pub returns : goal.returns

@@ -4,9 +4,9 @@ use Rattle.cse_value.specs.declared.number.Num.{Num}
 use Rattle.cse_value.specs.Writing.{WritesAll}
 use Rattle.cse_image_parts.specs.declared.entries.Array.{Array}
 use Rattle.cse_image_parts.specs.Image.{array_lists, ArrayLists, Lists}
-use Rattle.cse_output.specs.Gathering.{line}
+use Rattle.cse_value.specs.Gathering.{line}
 use Rattle.cse_decks.specs.Deck.{heading, ending, blocks, deck_text}
-use Rattle.cse_output.proofs.GatherLaws.{Puts-then, Gathering-none}
+use Rattle.cse_value.proofs.GatherLaws.{Puts-then, Gathering-none}
 use Rattle.cse_decks.proofs.SavedLaws.{loads_what_was_saved}
 use Rattle.cse_decks.proofs.saving.save.Goals as goal
 

@@ -1,6 +1,6 @@
 use Rattle.std.proofs.Common.{ℕ, List, refl, subst, sym}
 use Rattle.cse_value.specs.Device.{Consumes, Given}
-use Rattle.cse_memory.specs.Slice.{ReadOf}
+use Rattle.cse_value.specs.Slice.{ReadOf}
 use Rattle.cse_ffi.proofs.Told.{contents_same, runs_data, stops_data}
 use Rattle.cse_ffi.proofs.calls.texts_of.Goals as goal
 

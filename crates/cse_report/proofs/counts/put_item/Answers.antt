@@ -1,6 +1,6 @@
 use Rattle.std.proofs.Common.{◌≡◌, List, ℕ, [], ◌∷◌, ◌++◌, length, refl, sym, ◌∙◌, arith}
 use Rattle.std.specs.List.{flat_map}
-use Rattle.cse_output.proofs.GatherLaws.{Puts-then, Puts-as, Puts-nothing}
+use Rattle.cse_value.proofs.GatherLaws.{Puts-then, Puts-as, Puts-nothing}
 use Rattle.cse_report.specs.Frequency.{Table, item_lines, item_line, value_line}
 use Rattle.cse_report.proofs.counts.put_item.Goals as goal
 

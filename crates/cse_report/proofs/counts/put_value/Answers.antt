@@ -1,7 +1,7 @@
 use Rattle.std.proofs.Common.{◌≡◌, List, ℕ, [], ◌∷◌, ◌++◌, ap, ◌∙◌}
 use Rattle.cse_value.specs.Field.{shown}
-use Rattle.cse_output.specs.Gathering.{line}
-use Rattle.cse_output.proofs.GatherLaws.{Puts-then, Puts-as}
+use Rattle.cse_value.specs.Gathering.{line}
+use Rattle.cse_value.proofs.GatherLaws.{Puts-then, Puts-as}
 use Rattle.cse_report.specs.Frequency.{value_line}
 use Rattle.cse_report.proofs.PutLaws.{Puts-line}
 use Rattle.cse_report.proofs.counts.put_value.Goals as goal

@@ -1,6 +1,6 @@
 use Rattle.std.proofs.Common.{◌<◌, length, take, subst}
 use Rattle.std.specs.List.{flat_map}
-use Rattle.cse_output.proofs.GatherLaws.{Puts-then, Puts-as}
+use Rattle.cse_value.proofs.GatherLaws.{Puts-then, Puts-as}
 use Rattle.cse_report.specs.Frequency.{value_line}
 use Rattle.cse_report.proofs.PutLaws.{flat_map-next}
 use Rattle.cse_report.proofs.counts.put_values.Goals as goal

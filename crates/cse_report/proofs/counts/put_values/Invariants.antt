@@ -1,6 +1,6 @@
 use Rattle.std.proofs.Common.{take}
 use Rattle.std.specs.List.{flat_map}
-use Rattle.cse_output.specs.Gathering.{behind, Puts}
+use Rattle.cse_value.specs.Gathering.{behind, Puts}
 use Rattle.cse_report.specs.Frequency.{value_line}
 use Rattle.cse_report.proofs.counts.put_values.Given as goal
 

@@ -2,7 +2,7 @@ use Rattle.std.proofs.Common.{◌<◌, ◌≤◌, length, min, take, ap, ◌∙�
 use Rattle.std.proofs.lemmas.List.{length-map}
 use Rattle.cse_value.specs.Shape.{ShapeLists}
 use Rattle.cse_dict.specs.Dictionary.{item_names}
-use Rattle.cse_output.proofs.GatherLaws.{Puts-then, Puts-as}
+use Rattle.cse_value.proofs.GatherLaws.{Puts-then, Puts-as}
 use Rattle.cse_report.specs.Frequency.{items_lines, item_lines}
 use Rattle.cse_report.proofs.PutLaws.{items-next, items-all, name-at}
 use Rattle.cse_report.proofs.frequencies.put_items.Goals as goal

@@ -1,6 +1,6 @@
 use Rattle.std.proofs.Common.{take}
 use Rattle.cse_dict.specs.Dictionary.{item_names}
-use Rattle.cse_output.specs.Gathering.{behind, Puts}
+use Rattle.cse_value.specs.Gathering.{behind, Puts}
 use Rattle.cse_report.specs.Frequency.{items_lines}
 use Rattle.cse_report.proofs.frequencies.put_items.Given as goal
 

@@ -1,8 +1,8 @@
 use Rattle.std.proofs.Common.{◌≡◌, List, ℕ, ◌++◌, ap, ◌∙◌}
 use Rattle.std.specs.Prelude.{codes}
 use Rattle.cse_image_parts.specs.Image.{message_lists}
-use Rattle.cse_output.specs.Gathering.{line}
-use Rattle.cse_output.proofs.GatherLaws.{Puts-then, Puts-as}
+use Rattle.cse_value.specs.Gathering.{line}
+use Rattle.cse_value.proofs.GatherLaws.{Puts-then, Puts-as}
 use Rattle.cse_report.specs.Listing.{number_word, count_line}
 use Rattle.cse_report.proofs.PutLaws.{Puts-line}
 use Rattle.cse_report.proofs.summary.put_count.Goals as goal

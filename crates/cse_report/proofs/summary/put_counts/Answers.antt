@@ -1,7 +1,7 @@
 use Rattle.std.proofs.Common.{◌<◌, length, take, get_or, subst, sym}
 use Rattle.std.specs.Prelude.{map}
 use Rattle.cse_image_parts.specs.Image.{message_lists}
-use Rattle.cse_output.proofs.GatherLaws.{Puts-then, Puts-as}
+use Rattle.cse_value.proofs.GatherLaws.{Puts-then, Puts-as}
 use Rattle.cse_report.specs.Listing.{count_line, count_lines}
 use Rattle.cse_report.proofs.PutLaws.{counts-next}
 use Rattle.cse_report.proofs.summary.put_counts.Goals as goal

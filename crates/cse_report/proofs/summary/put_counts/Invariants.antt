@@ -1,7 +1,7 @@
 use Rattle.std.proofs.Common.{take}
 use Rattle.std.specs.Prelude.{map}
 use Rattle.cse_image_parts.specs.Image.{message_lists}
-use Rattle.cse_output.specs.Gathering.{behind, Puts}
+use Rattle.cse_value.specs.Gathering.{behind, Puts}
 use Rattle.cse_report.specs.Listing.{count_lines}
 use Rattle.cse_report.proofs.summary.put_counts.Given as goal
 

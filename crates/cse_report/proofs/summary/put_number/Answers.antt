@@ -1,6 +1,6 @@
 use Rattle.std.proofs.Common.{◌≡◌, List, ℕ, ◌++◌, ap, ◌∙◌}
-use Rattle.cse_output.specs.Gathering.{line}
-use Rattle.cse_output.proofs.GatherLaws.{Puts-as}
+use Rattle.cse_value.specs.Gathering.{line}
+use Rattle.cse_value.proofs.GatherLaws.{Puts-as}
 use Rattle.cse_report.specs.Listing.{number_line}
 use Rattle.cse_report.proofs.PutLaws.{Puts-line}
 use Rattle.cse_report.proofs.summary.put_number.Goals as goal

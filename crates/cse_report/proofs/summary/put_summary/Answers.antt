@@ -1,8 +1,8 @@
 use Rattle.std.proofs.Common.{List, ℕ, ◌++◌}
 use Rattle.std.specs.Prelude.{codes, map}
 use Rattle.cse_image_parts.specs.Image.{message_lists}
-use Rattle.cse_output.specs.Gathering.{line}
-use Rattle.cse_output.proofs.GatherLaws.{Puts-then}
+use Rattle.cse_value.specs.Gathering.{line}
+use Rattle.cse_value.proofs.GatherLaws.{Puts-then}
 use Rattle.cse_report.specs.Listing.{number_line, count_lines, summary}
 use Rattle.cse_report.proofs.summary.put_summary.Goals as goal
 

@@ -1,5 +1,5 @@
 use Rattle.std.proofs.Common.{◌≡◌, List, ℕ, [], ◌∷◌, ◌++◌, ap, ◌∙◌}
-use Rattle.cse_output.proofs.GatherLaws.{Puts-then, Puts-as}
+use Rattle.cse_value.proofs.GatherLaws.{Puts-then, Puts-as}
 use Rattle.cse_report.specs.Listing.{number_word}
 use Rattle.cse_report.proofs.summary.put_word.Goals as goal
 

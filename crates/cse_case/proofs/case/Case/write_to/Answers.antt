@@ -1,5 +1,5 @@
 use Rattle.cse_lines.specs.Run.{written_run}
-use Rattle.cse_output.proofs.GatherLaws.{Gathering-none}
+use Rattle.cse_value.proofs.GatherLaws.{Gathering-none}
 use Rattle.cse_case.proofs.case.Case.write_to.Goals as goal
 
 pub returns-clause-bytes : goal.returns-clause-bytes

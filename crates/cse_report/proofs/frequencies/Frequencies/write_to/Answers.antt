@@ -2,8 +2,8 @@ use Rattle.std.proofs.Common.{◌≡◌, List, ℕ, ◌++◌, ap, ◌∙◌, sub
 use Rattle.std.specs.Prelude.{codes}
 use Rattle.cse_value.specs.Writing.{WritesAll}
 use Rattle.cse_dict.specs.Dictionary.{item_names}
-use Rattle.cse_output.specs.Gathering.{line}
-use Rattle.cse_output.proofs.GatherLaws.{Puts-then, Gathering-none}
+use Rattle.cse_value.specs.Gathering.{line}
+use Rattle.cse_value.proofs.GatherLaws.{Puts-then, Gathering-none}
 use Rattle.cse_report.specs.Frequency.{Table, items_lines, frequencies_text}
 use Rattle.cse_report.proofs.frequencies.Frequencies.write_to.Goals as goal
 

@@ -3,7 +3,7 @@ use Rattle.std.specs.Prelude.{map}
 use Rattle.cse_value.specs.Writing.{WritesAll}
 use Rattle.cse_image_parts.specs.declared.entries.Message.{Message}
 use Rattle.cse_image_parts.specs.Image.{message_lists}
-use Rattle.cse_output.proofs.GatherLaws.{Puts-then, Gathering-none}
+use Rattle.cse_value.proofs.GatherLaws.{Puts-then, Gathering-none}
 use Rattle.cse_report.specs.Listing.{summary}
 use Rattle.cse_report.specs.Held.{Held, ending}
 use Rattle.cse_report.proofs.listing.Listing.write_to.Goals as goal

@@ -1,2 +1,0 @@
-pub mod FunctionLaws
-pub mod DeclarationLaws
