@@ -10,6 +10,6 @@ pub use cse_batch_parts::{
     RunFault, Totals, applications_end, batches_end, cases_end, checks_change_nothing,
     ends_are_final, fronts_stay, run_by, untouched_columns_stay, worked_edit, worked_rows,
 };
-pub use cse_event_runs::runs::Runs;
+pub use cse_steps::runs::Runs;
 pub use cse_verify::{CheckFault, check_image};
 pub use whole::run;

@@ -11,7 +11,7 @@ use Rattle.cse_case.specs.Case.{CaseText, places_of, records_of, types_of}
 use Rattle.cse_case.specs.Seen.{is_case}
 use Rattle.cse_case.specs.Fit.{IsFit}
 use Rattle.cse_case.proofs.FitLaws.{fits_read}
-use Rattle.cse_code_bounds.specs.CaseEvents.{Moment, case_events, moment}
+use Rattle.cse_verify.specs.CaseEvents.{Moment, case_events, moment}
 use Rattle.cse_decks.specs.Store.{Kept, StoreFits}
 use Rattle.cse_verify.specs.Verified.{VerifiedProgram}
 use Rattle.cse_steps.specs.State.{World}

@@ -9,7 +9,7 @@ use Rattle.cse_image_parts.specs.Image.{Image, MessageLists}
 use Rattle.cse_lines.specs.Line.{FileLine}
 use Rattle.cse_lines.specs.Run.{written_run}
 use Rattle.cse_case.specs.Case.{CaseText}
-use Rattle.cse_code_bounds.specs.CaseEvents.{Moment, moment}
+use Rattle.cse_verify.specs.CaseEvents.{Moment, moment}
 use Rattle.cse_decks.specs.Store.{Kept, StoreFits}
 use Rattle.cse_value.specs.Gathering.{Going, Gathering, Puts}
 use Rattle.cse_report.specs.Listing.{BeginsCase, BeginsRun, Report}
@@ -23,7 +23,7 @@ use Rattle.cse_verify.specs.Verified.{VerifiedProgram}
 use Rattle.cse_steps.specs.State.{Told, World}
 use Rattle.cse_steps.specs.Fits.{FitsFirst, IsThere, is_of_run}
 use Rattle.cse_steps.specs.Laws.{EventsEnd}
-use Rattle.cse_event_runs.specs.Results.{RunsTo}
+use Rattle.cse_steps.specs.Results.{RunsTo}
 use Rattle.cse_batch_parts.specs.Events.{after_moment, edited, events_of}
 use Rattle.cse_batch_parts.specs.Batch.{Progress, after_application, after_run, application_reports, case_reports, next_case, reports_of, tables_of, unseen_reports, without_case}
 use Rattle.cse_batch_parts.specs.Edits.{Applies, Edits, Keeps}

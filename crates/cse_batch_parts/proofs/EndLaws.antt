@@ -15,9 +15,9 @@ use Rattle.cse_case.specs.Case.{CaseText, records_of, types_of}
 use Rattle.cse_case.specs.Seen.{is_case}
 use Rattle.cse_case.specs.Fit.{IsFit}
 use Rattle.cse_code_typing.specs.Handlers.{is_of, routine_of}
-use Rattle.cse_code_bounds.specs.Bound.{bound}
-use Rattle.cse_code_bounds.specs.CaseEvents.{Moment, moment, event, item_events, occurrence_events, record_events, records_events, case_events, event_bound, events_bound}
-use Rattle.cse_code_bounds.specs.EventBound.{case_bound, times_in_run}
+use Rattle.cse_verify.specs.Bound.{bound}
+use Rattle.cse_verify.specs.CaseEvents.{Moment, moment, event, item_events, occurrence_events, record_events, records_events, case_events, event_bound, events_bound}
+use Rattle.cse_verify.specs.EventBound.{case_bound, times_in_run}
 use Rattle.cse_decks.specs.Store.{Kept, StoreFits}
 use Rattle.cse_verify.specs.Verified.{VerifiedProgram}
 use Rattle.cse_steps.specs.State.{State, World}

@@ -7,7 +7,7 @@ use Rattle.cse_verify.specs.Verified.{VerifiedProgram}
 use Rattle.cse_steps.specs.State.{State}
 use Rattle.cse_steps.specs.Step.{step, step_of}
 use Rattle.cse_steps.specs.Run.{run, first}
-use Rattle.cse_steps.proofs.Runs.{composed}
+use Rattle.cse_steps.proofs.WholeRuns.{composed}
 use Rattle.cse_batch_parts.specs.Events.{final, steps_from}
 use Rattle.cse_batch_parts.specs.Laws.{EndsAreFinal}
 

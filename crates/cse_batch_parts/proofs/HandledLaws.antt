@@ -13,13 +13,13 @@ use Rattle.cse_image_parts.specs.Image.{Image}
 use Rattle.cse_case.specs.Case.{CaseText}
 use Rattle.cse_decks.specs.Store.{Kept}
 use Rattle.cse_code_typing.specs.Handlers.{routine_of}
-use Rattle.cse_code_bounds.specs.CaseEvents.{Moment, moment, event, event_bound, item_events, occurrence_events, record_events, records_events}
+use Rattle.cse_verify.specs.CaseEvents.{Moment, moment, event, event_bound, item_events, occurrence_events, record_events, records_events}
 use Rattle.cse_verify.specs.Verified.{VerifiedProgram}
 use Rattle.cse_steps.specs.State.{State}
 use Rattle.cse_steps.specs.Run.{first, first_calls}
-use Rattle.cse_event_runs.specs.declared.handled.Handled.{Handled}
-use Rattle.cse_event_runs.specs.Handled.{AllHandled, events_of, handled_by, with_routine}
-use Rattle.cse_event_runs.specs.Results.{in_occurrence}
+use Rattle.cse_steps.specs.declared.handled.Handled.{Handled}
+use Rattle.cse_steps.specs.Handled.{AllHandled, events_of, handled_by, with_routine}
+use Rattle.cse_steps.specs.Results.{in_occurrence}
 use Rattle.cse_batch_parts.specs.Handled.{events_of_items, handled_items, has_routine, is_handled}
 use Rattle.cse_batch_parts.specs.Scene.{Scene, scene_after, scene_after_all, told_to}
 use Rattle.cse_batch_parts.proofs.EventLaws.{stays}

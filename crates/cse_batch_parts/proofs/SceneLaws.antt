@@ -5,7 +5,7 @@ use Rattle.std.proofs.lemmas.List.{map-append}
 use Rattle.cse_image_parts.specs.declared.entries.Event.{Event}
 use Rattle.cse_value.specs.declared.shape.ItemShape.{ItemShape}
 use Rattle.cse_case.specs.Case.{CaseText}
-use Rattle.cse_code_bounds.specs.CaseEvents.{Moment, item_events, occurrence_events, record_events, records_events}
+use Rattle.cse_verify.specs.CaseEvents.{Moment, item_events, occurrence_events, record_events, records_events}
 use Rattle.cse_decks.specs.Store.{Kept}
 use Rattle.cse_report.specs.Held.{Held}
 use Rattle.cse_report.specs.Listing.{Gives}
@@ -18,7 +18,7 @@ use Rattle.cse_steps.specs.State.{World, world_of}
 use Rattle.cse_steps.specs.Fits.{FitsFirst, FitsWorld, IsThere, occurrences_in}
 use Rattle.cse_steps.specs.Laws.{EventsEnd}
 use Rattle.cse_steps.proofs.Events.{still_there}
-use Rattle.cse_event_runs.specs.Results.{AllFitFirst, AllRunTo, RunsTo}
+use Rattle.cse_steps.specs.Results.{AllFitFirst, AllRunTo, RunsTo}
 use Rattle.cse_batch_parts.specs.Events.{after_moment, after_moments, end_of, told_more}
 use Rattle.cse_batch_parts.specs.Batch.{reports_of}
 use Rattle.cse_batch_parts.specs.declared.handled.HandledRecord.{HandledRecord}

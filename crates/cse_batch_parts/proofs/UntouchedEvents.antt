@@ -5,7 +5,7 @@ use Rattle.cse_case.specs.Seen.{is_case}
 use Rattle.cse_case.specs.Sight.{IsSeenAt, IsUnseenAt}
 use Rattle.cse_case.proofs.SightLaws.{seen-or-unseen}
 use Rattle.cse_image_parts.specs.Image.{Image}
-use Rattle.cse_code_bounds.specs.CaseEvents.{Moment, case_events}
+use Rattle.cse_verify.specs.CaseEvents.{Moment, case_events}
 use Rattle.cse_decks.specs.Store.{Kept, StoreFits}
 use Rattle.cse_verify.specs.Verified.{VerifiedProgram}
 use Rattle.cse_steps.specs.State.{World, world_of}

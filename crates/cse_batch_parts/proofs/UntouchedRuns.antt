@@ -21,7 +21,7 @@ use Rattle.cse_lines.specs.Written.{mark_bytes, written_line}
 use Rattle.cse_case.specs.Case.{CaseText, case_of}
 use Rattle.cse_case.specs.Fit.{IsFit}
 use Rattle.cse_case.proofs.FitLaws.{fits_read}
-use Rattle.cse_code_bounds.specs.CaseEvents.{event_bound, moment}
+use Rattle.cse_verify.specs.CaseEvents.{event_bound, moment}
 use Rattle.cse_decks.specs.Store.{Kept, StoreFits}
 use Rattle.cse_verify.specs.Verified.{VerifiedProgram}
 use Rattle.cse_steps.specs.State.{State}

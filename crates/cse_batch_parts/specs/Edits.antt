@@ -3,7 +3,7 @@ use Rattle.std.specs.Prelude.{◌≡◌, ℕ, Bool, List, Some}
 use Rattle.cse_value.specs.declared.device.Output.{Ghosts as Takes}
 use Rattle.cse_image_parts.specs.declared.entries.EventCode.{EventCode}
 use Rattle.cse_case.specs.Case.{CaseText}
-use Rattle.cse_code_bounds.specs.CaseEvents.{moment}
+use Rattle.cse_verify.specs.CaseEvents.{moment}
 use Rattle.cse_decks.specs.Store.{Kept}
 use Rattle.cse_value.specs.Gathering.{Going, Gathering, behind}
 use Rattle.cse_value.specs.declared.gatherer.Gatherer.{Gatherer}

@@ -3,7 +3,7 @@ use Rattle.std.specs.Prelude.{◌≡◌, ℕ, zero, suc, ◌+◌, List, [], ◌�
 use Rattle.std.specs.Option.{option_map_or}
 use Rattle.cse_case.specs.Case.{CaseText, places_of, records_of, types_of}
 use Rattle.cse_case.specs.Seen.{is_case}
-use Rattle.cse_code_bounds.specs.CaseEvents.{Moment, case_events, event_bound}
+use Rattle.cse_verify.specs.CaseEvents.{Moment, case_events, event_bound}
 use Rattle.cse_verify.specs.Verified.{VerifiedProgram}
 use Rattle.cse_decks.specs.Store.{Kept}
 use Rattle.cse_steps.specs.State.{Told, World, State, nothing_told}

@@ -6,10 +6,10 @@ use Rattle.cse_dict.specs.Dictionary.{shape_of}
 use Rattle.cse_image_parts.specs.declared.entries.Event.{Event}
 use Rattle.cse_image_parts.specs.declared.entries.EventCode.TheVariants.{LevelPreproc, LevelPostproc, RecordPreproc, RecordPostproc, ItemPreproc, ItemPostproc}
 use Rattle.cse_image_parts.specs.Image.{Image}
-use Rattle.cse_code_bounds.specs.CaseEvents.{event}
+use Rattle.cse_verify.specs.CaseEvents.{event}
 use Rattle.cse_verify.specs.Verified.{VerifiedProgram}
-use Rattle.cse_event_runs.specs.declared.handled.Handled.{Handled}
-use Rattle.cse_event_runs.specs.Handled.{handled_by}
+use Rattle.cse_steps.specs.declared.handled.Handled.{Handled}
+use Rattle.cse_steps.specs.Handled.{handled_by}
 use Rattle.cse_batch_parts.specs.declared.handled.HandledRecord.{HandledRecord}
 use Rattle.cse_batch_parts.specs.declared.handled.HandledEvents.{HandledEvents}
 

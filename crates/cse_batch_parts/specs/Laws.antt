@@ -5,8 +5,8 @@ use Rattle.cse_lines.specs.Runs.{given_runs}
 use Rattle.cse_case.specs.Case.{CaseText}
 use Rattle.cse_case.specs.Fit.{IsFit}
 use Rattle.cse_image_parts.specs.declared.entries.EventCode.TheVariants.{ApplicationPreproc, ApplicationPostproc}
-use Rattle.cse_code_bounds.specs.CaseEvents.{Moment, moment}
-use Rattle.cse_code_bounds.specs.EventBound.{case_bound, run_bound}
+use Rattle.cse_verify.specs.CaseEvents.{Moment, moment}
+use Rattle.cse_verify.specs.EventBound.{case_bound, run_bound}
 use Rattle.cse_decks.specs.Store.{Kept, StoreFits}
 use Rattle.cse_report.specs.Unended.{Begins, unended}
 use Rattle.cse_verify.specs.Verified.{VerifiedProgram}

@@ -1,7 +1,7 @@
 -- What the events of a case leave: those of a record, of its occurrences and items, and all of them.
 use Rattle.std.specs.Prelude.{◌≡◌, ℕ, List, Some}
 use Rattle.cse_case.specs.Case.{CaseText}
-use Rattle.cse_code_bounds.specs.CaseEvents.{Moment, case_events, item_events, occurrence_events, record_events, records_events}
+use Rattle.cse_verify.specs.CaseEvents.{Moment, case_events, item_events, occurrence_events, record_events, records_events}
 use Rattle.cse_decks.specs.Store.{Kept}
 use Rattle.cse_report.specs.declared.reports.Reports.{Reports}
 use Rattle.cse_steps.specs.Fits.{occurrences_in}

@@ -1,7 +1,7 @@
 -- What events change: the case, what is kept, and the reports as they are held.
 use Rattle.std.specs.Prelude.{List, [], ◌∷◌, Option, Some}
 use Rattle.cse_case.specs.Case.{CaseText}
-use Rattle.cse_code_bounds.specs.CaseEvents.{Moment}
+use Rattle.cse_verify.specs.CaseEvents.{Moment}
 use Rattle.cse_decks.specs.Store.{Kept}
 use Rattle.cse_report.specs.Held.{Held}
 use Rattle.cse_report.specs.AllReported.{all_reported}

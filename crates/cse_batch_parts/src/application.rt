@@ -8,10 +8,10 @@ ghost use Rattle.cse_steps.specs.Fits.{is_of_run};
 ghost use Rattle.cse_batch_parts.specs.Edits.{Applies, KeepsOn};
 
 use cse_decks::Store;
-use cse_event_runs::runs::Runs;
 use cse_image::{Code, Event, EventCode};
 use cse_report::Reports;
 use cse_steps::event_ends;
+use cse_steps::runs::Runs;
 use cse_value::{Gatherer, OutOfMemory, Output};
 use cse_verify::Verified;
 

@@ -13,9 +13,9 @@ use crate::events::run_case_events;
 use crate::handled::HandledEvents;
 use cse_case::Case;
 use cse_decks::Store;
-use cse_event_runs::runs::Runs;
 use cse_image::Code;
 use cse_report::Reports;
+use cse_steps::runs::Runs;
 use cse_value::OutOfMemory;
 use cse_verify::Verified;
 

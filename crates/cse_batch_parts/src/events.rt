@@ -1,11 +1,11 @@
 //! The events of a case, in order.
 
 ghost use Rattle.std.specs.Prelude.{◌≡◌, ◌≤◌, Some, OnOk};
-ghost use Rattle.cse_code_bounds.specs.CaseEvents.{event, moment};
+ghost use Rattle.cse_verify.specs.CaseEvents.{event, moment};
 ghost use Rattle.cse_report.specs.Reports.{ReportsFit};
 ghost use Rattle.cse_steps.specs.Fits.{IsThere, occurrences_in};
 ghost use Rattle.cse_code_typing.specs.Handlers.{routine_of};
-ghost use Rattle.cse_event_runs.specs.Handled.{handled_by};
+ghost use Rattle.cse_steps.specs.Handled.{handled_by};
 ghost use Rattle.cse_batch_parts.specs.Handled.{AreHandled, IsHandledRecord};
 ghost use Rattle.cse_batch_parts.specs.Moments.{AllLeave, Leaves, of_case, of_items, of_occurrences, of_record, of_records};
 ghost use Rattle.cse_batch_parts.specs.Scene.{GoesOn};
@@ -13,11 +13,11 @@ ghost use Rattle.cse_batch_parts.specs.Scene.{GoesOn};
 use crate::handled::{HandledEvents, HandledRecord};
 use cse_case::Case;
 use cse_decks::Store;
-use cse_event_runs::handled::Handled;
-use cse_event_runs::runs::Runs;
 use cse_image::{Code, Event, EventCode};
 use cse_report::Reports;
 use cse_steps::event_ends;
+use cse_steps::handled::Handled;
+use cse_steps::runs::Runs;
 use cse_value::OutOfMemory;
 use cse_verify::Verified;
 

@@ -2,15 +2,15 @@
 
 ghost use Rattle.std.specs.Prelude.{◌≡◌, ◌++◌, ◌<◌, [], ◌∷◌, IfOk, OnOk, filter, length, map};
 ghost use Rattle.std.specs.List.{AllByRecursion, filter_map};
-ghost use Rattle.cse_code_bounds.specs.CaseEvents.{event};
+ghost use Rattle.cse_verify.specs.CaseEvents.{event};
 ghost use Rattle.cse_dict.specs.Dictionary.{shape_of};
-ghost use Rattle.cse_event_runs.specs.Handled.{handled_by};
+ghost use Rattle.cse_steps.specs.Handled.{handled_by};
 ghost use Rattle.cse_batch_parts.specs.Handled.{AreHandled, IsHandledRecord, handled_items, is_handled, number_of};
 ghost use Rattle.cse_verify.specs.Verified.{VerifiedProgram};
 
 use crate::parts::{items_of, order_of};
-use cse_event_runs::handled::Handled;
 use cse_image::{Code, Event, EventCode};
+use cse_steps::handled::Handled;
 use cse_verify::Verified;
 use std::alloc::{AllocError, Global};
 

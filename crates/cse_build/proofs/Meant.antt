@@ -14,12 +14,12 @@ use Rattle.cse_syntax_tree.specs.Grammar.{spell_tree}
 use Rattle.cse_logic_tree.specs.Erase.{erase_tree}
 use Rattle.cse_types.specs.Checked.{Checked, IsChecked}
 use Rattle.cse_code_typing.specs.Typed.{IsTyped}
-use Rattle.cse_code_bounds.specs.Bounded.{IsBounded}
+use Rattle.cse_verify.specs.Bounded.{IsBounded}
 use Rattle.cse_verify.specs.Verified.{VerifiedProgram}
 use Rattle.cse_compile.specs.Program.{IsProgramOf}
 use Rattle.cse_steps.specs.Fits.{IsVerified}
 use Rattle.cse_meaning.specs.Means.{Means}
-use Rattle.cse_law_programs_mean.specs.Meant.{MeansAlone, ProgramsMean}
+use Rattle.cse_meaning.specs.Meant.{MeansAlone, ProgramsMean}
 use Rattle.cse_build.specs.declared.error.BuildFault.{BuildFault}
 use Rattle.cse_build.specs.Build.{IsBuilt}
 use Rattle.cse_build.specs.Meant.{MeansLogic}

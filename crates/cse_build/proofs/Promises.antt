@@ -12,12 +12,12 @@ use Rattle.cse_types.specs.Checked.{Checked, IsChecked}
 use Rattle.cse_compile.specs.declared.error.CompileError.{CompileError}
 use Rattle.cse_compile.specs.Compiled.{HasNoRoom, IsSound, MayTakeLong}
 use Rattle.cse_compile.specs.Fault.{IsReason}
-use Rattle.cse_law_sources_are_sound.specs.Costs.{KeepsCosts}
-use Rattle.cse_law_sources_are_sound.proofs.SoundLaws.{grammar_suffices}
-use Rattle.cse_law_sources_are_sound.proofs.CaseCosts.{long_only_at_cost}
-use Rattle.cse_law_sources_have_room.specs.Given.{ShapeFits}
-use Rattle.cse_law_sources_have_room.specs.Within.{IsWithin}
-use Rattle.cse_law_sources_have_room.proofs.Whole.{large_alone}
+use Rattle.cse_meaning.specs.Costs.{KeepsCosts}
+use Rattle.cse_meaning.proofs.SoundLaws.{grammar_suffices}
+use Rattle.cse_meaning.proofs.CaseCosts.{long_only_at_cost}
+use Rattle.cse_meaning.specs.Given.{ShapeFits}
+use Rattle.cse_meaning.specs.Within.{IsWithin}
+use Rattle.cse_meaning.proofs.RoomWhole.{large_alone}
 
 -- a truth that follows from what is there
 decided : {S : Type 0} (b : Bool) → ∥ S ∥₁ → (S → IsTrue b) → IsTrue b

@@ -13,10 +13,10 @@ use Rattle.cse_logic_names.specs.MessageFile.{MessageText, ReadsMessages, file_l
 use Rattle.cse_logic_names.specs.OrderFile.{IsOrder, FirstFaulty}
 use Rattle.cse_logic_names.specs.WellTyped.{IsTypedAs}
 use Rattle.cse_code_typing.specs.Typed.{IsTyped}
-use Rattle.cse_code_bounds.specs.Bounded.{IsBounded}
+use Rattle.cse_verify.specs.Bounded.{IsBounded}
 use Rattle.cse_compile.specs.Program.{IsProgramOf}
-use Rattle.cse_law_sources_are_sound.specs.Costs.{KeepsCosts}
-use Rattle.cse_law_sources_have_room.specs.Within.{IsWithin}
+use Rattle.cse_meaning.specs.Costs.{KeepsCosts}
+use Rattle.cse_meaning.specs.Within.{IsWithin}
 use Rattle.cse_build.specs.declared.error.BuildFault.{BuildFault}
 use Rattle.cse_build.specs.Fault.{at_no_place, no_text, of_type, out_of_memory}
 

@@ -22,7 +22,7 @@ use crate::compiling::compile;
 use crate::error::{BuildFault, NO_TEXT, WANT_OF_MEMORY};
 use cse_dict::Dictionary;
 use cse_image::{Program, none_begins_another, write_image};
-use cse_law_programs_mean::programs_mean;
+use cse_meaning::programs_mean;
 use cse_syntax::{Source, parse};
 use cse_types::{Messages, Order, Typed, check};
 use std::alloc::Global;

@@ -3,19 +3,19 @@
 ghost use Rattle.std.specs.Prelude.{◌≡◌, IfOk, IfErr};
 ghost use Rattle.cse_dict.specs.Dictionary.{shape_of};
 ghost use Rattle.cse_code_typing.specs.Typed.{IsTyped};
-ghost use Rattle.cse_code_bounds.specs.Bounded.{IsBounded};
+ghost use Rattle.cse_verify.specs.Bounded.{IsBounded};
 ghost use Rattle.cse_types.specs.Answer.{checked};
 ghost use Rattle.cse_compile.specs.Compiled.{HasNoRoom};
 ghost use Rattle.cse_compile.specs.Fault.{IsReason};
 ghost use Rattle.cse_compile.specs.Program.{IsProgramOf};
-ghost use Rattle.cse_law_sources_are_sound.specs.Costs.{KeepsCosts};
-ghost use Rattle.cse_law_sources_have_room.specs.Within.{IsWithin};
+ghost use Rattle.cse_meaning.specs.Costs.{KeepsCosts};
+ghost use Rattle.cse_meaning.specs.Within.{IsWithin};
 ghost use Rattle.cse_meaning.specs.Means.{Means};
 
 use crate::reading::read_shape;
 use cse_compile::{CompileError, program_of};
 use cse_image::Program;
-use cse_law_programs_mean::{means_alone, programs_mean};
+use cse_meaning::{means_alone, programs_mean};
 use cse_types::Typed;
 use std::alloc::Global;
 

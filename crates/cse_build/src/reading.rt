@@ -3,7 +3,7 @@
 ghost use Rattle.std.specs.List.{AllByRecursion};
 ghost use Rattle.cse_value.specs.Shape.{shape_lists};
 ghost use Rattle.cse_image.specs.Spelling.{ItemFits, RecordFits, SetFits};
-ghost use Rattle.cse_law_sources_have_room.specs.Given.{ShapeFits};
+ghost use Rattle.cse_meaning.specs.Given.{ShapeFits};
 
 use cse_value::shape::{ItemShape, RecordShape, SetShape, Shape};
 

@@ -2,8 +2,9 @@
 
 use crate::known::Known;
 use crate::said::{cell, said_of};
+use crate::spot::Spot;
 use crate::table::{NUMBERS, SIGNS, WORDS};
-use cse_pieces::{Role, Sort, Spot, tokens_in};
+use crate::token::{Role, Sort, tokens_in};
 use itoa::Buffer;
 
 /// How many tokens before a fault are looked at.

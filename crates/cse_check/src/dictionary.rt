@@ -1,9 +1,11 @@
 //! The faults of a dictionary: the first one, and those behind it as long as an item or a value set is at fault, which is left
 //! out then.
 
+use crate::found::Finding;
+use crate::gathered::Gathered;
+use crate::line::mark_len;
 use cse_dict::{DictError, Dictionary};
 use cse_fault_numbers::{TOO_MANY, WANT_OF_MEMORY};
-use cse_pieces::{Finding, Gathered, mark_len};
 use cse_sections::sections::{Section, sections_of};
 use cse_sections::text::is_same;
 use std::alloc::{AllocError, Global};

@@ -1,8 +1,12 @@
 //! The names that logic may use.
 
+use crate::cut::{Kind, Piece};
+use crate::gathered::Gathered;
+use crate::items::item_of;
 use crate::near::nearest;
+use crate::sets::is_among;
+use crate::token::{Role, Token, tokens_in};
 use cse_dict::Dictionary;
-use cse_pieces::{Gathered, Kind, Piece, Role, Token, is_among, item_of, tokens_in};
 use std::alloc::{AllocError, Global};
 
 /// How many names are looked for that are nearly alike.

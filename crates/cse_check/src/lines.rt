@@ -1,8 +1,11 @@
 //! Faults of the files beside logic: the messages and the edit order. Each is told by its line.
 
+use crate::found::Finding;
+use crate::gathered::Gathered;
+use crate::line::lines_of;
+use crate::token::part;
 use cse_dict::Dictionary;
 use cse_fault_numbers::{UNKNOWN_NAME, WANT_OF_MEMORY};
-use cse_pieces::{Finding, Gathered, lines_of, part};
 use cse_types::Messages;
 use std::alloc::{AllocError, Global};
 

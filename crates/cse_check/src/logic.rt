@@ -1,8 +1,14 @@
 //! All faults of a text of logic.
 
+use crate::cursor::byte_of;
+use crate::cut::Piece;
+use crate::found::{Finding, in_order};
+use crate::gathered::Gathered;
+use crate::mend::Mending;
+use crate::sets::is_among;
+use crate::token::Token;
 use cse_dict::Dictionary;
 use cse_fault_numbers::{OTHER_KIND, OTHER_PLACEHOLDERS, UNKNOWN_NAME, WANT_OF_MEMORY};
-use cse_pieces::{Finding, Gathered, Mending, Piece, Token, byte_of, in_order, is_among};
 use cse_syntax::{Kind, Mark, Source, SyntaxError, Token as Read, parse};
 use cse_types::{Messages, faults};
 use std::alloc::{AllocError, Global};

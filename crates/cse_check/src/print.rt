@@ -1,8 +1,10 @@
 //! Faults as they are printed, each with its line, and as objects of JSON.
 
 use crate::advice::Advice;
+use crate::cursor::{Cursor, characters};
+use crate::gathered::Gathered;
 use crate::shown::{before, behind, quoted};
-use cse_pieces::{Cursor, Gathered, characters, part};
+use crate::token::part;
 use itoa::Buffer;
 use std::alloc::{AllocError, Global};
 

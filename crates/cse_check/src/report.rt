@@ -1,17 +1,23 @@
 //! From the texts of the files to what is printed of them.
 
 use crate::advice::{Advice, advice_of, by_key, by_number};
+use crate::cursor::Cursor;
+use crate::cut::{Piece, pieces_of};
 use crate::dictionary::dictionary_faults;
+use crate::found::Finding;
+use crate::gathered::Gathered;
 use crate::known::Known;
+use crate::line::{as_utf8, mark_len};
 use crate::lines::{message_faults, order_faults};
 use crate::logic::{Beside, logic_faults};
 use crate::print::{Place, Printed};
+use crate::scan::tokens_of;
 use crate::shown::line_end;
+use crate::spot::Spot;
+use crate::token::{Role, Sort as TokenSort, Token, tokens_in};
+use crate::unused::unused_messages;
+use crate::warnings::warnings_of;
 use cse_dict::Dictionary;
-use cse_pieces::{
-    Cursor, Finding, Gathered, Piece, Role, Sort as TokenSort, Spot, Token, as_utf8, mark_len,
-    pieces_of, tokens_in, tokens_of, unused_messages, warnings_of,
-};
 use cse_types::Messages;
 use std::alloc::{AllocError, Global};
 

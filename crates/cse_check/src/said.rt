@@ -1,7 +1,7 @@
 //! What the tables say.
 
 use crate::sections::SECTIONS;
-use cse_pieces::part;
+use crate::token::part;
 
 /// What a table says behind a word, in any letter case; nothing where it has no such row.
 pub fn said_of(table: &'static [u8], word: &[u8]) -> &'static [u8] {

@@ -1,6 +1,7 @@
 //! What is shown of the line of a place, and of its token.
 
-use cse_pieces::{Cursor, is_start, part};
+use crate::cursor::{Cursor, is_start};
+use crate::token::part;
 
 /// How many bytes of a line are shown before a fault, and how many from it on.
 const MOST: usize = 120;

@@ -7,7 +7,7 @@ use Rattle.std.proofs.lemmas.List.{append-nil}
 use Rattle.cse_value.specs.Writing.{AppendsFront}
 use Rattle.cse_value.proofs.WriteLaws.{AppendsFront-more, AppendsFront-after}
 use Rattle.cse_image_parts.specs.Image.{Image}
-use Rattle.cse_code_bounds.specs.Bound.{bound}
+use Rattle.cse_verify.specs.Bound.{bound}
 use Rattle.cse_verify.specs.declared.depth.Depth.{Depth}
 use Rattle.cse_command_parts.specs.Verdict.{routine_line, routine_lines, last_lines}
 

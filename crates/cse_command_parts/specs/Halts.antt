@@ -7,7 +7,7 @@ use Rattle.cse_image_parts.specs.Image.{Image}
 use Rattle.cse_dict.specs.declared.fault.DictError.{DictError}
 use Rattle.cse_dict.specs.Dictionary.{DictionaryText, shape_of}
 use Rattle.cse_dict.specs.Reading.{IsAnswer}
-use Rattle.cse_code_bounds.specs.EventBound.{case_bound}
+use Rattle.cse_verify.specs.EventBound.{case_bound}
 use Rattle.cse_verify.specs.Verified.{VerifiedProgram}
 use Rattle.cse_decks.specs.Store.{Kept}
 use Rattle.cse_verify.specs.declared.image.CheckFault.{CheckFault}

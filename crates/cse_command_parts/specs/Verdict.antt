@@ -2,8 +2,8 @@
 -- events, how much a run keeps at once, and that the image is accepted.
 use Rattle.std.specs.Prelude.{ℕ, zero, suc, List, [], ◌++◌, length, codes, decimal}
 use Rattle.cse_image_parts.specs.Image.{Image}
-use Rattle.cse_code_bounds.specs.Bound.{bound}
-use Rattle.cse_code_bounds.specs.EventBound.{case_bound, run_bound}
+use Rattle.cse_verify.specs.Bound.{bound}
+use Rattle.cse_verify.specs.EventBound.{case_bound, run_bound}
 use Rattle.cse_verify.specs.declared.depth.Depth.{Depth}
 
 abbrev pub routine_line : ℕ → ℕ → List ℕ

@@ -1,7 +1,7 @@
 //! `run`: an image over a data file, from the files of its words to those of its outputs.
 
 ghost use Rattle.std.specs.Prelude.{◌≡◌, [], None, Ok, IfOk, IfErr, IfSome, IfNone, option_map};
-ghost use Rattle.cse_code_bounds.specs.EventBound.{case_bound};
+ghost use Rattle.cse_verify.specs.EventBound.{case_bound};
 ghost use Rattle.cse_decks.specs.Store.{Kept, StoreFits, first_kept};
 ghost use Rattle.cse_decks.specs.DeckText.{IsDeckText};
 ghost use Rattle.cse_batch_parts.specs.RunClauses.{RunsWhole, contents, failures};

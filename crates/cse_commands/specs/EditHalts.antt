@@ -19,7 +19,7 @@ use Rattle.cse_command_parts.specs.Ending.{fault_at, plain_fault}
 use Rattle.cse_command_parts.specs.Halts.{AtDictionary, AtImage, StopsWithin}
 use Rattle.cse_command_parts.specs.Roles.{edit_uses}
 use Rattle.cse_command_parts.specs.Stops.{IsNotOpened}
-use Rattle.cse_command_compile.specs.CompileHalts.{TellsBuildFault}
+use Rattle.cse_command_images.specs.CompileHalts.{TellsBuildFault}
 use Rattle.cse_command_parts.specs.Unread.{AtText, AtTexts}
 
 -- ---- from the program to the outputs

@@ -13,10 +13,10 @@ ghost use Rattle.cse_command_parts.specs.Allowed.{KeepsToSteps};
 ghost use Rattle.cse_command_parts.specs.Stops.{HasNumber, IsNotOpened};
 ghost use Rattle.cse_command_parts.specs.Halts.{StopsFrom, StopsWithin};
 ghost use Rattle.cse_commands.specs.EditHalts.{StopsBuilt, StopsEdit, StopsStart};
-ghost use Rattle.cse_code_bounds.specs.EventBound.{case_bound};
+ghost use Rattle.cse_verify.specs.EventBound.{case_bound};
 
 use crate::edited::EditedFiles;
-use cse_command_compile::compile_image::image_of;
+use cse_command_images::compile_image::image_of;
 use cse_command_line::plan::{EditPaths, RunPaths};
 use cse_command_parts::apart::{see_apart, uses_of_edit};
 use cse_command_parts::fault::Fault;

@@ -10,13 +10,13 @@ use Rattle.cse_dict.specs.Dictionary.{DictionaryText, shape_of}
 use Rattle.cse_code_typing.specs.declared.refusal.Refusal.{Refusal}
 use Rattle.cse_code_typing.specs.Typed.{IsTyped, IsOutOfMemory, BreaksRules, MayNotStand, HasNoStack, IsOfOtherShape}
 use Rattle.cse_code_typing.proofs.TypedLaws.{never_typed}
-use Rattle.cse_code_bounds.specs.Bounded.{IsBounded}
+use Rattle.cse_verify.specs.Bounded.{IsBounded}
 use Rattle.cse_verify.specs.FirstFault.{IsUntypedRoutine, IsTooLongRoutine, AreUnfitEvents, IsTooLongCase, IsFirstFault}
 use Rattle.cse_verify.proofs.VerifiedLaws.{untyped_never}
 use Rattle.cse_logic_tree.specs.Typed.{Tree}
 use Rattle.cse_compile.specs.declared.error.CompileError.{CompileError}
 use Rattle.cse_compile.specs.Fault.{IsLimit, IsReason}
-use Rattle.cse_compile_pools.specs.Pools.{PoolsFit}
+use Rattle.cse_compile_code.specs.Pools.{PoolsFit}
 use Rattle.cse_compile.specs.Program.{IsProgramOf, pools_of}
 use Rattle.cse_compile.specs.Compiled.{HasNoRoom, IsSound, MayTakeLong, IsRefused}
 use Rattle.cse_compile.proofs.Spelled.{same_fit}

@@ -24,8 +24,8 @@ use Rattle.cse_image.proofs.Totals.{total_small, room_left}
 use Rattle.cse_dict.specs.Dictionary.{DictionaryText, shape_of}
 use Rattle.cse_code_typing.specs.Shapes as shapes
 use Rattle.cse_logic_tree.specs.Typed.{Tree}
-use Rattle.cse_compile_pools.specs.Pools.{PoolLists, PoolsFit, no_pools}
-use Rattle.cse_compile_sections.specs.Outline.{Outline, Handler, functions_in}
+use Rattle.cse_compile_code.specs.Pools.{PoolLists, PoolsFit, no_pools}
+use Rattle.cse_compile_code.specs.Outline.{Outline, Handler, functions_in}
 use Rattle.cse_compile_code.specs.Wide.{Wide, Constant, Chars, Turns, Plain}
 use Rattle.cse_compile.specs.Program.{IsProgramOf, all_code, declarations, entry_of, handlers, outlines, pools_of, sizes}
 use Rattle.cse_compile.specs.Room.{AreSmall, HasCodeOf, Hold, IsHeld, IsSmall, CannotHold, NoCodeFits}

@@ -5,7 +5,7 @@ use Rattle.cse_image_parts.specs.Image.{Image}
 use Rattle.cse_image.specs.Spelling.{Fits}
 use Rattle.cse_dict.specs.Dictionary.{DictionaryText, shape_of}
 use Rattle.cse_code_typing.specs.Typed.{IsTyped}
-use Rattle.cse_code_bounds.specs.Bounded.{IsBounded}
+use Rattle.cse_verify.specs.Bounded.{IsBounded}
 use Rattle.cse_logic_tree.specs.Typed.{Tree}
 use Rattle.cse_compile.specs.declared.error.CompileError.{CompileError}
 use Rattle.cse_compile.specs.Fault.{IsReason}

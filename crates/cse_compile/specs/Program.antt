@@ -8,11 +8,11 @@ use Rattle.cse_image_parts.specs.Image.{Image, Lists, ArrayLists, RoutineLists}
 use Rattle.cse_dict.specs.Dictionary.{DictionaryText, shape_of}
 use Rattle.cse_code_typing.specs.Shapes as shapes
 use Rattle.cse_logic_tree.specs.Typed.{Declaration, Tree}
-use Rattle.cse_compile_pools.specs.Pools.{PoolLists}
-use Rattle.cse_compile_sections.specs.Tables.{globals_in, arrays_in, message_of}
-use Rattle.cse_compile_sections.specs.Order.{edit_order}
-use Rattle.cse_compile_sections.specs.Outline.{Outline, Handler, functions_in, handlers_in, routine_of, result_at}
-use Rattle.cse_compile_sections.specs.Events.{entries_in, table_from}
+use Rattle.cse_compile_code.specs.Pools.{PoolLists}
+use Rattle.cse_compile_code.specs.Tables.{globals_in, arrays_in, message_of}
+use Rattle.cse_compile_code.specs.Order.{edit_order}
+use Rattle.cse_compile_code.specs.Outline.{Outline, Handler, functions_in, handlers_in, routine_of, result_at}
+use Rattle.cse_compile_code.specs.Events.{entries_in, table_from}
 use Rattle.cse_compile_code.specs.Wide.{Wide}
 use Rattle.cse_compile_code.specs.Setting.{Setting}
 use Rattle.cse_compile_code.specs.Routines.{routine_size, routine_code}

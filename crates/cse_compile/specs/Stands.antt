@@ -3,7 +3,7 @@ use Rattle.std.specs.Prelude.{◌≡◌, ℕ, List, [], ◌∷◌, ◌++◌, Som
 use Rattle.cse_image_parts.specs.declared.instruction.Op.{Op}
 use Rattle.cse_image_parts.specs.declared.instruction.Op.TheVariants as ops
 use Rattle.cse_image_parts.specs.declared.instruction.Instr.{Instr}
-use Rattle.cse_compile_pools.specs.Pools.{PoolLists}
+use Rattle.cse_compile_code.specs.Pools.{PoolLists}
 use Rattle.cse_compile_code.specs.Wide.{Wide, Constant, Chars, Turns, Plain}
 
 abbrev pub instr : Op → ℕ → ℕ → ℕ → Instr

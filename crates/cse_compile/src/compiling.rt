@@ -5,7 +5,7 @@ ghost use Rattle.cse_dict.specs.Dictionary.{shape_of};
 ghost use Rattle.cse_image_parts.specs.Image.{image_of};
 ghost use Rattle.cse_image.specs.Spelling.{Fits};
 ghost use Rattle.cse_code_typing.specs.Typed.{IsTyped};
-ghost use Rattle.cse_code_bounds.specs.Bounded.{IsBounded};
+ghost use Rattle.cse_verify.specs.Bounded.{IsBounded};
 ghost use Rattle.cse_logic_tree.specs.Typed.{tree as tree_view};
 ghost use Rattle.cse_compile.specs.Fault.{IsReason};
 ghost use Rattle.cse_compile.specs.Program.{IsProgramOf};

@@ -6,13 +6,12 @@ ghost use Rattle.cse_syntax_tree.specs.Leaf.{text_of};
 ghost use Rattle.cse_compile_code.specs.Wide as w;
 ghost use Rattle.cse_compile.specs.Stands.{Stands, AllStand, IsMore};
 ghost use Rattle.std.specs.Str.{IsUtf8};
-ghost use Rattle.cse_compile_pools.specs.declared.pools.PoolError.TheVariants.{Full};
+ghost use Rattle.cse_compile_code.specs.declared.pools.PoolError.TheVariants.{Full};
 ghost use Rattle.cse_compile.specs.Fault.{IsLimit};
 ghost use Rattle.cse_compile.specs.Room.{CannotHold, LacksRoom, with_entry};
 
 use crate::error::{BEYOND, CompileError, WANT_OF_MEMORY};
-use cse_compile_code::Wide;
-use cse_compile_pools::{PoolError, Pools};
+use cse_compile_code::{PoolError, Pools, Wide};
 use cse_image::text_fits;
 use cse_image_parts::instruction::{Instr, Op};
 use std::alloc::Global;

@@ -4,3 +4,8 @@ pub mod Numbers
 pub mod Statements
 pub mod Routines
 pub mod Clauses
+pub mod Tables
+pub mod Order
+pub mod Outline
+pub mod Events
+pub mod Pools

@@ -1,4 +1,4 @@
-//! From typed trees of logic to code.
+//! From typed trees of logic to code, and to the tables that it stands on.
 //!
 //! - `wide`: instructions with their constants, texts and loop limits by value.
 //! - `setting`: what code depends on besides its tree.
@@ -10,22 +10,41 @@
 //! - `heads`: the heads of loops.
 //! - `statements`: the code of statements.
 //! - `routines`: the code of routines, and how many instructions they have.
+//! - `globals`, `arrays`, `messages`: what the declarations and the `errmsg` statements say.
+//! - `order`: the records in edit order.
+//! - `outlines`: the routines, each with its statements, and the events that run them.
+//! - `events`: the events in ascending order.
+//! - `pools`: the constants, the loop limits and the texts of a program, each once.
 #![tactic(auto)]
 
+mod arrays;
 mod block_sizes;
 mod decks;
 mod emitter;
+mod events;
+mod globals;
 mod heads;
 mod items;
+mod messages;
 mod numbers;
+mod order;
+mod outlines;
 mod places;
+mod pools;
 mod routines;
 mod setting;
 mod sizes;
 mod statements;
 mod wide;
 
+pub use arrays::arrays_of;
 pub use emitter::Emitter;
+pub use events::{EventTable, event_table};
+pub use globals::globals_of;
+pub use messages::messages_of;
+pub use order::edit_order;
+pub use outlines::{Handler, Outline, RoutineSort, function_outlines, handlers_of};
+pub use pools::{PoolError, Pools};
 pub use routines::routine_size;
 pub use setting::{Loop, Setting};
 pub use wide::Wide;

@@ -2,3 +2,10 @@ pub mod Events
 pub mod Runs
 pub mod Whole
 pub mod Edits
+pub mod Marking
+pub mod Places
+pub mod Puts
+pub mod Keeps
+pub mod Names
+pub mod Left
+pub mod StayRuns

@@ -16,7 +16,7 @@ use Rattle.cse_case.specs.Case.{CaseText, case_of, places_of, records_of, types_
 use Rattle.cse_case.specs.Seen.{is_case}
 use Rattle.cse_case.specs.Fit.{IsFit}
 use Rattle.cse_case.proofs.FitLaws.{fits_read}
-use Rattle.cse_code_bounds.specs.CaseEvents.{Moment, moment, case_events, records_events}
+use Rattle.cse_verify.specs.CaseEvents.{Moment, moment, case_events, records_events}
 use Rattle.cse_decks.specs.Store.{Kept, StoreFits, first_kept, first_global, first_cells}
 use Rattle.cse_decks.specs.declared.error.DeckError.{DeckError}
 use Rattle.cse_decks.specs.Loading.{loaded, read_text, unread, with_arrays}
@@ -29,12 +29,12 @@ use Rattle.cse_steps.specs.State.{World}
 use Rattle.cse_steps.specs.Fits.{FitsFirst, FitsWorld, IsThere, is_of_run, occurrences_in}
 use Rattle.cse_steps.specs.Laws.{EventsEnd}
 use Rattle.cse_logic_tree.specs.Typed.{Tree}
-use Rattle.cse_compile_sections.specs.Tables.{globals_in, arrays_in, message_of}
-use Rattle.cse_compile_sections.specs.Order.{edit_order}
+use Rattle.cse_compile_code.specs.Tables.{globals_in, arrays_in, message_of}
+use Rattle.cse_compile_code.specs.Order.{edit_order}
 use Rattle.cse_compile.specs.Program.{IsProgramOf}
 use Rattle.cse_meaning.specs.Meaning.{declarations, meaning}
 use Rattle.cse_meaning.specs.Means.{IsEventOf, Means, begins}
-use Rattle.cse_law_programs_mean.specs.Meant.{ProgramsMean}
+use Rattle.cse_meaning.specs.Meant.{ProgramsMean}
 use Rattle.cse_image.specs.Spelling.{StandFor}
 use Rattle.cse_build.specs.Build.{IsBuilt}
 use Rattle.cse_build.proofs.Meant.{NoneBegins, built_means, one_program}

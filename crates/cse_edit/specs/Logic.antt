@@ -14,7 +14,7 @@ use Rattle.cse_lines.specs.Line.{FileLine}
 use Rattle.cse_lines.specs.Runs.{given_runs}
 use Rattle.cse_case.specs.Case.{CaseText, case_of, places_of, records_of, types_of}
 use Rattle.cse_case.specs.Seen.{is_case}
-use Rattle.cse_code_bounds.specs.CaseEvents.{Moment, moment, records_events}
+use Rattle.cse_verify.specs.CaseEvents.{Moment, moment, records_events}
 use Rattle.cse_decks.specs.Store.{Kept, first_global, first_cells}
 use Rattle.cse_decks.specs.Deck.{heading, ending, blocks}
 use Rattle.cse_report.specs.Listing.{listing}
@@ -22,8 +22,8 @@ use Rattle.cse_report.specs.Unended.{unended}
 use Rattle.cse_report.specs.Frequency.{all_imputed, frequencies_text}
 use Rattle.cse_steps.specs.State.{World}
 use Rattle.cse_logic_tree.specs.Typed.{Tree}
-use Rattle.cse_compile_sections.specs.Tables.{globals_in, arrays_in, message_of}
-use Rattle.cse_compile_sections.specs.Order.{edit_order}
+use Rattle.cse_compile_code.specs.Tables.{globals_in, arrays_in, message_of}
+use Rattle.cse_compile_code.specs.Order.{edit_order}
 use Rattle.cse_meaning.specs.Meaning.{declarations, meaning}
 use Rattle.cse_meaning.specs.Means.{begins}
 use Rattle.cse_batch_parts.specs.declared.totals.Totals.{Totals}

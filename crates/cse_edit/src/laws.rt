@@ -6,7 +6,7 @@ ghost use Rattle.cse_edit.specs.Laws.{BatchesMean};
 
 use cse_dict::Dictionary;
 use cse_image::{Code, none_begins_another};
-use cse_law_programs_mean::programs_mean;
+use cse_meaning::programs_mean;
 use cse_steps::event_ends;
 use cse_verify::Verified;
 

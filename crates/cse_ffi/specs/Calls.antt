@@ -8,7 +8,7 @@ use Rattle.cse_sections.specs.Sections.{sections_of}
 use Rattle.cse_dict.specs.Dictionary.{DictionaryText, dictionary_of, shape_of}
 use Rattle.cse_dict.specs.Reading.{IsAnswer, text_faults}
 use Rattle.cse_dict.specs.declared.fault.DictError.{DictError}
-use Rattle.cse_code_bounds.specs.EventBound.{case_bound, run_bound}
+use Rattle.cse_verify.specs.EventBound.{case_bound, run_bound}
 use Rattle.cse_verify.specs.Verified.{VerifiedProgram}
 use Rattle.cse_build.specs.declared.error.BuildFault.{BuildFault}
 use Rattle.cse_build.specs.Build.{IsBuilt, IsFault}

@@ -3,10 +3,10 @@
 use crate::machine::Machine;
 use cse_case::Case;
 use cse_decks::Store;
-use cse_event_runs::handled::Handled;
-use cse_event_runs::runs::Runs;
 use cse_image::{Code, Event};
 use cse_report::Reports;
+use cse_steps::handled::Handled;
+use cse_steps::runs::Runs;
 use cse_value::OutOfMemory;
 
 impl<C: Code> Runs for Machine<'_, '_, C> {

@@ -21,8 +21,8 @@ use Rattle.cse_compile_code.specs.Setting.{Setting, result_local}
 use Rattle.cse_compile_code.specs.Wide.{with_c}
 use Rattle.cse_compile_code.specs.Numbers.{store, number_size, number_code}
 use Rattle.cse_compile_code.specs.Statements.{statement_size, statement_code}
-use Rattle.cse_law_code_is_typed.specs.Fit.{IsNumberVariable}
-use Rattle.cse_law_code_is_typed.proofs.Lengths.{number_length}
+use Rattle.cse_meaning.specs.Fit.{IsNumberVariable}
+use Rattle.cse_meaning.proofs.Lengths.{number_length}
 use Rattle.cse_code_typing.specs.Code.{code_of}
 use Rattle.cse_decks.specs.declared.global.GlobalValue.{GlobalValue}
 use Rattle.cse_decks.specs.declared.global.GlobalValue.TheVariants as values

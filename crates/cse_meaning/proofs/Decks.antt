@@ -13,8 +13,8 @@ use Rattle.cse_compile_code.specs.Wide as wide
 use Rattle.cse_compile_code.specs.Wide.{Wide, pops}
 use Rattle.cse_compile_code.specs.Setting.{Setting}
 use Rattle.cse_compile_code.specs.Numbers.{present_size, number_of_item, can_fail, deepest, picks_size, picks_code}
-use Rattle.cse_law_code_is_typed.specs.Fit.{row_count, ArePicks}
-use Rattle.cse_law_code_is_typed.proofs.Lengths.{item_length, pops_length}
+use Rattle.cse_meaning.specs.Fit.{row_count, ArePicks}
+use Rattle.cse_meaning.proofs.Lengths.{item_length, pops_length}
 use Rattle.cse_steps.specs.Cell.{Cell, Number}
 use Rattle.cse_steps.specs.State.{Call, World}
 use Rattle.cse_steps.specs.Operands.{is_within, row_within}

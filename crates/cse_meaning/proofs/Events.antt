@@ -9,7 +9,7 @@ use Rattle.cse_image_parts.specs.declared.entries.Gift.TheVariants as gifts
 use Rattle.cse_image_parts.specs.Image.{Image, RoutineLists}
 use Rattle.cse_case.specs.Case.{CaseText}
 use Rattle.cse_decks.specs.Store.{Kept}
-use Rattle.cse_code_bounds.specs.CaseEvents.{Moment, event_bound}
+use Rattle.cse_verify.specs.CaseEvents.{Moment, event_bound}
 use Rattle.cse_code_typing.specs.Code.{code_of}
 use Rattle.cse_code_typing.specs.Handlers.{routine_of}
 use Rattle.cse_code_typing.specs.Order.{is_run}
@@ -21,13 +21,13 @@ use Rattle.cse_logic_tree.specs.declared.tree.Owner.{Owner}
 use Rattle.cse_logic_tree.specs.declared.tree.Owner.TheVariants as owners
 use Rattle.cse_logic_tree.specs.declared.tree.Field.{Field}
 use Rattle.cse_logic_tree.specs.Typed.{Statements, Tree}
-use Rattle.cse_compile_sections.specs.declared.outlines.RoutineSort.TheVariants as sorts
-use Rattle.cse_compile_sections.specs.Outline.{Outline, event_of, routine_of as routine_for}
-use Rattle.cse_compile_sections.specs.Tables.{functions_in}
+use Rattle.cse_compile_code.specs.declared.outlines.RoutineSort.TheVariants as sorts
+use Rattle.cse_compile_code.specs.Outline.{Outline, event_of, routine_of as routine_for}
+use Rattle.cse_compile_code.specs.Tables.{functions_in}
 use Rattle.cse_compile_code.specs.Setting.{Setting}
 use Rattle.cse_compile_code.specs.Routines.{no_loop, routine_code}
 use Rattle.cse_compile_code.specs.Statements.{block_size, block_code, exit_code}
-use Rattle.cse_law_code_is_typed.proofs.Blocks.{block_length}
+use Rattle.cse_meaning.proofs.TypedBlocks.{block_length}
 use Rattle.cse_steps.specs.Cell.{Cell, Occurrence}
 use Rattle.cse_steps.specs.State.{Call, World, State}
 use Rattle.cse_steps.specs.Operands.{is_within}

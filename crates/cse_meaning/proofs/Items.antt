@@ -15,7 +15,7 @@ use Rattle.cse_logic_tree.specs.declared.tree.Found.TheVariants as h
 use Rattle.cse_compile_code.specs.Wide.{Wide, with_a, with_c}
 use Rattle.cse_compile_code.specs.Setting.{Setting}
 use Rattle.cse_compile_code.specs.Numbers.{guarded, here_size, here_code}
-use Rattle.cse_law_code_is_typed.specs.Fit.{IsFound}
+use Rattle.cse_meaning.specs.Fit.{IsFound}
 use Rattle.cse_steps.specs.Cell.{Cell, Number, Words, Occurrence}
 use Rattle.cse_steps.specs.State.{Call, World}
 use Rattle.cse_steps.specs.Operands.{is_within, whole_within}

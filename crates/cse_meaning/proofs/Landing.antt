@@ -22,9 +22,9 @@ use Rattle.cse_compile_code.specs.Setting.{Setting, result_local}
 use Rattle.cse_compile_code.specs.declared.setting.Loop.{Loop}
 use Rattle.cse_compile_code.specs.Numbers.{store, number_size, number_code}
 use Rattle.cse_compile_code.specs.Statements.{exit_code_by, front_size, front_code, guard_size, guard_code}
-use Rattle.cse_law_code_is_typed.specs.Fit.{IsExit, IsNumberVariable, NumberFits}
-use Rattle.cse_law_code_is_typed.proofs.Lengths.{number_length}
-use Rattle.cse_law_code_is_typed.proofs.Blocks.{front_length}
+use Rattle.cse_meaning.specs.Fit.{IsExit, IsNumberVariable, NumberFits}
+use Rattle.cse_meaning.proofs.Lengths.{number_length}
+use Rattle.cse_meaning.proofs.TypedBlocks.{front_length}
 use Rattle.cse_steps.specs.Cell.{Cell, Number, Occurrence}
 use Rattle.cse_steps.specs.State.{Open, Call, World}
 use Rattle.cse_steps.specs.Operands.{is_within}

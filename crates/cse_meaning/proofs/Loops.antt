@@ -20,7 +20,7 @@ use Rattle.cse_compile_code.specs.Setting.{Setting}
 use Rattle.cse_compile_code.specs.declared.setting.Loop.{Loop}
 use Rattle.cse_compile_code.specs.Numbers.{store, number_size, number_code}
 use Rattle.cse_compile_code.specs.Statements.{step_code, loop_to}
-use Rattle.cse_law_code_is_typed.specs.Fit.{IsNumberVariable}
+use Rattle.cse_meaning.specs.Fit.{IsNumberVariable}
 use Rattle.cse_steps.specs.Cell.{Cell, Number}
 use Rattle.cse_steps.specs.State.{Open, Call, World}
 use Rattle.cse_steps.specs.Operands.{is_within, combined, turns_of}

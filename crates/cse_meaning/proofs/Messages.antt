@@ -19,8 +19,8 @@ use Rattle.cse_logic_tree.specs.Typed.{Argument, OfNumber, OfWords}
 use Rattle.cse_compile_code.specs.Wide.{with_c}
 use Rattle.cse_compile_code.specs.Setting.{Setting}
 use Rattle.cse_compile_code.specs.Statements.{argument_size, argument_code, arguments_size, arguments_code}
-use Rattle.cse_law_code_is_typed.specs.Fit.{kind_of, ArgumentFits, ArgumentsFit}
-use Rattle.cse_law_code_is_typed.proofs.Blocks.{argument_length}
+use Rattle.cse_meaning.specs.Fit.{kind_of, ArgumentFits, ArgumentsFit}
+use Rattle.cse_meaning.proofs.TypedBlocks.{argument_length}
 use Rattle.cse_steps.specs.Cell.{Cell, Number, Words}
 use Rattle.cse_steps.specs.State.{Call, World, with_given}
 use Rattle.cse_steps.specs.Operands.{args_onto}

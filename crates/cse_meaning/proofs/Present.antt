@@ -17,7 +17,7 @@ use Rattle.cse_compile_code.specs.Wide as wide
 use Rattle.cse_compile_code.specs.Wide.{with_a, with_b, with_c, undefined}
 use Rattle.cse_compile_code.specs.Setting.{Setting}
 use Rattle.cse_compile_code.specs.Numbers.{guarded, here_size, here_code, present_size, number_of_item, text_of_item}
-use Rattle.cse_law_code_is_typed.specs.Fit.{IsEntry, IsRecord, IsFound, IsNumberField, IsTextField, IsNumberPresent, IsTextPresent}
+use Rattle.cse_meaning.specs.Fit.{IsEntry, IsRecord, IsFound, IsNumberField, IsTextField, IsNumberPresent, IsTextPresent}
 use Rattle.cse_steps.specs.Cell.{Cell, Number, Words, Occurrence}
 use Rattle.cse_steps.specs.State.{Call, World}
 use Rattle.cse_steps.specs.Operands.{flag}

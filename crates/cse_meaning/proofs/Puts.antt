@@ -20,8 +20,8 @@ use Rattle.cse_compile_code.specs.Wide.{with_c, occurrence}
 use Rattle.cse_compile_code.specs.Setting.{Setting}
 use Rattle.cse_compile_code.specs.Numbers.{number_size, number_code}
 use Rattle.cse_compile_code.specs.Statements.{which_size, which_code}
-use Rattle.cse_law_code_is_typed.specs.Fit.{IsEntry, IsRecord, WhichFits}
-use Rattle.cse_law_code_is_typed.proofs.Lengths.{number_length}
+use Rattle.cse_meaning.specs.Fit.{IsEntry, IsRecord, WhichFits}
+use Rattle.cse_meaning.proofs.Lengths.{number_length}
 use Rattle.cse_steps.specs.Cell.{Cell, Number, Words, Occurrence}
 use Rattle.cse_steps.specs.State.{Call, World, in_case, with_imputed}
 use Rattle.cse_steps.specs.Operands.{is_within, whole_within, with_occurrence}

@@ -28,8 +28,8 @@ use Rattle.cse_compile_code.specs.Wide as wide
 use Rattle.cse_compile_code.specs.Wide.{Wide, bare, with_a, with_b, with_c, jump, undefined, pops}
 use Rattle.cse_compile_code.specs.Setting.{Setting, size_at, result_local}
 use Rattle.cse_compile_code.specs.Numbers.{can_fail, deepest, picks_size, picks_code, deck_size, deck_code, load, present_size, number_of_item, number_size, number_code, words_size, words_code, operations_size, operations_code, indexes_size, indexes_code, numbers_size, numbers_code, count, behind}
-use Rattle.cse_law_code_is_typed.specs.Fit.{IsDeck, IsNumberVariable, numbers_kinds, NumberFits, WordsFit, NumbersFit, OperationsFit}
-use Rattle.cse_law_code_is_typed.proofs.Lengths.{picks_length, item_length, pops_length, indexes_length, numbers_length, number_length, words_length}
+use Rattle.cse_meaning.specs.Fit.{IsDeck, IsNumberVariable, numbers_kinds, NumberFits, WordsFit, NumbersFit, OperationsFit}
+use Rattle.cse_meaning.proofs.Lengths.{picks_length, item_length, pops_length, indexes_length, numbers_length, number_length, words_length}
 use Rattle.cse_steps.specs.Cell.{Cell, Number, Words, Index}
 use Rattle.cse_steps.specs.State.{Call, World}
 use Rattle.cse_steps.specs.Step.{acts, or_to}

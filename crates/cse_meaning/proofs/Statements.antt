@@ -22,9 +22,9 @@ use Rattle.cse_compile_code.specs.Setting.{Setting}
 use Rattle.cse_compile_code.specs.declared.setting.Loop.{Loop}
 use Rattle.cse_compile_code.specs.Numbers.{deepest, picks_size, picks_code, count, behind, indexes_size, indexes_code, number_size, number_code, words_size, words_code, numbers_size, numbers_code}
 use Rattle.cse_compile_code.specs.Statements.{turn_limit, turns_size, head_size, head_code, step_code, drops_size, drops_code, arguments_size, arguments_code, jump_code, which_size, which_code, front_size, guard_size, loop_to, statement_size, statement_code, block_size, block_code, arms_size, arms_code}
-use Rattle.cse_law_code_is_typed.specs.Fit.{IsDeck, IsArray, IsMessage, ArgumentsFit, IsExit, JumpFits, IsNumberField, IsTextField, IsFunction, WhichFits, WordsFit, NumbersFit, NumberFits, StatementFits, BlockFits, ArmsFit}
-use Rattle.cse_law_code_is_typed.proofs.Lengths.{picks_length, indexes_length, number_length, words_length, numbers_length}
-use Rattle.cse_law_code_is_typed.proofs.Blocks.{head_length, arguments_length, which_length, statement_length, block_length}
+use Rattle.cse_meaning.specs.Fit.{IsDeck, IsArray, IsMessage, ArgumentsFit, IsExit, JumpFits, IsNumberField, IsTextField, IsFunction, WhichFits, WordsFit, NumbersFit, NumberFits, StatementFits, BlockFits, ArmsFit}
+use Rattle.cse_meaning.proofs.Lengths.{picks_length, indexes_length, number_length, words_length, numbers_length}
+use Rattle.cse_meaning.proofs.TypedBlocks.{head_length, arguments_length, which_length, statement_length, block_length}
 use Rattle.cse_steps.specs.Cell.{Cell, Number, Occurrence}
 use Rattle.cse_steps.specs.State.{Open, Call, World, in_store, with_given}
 use Rattle.cse_image_parts.specs.Image.{ArrayLists}

@@ -20,7 +20,7 @@ use Rattle.cse_compile_code.specs.Wide.{bare, with_a}
 use Rattle.cse_compile_code.specs.Setting.{Setting}
 use Rattle.cse_compile_code.specs.Statements as emit
 use Rattle.cse_compile_code.specs.Statements.{known, limit_code, turn_limit, turns_size_by, turns_code_by}
-use Rattle.cse_law_code_is_typed.specs.Fit.{LimitFits}
+use Rattle.cse_meaning.specs.Fit.{LimitFits}
 use Rattle.cse_steps.specs.Cell.{Cell, Number}
 use Rattle.cse_steps.specs.State.{World}
 use Rattle.cse_steps.specs.Operands.{turns_of, combined}

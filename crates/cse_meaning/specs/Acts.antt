@@ -13,7 +13,7 @@ use Rattle.cse_compile_code.specs.Setting.{Setting, result_local}
 use Rattle.cse_compile_code.specs.Numbers.{number_size, number_code}
 use Rattle.cse_compile_code.specs.declared.setting.Loop.{Loop}
 use Rattle.cse_compile_code.specs.Statements.{statement_size, statement_code}
-use Rattle.cse_law_code_is_typed.specs.Fit.{IsNumberVariable, NumberFits}
+use Rattle.cse_meaning.specs.Fit.{IsNumberVariable, NumberFits}
 use Rattle.cse_steps.specs.Cell.{Number}
 use Rattle.cse_steps.specs.State.{World}
 use Rattle.cse_steps.specs.Fits.{FitsWorld}

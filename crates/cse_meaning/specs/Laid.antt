@@ -10,7 +10,7 @@ use Rattle.cse_code_typing.specs.Order.{is_run}
 use Rattle.cse_code_typing.specs.Signature.{local_at, rows_of}
 use Rattle.cse_code_typing.specs.Typed.{scene_of}
 use Rattle.cse_compile_code.specs.Setting.{Setting, result_local}
-use Rattle.cse_law_code_is_typed.specs.Fit as fit
+use Rattle.cse_meaning.specs.Fit as fit
 use Rattle.cse_steps.specs.Cell.{Cell, Number, Occurrence}
 use Rattle.cse_steps.specs.State.{Open, World}
 use Rattle.cse_steps.specs.Operands.{is_within}

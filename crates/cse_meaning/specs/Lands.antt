@@ -7,7 +7,7 @@ use Rattle.cse_logic_tree.specs.Typed.{Statement}
 use Rattle.cse_compile_code.specs.Setting.{Setting}
 use Rattle.cse_compile_code.specs.declared.setting.Loop.{Loop}
 use Rattle.cse_compile_code.specs.Statements.{statement_size, statement_code}
-use Rattle.cse_law_code_is_typed.specs.Fit.{IsExit, StatementFits}
+use Rattle.cse_meaning.specs.Fit.{IsExit, StatementFits}
 use Rattle.cse_steps.specs.Cell.{Cell, Number}
 use Rattle.cse_steps.specs.State.{Open, World}
 use Rattle.cse_steps.specs.Step.{ends_at, given_back}

@@ -7,11 +7,11 @@ use Rattle.cse_image_parts.specs.declared.entries.EventCode.{EventCode}
 use Rattle.cse_image_parts.specs.declared.entries.EventCode.TheVariants as codes
 use Rattle.cse_image_parts.specs.Image.{ArrayLists}
 use Rattle.cse_dict.specs.Dictionary.{DictionaryText}
-use Rattle.cse_code_bounds.specs.CaseEvents.{Moment}
+use Rattle.cse_verify.specs.CaseEvents.{Moment}
 use Rattle.cse_logic_tree.specs.declared.tree.Owner.{Owner}
 use Rattle.cse_logic_tree.specs.declared.tree.Owner.TheVariants as owners
 use Rattle.cse_logic_tree.specs.Typed.{Statement, Statements, Empty, no_statement, statement_and, Body, Plain, Preproc, Both, Postproc, Procedure, Function, Declaration, Tree}
-use Rattle.cse_compile_sections.specs.Tables.{arrays_in, functions_in}
+use Rattle.cse_compile_code.specs.Tables.{arrays_in, functions_in}
 use Rattle.cse_steps.specs.State.{World}
 use Rattle.cse_meaning.specs.Setting.{Context, Locals, Valued, Functions}
 use Rattle.cse_meaning.specs.Statements.{Flow, Fell, Broke, Skipped, Left, all_do}

@@ -6,7 +6,7 @@ use Rattle.cse_image_parts.specs.declared.entries.EventCode.{EventCode}
 use Rattle.cse_image_parts.specs.declared.entries.EventCode.TheVariants as codes
 use Rattle.cse_dict.specs.Dictionary.{DictionaryText}
 use Rattle.cse_code_typing.specs.Handlers.{routine_of}
-use Rattle.cse_code_bounds.specs.CaseEvents.{Moment}
+use Rattle.cse_verify.specs.CaseEvents.{Moment}
 use Rattle.cse_verify.specs.Verified.{VerifiedProgram}
 use Rattle.cse_logic_tree.specs.Typed.{Tree}
 use Rattle.cse_steps.specs.State.{World, nothing_told}

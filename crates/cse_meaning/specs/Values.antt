@@ -5,7 +5,7 @@ use Rattle.cse_case.specs.Case.{CaseText}
 use Rattle.cse_logic_tree.specs.Typed as tree
 use Rattle.cse_compile_code.specs.Setting.{Setting}
 use Rattle.cse_compile_code.specs.Numbers.{number_size, number_code, words_size, words_code}
-use Rattle.cse_law_code_is_typed.specs.Fit.{NumberFits, WordsFit}
+use Rattle.cse_meaning.specs.Fit.{NumberFits, WordsFit}
 use Rattle.cse_steps.specs.Cell.{Cell, Number, Words}
 use Rattle.cse_steps.specs.State.{World}
 use Rattle.cse_steps.specs.Fits.{FitsWorld}

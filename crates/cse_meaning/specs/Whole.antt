@@ -8,7 +8,7 @@ use Rattle.cse_image_parts.specs.declared.entries.Event.{Event}
 use Rattle.cse_image_parts.specs.declared.entries.Gift.TheVariants as gifts
 use Rattle.cse_case.specs.Case.{CaseText}
 use Rattle.cse_decks.specs.Store.{Kept}
-use Rattle.cse_code_bounds.specs.CaseEvents.{Moment}
+use Rattle.cse_verify.specs.CaseEvents.{Moment}
 use Rattle.cse_code_typing.specs.Handlers.{routine_of}
 use Rattle.cse_steps.specs.Laws.{EventsEnd}
 use Rattle.cse_steps.specs.Fits.{FitsFirst}
@@ -18,13 +18,13 @@ use Rattle.cse_logic_tree.specs.declared.tree.Field.{Field}
 use Rattle.cse_logic_tree.specs.declared.tree.Owner.{Owner}
 use Rattle.cse_logic_tree.specs.declared.tree.Owner.TheVariants as owners
 use Rattle.cse_logic_tree.specs.Typed.{Statements, Function, Tree}
-use Rattle.cse_compile_sections.specs.declared.outlines.RoutineSort.TheVariants as sorts
-use Rattle.cse_compile_sections.specs.Outline.{Outline, outline_of, result_at, event_of, routine_of as routine_for}
-use Rattle.cse_compile_sections.specs.Tables.{functions_in}
+use Rattle.cse_compile_code.specs.declared.outlines.RoutineSort.TheVariants as sorts
+use Rattle.cse_compile_code.specs.Outline.{Outline, outline_of, result_at, event_of, routine_of as routine_for}
+use Rattle.cse_compile_code.specs.Tables.{functions_in}
 use Rattle.cse_compile_code.specs.Setting.{Setting}
 use Rattle.cse_compile_code.specs.Routines.{routine_code}
-use Rattle.cse_law_code_is_typed.specs.Fit.{BlockFits}
-use Rattle.cse_law_code_is_typed.specs.Emitted.{spot_of}
+use Rattle.cse_meaning.specs.Fit.{BlockFits}
+use Rattle.cse_meaning.specs.Emitted.{spot_of}
 use Rattle.cse_meaning.specs.Setting.{Context}
 use Rattle.cse_meaning.specs.Runs.{StandAt}
 use Rattle.cse_meaning.specs.Follows.{Follows}

@@ -8,7 +8,7 @@ use Rattle.cse_dict.specs.declared.rows.NumberSpan.{NumberSpan}
 use Rattle.cse_dict.specs.Dictionary.{DictionaryText, ItemText}
 use Rattle.cse_lines.specs.Columns.{LineText, no_line}
 use Rattle.cse_case.specs.Case.{CaseText}
-use Rattle.cse_code_bounds.specs.CaseEvents.{Moment, moment}
+use Rattle.cse_verify.specs.CaseEvents.{Moment, moment}
 use Rattle.cse_decks.specs.Store.{Kept}
 use Rattle.cse_decks.specs.declared.global.GlobalValue.TheVariants as globals
 use Rattle.cse_report.specs.declared.argument.Arg.{Arg}

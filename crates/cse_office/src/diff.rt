@@ -7,13 +7,14 @@ ghost use Rattle.cse_office.specs.declared.words.Command.TheVariants.{Diff as Di
 use crate::files::{opened, print_text, sheet_of, write_text, written};
 use crate::stop::Stop;
 use crate::words::{Asked, Slot};
-use cse_changes::{CompareFault, SeenFault};
+use cse_changes::{
+    Area, CompareFault, Diff, SeenFault, Watching, compare_watched, put_diff, put_page, put_sheet,
+};
 use cse_dict::Dictionary;
-use cse_diff::{Area, Diff, Watching, compare, put_diff, put_page, put_sheet};
 use cse_fault_numbers::UNKNOWN_NAME;
-use cse_tables::names::Names;
-use cse_tables::text::Text;
 use cse_value::shape::ID_OWNER;
+use cse_views::names::Names;
+use cse_views::text::Text;
 use std::alloc::Global;
 use std::rt::Files;
 
@@ -73,7 +74,7 @@ fn compared<'n, R: Files + AllocGlobal>(
     let mut out = opened(rt, asked, Slot::Third)?;
     let rows = sheet_of(rt, asked, Slot::Cases)?;
     let mut watching = Watching::new(rt.alloc(), names, diff, rows);
-    let outcome = compare(
+    let outcome = compare_watched(
         rt.alloc(),
         names.dictionary,
         &mut data.device,

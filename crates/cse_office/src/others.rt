@@ -12,8 +12,8 @@ use crate::files::{
 use crate::stop::Stop;
 use crate::words::{Asked, Slot};
 use cse_image::{Program, read_image};
-use cse_tables::names::Names;
-use cse_tables::text::Text;
+use cse_views::names::Names;
+use cse_views::text::Text;
 use cse_views::{
     NO_FREQUENCIES, NO_LISTING, Report, look_at, put_image, put_look, put_report, put_report_page,
     put_report_sheet,

@@ -12,12 +12,12 @@ use Rattle.cse_code_typing.specs.Code.{code_of}
 use Rattle.cse_code_typing.specs.Handlers.{routine_of}
 use Rattle.cse_code_typing.specs.Skeleton.{control, skeleton_of, most_occurrences}
 use Rattle.cse_code_typing.proofs.Around.{around_start}
-use Rattle.cse_code_bounds.specs.Bound.{bound}
-use Rattle.cse_code_bounds.specs.CaseEvents.{Moment, case_events, events_bound, KeepsMost}
-use Rattle.cse_code_bounds.specs.Walk.{begun}
-use Rattle.cse_code_bounds.specs.Rest.{rest}
-use Rattle.cse_code_bounds.specs.Calls.{AreCalls, RestFalls, RestIsBound, AllKeepRules, AllCallSmaller}
-use Rattle.cse_code_bounds.specs.EventBound.{case_bound}
+use Rattle.cse_verify.specs.Bound.{bound}
+use Rattle.cse_verify.specs.CaseEvents.{Moment, case_events, events_bound, KeepsMost}
+use Rattle.cse_verify.specs.Walk.{begun}
+use Rattle.cse_verify.specs.Rest.{rest}
+use Rattle.cse_verify.specs.Calls.{AreCalls, RestFalls, RestIsBound, AllKeepRules, AllCallSmaller}
+use Rattle.cse_verify.specs.EventBound.{case_bound}
 use Rattle.cse_dict.specs.Dictionary.{shape_of}
 use Rattle.cse_value.specs.Shape.{ShapeLists}
 use Rattle.cse_verify.proofs.CallLaws.{calls_below}
@@ -34,7 +34,7 @@ use Rattle.cse_steps.specs.Walks.{standings}
 use Rattle.cse_steps.specs.Laws.{EndsWithin, EventsEnd, CaseKeepsToBound}
 use Rattle.cse_steps.proofs.Calls.{has_code}
 use Rattle.cse_steps.proofs.Safety.{safe}
-use Rattle.cse_steps.proofs.Runs.{composed, first_is_fit, events_go_well}
+use Rattle.cse_steps.proofs.WholeRuns.{composed, first_is_fit, events_go_well}
 
 -- chains of calls keep to the depth
 abbrev pub KeepsChains : VerifiedProgram → Type 0

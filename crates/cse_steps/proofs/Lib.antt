@@ -11,7 +11,7 @@ pub mod Calls
 pub mod Inner
 pub mod Safety
 pub mod First
-pub mod Runs
+pub mod WholeRuns
 pub mod Depths
 pub mod Ends
 pub mod Upgrades
@@ -19,3 +19,4 @@ pub mod SameCase
 pub mod Columns
 pub mod Events
 pub mod Outcomes
+pub mod QuietLaws

@@ -7,13 +7,13 @@ use Rattle.cse_lemmas.proofs.Options.{none_from_is_some}
 use Rattle.cse_case.specs.Case.{CaseText}
 use Rattle.cse_decks.specs.Store.{Kept}
 use Rattle.cse_code_typing.specs.Handlers.{routine_of}
-use Rattle.cse_code_bounds.specs.CaseEvents.{Moment}
+use Rattle.cse_verify.specs.CaseEvents.{Moment}
 use Rattle.cse_verify.specs.Verified.{VerifiedProgram}
 use Rattle.cse_steps.specs.State.{World, State, nothing_told}
 use Rattle.cse_steps.specs.Step.{step_of}
 use Rattle.cse_steps.specs.Run.{run, first, first_calls}
 use Rattle.cse_steps.specs.Events.{Outcome, nothing_done, told_both, both, EndsIn, AllEndIn, OneOutcome, EventsCompose, handled, HandledCount}
-use Rattle.cse_steps.proofs.Runs.{composed}
+use Rattle.cse_steps.proofs.WholeRuns.{composed}
 
 module _ (v : VerifiedProgram) where
   -- no step follows an ended state

@@ -16,8 +16,8 @@ use Rattle.cse_code_typing.specs.Code.{code_of}
 use Rattle.cse_code_typing.specs.Handlers.{routine_of}
 use Rattle.cse_code_typing.proofs.Twins.{FindsSame, AreTwins, AllTwins, twins_of_routine, code_mapped}
 use Rattle.cse_code_typing.proofs.Upgrades.{upgrade_twins}
-use Rattle.cse_code_bounds.specs.Bound.{bound}
-use Rattle.cse_code_bounds.specs.CaseEvents.{Moment, event_bound}
+use Rattle.cse_verify.specs.Bound.{bound}
+use Rattle.cse_verify.specs.CaseEvents.{Moment, event_bound}
 use Rattle.cse_verify.specs.Verified.{VerifiedProgram}
 use Rattle.cse_verify.proofs.MeaningLaws.{upgrade_same}
 use Rattle.cse_steps.specs.State.{Open, Call, World, State, Told}

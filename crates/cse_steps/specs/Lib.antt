@@ -13,3 +13,6 @@ pub mod Depth
 pub mod Laws
 pub mod Worked
 pub mod WorkedColumns
+pub mod Results
+pub mod Handled
+pub mod Quiet

@@ -7,7 +7,7 @@ use Rattle.cse_image.specs.Spelling.{FitsIn}
 use Rattle.cse_dict.specs.Dictionary.{DictionaryText}
 use Rattle.cse_case.specs.Case.{CaseText}
 use Rattle.cse_decks.specs.Store.{Kept}
-use Rattle.cse_code_bounds.specs.CaseEvents.{Moment}
+use Rattle.cse_verify.specs.CaseEvents.{Moment}
 use Rattle.cse_verify.specs.Verified.{VerifiedProgram}
 use Rattle.cse_steps.specs.State.{Told, State}
 use Rattle.cse_steps.specs.Step.{step}

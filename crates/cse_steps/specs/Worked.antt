@@ -17,7 +17,7 @@ use Rattle.cse_steps.specs.Cell.{Cell, Index, Occurrence, Words}
 use Rattle.cse_steps.specs.State.{Open, Call, State}
 use Rattle.cse_steps.specs.Operands.{arguments_taken}
 use Rattle.cse_steps.specs.Step.{current}
-use Rattle.cse_code_bounds.specs.CaseEvents.{moment}
+use Rattle.cse_verify.specs.CaseEvents.{moment}
 use Rattle.cse_steps.specs.Run.{first, run}
 use Rattle.cse_steps.specs.Events.{Outcome, both}
 

@@ -9,7 +9,7 @@ use Rattle.cse_image_parts.specs.declared.instruction.Op.TheVariants as ops
 use Rattle.cse_dict.specs.Dictionary.{DictionaryText}
 use Rattle.cse_lines.specs.Columns.{LineText, no_line}
 use Rattle.cse_case.specs.Case.{CaseText}
-use Rattle.cse_code_bounds.specs.CaseEvents.{moment}
+use Rattle.cse_verify.specs.CaseEvents.{moment}
 use Rattle.cse_verify.specs.Verified.{VerifiedProgram}
 use Rattle.cse_steps.specs.State.{State}
 use Rattle.cse_steps.specs.Run.{first, run}

@@ -7,10 +7,9 @@ ghost use Rattle.cse_steps.specs.Events.{CaseColumnsStay, CasesEnd, EventsCompos
 ghost use Rattle.cse_steps.specs.Laws.{CaseKeepsToBound, EventsEnd, EventsGoWell, FirstFits, RunsCompose, StepsAreSafe};
 ghost use Rattle.cse_steps.specs.Upgraded.{UpgradeRunsTheSame};
 
-use cse_code_bounds::walks_keep_to_bound;
 use cse_dict::Dictionary;
 use cse_image::{Code, Program};
-use cse_verify::Verified;
+use cse_verify::{Verified, walks_keep_to_bound};
 
 /// Hands on what a program keeps to.
 fn hand_on<C: Code>(program: &Program<C>)

@@ -1,11 +1,20 @@
-//! The steps of programs: what each instruction does, and that a verified program never gets stuck (own).
+//! The steps of programs: what each instruction does, that a verified program never gets stuck, and what a run of an event is (own).
 //!
-//! Definitions and laws, and no code that runs. `specs/State.antt` says what a state is, `specs/Step.antt`
+//! Definitions and laws, and what runs events. `specs/State.antt` says what a state is, `specs/Step.antt`
 //! what each instruction does, one line an instruction, `specs/Run.antt` what a run is and how an event
-//! begins, and `specs/Fits.antt` what fits. A law is a function that does nothing: its contract is the law.
+//! begins, and `specs/Fits.antt` what fits. `specs/Results.antt` says what a run leaves, by the steps of the program, and where it
+//! stands if memory lacks. A law is a function that does nothing: its contract is the law.
+//!
+//! - `laws`, `worked`: the laws of steps, and rows of them.
+//! - `handled`: events with their routines.
+//! - `runs`: what runs events, as whole runs know it.
+//! - `run_laws`: which events do nothing, and which never lack memory.
 #![tactic(auto)]
 
+pub mod handled;
 mod laws;
+pub mod run_laws;
+pub mod runs;
 mod worked;
 
 pub use laws::{

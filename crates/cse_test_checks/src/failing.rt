@@ -2,7 +2,7 @@
 
 use crate::device::Slow;
 use crate::hello::HELLO;
-use cse_command_try::try_image::{TryFault, try_to};
+use cse_command_images::try_image::{TryFault, try_to};
 use cse_value::Writes;
 use std::alloc::Global;
 

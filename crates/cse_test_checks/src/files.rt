@@ -1,5 +1,5 @@
 //! Files of persons: how soon their first run is given, which no clause says. What the runs of other files are is a law of
-//! cse_test_laws.
+//! `file_laws`.
 
 use crate::persons::persons;
 use cse_dict::Dictionary;

@@ -1,5 +1,5 @@
 //! An image that is read and written, jumps alone, and what an error shows. For each rule of the format bytes that break it, images
-//! that are cut, and images of both versions are laws of cse_test_laws and rows of cse_test_files.
+//! that are cut, and images of both versions are laws of `image_laws` and rows of cse_test_files.
 
 use cse_code_typing::check_jumps_and_brackets;
 use cse_image::{ImageError, Program, read_image, write_image};

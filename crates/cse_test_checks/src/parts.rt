@@ -1,5 +1,5 @@
 //! Parts of images, as they are built: placeholders, names, single fields and instructions, a row of each call. The others
-//! are laws of cse_test_laws.
+//! are laws of `part_laws`.
 
 use cse_image_parts::codes::*;
 use cse_image_parts::entries::*;

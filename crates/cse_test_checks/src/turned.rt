@@ -1,7 +1,7 @@
 //! Images in which one bit was turned. Each byte with each other value: `examples/fuzz`.
 
 use crate::hello::{HELLO, put_hello};
-use cse_command_try::try_image::try_to;
+use cse_command_images::try_image::try_to;
 use cse_dict::Dictionary;
 use cse_value::Writes;
 use cse_verify::check_image;

@@ -1,5 +1,5 @@
 //! Numbers and texts, as they are built: a row of each call. What numbers come to, how they and texts compare, and how they are
-//! read and written, as columns and in a value of a dictionary, are laws of cse_test_laws.
+//! read and written, as columns and in a value of a dictionary, are laws of `value_laws`.
 
 use cse_sections::number::{fits_columns, whole_of};
 use cse_value::number::Num::{self, Whole};

@@ -2,11 +2,11 @@
 
 use crate::persons::persons;
 use cse_dict::Dictionary;
+use cse_edit::items_written;
 use cse_logic_tree::{
     Body, Field, Found, Number, NumberKind, Owner, Procedure, Statement, StatementKind, Tree, Which,
 };
 use cse_syntax_tree::{Lexeme, Special};
-use cse_written_items::items_written;
 use std::alloc::{AllocError, Global};
 
 /// AGE, the fourth item of the dictionary.

@@ -3,7 +3,7 @@ use Rattle.std.specs.Prelude.{Bool, true, false, ◌&&◌}
 use Rattle.std.proofs.Common.{◌≡◌, ℕ, ◌+◌, ◌<◌, ◌≤◌, get_or, drop, List, [], ◌∷◌, ◌++◌, length, map, Option, Some, None, ap, sym, ◌∙◌, option_map, append_assoc, length-append}
 use Rattle.std.proofs.lemmas.List.{length-map, append-nil, drop_all}
 use Rattle.cse_lemmas.proofs.Lists.{drop_read}
-use Rattle.cse_logic_parts.specs.declared.told.Told.{Told}
+use Rattle.cse_types.specs.declared.told.Told.{Told}
 use Rattle.cse_logic_names.specs.Walk.{so_far, found_more, joined, is_there}
 use Rattle.cse_logic_names.proofs.Walks.{map_found, there_map, turn_is, end_is}
 

@@ -3,13 +3,13 @@ use Rattle.std.proofs.Common.{◌≡◌, ℕ, ◌+◌, ◌<◌, Bool, List, ◌�
 use Rattle.cse_lemmas.proofs.Lists.{drop_read}
 use Rattle.cse_syntax_tree.specs.Tree as syntax
 use Rattle.cse_syntax_tree.specs.declared.tree.Declaration as rust
-use Rattle.cse_logic_parts.specs.declared.told.Told.{Told}
-use Rattle.cse_logic_parts.specs.Told.{told_of}
+use Rattle.cse_types.specs.declared.told.Told.{Told}
+use Rattle.cse_types.specs.Told.{told_of}
 use Rattle.cse_logic_names.specs.Scope.{Scope}
 use Rattle.cse_logic_names.specs.WellTyped.{declared_messages}
-use Rattle.cse_logic_sources.specs.JudgeTree.{declaration_judged, behind, messages_with, messages_past, declarations_judged, behind_all}
+use Rattle.cse_types.specs.JudgeTree.{declaration_judged, behind, messages_with, messages_past, declarations_judged, behind_all}
 use Rattle.cse_logic_names.specs.Walk.{joined}
-use Rattle.cse_logic_sources.proofs.MadeLaws.{told_count}
+use Rattle.cse_types.proofs.MadeLaws.{told_count}
 
 past_with : (n : ℕ) (d : syntax.Declaration) → n + length (messages_with d) ≡ messages_past n d
 past_with n (syntax.Numeric names) = omega arith

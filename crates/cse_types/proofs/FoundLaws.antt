@@ -5,12 +5,12 @@ use Rattle.cse_syntax_tree.specs.declared.tree.Declaration.{Declaration}
 use Rattle.cse_logic_names.specs.Scope.{Scope}
 use Rattle.cse_logic_faults.specs.Faults.{Fault, Counts}
 use Rattle.cse_logic_faults.proofs.Lists.{turn_with}
-use Rattle.cse_logic_parts.specs.declared.told.Told.{Told}
-use Rattle.cse_logic_parts.specs.Told.{told_of}
-use Rattle.cse_logic_sources.specs.JudgeTree.{behind, messages_past, messages_with}
-use Rattle.cse_logic_parts.specs.PartFaults.{declaration_faults}
-use Rattle.cse_logic_sources.specs.SourceFaults.{declarations_faults}
-use Rattle.cse_logic_new_names.proofs.FoundNames.{pair_is}
+use Rattle.cse_types.specs.declared.told.Told.{Told}
+use Rattle.cse_types.specs.Told.{told_of}
+use Rattle.cse_types.specs.JudgeTree.{behind, messages_past, messages_with}
+use Rattle.cse_types.specs.PartFaults.{declaration_faults}
+use Rattle.cse_types.specs.SourceFaults.{declarations_faults}
+use Rattle.cse_types.proofs.FoundNames.{pair_is}
 use Rattle.cse_types.proofs.DeclarationLaws.{told_past}
 
 pub declarations_turn : (c : Counts) (here rest : List Declaration) (x : Declaration) → here ≡ x ∷ rest → (s s' : Scope) (ts ts' : List Told) (g g' total : List Fault) → g ++ declarations_faults c s (length ts) (map syntax.declaration here) ≡ total

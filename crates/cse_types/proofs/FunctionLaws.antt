@@ -4,15 +4,15 @@ use Rattle.std.specs.Prelude.{option_map}
 use Rattle.cse_syntax_tree.specs.Tree as syntax
 use Rattle.cse_syntax_tree.specs.Tree.{Spelling}
 use Rattle.cse_logic_tree.specs.Typed.{Statements, Function}
-use Rattle.cse_logic_new_names.specs.declared.fresh.Fresh.{Fresh}
+use Rattle.cse_types.specs.declared.fresh.Fresh.{Fresh}
 use Rattle.cse_logic_names.specs.Scope.{Scope}
 use Rattle.cse_logic_names.specs.WellTyped.{parameter_names}
 use Rattle.cse_logic_expressions.specs.JudgeStatement.{judge_block}
-use Rattle.cse_logic_sources.specs.JudgeTree.{function_of, function_judged}
-use Rattle.cse_logic_new_names.specs.Names.{is_new}
-use Rattle.cse_logic_new_names.specs.Fresh.{body_scope, fresh_names}
+use Rattle.cse_types.specs.JudgeTree.{function_of, function_judged}
+use Rattle.cse_types.specs.Names.{is_new}
+use Rattle.cse_types.specs.Fresh.{body_scope, fresh_names}
 use Rattle.cse_logic_names.specs.Walk.{only_if}
-use Rattle.cse_logic_new_names.proofs.FreshLaws.{fresh_sound, fresh_are}
+use Rattle.cse_types.proofs.FreshLaws.{fresh_sound, fresh_are}
 
 module _ (s : Scope) (n : ℕ) (name : Spelling) (ps : List syntax.Parameter) (body : syntax.Stmts) where
   abbrev pub fresh : Fresh

@@ -8,18 +8,18 @@ use Rattle.cse_syntax_tree.specs.Tree as syntax
 use Rattle.cse_logic_tree.specs.Typed.{Declaration, Procedure, Tree}
 use Rattle.cse_logic_names.specs.MessageFile.{MessageText}
 use Rattle.cse_logic_names.specs.WellTyped.{all_declarations, declared_in, tree_messages, declared_messages}
-use Rattle.cse_logic_sources.specs.JudgeTree.{typed_of, tree_of, start_scope, globals_judged, procedures_judged, behind_all}
-use Rattle.cse_logic_new_names.specs.Names.{are_new, is_free, names_of, owner_names}
-use Rattle.cse_logic_new_names.specs.Fresh.{fresh_names}
-use Rattle.cse_logic_parts.specs.declared.told.Told.{Told}
-use Rattle.cse_logic_parts.specs.Told.{told_of}
+use Rattle.cse_types.specs.JudgeTree.{typed_of, tree_of, start_scope, globals_judged, procedures_judged, behind_all}
+use Rattle.cse_types.specs.Names.{are_new, is_free, names_of, owner_names}
+use Rattle.cse_types.specs.Fresh.{fresh_names}
+use Rattle.cse_types.specs.declared.told.Told.{Told}
+use Rattle.cse_types.specs.Told.{told_of}
 use Rattle.cse_logic_names.specs.Scope.{Scope}
-use Rattle.cse_logic_new_names.specs.Table.{table_of}
-use Rattle.cse_logic_new_names.specs.declared.table.Table.{Table}
-use Rattle.cse_logic_sources.specs.TreeOver.{start_of, parts_of, parts_judged, tree_over, with_entries}
+use Rattle.cse_types.specs.Table.{table_of}
+use Rattle.cse_types.specs.declared.table.Table.{Table}
+use Rattle.cse_types.specs.TreeOver.{start_of, parts_of, parts_judged, tree_over, with_entries}
 use Rattle.cse_logic_names.specs.Walk.{joined, only_if}
-use Rattle.cse_logic_new_names.proofs.FreshLaws.{fresh_sound}
-use Rattle.cse_logic_new_names.proofs.TableLaws.{table_sound, table_names}
+use Rattle.cse_types.proofs.FreshLaws.{fresh_sound}
+use Rattle.cse_types.proofs.TableLaws.{table_sound, table_names}
 
 module _ (d : DictionaryText) (messages : List MessageText) (x : syntax.Tree) where
   abbrev ds : List syntax.Declaration

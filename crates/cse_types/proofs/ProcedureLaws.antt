@@ -4,14 +4,14 @@ use Rattle.std.specs.Prelude.{Bool, ◌&&◌}
 use Rattle.cse_lemmas.proofs.Lists.{drop_read}
 use Rattle.cse_syntax_tree.specs.Tree as syntax
 use Rattle.cse_syntax_tree.specs.declared.tree.Procedure as rust
-use Rattle.cse_logic_parts.specs.declared.told.Told.{Told}
-use Rattle.cse_logic_parts.specs.Told.{told_of}
+use Rattle.cse_types.specs.declared.told.Told.{Told}
+use Rattle.cse_types.specs.Told.{told_of}
 use Rattle.cse_logic_names.specs.Scope.{Scope}
 use Rattle.cse_logic_names.specs.WellTyped.{body_messages, procedure_messages}
-use Rattle.cse_logic_sources.specs.JudgeTree.{procedure_judged, procedures_judged}
+use Rattle.cse_types.specs.JudgeTree.{procedure_judged, procedures_judged}
 use Rattle.cse_logic_names.specs.Walk.{is_there, joined, so_far, found_more}
 use Rattle.cse_logic_names.proofs.Walks.{turn_is, map_found, there_map}
-use Rattle.cse_logic_sources.proofs.MadeLaws.{told_count}
+use Rattle.cse_types.proofs.MadeLaws.{told_count}
 
 module _ (items : List rust.Procedure) (i : ℕ) (x : rust.Procedure) (lt : i < length items) (is : x ≡ get_or items i x) where
   next : drop i items ≡ x ∷ drop (i + 1) items

@@ -9,7 +9,7 @@ use Rattle.cse_syntax_tree.specs.Tree as syntax
 use Rattle.cse_syntax_tree.specs.Grammar.{Each, IsSource, IsMessage, IsStmt, AreStmts, AreArms, IsDeclaration, IsBody, IsProcedure, IsExpr, IsCounting, AreGlobals}
 use Rattle.cse_syntax_tree.proofs.Rooms.{below}
 use Rattle.cse_logic_names.specs.WellTyped.{messages_in, messages_of, messages_behind, declared_messages, body_messages, procedure_messages, tree_messages, all_declarations}
-use Rattle.cse_logic_sources.specs.Entries.{is_said, are_said}
+use Rattle.cse_types.specs.Entries.{is_said, are_said}
 
 said_more : (xs ys : List (syntax.Message × Bool)) → are_said (xs ++ ys) ≡ (are_said xs && are_said ys)
 said_more [] ys = refl

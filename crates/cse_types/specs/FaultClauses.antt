@@ -4,8 +4,8 @@ use Rattle.cse_syntax_tree.specs.declared.tree.Declaration as parseddeclaration
 use Rattle.cse_syntax_tree.specs.Tree as syntax
 use Rattle.cse_logic_names.specs.Scope.{Scope}
 use Rattle.cse_logic_faults.specs.Faults.{Fault, Counts}
-use Rattle.cse_logic_sources.specs.SourceFaults.{declarations_faults}
-use Rattle.cse_logic_new_names.specs.NameFaults.{names_faults}
+use Rattle.cse_types.specs.SourceFaults.{declarations_faults}
+use Rattle.cse_types.specs.NameFaults.{names_faults}
 
 -- of declarations; so many messages stand before them
 abbrev pub faults_behind : Counts → Scope → ℕ → List parseddeclaration.Declaration → List Fault

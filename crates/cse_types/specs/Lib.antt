@@ -5,3 +5,17 @@ pub mod Gather
 pub mod Clauses
 pub mod Parts
 pub mod FaultClauses
+pub mod Names
+pub mod Fresh
+pub mod Table
+pub mod NameFaults
+pub mod Told
+pub mod PartFaults
+pub mod CountsBehind
+pub mod PartClauses
+pub mod JudgeTree
+pub mod TreeOver
+pub mod Entries
+pub mod SourceFaults
+pub mod SourceClauses
+pub mod Counted

@@ -8,7 +8,7 @@ use Rattle.cse_logic_names.specs.declared.error.TypeError.{TypeError}
 use Rattle.cse_logic_names.specs.Fault.{out_of_memory}
 use Rattle.cse_logic_names.specs.MessageFile.{MessageText}
 use Rattle.cse_logic_faults.specs.Faults.{Fault, least_of}
-use Rattle.cse_logic_sources.specs.SourceFaults.{faults_of}
+use Rattle.cse_types.specs.SourceFaults.{faults_of}
 
 -- this fault, with the line and column of its token
 pub record IsAt (text : List ℕ) (tokens : List Token) (f : Fault) (e : TypeError) : Type 0 where

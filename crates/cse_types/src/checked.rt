@@ -11,7 +11,7 @@ ghost use Rattle.cse_types.specs.Checked.{IsChecked};
 ghost use Rattle.cse_logic_names.specs.Fault.{out_of_memory};
 ghost use Rattle.cse_logic_names.specs.OrderFile.{IsOrderOf};
 ghost use Rattle.cse_logic_names.specs.Texts.{AreTexts, AreUtf8};
-ghost use Rattle.cse_logic_sources.specs.JudgeTree.{typed_of};
+ghost use Rattle.cse_types.specs.JudgeTree.{typed_of};
 ghost use Rattle.cse_types.specs.TheFault.{IsLeast};
 ghost use Rattle.cse_logic_names.specs.WellTyped.{IsTypedAs};
 ghost use Rattle.cse_logic_names.specs.Walk.{is_there};

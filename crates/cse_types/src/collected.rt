@@ -3,22 +3,22 @@
 ghost use Rattle.std.specs.Prelude.{◌≡◌, ◌++◌, map, IfOk, OnOk};
 ghost use Rattle.cse_syntax_tree.specs.Tree as syntax;
 ghost use Rattle.cse_logic_faults.specs.Listed.{listed};
-ghost use Rattle.cse_logic_sources.specs.JudgeTree as judge;
-ghost use Rattle.cse_logic_sources.specs.SourceFaults as spec;
+ghost use Rattle.cse_types.specs.JudgeTree as judge;
+ghost use Rattle.cse_types.specs.SourceFaults as spec;
 ghost use Rattle.cse_types.specs.FaultClauses.{all_faults};
-ghost use Rattle.cse_logic_parts.specs.Clauses.{globals_of};
+ghost use Rattle.cse_types.specs.PartClauses.{globals_of};
 
+use crate::counted_parts::counts_of;
 use crate::declared::all_declarations;
+use crate::new_names::all_names;
+use crate::owned::all_procedures;
+use crate::start::{declared_names, procedures_in, start};
 use cse_dict::Dictionary;
 use cse_logic_faults::counts::Counts;
 use cse_logic_faults::found::Found;
 use cse_logic_names::faults::Fault;
 use cse_logic_names::messages::Messages;
 use cse_logic_names::scope::Scope;
-use cse_logic_new_names::new_names::all_names;
-use cse_logic_parts::counted::counts_of;
-use cse_logic_parts::owned::all_procedures;
-use cse_logic_sources::start::{declared_names, procedures_in, start};
 use cse_syntax_tree::{Declaration, Tree};
 use std::alloc::{AllocError, Global};
 
@@ -70,7 +70,7 @@ fn known<'a>(
 }
 
 /// All of them, in the order of the definition.
-#[tactic(auto, unfolding(cse_logic_sources::specs::SourceFaults::faults_of), using(cse_logic_faults::proofs::Lists::behind))]
+#[tactic(auto, unfolding(crate::specs::SourceFaults::faults_of), using(cse_logic_faults::proofs::Lists::behind))]
 fn found_in<'a>(
     alloc: Global,
     dictionary: &'a Dictionary,

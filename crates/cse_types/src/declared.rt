@@ -2,16 +2,16 @@
 
 ghost use Rattle.std.specs.Prelude.{◌≡◌, ◌++◌, map, length, OnOk};
 ghost use Rattle.cse_syntax_tree.specs.Tree as syntax;
-ghost use Rattle.cse_logic_sources.specs.JudgeTree as judge;
-ghost use Rattle.cse_logic_parts.specs.Told.{told_of};
+ghost use Rattle.cse_types.specs.JudgeTree as judge;
+ghost use Rattle.cse_types.specs.Told.{told_of};
 ghost use Rattle.cse_types.specs.FaultClauses.{faults_behind};
 
 use crate::declaration::declaration;
+use crate::declared_faults::one;
+use crate::told::Told;
 use cse_logic_faults::counts::Counts;
 use cse_logic_faults::found::Found;
 use cse_logic_names::scope::Scope;
-use cse_logic_parts::declared::one;
-use cse_logic_parts::told::Told;
 use cse_syntax_tree::Declaration;
 use std::alloc::{AllocError, Global};
 

@@ -4,21 +4,21 @@ ghost use Rattle.std.specs.Prelude.{◌≡◌, ◌++◌, ◌∷◌, [], map, len
 ghost use Rattle.std.specs.Option.{option_map};
 ghost use Rattle.cse_syntax_tree.specs.Tree as syntax;
 ghost use Rattle.cse_logic_tree.specs.Typed as typed;
-ghost use Rattle.cse_logic_parts.specs.Told.{told_of};
+ghost use Rattle.cse_types.specs.Told.{told_of};
 ghost use Rattle.cse_logic_names.specs.Uses.{facts_of};
 ghost use Rattle.cse_logic_names.specs.WellTyped.{messages_of};
 ghost use Rattle.cse_logic_expressions.specs.JudgeStatement.{judge_block};
-ghost use Rattle.cse_logic_new_names.specs.Fresh.{body_scope};
-ghost use Rattle.cse_logic_sources.specs.Clauses.{behind_judged, function_made, judged_function};
+ghost use Rattle.cse_types.specs.Fresh.{body_scope};
+ghost use Rattle.cse_types.specs.SourceClauses.{behind_judged, function_made, judged_function};
 ghost use Rattle.cse_types.specs.Clauses.{block_made};
 
 use crate::facts::facts_of;
+use crate::parameters::parameters;
 use crate::statement::block;
+use crate::told::Told;
 use cse_logic_names::meaning::Routine;
 use cse_logic_names::names::Parameters;
 use cse_logic_names::scope::{Facts, Scope};
-use cse_logic_new_names::parameters::parameters;
-use cse_logic_parts::told::Told;
 use cse_logic_tree::{Function, Statement};
 use cse_syntax_tree::{Lexeme, Parameter, Statement as Parsed};
 use std::alloc::{AllocError, Global};

@@ -6,19 +6,19 @@ ghost use Rattle.cse_syntax_tree.specs.Tree as syntax;
 ghost use Rattle.cse_syntax_tree.specs.Tree.{written};
 ghost use Rattle.cse_logic_tree.specs.Typed as typed;
 ghost use Rattle.cse_logic_names.specs.WellTyped.{body_messages, procedure_messages, procedure_scope};
-ghost use Rattle.cse_logic_sources.specs.JudgeTree as spec;
-ghost use Rattle.cse_logic_parts.specs.Told.{told_of};
+ghost use Rattle.cse_types.specs.JudgeTree as spec;
+ghost use Rattle.cse_types.specs.Told.{told_of};
 ghost use Rattle.cse_logic_names.specs.Walk.{is_there, joined};
-ghost use Rattle.cse_logic_sources.specs.Clauses.{FindsMore, body_made, procedures_made};
+ghost use Rattle.cse_types.specs.SourceClauses.{FindsMore, body_made, procedures_made};
 ghost use Rattle.cse_types.specs.Clauses.{block_made};
-ghost use Rattle.cse_logic_parts.specs.Clauses.{two_parts};
+ghost use Rattle.cse_types.specs.PartClauses.{two_parts};
 
+use crate::owner::owner_named;
 use crate::statement::block;
+use crate::told::Told;
 use cse_logic_expressions::list::{both_hold, keep};
 use cse_logic_names::meaning::Routine;
 use cse_logic_names::scope::Scope;
-use cse_logic_parts::owner::owner_named;
-use cse_logic_parts::told::Told;
 use cse_logic_tree::{Body, Owner, Procedure, Statement};
 use cse_syntax_tree::{
     Body as ParsedBody, Lexeme, Procedure as Parsed, Statement as ParsedStatement,

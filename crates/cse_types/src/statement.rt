@@ -9,10 +9,11 @@ ghost use Rattle.cse_logic_tree.specs.Typed.{number, statement, arm_tree, otherw
 ghost use Rattle.cse_logic_names.specs.WellTyped.{messages_in, messages_of};
 ghost use Rattle.cse_logic_expressions.specs.JudgeStatement as spec;
 ghost use Rattle.cse_logic_expressions.specs.JudgeStatement.{judge_statement, judge_block, judge_arm, judge_each, messages_each, for_head, counting_judged, opened};
-ghost use Rattle.cse_logic_parts.specs.Told.{told_of};
+ghost use Rattle.cse_types.specs.Told.{told_of};
 ghost use Rattle.cse_logic_names.specs.Walk.{is_there, joined};
 ghost use Rattle.cse_types.specs.Clauses.{arms_made, block_made, said};
 
+use crate::told::Told;
 use cse_logic_expressions::action::{alone, assignment, deck_value, imputation, jump};
 use cse_logic_expressions::errmsg::err_msg;
 use cse_logic_expressions::expression::value;
@@ -20,7 +21,6 @@ use cse_logic_expressions::head::{counting, for_head};
 use cse_logic_expressions::list::{both_hold, keep};
 use cse_logic_expressions::statement_found;
 use cse_logic_names::scope::Scope;
-use cse_logic_parts::told::Told;
 use cse_logic_tree::{Arm, Counting, Number, Statement, StatementKind, Variable};
 use cse_syntax_tree::{
     Arm as ParsedArm, Counting as ParsedCounting, Expression, Lexeme, Message, Statement as Parsed,

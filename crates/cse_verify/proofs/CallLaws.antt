@@ -13,7 +13,7 @@ use Rattle.cse_code_typing.specs.declared.control.Control.TheVariants.{Branch, C
 use Rattle.cse_code_typing.specs.Skeleton.{control_by, control, skeleton}
 use Rattle.cse_code_typing.specs.Order.{is_run}
 use Rattle.cse_code_typing.specs.Calls.{needs_case, calls_well, may_stand, AllMayStand, may_call}
-use Rattle.cse_code_bounds.specs.Bound.{CallsBelow}
+use Rattle.cse_verify.specs.Bound.{CallsBelow}
 
 row_calls_none : (b : Bool) (c k : ℕ) → cond b (Branch c) Step ≡ Call k → ⊥
 row_calls_none true c k e = cc

@@ -21,8 +21,8 @@ use Rattle.cse_code_typing.specs.Rule.{rule}
 use Rattle.cse_code_typing.specs.Typing.{Stacks, IsTypingBelow}
 use Rattle.cse_code_typing.specs.Typed.{scene_of, IsTyped}
 use Rattle.cse_code_typing.specs.Depth.{no_depth, ◌⊕◌, greater, count_of, locals_depth, depth_at, or_none, call_depth, depth_by, place_depth, depth_below, AreDepths, greatest}
-use Rattle.cse_code_bounds.specs.Frames.{frames_in_call, most_frames, frames_below, frames_of, frames, greatest as greatest_number}
-use Rattle.cse_code_bounds.proofs.OpenLaws.{frames_told}
+use Rattle.cse_verify.specs.Frames.{frames_in_call, most_frames, frames_below, frames_of, frames, greatest as greatest_number}
+use Rattle.cse_verify.proofs.OpenLaws.{frames_told}
 use Rattle.cse_verify.proofs.CallLaws.{calls_below}
 use Rattle.cse_verify.specs.declared.depth.Depth.{Depth}
 use Rattle.cse_verify.specs.Depths.{IsDepthOf}

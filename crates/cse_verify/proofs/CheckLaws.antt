@@ -7,7 +7,7 @@ use Rattle.cse_image.specs.declared.error.ImageError.{ImageError}
 use Rattle.cse_image.specs.Place.{Answers}
 use Rattle.cse_code_typing.specs.declared.refusal.Refusal.{Refusal}
 use Rattle.cse_code_typing.specs.Typed.{IsTyped, IsOutOfMemory}
-use Rattle.cse_code_bounds.specs.Bounded.{IsBounded}
+use Rattle.cse_verify.specs.Bounded.{IsBounded}
 use Rattle.cse_verify.specs.declared.image.CheckFault.{CheckFault}
 use Rattle.cse_verify.specs.declared.image.CheckFault.TheVariants as faults
 use Rattle.cse_verify.specs.Checked.{of_reading, of_verifying}

@@ -17,8 +17,8 @@ use Rattle.cse_code_typing.specs.Typing.{HasTypingBelow, HasNoStackAt}
 use Rattle.cse_code_typing.specs.Calls.{may_stand, MayStandBelow}
 use Rattle.cse_code_typing.specs.Typed.{scene_of, IsTypedRoutine, AreTypedBelow, IsTyped, BreaksRules, MayNotStand, HasNoStack, IsNowhere, IsOfOtherShape, HasUnfitEvents}
 use Rattle.cse_code_typing.proofs.TypedLaws.{fewer_typed}
-use Rattle.cse_code_bounds.specs.Bound.{partial, bounds_below, bound, AreBoundedBelow, PassesLimit}
-use Rattle.cse_code_bounds.proofs.SumLaws.{partial_grows}
+use Rattle.cse_verify.specs.Bound.{partial, bounds_below, bound, AreBoundedBelow, PassesLimit}
+use Rattle.cse_verify.proofs.SumLaws.{partial_grows}
 use Rattle.cse_verify.specs.FirstFault.{IsUntypedRoutine, IsTooLongRoutine, AreUnfitEvents, IsTooLongCase, IsFirstFault, FirstReasonIsOne}
 
 refusal_eq : (e f : Refusal) → e.number ≡ f.number → e.routine ≡ f.routine → e.at ≡ f.at → e ≡ f

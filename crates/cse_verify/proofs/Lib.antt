@@ -7,3 +7,13 @@ pub mod FirstLaws
 pub mod MeaningLaws
 pub mod WalkLaws
 mod CheckLaws
+pub mod WeightLaws
+pub mod SumLaws
+pub mod FrameLaws
+pub mod EventLaws
+pub mod CaseLaws
+pub mod Tails
+pub mod Later
+pub mod BoundWalkLaws
+pub mod OpenLaws
+pub mod FitLaws

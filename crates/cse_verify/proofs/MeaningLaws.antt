@@ -23,9 +23,9 @@ use Rattle.cse_code_typing.specs.Depth.{◌⊕◌, locals_depth, depth_below, Ar
 use Rattle.cse_code_typing.specs.Typed.{scene_of, IsTypedRoutine, IsTyped}
 use Rattle.cse_code_typing.proofs.Twins.{AllTwins, twins_of_routine, code_mapped, same_skeleton, to_left, to_right, same_depth, stand_left, stand_right}
 use Rattle.cse_code_typing.proofs.Upgrades.{upgrade_twins}
-use Rattle.cse_code_bounds.specs.Bound.{partial, bounds_below, bound}
-use Rattle.cse_code_bounds.specs.EventBound.{times_in_case, case_bound}
-use Rattle.cse_code_bounds.specs.Frames.{most_frames, frames_below, frames, greatest as greatest_number}
+use Rattle.cse_verify.specs.Bound.{partial, bounds_below, bound}
+use Rattle.cse_verify.specs.EventBound.{times_in_case, case_bound}
+use Rattle.cse_verify.specs.Frames.{most_frames, frames_below, frames, greatest as greatest_number}
 use Rattle.cse_verify.specs.declared.depth.Depth.{Depth}
 use Rattle.cse_verify.specs.Depths.{IsDepthOf}
 use Rattle.cse_verify.specs.Meaning.{MeansSame, UpgradeMeansSame}

@@ -21,11 +21,11 @@ use Rattle.cse_code_typing.specs.Checked.{IsSound, FailsRules, FailsCalls, Fails
 use Rattle.cse_code_typing.specs.Typed.{scene_of, AreTypedBelow, IsTypedRoutine, IsOutOfMemory, BreaksRules, MayNotStand, HasNoStack}
 use Rattle.cse_code_typing.proofs.Few.{none_kept}
 use Rattle.cse_code_typing.proofs.TypedLaws.{routine_typed, typed_more, routine_of}
-use Rattle.cse_code_bounds.specs.Limit.{step_limit}
-use Rattle.cse_code_bounds.specs.Bound.{partial, bounds_below, bound, AreBoundedBelow, PassesLimit, IsTooLong, CallsBelow}
-use Rattle.cse_code_bounds.specs.Frames.{most_frames, frames_below}
-use Rattle.cse_code_bounds.proofs.EventLaws.{length-bounds, table_small}
-use Rattle.cse_code_bounds.proofs.OpenLaws.{length-frames}
+use Rattle.cse_verify.specs.Limit.{step_limit}
+use Rattle.cse_verify.specs.Bound.{partial, bounds_below, bound, AreBoundedBelow, PassesLimit, IsTooLong, CallsBelow}
+use Rattle.cse_verify.specs.Frames.{most_frames, frames_below}
+use Rattle.cse_verify.proofs.EventLaws.{length-bounds, table_small}
+use Rattle.cse_verify.proofs.OpenLaws.{length-frames}
 use Rattle.cse_verify.proofs.CallLaws.{calls_below}
 use Rattle.cse_verify.specs.FirstFault.{IsUntypedRoutine, IsTooLongRoutine, IsFirstFault}
 use Rattle.cse_verify.specs.Measured.{AreMeasured, Exceeds}

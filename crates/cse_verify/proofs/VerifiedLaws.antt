@@ -7,18 +7,18 @@ use Rattle.cse_image_parts.specs.Image.{Image}
 use Rattle.cse_code_typing.specs.declared.refusal.Refusal.{Refusal}
 use Rattle.cse_code_typing.specs.Typed.{IsTyped, BreaksRules, MayNotStand, HasNoStack, IsOfOtherShape, HasUnfitEvents, IsOutOfMemory, Refuses}
 use Rattle.cse_code_typing.proofs.TypedLaws.{never_typed}
-use Rattle.cse_code_bounds.specs.Limit.{step_limit}
-use Rattle.cse_code_bounds.specs.Bound.{partial, bounds_below, bound}
+use Rattle.cse_verify.specs.Limit.{step_limit}
+use Rattle.cse_verify.specs.Bound.{partial, bounds_below, bound}
 use Rattle.cse_code_typing.specs.Skeleton.{skeleton_of}
-use Rattle.cse_code_bounds.specs.EventBound.{case_bound, run_bound}
-use Rattle.cse_code_bounds.specs.Bounded.{IsBounded}
-use Rattle.cse_code_bounds.proofs.EventLaws.{length-bounds, bounds_at}
-use Rattle.cse_code_bounds.proofs.SumLaws.{partial_grows}
+use Rattle.cse_verify.specs.EventBound.{case_bound, run_bound}
+use Rattle.cse_verify.specs.Bounded.{IsBounded}
+use Rattle.cse_verify.proofs.EventLaws.{length-bounds, bounds_at}
+use Rattle.cse_verify.proofs.SumLaws.{partial_grows}
 use Rattle.cse_verify.specs.declared.depth.Depth.{Depth}
 use Rattle.cse_dict.specs.Dictionary.{shape_of}
 use Rattle.cse_code_typing.specs.declared.depth.Depth.{Depth as Cells}
 use Rattle.cse_code_typing.specs.Depth.{AreDepths, greatest}
-use Rattle.cse_code_bounds.specs.Frames.{greatest as greatest_number}
+use Rattle.cse_verify.specs.Frames.{greatest as greatest_number}
 use Rattle.cse_verify.specs.Measured.{AreMeasured, IsGreatest}
 use Rattle.cse_verify.specs.FirstFault.{IsUntypedRoutine, IsTooLongRoutine, AreUnfitEvents, IsTooLongCase, IsFirstFault}
 use Rattle.cse_verify.specs.Verified.{VerifiedProgram, MayRun, IsKept}

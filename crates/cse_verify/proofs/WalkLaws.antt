@@ -4,7 +4,7 @@ use Rattle.cse_value.specs.Shape.{ShapeLists}
 use Rattle.cse_image_parts.specs.Image.{Image}
 use Rattle.cse_code_typing.specs.Code.{code_of}
 use Rattle.cse_code_typing.specs.Typed.{IsTyped}
-use Rattle.cse_code_bounds.specs.Calls.{AllKeepRules, AllCallSmaller}
+use Rattle.cse_verify.specs.Calls.{AllKeepRules, AllCallSmaller}
 use Rattle.cse_verify.proofs.CallLaws.{calls_below}
 
 pub all_keep : (s : ShapeLists) (x : Image) → IsTyped s x → AllKeepRules x

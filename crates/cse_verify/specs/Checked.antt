@@ -8,7 +8,7 @@ use Rattle.cse_image.specs.Reading.{reading}
 use Rattle.cse_image.specs.Place.{placed}
 use Rattle.cse_code_typing.specs.declared.refusal.Refusal.{Refusal}
 use Rattle.cse_code_typing.specs.Typed.{IsTyped}
-use Rattle.cse_code_bounds.specs.Bounded.{IsBounded}
+use Rattle.cse_verify.specs.Bounded.{IsBounded}
 use Rattle.cse_verify.specs.FirstFault.{IsFirstFault}
 use Rattle.cse_verify.specs.declared.image.CheckFault.{CheckFault}
 use Rattle.cse_verify.specs.declared.image.CheckFault.TheVariants as faults

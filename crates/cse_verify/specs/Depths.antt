@@ -4,7 +4,7 @@ use Rattle.cse_value.specs.Shape.{ShapeLists}
 use Rattle.cse_image_parts.specs.Image.{Image}
 use Rattle.cse_code_typing.specs.declared.depth.Depth.{Depth as Cells}
 use Rattle.cse_code_typing.specs.Depth.{AreDepths, greatest}
-use Rattle.cse_code_bounds.specs.Frames.{frames}
+use Rattle.cse_verify.specs.Frames.{frames}
 use Rattle.cse_verify.specs.declared.depth.Depth.{Depth}
 
 -- each number is the greatest over the routines of the program; the table has their numbers, texts and ordinals

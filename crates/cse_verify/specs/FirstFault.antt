@@ -6,9 +6,9 @@ use Rattle.cse_image_parts.specs.Image.{Image}
 use Rattle.cse_code_typing.specs.declared.refusal.Refusal.{Refusal}
 use Rattle.cse_code_typing.specs.Shapes.{shape_of}
 use Rattle.cse_code_typing.specs.Typed.{AreTypedBelow, IsTyped, BreaksRules, MayNotStand, HasNoStack, IsNowhere, IsOfOtherShape, HasUnfitEvents}
-use Rattle.cse_code_bounds.specs.Limit.{step_limit}
-use Rattle.cse_code_bounds.specs.Bound.{AreBoundedBelow, IsTooLong}
-use Rattle.cse_code_bounds.specs.EventBound.{case_bound}
+use Rattle.cse_verify.specs.Limit.{step_limit}
+use Rattle.cse_verify.specs.Bound.{AreBoundedBelow, IsTooLong}
+use Rattle.cse_verify.specs.EventBound.{case_bound}
 
 -- 65, 69 and 66 at a routine: those before it are typed, and bounded too
 pub record IsUntypedRoutine (s : ShapeLists) (x : Image) (e : Refusal) : Type 0 where

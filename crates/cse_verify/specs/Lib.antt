@@ -5,3 +5,14 @@ pub mod Measured
 pub mod Chain
 pub mod Meaning
 pub mod Checked
+pub mod Limit
+pub mod Weight
+pub mod Bound
+pub mod EventBound
+pub mod Bounded
+pub mod Frames
+pub mod CaseEvents
+pub mod Walk
+pub mod Rest
+pub mod Calls
+pub mod Running

@@ -11,8 +11,8 @@ use Rattle.cse_code_typing.specs.Skeleton.{skeleton_of}
 use Rattle.cse_code_typing.specs.Rule.{rule}
 use Rattle.cse_code_typing.specs.Typing.{Stacks, IsTypingBelow}
 use Rattle.cse_code_typing.specs.Typed.{scene_of, IsTyped}
-use Rattle.cse_code_bounds.specs.Bound.{bound}
-use Rattle.cse_code_bounds.specs.EventBound.{case_bound}
+use Rattle.cse_verify.specs.Bound.{bound}
+use Rattle.cse_verify.specs.EventBound.{case_bound}
 use Rattle.cse_verify.specs.declared.depth.Depth.{Depth}
 use Rattle.cse_verify.specs.Depths.{IsDepthOf}
 

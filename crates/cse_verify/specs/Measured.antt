@@ -7,8 +7,8 @@ use Rattle.cse_code_typing.specs.declared.refusal.Refusal.{Refusal}
 use Rattle.cse_code_typing.specs.declared.depth.Depth.{Depth as Cells}
 use Rattle.cse_code_typing.specs.Depth.{AreDepths, KeepFew, greatest}
 use Rattle.cse_code_typing.specs.Typed.{AreTypedBelow}
-use Rattle.cse_code_bounds.specs.Bound.{bounds_below, AreBoundedBelow, PassesLimit}
-use Rattle.cse_code_bounds.specs.Frames.{frames_below, greatest as greatest_number}
+use Rattle.cse_verify.specs.Bound.{bounds_below, AreBoundedBelow, PassesLimit}
+use Rattle.cse_verify.specs.Frames.{frames_below, greatest as greatest_number}
 use Rattle.cse_verify.specs.declared.depth.Depth.{Depth}
 
 -- the routines below n are typed and bounded, and the tables are of their bounds, of their open

@@ -3,9 +3,9 @@ use Rattle.std.specs.Prelude.{◌≡◌, ℕ, List, length}
 use Rattle.cse_dict.specs.Dictionary.{DictionaryText, shape_of}
 use Rattle.cse_image_parts.specs.Image.{Image}
 use Rattle.cse_code_typing.specs.Typed.{IsTyped}
-use Rattle.cse_code_bounds.specs.Bound.{bounds_below}
-use Rattle.cse_code_bounds.specs.EventBound.{case_bound, run_bound}
-use Rattle.cse_code_bounds.specs.Bounded.{IsBounded}
+use Rattle.cse_verify.specs.Bound.{bounds_below}
+use Rattle.cse_verify.specs.EventBound.{case_bound, run_bound}
+use Rattle.cse_verify.specs.Bounded.{IsBounded}
 use Rattle.cse_verify.specs.declared.depth.Depth.{Depth}
 use Rattle.cse_verify.specs.Depths.{IsDepthOf}
 

@@ -1,7 +1,7 @@
 //! How much the calls of a run keep at most.
 
 ghost use Rattle.std.specs.Prelude.{◌≡◌};
-ghost use Rattle.cse_code_bounds.specs.Frames.{greatest as greatest_number};
+ghost use Rattle.cse_verify.specs.Frames.{greatest as greatest_number};
 ghost use Rattle.cse_verify.specs.Measured.{IsGreatest};
 
 use cse_code_typing::Depth as Cells;

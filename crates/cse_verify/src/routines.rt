@@ -5,13 +5,14 @@ ghost use Rattle.cse_value.specs.Shape.{shape_lists};
 ghost use Rattle.cse_code_typing.specs.Shapes.{shape_of};
 ghost use Rattle.cse_code_typing.specs.Bracket.{KeepsRules};
 ghost use Rattle.cse_code_typing.specs.Typed.{IsNowhere, IsOutOfMemory};
-ghost use Rattle.cse_code_bounds.specs.Bound.{partial, CallsBelow};
-ghost use Rattle.cse_code_bounds.specs.Limit.{step_limit};
-ghost use Rattle.cse_code_bounds.specs.Frames.{most_frames};
+ghost use Rattle.cse_verify.specs.Bound.{partial, CallsBelow};
+ghost use Rattle.cse_verify.specs.Limit.{step_limit};
+ghost use Rattle.cse_verify.specs.Frames.{most_frames};
 ghost use Rattle.cse_verify.specs.FirstFault.{IsFirstFault};
 ghost use Rattle.cse_verify.specs.Measured.{AreMeasured, Exceeds};
 
-use cse_code_bounds::{bound_of, frames_of};
+use crate::frames::frames_of;
+use crate::sum::bound_of;
 use cse_code_typing::{Depth as Cells, NONE, Refusal, RoutineCode, Surroundings, check_routine};
 use cse_fault_numbers::TOO_MANY_STEPS;
 use cse_image::{Code, Program};

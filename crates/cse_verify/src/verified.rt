@@ -1,19 +1,19 @@
 //! A program that may run with a dictionary, and how much it may take.
 
 ghost use Rattle.std.specs.Prelude.{◌≡◌, ℕ, ◌<◌, ◌≤◌, List, length};
-ghost use Rattle.cse_code_bounds.specs.Bound.{bound};
-ghost use Rattle.cse_code_bounds.specs.Limit.{step_limit};
-ghost use Rattle.cse_code_bounds.specs.EventBound.{case_bound, run_bound};
-ghost use Rattle.cse_code_bounds.specs.Calls.{StepsKeepToBound, RestFalls, WalksGoOn, WalksStayInside, RestIsBound, OpensKeepToFrames};
-ghost use Rattle.cse_code_bounds.specs.CaseEvents.{Moment, case_events, events_bound, KeepsMost, KeepsTimes};
+ghost use Rattle.cse_verify.specs.Bound.{bound};
+ghost use Rattle.cse_verify.specs.Limit.{step_limit};
+ghost use Rattle.cse_verify.specs.EventBound.{case_bound, run_bound};
+ghost use Rattle.cse_verify.specs.Calls.{StepsKeepToBound, RestFalls, WalksGoOn, WalksStayInside, RestIsBound, OpensKeepToFrames};
+ghost use Rattle.cse_verify.specs.CaseEvents.{Moment, case_events, events_bound, KeepsMost, KeepsTimes};
 ghost use Rattle.cse_dict.specs.Dictionary.{shape_of};
 ghost use Rattle.cse_verify.specs.Chain.{Calling, IsChain, KeepsToDepth};
 ghost use Rattle.cse_verify.specs.Depths.{IsDepthOf};
 ghost use Rattle.cse_verify.specs.declared.depth.Depth.{Depth};
 ghost use Rattle.cse_verify.specs.Verified.{MayRun, IsKept};
 
+use crate::bound_laws::{events_keep_to_bound, walks_keep_to_bound};
 use crate::depth::Depth;
-use cse_code_bounds::{events_keep_to_bound, walks_keep_to_bound};
 use cse_dict::Dictionary;
 use cse_image::{Code, Owned, Program};
 use std::marker::Model;

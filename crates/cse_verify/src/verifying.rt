@@ -3,14 +3,14 @@
 ghost use Rattle.std.specs.Prelude.{◌≡◌, IfOk, OnOk, IfErr, ◌⊎◌};
 ghost use Rattle.cse_dict.specs.Dictionary.{shape_of};
 ghost use Rattle.cse_code_typing.specs.Typed.{IsTyped, IsOutOfMemory};
-ghost use Rattle.cse_code_bounds.specs.Bounded.{IsBounded};
+ghost use Rattle.cse_verify.specs.Bounded.{IsBounded};
 ghost use Rattle.cse_verify.specs.FirstFault.{IsFirstFault};
 
 use crate::depth::depth_of;
+use crate::events::{case_steps, run_steps};
 use crate::routines::{check_routines, nowhere};
 use crate::shape::same_shape;
 use crate::verified::Verified;
-use cse_code_bounds::{case_steps, run_steps};
 use cse_code_typing::{Refusal, check_events};
 use cse_dict::Dictionary;
 use cse_fault_numbers::{OTHER_SHAPE, TOO_MANY_STEPS};

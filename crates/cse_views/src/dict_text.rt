@@ -1,11 +1,11 @@
 //! What was read of a dictionary, as one who checks it looks at it.
 
+use crate::names::{Names, is_set};
+use crate::rows::Rows;
 use crate::sets_text::put_set;
+use crate::text::{Cell, Text};
 use cse_sections::number::whole_of;
 use cse_sections::text::is_same;
-use cse_tables::names::{Names, is_set};
-use cse_tables::rows::Rows;
-use cse_tables::text::{Cell, Text};
 use cse_value::shape::{ID_OWNER, ItemKind, ItemShape, RecordShape};
 
 /// Whether a data type is that of numeric items.

@@ -2,9 +2,9 @@
 //! another one.
 
 use crate::columns::column_at;
+use crate::names::Names;
 use cse_dict::Dictionary;
 use cse_lines::Columns;
-use cse_tables::names::Names;
 use cse_value::number::Num;
 use cse_value::read_num;
 use cse_value::shape::{ItemKind, ItemShape};

@@ -1,8 +1,8 @@
 //! What the fields of an instruction stand for.
 
+use crate::names::Names;
+use crate::text::{Cell, Text};
 use cse_image::{Instr, Op, Tables};
-use cse_tables::names::Names;
-use cse_tables::text::{Cell, Text};
 
 /// The special values, by their codes.
 static SPECIALS: [&str; 3] = [" NOTAPPL", " MISSING", " DEFAULT"];

@@ -5,11 +5,11 @@ ghost use Rattle.cse_value.specs.Device.{IsAtEnd};
 
 use crate::columns::{column_at, line_at};
 use crate::field::Found;
+use crate::names::Names;
 use crate::record::Record;
 use cse_dict::Dictionary;
 use cse_lines::layout::{ColumnSpan, id_blocks};
 use cse_lines::{Columns, DataError, Lines, RunReader};
-use cse_tables::names::Names;
 use cse_value::Input;
 use std::alloc::{AllocError, Global};
 use std::collections::HashSet;

@@ -2,10 +2,10 @@
 
 use crate::field::{FieldKind, Found};
 use crate::look::Look;
+use crate::names::Names;
 use crate::record::Record;
-use cse_tables::names::Names;
-use cse_tables::rows::Rows;
-use cse_tables::text::{Cell, Text};
+use crate::rows::Rows;
+use crate::text::{Cell, Text};
 
 /// Writes how many there are, and the line of the first.
 fn put_found(out: &mut Text, word: &str, found: Found) {

@@ -1,9 +1,9 @@
 //! The lines of a record, and what was found in the fields of its items.
 
 use crate::field::Field;
+use crate::names::Names;
 use cse_dict::Dictionary;
 use cse_lines::Columns;
-use cse_tables::names::Names;
 use cse_value::shape::{ID_OWNER, RecordShape};
 use std::alloc::{AllocError, Global};
 

@@ -1,9 +1,9 @@
 //! Messages and imputations as a page.
 
+use crate::names::Names;
 use crate::report::{Imputed, Report};
 use crate::report_text::{item_of, label_of};
-use cse_tables::names::Names;
-use cse_tables::text::{Cell, Text, share};
+use crate::text::{Cell, Text, share};
 
 /// Writes the messages.
 fn put_messages(out: &mut Text, report: &Report) {

@@ -1,10 +1,10 @@
 //! Messages and imputations as CSV: a row for each message, each imputed item and each of its values.
 
+use crate::names::Names;
 use crate::report::{Imputed, Report};
 use crate::report_text::{item_of, label_of};
-use cse_tables::names::Names;
-use cse_tables::sheet::Sheet;
-use cse_tables::text::{Cell, share};
+use crate::sheet::Sheet;
+use crate::text::{Cell, share};
 use cse_value::Output;
 
 /// Writes an imputed item and its values.

@@ -1,9 +1,9 @@
 //! Messages and imputations with their shares, on a terminal.
 
+use crate::names::Names;
 use crate::report::{Imputed, Report};
-use cse_tables::names::Names;
-use cse_tables::rows::Rows;
-use cse_tables::text::{Cell, Text, share};
+use crate::rows::Rows;
+use crate::text::{Cell, Text, share};
 
 /// The number of an item, by its name; a number of none where there is none.
 pub fn item_of(names: &Names<'_>, name: &str) -> usize {

@@ -1,13 +1,13 @@
 //! The value sets of a dictionary, as one who checks it looks at them.
 
 use crate::dict_text::{is_alpha, is_numeric, put_label};
+use crate::names::Names;
+use crate::rows::Rows;
+use crate::spelled::{first_language, label_of, row_of, text_of, value_at};
+use crate::text::{Cell, Text};
 use cse_sections::number::whole_of;
 use cse_sections::sections::Section;
 use cse_sections::text::{is_same, trimmed};
-use cse_tables::names::Names;
-use cse_tables::rows::Rows;
-use cse_tables::spelled::{first_language, label_of, row_of, text_of, value_at};
-use cse_tables::text::{Cell, Text};
 
 /// The first piece of pairs, and those behind it: a piece ends at a blank outside quotes.
 fn first_piece(pairs: &[u8]) -> (&[u8], &[u8]) {

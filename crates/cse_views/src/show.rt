@@ -1,13 +1,13 @@
 //! An image as text: the tables of a program, and its routines with their instructions.
 
 use crate::fields::{put_fields, put_item, put_quoted, put_record};
+use crate::names::Names;
 use crate::op_names::op_name;
 use crate::steps::Steps;
+use crate::text::{Cell, Text};
 use cse_image::{
     Ambient, Code, EventCode, EventEntry, Gift, GlobalKind, Op, Program, Routine, Tables,
 };
-use cse_tables::names::Names;
-use cse_tables::text::{Cell, Text};
 use std::alloc::Global;
 
 /// Writes the instructions of a routine, from one of the program's on, each on a line, so far to the right as brackets are open

@@ -1,5 +1,5 @@
 use Rattle.std.proofs.Common.{Some, ◌∙◌, sym, ap, refl, cond, []}
-use Rattle.cse_code_bounds.specs.CaseEvents.{case_events}
+use Rattle.cse_verify.specs.CaseEvents.{case_events}
 use Rattle.cse_report.specs.AllReported.{all_reported}
 use Rattle.cse_report.specs.Held.{reported}
 use Rattle.cse_report.specs.Listing.{BeginsCase}

@@ -1,5 +1,5 @@
 use Rattle.std.proofs.Common.{Some}
-use Rattle.cse_code_bounds.specs.CaseEvents.{records_events}
+use Rattle.cse_verify.specs.CaseEvents.{records_events}
 use Rattle.cse_steps.specs.Fits.{occurrences_in}
 use Rattle.cse_batch_parts.specs.Scene.{scene}
 use Rattle.cse_batch_parts.proofs.SceneLaws.{records_same, scene_around}

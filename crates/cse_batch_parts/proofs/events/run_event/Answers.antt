@@ -1,8 +1,8 @@
 use Rattle.std.proofs.Common.{Some, [], ◌∷◌, ◌∙◌, ap, refl, subst, sym}
 use Rattle.std.proofs.lemmas.Result.{on_ok_weaker}
-use Rattle.cse_code_bounds.specs.CaseEvents.{moment}
+use Rattle.cse_verify.specs.CaseEvents.{moment}
 use Rattle.cse_code_typing.specs.Handlers.{routine_of}
-use Rattle.cse_event_runs.specs.Results.{AllFitFirst}
+use Rattle.cse_steps.specs.Results.{AllFitFirst}
 use Rattle.cse_verify.specs.Verified.{VerifiedProgram}
 use Rattle.cse_steps.specs.State.{world_of}
 use Rattle.cse_batch_parts.proofs.SceneLaws.{all_fit, all_ran_fits, all_ran_scene}

@@ -1,5 +1,5 @@
 use Rattle.std.proofs.Common.{Some, sym, ◌∙◌}
-use Rattle.cse_code_bounds.specs.CaseEvents.{moment}
+use Rattle.cse_verify.specs.CaseEvents.{moment}
 use Rattle.cse_batch_parts.specs.Scene.{scene}
 use Rattle.cse_batch_parts.proofs.HandledLaws.{not_handled, routine_is, scene_unhandled}
 use Rattle.cse_batch_parts.proofs.events.run_if_handled.Goals as goal

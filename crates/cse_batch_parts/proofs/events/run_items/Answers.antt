@@ -2,9 +2,9 @@ use Rattle.std.proofs.Common.{List, Some, ap, refl, subst, sym, ◌∙◌}
 use Rattle.std.proofs.lemmas.Result.{on_ok_weaker}
 use Rattle.cse_steps.specs.Fits.{occurrences_in}
 use Rattle.cse_steps.specs.State.{world_of}
-use Rattle.cse_event_runs.specs.declared.handled.Handled.{Handled}
-use Rattle.cse_event_runs.specs.Handled.{AllHandled, events_of}
-use Rattle.cse_event_runs.specs.Results.{AllFitFirst, in_occurrence}
+use Rattle.cse_steps.specs.declared.handled.Handled.{Handled}
+use Rattle.cse_steps.specs.Handled.{AllHandled, events_of}
+use Rattle.cse_steps.specs.Results.{AllFitFirst, in_occurrence}
 use Rattle.cse_verify.specs.Verified.{VerifiedProgram}
 use Rattle.cse_batch_parts.specs.Scene.{scene, scene_after_all}
 use Rattle.cse_batch_parts.proofs.HandledLaws.{all_handled, items_scene, items_there}

@@ -1,5 +1,5 @@
 use Rattle.std.proofs.Common.{◌≡◌, ◌+◌, ◌-◌, Some}
-use Rattle.cse_code_bounds.specs.CaseEvents.{occurrence_events}
+use Rattle.cse_verify.specs.CaseEvents.{occurrence_events}
 use Rattle.cse_report.specs.Reports.{ReportsFit}
 use Rattle.cse_batch_parts.specs.Scene.{GoesOn, scene, scene_after_all}
 use Rattle.cse_batch_parts.proofs.events.run_occurrences.Given as goal

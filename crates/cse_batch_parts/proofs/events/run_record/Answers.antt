@@ -1,5 +1,5 @@
 use Rattle.std.proofs.Common.{Some, ap}
-use Rattle.cse_code_bounds.specs.CaseEvents.{occurrence_events}
+use Rattle.cse_verify.specs.CaseEvents.{occurrence_events}
 use Rattle.cse_steps.specs.Fits.{occurrences_in}
 use Rattle.cse_batch_parts.specs.Scene.{scene}
 use Rattle.cse_batch_parts.proofs.SceneLaws.{scene_around}

@@ -1,7 +1,7 @@
 use Rattle.std.proofs.Common.{◌≡◌, ◌+◌, ◌<◌, ◌∷◌, [], ℕ, List, Some, map, ◌∙◌, ap, arith, drop, get_or, length, subst, sym}
 use Rattle.std.specs.List.{AllByRecursion}
 use Rattle.std.proofs.lemmas.List.{drop_all, drop_more}
-use Rattle.cse_code_bounds.specs.CaseEvents.{record_events, records_events}
+use Rattle.cse_verify.specs.CaseEvents.{record_events, records_events}
 use Rattle.cse_steps.specs.Fits.{occurrences_in}
 use Rattle.cse_batch_parts.specs.declared.handled.HandledRecord.{HandledRecord}
 use Rattle.cse_batch_parts.specs.Handled.{IsHandledRecord, number_of}

@@ -1,6 +1,6 @@
 use Rattle.std.proofs.Common.{◌≡◌, Some, drop, map}
 use Rattle.std.specs.List.{AllByRecursion}
-use Rattle.cse_code_bounds.specs.CaseEvents.{records_events}
+use Rattle.cse_verify.specs.CaseEvents.{records_events}
 use Rattle.cse_report.specs.Reports.{ReportsFit}
 use Rattle.cse_steps.specs.Fits.{occurrences_in}
 use Rattle.cse_batch_parts.specs.Handled.{IsHandledRecord, number_of}

@@ -1,6 +1,6 @@
 use Rattle.std.proofs.Common.{◌≡◌, ◌++◌, drop}
 use Rattle.std.specs.List.{filter_map}
-use Rattle.cse_event_runs.specs.Handled.{handled_by}
+use Rattle.cse_steps.specs.Handled.{handled_by}
 use Rattle.cse_batch_parts.specs.Handled.{events_of_items}
 use Rattle.cse_batch_parts.proofs.handled.events_of_items.Given as goal
 

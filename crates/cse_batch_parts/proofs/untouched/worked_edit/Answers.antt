@@ -12,7 +12,7 @@ use Rattle.cse_case.specs.Seen.{occurrence_places, unseen_of, is_case}
 use Rattle.cse_code_typing.specs.Bracket.{around, around_below}
 use Rattle.cse_code_typing.specs.Code.{code_of}
 use Rattle.cse_code_typing.specs.Skeleton.{control_by}
-use Rattle.cse_code_bounds.specs.Bound.{partial}
+use Rattle.cse_verify.specs.Bound.{partial}
 use Rattle.cse_steps.specs.Run.{first}
 use Rattle.cse_steps.specs.Step.{acts}
 use Rattle.cse_batch_parts.specs.Events.{final, edited}

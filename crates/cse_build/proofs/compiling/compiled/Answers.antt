@@ -3,7 +3,7 @@ use Rattle.cse_dict.specs.Dictionary.{DictionaryText, shape_of}
 use Rattle.cse_dict.specs.Sound.{IsSound as IsSoundDictionary}
 use Rattle.cse_logic_tree.specs.Typed.{tree}
 use Rattle.cse_types.specs.Answer.{checked}
-use Rattle.cse_law_sources_have_room.specs.Given.{ShapeFits}
+use Rattle.cse_meaning.specs.Given.{ShapeFits}
 use Rattle.cse_build.proofs.Promises.{reasons_alone, no_room, within_limits, long_at_cost}
 use Rattle.cse_build.proofs.compiling.compiled.Goals as goal
 

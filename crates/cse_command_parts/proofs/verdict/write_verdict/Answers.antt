@@ -1,6 +1,6 @@
 use Rattle.std.proofs.Common.{List, ℕ, length, subst}
 use Rattle.std.proofs.lemmas.Result.{err_from_is_err_and}
-use Rattle.cse_code_bounds.specs.EventBound.{case_bound, run_bound}
+use Rattle.cse_verify.specs.EventBound.{case_bound, run_bound}
 use Rattle.cse_value.proofs.WriteLaws.{AppendsFront-more, WritesAll-after}
 use Rattle.cse_value.specs.Writing.{WritesAll}
 use Rattle.cse_command_parts.specs.Verdict.{routine_lines, last_lines}

@@ -1,4 +1,4 @@
-use Rattle.cse_steps.proofs.Runs.{composed}
+use Rattle.cse_steps.proofs.WholeRuns.{composed}
 use Rattle.cse_meaning.proofs.Assigned.{assigned}
 use Rattle.cse_meaning.proofs.laws.assignments_go.Goals as goal
 

@@ -1,4 +1,4 @@
-use Rattle.cse_steps.proofs.Runs.{composed}
+use Rattle.cse_steps.proofs.WholeRuns.{composed}
 use Rattle.cse_meaning.proofs.Events.{all_mean}
 use Rattle.cse_meaning.proofs.laws.events_mean.Goals as goal
 

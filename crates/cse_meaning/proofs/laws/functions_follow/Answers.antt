@@ -1,4 +1,4 @@
-use Rattle.cse_steps.proofs.Runs.{composed}
+use Rattle.cse_steps.proofs.WholeRuns.{composed}
 use Rattle.cse_meaning.proofs.Functions.{all_follow}
 use Rattle.cse_meaning.proofs.laws.functions_follow.Goals as goal
 

@@ -1,4 +1,4 @@
-use Rattle.cse_steps.proofs.Runs.{composed}
+use Rattle.cse_steps.proofs.WholeRuns.{composed}
 use Rattle.cse_meaning.proofs.Simulation.{each_goes}
 use Rattle.cse_meaning.proofs.laws.numbers_go.Goals as goal
 

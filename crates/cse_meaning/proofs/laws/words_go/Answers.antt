@@ -1,4 +1,4 @@
-use Rattle.cse_steps.proofs.Runs.{composed}
+use Rattle.cse_steps.proofs.WholeRuns.{composed}
 use Rattle.cse_meaning.proofs.Simulation.{all_words_go}
 use Rattle.cse_meaning.proofs.laws.words_go.Goals as goal
 

@@ -2,7 +2,7 @@ use Rattle.std.proofs.Common.{subst, sym}
 use Rattle.cse_dict.specs.Dictionary.{DictionaryText}
 use Rattle.cse_dict.specs.Sound.{IsSound}
 use Rattle.cse_image.specs.Spelling.{Fits}
-use Rattle.cse_code_bounds.specs.Calls.{RestFalls, RestIsBound, AllKeepRules, AllCallSmaller}
+use Rattle.cse_verify.specs.Calls.{RestFalls, RestIsBound, AllKeepRules, AllCallSmaller}
 use Rattle.cse_steps.proofs.Ends.{events_end, all_keep_rules, all_call_smaller}
 use Rattle.cse_steps.proofs.laws.event_ends.Goals as goal
 

@@ -2,7 +2,7 @@ use Rattle.std.proofs.Common.{subst}
 use Rattle.cse_dict.specs.Dictionary.{DictionaryText}
 use Rattle.cse_dict.specs.Sound.{IsSound}
 use Rattle.cse_image.specs.Spelling.{Fits}
-use Rattle.cse_steps.proofs.Runs.{events_go_well as law}
+use Rattle.cse_steps.proofs.WholeRuns.{events_go_well as law}
 use Rattle.cse_steps.proofs.laws.events_go_well.Goals as goal
 
 pub returns : goal.returns

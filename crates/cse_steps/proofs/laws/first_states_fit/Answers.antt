@@ -2,7 +2,7 @@ use Rattle.std.proofs.Common.{subst}
 use Rattle.cse_dict.specs.Dictionary.{DictionaryText}
 use Rattle.cse_dict.specs.Sound.{IsSound}
 use Rattle.cse_image.specs.Spelling.{Fits}
-use Rattle.cse_steps.proofs.Runs.{first_is_fit as law}
+use Rattle.cse_steps.proofs.WholeRuns.{first_is_fit as law}
 use Rattle.cse_steps.proofs.laws.first_states_fit.Goals as goal
 
 pub returns : goal.returns

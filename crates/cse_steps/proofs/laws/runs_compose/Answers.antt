@@ -1,4 +1,4 @@
-use Rattle.cse_steps.proofs.Runs.{composed}
+use Rattle.cse_steps.proofs.WholeRuns.{composed}
 use Rattle.cse_steps.proofs.laws.runs_compose.Goals as goal
 
 pub returns : goal.returns

@@ -2,7 +2,7 @@ use Rattle.std.proofs.Common.{subst}
 use Rattle.cse_dict.specs.Dictionary.{DictionaryText}
 use Rattle.cse_dict.specs.Sound.{IsSound}
 use Rattle.cse_image.specs.Spelling.{Fits}
-use Rattle.cse_steps.proofs.Runs.{next_is_safe as law}
+use Rattle.cse_steps.proofs.WholeRuns.{next_is_safe as law}
 use Rattle.cse_steps.proofs.laws.steps_are_safe.Goals as goal
 
 pub returns : goal.returns

@@ -2,10 +2,10 @@ use Rattle.std.proofs.Common.{ap, ◌∙◌, sym, subst, option_map}
 use Rattle.cse_syntax_tree.specs.Tree as syntax
 use Rattle.cse_logic_tree.specs.Typed as typed
 use Rattle.cse_types.specs.Checked.{Checked}
-use Rattle.cse_logic_sources.specs.JudgeTree.{typed_of}
+use Rattle.cse_types.specs.JudgeTree.{typed_of}
 use Rattle.cse_logic_names.specs.Walk.{is_there}
 use Rattle.cse_logic_names.specs.WellTyped.{IsTypedAs}
-use Rattle.cse_law_sources_are_judged.proofs.JudgedTrees.{typed_right, typed_only}
+use Rattle.cse_types.proofs.JudgedTrees.{typed_right, typed_only}
 use Rattle.cse_types.proofs.CheckLaws.{same_tree, no_tree, checked_so}
 use Rattle.cse_types.proofs.checked.answer.Goals as goal
 

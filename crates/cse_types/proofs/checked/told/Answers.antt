@@ -4,7 +4,7 @@ use Rattle.cse_syntax_tree.specs.Tree as syntax
 use Rattle.cse_logic_faults.specs.Faults.{least_of}
 use Rattle.cse_logic_faults.specs.Listed.{listed}
 use Rattle.cse_logic_names.specs.declared.faults.Fault.{Fault}
-use Rattle.cse_law_sources_are_judged.proofs.SourcesTold.{never_none}
+use Rattle.cse_types.proofs.SourcesTold.{never_none}
 use Rattle.cse_types.proofs.checked.told.Goals as goal
 
 pub unreachable-requires : goal.unreachable-requires

@@ -5,10 +5,10 @@ use Rattle.cse_syntax_tree.specs.declared.tree.Declaration.{Declaration}
 use Rattle.cse_syntax_tree.specs.Tree as syntax
 use Rattle.cse_logic_tree.specs.Typed as typed
 use Rattle.cse_logic_names.specs.WellTyped.{declared_messages}
-use Rattle.cse_logic_sources.specs.JudgeTree as spec
-use Rattle.cse_logic_parts.specs.Told.{told_of}
+use Rattle.cse_types.specs.JudgeTree as spec
+use Rattle.cse_types.specs.Told.{told_of}
 use Rattle.cse_logic_names.specs.Walk.{is_there}
-use Rattle.cse_logic_sources.proofs.MadeLaws.{made_turn, made_end}
+use Rattle.cse_types.proofs.MadeLaws.{made_turn, made_end}
 use Rattle.cse_types.proofs.DeclarationLaws.{declarations_head, behind_turn, told_turn}
 use Rattle.cse_types.proofs.declaration.declarations.Goals as goal
 

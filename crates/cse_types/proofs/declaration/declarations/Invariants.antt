@@ -3,8 +3,8 @@ use Rattle.std.specs.Prelude.{◌||◌, not}
 use Rattle.cse_syntax_tree.specs.Tree as syntax
 use Rattle.cse_logic_tree.specs.Typed as typed
 use Rattle.cse_logic_names.specs.WellTyped.{declared_messages}
-use Rattle.cse_logic_sources.specs.JudgeTree as spec
-use Rattle.cse_logic_parts.specs.Told.{told_of}
+use Rattle.cse_types.specs.JudgeTree as spec
+use Rattle.cse_types.specs.Told.{told_of}
 use Rattle.cse_logic_names.specs.Walk.{so_far}
 use Rattle.cse_types.proofs.declaration.declarations.Given as goal
 

@@ -3,8 +3,8 @@ use Rattle.std.proofs.lemmas.List.{drop_all}
 use Rattle.cse_lemmas.proofs.Lists.{drop_read}
 use Rattle.cse_syntax_tree.specs.declared.tree.Declaration.{Declaration}
 use Rattle.cse_syntax_tree.specs.Tree as syntax
-use Rattle.cse_logic_sources.specs.JudgeTree.{behind, behind_all}
-use Rattle.cse_logic_sources.specs.SourceFaults.{declarations_faults}
+use Rattle.cse_types.specs.JudgeTree.{behind, behind_all}
+use Rattle.cse_types.specs.SourceFaults.{declarations_faults}
 use Rattle.cse_types.proofs.DeclarationLaws.{behind_turn}
 use Rattle.cse_types.proofs.FoundLaws.{declarations_turn}
 use Rattle.cse_types.proofs.declared.all_declarations.Goals as goal

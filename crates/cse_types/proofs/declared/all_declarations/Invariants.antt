@@ -1,7 +1,7 @@
 use Rattle.std.proofs.Common.{◌≡◌, ◌++◌, length, map, drop}
 use Rattle.cse_syntax_tree.specs.Tree as syntax
-use Rattle.cse_logic_sources.specs.JudgeTree.{behind_all}
-use Rattle.cse_logic_sources.specs.SourceFaults.{declarations_faults}
+use Rattle.cse_types.specs.JudgeTree.{behind_all}
+use Rattle.cse_types.specs.SourceFaults.{declarations_faults}
 use Rattle.cse_types.proofs.declared.all_declarations.Given as goal
 
 abbrev pub invariant-all : goal.invariant-all

@@ -4,12 +4,12 @@ use Rattle.cse_syntax_tree.specs.Tree as syntax
 use Rattle.cse_syntax_tree.specs.Tree.{written}
 use Rattle.cse_logic_tree.specs.Typed as typed
 use Rattle.cse_logic_tree.specs.Typed.{Statements}
-use Rattle.cse_logic_new_names.specs.declared.fresh.Fresh.{Fresh}
+use Rattle.cse_types.specs.declared.fresh.Fresh.{Fresh}
 use Rattle.cse_logic_names.specs.Scope.{Scope, Facts}
 use Rattle.cse_logic_names.specs.Uses.{facts_of}
 use Rattle.cse_logic_expressions.specs.JudgeStatement.{judge_block}
-use Rattle.cse_logic_sources.specs.JudgeTree as spec
-use Rattle.cse_logic_new_names.specs.Fresh.{body_scope}
+use Rattle.cse_types.specs.JudgeTree as spec
+use Rattle.cse_types.specs.Fresh.{body_scope}
 use Rattle.cse_logic_names.specs.Walk.{only_if}
 use Rattle.cse_types.proofs.FunctionLaws.{function_is, with_facts}
 use Rattle.cse_types.proofs.function.function.Goals as goal

@@ -2,8 +2,8 @@ use Rattle.std.proofs.Common.{ap, ◌∙◌, ◌++◌, length, map, List}
 use Rattle.std.specs.Prelude.{◌||◌, not}
 use Rattle.cse_syntax_tree.specs.Tree as syntax
 use Rattle.cse_syntax_tree.specs.declared.tree.Procedure.{Procedure}
-use Rattle.cse_logic_sources.specs.JudgeTree.{procedures_judged}
-use Rattle.cse_logic_parts.specs.Told.{told_of}
+use Rattle.cse_types.specs.JudgeTree.{procedures_judged}
+use Rattle.cse_types.specs.Told.{told_of}
 use Rattle.cse_logic_names.specs.WellTyped.{procedure_messages}
 use Rattle.cse_logic_names.specs.Walk.{is_there}
 use Rattle.cse_types.proofs.PartLaws.{parts_value}

@@ -2,8 +2,8 @@ use Rattle.std.proofs.Common.{ap, ◌∙◌}
 use Rattle.std.specs.Prelude.{option_map}
 use Rattle.std.proofs.lemmas.Result.{IfOk-weaker}
 use Rattle.cse_syntax_tree.specs.Tree as syntax
-use Rattle.cse_logic_sources.specs.TreeOver.{parts_judged, with_entries}
-use Rattle.cse_logic_sources.specs.Entries.{are_said}
+use Rattle.cse_types.specs.TreeOver.{parts_judged, with_entries}
+use Rattle.cse_types.specs.Entries.{are_said}
 use Rattle.cse_types.specs.Parts.{parts_tree}
 use Rattle.cse_logic_names.specs.Scope.{Scope}
 use Rattle.cse_logic_names.specs.WellTyped.{tree_messages}

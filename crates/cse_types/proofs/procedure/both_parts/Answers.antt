@@ -6,7 +6,7 @@ use Rattle.cse_logic_names.specs.Scope.{Scope}
 use Rattle.cse_logic_names.specs.WellTyped.{messages_of}
 use Rattle.cse_logic_expressions.specs.JudgeStatement.{judge_block}
 use Rattle.cse_logic_names.specs.Walk.{is_there, joined}
-use Rattle.cse_logic_sources.proofs.MadeLaws.{told_count}
+use Rattle.cse_types.proofs.MadeLaws.{told_count}
 use Rattle.cse_types.proofs.procedure.both_parts.Goals as goal
 use Rattle.cse_types.proofs.procedure.both_parts.Goals.{After-around}
 

@@ -4,10 +4,10 @@ use Rattle.std.proofs.lemmas.List.{append-nil, drop_all}
 use Rattle.cse_syntax_tree.specs.Tree as syntax
 use Rattle.cse_logic_tree.specs.Typed as typed
 use Rattle.cse_logic_names.specs.WellTyped.{procedure_messages}
-use Rattle.cse_logic_sources.specs.JudgeTree as spec
-use Rattle.cse_logic_parts.specs.Told.{told_of}
+use Rattle.cse_types.specs.JudgeTree as spec
+use Rattle.cse_types.specs.Told.{told_of}
 use Rattle.cse_logic_names.specs.Walk.{is_there}
-use Rattle.cse_logic_sources.proofs.MadeLaws.{made_end}
+use Rattle.cse_types.proofs.MadeLaws.{made_end}
 use Rattle.cse_types.proofs.ProcedureLaws.{procedures_head, procedures_told, judged_turn}
 use Rattle.cse_types.proofs.procedure.procedures.Goals as goal
 

@@ -11,7 +11,7 @@ use Rattle.cse_syntax_tree.proofs.Rows.{if_is, for_is, do_is}
 use Rattle.cse_logic_tree.specs.Typed.{statement, statements, arm_tree, counting, Do, else_of}
 use Rattle.cse_logic_names.specs.WellTyped.{messages_in, messages_of}
 use Rattle.cse_logic_expressions.specs.JudgeStatement.{judge_statement, judge_block, messages_each, for_of, opened}
-use Rattle.cse_logic_parts.specs.Told.{told_of}
+use Rattle.cse_types.specs.Told.{told_of}
 use Rattle.cse_logic_names.specs.Walk.{joined}
 use Rattle.cse_types.proofs.Counted.{from_step, from_end, told_step, told_end, told_count}
 use Rattle.cse_types.proofs.Blocks.{statement_at, messages_at, count_at, block_walked, block_gathered, arm_at, arm_messages, arm_count, arms_walked, arms_gathered, choice_value, choice_told, none_judged, else_judged, for_judged, do_judged}

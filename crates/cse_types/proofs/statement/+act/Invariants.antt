@@ -1,7 +1,7 @@
 use Rattle.std.proofs.Common.{◌≡◌, length, map, drop}
 use Rattle.std.specs.Prelude.{◌++◌, ◌||◌, not}
 use Rattle.cse_logic_tree.specs.Typed.{statement, arm_tree}
-use Rattle.cse_logic_parts.specs.Told.{told_of}
+use Rattle.cse_types.specs.Told.{told_of}
 use Rattle.cse_logic_names.specs.Walk.{so_far}
 use Rattle.cse_types.proofs.Counted.{walk_from, gathered}
 use Rattle.cse_types.proofs.Blocks.{statement_at, messages_at, count_at, arm_at, arm_messages, arm_count}

@@ -1,6 +1,6 @@
 use Rattle.std.proofs.Common.{◌≡◌, drop}
 use Rattle.std.specs.Prelude.{max}
-use Rattle.cse_code_bounds.specs.Frames.{greatest}
+use Rattle.cse_verify.specs.Frames.{greatest}
 use Rattle.cse_verify.proofs.depth.greatest_of.Given as goal
 
 abbrev pub invariant-numbers : goal.invariant-numbers

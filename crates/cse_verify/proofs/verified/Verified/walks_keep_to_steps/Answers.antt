@@ -1,6 +1,6 @@
 use Rattle.std.proofs.Common.{sym, subst}
 use Rattle.cse_dict.specs.Dictionary.{shape_of}
-use Rattle.cse_code_bounds.specs.Calls.{AllKeepRules, AllCallSmaller, StepsKeepToBound, RestFalls, WalksGoOn, WalksStayInside, RestIsBound, OpensKeepToFrames}
+use Rattle.cse_verify.specs.Calls.{AllKeepRules, AllCallSmaller, StepsKeepToBound, RestFalls, WalksGoOn, WalksStayInside, RestIsBound, OpensKeepToFrames}
 use Rattle.cse_verify.proofs.WalkLaws.{all_keep, all_smaller}
 use Rattle.cse_verify.proofs.verified.Verified.walks_keep_to_steps.Goals as goal
 

@@ -1,3 +1,0 @@
-pub mod CompileDoes
-pub mod CompileHalts
-pub mod Compiled

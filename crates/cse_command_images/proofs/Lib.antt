@@ -1,0 +1,3 @@
+pub mod TriedLaws
+pub mod TryLaws
+pub mod CompiledLaws

@@ -1,0 +1,5 @@
+pub mod Tried
+pub mod TryFiles
+pub mod CompileDoes
+pub mod CompileHalts
+pub mod Compiled

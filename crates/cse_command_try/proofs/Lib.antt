@@ -1,2 +1,0 @@
-pub mod TriedLaws
-pub mod TryLaws

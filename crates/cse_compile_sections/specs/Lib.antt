@@ -1,4 +1,0 @@
-pub mod Tables
-pub mod Order
-pub mod Outline
-pub mod Events

@@ -1,4 +1,0 @@
-pub mod Few
-pub mod Entries
-pub mod Measure
-pub mod Totals

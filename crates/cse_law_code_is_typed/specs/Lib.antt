@@ -1,4 +1,0 @@
-pub mod Stands
-pub mod Fit
-pub mod Steps
-pub mod Emitted

@@ -1,4 +1,0 @@
-pub mod Truths
-pub mod Sorts
-pub mod Expressions
-pub mod Statements

@@ -1,5 +1,0 @@
-use Rattle.cse_law_programs_mean.proofs.Whole.{compiled_code_means as law}
-use Rattle.cse_law_programs_mean.proofs.laws.compiled_code_means.Goals as goal
-
-pub returns : goal.returns
-returns g c = law c.args.verified.now c.program.ensures.may_run c.event_ends.ensures

@@ -1,4 +1,0 @@
-pub mod Checked
-pub mod Cost
-pub mod Sound
-pub mod Costs

@@ -1,3 +1,0 @@
-pub mod Within
-pub mod Given
-pub mod Room

@@ -1,4 +1,0 @@
-pub mod Names
-pub mod Fresh
-pub mod Table
-pub mod NameFaults

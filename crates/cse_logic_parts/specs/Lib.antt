@@ -1,4 +1,0 @@
-pub mod Told
-pub mod PartFaults
-pub mod CountsBehind
-pub mod Clauses

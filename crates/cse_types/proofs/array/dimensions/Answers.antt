@@ -1,0 +1,23 @@
+use Rattle.std.proofs.Common.{◌∙◌, sym, subst, ◌≤◌, length, map, List}
+use Rattle.cse_syntax_tree.specs.declared.tree.Dimension.{Dimension}
+use Rattle.cse_syntax_tree.specs.Tree as syntax
+use Rattle.cse_logic_tree.specs.Typed as typed
+use Rattle.cse_types.specs.JudgeTree as spec
+use Rattle.cse_logic_names.proofs.Walks.{at_end, walk_made}
+use Rattle.cse_types.proofs.array.dimensions.Goals as goal
+
+pub returns-then-is_sound : goal.returns-then-is_sound
+returns-then-is_sound c =
+    let s = c.args.scope.now in
+    let items = c.args.all.now.items in
+    let le : length items ≤ c.all.x-index = subst (λ (xs : List Dimension). length xs ≤ c.all.x-index) c.deref-x-items.ensures.value c.all-test.false in
+    let e = at_end (λ (x : Dimension) (rest : List Dimension). spec.dimension_judged s (syntax.dimension x)) items c.all.x-index c.all.is_sound (map typed.dimension c.all.found.items) _ le c.all.invariant in
+    sym (walk_made (λ d. spec.dimension_judged s d) syntax.dimension items ∙ e.0 c.if-is_sound.true)
+
+pub returns : goal.returns
+returns c =
+    let s = c.args.scope.now in
+    let items = c.args.all.now.items in
+    let le : length items ≤ c.all.x-index = subst (λ (xs : List Dimension). length xs ≤ c.all.x-index) c.deref-x-items.ensures.value c.all-test.false in
+    let e = at_end (λ (x : Dimension) (rest : List Dimension). spec.dimension_judged s (syntax.dimension x)) items c.all.x-index c.all.is_sound (map typed.dimension c.all.found.items) _ le c.all.invariant in
+    sym (walk_made (λ d. spec.dimension_judged s d) syntax.dimension items ∙ e.1 c.if-is_sound.false)
