@@ -48,13 +48,18 @@ def unfit(names, before, now):
 
 
 class Moves:
-    """Modules that go from one crate to another, each as `crate::module`, `crate::specs::Module` or `crate::proofs::Module`."""
+    """Modules that go from one crate to another, or get another name, each as `crate::module`, `crate::specs::Module` or `crate::proofs::Module`."""
 
     def __init__(self, pairs):
         self.pairs, self.to = pairs, {}
         for old, new in pairs.items():
             crate, _, module = old.partition("::")
-            self.to[crate, module] = new.partition("::")[0]
+            home, _, name = new.partition("::")
+            self.to[crate, module] = home, name.split("::")[-1]
+
+    def home(self, crate, module):
+        """The crate of a module and its name there."""
+        return self.to.get((crate, module), (crate, module.split("::")[-1]))
 
     @staticmethod
     def file(module):
@@ -64,13 +69,14 @@ class Moves:
 
     def roots(self):
         """The files that tie the modules of a crate together, of each crate that gives or takes one."""
-        crates = {crate for crate, _ in self.to} | set(self.to.values())
+        crates = {crate for crate, _ in self.to} | {crate for crate, _ in self.to.values()}
         return {f"crates/{crate}/{part}" for crate in crates for part in ROOTS}
 
     def unfit(self, before, now):
         """Why these are no moves of the one tree into the other: each file stands in one tree alone, and roots have nothing but modules and imports."""
         for old, new in self.pairs.items():
-            if old.partition("::")[2] != new.partition("::")[2] or not re.fullmatch(r"\w+::(?:(?:specs|proofs)::)?\w+", old):
+            kinds = {re.sub(r"\w+$", "", it.partition("::")[2]) for it in (old, new)}
+            if len(kinds) > 1 or not re.fullmatch(r"\w+::(?:(?:specs|proofs)::)?\w+", old):
                 yield f"{old} is not the module that {new} is"
             elif self.file(old) not in before or self.file(old) in now or self.file(new) not in now or self.file(new) in before:
                 yield f"{old} did not become {new}"
@@ -84,28 +90,36 @@ class Moves:
             yield "the roots have different attributes"
 
     def place(self, path, text=""):
-        """Where a file goes; an edit goes with the files that it turns, if these stay together."""
+        """Where a file goes; an edit goes with the files that it turns, if these stay in one crate."""
         top, _, rest = path.partition("/")
         crate, _, rest = rest.partition("/")
         if top == "more-edits":
             homes = {self.place(f"crates/{crate}/{it}").split("/")[1] for it in re.findall(r"(?m)^file: (.*)$", text)}
             return f"{top}/{homes.pop()}/{rest}" if len(homes) == 1 else path
         part, _, name = rest.partition("/")
-        name = name.split("/")[0].split(".")[0]
-        module = name if part == "src" or part == "proofs" and (crate, name) in self.to else f"{part}::{name}"
-        return f"{top}/{self.to.get((crate, module), crate)}/{rest}"
+        word = re.match(r"[^/.]*", name)[0]
+        module = word if part == "src" or part == "proofs" and (crate, word) in self.to else f"{part}::{word}"
+        home, other = self.home(crate, module)
+        return f"{top}/{home}/{part}/{other}{name[len(word):]}" if name else f"{top}/{home}/{rest}"
+
+    def told(self, word, crate):
+        """A word of a record's line: where it begins with a module, its name now."""
+        module, sign, rest = word.partition("::")
+        return f"{self.home(crate, module)[1]}::{rest}" if sign else word
 
     def turn(self, text, crate, now):
         """The text of a file that stood in a crate and stands in another now, with the modules' new paths."""
         def antt(it):
             part, declared, name = it[2], it[3] or "", it[4]
             module = name if declared or part == "proofs" and (it[1], name) in self.to else f"{part}::{name}"
-            return f"Rattle.{self.to.get((it[1], module), it[1])}.{part}.{declared}{name}"
+            home, name = self.home(it[1], module)
+            return f"Rattle.{home}.{part}.{declared}{name}"
 
         def rust(it):
-            whose, module = it[1] if it[1] != "crate" else crate, (it[2] or "") + it[3]
-            home = self.to.get((whose, module), whose)
-            return f"{'crate' if home == now else home}::{module}"
+            whose = it[1] if it[1] != "crate" else crate
+            home, name = self.home(whose, (it[2] or "") + it[3])
+            return f"{'crate' if home == now else home}::{it[2] or ''}{name}"
+        text = re.sub(r"(?m)^file: (.*)$", lambda it: "file: " + self.place(f"crates/{crate}/{it[1]}").split("/", 2)[2], text)
         text = re.sub(r"\bRattle\.(\w+)\.(specs|proofs)\.(declared\.)?(\w+)", antt, text)
         return re.sub(r"\b(crate|cse_\w+)::((?:specs|proofs)::)?(\w+)", rust, text)
 
@@ -143,7 +157,7 @@ def carry(root, folder, names):
         for edit, (found, day, *how) in lines.items():
             path, crate, text = f"more-edits/{edit}.edit", edit.split("/")[0], before.get(f"more-edits/{edit}.edit")
             place = turn(moves.place(path, text)) if text else path
-            home, how = place.split("/")[1], list(map(turn, how))
+            home, how = place.split("/")[1], [turn(moves.told(it, crate)) for it in how]
             held = text and place in now and old.hash(crate, text, lines[edit][2:]) == found
             after = held and new.hash(home, now[place], how)
             if held and after == copy.hash(home, sources.read(os.path.join(room, place)), how):

@@ -275,6 +275,8 @@ AFTER = {
     "crates/cse_high/specs/Steps.antt": FILES["crates/cse_high/specs/Steps.antt"].replace("cse_high.specs.Deep", "cse_middle.specs.Deep"),
     ANSWERS: FILES[ANSWERS].replace("cse_high.proofs.Laws", "cse_middle.proofs.Laws"),
 }
+# (where these modules go, they may get other names)
+OTHER_NAMES = {"beside": "near", "Deep": "Depths", "Laws": "DeepLaws"}
 MOVED = [
     ("nothing", BODY, "//! Rows.", "//! Rows.", STAYS),
     ("a comment of a file that moved", MIDDLE + "src/beside.rt", "/// The half.", "/// The other half.", STAYS),
@@ -289,18 +291,21 @@ MOVED = [
 NO_MOVES = [
     ("a file that stayed", {BESIDE: FILES[BESIDE]}, {}),
     ("a module that was not there", {}, {"cse_high::nowhere": "cse_middle::nowhere"}),
-    ("a module with another name", {}, {"cse_high::beside": "cse_middle::specs::Deep"}),
+    ("a module of another kind", {}, {"cse_high::beside": "cse_middle::specs::Deep"}),
     ("a root with an item", {MIDDLE + "src/lib.rt": "#![tactic(auto)]\npub mod beside;\npub const MOST: u32 = 1;\n"}, {}),
     ("a root with another attribute", {MIDDLE + "src/lib.rt": "pub mod beside;\n"}, {}),
     ("a root of definitions that has one", {MIDDLE + "specs/Lib.antt": "pub mod Deep\nabbrev pub one : ℕ\none = 1\n"}, {}),
 ]
 
 
+def turned(text, names):
+    """A text with other words."""
+    return re.sub(r"(?<![\w'])\w+(?![\w'])", lambda it: names.get(it[0], it[0]), text)
+
+
 def renamed(names):
     """The repository with other words."""
-    def turn(text):
-        return re.sub(r"(?<![\w'])\w+(?![\w'])", lambda it: names.get(it[0], it[0]), text)
-    return {turn(path): turn(text) for path, text in FILES.items()}
+    return {turned(path, names): turned(text, names) for path, text in FILES.items()}
 
 
 def hash_of(changed, edit, how, files=None):
@@ -337,21 +342,22 @@ def main():
         if hash_of(body, edit, how) == hash_of({}, edit, how) or hash_of(comment, edit, how) != hash_of({}, edit, how):
             print(f"an edit that {what}: not the whole crate counts")
             bad += 1
-    for words, turned, is_renaming in RENAMINGS:
-        if (not list(carry.unfit(words, FILES, renamed(turned)))) != is_renaming:
+    for words, others, is_renaming in RENAMINGS:
+        if (not list(carry.unfit(words, FILES, renamed(others)))) != is_renaming:
             print(f"{words}: {'refused' if is_renaming else 'taken'} as a renaming")
             bad += 1
-    moves = carry.Moves(MOVES)
-    for what, path, old, new, changes in MOVED:
-        now = {**AFTER, path: AFTER[path].replace(old, new)}
-        if (hash_of({}, EDIT, refused, carry.moved(FILES, now, moves)) != hash_of({}, EDIT, refused, now)) != changes:
-            print(f"{what}, after a move: the hash {'is that' if changes else 'is not that'} of the tree before with its files moved")
-            bad += 1
+    for names in ({}, OTHER_NAMES):
+        moves = carry.Moves({old: turned(new, names) for old, new in MOVES.items()})
+        for what, path, old, new, changes in MOVED:
+            now = {turned(it, names): turned(text, names) for it, text in {**AFTER, path: AFTER[path].replace(old, new)}.items()}
+            if (hash_of({}, EDIT, refused, carry.moved(FILES, now, moves)) != hash_of({}, EDIT, refused, now)) != changes:
+                print(f"{what}, after a move{' to other names' if names else ''}: the hash {'is that' if changes else 'is not that'} of the tree before with its files moved")
+                bad += 1
     for what, changed, more in [("nothing", {}, {}), *NO_MOVES]:
         if bool(list(carry.Moves({**MOVES, **more}).unfit(FILES, {**AFTER, **changed}))) != (what != "nothing"):
             print(f"{what}: {'refused' if what == 'nothing' else 'taken'} as a move")
             bad += 1
-    print(f"{len(ROWS) + len(WHOLE) + len(RENAMINGS) + len(MOVED) + len(NO_MOVES) + 4} rows, {bad} fail")
+    print(f"{len(ROWS) + len(WHOLE) + len(RENAMINGS) + 2 * len(MOVED) + len(NO_MOVES) + 4} rows, {bad} fail")
     return int(bad > 0)
 
 
