@@ -16,7 +16,7 @@ use Rattle.cse_command_line.specs.declared.plan.Command.{Command}
 use Rattle.cse_command_line.specs.declared.plan.PlanFault.{PlanFault}
 use Rattle.cse_command_line.specs.declared.plan.Command.TheVariants as commands
 use Rattle.cse_command_line.specs.declared.words.Word.{Word}
-use Rattle.cse_command_line.specs.Words.{AreWords, IsAsked, IsCommandOf, IsEntered, IsFlag, IsGiven, MayBeGiven, program, rule_of_word, with_word}
+use Rattle.cse_command_line.specs.Words.{AreWords, IsAsked, IsCommandOf, IsEntered, IsFlag, IsGiven, MayBeGiven, bare, program, rule_of_word, with_row, with_word}
 
 -- ---- the words of all commands
 
@@ -34,11 +34,17 @@ next_word old new arg a words i d below add are rule local =
     subst (λ (x : App). AreWords x new) (sym (fold_more with_word a words i d below))
     (adds_word old new arg (fold with_word a (take i words)) (slice_index_or words i d) add are rule local)
 
-pub adds_command : (old sub new : Clap) (a s : App) → AddsSubcommand old sub new → AreWords a old → AreWords s sub → AreWords (with_subcommand a s.top) new
+adds_command : (old sub new : Clap) (a s : App) → AddsSubcommand old sub new → AreWords a old → AreWords s sub → AreWords (with_subcommand a s.top) new
 adds_command old sub new a s add are own = record {
   app = add.shape own.local ∙ ap₂ with_subcommand are.app (ap (λ (x : App). x.top) own.app);
   local = add.globals ∙ ap₂ (λ (x y : Bool). x || y) are.local own.local;
 }
+
+pub next_command : (old sub new : Clap) (rows : List (Bor Text × Bor (List Word))) (i : ℕ) (d : Bor Text × Bor (List Word)) → i < length rows → AddsSubcommand old sub new
+    → AreWords (fold with_row bare (take i rows)) old → AreWords (fold with_word (new_app (slice_index_or rows i d).0.now) (slice_index_or rows i d).1.now) sub
+    → AreWords (fold with_row bare (take (i + 1) rows)) new
+next_command old sub new rows i d below add are own =
+    subst (λ (x : App). AreWords x new) (sym (fold_more with_row bare rows i d below)) (adds_command old sub new _ _ add are own)
 
 -- ---- what is asked
 

@@ -76,6 +76,10 @@ rule_of_word (words.Flag name) = flag name.now
 abbrev pub with_word : App → Word → App
 with_word a word = with_rule a (rule_of_word word)
 
+-- a command more, of this name and these words
+abbrev pub with_row : App → Bor Text × Bor (List Word) → App
+with_row a row = with_subcommand a (fold with_word (new_app row.0.now) row.1.now).top
+
 -- ---- what is asked
 
 -- a word is the one of this name

@@ -121,11 +121,21 @@ fn command_of<'a>(matches: &ArgMatches<'a>) -> Result<Command<'a>, PlanFault>
     ensures { IfOk result (IsEntered (subcommand_rows_of matches.now)) }
 {
     match matches.subcommand() {
-        Some(("try", matches)) => try_of(matches),
-        Some(("verify", matches)) => verify_of(matches),
-        Some(("compile", matches)) => compile_of(matches),
-        Some(("run", matches)) => run_of(matches),
-        Some(("edit", matches)) => edit_of(matches),
+        Some((name, matches)) => command_named(name, matches),
+        None => Err(PlanFault::Usage),
+    }
+}
+
+/// The command of this name.
+fn command_named<'a>(name: &str, matches: &ArgMatches<'a>) -> Result<Command<'a>, PlanFault>
+    ensures { IfOk result (IsCommandOf (rows_of (found_of matches.now)) name.now) }
+{
+    match name {
+        "try" => try_of(matches),
+        "verify" => verify_of(matches),
+        "compile" => compile_of(matches),
+        "run" => run_of(matches),
+        "edit" => edit_of(matches),
         _ => Err(PlanFault::Usage),
     }
 }

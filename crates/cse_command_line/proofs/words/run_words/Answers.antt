@@ -1,4 +1,0 @@
-use Rattle.cse_command_line.proofs.words.run_words.Goals as goal
-
-pub returns : goal.returns
-returns c = c.words_of.ensures
