@@ -36,7 +36,7 @@ KINDS = {"Lts": "paths", "Tie": "tie", "Proof": "proof"}
 COLUMNS = *KINDS.values(), "rest"
 # The other modules that the compiler makes of one function.
 PARTS = re.compile(
-    r"\.(Lts|Tie|Proof|Code|Met|Statement|Symbol|Key|Kinds|Carried|Layout|Named|Reads|View|TheLink|Goals|Given|Invariants|Answers|TheLinks)\b"
+    r"\.(Lts|Tie|Proof|Code|Met|Statement|Symbol|Key|Kinds|Carried|Layout|Reads|View|TheLink|Goals|Given|Invariants|Answers|TheLinks)\b"
     r"(?:-(?!requires|ensures)([^.]*?)(?:-\d+)*)?(\..*)?$"
 )
 # Where a check writes nothing for so long it was another check that wrote the file before.

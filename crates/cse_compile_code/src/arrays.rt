@@ -29,12 +29,19 @@ fn sizes_of(alloc: Global, dimensions: &[Dimension]) -> Result<Vec<u16>, AllocEr
     Ok(sizes)
 }
 
+/// The number of a cell.
+fn cell_of(value: &Whole) -> i64
+    ensures { result ≡ spec.cell_of (whole value.now) }
+{
+    value.value
+}
+
 fn cells_of(alloc: Global, values: &[Whole]) -> Result<Vec<i64>, AllocError>
     ensures { IfOk result (λ v. v.items ≡ map spec.cell_of (map whole values.now)) }
 {
     let mut cells = Vec::new(alloc);
     'all: for value in values {
-        cells.push(value.value)?;
+        cells.push(cell_of(value))?;
     }
     Ok(cells)
 }

@@ -47,7 +47,6 @@ fn add_globals(globals: &mut Vec<GlobalVariable>, declared: &Declaration) -> Res
 }
 
 /// The global variables of the declarations.
-#[tactic(auto, using(crate::proofs::SectionLists::part_added))]
 pub fn globals_of(
     alloc: Global,
     declarations: &[Declaration],

@@ -25,11 +25,20 @@ pub enum PoolError {
 }
 
 /// The tables.
-#[derive(Drop)]
 pub struct Pools<'a> {
     constants: IndexSet<i64>,
     limits: IndexSet<u32>,
     texts: IndexSet<&'a str>,
+}
+
+impl Drop for Pools<'_> {
+    fn drop(self) {
+        let Pools {
+            constants: _constants,
+            limits: _limits,
+            texts: _texts,
+        } = self;
+    }
 }
 
 impl<'a> Model for Pools<'a> {

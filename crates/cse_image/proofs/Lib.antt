@@ -2,6 +2,7 @@ pub mod SectionLaws
 pub mod Sizes
 pub mod Totals
 pub mod Codes
+pub mod Chains
 pub mod Entries
 pub mod ImageLaws
 pub mod Views

@@ -81,7 +81,6 @@ fn dimension_of<'a>(
     Ok((dimension, rest))
 }
 
-#[tactic(auto, using(cse_image_codec::proofs::Loop::many_done))]
 fn dimensions_in(
     alloc: Global,
     cells: u64,
@@ -168,7 +167,6 @@ fn array_of<'a>(
     ))
 }
 
-#[tactic(auto, using(cse_image_codec::proofs::Loop::many_done))]
 fn arrays_in(alloc: Global, count: u32, bytes: &[u8]) -> Result<(Vec<Array>, &[u8]), ReadStop>
     ensures { Gives (λ x. (map array_lists x.0.items, x.1.now)) result (many array_at [] count bytes.now) }
 {

@@ -76,7 +76,6 @@ fn local_of(parameters: u8, index: u8, bytes: &[u8]) -> Result<(Local, &[u8]), F
     ))
 }
 
-#[tactic(auto, using(cse_image_codec::proofs::Loop::many_step, cse_image_codec::proofs::Loop::many_done))]
 fn locals_in(
     alloc: Global,
     parameters: u8,
@@ -177,7 +176,6 @@ fn routine_of(
     ))
 }
 
-#[tactic(auto, using(cse_image_codec::proofs::Loop::many_done))]
 fn routines_in(
     alloc: Global,
     version: Version,
@@ -262,7 +260,6 @@ fn event_of(last: Option<EventEntry>, bytes: &[u8]) -> Result<(EventEntry, &[u8]
     ))
 }
 
-#[tactic(auto, using(cse_image_codec::proofs::Loop::many_done))]
 fn events_in(alloc: Global, count: u32, bytes: &[u8]) -> Result<(Vec<EventEntry>, &[u8]), ReadStop>
     ensures { Gives (λ x. (x.0.items, x.1.now)) result (many (λ before. event_at (last_event before)) [] count bytes.now) }
 {

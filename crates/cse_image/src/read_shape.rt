@@ -64,7 +64,6 @@ fn record_of(bytes: &[u8]) -> Result<(RecordShape, &[u8]), FieldFault>
     ))
 }
 
-#[tactic(auto, using(cse_image_codec::proofs::Loop::many_step, cse_image_codec::proofs::Loop::many_done))]
 fn records_in(
     alloc: Global,
     count: u32,
@@ -121,7 +120,6 @@ fn item_of(bytes: &[u8]) -> Result<(ItemShape, &[u8]), FieldFault>
     ))
 }
 
-#[tactic(auto, using(cse_image_codec::proofs::Loop::many_step, cse_image_codec::proofs::Loop::many_done))]
 fn items_in(alloc: Global, count: u32, bytes: &[u8]) -> Result<(Vec<ItemShape>, &[u8]), ReadStop>
     ensures { Gives (λ x. (x.0.items, x.1.now)) result (many (λ _. item_at) [] count bytes.now) }
 {
@@ -162,7 +160,6 @@ fn set_of(bytes: &[u8]) -> Result<(SetShape, &[u8]), FieldFault>
     ))
 }
 
-#[tactic(auto, using(cse_image_codec::proofs::Loop::many_step, cse_image_codec::proofs::Loop::many_done))]
 fn sets_in(alloc: Global, count: u32, bytes: &[u8]) -> Result<(Vec<SetShape>, &[u8]), ReadStop>
     ensures { Gives (λ x. (x.0.items, x.1.now)) result (many (λ _. set_at) [] count bytes.now) }
 {

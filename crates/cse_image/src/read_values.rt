@@ -55,7 +55,6 @@ fn limit_of(bytes: &[u8]) -> Result<(u32, &[u8]), FieldFault>
     Ok((limit, rest))
 }
 
-#[tactic(auto, using(cse_image_codec::proofs::Loop::many_step, cse_image_codec::proofs::Loop::many_done))]
 fn limits_in(alloc: Global, count: u32, bytes: &[u8]) -> Result<(Vec<u32>, &[u8]), ReadStop>
     ensures { Gives (λ x. (x.0.items, x.1.now)) result (many (λ _. limit_at) [] count bytes.now) }
 {
@@ -111,7 +110,6 @@ fn text_of(alloc: Global, bytes: &[u8]) -> Result<(String, &[u8]), ReadStop>
     Ok((String::from_str(alloc, text)?, rest))
 }
 
-#[tactic(auto, using(cse_image_codec::proofs::Loop::many_done))]
 fn texts_in(alloc: Global, count: u32, bytes: &[u8]) -> Result<(Vec<String>, &[u8]), ReadStop>
     ensures { Gives (λ x. (map string_bytes x.0.items, x.1.now)) result (many (λ _. text_at) [] count bytes.now) }
 {
@@ -166,7 +164,6 @@ fn global_of(bytes: &[u8]) -> Result<(GlobalVariable, &[u8]), FieldFault>
     Ok((GlobalVariable { kind, length }, rest))
 }
 
-#[tactic(auto, using(cse_image_codec::proofs::Loop::many_step, cse_image_codec::proofs::Loop::many_done))]
 fn globals_in(
     alloc: Global,
     count: u32,
@@ -215,7 +212,6 @@ fn message_of(alloc: Global, bytes: &[u8]) -> Result<(Message, &[u8]), ReadStop>
     ))
 }
 
-#[tactic(auto, using(cse_image_codec::proofs::Loop::many_done))]
 fn messages_in(alloc: Global, count: u32, bytes: &[u8]) -> Result<(Vec<Message>, &[u8]), ReadStop>
     ensures { Gives (λ x. (map message_lists x.0.items, x.1.now)) result (many (λ _. message_at) [] count bytes.now) }
 {

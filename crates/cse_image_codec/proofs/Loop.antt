@@ -1,5 +1,7 @@
--- Reading entries one after the other, as a loop does: what is left to read, after those before, gives the whole result.
-use Rattle.std.proofs.Common.{◌≡◌, ℕ, suc, ◌-◌, ◌+◌, ◌≤◌, ◌<◌, List, [], ◌∷◌, ◌++◌, Result, Ok, Err, refl, sym, ◌∙◌, arith}
+-- Reading entries one after the other, as a loop does: what is left to read, after those before, gives the whole result. And writing them.
+use Rattle.std.proofs.Common.{◌≡◌, ℕ, suc, ◌-◌, ◌+◌, ◌≤◌, ◌<◌, List, [], ◌∷◌, ◌++◌, Result, Ok, Err, refl, sym, ap, ◌∙◌, arith, length, take, get_or}
+use Rattle.std.specs.List.{flat_map}
+use Rattle.std.proofs.lemmas.List.{flat_map_more, take_more}
 use Rattle.cse_image_codec.specs.declared.fault.FieldFault.{FieldFault}
 use Rattle.cse_image_codec.specs.declared.fault.ReadStop.{ReadStop}
 use Rattle.cse_image_codec.specs.declared.fault.ReadStop.TheVariants as stops
@@ -37,3 +39,10 @@ many_faults item before n i bytes f all lt h so_far =
     let k : n - i ≡ suc (n - (i + 1)) = omega arith in
     let one : many item before (n - i) bytes ≡ Err f = rw (k, h) refl in
     sym so_far ∙ one
+
+-- a loop that writes one entry more
+pub put_more : {X : Type 0} (entry : X → List ℕ) (old : List ℕ) (xs : List X) (i : ℕ) (d : X) (so_far new : List ℕ)
+    → i < length xs → new ≡ so_far ++ entry (get_or xs i d) → so_far ≡ old ++ flat_map entry (take i xs) → new ≡ old ++ flat_map entry (take (i + 1) xs)
+put_more {X} entry old xs i d so_far new lt is before =
+    is ∙ ap (λ (z : List ℕ). z ++ entry (get_or xs i d)) before ∙ flat_map_more entry old (take i xs) (get_or xs i d)
+    ∙ ap (λ (ys : List X). old ++ flat_map entry ys) (sym (take_more xs i d lt))

@@ -8,7 +8,6 @@ use crate::fields::{i64_at, u32_at};
 use std::alloc::Global;
 
 /// So many numbers of 64 bits.
-#[tactic(auto, using(crate::proofs::Loop::many_step, crate::proofs::Loop::many_faults, crate::proofs::Loop::many_done))]
 pub fn i64s_at(alloc: Global, count: u32, bytes: &[u8]) -> Result<(Vec<i64>, &[u8]), ReadStop>
     ensures { Gives (λ x. (x.0.items, x.1.now)) result (each signed count bytes.now) }
 {
@@ -23,7 +22,6 @@ pub fn i64s_at(alloc: Global, count: u32, bytes: &[u8]) -> Result<(Vec<i64>, &[u
 }
 
 /// So many numbers of 32 bits.
-#[tactic(auto, using(crate::proofs::Loop::many_step, crate::proofs::Loop::many_faults, crate::proofs::Loop::many_done))]
 pub fn u32s_at(alloc: Global, count: u32, bytes: &[u8]) -> Result<(Vec<u32>, &[u8]), ReadStop>
     ensures { Gives (λ x. (x.0.items, x.1.now)) result (each (number 4) count bytes.now) }
 {

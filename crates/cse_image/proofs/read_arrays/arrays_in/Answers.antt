@@ -5,7 +5,7 @@ use Rattle.std.proofs.lemmas.List.Sums.{sum_by_push}
 use Rattle.cse_image_parts.specs.Image.{array_lists}
 use Rattle.cse_image_parts.specs.Fields.{product}
 use Rattle.cse_image.specs.Reading.{array_at}
-use Rattle.cse_image_codec.proofs.Loop.{many_step, many_ends}
+use Rattle.cse_image_codec.proofs.Loop.{many_step, many_done, many_ends}
 use Rattle.cse_image.proofs.read_arrays.arrays_in.Goals as goal
 
 pub returns-in_err-array : goal.returns-in_err-array
@@ -23,3 +23,6 @@ loop-preserved c =
       sum = rw (c.in_ok-push.ensures.items, map_push array_lists c.loop.arrays.items x) (omega (arith, own, c.loop.invariant.sum, sum_by_push (λ y. product y.dimensions) (map array_lists c.loop.arrays.items) (array_lists x)));
       small = omega (arith, own, c.in_ok-array.ensures.room);
     }
+
+pub returns : goal.returns
+returns c = many_done array_at (map array_lists c.loop.arrays.items) c.args.count c.loop.counter c.loop.rest.now _ c.loop-test.false c.loop.invariant.reads

@@ -2,7 +2,7 @@ use Rattle.std.proofs.Common.{◌≡◌, ◌≤◌, ◌+◌, ◌++◌, arith, le
 use Rattle.std.proofs.lemmas.Result.{err_from_is_err_and}
 use Rattle.cse_image_parts.specs.Fields.{product}
 use Rattle.cse_image.specs.Reading.{dimension_at}
-use Rattle.cse_image_codec.proofs.Loop.{many_step, many_faults}
+use Rattle.cse_image_codec.proofs.Loop.{many_step, many_done, many_faults}
 use Rattle.cse_image.proofs.read_arrays.dimensions_in.Goals as goal
 
 pub returns-in_err-dimension-clause-exact : goal.returns-in_err-dimension-clause-exact
@@ -21,3 +21,6 @@ loop-preserved c =
       count = rw items (omega (arith, c.loop.invariant.count, length-append c.loop.dimensions.items (c.in_ok-dimension.dimension ∷ [])));
       room = λ some last. rw items (room (omega (arith, last, c.loop.invariant.count)));
     }
+
+pub returns-clause-exact : goal.returns-clause-exact
+returns-clause-exact c = many_done (dimension_at c.args.cells c.args.rank) c.loop.dimensions.items c.args.rank c.loop.counter c.loop.rest.now _ c.loop-test.false c.loop.invariant.reads

@@ -1,7 +1,7 @@
 use Rattle.std.proofs.Common.{arith, length, length-append, ◌∷◌, []}
 use Rattle.std.proofs.lemmas.Result.{err_from_is_err_and}
 use Rattle.cse_image.specs.Reading.{local_at}
-use Rattle.cse_image_codec.proofs.Loop.{many_step, many_faults}
+use Rattle.cse_image_codec.proofs.Loop.{many_step, many_done, many_faults}
 use Rattle.cse_image.proofs.read_routines.locals_in.Goals as goal
 
 pub returns-in_err-local : goal.returns-in_err-local
@@ -15,3 +15,6 @@ loop-index-preserved c = record {
       (many_step (λ before. local_at c.args.parameters (length before)) c.loop-index.locals.items c.args.count c.loop-index.index c.loop-index.rest.now c.in_ok-local.local c.in_ok-local.after.now _ c.loop-index-test.true (rw (← c.loop-index.invariant.count) at c.in_ok-local.ensures) c.loop-index.invariant.reads);
   count = rw c.in_ok-push.ensures.items (omega (arith, c.loop-index.invariant.count, length-append c.loop-index.locals.items (c.in_ok-local.local ∷ [])));
 }
+
+pub returns : goal.returns
+returns c = many_done (λ before. local_at c.args.parameters (length before)) c.loop-index.locals.items c.args.count c.loop-index.index c.loop-index.rest.now _ c.loop-index-test.false c.loop-index.invariant.reads

@@ -5,7 +5,7 @@ use Rattle.std.proofs.lemmas.List.Sums.{sum_by_push}
 use Rattle.cse_image_parts.specs.Image.{routine_lists}
 use Rattle.cse_image_parts.specs.Fields.{instructions_in}
 use Rattle.cse_image.specs.Reading.{routine_at}
-use Rattle.cse_image_codec.proofs.Loop.{many_step, many_ends}
+use Rattle.cse_image_codec.proofs.Loop.{many_step, many_done, many_ends}
 use Rattle.cse_image.proofs.read_routines.routines_in.Goals as goal
 
 pub returns-in_err-routine-clause-exact : goal.returns-in_err-routine-clause-exact
@@ -24,3 +24,6 @@ loop-preserved c =
       sum = rw (c.in_ok-push.ensures.items, map_push routine_lists c.loop.routines.items r) (omega (arith, c.loop.invariant.sum, sum_by_push (λ x. x.instructions) (map routine_lists c.loop.routines.items) (routine_lists r)));
       small = c.in_ok-routine.ensures.room;
     }
+
+pub returns-clause-exact : goal.returns-clause-exact
+returns-clause-exact c = many_done (λ before. routine_at c.args.version (instructions_in before)) (map routine_lists c.loop.routines.items) c.args.count c.loop.counter c.loop.rest.now _ c.loop-test.false c.loop.invariant.reads
