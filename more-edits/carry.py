@@ -51,15 +51,21 @@ class Moves:
     """Modules that go from one crate to another, or get another name, each as `crate::module`, `crate::specs::Module` or `crate::proofs::Module`."""
 
     def __init__(self, pairs):
-        self.pairs, self.to = pairs, {}
+        self.pairs, self.to, self.gone = pairs, {}, {}
         for old, new in pairs.items():
             crate, _, module = old.partition("::")
             home, _, name = new.partition("::")
             self.to[crate, module] = home, name.split("::")[-1]
 
+    def over(self, now):
+        """The same moves, to a tree: what the root of a crate that is gone there gave comes from the root to which all its modules went."""
+        homes = {crate: {to for (it, _), (to, _) in self.to.items() if it == crate} for crate, _ in self.to}
+        self.gone = {crate: min(to) for crate, to in homes.items() if len(to) == 1 and crate not in crates_of(now)}
+        return self
+
     def home(self, crate, module):
         """The crate of a module and its name there."""
-        return self.to.get((crate, module), (crate, module.split("::")[-1]))
+        return self.to.get((crate, module), (self.gone.get(crate, crate), module.split("::")[-1]))
 
     @staticmethod
     def file(module):
@@ -117,17 +123,18 @@ class Moves:
 
         def rust(it):
             whose = it[1] if it[1] != "crate" else crate
-            home, name = self.home(whose, (it[2] or "") + it[3])
+            home, name = self.home(whose, (it[2] or "") + (it[3] or ""))
             return f"{'crate' if home == now else home}::{it[2] or ''}{name}"
         text = re.sub(r"(?m)^file: (.*)$", lambda it: "file: " + self.place(f"crates/{crate}/{it[1]}").split("/", 2)[2], text)
         text = re.sub(r"\bRattle\.(\w+)\.(specs|proofs)\.(declared\.)?(\w+)", antt, text)
-        return re.sub(r"\b(crate|cse_\w+)::((?:specs|proofs)::)?(\w+)", rust, text)
+        return re.sub(r"\b(crate|cse_\w+)::(?:((?:specs|proofs)::)?(\w+)|(?=\{))", rust, text)
 
 
 def moved(before, now, moves):
     """The tree before with its files moved. What ties them together is that of the tree now: roots, and the lines of crates.txt."""
     if not moves.to:
         return before
+    moves.over(now)
     found = {path: now[path] for path in ("crates.txt", *moves.roots()) if path in now}
     for path, text in before.items():
         place = moves.place(path, text)

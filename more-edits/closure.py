@@ -32,7 +32,7 @@ class Library:
         for item, imports in found:
             if item.kind == "other" or item.kind in ("fn", "method", "member") and not item.is_public:
                 continue
-            if item.owner in valued and item.ghost_of("Model") in ("view", "invariant"):
+            if item.owner in valued and item.ghost_of("Model") in ("view", "invariant") or item.is_plain_drop():
                 continue
             item.said = item.shown() if item.kind == "type" and item.name in valued else item.text
             item.words = sources.words(item.said)

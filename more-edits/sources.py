@@ -90,7 +90,7 @@ class Item:
 
     def whole(self):
         """The item with its attributes and its body."""
-        return without_comparison(self.attributes) + "".join(self.tokens[self.start:self.end + 1])
+        return without_unread(self.attributes) + "".join(self.tokens[self.start:self.end + 1])
 
     def seen(self):
         """What another function of the crate reads of this one: its head with its clauses. Where it has none, or hides its type, the body counts too."""
@@ -100,6 +100,11 @@ class Item:
         """Whether others read the body of this function."""
         head = self.tokens[self.start:self.head]
         return self.is_const or "impl" in head or not any(it in CLAUSE for it in head)
+
+    def is_plain_drop(self):
+        """Whether this is the drop of a type, written out, of which no clause tells, or its impl."""
+        clauses = any(it in CLAUSE for it in self.tokens[self.start:self.head])
+        return self.trait == "Drop" and (self.kind == "impl" or self.kind == "member" and not clauses)
 
     def ghost_of(self, trait):
         """The name of the ghost member that this is, of an impl of a trait; nothing where it is none."""
@@ -138,13 +143,13 @@ class Item:
 
 
 def derived(attributes):
-    return "".join(re.findall(r"#\[derive[^\]]*\]", without_comparison(attributes)))
+    return "".join(re.findall(r"#\[derive[^\]]*\]", without_unread(attributes)))
 
 
-def without_comparison(attributes):
-    """Attributes without the derives that compare: what text compares has them, or it would not compile."""
+def without_unread(attributes):
+    """Attributes without the derives that compare or drop: what text compares has them, or it would not compile, and no clause tells of a drop."""
     def rest(it):
-        words = [word for word in re.findall(r"\w+", it[1]) if word not in ("PartialEq", "Eq")]
+        words = [word for word in re.findall(r"\w+", it[1]) if word not in ("PartialEq", "Eq", "Drop")]
         return f"#[derive({','.join(words)})]" if words else ""
     return re.sub(r"#\[derive\(([^)]*)\)\]", rest, attributes)
 

@@ -5,8 +5,8 @@ usage: more-edits/test_closure.py
 
 Each row of CHANGES turns one text of one file. The hash of the edit of the body of `Row::put` has to change, or has to stay.
 Each row of RENAMINGS has words that `--carry` takes for a renaming, or refuses. Each row of MOVED turns one text of the tree in which
-modules have moved to a crate below: the hash has to be that of the tree before with its files moved, or another one. Each row of
-NO_MOVES turns that tree, or the moves, into what `--carry` refuses.
+modules have moved to a crate below: the hash has to be that of the tree before with its files moved, or another one. So has that of each
+row of GONE, in which a crate went into another one. Each row of NO_MOVES turns that tree, or the moves, into what `--carry` refuses.
 Each line that is written is a row that fails, and then the status is 1.
 """
 import os
@@ -239,6 +239,9 @@ ROWS = [
     ("the crate's line", "crates.txt", "cse_low arrayvec", "cse_low", CHANGES),
     ("a clause of the crate below", "crates/cse_low/src/lib.rt", "result ≡ low_of x.now", "result ≡ 1", CHANGES),
     ("a definition of the crate below", "crates/cse_low/specs/Low.antt", "low_of x = x.size", "low_of x = 1", CHANGES),
+    ("a drop of a type of the crate below that is derived", "crates/cse_low/src/lib.rt", "/// A low row.\n", "/// A low row.\n#[derive(Drop)]\n", STAYS),
+    ("one that is written out", "crates/cse_low/src/lib.rt", "/// A low row.\n", "impl Drop for Low {\n    fn drop(self) {\n        let Low { size: _, seen: _ } = self;\n    }\n}\n/// A low row.\n", STAYS),
+    ("one with a clause", "crates/cse_low/src/lib.rt", "/// A low row.\n", "impl Drop for Low {\n    fn drop(self)\n        ensures { self.size ≡ 1 }\n    {\n        let Low { size: _, seen: _ } = self;\n    }\n}\n/// A low row.\n", CHANGES),
     ("a field of a type of the crate below", "crates/cse_low/src/lib.rt", "pub struct Low { pub size: u32,", "pub struct Low { pub size: u64,", CHANGES),
 ]
 # (of an edit that ended at a limit, was refused elsewhere, or turns no body, the whole crate counts)
@@ -287,6 +290,29 @@ MOVED = [
     ("the statement of a lemma that moved", MIDDLE + "proofs/Laws.antt", "(x : ℕ) → half x", "(x : ℕ) → half 1", CHANGES),
     ("a definition that stayed", "crates/cse_high/specs/Steps.antt", "step x = deep x", "step x = deep 1", CHANGES),
     ("the body of the edited function", BODY, "return false;", "return true;", CHANGES),
+]
+# (a crate whose modules all go to the one above it, and what its root gave by a list and alone)
+STONE, ROOT = "crates/cse_ground/src/stone.rt", "crates/cse_high/src/lib.rt"
+WITH_GROUND = {
+    **FILES,
+    "crates.txt": "cse_low:\ncse_ground:\ncse_high: cse_low cse_ground arrayvec\n",
+    "crates/cse_ground/src/lib.rt": "#![tactic(auto)]\nmod stone;\npub use stone::{lift, weigh};\n",
+    STONE: "pub fn weigh(x: u32) -> u32\n    ensures { result ≡ x }\n{\n    x\n}\n\npub fn lift(x: u32) -> u32\n    ensures { result ≡ 1 }\n{\n    1\n}\n",
+    BODY: FILES[BODY].replace("use crate::beside", "use cse_ground::lift;\nuse cse_ground::{weigh};\nuse crate::beside").replace("(half(x))", "(half(weigh(lift(x))))"),
+}
+GROUND_EDIT = EDIT.replace("(half(x))", "(half(weigh(lift(x))))")
+WITHOUT_GROUND = {
+    **{path: text for path, text in WITH_GROUND.items() if "cse_ground" not in path},
+    "crates.txt": FILES["crates.txt"],
+    ROOT: FILES[ROOT] + "mod stone;\npub use stone::{lift, weigh};\n",
+    "crates/cse_high/src/stone.rt": WITH_GROUND[STONE],
+    BODY: WITH_GROUND[BODY].replace("cse_ground::", "crate::"),
+}
+GROUND_MOVES = {"cse_ground::stone": "cse_high::stone"}
+GONE = [
+    ("nothing", BODY, "//! Rows.", "//! Rows.", STAYS),
+    ("a clause of what is imported in a list", "crates/cse_high/src/stone.rt", "result ≡ x", "result ≡ 2", CHANGES),
+    ("a clause of what is imported alone", "crates/cse_high/src/stone.rt", "result ≡ 1", "result ≡ 2", CHANGES),
 ]
 NO_MOVES = [
     ("a file that stayed", {BESIDE: FILES[BESIDE]}, {}),
@@ -353,11 +379,16 @@ def main():
             if (hash_of({}, EDIT, refused, carry.moved(FILES, now, moves)) != hash_of({}, EDIT, refused, now)) != changes:
                 print(f"{what}, after a move{' to other names' if names else ''}: the hash {'is that' if changes else 'is not that'} of the tree before with its files moved")
                 bad += 1
+    for what, path, old, new, changes in GONE:
+        now = {**WITHOUT_GROUND, path: WITHOUT_GROUND[path].replace(old, new)}
+        if (hash_of({}, GROUND_EDIT, refused, carry.moved(WITH_GROUND, now, carry.Moves(GROUND_MOVES))) != hash_of({}, GROUND_EDIT, refused, now)) != changes:
+            print(f"{what}, after a crate went into another: the hash {'is that' if changes else 'is not that'} of the tree before with its files moved")
+            bad += 1
     for what, changed, more in [("nothing", {}, {}), *NO_MOVES]:
         if bool(list(carry.Moves({**MOVES, **more}).unfit(FILES, {**AFTER, **changed}))) != (what != "nothing"):
             print(f"{what}: {'refused' if what == 'nothing' else 'taken'} as a move")
             bad += 1
-    print(f"{len(ROWS) + len(WHOLE) + len(RENAMINGS) + 2 * len(MOVED) + len(NO_MOVES) + 4} rows, {bad} fail")
+    print(f"{len(ROWS) + len(WHOLE) + len(RENAMINGS) + 2 * len(MOVED) + len(GONE) + len(NO_MOVES) + 4} rows, {bad} fail")
     return int(bad > 0)
 
 
