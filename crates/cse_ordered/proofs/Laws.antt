@@ -2,6 +2,7 @@
 use Rattle.std.proofs.Common.{◌≡◌, ◌∙◌, ◌≤◌, ◌+◌, ℕ, zero, suc, Bool, true, false, cond, List, [], ◌∷◌, ◌++◌, Option, Some, None, length, refl, sym, ap, arith}
 use Rattle.std.specs.Prelude.{option_map, position, slice_get, slice_set}
 use Rattle.std.specs.List.{position_from}
+use Rattle.std.specs.Prelude.{Result, Ok, Err, IsErr, OnErr, OnOk}
 use Rattle.std.specs.Map.{KeepsOthers, keys_of, lookup}
 use Rattle.std.specs.Cmp.{IsEquivalence}
 use Rattle.std.proofs.lemmas.Option.{same_Some}
@@ -112,3 +113,12 @@ module _ {K N X : Type 0} (f : K → N) (eq : N → N → Bool) (laws : IsEquiva
       by true is = ap (λ n. lookup (λ y. eq n (f y)) new) (sym (decides k q is)) ∙ has
       by false is = keeps (λ y. eq q (f y)) (λ x y h. laws.congr q (f x) (f y) h)
           (λ y h. laws.symm q (f y) ∙ sym (laws.congr k (f y) q h) ∙ is)
+
+-- a clause on success, and one on an error, at an error
+pub no_ok : {T E : Type 0} (P : Type 0) (r : Result T E) → IsErr r → OnOk r P
+no_ok P (Ok x) h = cc
+no_ok P (Err y) h = tt
+
+pub if_err : {T E P : Type 0} (r : Result T E) → P → OnErr r P
+if_err (Ok x) p = tt
+if_err (Err y) p = p
