@@ -10,3 +10,4 @@ pub mod LeastLaws
 pub mod SearchLaws
 pub mod RowLaws
 pub mod SmallLaws
+pub mod Gathering
