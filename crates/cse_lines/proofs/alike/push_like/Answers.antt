@@ -1,5 +1,6 @@
-use Rattle.std.proofs.Common.{rules, ◌≡◌, ◌-◌, ◌∙◌, sym, ap, subst, length-take-le, take, drop, length, arith}
+use Rattle.std.proofs.Common.{rules, ◌≡◌, ◌-◌, ◌∙◌, sym, ap, ap₂, subst, length-take, length-take-le, length-append, take, take_at, drop, length, arith}
 use Rattle.cse_lines.specs.Alike.{IsPlain}
+use Rattle.cse_lines.specs.Field.{padded}
 use Rattle.cse_lines.specs.Line.{before_end, end_bytes, ending_of}
 use Rattle.cse_lines.proofs.BytesLaws.{begins_columns, length-columns_by}
 use Rattle.cse_lines.proofs.alike.push_like.Goals as goal
@@ -27,3 +28,18 @@ returns-clause-like c done =
       begins = begins_columns last.first c.args.width c.bytes.result.now c.bytes.ensures.0 columns (before_end line) (sym c.columns.ensures ∙ c.bytes.ensures.1) there plain.ascii;
       plain = plain;
     }
+
+pub begins_as-requires : goal.begins_as-requires
+begins_as-requires c =
+    omega (arith, c.requires.wide, ap length c.piece.ensures, length-take c.args.width (drop c.args.last.first c.bytes.result.now), length-take-le c.args.last.len c.args.line.now (omega (arith, c.requires.whole)))
+
+pub truncate-requires : goal.truncate-requires
+truncate-requires c =
+    omega (arith, c.len-first.ensures, ap length (c.push_plain.ensures.pushed c.if-not-push_plain.false),
+      length-append c.args.columns.now (padded c.args.last.width (take c.args.last.len c.args.line.now)))
+
+pub returns-then-is_err-clause-same_columns : goal.returns-then-is_err-clause-same_columns
+returns-then-is_err-clause-same_columns c _ =
+    let more = padded c.args.last.width (take c.args.last.len c.args.line.now) in
+    c.truncate.ensures ∙ ap (take c.len-first.result) (c.push_plain.ensures.pushed c.if-not-push_plain.false)
+    ∙ take_at c.args.columns.now more c.len-first.result (sym c.len-first.ensures)

@@ -1,4 +1,4 @@
-use Rattle.std.proofs.Common.{◌≡◌, ◌+◌, ◌≤◌, ◌++◌, ◌∷◌, [], ◌∙◌, ap, sym, arith, drop, length, take, take-add, append_assoc}
+use Rattle.std.proofs.Common.{◌≡◌, ◌+◌, ◌≤◌, ◌++◌, ◌∷◌, [], ℕ, List, ◌∙◌, ap, sym, arith, drop, length, take, take_all, take-add, append_assoc, append-nil, rules, length-drop, length-take-le}
 use Rattle.std.specs.List.{flat_map}
 use Rattle.cse_lines.specs.Alike.{IsLike, line_like}
 use Rattle.cse_lines.specs.Field.{padded}
@@ -48,3 +48,33 @@ lines-preserved c =
       keeps_columns = rw columns (keeps_front c.args.columns.now c.lines.columns (padded c.lines.last.width (before_end line)) i.keeps_columns);
       keeps_lines = rw lines (keeps_front c.args.lines.now.items c.lines.lines.items (line_like c.lines.last (length c.lines.columns) ∷ []) i.keeps_lines);
     }
+
+pub returns-then-last-width-clause-keeps_lines : goal.returns-then-last-width-clause-keeps_lines
+returns-then-last-width-clause-keeps_lines c = take_all (length c.args.lines.now.items) c.args.lines.now.items (omega arith)
+
+pub returns-then-bytes-len-clause-keeps_columns : goal.returns-then-bytes-len-clause-keeps_columns
+returns-then-bytes-len-clause-keeps_columns c = take_all (length c.args.columns.now) c.args.columns.now (omega arith)
+
+pub returns-then-bytes-len-clause-keeps_lines : goal.returns-then-bytes-len-clause-keeps_lines
+returns-then-bytes-len-clause-keeps_lines c = take_all (length c.args.lines.now.items) c.args.lines.now.items (omega arith)
+
+pub lines-init : goal.lines-init
+lines-init c = record {
+  fits = omega arith;
+  laid = c.requires.laid;
+  last = c.requires.last;
+  wide = omega arith;
+  few = omega arith;
+  whole = ap (λ (l : List ℕ). c.args.last.len + length l) c.bytes.ensures;
+  some = search rules;
+  written = sym (append-nil (flat_map written_line (laid_lines c.args.columns.now c.args.lines.now.items)));
+  more = search rules;
+  keeps_columns = take_all (length c.args.columns.now) c.args.columns.now (omega arith);
+  keeps_lines = take_all (length c.args.lines.now.items) c.args.lines.now.items (omega arith);
+}
+
+pub push_like-requires-clause-whole : goal.push_like-requires-clause-whole
+push_like-requires-clause-whole c =
+    let i = c.lines.invariant in
+    let len = c.args.last.len + length c.bytes.result.now in
+    omega (arith, i.whole, i.fits, ap length c.piece.ensures, length-take-le len (drop c.lines.at c.args.bytes.now) (omega (arith, i.fits, c.if-len-bytes.true, length-drop c.lines.at c.args.bytes.now)))

@@ -30,3 +30,11 @@ returns-then-put_between-clause-columns c =
 pub returns-then-put_between-clause-utf8 : goal.returns-then-put_between-clause-utf8
 returns-then-put_between-clause-utf8 c =
     is_utf8-from_IsUtf8 c.args.text.now (IsUtf8-from_ascii c.args.text.now (c.put_between.ensures.plain c.if-put_between.true).ascii)
+
+pub put_between-requires-clause-wide : goal.put_between-requires-clause-wide
+put_between-requires-clause-wide c =
+    omega (arith, c.in_ok-reach.ensures, ap length c.self.view_is, taken_len c.self.inside.len c.self.inside.own.bytes.items c.self.inside.own.beside.items c.self.invariant.0)
+
+pub put_beyond_in-requires-clause-fits : goal.put_beyond_in-requires-clause-fits
+put_beyond_in-requires-clause-fits c =
+    omega (arith, c.in_ok-reach.ensures, ap length c.self.view_is, taken_len c.self.inside.len c.self.inside.own.bytes.items c.self.inside.own.beside.items c.self.invariant.0)
