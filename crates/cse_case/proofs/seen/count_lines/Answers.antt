@@ -1,11 +1,11 @@
-use Rattle.std.proofs.Common.{◌≡◌, ◌+◌, ◌++◌, ◌∷◌, [], length, take, drop, ap, sym, ◌∙◌, append_assoc, refl, add-zero, replicate, rules, None}
+use Rattle.std.proofs.Common.{◌≡◌, ◌+◌, ◌++◌, ◌∷◌, [], length, take, drop, ap, sym, ◌∙◌, append_assoc, append-nil, arith, subst, refl, add-zero, replicate, rules, None}
 use Rattle.cse_lines.specs.declared.line.Line.{Line}
 use Rattle.cse_lines.specs.declared.line.Ending.TheVariants.{FileEnd}
 use Rattle.std.specs.Vec.{with_items}
-use Rattle.std.proofs.lemmas.List.{with_items_is}
+use Rattle.std.proofs.lemmas.List.{drop_all, length-map, take_all, with_items_is}
 use Rattle.cse_case.specs.Seen.{onto_unseen, unseen_from, unseen_of}
 use Rattle.cse_case.proofs.SeenLaws.{AreCounts-none, take-types, unseen_from-next}
-use Rattle.cse_case.specs.Table.{types_in}
+use Rattle.cse_case.specs.Table.{AreCounts, types_in}
 use Rattle.cse_case.proofs.seen.count_lines.Goals as goal
 use Rattle.cse_case.proofs.seen.count_lines.Goals.{in-Some+in_ok-push-in-Some, in-None}
 
@@ -45,3 +45,15 @@ lines-preserved c =
             ∙ (ap (λ o. c.lines.unseen.items ++ onto_unseen (c.args.number + i) o rest) (sym own) ∙ (ap (λ l. c.lines.unseen.items ++ l) (sym next) ∙ c.lines.invariant.unseen))
       ];
     }
+
+pub returns-clause-counts : goal.returns-clause-counts
+returns-clause-counts c =
+    subst (λ l. AreCounts c.args.records.now l c.lines.counts.items)
+    (take_all c.lines.i (types_in c.args.lines.now) (omega (arith, c.lines-test.false, length-map c.args.lines.now (λ l. l.record_number)))) c.lines.invariant.counts
+
+pub returns-clause-unseen : goal.returns-clause-unseen
+returns-clause-unseen c =
+    let types = types_in c.args.lines.now in
+    let unseen = c.lines.unseen.items in
+    let none = drop_all c.lines.i types (omega (arith, c.lines-test.false, length-map c.args.lines.now (λ l. l.record_number))) in
+    sym (append-nil unseen) ∙ ap (λ l. unseen ++ unseen_from c.args.records.now (c.args.number + c.lines.i) (take c.lines.i types) l) (sym none) ∙ c.lines.invariant.unseen

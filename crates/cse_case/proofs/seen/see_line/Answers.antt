@@ -1,4 +1,4 @@
-use Rattle.std.proofs.Common.{subst, sym, ◌≡◌, ◌<◌, ◌≤◌, ◌+◌, length, map, take, get_or, None, Some, ap, ◌∙◌, arith}
+use Rattle.std.proofs.Common.{subst, sym, ◌≡◌, ◌<◌, ◌≤◌, ◌+◌, length, map, take, get_or, None, Some, ap, ◌∙◌, ◌∷◌, [], arith, length-append}
 use Rattle.cse_value.specs.declared.shape.RecordShape.{RecordShape}
 use Rattle.cse_value.specs.Occurrences.{most_occurrences}
 use Rattle.cse_lines.specs.declared.line.Line.{Line}
@@ -74,3 +74,26 @@ returns-else-record-records c =
     let own : type_at lines place ≡ Some r = type_is lines place no_line c.requires.place ∙ c.in-Some.is in
     let full : r < length records → most_occurrences records r ≤ get_or (map (λ s. s.count) spans) r 0 = λ low. absurd (omega (arith, c.if-record-records.false)) in
     (extra_here records lines place firsts spans r c.requires.seen own full, AreSeen-extra records lines place firsts spans r c.requires.place c.requires.seen own full)
+
+pub index-span-requires : goal.index-span-requires
+index-span-requires c = omega (arith, c.args.spans.now.ok.0, c.if-record-records.true, c.requires.seen.counts.size, length-map c.args.spans.now.items (λ s. s.count))
+
+pub index_mut-own-requires : goal.index_mut-own-requires
+index_mut-own-requires c = omega (arith, c.args.spans.now.ok.0, c.if-record-records.true, c.requires.seen.counts.size, length-map c.args.spans.now.items (λ s. s.count))
+
+pub add_occurrence-requires-clause-few : goal.add_occurrence-requires-clause-few
+add_occurrence-requires-clause-few c =
+    let spans = c.args.spans.now.items in
+    let low : c.in-Some.number < length spans = omega (arith, c.if-record-records.true, c.requires.seen.counts.size, length-map spans (λ s. s.count)) in
+    let same = span_same spans c.in-Some.number c.index-span.result.now c.index_mut-own.result.now low c.index-span.ensures c.index_mut-own.ensures.value in
+    omega (arith, ap (λ (s : OccurrenceSpan). s.count) same, c.if-span-most.true, c.if-record-records.element_fits)
+
+pub add_occurrence-requires-clause-fits : goal.add_occurrence-requires-clause-fits
+add_occurrence-requires-clause-fits c =
+    let low : c.in-Some.number < length c.args.spans.now.items = omega (arith, c.if-record-records.true, c.requires.seen.counts.size, length-map c.args.spans.now.items (λ s. s.count)) in
+    (c.requires.seen.spans_are c.in-Some.number c.index_mut-own.result.now low c.index_mut-own.ensures.value).fits
+
+pub add_following-requires : goal.add_following-requires
+add_following-requires c =
+    let longer = c.in_ok-add_occurrence.ensures c.if-not-branch.false in
+    record { fits = omega (arith, longer.start, longer.count, ap length longer.items, length-append c.args.firsts.now.items ((get_or c.args.lines.now c.args.place no_line).first ∷ [])) }
