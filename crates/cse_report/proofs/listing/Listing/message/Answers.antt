@@ -1,4 +1,4 @@
-use Rattle.std.proofs.Common.{◌≡◌, ◌<◌, ◌++◌, ◌∷◌, [], List, ℕ, Some, true, length, get_or, refl, ap, sym, ◌∙◌, subst, append-nil}
+use Rattle.std.proofs.Common.{◌≡◌, ◌<◌, ◌++◌, ◌∷◌, [], List, ℕ, Some, true, length, get_or, refl, ap, sym, ◌∙◌, subst, append-nil, arith}
 use Rattle.std.specs.Prelude.{map, slice_get}
 use Rattle.std.specs.String.{string_bytes}
 use Rattle.std.proofs.lemmas.Bool.{false≢true}
@@ -82,3 +82,17 @@ returns-clause-ok c =
     ∙ (texts_at-more i.lines.items c.deref-2.result.now i.spans.items c.in_ok-text.text c.self.invariant.texts
     ∙ ap (λ (l : List ℕ). texts_at i.lines.items i.spans.items ++ l ∷ []) text)) in
     rw (← c.self.view_is) (same_held _ _ _ _ _ _ _ _ _ c.count_one-2.ensures refl lines texts ∙ sym is)
+
+here : (i : Inside) (h : Held) (index : ℕ) → the_view i ≡ h → index < length h.messages → index < length i.messages.items
+here i h index view low =
+    let inside : index < length (map message_lists i.messages.items) = rw (← view) at low in
+    subst (λ n. index < n) (length-map i.messages.items message_lists) inside
+
+pub index-message-requires : goal.index-message-requires
+index-message-requires c = omega (arith, c.self.inside.messages.ok.0, here c.self.inside c.args.self.now c.args.index c.self.view_is c.requires.there)
+
+pub count_one-requires : goal.count_one-requires
+count_one-requires c = omega (arith, c.self.invariant.same, here c.self.inside c.args.self.now c.args.index c.self.view_is c.requires.there)
+
+pub count_one-requires-2 : goal.count_one-requires-2
+count_one-requires-2 c = omega (arith, c.self.invariant.same, here c.self.inside c.args.self.now c.args.index c.self.view_is c.requires.there)
