@@ -194,17 +194,33 @@ pub struct Operation<'a> {
 // ---- statements
 
 /// Which occurrence of an item a value is put into.
-#[derive(Drop)]
 pub enum Which<'a> {
     Here(Found),
     At(Number<'a>),
 }
 
+impl Drop for Which<'_> {
+    fn drop(self) {
+        match self {
+            Which::Here(_) => {}
+            Which::At(index) => drop(index),
+        }
+    }
+}
+
 /// A value of a message.
-#[derive(Drop)]
 pub enum Argument<'a> {
     Number(Number<'a>),
     Words(Words<'a>),
+}
+
+impl Drop for Argument<'_> {
+    fn drop(self) {
+        match self {
+            Argument::Number(number) => drop(number),
+            Argument::Words(words) => drop(words),
+        }
+    }
 }
 
 /// A number with its sign, and what it is.
@@ -336,7 +352,6 @@ pub enum Dimension<'a> {
 }
 
 /// An array that is declared.
-#[derive(Drop)]
 pub struct Array<'a> {
     pub name: Lexeme<'a>,
     pub dimensions: Vec<Dimension<'a>>,
@@ -345,8 +360,18 @@ pub struct Array<'a> {
     pub cells: Vec<Whole<'a>>,
 }
 
+impl Drop for Array<'_> {
+    fn drop(self) {
+        let Array {
+            name: _,
+            dimensions: _dimensions,
+            is_saved: _,
+            cells: _cells,
+        } = self;
+    }
+}
+
 /// A function that is declared.
-#[derive(Drop)]
 pub struct Function<'a> {
     pub name: Lexeme<'a>,
     pub parameters: Vec<Parameter<'a>>,
@@ -355,8 +380,18 @@ pub struct Function<'a> {
     pub needs_case: bool,
 }
 
+impl Drop for Function<'_> {
+    fn drop(self) {
+        let Function {
+            name: _,
+            parameters: _parameters,
+            body: _body,
+            needs_case: _,
+        } = self;
+    }
+}
+
 /// What stands in `PROC GLOBAL`.
-#[derive(Drop)]
 pub enum Declaration<'a> {
     Numeric(Vec<Lexeme<'a>>),
     /// The length of the texts, as written and as a number, and their names.
@@ -365,13 +400,34 @@ pub enum Declaration<'a> {
     Function(Function<'a>),
 }
 
+impl Drop for Declaration<'_> {
+    fn drop(self) {
+        match self {
+            Declaration::Numeric(names) | Declaration::Alpha(_, _, names) => drop(names),
+            Declaration::Array(array) => drop(array),
+            Declaration::Function(function) => drop(function),
+        }
+    }
+}
+
 /// The statements of a procedure, by the words that stand before them.
-#[derive(Drop)]
 pub enum Body<'a> {
     Plain(Vec<Statement<'a>>),
     Preproc(Vec<Statement<'a>>),
     Both(Vec<Statement<'a>>, Vec<Statement<'a>>),
     Postproc(Vec<Statement<'a>>),
+}
+
+impl Drop for Body<'_> {
+    fn drop(self) {
+        match self {
+            Body::Plain(part) | Body::Preproc(part) | Body::Postproc(part) => drop(part),
+            Body::Both(before, after) => {
+                drop(before);
+                drop(after);
+            }
+        }
+    }
 }
 
 /// What a procedure belongs to.
@@ -384,11 +440,20 @@ pub enum Owner {
 }
 
 /// A procedure, with what it belongs to.
-#[derive(Drop)]
 pub struct Procedure<'a> {
     pub name: Lexeme<'a>,
     pub owner: Owner,
     pub body: Body<'a>,
+}
+
+impl Drop for Procedure<'_> {
+    fn drop(self) {
+        let Procedure {
+            name: _,
+            owner: _,
+            body: _body,
+        } = self;
+    }
 }
 
 /// A message of the source: its number, 0 for a text that stands in the source, its text, and whether it is only

@@ -292,7 +292,6 @@ pub struct Parameter<'a> {
 }
 
 /// What is declared in `PROC GLOBAL`.
-#[derive(Drop)]
 pub enum Declaration<'a> {
     Numeric(Vec<Lexeme<'a>>),
     /// The length of the texts, and their names.
@@ -301,8 +300,20 @@ pub enum Declaration<'a> {
     Function(Lexeme<'a>, Vec<Parameter<'a>>, Vec<Statement<'a>>),
 }
 
+impl Drop for Declaration<'_> {
+    fn drop(self) {
+        match self {
+            Declaration::Numeric(names) | Declaration::Alpha(_, names) => drop(names),
+            Declaration::Array(array) => drop(array),
+            Declaration::Function(_, parameters, body) => {
+                drop(parameters);
+                drop(body);
+            }
+        }
+    }
+}
+
 /// An array that is declared, as it is written.
-#[derive(Drop)]
 pub struct Array<'a> {
     pub name: Lexeme<'a>,
     pub dimensions: Vec<Dimension<'a>>,
@@ -311,8 +322,18 @@ pub struct Array<'a> {
     pub cells: Vec<Literal<'a>>,
 }
 
+impl Drop for Array<'_> {
+    fn drop(self) {
+        let Array {
+            name: _,
+            dimensions: _dimensions,
+            is_saved: _,
+            cells: _cells,
+        } = self;
+    }
+}
+
 /// The statements of a procedure, by the words that stand before them.
-#[derive(Drop)]
 pub enum Body<'a> {
     Plain(Vec<Statement<'a>>),
     Preproc(Vec<Statement<'a>>),
@@ -320,18 +341,46 @@ pub enum Body<'a> {
     Postproc(Vec<Statement<'a>>),
 }
 
+impl Drop for Body<'_> {
+    fn drop(self) {
+        match self {
+            Body::Plain(part) | Body::Preproc(part) | Body::Postproc(part) => drop(part),
+            Body::Both(before, after) => {
+                drop(before);
+                drop(after);
+            }
+        }
+    }
+}
+
 /// A procedure, as it is written.
-#[derive(Drop)]
 pub struct Procedure<'a> {
     pub name: Lexeme<'a>,
     pub body: Body<'a>,
 }
 
+impl Drop for Procedure<'_> {
+    fn drop(self) {
+        let Procedure {
+            name: _,
+            body: _body,
+        } = self;
+    }
+}
+
 /// What stands after `PROC GLOBAL`, if it is there, and the other procedures.
-#[derive(Drop)]
 pub struct Tree<'a> {
     pub globals: Option<Vec<Declaration<'a>>>,
     pub procedures: Vec<Procedure<'a>>,
+}
+
+impl Drop for Tree<'_> {
+    fn drop(self) {
+        let Tree {
+            globals: _globals,
+            procedures: _procedures,
+        } = self;
+    }
 }
 
 impl<'a> Expression<'a> {
