@@ -8,6 +8,7 @@ pub mod PileLaws
 pub mod Shares
 pub mod DepthLaws
 pub mod BelowLaws
+pub mod ListedLaws
 pub mod MergeLaws
 pub mod RuleLaws
 pub mod TurnLaws

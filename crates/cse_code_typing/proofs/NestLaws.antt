@@ -1,9 +1,9 @@
 -- A stack whose topmost entry is the last one of those that are in use.
-use Rattle.std.proofs.Common.{◌≡◌, ℕ, zero, suc, ◌+◌, ◌-◌, ◌<◌, ◌≤◌, List, [], ◌∷◌, ◌++◌, length, take, drop, reverse, get_or, Some, refl, sym, ap, ◌∙◌, arith}
+use Rattle.std.proofs.Common.{◌≡◌, ℕ, zero, suc, ◌+◌, ◌-◌, ◌<◌, ◌≤◌, List, [], ◌∷◌, ◌++◌, length, take, drop, set, reverse, get_or, Some, refl, sym, ap, ◌∙◌, arith}
 use Rattle.std.specs.Prelude.{slice_get}
 use Rattle.cse_code_typing.specs.Bracket.{first}
 use Rattle.std.proofs.lemmas.Option.{slice_get-get_or}
-use Rattle.std.proofs.lemmas.List.{get_or-reverse, length-reverse, length-take-le, get_or-take, take_more, reverse-append}
+use Rattle.std.proofs.lemmas.List.{get_or-reverse, length-reverse, length-take-le, get_or-take, take_more, take_more_set, reverse-append}
 
 pub height : {A : Type 0} (entries shown : List A) (len : ℕ) → reverse (take len entries) ≡ shown → len ≤ length entries → len ≡ length shown
 height entries shown len is le = sym (ap length (sym is) ∙ length-reverse (take len entries) ∙ length-take-le len entries le)
@@ -17,6 +17,10 @@ shown_at entries shown len i x is le lt read =
     ap (λ l. slice_get l i) (sym is)
     ∙ slice_get-get_or (reverse (take len entries)) i x (let r = length-reverse (take len entries) in omega arith)
     ∙ ap Some (back ∙ ap (λ n. get_or (take len entries) (n - 1 - i) x) size ∙ get_or-take len entries (len - 1 - i) x (omega arith) ∙ sym read)
+
+-- with one more on top
+pub shown_push : {A : Type 0} (entries shown : List A) (len : ℕ) (x : A) → reverse (take len entries) ≡ shown → len < length entries → reverse (take (len + 1) (set entries len x)) ≡ x ∷ shown
+shown_push entries shown len x is lt = ap reverse (take_more_set entries len x lt) ∙ reverse-append (take len entries) (x ∷ []) ∙ ap (λ l. x ∷ l) is
 
 -- without the topmost one
 shorter : {A : Type 0} (xs : List A) (x : A) (n m : ℕ) → m ≡ n + 1 → m ≤ length xs → reverse (take n xs) ≡ drop 1 (reverse (take m xs))
