@@ -97,10 +97,7 @@ fn coded<'a>(
         Ok(instructions) => instructions,
         Err(error) => return Err(error),
     };
-    match routine_of(alloc, written.sort, instructions) {
-        Ok(routine) => Ok(routine),
-        Err(error) => Err(error),
-    }
+    routine_of(alloc, written.sort, instructions)
 }
 
 fn keep(routines: &mut Vec<Routine>, routine: Routine) -> Result<(), CompileError>

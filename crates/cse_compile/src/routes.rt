@@ -150,8 +150,5 @@ pub fn routes_of<'t, 'a>(
         Err(error) => return Err(error),
     };
     let records = &dictionary.shape().records;
-    match routed(alloc, records, arrays, &outlines, events) {
-        Ok(routes) => Ok(routes),
-        Err(error) => Err(error),
-    }
+    routed(alloc, records, arrays, &outlines, events)
 }
