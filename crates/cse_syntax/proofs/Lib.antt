@@ -13,5 +13,6 @@ pub mod TokenNumbers
 pub mod Words
 pub mod Whole
 pub mod LongestToken
+pub mod FirstToken
 pub mod QuotedText
 pub mod SkippedText

@@ -134,7 +134,7 @@ text_fits quote bs n e =
     let some : 0 < length (drop k bs) = begins_some quote (drop k bs) b.0 in
     subst (λ (n : ℕ). Fits (suc (length bs)) n) (same_Some _ _ t.1) (omega arith, omega (arith, length-drop k bs))
 
-takes_some : (bs : List ℕ) (found : ℕ × Kind) → token_at bs ≡ Some found → Fits (length bs) found.0
+pub takes_some : (bs : List ℕ) (found : ℕ × Kind) → token_at bs ≡ Some found → Fits (length bs) found.0
 unfolding token_at
 takes_some [] found e = absurd cc
 takes_some (b ∷ bs) found e =
