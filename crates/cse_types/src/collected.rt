@@ -5,7 +5,7 @@ ghost use Rattle.cse_syntax_tree.specs.Tree as syntax;
 ghost use Rattle.cse_logic_faults.specs.Listed.{listed};
 ghost use Rattle.cse_types.specs.JudgeTree as judge;
 ghost use Rattle.cse_types.specs.SourceFaults as spec;
-ghost use Rattle.cse_types.specs.FaultClauses.{all_faults};
+ghost use Rattle.cse_types.specs.FaultClauses.{all_faults, faults_within};
 ghost use Rattle.cse_types.specs.PartClauses.{globals_of};
 
 use crate::counted_parts::counts_of;
@@ -69,8 +69,38 @@ fn known<'a>(
     start(alloc, dictionary, messages, table.names, tree)
 }
 
-/// All of them, in the order of the definition.
-#[tactic(auto, unfolding(crate::specs::SourceFaults::faults_of), using(cse_logic_faults::proofs::Lists::behind))]
+/// All of them, in the order of the definition, in a scope of what is known before the first function ends.
+#[tactic(auto, using(cse_logic_faults::proofs::Lists::behind))]
+fn found_within(
+    alloc: Global,
+    scope: &mut Scope<'_>,
+    counts: &Counts,
+    tree: &Tree<'_>,
+) -> Result<Found, AllocError>
+    ensures { IfOk result (λ f. f ≡ faults_within counts.now scope.old tree.now) }
+{
+    let mut found = Found::new(alloc);
+    globals(alloc, scope, counts, &mut found, tree)?;
+    all_procedures(alloc, scope, counts, &mut found, procedures_in(tree))?;
+    Ok(found)
+}
+
+/// The same, where each function takes so many arguments.
+fn found_counted<'a>(
+    alloc: Global,
+    dictionary: &'a Dictionary,
+    messages: &'a Messages,
+    counts: &Counts,
+    tree: &Tree<'a>,
+) -> Result<Found, AllocError>
+    ensures { IfOk result (λ f. f ≡ faults_within counts.now (spec.first_known dictionary.now messages.now (globals_of tree.now)) tree.now) }
+{
+    let mut scope = known(alloc, dictionary, messages, tree)?;
+    found_within(alloc, &mut scope, counts, tree)
+}
+
+/// The same of a source.
+#[tactic(auto, unfolding(crate::specs::SourceFaults::faults_of))]
 fn found_in<'a>(
     alloc: Global,
     dictionary: &'a Dictionary,
@@ -80,11 +110,7 @@ fn found_in<'a>(
     ensures { IfOk result (λ f. f ≡ spec.faults_of dictionary.now messages.now (syntax.tree tree.now)) }
 {
     let counts = counts_of(alloc, tree)?;
-    let mut scope = known(alloc, dictionary, messages, tree)?;
-    let mut found = Found::new(alloc);
-    globals(alloc, &mut scope, &counts, &mut found, tree)?;
-    all_procedures(alloc, &mut scope, &counts, &mut found, procedures_in(tree))?;
-    Ok(found)
+    found_counted(alloc, dictionary, messages, &counts, tree)
 }
 
 /// All faults of names and kinds of a source's tree, 40 to 49, for a dictionary and the messages of a message file.

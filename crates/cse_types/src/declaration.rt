@@ -21,10 +21,13 @@ use cse_syntax_tree::{Declaration as Parsed, Lexeme};
 use std::alloc::{AllocError, Global};
 
 /// Numbers.
-fn numeric<'a>(alloc: Global, names: &Vec<Lexeme<'a>>) -> Result<Declaration<'a>, AllocError>
-    ensures { IfOk result (λ d. typed.declaration d ≡ typed.Numeric (map written names.now.items)) }
+fn numeric<'a>(
+    alloc: Global,
+    names: &Vec<Lexeme<'a>>,
+) -> Result<Option<Declaration<'a>>, AllocError>
+    ensures { IfOk result (λ r. option_map typed.declaration r ≡ Some (typed.Numeric (map written names.now.items))) }
 {
-    Ok(Declaration::Numeric(Vec::from_slice(alloc, names)?))
+    Ok(Some(Declaration::Numeric(Vec::from_slice(alloc, names)?)))
 }
 
 /// Texts of a size.
@@ -73,7 +76,7 @@ pub fn declaration<'a>(
     ensures told { OnOk result (map told_of told.new.items ≡ map told_of told.old.items ++ spec.messages_with (syntax.declaration x.now)) }
 {
     match x {
-        Parsed::Numeric(names) => Ok(Some(numeric(alloc, names)?)),
+        Parsed::Numeric(names) => numeric(alloc, names),
         Parsed::Alpha(digits, names) => {
             let size = size_of(255, *digits);
             alpha(alloc, *digits, names, size)

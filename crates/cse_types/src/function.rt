@@ -38,10 +38,10 @@ fn body_in<'a>(
     let routine = scope.routine;
     scope.routine = Routine::Function(scope.functions.len());
     let outer = std::mem::replace(&mut scope.parameters, names);
-    let found = block(alloc, scope, told, body)?;
+    let found = block(alloc, scope, told, body);
     scope.routine = routine;
     scope.parameters = outer;
-    Ok(found)
+    found
 }
 
 /// A function of sound parts, and what is known of it.

@@ -117,9 +117,9 @@ fn body_of<'a>(
 {
     let routine = scope.routine;
     scope.routine = Routine::Procedure(owner);
-    let found = body(alloc, scope, told, x)?;
+    let found = body(alloc, scope, told, x);
     scope.routine = routine;
-    Ok(found)
+    found
 }
 
 fn owned<'a>(name: Lexeme<'a>, owner: Owner, body: Option<Body<'a>>) -> Option<Procedure<'a>>
