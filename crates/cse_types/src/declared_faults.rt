@@ -140,10 +140,10 @@ fn body_in(
     let routine = scope.routine;
     scope.routine = Routine::Function(scope.functions.len());
     let outer = std::mem::replace(&mut scope.parameters, names);
-    block(scope, counts, found, body)?;
+    let answer = block(scope, counts, found, body);
     scope.routine = routine;
     scope.parameters = outer;
-    Ok(())
+    answer
 }
 
 /// The statements of the next function.

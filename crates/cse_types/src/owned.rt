@@ -144,9 +144,9 @@ fn body_of(
 {
     let routine = scope.routine;
     scope.routine = Routine::Procedure(owner);
-    body(scope, counts, found, x)?;
+    let answer = body(scope, counts, found, x);
     scope.routine = routine;
-    Ok(())
+    answer
 }
 
 // ---- procedures
