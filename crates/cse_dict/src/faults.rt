@@ -73,7 +73,6 @@ fn check_columns(section: &Section<'_>, found: &mut Option<DictError>)
 }
 
 /// The occurrences and decimals of an item.
-#[tactic(auto, unfolding(crate::specs::Faults::form_faults))]
 fn check_form(section: &Section<'_>, found: &mut Option<DictError>)
     ensures { found.new ≡ note_all found.old (form_faults section.now) }
 {

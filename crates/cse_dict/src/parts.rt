@@ -72,7 +72,6 @@ impl Model for Set {
 }
 
 /// A name as a text, in upper case; bytes that aren't UTF-8 are no name.
-#[tactic(auto, unfolding(crate::specs::Dictionary::text_name))]
 fn text_name(alloc: Global, bytes: &[u8]) -> Result<String, AllocError>
     ensures { IfOk result (λ s. string_bytes s ≡ text_name bytes.now) }
 {

@@ -53,7 +53,6 @@ fn pad(text: &mut Vec<char>, len: u32) -> Result<(), AllocError>
 }
 
 /// The type of a record, padded with blanks.
-#[tactic(auto, unfolding(crate::specs::Types::type_of))]
 pub fn type_of(
     alloc: Global,
     len: Option<u32>,

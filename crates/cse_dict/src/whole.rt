@@ -65,7 +65,6 @@ fn check_start(len: Option<u32>, first: &Section<'_>, found: &mut Option<DictErr
 }
 
 /// The first section.
-#[tactic(auto, unfolding(crate::specs::Faults::first_faults))]
 fn check_first(
     alloc: Global,
     first: &Section<'_>,

@@ -135,7 +135,6 @@ fn cell_count_of<'a>(dimensions: &[u16], bytes: &'a [u8]) -> Result<(u32, &'a [u
 }
 
 /// An array, after arrays that have so many cells.
-#[tactic(auto, unfolding(cse_image_codec::specs::Reader::then_at, cse_image_codec::specs::Reader::done, crate::specs::Reading::zero_at, crate::specs::Reading::array_at))]
 fn array_of<'a>(
     alloc: Global,
     before: &[Array],

@@ -17,7 +17,6 @@ use cse_image_parts::version::Version;
 use std::alloc::Global;
 
 /// All tables behind the header, in the order of the format, and the bytes of the code after them.
-#[tactic(auto, unfolding(cse_image_codec::specs::Reader::then_at, cse_image_codec::specs::Reader::done, crate::specs::Reading::lists_at))]
 pub fn tables_of(alloc: Global, version: Version, bytes: &[u8]) -> Result<(Tables, &[u8]), ReadStop>
     ensures exact { Gives (λ x. (lists_of x.0, x.1.now)) result (lists_at version bytes.now) }
     ensures room { IfOk result (λ x. instructions_in (map routine_lists x.0.routines.items) ≤ MOST_INSTRUCTIONS) }

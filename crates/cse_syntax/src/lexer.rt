@@ -205,7 +205,6 @@ fn text_len(quote: u8, bytes: &[u8]) -> Option<usize>
 }
 
 /// The length and the kind of the longest token at the front, if one begins there.
-#[tactic(auto, unfolding(crate::specs::Text::token_at))]
 fn token_at(bytes: &[u8]) -> Option<(usize, Kind)>
     ensures value { result ≡ spec.token_at bytes.now }
     ensures within { IfSome result (λ t. (0 < t.0) × (t.0 ≤ length bytes.now)) }

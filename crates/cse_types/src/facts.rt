@@ -24,7 +24,6 @@ pub struct Gathered {
 }
 
 /// A record or an item is named, or a hot deck is used.
-#[tactic(auto, unfolding(crate::specs::Gather::gather))]
 fn case(functions: &[Option<Facts>], gathered: &mut Gathered)
     ensures { gathered.new ≡ with_use functions.now gathered.old spec.TheCase }
 {

@@ -13,7 +13,7 @@ returns-then-not-dimension_fits c =
     let i = c.loop-dimension.dimension-index in (
       λ e. absurd (false≢true e),
       λ all. sym c.if-not-dimension_fits.true
-      ∙ c.dimension_fits.ensures.1 (AllByRecursion-at DimensionFits xs i (get_or xs i 0) all (slice_get-get_or xs i 0 c.loop-dimension-test.true)),
+          ∙ c.dimension_fits.ensures.1 (AllByRecursion-at DimensionFits xs i (get_or xs i 0) all (slice_get-get_or xs i 0 c.loop-dimension-test.true)),
     )
 
 pub loop-dimension-preserved : goal.loop-dimension-preserved
@@ -25,6 +25,6 @@ loop-dimension-preserved c =
 
 pub returns : goal.returns
 returns c = (
-      λ _. subst (λ (l : List ℕ). AllByRecursion DimensionFits l) (take_all c.loop-dimension.dimension-index c.args.dimensions.now c.loop-dimension-test.false) c.loop-dimension.invariant,
-      λ _. refl,
-    )
+  λ _. subst (λ (l : List ℕ). AllByRecursion DimensionFits l) (take_all c.loop-dimension.dimension-index c.args.dimensions.now c.loop-dimension-test.false) c.loop-dimension.invariant,
+  λ _. refl,
+)
