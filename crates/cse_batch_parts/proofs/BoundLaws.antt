@@ -4,9 +4,9 @@ use Rattle.std.specs.Prelude.{is_some}
 use Rattle.std.specs.Str.{bytes_eq}
 use Rattle.cse_image_parts.specs.declared.entries.EventCode.TheVariants as codes
 use Rattle.cse_dict.specs.Dictionary.{DictionaryText}
-use Rattle.cse_lines.specs.Line.{FileLine, lines_in}
-use Rattle.cse_lines.specs.Columns.{id_of}
-use Rattle.cse_lines.specs.Runs.{all_but_last, first_fault, given_runs, given_before, given_of, onto_run, runs_of}
+use Rattle.cse_case.specs.Line.{FileLine, lines_in}
+use Rattle.cse_case.specs.Columns.{id_of}
+use Rattle.cse_case.specs.Runs.{all_but_last, first_fault, given_runs, given_before, given_of, onto_run, runs_of}
 use Rattle.cse_case.specs.Case.{CaseText, places_of, records_of, types_of}
 use Rattle.cse_case.specs.Seen.{is_case}
 use Rattle.cse_case.specs.Fit.{IsFit}

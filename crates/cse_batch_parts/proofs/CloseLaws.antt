@@ -10,7 +10,7 @@ use Rattle.cse_value.specs.Writing.{AppendsFront, FailsAtErr, WritesAll}
 use Rattle.cse_value.proofs.WriteLaws.{AppendsFront-after}
 use Rattle.cse_image_parts.specs.declared.entries.EventCode.TheVariants.{ApplicationPostproc}
 use Rattle.cse_dict.specs.Dictionary.{item_names}
-use Rattle.cse_lines.specs.Runs.{fault_in, given_runs}
+use Rattle.cse_case.specs.Runs.{fault_in, given_runs}
 use Rattle.cse_decks.specs.Store.{Kept}
 use Rattle.cse_decks.specs.Deck.{deck_text}
 use Rattle.cse_value.specs.Gathering.{Finishes, GaveUp, Gathered, Gathering, Going, Puts}

@@ -6,8 +6,8 @@ use Rattle.cse_value.specs.declared.number.Num.{Num}
 use Rattle.cse_image_parts.specs.declared.entries.EventCode.{EventCode}
 use Rattle.cse_image_parts.specs.declared.entries.EventCode.TheVariants as codes
 use Rattle.cse_image_parts.specs.Image.{Image, MessageLists}
-use Rattle.cse_lines.specs.Line.{FileLine}
-use Rattle.cse_lines.specs.Run.{written_run}
+use Rattle.cse_case.specs.Line.{FileLine}
+use Rattle.cse_case.specs.Run.{written_run}
 use Rattle.cse_case.specs.Case.{CaseText}
 use Rattle.cse_verify.specs.CaseEvents.{Moment, moment}
 use Rattle.cse_decks.specs.Store.{Kept, StoreFits}

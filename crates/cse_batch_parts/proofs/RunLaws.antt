@@ -5,11 +5,11 @@ use Rattle.cse_value.specs.Device.{FailsOnce, Given, IsAtEnd, IsUnfailing}
 use Rattle.cse_value.proofs.ReadLaws.{Consumes-nil}
 use Rattle.std.proofs.lemmas.Bool.{cases_lt}
 use Rattle.cse_image_parts.specs.declared.entries.EventCode.TheVariants.{ApplicationPreproc}
-use Rattle.cse_lines.specs.declared.error.DataError.{DataError}
-use Rattle.cse_lines.specs.Line.{FileLine}
-use Rattle.cse_lines.specs.Run.{written_run}
-use Rattle.cse_lines.specs.Runs.{given_runs}
-use Rattle.cse_lines.specs.Reader.{ReaderText, held_of, is_front}
+use Rattle.cse_case.specs.declared.error.DataError.{DataError}
+use Rattle.cse_case.specs.Line.{FileLine}
+use Rattle.cse_case.specs.Run.{written_run}
+use Rattle.cse_case.specs.Runs.{given_runs}
+use Rattle.cse_case.specs.Reader.{ReaderText, held_of, is_front}
 use Rattle.cse_case.specs.Case.{CaseText, case_of, records_of, types_of, unseen_lines}
 use Rattle.cse_case.specs.Seen.{is_case}
 use Rattle.cse_case.specs.Reading.{NextCase}

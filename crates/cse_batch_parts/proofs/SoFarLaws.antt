@@ -8,13 +8,13 @@ use Rattle.std.proofs.lemmas.List.{length-map}
 use Rattle.std.proofs.lemmas.List.Sums.{sum_by-append}
 use Rattle.std.proofs.lemmas.Bool.{eq-eqb, false≢true, ne_eqb}
 use Rattle.cse_dict.specs.Dictionary.{DictionaryText, shape_of}
-use Rattle.cse_lines.specs.declared.error.DataError.{DataError}
-use Rattle.cse_lines.specs.Line.{FileLine}
-use Rattle.cse_lines.specs.Columns.{line_text}
-use Rattle.cse_lines.specs.Run.{RunText, written_run}
-use Rattle.cse_lines.specs.Runs.{given_runs, fault_in, later_by, MayFollow}
-use Rattle.cse_lines.specs.Reader.{ReaderText, IsError, IsFaulty, NeedsMore, held_of, is_front}
-use Rattle.cse_lines.proofs.RunLaws.{later_by-zero, later_by-later_by, nothing_given, nothing_faulty, may_follow}
+use Rattle.cse_case.specs.declared.error.DataError.{DataError}
+use Rattle.cse_case.specs.Line.{FileLine}
+use Rattle.cse_case.specs.Columns.{line_text}
+use Rattle.cse_case.specs.Run.{RunText, written_run}
+use Rattle.cse_case.specs.Runs.{given_runs, fault_in, later_by, MayFollow}
+use Rattle.cse_case.specs.Reader.{ReaderText, IsError, IsFaulty, NeedsMore, held_of, is_front}
+use Rattle.cse_case.proofs.RunLaws.{later_by-zero, later_by-later_by, nothing_given, nothing_faulty, may_follow}
 use Rattle.std.proofs.lemmas.Bool.{MatchBool-at_true}
 use Rattle.cse_value.specs.declared.device.Failed.{Failed}
 use Rattle.cse_value.specs.Writing.{AppendsFront, FailsAtErr, WritesAll}

@@ -5,11 +5,11 @@ use Rattle.std.specs.List.{flat_map, onto_first}
 use Rattle.std.specs.Option.{option_map_or}
 use Rattle.std.specs.Str.{bytes_eq}
 use Rattle.cse_dict.specs.Dictionary.{DictionaryText}
-use Rattle.cse_lines.specs.Line.{FileLine, counts, flagged, lines_in, pieces_of}
-use Rattle.cse_lines.specs.Columns.{id_of}
-use Rattle.cse_lines.specs.Runs.{AreSound, all_but_last, fault_in, fault_of, first_fault, given_runs, given_before, given_of, line_fault, onto_run, or_later, place_after, runs_of}
-use Rattle.cse_lines.specs.Gathering.{StandsFrom, bytes_of}
-use Rattle.cse_lines.proofs.GatherLaws.{own_sound}
+use Rattle.cse_case.specs.Line.{FileLine, counts, flagged, lines_in, pieces_of}
+use Rattle.cse_case.specs.Columns.{id_of}
+use Rattle.cse_case.specs.Runs.{AreSound, all_but_last, fault_in, fault_of, first_fault, given_runs, given_before, given_of, line_fault, onto_run, or_later, place_after, runs_of}
+use Rattle.cse_case.specs.Gathering.{StandsFrom, bytes_of}
+use Rattle.cse_case.proofs.GatherLaws.{own_sound}
 
 -- runs with lines, sound ones, of which the first stands at the front of the file or not
 abbrev pub AreGood : Bool → List (List FileLine) → Type 0

@@ -4,17 +4,17 @@ use Rattle.std.specs.Prelude.{slice_get, encode_utf8_all}
 use Rattle.std.specs.List.{flat_map}
 use Rattle.std.proofs.lemmas.Option.{same_Some}
 use Rattle.cse_dict.specs.Dictionary.{DictionaryText}
-use Rattle.cse_lines.specs.declared.line.Ending.{Ending}
-use Rattle.cse_lines.specs.Line.{FileLine, end_bytes, ending_of, is_marked}
-use Rattle.cse_lines.specs.Columns.{LineText, columns_of, line_text, no_line}
-use Rattle.cse_lines.specs.Field.{field_at, ids_of, type_span}
-use Rattle.cse_lines.specs.Run.{begins_marked}
-use Rattle.cse_lines.specs.Runs.{AreSound, line_fault}
-use Rattle.cse_lines.specs.Gathering.{StandsFrom}
-use Rattle.cse_lines.specs.Written.{kept_columns, mark_bytes, written_line}
-use Rattle.cse_lines.proofs.TakeLaws.{id_of_is}
-use Rattle.cse_lines.proofs.WrittenLaws.{written-line}
-use Rattle.cse_lines.proofs.AlikeLaws.{text_len, text_ending}
+use Rattle.cse_case.specs.declared.line.Ending.{Ending}
+use Rattle.cse_case.specs.Line.{FileLine, end_bytes, ending_of, is_marked}
+use Rattle.cse_case.specs.Columns.{LineText, columns_of, line_text, no_line}
+use Rattle.cse_case.specs.NamedColumns.{field_at, ids_of, type_span}
+use Rattle.cse_case.specs.Run.{begins_marked}
+use Rattle.cse_case.specs.Runs.{AreSound, line_fault}
+use Rattle.cse_case.specs.Gathering.{StandsFrom}
+use Rattle.cse_case.specs.Written.{kept_columns, mark_bytes, written_line}
+use Rattle.cse_case.proofs.TakeLaws.{id_of_is}
+use Rattle.cse_case.proofs.WrittenLaws.{written-line}
+use Rattle.cse_case.proofs.AlikeLaws.{text_len, text_ending}
 use Rattle.cse_batch_parts.specs.Untouched.{LineStays}
 
 -- ---- one line

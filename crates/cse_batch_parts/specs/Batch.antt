@@ -9,9 +9,9 @@ use Rattle.cse_value.specs.declared.number.Num.{Num}
 use Rattle.cse_image_parts.specs.declared.entries.EventCode.{EventCode}
 use Rattle.cse_image_parts.specs.declared.entries.EventCode.TheVariants.{ApplicationPreproc, ApplicationPostproc}
 use Rattle.cse_dict.specs.Dictionary.{DictionaryText, item_names}
-use Rattle.cse_lines.specs.Line.{FileLine}
-use Rattle.cse_lines.specs.Run.{written_run}
-use Rattle.cse_lines.specs.Runs.{given_runs, fault_in}
+use Rattle.cse_case.specs.Line.{FileLine}
+use Rattle.cse_case.specs.Run.{written_run}
+use Rattle.cse_case.specs.Runs.{given_runs, fault_in}
 use Rattle.cse_case.specs.Case.{CaseText, case_of, unseen_lines}
 use Rattle.cse_verify.specs.CaseEvents.{moment}
 use Rattle.cse_verify.specs.Verified.{VerifiedProgram}

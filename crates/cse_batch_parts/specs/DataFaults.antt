@@ -1,7 +1,7 @@
 -- Faults of the bytes of a data file, after which it has ended or breaks off.
 use Rattle.std.specs.Prelude.{◌≡◌, ◌+◌, ℕ, Bool, true, false, List, None, Some}
 use Rattle.cse_dict.specs.Dictionary.{DictionaryText}
-use Rattle.cse_lines.specs.Runs.{fault_in}
+use Rattle.cse_case.specs.Runs.{fault_in}
 use Rattle.cse_batch_parts.specs.declared.totals.RunFault.{RunFault}
 
 -- the fault is that of the first faulty line

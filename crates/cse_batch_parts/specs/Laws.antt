@@ -1,7 +1,7 @@
 -- What is proved of batches.
 use Rattle.std.specs.Prelude.{◌≡◌, ℕ, ◌+◌, ◌≤◌, Bool, true, List, [], ◌∷◌, ◌++◌, Option}
-use Rattle.cse_lines.specs.Line.{FileLine}
-use Rattle.cse_lines.specs.Runs.{given_runs}
+use Rattle.cse_case.specs.Line.{FileLine}
+use Rattle.cse_case.specs.Runs.{given_runs}
 use Rattle.cse_case.specs.Case.{CaseText}
 use Rattle.cse_case.specs.Fit.{IsFit}
 use Rattle.cse_image_parts.specs.declared.entries.EventCode.TheVariants.{ApplicationPreproc, ApplicationPostproc}

@@ -2,7 +2,7 @@
 use Rattle.std.specs.Prelude.{◌≡◌}
 use Rattle.cse_value.specs.declared.device.Input.{Ghosts as Gives}
 use Rattle.cse_value.specs.declared.device.Output.{Ghosts as Takes}
-use Rattle.cse_lines.specs.Reader.{ReaderText}
+use Rattle.cse_case.specs.Reader.{ReaderText}
 use Rattle.cse_case.specs.declared.reader.CaseReader.{CaseReader}
 use Rattle.cse_decks.specs.Store.{Kept, StoreFits}
 use Rattle.cse_value.specs.Gathering.{Going, behind}

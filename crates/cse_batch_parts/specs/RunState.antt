@@ -1,9 +1,9 @@
 -- How far a run is, before its outputs are closed.
 use Rattle.std.specs.Prelude.{◌≡◌, ◌≢◌, ◌≤◌, ◌<◌, ◌^◌, ◌⊎◌, ℕ, Bool, true, false, List, [], ◌++◌, length, replicate, None}
 use Rattle.cse_value.specs.Device.{Consumes, IsAtEnd, Given, FailsOnce, IsUnfailing}
-use Rattle.cse_lines.specs.Line.{FileLine}
-use Rattle.cse_lines.specs.Runs.{given_runs, fault_in}
-use Rattle.cse_lines.specs.Reader.{ReaderText, held_of}
+use Rattle.cse_case.specs.Line.{FileLine}
+use Rattle.cse_case.specs.Runs.{given_runs, fault_in}
+use Rattle.cse_case.specs.Reader.{ReaderText, held_of}
 use Rattle.cse_dict.specs.Dictionary.{item_names}
 use Rattle.cse_decks.specs.Store.{Kept}
 use Rattle.cse_decks.specs.Deck.{deck_text}

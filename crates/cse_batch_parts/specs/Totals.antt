@@ -1,8 +1,8 @@
 -- What a run over a data file counts: the runs that are cases, all lines, and the unseen lines.
 use Rattle.std.specs.Prelude.{ℕ, Bool, List, length, map, sum_by, count_by}
 use Rattle.cse_dict.specs.Dictionary.{DictionaryText, shape_of}
-use Rattle.cse_lines.specs.Line.{FileLine}
-use Rattle.cse_lines.specs.Columns.{line_text}
+use Rattle.cse_case.specs.Line.{FileLine}
+use Rattle.cse_case.specs.Columns.{line_text}
 use Rattle.cse_case.specs.Case.{types_of}
 use Rattle.cse_case.specs.Seen.{is_case, unseen_of}
 use Rattle.cse_batch_parts.specs.declared.totals.Totals.{Totals}

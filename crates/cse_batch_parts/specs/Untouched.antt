@@ -5,12 +5,12 @@ use Rattle.std.specs.Prelude.{◌≡◌, ◌⊎◌, ℕ, ◌+◌, Bool, true, fa
 use Rattle.std.specs.List.{flat_map}
 use Rattle.cse_image_parts.specs.declared.instruction.Instr.{Instr}
 use Rattle.cse_dict.specs.Dictionary.{DictionaryText}
-use Rattle.cse_lines.specs.Line.{FileLine, end_bytes, ending_of, is_marked}
-use Rattle.cse_lines.specs.Columns.{columns_of, id_of, line_text}
-use Rattle.cse_lines.specs.Field.{field_at, ids_of, type_span}
-use Rattle.cse_lines.specs.Written.{kept_columns, mark_bytes}
-use Rattle.cse_lines.specs.Runs.{fault_in, given_runs}
-use Rattle.cse_lines.specs.Gathering.{bytes_of}
+use Rattle.cse_case.specs.Line.{FileLine, end_bytes, ending_of, is_marked}
+use Rattle.cse_case.specs.Columns.{columns_of, id_of, line_text}
+use Rattle.cse_case.specs.NamedColumns.{field_at, ids_of, type_span}
+use Rattle.cse_case.specs.Written.{kept_columns, mark_bytes}
+use Rattle.cse_case.specs.Runs.{fault_in, given_runs}
+use Rattle.cse_case.specs.Gathering.{bytes_of}
 use Rattle.cse_case.specs.Case.{CaseText, case_of, records_of, types_of}
 use Rattle.cse_case.specs.Seen.{is_case}
 use Rattle.cse_case.specs.Sight.{IsUnseenAt}

@@ -1,7 +1,7 @@
 //! The lines of a run, and the listing beside them.
 
 ghost use Rattle.std.specs.Prelude.{◌≡◌};
-ghost use Rattle.cse_lines.specs.Run.{written_run};
+ghost use Rattle.cse_case.specs.Run.{written_run};
 ghost use Rattle.cse_value.specs.Gathering.{behind, Puts};
 ghost use Rattle.cse_report.specs.Held.{flushed};
 ghost use Rattle.cse_batch_parts.specs.Outputs.{AreSame, LeavesEnd, lines_so_far, listing_so_far};

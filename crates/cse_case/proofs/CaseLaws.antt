@@ -1,15 +1,15 @@
 -- Laws of cases whose lines lie in one list of columns.
 use Rattle.std.proofs.Common.{◌≡◌, ℕ, suc, ◌+◌, ◌<◌, List, [], ◌∷◌, length, map, Option, None, Some, refl, ap, sym, ◌∙◌, nat_lt, ◌++◌, ◌≤◌, take, drop, append-nil, arith, get_or}
 use Rattle.std.proofs.lemmas.List.{length-map, drop_all}
-use Rattle.cse_lines.specs.Run.{with_columns}
+use Rattle.cse_case.specs.Run.{with_columns}
 use Rattle.cse_value.specs.declared.shape.RecordShape.{RecordShape}
 use Rattle.cse_dict.specs.declared.lookup.Unseen.{Unseen}
-use Rattle.cse_lines.specs.declared.line.Line.{Line}
+use Rattle.cse_case.specs.declared.line.Line.{Line}
 use Rattle.std.specs.List.{flat_map}
 use Rattle.std.proofs.lemmas.List.{take_more, map-append}
 use Rattle.std.proofs.lemmas.Grind.{flat_map-append}
-use Rattle.cse_lines.specs.Written.{written_line}
-use Rattle.cse_lines.specs.Laid.{laid_line, laid_lines}
+use Rattle.cse_case.specs.Written.{written_line}
+use Rattle.cse_case.specs.Laid.{laid_line, laid_lines}
 use Rattle.cse_case.specs.Seen.{onto_unseen, unseen_after, unseen_from, unseen_of, is_case}
 use Rattle.cse_case.specs.Case.{types_of}
 

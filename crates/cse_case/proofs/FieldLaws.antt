@@ -4,11 +4,11 @@ use Rattle.std.proofs.lemmas.Bool.{cases_lt}
 use Rattle.std.proofs.lemmas.List.{drop-drop, drop-take, length-drop, length-replicate, length-take, take_all, take_min, drop_min, take-take}
 use Rattle.cse_value.specs.declared.shape.ItemShape.{ItemShape}
 use Rattle.cse_value.proofs.WidthLaws.{length-put, length-put_text}
-use Rattle.cse_lines.specs.declared.layout.ColumnSpan.{ColumnSpan}
-use Rattle.cse_lines.specs.Field.{field_at}
-use Rattle.cse_lines.specs.Run.{with_columns}
-use Rattle.cse_lines.proofs.BytesLaws.{take_with}
-use Rattle.cse_lines.proofs.LaidLaws.{behind}
+use Rattle.cse_case.specs.declared.layout.ColumnSpan.{ColumnSpan}
+use Rattle.cse_case.specs.NamedColumns.{field_at}
+use Rattle.cse_case.specs.Run.{with_columns}
+use Rattle.cse_case.proofs.BytesLaws.{take_with}
+use Rattle.cse_case.proofs.LaidLaws.{behind}
 use Rattle.cse_value.specs.Field.{put_text}
 use Rattle.cse_dict.specs.Dictionary.{code_at, zero_fill_at}
 use Rattle.cse_case.specs.declared.field.ItemEntry.{ItemEntry}

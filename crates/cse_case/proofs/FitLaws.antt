@@ -5,14 +5,14 @@ use Rattle.cse_lemmas.proofs.Lists.{length-padded}
 use Rattle.cse_value.specs.declared.shape.RecordShape.{RecordShape}
 use Rattle.cse_value.specs.Occurrences.{most_occurrences}
 use Rattle.cse_dict.specs.Dictionary.{DictionaryText}
-use Rattle.cse_lines.specs.declared.line.Line.{Line}
-use Rattle.cse_lines.specs.declared.line.Ending.TheVariants.{FileEnd}
-use Rattle.cse_lines.specs.Line.{FileLine}
-use Rattle.cse_lines.specs.Columns.{LineText, columns_of, line_text, no_line}
-use Rattle.cse_lines.specs.Field.{width_of}
-use Rattle.cse_lines.specs.Laid.{IsLaid, laid_line, laid_lines}
-use Rattle.cse_lines.specs.Run.{RunText, line_at, run_text}
-use Rattle.cse_lines.proofs.LaidLaws.{laid_within, line_in}
+use Rattle.cse_case.specs.declared.line.Line.{Line}
+use Rattle.cse_case.specs.declared.line.Ending.TheVariants.{FileEnd}
+use Rattle.cse_case.specs.Line.{FileLine}
+use Rattle.cse_case.specs.Columns.{LineText, columns_of, line_text, no_line}
+use Rattle.cse_case.specs.NamedColumns.{width_of}
+use Rattle.cse_case.specs.Laid.{IsLaid, laid_line, laid_lines}
+use Rattle.cse_case.specs.Run.{RunText, line_at, run_text}
+use Rattle.cse_case.proofs.LaidLaws.{laid_within, line_in}
 use Rattle.cse_case.specs.Seen.{occurrence_places, places_from}
 use Rattle.cse_case.specs.Kept.{AreWide}
 use Rattle.cse_case.specs.Case.{CaseText, places_of, records_of, types_of}

@@ -1,9 +1,9 @@
 -- Laws of id columns.
 use Rattle.std.proofs.Common.{◌≡◌, ℕ, ◌+◌, ◌<◌, List, [], ◌∷◌, ◌++◌, length, get_or, take, ap, sym, ◌∙◌, append-nil}
 use Rattle.std.proofs.lemmas.List.{take_more}
-use Rattle.cse_lines.specs.declared.layout.ColumnSpan.{ColumnSpan}
-use Rattle.cse_lines.specs.Field.{field_at, fields_at}
-use Rattle.cse_lines.proofs.FieldLaws.{fields_at-append}
+use Rattle.cse_case.specs.declared.layout.ColumnSpan.{ColumnSpan}
+use Rattle.cse_case.specs.NamedColumns.{field_at, fields_at}
+use Rattle.cse_case.proofs.NamedColumnLaws.{fields_at-append}
 
 -- the columns of one place more
 pub fields_at-more : (spans : List ColumnSpan) (i : ℕ) (d : ColumnSpan) (columns : List ℕ) → i < length spans

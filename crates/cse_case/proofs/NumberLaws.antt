@@ -6,8 +6,8 @@ use Rattle.std.specs.List.{list_all}
 use Rattle.std.specs.Char.{is_ascii_digit}
 use Rattle.std.specs.Str.{IsAscii}
 use Rattle.cse_lemmas.proofs.Lists.{list_all-reverse}
-use Rattle.cse_lines.specs.Bytes.{columns_by}
-use Rattle.cse_lines.proofs.BytesLaws.{ascii-columns_by}
+use Rattle.cse_case.specs.Bytes.{columns_by}
+use Rattle.cse_case.proofs.BytesLaws.{ascii-columns_by}
 use Rattle.std.proofs.lemmas.Bool.{and_parts, and_from, cond-true, cond-false, eqb-true, lt-ltb}
 use Rattle.std.proofs.lemmas.Bool.Decides.{nat_tests}
 use Rattle.std.proofs.lemmas.List.{reverse-reverse}

@@ -5,11 +5,11 @@ use Rattle.std.proofs.lemmas.List.{length-map}
 use Rattle.cse_dict.specs.Dictionary.{DictionaryText, shape_of}
 use Rattle.cse_dict.specs.Sound.{IsSound}
 use Rattle.cse_dict.specs.declared.lookup.Unseen.{Unseen}
-use Rattle.cse_lines.specs.Columns.{LineText}
-use Rattle.cse_lines.specs.declared.line.Line.{Line}
-use Rattle.cse_lines.specs.Laid.{IsLaid, laid_line, laid_lines}
-use Rattle.cse_lines.specs.Run.{line_at}
-use Rattle.cse_lines.proofs.LaidLaws.{laid_within, line_in}
+use Rattle.cse_case.specs.Columns.{LineText}
+use Rattle.cse_case.specs.declared.line.Line.{Line}
+use Rattle.cse_case.specs.Laid.{IsLaid, laid_line, laid_lines}
+use Rattle.cse_case.specs.Run.{line_at}
+use Rattle.cse_case.proofs.LaidLaws.{laid_within, line_in}
 use Rattle.cse_case.specs.declared.seen.OccurrenceSpan.{OccurrenceSpan}
 use Rattle.cse_case.specs.declared.seen.Table.{Table}
 use Rattle.cse_case.specs.Seen.{occurrence_places}

@@ -2,10 +2,10 @@
 use Rattle.std.proofs.Common.{◌≡◌, ℕ, ◌+◌, ◌<◌, List, [], ◌++◌, length, Bool, Option, Some, Ok, ap, sym, ◌∙◌, subst}
 use Rattle.cse_value.specs.Device.{Given}
 use Rattle.cse_dict.specs.Dictionary.{DictionaryText}
-use Rattle.cse_lines.specs.declared.error.DataError.{DataError}
-use Rattle.cse_lines.specs.Field.{ids_of}
-use Rattle.cse_lines.specs.Run.{RunText, line_at, run_text}
-use Rattle.cse_lines.specs.Reader.{ReaderText, GivesRun, Next, held_of, is_front}
+use Rattle.cse_case.specs.declared.error.DataError.{DataError}
+use Rattle.cse_case.specs.NamedColumns.{ids_of}
+use Rattle.cse_case.specs.Run.{RunText, line_at, run_text}
+use Rattle.cse_case.specs.Reader.{ReaderText, GivesRun, Next, held_of, is_front}
 use Rattle.cse_case.specs.Case.{CaseText}
 use Rattle.cse_case.specs.Fit.{IsFit, line_width}
 use Rattle.cse_case.specs.Reading.{NextCase}

@@ -3,7 +3,7 @@ use Rattle.std.proofs.Common.{◌≡◌, ℕ, zero, suc, ◌+◌, ◌<◌, ◌�
 use Rattle.std.specs.Prelude.{slice_set, slice_index, count_by, if◌then◌else◌}
 use Rattle.std.proofs.lemmas.List.{get_or-map, length-map, get_or-drop, get_or-take, length-drop, take_min}
 use Rattle.std.proofs.Math.Seq.{drop-cons}
-use Rattle.cse_lines.specs.declared.line.Line.{Line}
+use Rattle.cse_case.specs.declared.line.Line.{Line}
 use Rattle.std.proofs.lemmas.List.{take_more, get_or-set_same, get_or-set_other, take-append-le, length-take-le, length-take, get_or-replicate, length-replicate}
 use Rattle.std.proofs.Math.ListN.{length-set}
 use Rattle.std.proofs.lemmas.List.Sums.{sum_by-append, sum_by-cons}

@@ -18,10 +18,10 @@ use Rattle.cse_value.proofs.WidthLaws.{length-put, length-put_text}
 use Rattle.cse_dict.specs.Dictionary.{DictionaryText, ItemText, RecordText, code_at, shape_of, zero_fill_at}
 use Rattle.cse_dict.specs.Sound.{AreApart, IsIdItem, IsSound, IsSoundItem, columns_of_item}
 use Rattle.cse_dict.specs.declared.field.Columns.{Columns}
-use Rattle.cse_lines.specs.Columns.{LineText, no_line}
-use Rattle.cse_lines.specs.Field.{field_at, fields_at, ids_of, record_len, span_of}
-use Rattle.cse_lines.specs.Run.{line_at, with_columns}
-use Rattle.cse_lines.proofs.LaidLaws.{before, behind, inside, length-with_columns}
+use Rattle.cse_case.specs.Columns.{LineText, no_line}
+use Rattle.cse_case.specs.NamedColumns.{field_at, fields_at, ids_of, record_len, span_of}
+use Rattle.cse_case.specs.Run.{line_at, with_columns}
+use Rattle.cse_case.proofs.LaidLaws.{before, behind, inside, length-with_columns}
 use Rattle.cse_case.specs.Seen.{is_case, occurrence_places, unseen_of}
 use Rattle.cse_case.specs.Field.{HaveNoneInCommon, field_of, item_at, no_item}
 use Rattle.cse_case.specs.Case.{CaseText, columns_at, items_of, number_at, place_of, places_of, records_of, text_at, types_of, with_item, with_number, with_text}

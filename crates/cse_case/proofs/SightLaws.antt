@@ -11,8 +11,8 @@ use Rattle.cse_value.specs.declared.shape.RecordShape.{RecordShape}
 use Rattle.cse_value.specs.Occurrences.{most_occurrences}
 use Rattle.cse_dict.specs.declared.lookup.Unseen.{Unseen}
 use Rattle.cse_dict.specs.declared.lookup.Unseen.TheVariants.{Extra}
-use Rattle.cse_lines.specs.Columns.{LineText, no_line}
-use Rattle.cse_lines.specs.Run.{line_at}
+use Rattle.cse_case.specs.Columns.{LineText, no_line}
+use Rattle.cse_case.specs.Run.{line_at}
 use Rattle.cse_case.specs.Seen.{is_of, is_case, occurrence_places, onto_unseen, places_from, unseen_after, unseen_from, unseen_of}
 use Rattle.cse_case.specs.Case.{CaseText, IsOccurrence, place_of, places_of, records_of, types_of}
 use Rattle.cse_case.specs.Sight.{IsSeenAt, IsUnseenAt, SeenOrUnseen}

@@ -7,7 +7,7 @@ use Rattle.std.proofs.Math.ListN.{length-set}
 use Rattle.cse_value.specs.declared.shape.RecordShape.{RecordShape}
 use Rattle.cse_value.specs.Occurrences.{most_occurrences}
 use Rattle.cse_dict.specs.declared.lookup.Unseen.TheVariants.{Extra}
-use Rattle.cse_lines.specs.declared.line.Line.{Line}
+use Rattle.cse_case.specs.declared.line.Line.{Line}
 use Rattle.cse_case.specs.declared.seen.OccurrenceSpan.{OccurrenceSpan}
 use Rattle.cse_case.specs.Seen.{is_of, onto_unseen, places_from, unseen_after, unseen_from}
 use Rattle.cse_case.specs.Table.{AreCounts, AreSeen, IsSpan, IsTable, first_at, type_at, types_in}

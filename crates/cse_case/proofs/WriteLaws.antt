@@ -8,9 +8,9 @@ use Rattle.std.proofs.Math.Seq.{take-append-add}
 use borrow.Rule.Slice.PartMut.{put_mid, post_of}
 use Rattle.std.proofs.lemmas.List.{take-append-le, take_rest, take_more, ext_get_or, get_or-set_other, get_or-set_same, get_or-take, length-take-le}
 use Rattle.cse_lemmas.proofs.Texts.{IsAscii-from_bound}
-use Rattle.cse_lines.specs.Bytes.{columns_by}
-use Rattle.cse_lines.proofs.BytesLaws.{ascii-columns_by}
-use Rattle.cse_lines.specs.Written.{onto_trimmed, without_blanks, kept_columns}
+use Rattle.cse_case.specs.Bytes.{columns_by}
+use Rattle.cse_case.proofs.BytesLaws.{ascii-columns_by}
+use Rattle.cse_case.specs.Written.{onto_trimmed, without_blanks, kept_columns}
 
 without_blanks-blank : (xs : List ℕ) → without_blanks (xs ++ 32 ∷ []) ≡ without_blanks xs
 without_blanks-blank [] = refl

@@ -7,10 +7,10 @@ use Rattle.cse_value.specs.declared.number.Num.{Num}
 use Rattle.cse_value.specs.Field.{field, put, put_text}
 use Rattle.cse_dict.specs.Dictionary.{DictionaryText, code_at, zero_fill_at, shape_of}
 use Rattle.cse_dict.specs.declared.lookup.Unseen.{Unseen}
-use Rattle.cse_lines.specs.Line.{FileLine}
-use Rattle.cse_lines.specs.Field.{ids_of}
-use Rattle.cse_lines.specs.Columns.{LineText}
-use Rattle.cse_lines.specs.Run.{RunText, line_at, run_text, with_columns}
+use Rattle.cse_case.specs.Line.{FileLine}
+use Rattle.cse_case.specs.NamedColumns.{ids_of}
+use Rattle.cse_case.specs.Columns.{LineText}
+use Rattle.cse_case.specs.Run.{RunText, line_at, run_text, with_columns}
 use Rattle.cse_case.specs.Seen.{occurrence_places, unseen_of}
 use Rattle.cse_case.specs.Field.{item_at, field_of}
 

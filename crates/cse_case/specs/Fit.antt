@@ -2,9 +2,9 @@
 -- lines past them are unseen), and each line has its width.
 use Rattle.std.specs.Prelude.{◌≡◌, ◌<◌, ◌≤◌, ℕ, max, length}
 use Rattle.cse_dict.specs.Dictionary.{DictionaryText}
-use Rattle.cse_lines.specs.Columns.{LineText}
-use Rattle.cse_lines.specs.Field.{least_width, record_len}
-use Rattle.cse_lines.specs.Run.{line_at}
+use Rattle.cse_case.specs.Columns.{LineText}
+use Rattle.cse_case.specs.NamedColumns.{least_width, record_len}
+use Rattle.cse_case.specs.Run.{line_at}
 use Rattle.cse_value.specs.Occurrences.{most_occurrences}
 use Rattle.cse_case.specs.Case.{CaseText, places_of, records_of}
 

@@ -1,7 +1,7 @@
 -- What the table of a run's occurrences becomes by a line more.
 use Rattle.std.specs.Prelude.{◌≡◌, ◌<◌, ◌≤◌, ℕ, ◌+◌, List, [], ◌∷◌, ◌++◌, length, take, drop, slice_set, Some}
 use Rattle.cse_value.specs.declared.shape.RecordShape.{RecordShape}
-use Rattle.cse_lines.specs.declared.line.Line.{Line}
+use Rattle.cse_case.specs.declared.line.Line.{Line}
 use Rattle.cse_case.specs.declared.seen.OccurrenceSpan.{OccurrenceSpan}
 use Rattle.cse_case.specs.declared.seen.Found.{Found}
 use Rattle.cse_case.specs.declared.seen.Found.TheVariants.{Occurrences, Unseen, Apart}

@@ -4,10 +4,10 @@ use Rattle.std.specs.Prelude.{◌≡◌, ◌<◌, ℕ, max, Bool, false, List, l
 use Rattle.std.specs.List.{flat_map}
 use Rattle.cse_dict.specs.Dictionary.{DictionaryText, shape_of}
 use Rattle.cse_dict.specs.declared.lookup.Unseen.{Unseen}
-use Rattle.cse_lines.specs.declared.line.Line.{Line}
-use Rattle.cse_lines.specs.Field.{least_width, record_len}
-use Rattle.cse_lines.specs.Laid.{IsLaid, laid_lines}
-use Rattle.cse_lines.specs.Written.{written_line}
+use Rattle.cse_case.specs.declared.line.Line.{Line}
+use Rattle.cse_case.specs.NamedColumns.{least_width, record_len}
+use Rattle.cse_case.specs.Laid.{IsLaid, laid_lines}
+use Rattle.cse_case.specs.Written.{written_line}
 use Rattle.cse_case.specs.declared.seen.OccurrenceSpan.{OccurrenceSpan}
 use Rattle.cse_case.specs.Seen.{unseen_of}
 use Rattle.cse_case.specs.Table.{IsTable}

@@ -2,8 +2,8 @@
 use Rattle.std.specs.Prelude.{◌≡◌, ◌+◌, ◌≤◌, ℕ, Bool, true, List, [], ◌++◌, length, Option, None, Some, Result, Ok, Err, IfOk}
 use Rattle.cse_value.specs.Device.{Consumes, Given}
 use Rattle.cse_dict.specs.Dictionary.{DictionaryText}
-use Rattle.cse_lines.specs.declared.error.DataError.{DataError}
-use Rattle.cse_lines.specs.Reader.{ReaderText, GivesRun, IsEnd, IsError, held_of, is_front}
+use Rattle.cse_case.specs.declared.error.DataError.{DataError}
+use Rattle.cse_case.specs.Reader.{ReaderText, GivesRun, IsEnd, IsError, held_of, is_front}
 use Rattle.cse_case.specs.Case.{CaseText, case_of}
 use Rattle.cse_case.specs.Fit.{IsFit}
 

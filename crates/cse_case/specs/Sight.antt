@@ -1,7 +1,7 @@
 -- Seen and unseen lines of a case: each line is either an occurrence of its record, or unseen.
 use Rattle.std.specs.Prelude.{◌≡◌, ◌<◌, ◌⊎◌, ◌↔◌, ℕ, ◌+◌, true, length, slice_get, Some}
 use Rattle.cse_dict.specs.declared.lookup.Unseen.{Unseen}
-use Rattle.cse_lines.specs.Run.{line_at}
+use Rattle.cse_case.specs.Run.{line_at}
 use Rattle.cse_case.specs.Seen.{is_case}
 use Rattle.cse_case.specs.Case.{CaseText, IsOccurrence, place_of, records_of, types_of, unseen_lines}
 

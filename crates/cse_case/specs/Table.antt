@@ -3,7 +3,7 @@
 use Rattle.std.specs.Prelude.{◌≡◌, ◌<◌, ◌≤◌, ℕ, ◌+◌, min, List, length, map, take, drop, slice_index, count_by, Option, None}
 use Rattle.std.specs.List.{slice_index_or}
 use Rattle.cse_value.specs.declared.shape.RecordShape.{RecordShape}
-use Rattle.cse_lines.specs.declared.line.Line.{Line}
+use Rattle.cse_case.specs.declared.line.Line.{Line}
 use Rattle.cse_case.specs.declared.seen.OccurrenceSpan.{OccurrenceSpan}
 use Rattle.cse_value.specs.Occurrences.{most_occurrences}
 use Rattle.cse_case.specs.Seen.{is_of, occurrence_places, places_from}

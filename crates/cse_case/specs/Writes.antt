@@ -7,8 +7,8 @@ use Rattle.cse_value.specs.declared.number.Num.{Num}
 use Rattle.cse_value.specs.Field.{fits_num, kept, put_text}
 use Rattle.cse_dict.specs.Dictionary.{code_at}
 use Rattle.cse_dict.specs.Sound.{IsSound}
-use Rattle.cse_lines.specs.Field.{field_at, ids_of, type_span}
-use Rattle.cse_lines.specs.Run.{line_at}
+use Rattle.cse_case.specs.NamedColumns.{field_at, ids_of, type_span}
+use Rattle.cse_case.specs.Run.{line_at}
 use Rattle.cse_case.specs.Seen.{is_case}
 use Rattle.cse_case.specs.Field.{HasColumn, HaveNoneInCommon, IsItem, item_at}
 use Rattle.cse_case.specs.Case.{CaseText, IsOccurrence, items_of, number_at, place_of, places_of, records_of, text_at, types_of, unseen_lines, with_number, with_text}

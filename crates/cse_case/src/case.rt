@@ -6,11 +6,11 @@ ghost use Rattle.cse_value.specs.declared.shape.ItemKind.TheVariants.{Number as 
 ghost use Rattle.cse_value.specs.Writing.{WritesAll, FailsAtErr};
 ghost use Rattle.cse_value.specs.Gathering.{behind, Puts};
 ghost use Rattle.cse_dict.specs.Sound.{IsSound};
-ghost use Rattle.cse_lines.specs.Run.{line_at, written_run};
+ghost use Rattle.cse_case.specs.Run.{line_at, written_run};
 ghost use Rattle.cse_case.specs.Seen.{is_case};
 ghost use Rattle.cse_case.specs.Field.{IsItem, item_at};
 ghost use Rattle.cse_case.specs.ItemEntry.{IsFor, IsThere, entry_columns};
-ghost use Rattle.cse_lines.specs.Bytes.{columns_lent};
+ghost use Rattle.cse_case.specs.Bytes.{columns_lent};
 ghost use Rattle.cse_case.specs.Own.{HoldsItems, IsSpanOf};
 
 use crate::field::{
@@ -22,8 +22,8 @@ use crate::seen::{Table, fill_table};
 use crate::span::ItemSpan;
 use crate::text::text_of;
 use crate::write::{mark, put_lines};
+use crate::{Columns, Lines, Run};
 use cse_dict::Unseen;
-use cse_lines::{Columns, Lines, Run};
 use cse_value::shape::{ID_OWNER, ItemKind, ItemShape};
 use cse_value::{Failed, Gatherer, Num, Output, Text};
 use std::alloc::{AllocError, Global};
@@ -48,7 +48,7 @@ pub struct Case<'a> {
 
 impl<'a> Model for Case<'a> {
     ghost use Rattle.std.specs.Prelude.{List, ℕ};
-    ghost use Rattle.cse_lines.specs.Laid.{laid_lines};
+    ghost use Rattle.cse_case.specs.Laid.{laid_lines};
     ghost use Rattle.cse_case.specs.Case.{CaseText};
     ghost use Rattle.cse_case.specs.Kept.{IsKept};
 

@@ -3,13 +3,13 @@
 ghost use Rattle.std.specs.Prelude.{◌≡◌, ◌<◌, ◌≤◌, ◌+◌, ◌-◌, ◌^◌, length, min, replicate, take, drop, true, false};
 ghost use Rattle.cse_value.specs.Field.{put, put_text};
 ghost use Rattle.cse_dict.specs.Dictionary.{code_at, zero_fill_at};
-ghost use Rattle.cse_lines.specs.Bytes.{columns_lent};
-ghost use Rattle.cse_lines.specs.Run.{with_columns};
+ghost use Rattle.cse_case.specs.Bytes.{columns_lent};
+ghost use Rattle.cse_case.specs.Run.{with_columns};
 ghost use Rattle.cse_case.specs.Field.{field_of, rewritten};
 ghost use Rattle.cse_case.specs.ItemEntry.{IsShort, IsThere, entry_columns};
 
+use crate::{Columns, Filled, Line};
 use cse_dict::Dictionary;
-use cse_lines::{Columns, Filled, Line};
 use cse_value::shape::ItemShape;
 use cse_value::{Num, Text, put_num};
 

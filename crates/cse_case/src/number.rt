@@ -8,13 +8,13 @@ ghost use Rattle.std.specs.Prelude.{◌≡◌, ◌<◌, ◌≤◌, ◌+◌, ◌-
 ghost use Rattle.std.specs.Char.{is_ascii_digit};
 ghost use Rattle.cse_value.specs.Field.{digits_number, field, is_code, without_blanks};
 ghost use Rattle.cse_dict.specs.Dictionary.{code_at, shape_of};
-ghost use Rattle.cse_lines.specs.Bytes.{columns_lent};
+ghost use Rattle.cse_case.specs.Bytes.{columns_lent};
 ghost use Rattle.cse_case.specs.Field.{item_at};
 ghost use Rattle.cse_case.specs.Limits.{IsPlain};
 
+use crate::columns::piece;
 use crate::items::Items;
-use cse_lines::columns::piece;
-use cse_lines::{Columns, put_columns};
+use crate::{Columns, put_columns};
 use cse_value::{Num, read_num};
 
 /// The value of the columns of a number's item, at least one and at most 18, which stand in a line from a place on. Where

@@ -6,8 +6,8 @@ ghost use Rattle.cse_case.specs.AtEnd.{ended-prop};
 
 use crate::case::Case;
 use crate::stream::CaseStream;
+use crate::{DataError, Kept};
 use cse_dict::Dictionary;
-use cse_lines::{DataError, Kept};
 use cse_value::Input;
 use std::alloc::Global;
 
@@ -32,7 +32,7 @@ impl<'a, R: Input> Drop for CaseReader<'a, R> {
 
 impl<'a, R: Input> CaseReader<'a, R> {
     ghost use Rattle.std.specs.Prelude.{[], ◌≡◌, ◌≢◌, ◌≤◌, ◌*◌, ◌^◌, ◌⊎◌, None, Some, Err, true, false, IfErr, IfSome, OnOk, length};
-    ghost use Rattle.cse_lines.specs.Reader.{HoldsLittle, held_of};
+    ghost use Rattle.cse_case.specs.Reader.{HoldsLittle, held_of};
     ghost use Rattle.cse_case.specs.Reading.{NextCase};
 
     /// A reader of the input, which has read nothing. It takes no memory.

@@ -5,8 +5,8 @@ ghost use Rattle.cse_case.specs.Seen.{is_of, places_from, unseen_after, unseen_o
 ghost use Rattle.cse_case.specs.Table.{AreCounts, AreSeen, AreSpans, IsTable, first_at, type_at, types_in};
 ghost use Rattle.cse_case.specs.Found.{GoesOnWith, IsFound, IsLonger};
 
+use crate::Line;
 use cse_dict::Unseen;
-use cse_lines::Line;
 use cse_value::shape::RecordShape;
 use std::alloc::{AllocError, Global};
 use std::mem;

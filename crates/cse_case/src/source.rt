@@ -1,18 +1,18 @@
 //! A dictionary with its id items, which are listed when they are first needed.
 
 ghost use Rattle.std.specs.Prelude.{◌≡◌, ◌<◌, ◌+◌, ◌-◌, ◌^◌, ◌++◌, ◌≤◌, ℕ, length, min, replicate, take, drop, true, IfOk, OnOk};
-ghost use Rattle.cse_lines.specs.Field.{field_at, fields_at, ids_of};
-ghost use Rattle.cse_lines.specs.Run.{line_at};
+ghost use Rattle.cse_case.specs.NamedColumns.{field_at, fields_at, ids_of};
+ghost use Rattle.cse_case.specs.Run.{line_at};
 ghost use Rattle.cse_case.specs.Fit.{line_width};
-ghost use Rattle.cse_lines.specs.Bytes.{columns_lent};
+ghost use Rattle.cse_case.specs.Bytes.{columns_lent};
 
 use crate::case::Case;
+use crate::columns::{piece, put_bytes};
 use crate::items::Items;
+use crate::layout::{ColumnSpan, id_blocks};
 use crate::seen::Table;
+use crate::{Columns, Run, put_columns};
 use cse_dict::Dictionary;
-use cse_lines::columns::{piece, put_bytes};
-use cse_lines::layout::{ColumnSpan, id_blocks};
-use cse_lines::{Columns, Run, put_columns};
 use std::alloc::{AllocError, Global};
 use std::marker::Model;
 
@@ -30,7 +30,7 @@ pub struct Source<'a> {
 impl<'a> Model for Source<'a> {
     ghost use Rattle.std.specs.Prelude.{◌≡◌, true};
     ghost use Rattle.cse_dict.specs.Dictionary.{DictionaryText};
-    ghost use Rattle.cse_lines.specs.Field.{HaveSame, id_spans};
+    ghost use Rattle.cse_case.specs.NamedColumns.{HaveSame, id_spans};
 
     ghost Value = { DictionaryText };
 

@@ -2,13 +2,13 @@
 
 ghost use Rattle.std.specs.Prelude.{◌≡◌, ◌≢◌, ◌+◌, ◌*◌, ◌^◌, ◌≤◌, ◌⊎◌, [], None, Some, Err, true, false, IfErr, IfOk, IfSome, OnOk, length};
 ghost use Rattle.cse_value.specs.Device.{IsAtEnd, FailsOnce, IsUnfailing};
-ghost use Rattle.cse_lines.specs.Reader.{held_of, HoldsLittle};
+ghost use Rattle.cse_case.specs.Reader.{held_of, HoldsLittle};
 ghost use Rattle.cse_case.specs.Reading.{NextCase};
 
 use crate::case::Case;
 use crate::source::Source;
+use crate::{DataError, Kept, RunReader};
 use cse_dict::Dictionary;
-use cse_lines::{DataError, Kept, RunReader};
 use cse_value::Input;
 use std::alloc::Global;
 use std::marker::Model;
@@ -22,7 +22,7 @@ pub struct CaseStream<'a> {
 }
 
 impl<'a> Model for CaseStream<'a> {
-    ghost use Rattle.cse_lines.specs.Reader.{ReaderText};
+    ghost use Rattle.cse_case.specs.Reader.{ReaderText};
     ghost use Rattle.cse_case.specs.Streaming.{IsSound};
 
     ghost Value = { ReaderText };

@@ -4,13 +4,13 @@
 ghost use Rattle.std.specs.Prelude.{◌≡◌, ◌≤◌, ◌+◌, ◌-◌, ◌*◌, length, take, encode_utf8, encode_utf8_all, true};
 ghost use Rattle.std.specs.List.{flat_map};
 ghost use Rattle.cse_value.specs.Gathering.{behind, Puts};
-ghost use Rattle.cse_lines.specs.Bytes.{columns_lent};
-ghost use Rattle.cse_lines.specs.Laid.{IsLaid, laid_line, laid_lines};
-ghost use Rattle.cse_lines.specs.Line.{end_bytes};
-ghost use Rattle.cse_lines.specs.Written.{kept_columns, mark_bytes, written_line};
+ghost use Rattle.cse_case.specs.Bytes.{columns_lent};
+ghost use Rattle.cse_case.specs.Laid.{IsLaid, laid_line, laid_lines};
+ghost use Rattle.cse_case.specs.Line.{end_bytes};
+ghost use Rattle.cse_case.specs.Written.{kept_columns, mark_bytes, written_line};
 
 use crate::field::line_columns;
-use cse_lines::{Columns, Ending, Line};
+use crate::{Columns, Ending, Line};
 use cse_value::{Gatherer, Output};
 
 /// How many columns are encoded at a time, at most.

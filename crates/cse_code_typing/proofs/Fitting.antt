@@ -6,7 +6,7 @@ use Rattle.std.proofs.lemmas.Option.{slice_get_within, get_or_from_slice_get}
 use Rattle.cse_image_parts.specs.Fields.{instructions_in}
 use Rattle.cse_image_parts.specs.declared.version.Version.TheVariants as versions
 use Rattle.cse_image_parts.specs.Image.{Image, RoutineLists}
-use Rattle.cse_image_codec.proofs.Places.{at_place_plain}
+use Rattle.cse_image_parts.proofs.Places.{at_place_plain}
 use Rattle.cse_image.specs.Spelling.{Fits, RoutineFits}
 
 -- a routine has at most 255 locals and 1,000,000 instructions

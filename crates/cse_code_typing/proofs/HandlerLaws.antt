@@ -14,8 +14,8 @@ use Rattle.cse_image_parts.specs.Codes.{event_code, event_code_of}
 use Rattle.cse_image_parts.specs.Fields.{last_event, is_after}
 use Rattle.cse_image_parts.specs.Image.{Image, Lists, RoutineLists}
 use Rattle.cse_image_parts.proofs.CodeLaws.{event_code_is_one}
-use Rattle.cse_image_codec.specs.Reader.{AllAfter}
-use Rattle.cse_image_codec.proofs.Places.{at_place_plain}
+use Rattle.cse_image_parts.specs.Reader.{AllAfter}
+use Rattle.cse_image_parts.proofs.Places.{at_place_plain}
 use Rattle.cse_image.specs.Spelling.{Fits, EventFits}
 use Rattle.cse_code_typing.specs.Order.{handles, is_handled_by, fits_event}
 use Rattle.cse_code_typing.specs.Typed.{IsTyped}

@@ -12,9 +12,9 @@ use Rattle.cse_edit.specs.Laws.{BatchesMean}
 use Rattle.cse_edit.proofs.Edits.{edits, stops}
 use Rattle.cse_value.specs.declared.gathered.Gathered.{Gathered}
 use Rattle.cse_command_parts.specs.declared.outcome.Stop.{Stop}
-use Rattle.cse_command_runs.specs.Ran.{Tells, none_taken, unread}
+use Rattle.cse_commands.specs.Ran.{Tells, none_taken, unread}
 use Rattle.cse_command_parts.specs.Told.{Told}
-use Rattle.cse_command_runs.specs.declared.ran.RanFrom.{RanFrom}
+use Rattle.cse_commands.specs.declared.ran.RanFrom.{RanFrom}
 use Rattle.cse_commands.specs.Edited.{EditsFrom, TellsEdit}
 
 pub tells_edit : (v : VerifiedProgram) → BatchesMean v → (text logic messages order image : List ℕ) (decks : Option (List ℕ)) → IsRead text v.dictionary → StandFor v.image image

@@ -1,2 +1,4 @@
+pub mod FaultyLaws
+pub mod RanLaws
 pub mod DoesLaws
 pub mod EditedLaws

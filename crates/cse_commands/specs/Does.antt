@@ -11,7 +11,7 @@ use Rattle.cse_command_images.specs.CompileDoes.{DoesCompile}
 use Rattle.cse_commands.specs.Edited.{AreEditPaths, EditsFiles}
 use Rattle.cse_command_parts.specs.Ending.{plain_fault}
 use Rattle.cse_command_parts.specs.Prints.{DoesVerify, Halts, Prints, write_failed}
-use Rattle.cse_command_runs.specs.RunDoes.{DoesRun, PrintsTotals, totals_of}
+use Rattle.cse_commands.specs.RunDoes.{DoesRun, PrintsTotals, totals_of}
 use Rattle.cse_command_images.specs.TryFiles.{DoesTry}
 use Rattle.cse_commands.specs.EditHalts.{StopsEdit}
 use Rattle.cse_command_parts.specs.Printed.{version_line}

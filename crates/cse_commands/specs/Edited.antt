@@ -11,11 +11,11 @@ use Rattle.cse_edit.specs.Edit.{EditsWhole, EditStops, devices}
 use Rattle.cse_commands.specs.declared.edited.EditedFiles.{EditedFiles}
 use Rattle.cse_command_parts.specs.declared.outcome.Stop.{Stop}
 use Rattle.cse_command_line.specs.declared.plan.EditPaths.{EditPaths}
-use Rattle.cse_command_runs.specs.declared.ran.Ran.{Ran}
-use Rattle.cse_command_runs.specs.declared.ran.RanFrom.{RanFrom}
-use Rattle.cse_command_runs.specs.Ran.{AreOpenedFrom, have_failed, none_taken, took, unread}
+use Rattle.cse_commands.specs.declared.ran.Ran.{Ran}
+use Rattle.cse_commands.specs.declared.ran.RanFrom.{RanFrom}
+use Rattle.cse_commands.specs.Ran.{AreOpenedFrom, have_failed, none_taken, took, unread}
 use Rattle.cse_command_parts.specs.Told.{Told, decks_given}
-use Rattle.cse_command_runs.specs.Telling.{told_of}
+use Rattle.cse_commands.specs.Telling.{told_of}
 use Rattle.cse_command_parts.specs.TextsGiven.{EndsWhereNamed, text_given}
 
 -- It tells the fault of an edit that stopped behind its texts, whose outputs took fronts. The deck text was gathered beside them.

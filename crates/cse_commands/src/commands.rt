@@ -5,14 +5,14 @@ ghost use Rattle.cse_command_parts.specs.Told.{told_by};
 
 use crate::edit_data::edit_files;
 use crate::edited::EditedFiles;
+pub use crate::running::run_and_tell;
+use crate::running::tell_totals;
 pub use cse_command_images::compile_telling::compile_and_tell;
 pub use cse_command_images::trying::{try_and_tell, try_file};
 use cse_command_line::plan::{Command, EditPaths, PlanFault, plan};
 use cse_command_parts::outcome::Stop;
 use cse_command_parts::telling::tell_version;
 pub use cse_command_parts::verifying::{verify_and_tell, verify_files};
-pub use cse_command_runs::running::run_and_tell;
-use cse_command_runs::running::tell_totals;
 use cse_fault_numbers::{WANT_OF_MEMORY, WRITE_FAILED};
 use cse_value::{Input, Output, Reads, Writes};
 use std::env;

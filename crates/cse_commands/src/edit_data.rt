@@ -7,7 +7,7 @@ ghost use Rattle.cse_build.specs.Build.{IsBuilt};
 ghost use Rattle.cse_decks.specs.Store.{StoreFits};
 ghost use Rattle.cse_edit.specs.Edit.{IsRead, IsStartOf};
 ghost use Rattle.cse_commands.specs.Edited.{AreEditPaths, EditsFiles, EditsFrom, EditsTexts};
-ghost use Rattle.cse_command_runs.specs.Ran.{AreOpened, AreOpenedFrom};
+ghost use Rattle.cse_commands.specs.Ran.{AreOpened, AreOpenedFrom};
 ghost use Rattle.cse_command_parts.specs.Told.{told_by};
 ghost use Rattle.cse_command_parts.specs.Allowed.{KeepsToSteps};
 ghost use Rattle.cse_command_parts.specs.Stops.{HasNumber, IsNotOpened};
@@ -16,6 +16,8 @@ ghost use Rattle.cse_commands.specs.EditHalts.{StopsBuilt, StopsEdit, StopsStart
 ghost use Rattle.cse_verify.specs.EventBound.{case_bound};
 
 use crate::edited::EditedFiles;
+use crate::ran::{Ran, RanFrom};
+use crate::run_image::{allow_steps, keep_decks, run_over};
 use cse_command_images::compile_image::image_of;
 use cse_command_line::plan::{EditPaths, RunPaths};
 use cse_command_parts::apart::{see_apart, uses_of_edit};
@@ -23,8 +25,6 @@ use cse_command_parts::fault::Fault;
 use cse_command_parts::files::{MOST_DECKS, bytes_of, bytes_where_there, text_of};
 use cse_command_parts::outcome::Stop;
 use cse_command_parts::texts::{dict_file, logic_files};
-use cse_command_runs::ran::{Ran, RanFrom};
-use cse_command_runs::run_image::{allow_steps, keep_decks, run_over};
 use cse_decks::Store;
 use cse_dict::Dictionary;
 use cse_edit::{EditFault, batches_mean, starting_store};

@@ -1,6 +1,6 @@
 //! What an edit over files came to, with the files that it opened.
 
-use cse_command_runs::ran::RanFrom;
+use crate::ran::RanFrom;
 use cse_files::WholeFile;
 
 /// What an edit came to, with each file that was opened.

@@ -6,9 +6,9 @@ use Rattle.cse_image_parts.specs.declared.entries.Array.{Array}
 use Rattle.cse_image_parts.specs.Image.{Image, ArrayLists, array_lists, message_lists, routine_lists}
 use Rattle.cse_dict.specs.Dictionary.{DictionaryText, shape_of}
 use Rattle.cse_logic_tree.specs.Typed.{Tree}
-use Rattle.cse_compile_code.specs.Tables.{globals_in, arrays_in, message_of}
-use Rattle.cse_compile_code.specs.Order.{edit_order}
-use Rattle.cse_compile_code.specs.Setting.{sizes_of}
+use Rattle.cse_compile.specs.Tables.{globals_in, arrays_in, message_of}
+use Rattle.cse_compile.specs.Order.{edit_order}
+use Rattle.cse_compile.specs.Setting.{sizes_of}
 use Rattle.cse_compile.specs.declared.parts.DeclaredLists.{DeclaredLists}
 use Rattle.cse_compile.specs.declared.routes.Routes.{Routes}
 use Rattle.cse_compile.specs.Stands.{AllStand}

@@ -5,8 +5,8 @@ use Rattle.std.specs.List.{AllByRecursion, IsDistinct}
 use Rattle.std.specs.Map.{lookup}
 use Rattle.std.proofs.lemmas.Bool.{eq-eqb, eqb-true, and_parts}
 use Rattle.indexmap.specs.IndexMap.{insert_entry}
-use Rattle.cse_compile_code.specs.Outline.{Handler}
-use Rattle.cse_compile_code.specs.Events.{Table, is_key, with_event, table_from}
+use Rattle.cse_compile.specs.Outline.{Handler}
+use Rattle.cse_compile.specs.Events.{Table, is_key, with_event, table_from}
 use Rattle.cse_compile.specs.Numbers.{key_of, HandlersKeepNumbers}
 
 -- ---- keys

@@ -16,7 +16,7 @@ use Rattle.cse_verify.proofs.VerifiedLaws.{untyped_never}
 use Rattle.cse_logic_tree.specs.Typed.{Tree}
 use Rattle.cse_compile.specs.declared.error.CompileError.{CompileError}
 use Rattle.cse_compile.specs.Fault.{IsLimit, IsReason}
-use Rattle.cse_compile_code.specs.Pools.{PoolsFit}
+use Rattle.cse_compile.specs.Pools.{PoolsFit}
 use Rattle.cse_compile.specs.Program.{IsProgramOf, pools_of}
 use Rattle.cse_compile.specs.Compiled.{HasNoRoom, IsSound, MayTakeLong, IsRefused}
 use Rattle.cse_compile.proofs.Spelled.{same_fit}

@@ -17,16 +17,16 @@ use Rattle.std.proofs.lemmas.Map.Steps.{list_any_congr}
 use Rattle.std.proofs.lemmas.Slice.Eq.{bytes_eq-Decides}
 use Rattle.std.proofs.lemmas.Str.{IsUtf8-from_is_utf8}
 use Rattle.indexmap.specs.IndexSet.{insert_key}
-use Rattle.cse_image_codec.specs.Reader.{AllAfter}
+use Rattle.cse_image_parts.specs.Reader.{AllAfter}
 use Rattle.cse_image.specs.Spelling.{TextFits, LimitFits}
-use Rattle.cse_compile_code.specs.Pools.{PoolLists, PoolsFit, no_pools, with_constant, with_limit, with_text}
-use Rattle.cse_compile_code.specs.Wide.{Wide, Constant, Chars, Turns, Plain, wide}
-use Rattle.cse_compile_code.specs.declared.wide.Wide as rust
+use Rattle.cse_compile.specs.Pools.{PoolLists, PoolsFit, no_pools, with_constant, with_limit, with_text}
+use Rattle.cse_compile.specs.Wide.{Wide, Constant, Chars, Turns, Plain, wide}
+use Rattle.cse_compile.specs.declared.wide.Wide as rust
 use Rattle.cse_value.specs.declared.shape.RecordShape.{RecordShape}
 use Rattle.cse_image_parts.specs.Limits.{most_instructions}
 use Rattle.cse_image_parts.specs.Texts.{is_text}
-use Rattle.cse_compile_code.specs.Outline.{Outline, outline}
-use Rattle.cse_compile_code.specs.declared.outlines.Outline as rustoutline
+use Rattle.cse_compile.specs.Outline.{Outline, outline}
+use Rattle.cse_compile.specs.declared.outlines.Outline as rustoutline
 use Rattle.cse_compile.specs.Program.{all_code, code_of}
 use Rattle.cse_compile.specs.Room.{with_entry, LacksRoom, IsHeld, IsPart, AreParts}
 

@@ -17,16 +17,16 @@ use Rattle.cse_image_parts.specs.Fields.{instructions_in, last_event}
 use Rattle.cse_image_parts.specs.Image.{Image, Lists, RoutineLists}
 use Rattle.cse_image_parts.specs.Limits.{most_routines}
 use Rattle.cse_image_parts.specs.Opcodes.{shape}
-use Rattle.cse_image_codec.specs.Reader.{AllAfter}
-use Rattle.cse_image_codec.specs.Spelling.{SectionFits}
+use Rattle.cse_image_parts.specs.Reader.{AllAfter}
+use Rattle.cse_image_parts.specs.Spelling.{SectionFits}
 use Rattle.cse_image.specs.Spelling.{RoutineFits, InstrFits, ListsFit, Fits, RecordFits, ItemFits, SetFits, OrderFits, GlobalFits, ArrayFits, MessageFits, EventFits}
 use Rattle.cse_image.proofs.Totals.{total_small, room_left}
 use Rattle.cse_dict.specs.Dictionary.{DictionaryText, shape_of}
 use Rattle.cse_code_typing.specs.Shapes as shapes
 use Rattle.cse_logic_tree.specs.Typed.{Tree}
-use Rattle.cse_compile_code.specs.Pools.{PoolLists, PoolsFit, no_pools}
-use Rattle.cse_compile_code.specs.Outline.{Outline, Handler, functions_in}
-use Rattle.cse_compile_code.specs.Wide.{Wide, Constant, Chars, Turns, Plain}
+use Rattle.cse_compile.specs.Pools.{PoolLists, PoolsFit, no_pools}
+use Rattle.cse_compile.specs.Outline.{Outline, Handler, functions_in}
+use Rattle.cse_compile.specs.Wide.{Wide, Constant, Chars, Turns, Plain}
 use Rattle.cse_compile.specs.Program.{IsProgramOf, all_code, declarations, entry_of, handlers, outlines, pools_of, sizes}
 use Rattle.cse_compile.specs.Room.{AreSmall, HasCodeOf, Hold, IsHeld, IsSmall, CannotHold, NoCodeFits}
 use Rattle.cse_compile.specs.Stands.{Stands, AllStand, instr}

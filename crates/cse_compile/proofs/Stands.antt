@@ -7,9 +7,9 @@ use Rattle.std.proofs.lemmas.List.{append-nil, take_more, map_push}
 use Rattle.indexmap.specs.IndexSet.{insert_key}
 use Rattle.cse_lemmas.proofs.Lists.{slice_get_append_left}
 use Rattle.cse_image_parts.specs.declared.instruction.Instr.{Instr}
-use Rattle.cse_compile_code.specs.Pools.{PoolLists, with_constant, with_limit, with_text}
-use Rattle.cse_compile_code.specs.Wide.{Wide, Constant, Chars, Turns, Plain, wide}
-use Rattle.cse_compile_code.specs.declared.wide.Wide as rust
+use Rattle.cse_compile.specs.Pools.{PoolLists, with_constant, with_limit, with_text}
+use Rattle.cse_compile.specs.Wide.{Wide, Constant, Chars, Turns, Plain, wide}
+use Rattle.cse_compile.specs.declared.wide.Wide as rust
 use Rattle.cse_compile.specs.Stands.{Stands, AllStand, Begins, IsMore}
 
 -- ---- growth

@@ -1,3 +1,14 @@
+pub mod Wide
+pub mod Setting
+pub mod Expressions
+pub mod Statements
+pub mod Routines
+pub mod Clauses
+pub mod Tables
+pub mod Order
+pub mod Outline
+pub mod Events
+pub mod Pools
 pub mod Fault
 pub mod Stands
 pub mod Program

@@ -2,8 +2,8 @@
 use Rattle.std.specs.Prelude.{◌≡◌, ℕ, ◌+◌, List, [], map, Some, slice_get}
 use Rattle.std.specs.List.{IsDistinct}
 use Rattle.cse_image_parts.specs.Codes.{event_code}
-use Rattle.cse_compile_code.specs.Outline.{Handler}
-use Rattle.cse_compile_code.specs.Events.{is_key, table_from, routine_at}
+use Rattle.cse_compile.specs.Outline.{Handler}
+use Rattle.cse_compile.specs.Events.{is_key, table_from, routine_at}
 
 -- the event's code and index
 abbrev pub key_of : Handler → ℕ × ℕ

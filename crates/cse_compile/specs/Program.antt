@@ -8,14 +8,14 @@ use Rattle.cse_image_parts.specs.Image.{Image, Lists, ArrayLists, RoutineLists}
 use Rattle.cse_dict.specs.Dictionary.{DictionaryText, shape_of}
 use Rattle.cse_code_typing.specs.Shapes as shapes
 use Rattle.cse_logic_tree.specs.Typed.{Declaration, Tree}
-use Rattle.cse_compile_code.specs.Pools.{PoolLists}
-use Rattle.cse_compile_code.specs.Tables.{globals_in, arrays_in, message_of}
-use Rattle.cse_compile_code.specs.Order.{edit_order}
-use Rattle.cse_compile_code.specs.Outline.{Outline, Handler, functions_in, handlers_in, routine_of, result_at}
-use Rattle.cse_compile_code.specs.Events.{entries_in, table_from}
-use Rattle.cse_compile_code.specs.Wide.{Wide}
-use Rattle.cse_compile_code.specs.Setting.{Setting}
-use Rattle.cse_compile_code.specs.Routines.{routine_size, routine_code}
+use Rattle.cse_compile.specs.Pools.{PoolLists}
+use Rattle.cse_compile.specs.Tables.{globals_in, arrays_in, message_of}
+use Rattle.cse_compile.specs.Order.{edit_order}
+use Rattle.cse_compile.specs.Outline.{Outline, Handler, functions_in, handlers_in, routine_of, result_at}
+use Rattle.cse_compile.specs.Events.{entries_in, table_from}
+use Rattle.cse_compile.specs.Wide.{Wide}
+use Rattle.cse_compile.specs.Setting.{Setting}
+use Rattle.cse_compile.specs.Routines.{routine_size, routine_code}
 use Rattle.cse_compile.specs.Stands.{AllStand}
 
 -- ---- code

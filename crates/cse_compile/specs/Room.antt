@@ -8,10 +8,10 @@ use Rattle.cse_value.specs.declared.shape.RecordShape.{RecordShape}
 use Rattle.cse_image_parts.specs.Image.{Image}
 use Rattle.cse_image_parts.specs.Limits.{most_constants, most_instructions, most_limits, most_texts}
 use Rattle.cse_image.specs.Spelling.{Fits, TextFits}
-use Rattle.cse_compile_code.specs.Outline.{Outline, parameters_of}
-use Rattle.cse_compile_code.specs.Pools.{PoolLists, PoolsFit, with_constant, with_limit, with_text}
-use Rattle.cse_compile_code.specs.Wide.{Wide, Constant, Chars, Turns, Plain}
-use Rattle.cse_compile_code.specs.Routines.{routine_size}
+use Rattle.cse_compile.specs.Outline.{Outline, parameters_of}
+use Rattle.cse_compile.specs.Pools.{PoolLists, PoolsFit, with_constant, with_limit, with_text}
+use Rattle.cse_compile.specs.Wide.{Wide, Constant, Chars, Turns, Plain}
+use Rattle.cse_compile.specs.Routines.{routine_size}
 use Rattle.cse_compile.specs.Program.{all_code, entry_of, pools_of, setting_for}
 use Rattle.cse_compile.specs.Stands.{AllStand}
 

@@ -3,8 +3,8 @@ use Rattle.std.specs.Prelude.{◌≡◌, ℕ, List, [], ◌∷◌, ◌++◌, Som
 use Rattle.cse_image_parts.specs.declared.instruction.Op.{Op}
 use Rattle.cse_image_parts.specs.declared.instruction.Op.TheVariants as ops
 use Rattle.cse_image_parts.specs.declared.instruction.Instr.{Instr}
-use Rattle.cse_compile_code.specs.Pools.{PoolLists}
-use Rattle.cse_compile_code.specs.Wide.{Wide, Constant, Chars, Turns, Plain}
+use Rattle.cse_compile.specs.Pools.{PoolLists}
+use Rattle.cse_compile.specs.Wide.{Wide, Constant, Chars, Turns, Plain}
 
 abbrev pub instr : Op → ℕ → ℕ → ℕ → Instr
 instr op a b c = record { op = op; a = a; b = b; c = c }

@@ -3,16 +3,16 @@
 ghost use Rattle.std.specs.Prelude.{◌≡◌, ◌≤◌, ◌<◌, ◌++◌, ◌∷◌, [], map, OnOk, IfOk, IfErr};
 ghost use Rattle.cse_image_parts.specs.Limits.{most_instructions};
 ghost use Rattle.cse_image_parts.specs.Image.{routine_lists};
-ghost use Rattle.cse_compile_code.specs.Setting.{setting as setting_view, sizes_of};
-ghost use Rattle.cse_compile_code.specs.Routines as routines_spec;
+ghost use Rattle.cse_compile.specs.Setting.{setting as setting_view, sizes_of};
+ghost use Rattle.cse_compile.specs.Routines as routines_spec;
 ghost use Rattle.cse_logic_tree.specs.Typed.{block};
-ghost use Rattle.cse_compile_code.specs.Outline as outline_spec;
+ghost use Rattle.cse_compile.specs.Outline as outline_spec;
 ghost use Rattle.cse_compile.specs.Program as spec;
 ghost use Rattle.cse_compile.specs.Fault.{IsLimit};
 ghost use Rattle.cse_compile.specs.Room.{AreSmall, IsSmall};
 
 use crate::error::{BEYOND, CompileError, WANT_OF_MEMORY};
-use cse_compile_code::{Emitter, Handler, Outline, RoutineSort, Setting, routine_size};
+use crate::{Emitter, Handler, Outline, RoutineSort, Setting, routine_size};
 use cse_image_parts::entries::{Array, Routine};
 use cse_logic_tree::Statement;
 use cse_value::shape::RecordShape;

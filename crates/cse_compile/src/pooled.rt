@@ -3,14 +3,14 @@
 ghost use Rattle.std.specs.Prelude.{◌≡◌, ◌++◌, map, drop, IfOk, IfErr};
 ghost use Rattle.std.specs.String.{string_bytes};
 ghost use Rattle.cse_compile.specs.Stands.{AllStand};
-ghost use Rattle.cse_compile_code.specs.Pools.{PoolsFit, no_pools};
+ghost use Rattle.cse_compile.specs.Pools.{PoolsFit, no_pools};
 ghost use Rattle.cse_compile.specs.Pooled.{pools_in};
 ghost use Rattle.cse_compile.specs.Room.{CannotHold};
 ghost use Rattle.cse_compile.specs.Fault.{IsLimit};
 
 use crate::error::{CompileError, WANT_OF_MEMORY};
 use crate::resolve::resolve;
-use cse_compile_code::{Emitter, Pools};
+use crate::{Emitter, Pools};
 use cse_image_parts::instruction::Instr;
 use std::alloc::{AllocError, Global};
 

@@ -3,15 +3,15 @@
 ghost use Rattle.std.specs.Prelude.{◌≡◌, ◌≤◌, ◌^◌, length, MatchOption, true, IfOk, OnOk, IfErr};
 ghost use Rattle.std.specs.Bool.{Decides};
 ghost use Rattle.cse_syntax_tree.specs.Leaf.{text_of};
-ghost use Rattle.cse_compile_code.specs.Wide as w;
+ghost use Rattle.cse_compile.specs.Wide as w;
 ghost use Rattle.cse_compile.specs.Stands.{Stands, AllStand, IsMore};
 ghost use Rattle.std.specs.Str.{IsUtf8};
-ghost use Rattle.cse_compile_code.specs.declared.pools.PoolError.TheVariants.{Full};
+ghost use Rattle.cse_compile.specs.declared.pools.PoolError.TheVariants.{Full};
 ghost use Rattle.cse_compile.specs.Fault.{IsLimit};
 ghost use Rattle.cse_compile.specs.Room.{CannotHold, LacksRoom, with_entry};
 
 use crate::error::{BEYOND, CompileError, WANT_OF_MEMORY};
-use cse_compile_code::{PoolError, Pools, Wide};
+use crate::{PoolError, Pools, Wide};
 use cse_image::text_fits;
 use cse_image_parts::instruction::{Instr, Op};
 use std::alloc::Global;

@@ -5,21 +5,21 @@ ghost use Rattle.std.specs.Prelude.{◌≡◌, ◌≤◌, [], ◌++◌, map, len
 ghost use Rattle.cse_dict.specs.Dictionary.{shape_of};
 ghost use Rattle.cse_image_parts.specs.Image.{routine_lists};
 ghost use Rattle.cse_logic_tree.specs.Typed.{tree as tree_view, declaration as declaration_view};
-ghost use Rattle.cse_compile_code.specs.Setting.{sizes_of};
-ghost use Rattle.cse_compile_code.specs.Outline as outline_spec;
-ghost use Rattle.cse_compile_code.specs.Outline.{functions_in};
-ghost use Rattle.cse_compile_code.specs.Events as events_spec;
+ghost use Rattle.cse_compile.specs.Setting.{sizes_of};
+ghost use Rattle.cse_compile.specs.Outline as outline_spec;
+ghost use Rattle.cse_compile.specs.Outline.{functions_in};
+ghost use Rattle.cse_compile.specs.Events as events_spec;
 ghost use Rattle.cse_compile.specs.Stands.{AllStand};
 ghost use Rattle.cse_compile.specs.Pooled.{pools_in};
 ghost use Rattle.cse_compile.specs.Program as spec;
 ghost use Rattle.cse_compile.specs.Fault.{IsLimit};
 ghost use Rattle.cse_compile.specs.Room.{NoCodeFits};
-ghost use Rattle.cse_compile_code.specs.Pools.{PoolsFit};
+ghost use Rattle.cse_compile.specs.Pools.{PoolsFit};
 
 use crate::coding::{code_all, with_handlers};
 use crate::error::{BEYOND, CompileError, WANT_OF_MEMORY};
 use crate::pooled::{Pooled, resolved};
-use cse_compile_code::{Emitter, Handler, Outline, event_table, function_outlines, handlers_of};
+use crate::{Emitter, Handler, Outline, event_table, function_outlines, handlers_of};
 use cse_dict::Dictionary;
 use cse_image_parts::entries::{Array, EventEntry, Routine};
 use cse_image_parts::limits::MOST_ROUTINES;

@@ -10,7 +10,7 @@ use Rattle.std.proofs.lemmas.Slice.Eq.{bytes_eq-Decides}
 use Rattle.std.proofs.lemmas.Option.{slice_get_within}
 use Rattle.cse_value.specs.declared.number.Num.{Num}
 use Rattle.cse_image_parts.specs.Image.{Image, ArrayLists}
-use Rattle.cse_image_codec.specs.Reader.{AllAfter}
+use Rattle.cse_image_parts.specs.Reader.{AllAfter}
 use Rattle.cse_image.specs.Spelling.{ArrayFits, Fits}
 use Rattle.cse_value.specs.Gathering.{line}
 use Rattle.cse_decks.specs.declared.due.Due.{Due}

@@ -21,7 +21,7 @@ use Rattle.cse_value.proofs.FieldLaws.{numerals}
 use Rattle.cse_image_parts.specs.Image.{ArrayLists}
 use Rattle.cse_image_parts.specs.Texts.{is_name, is_name_char, is_upper, is_new}
 use Rattle.cse_image_parts.specs.Fields.{is_dimension_count}
-use Rattle.cse_image_codec.specs.Reader.{AllAfter}
+use Rattle.cse_image_parts.specs.Reader.{AllAfter}
 use Rattle.cse_image.specs.Spelling.{ArrayFits, DimensionFits}
 use Rattle.cse_decks.specs.Deck.{size_word, array_line}
 use Rattle.cse_decks.specs.Loading.{blank_place, word, after_word, is_plain, after_size, ends_or, sized, are_sizes, is_array_line, named}

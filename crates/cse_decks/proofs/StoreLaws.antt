@@ -7,7 +7,7 @@ use Rattle.std.proofs.lemmas.Bool.{lt-ltb}
 use Rattle.std.proofs.lemmas.Bool.Decides.{nat_tests}
 use Rattle.cse_value.specs.Number.{fits_i64}
 use Rattle.std.proofs.lemmas.List.{length-replicate, length-take, length-map, length-set}
-use Rattle.cse_image_codec.specs.Reader.{AllAfter}
+use Rattle.cse_image_parts.specs.Reader.{AllAfter}
 use Rattle.cse_value.specs.declared.number.Num.{Num}
 use Rattle.cse_value.specs.declared.number.Num.TheVariants.{Whole}
 use Rattle.cse_value.specs.Texts.{blanks}

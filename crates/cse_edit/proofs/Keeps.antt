@@ -25,7 +25,7 @@ use Rattle.cse_logic_tree.specs.Typed.{Number, Words, Numbers, Operations, Const
 use Rattle.cse_logic_tree.specs.Typed.{Quoted, TextGlobal, TextItem, TextItemAt, TextGroup, no_number, number_and, no_operation, operation_and}
 use Rattle.cse_logic_tree.specs.Typed.{Which, Here, At, Argument, OfNumber, OfWords, Counting, Statement, Statements, Arms, Function, Body, Procedure, Tree}
 use Rattle.cse_logic_tree.specs.Typed.{Empty, Set, SetText, SetItem, SetTextItem, SetCell, CallOf, If, For, Do, Jump', Impute, PutDeck, ErrMsg, no_statement, statement_and, no_arm, else_of, arm}
-use Rattle.cse_compile_code.specs.Tables.{functions_in}
+use Rattle.cse_compile.specs.Tables.{functions_in}
 use Rattle.cse_steps.specs.State.{World, in_case, in_store}
 use Rattle.cse_meaning.specs.Setting.{Context, Locals, Valued, Functions, within}
 use Rattle.cse_meaning.specs.Reading.{one_of, number_of_one, many, variable, sizes_of, first_size, other_sizes, operated, deck_place}

@@ -8,8 +8,8 @@ use Rattle.cse_value.specs.declared.shape.ItemKind.TheVariants as kind
 use Rattle.cse_value.specs.declared.shape.ItemShape.{ItemShape}
 use Rattle.cse_dict.specs.Dictionary.{DictionaryText, ItemText, shape_of}
 use Rattle.cse_dict.specs.Sound.{IsSound}
-use Rattle.cse_lines.specs.Columns.{LineText, no_line}
-use Rattle.cse_lines.specs.Run.{line_at}
+use Rattle.cse_case.specs.Columns.{LineText, no_line}
+use Rattle.cse_case.specs.Run.{line_at}
 use Rattle.cse_case.specs.Field.{HasColumn, IsItem, item_at, no_item}
 use Rattle.cse_case.specs.Case.{CaseText, IsOccurrence, items_of, place_of, places_of, types_of, with_number, with_text}
 use Rattle.cse_case.specs.Fit.{IsFit}

@@ -13,7 +13,7 @@ use Rattle.cse_logic_tree.specs.Typed.{Statement, Statements, Arms, Empty, Set, 
 use Rattle.cse_logic_tree.specs.Typed.{Declaration, Numeric, Alpha, Array', Function', Body, Plain, Preproc, Both, Postproc, Procedure, Tree}
 use Rattle.cse_logic_tree.specs.Erase.{erase_statement, erase_block, erase_body}
 use Rattle.cse_edit.specs.Items.{written_by, written_by_all, written_by_arms, written_by_functions, written_by_globals, written_by_body, written_by_procedures, written_by_tree, is_written, items_written}
-use Rattle.cse_compile_code.specs.Tables.{functions_in}
+use Rattle.cse_compile.specs.Tables.{functions_in}
 use Rattle.cse_logic_names.specs.MessageFile.{MessageText}
 use Rattle.cse_logic_names.specs.Scope.{Scope, kind_and_owner, within}
 use Rattle.cse_logic_names.specs.WellTyped.{IsField, IsStatement, AreStatements, AreArms, IsBody, AreDeclared, AreProcedures, IsWell, messages_in, messages_of, body_messages, function_scope, with_function, with_functions, procedure_scope, first_scope, typed_declarations}

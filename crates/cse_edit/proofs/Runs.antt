@@ -1,6 +1,6 @@
 -- The first ones of runs that have a line each have one.
 use Rattle.std.specs.Prelude.{List, [], ◌∷◌, ◌++◌}
-use Rattle.cse_lines.specs.Line.{FileLine}
+use Rattle.cse_case.specs.Line.{FileLine}
 use Rattle.cse_batch_parts.proofs.BoundLaws.{AllSome}
 
 pub some_front : (runs more : List (List FileLine)) → AllSome (runs ++ more) → AllSome runs

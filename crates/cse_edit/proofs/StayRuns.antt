@@ -9,14 +9,14 @@ use Rattle.std.proofs.lemmas.Option.{get_or_from_slice_get, slice_get-map}
 use Rattle.cse_lemmas.proofs.Lists.{get_or-map_default}
 use Rattle.cse_dict.specs.Dictionary.{DictionaryText}
 use Rattle.cse_dict.specs.Sound.{IsSound, SoundWithoutFault}
-use Rattle.cse_lines.specs.declared.line.Ending.{Ending}
-use Rattle.cse_lines.specs.Line.{FileLine}
-use Rattle.cse_lines.specs.Columns.{LineText, line_text, no_line}
-use Rattle.cse_lines.specs.Field.{field_at, ids_of, type_span}
-use Rattle.cse_lines.specs.Run.{line_at, run_text, written_run}
-use Rattle.cse_lines.specs.Runs.{AreSound as AreSoundLines, fault_in, given_runs}
-use Rattle.cse_lines.specs.Gathering.{StandsFrom, bytes_of}
-use Rattle.cse_lines.specs.Written.{mark_bytes, written_line}
+use Rattle.cse_case.specs.declared.line.Ending.{Ending}
+use Rattle.cse_case.specs.Line.{FileLine}
+use Rattle.cse_case.specs.Columns.{LineText, line_text, no_line}
+use Rattle.cse_case.specs.NamedColumns.{field_at, ids_of, type_span}
+use Rattle.cse_case.specs.Run.{line_at, run_text, written_run}
+use Rattle.cse_case.specs.Runs.{AreSound as AreSoundLines, fault_in, given_runs}
+use Rattle.cse_case.specs.Gathering.{StandsFrom, bytes_of}
+use Rattle.cse_case.specs.Written.{mark_bytes, written_line}
 use Rattle.cse_case.specs.Case.{CaseText, case_of}
 use Rattle.cse_case.specs.Fit.{IsFit}
 use Rattle.cse_case.proofs.FitLaws.{fits_read}
@@ -24,7 +24,7 @@ use Rattle.cse_verify.specs.CaseEvents.{Moment}
 use Rattle.cse_decks.specs.Store.{Kept}
 use Rattle.cse_logic_tree.specs.Typed.{Tree}
 use Rattle.cse_edit.specs.Items.{items_written}
-use Rattle.cse_compile_code.specs.Tables.{functions_in}
+use Rattle.cse_compile.specs.Tables.{functions_in}
 use Rattle.cse_steps.specs.State.{World}
 use Rattle.cse_steps.specs.Columns.{LinesStay}
 use Rattle.cse_steps.proofs.Columns.{case_same}

@@ -4,8 +4,8 @@ use Rattle.cse_value.specs.Device.{Consumes, Appends, IsAtEnd, FailsOnce, IsUnfa
 use Rattle.cse_sections.specs.Sections.{sections_of}
 use Rattle.cse_dict.specs.Dictionary.{DictionaryText, dictionary_of}
 use Rattle.cse_dict.specs.Reading.{text_faults, IsAnswer}
-use Rattle.cse_lines.specs.Line.{FileLine}
-use Rattle.cse_lines.specs.Runs.{given_runs, fault_in}
+use Rattle.cse_case.specs.Line.{FileLine}
+use Rattle.cse_case.specs.Runs.{given_runs, fault_in}
 use Rattle.cse_image_parts.specs.Image.{Image}
 use Rattle.cse_logic_tree.specs.Typed.{Tree}
 use Rattle.cse_build.specs.Build.{AreSound, IsFault}

@@ -1,8 +1,8 @@
 -- From texts to texts.
 use Rattle.std.specs.Prelude.{◌≡◌, ℕ, Bool, true, List, ◌++◌}
 use Rattle.cse_image.specs.Spelling.{StandFor}
-use Rattle.cse_lines.specs.Line.{FileLine}
-use Rattle.cse_lines.specs.Runs.{given_runs}
+use Rattle.cse_case.specs.Line.{FileLine}
+use Rattle.cse_case.specs.Runs.{given_runs}
 use Rattle.cse_logic_tree.specs.Typed.{Tree}
 use Rattle.cse_verify.specs.Verified.{VerifiedProgram}
 use Rattle.cse_decks.specs.Loading.{loaded}

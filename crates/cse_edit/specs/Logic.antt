@@ -10,8 +10,8 @@ use Rattle.cse_image_parts.specs.declared.entries.EventCode.{EventCode}
 use Rattle.cse_image_parts.specs.declared.entries.EventCode.TheVariants.{ApplicationPreproc, ApplicationPostproc, LevelPreproc, LevelPostproc}
 use Rattle.cse_value.specs.Gathering.{line}
 use Rattle.cse_dict.specs.Dictionary.{DictionaryText, item_names, shape_of}
-use Rattle.cse_lines.specs.Line.{FileLine}
-use Rattle.cse_lines.specs.Runs.{given_runs}
+use Rattle.cse_case.specs.Line.{FileLine}
+use Rattle.cse_case.specs.Runs.{given_runs}
 use Rattle.cse_case.specs.Case.{CaseText, case_of, places_of, records_of, types_of}
 use Rattle.cse_case.specs.Seen.{is_case}
 use Rattle.cse_verify.specs.CaseEvents.{Moment, moment, records_events}
@@ -22,8 +22,8 @@ use Rattle.cse_report.specs.Unended.{unended}
 use Rattle.cse_report.specs.Frequency.{all_imputed, frequencies_text}
 use Rattle.cse_steps.specs.State.{World}
 use Rattle.cse_logic_tree.specs.Typed.{Tree}
-use Rattle.cse_compile_code.specs.Tables.{globals_in, arrays_in, message_of}
-use Rattle.cse_compile_code.specs.Order.{edit_order}
+use Rattle.cse_compile.specs.Tables.{globals_in, arrays_in, message_of}
+use Rattle.cse_compile.specs.Order.{edit_order}
 use Rattle.cse_meaning.specs.Meaning.{declarations, meaning}
 use Rattle.cse_meaning.specs.Means.{begins}
 use Rattle.cse_batch_parts.specs.declared.totals.Totals.{Totals}

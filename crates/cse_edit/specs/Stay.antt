@@ -3,9 +3,9 @@ use Rattle.std.specs.Prelude.{◌≡◌, ℕ, Bool, true, List, [], ◌∷◌, O
 use Rattle.std.specs.List.{flat_map}
 use Rattle.cse_dict.specs.Dictionary.{DictionaryText, shape_of}
 use Rattle.cse_dict.specs.Sound.{IsSound}
-use Rattle.cse_lines.specs.Line.{FileLine}
-use Rattle.cse_lines.specs.Columns.{line_text}
-use Rattle.cse_lines.specs.Runs.{fault_in, given_runs}
+use Rattle.cse_case.specs.Line.{FileLine}
+use Rattle.cse_case.specs.Columns.{line_text}
+use Rattle.cse_case.specs.Runs.{fault_in, given_runs}
 use Rattle.cse_case.specs.Field.{HasColumn, item_at}
 use Rattle.cse_logic_tree.specs.Typed.{Tree}
 use Rattle.cse_edit.specs.Items.{items_written}

@@ -1,9 +1,9 @@
 -- Readers one after the other: what the first gives is read on from, and where one stops, the whole does.
 use Rattle.std.proofs.Common.{◌≡◌, List, ℕ, Result, Ok, Err, refl, ap, ◌∙◌}
-use Rattle.cse_image_codec.specs.declared.fault.FieldFault.{FieldFault}
-use Rattle.cse_image_codec.specs.declared.fault.ReadStop.{ReadStop}
-use Rattle.cse_image_codec.specs.declared.fault.ReadStop.TheVariants as stops
-use Rattle.cse_image_codec.specs.Reader.{Reader, Fails, and_then, then_at, done}
+use Rattle.cse_image_parts.specs.declared.fault.FieldFault.{FieldFault}
+use Rattle.cse_image_parts.specs.declared.fault.ReadStop.{ReadStop}
+use Rattle.cse_image_parts.specs.declared.fault.ReadStop.TheVariants as stops
+use Rattle.cse_image_parts.specs.Reader.{Reader, Fails, and_then, then_at, done}
 
 -- what is left to read is read
 pub on : {A B : Type 0} (r : Reader A) (k : A → Reader B) (bytes : List ℕ) (a : A) (rest : List ℕ) (all : Result (B × List ℕ) FieldFault)

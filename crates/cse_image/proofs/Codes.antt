@@ -13,11 +13,11 @@ use Rattle.cse_image_parts.specs.Versions.{version_code, version_of}
 use Rattle.cse_image_parts.specs.Opcodes.{op_code, op_of}
 use Rattle.cse_image_parts.proofs.CodeLaws.{flag_code_is_one, item_kind_code_is_one, global_kind_code_is_one, local_kind_code_is_one, ambient_code_is_one, gift_code_is_one, event_code_is_one, version_code_is_one}
 use Rattle.cse_image_parts.proofs.OpcodeLaws.{op_code_is_one}
-use Rattle.cse_image_codec.specs.declared.fault.Rule.{Rule}
-use Rattle.cse_image_codec.specs.declared.fault.Rule.TheVariants.{Header, Form}
-use Rattle.cse_image_codec.specs.Reader.{number, decoded}
-use Rattle.cse_image_codec.specs.Spelling.{u8, u16}
-use Rattle.cse_image_codec.proofs.Algebra.{Laws, decoded_laws, number_laws}
+use Rattle.cse_image_parts.specs.declared.fault.Rule.{Rule}
+use Rattle.cse_image_parts.specs.declared.fault.Rule.TheVariants.{Header, Form}
+use Rattle.cse_image_parts.specs.Reader.{number, decoded}
+use Rattle.cse_image_parts.specs.Spelling.{u8, u16}
+use Rattle.cse_image_parts.proofs.Algebra.{Laws, decoded_laws, number_laws}
 use Rattle.cse_image.specs.Reading.{flag_at}
 
 byte_laws : {X : Type 0} (code : X → ℕ) (value : ℕ → Option X) → ((x : X) → HasOneCode code value x) → Laws (decoded Form value (number 1)) (λ x. u8 (code x)) (λ x. Unit {0})

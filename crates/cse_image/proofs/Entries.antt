@@ -18,10 +18,10 @@ use Rattle.cse_image_parts.specs.Texts.{is_text, is_short, is_name, is_new}
 use Rattle.cse_image_parts.specs.Placeholders.{has_few_placeholders}
 use Rattle.cse_image_parts.specs.Fields.{fits_global_length, fits_local_length, fits_owner, fits_kind, are_locals, is_limit, is_dimension_count, is_dimension, cells_in, is_room_for_cells, fits_cells, is_room_for_code, is_after}
 use Rattle.cse_image_parts.specs.Opcodes.{fits_a, fits_b, fits_c}
-use Rattle.cse_image_codec.specs.declared.fault.Rule.TheVariants.{Form, Limit}
-use Rattle.cse_image_codec.specs.Reader.{many, AllAfter}
-use Rattle.cse_image_codec.specs.Spelling.{u16, u32}
-use Rattle.cse_image_codec.proofs.Algebra.{Laws, field, finish, last, refit, counted_laws, checked_laws, bytes_laws, number_laws, signed_laws, many_laws, each_laws}
+use Rattle.cse_image_parts.specs.declared.fault.Rule.TheVariants.{Form, Limit}
+use Rattle.cse_image_parts.specs.Reader.{many, AllAfter}
+use Rattle.cse_image_parts.specs.Spelling.{u16, u32}
+use Rattle.cse_image_parts.proofs.Algebra.{Laws, field, finish, last, refit, counted_laws, checked_laws, bytes_laws, number_laws, signed_laws, many_laws, each_laws}
 use Rattle.cse_image.specs.Reading.{limit_at, limits_at, zero_at, record_at, item_at, set_at, characters_at, text_at, global_at, has_room_at_last, dimension_at, name_at, array_at, message_at, local_at, routine_at, event_at, instr_at}
 use Rattle.cse_image.specs.Spelling.{record_shape, item_shape, set_shape, limits, text, global, array, message, local, routine, event, instr, RecordFits, ItemFits, SetFits, LimitFits, LimitsFit, TextFits, GlobalFits, DimensionFits, ArrayFits, MessageFits, LocalFits, LocalsFit, RoutineFits, EventFits, InstrFits}
 use Rattle.cse_image.proofs.Codes.{flag_laws, item_kind_laws, global_kind_laws, local_kind_laws, ambient_laws, gift_laws, event_code_laws, op_laws}

@@ -6,11 +6,11 @@ use Rattle.std.specs.Str.{bytes_eq}
 use Rattle.cse_image_parts.specs.declared.version.Version.{Version}
 use Rattle.cse_image_parts.specs.Image.{Lists}
 use Rattle.cse_image_parts.specs.Fields.{instructions_in, last_event}
-use Rattle.cse_image_codec.specs.declared.fault.Rule.TheVariants.{Header}
-use Rattle.cse_image_codec.proofs.Algebra.{field, last, respell, Laws, checked_laws, bytes_laws, number_laws, signed_laws, each_laws, counted_laws, whole_laws}
+use Rattle.cse_image_parts.specs.declared.fault.Rule.TheVariants.{Header}
+use Rattle.cse_image_parts.proofs.Algebra.{field, last, respell, Laws, checked_laws, bytes_laws, number_laws, signed_laws, each_laws, counted_laws, whole_laws}
 use Rattle.cse_image.specs.Reading.{Edition, edition, header_at, lists_at, instr_at, edition_at}
 use Rattle.cse_image.specs.Spelling.{magic, header, lists, instr, spelling_in, ListsFit, InstrFits, FitsIn}
-use Rattle.cse_image_codec.specs.Reader.{then_at, done, each}
+use Rattle.cse_image_parts.specs.Reader.{then_at, done, each}
 use Rattle.cse_image.proofs.Codes.{version_laws}
 use Rattle.cse_image.proofs.Entries.{limits_laws, zero_laws, record_laws, item_laws, set_laws, text_laws, global_laws, array_laws, message_laws, routine_laws, event_laws, instr_laws}
 

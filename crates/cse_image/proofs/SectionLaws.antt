@@ -4,8 +4,8 @@ use Rattle.std.specs.List.{All, AllByRecursion}
 use Rattle.std.proofs.lemmas.List.{length-map}
 use Rattle.std.proofs.lemmas.List.Elements.{All-from_recursion}
 use Rattle.std.proofs.lemmas.List.Folds.{flat_map-map}
-use Rattle.cse_image_codec.specs.Reader.{AllAfter}
-use Rattle.cse_image_codec.specs.Spelling.{section, SectionFits}
+use Rattle.cse_image_parts.specs.Reader.{AllAfter}
+use Rattle.cse_image_parts.specs.Spelling.{section, SectionFits}
 
 each_fits : {X A : Type 0} (view : X → A) (P : List A → A → Type 0) (Q : X → Type 0) → ((before : List A) (x : X) → P before (view x) → Q x)
     → (before : List A) (xs : List X) → AllAfter P before (map view xs) → AllByRecursion Q xs

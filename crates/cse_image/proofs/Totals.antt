@@ -10,7 +10,7 @@ use Rattle.std.proofs.Common.{take, get_or, length}
 use Rattle.std.proofs.lemmas.List.{take_more, map_push}
 use Rattle.cse_image_parts.specs.Fields.{instructions_in, is_room_for_code}
 use Rattle.cse_image_parts.specs.declared.version.Version.{Version}
-use Rattle.cse_image_codec.specs.Reader.{AllAfter}
+use Rattle.cse_image_parts.specs.Reader.{AllAfter}
 use Rattle.cse_image.specs.Spelling.{RoutineFits, ListsFit}
 use Rattle.std.proofs.Common.{append_assoc, sym, true, ap, ◌∙◌}
 

@@ -16,9 +16,9 @@ use Rattle.cse_image_parts.specs.Image.{RoutineLists, Image}
 use Rattle.cse_image_parts.specs.Fields.{instructions_in}
 use Rattle.cse_image_parts.specs.Opcodes.{Range, shape, any_limit, lies_in, fits_b}
 use Rattle.cse_image_parts.specs.Upgrade.{greater, own_limit, greatest_limit, one_to, upgrade_instr, upgrade}
-use Rattle.cse_image_codec.specs.Reader.{AllAfter}
-use Rattle.cse_image_codec.specs.Spelling.{SectionFits}
-use Rattle.cse_image_codec.proofs.Algebra.{each_after}
+use Rattle.cse_image_parts.specs.Reader.{AllAfter}
+use Rattle.cse_image_parts.specs.Spelling.{SectionFits}
+use Rattle.cse_image_parts.proofs.Algebra.{each_after}
 use Rattle.cse_image.specs.Spelling.{LimitFits, RoutineFits, InstrFits, ListsFit, FitsIn, Fits, spelling, SpellsIn, Spells, program_in, StandFor}
 
 -- ---- limits

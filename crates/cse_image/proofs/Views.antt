@@ -3,16 +3,16 @@ use Rattle.std.proofs.Common.{◌≡◌, ℕ, zero, suc, ◌+◌, ◌-◌, ◌*�
 use Rattle.std.specs.List.{flat_map, AllByRecursion, slice_get}
 use Rattle.std.proofs.lemmas.List.{append-nil, take_at, length-append, length-map, drop-drop}
 use Rattle.std.proofs.lemmas.List.Concat.{flat_map-cons}
-use Rattle.cse_image_codec.specs.declared.fault.FieldFault.{FieldFault}
+use Rattle.cse_image_parts.specs.declared.fault.FieldFault.{FieldFault}
 use Rattle.cse_image_parts.specs.declared.instruction.Instr.{Instr}
 use Rattle.cse_image_parts.specs.declared.version.Version.{Version}
 use Rattle.cse_image_parts.specs.declared.version.Version.TheVariants as versions
 use Rattle.cse_image_parts.specs.Upgrade.{upgrade_instr}
-use Rattle.cse_image_codec.specs.Reader.{Reader, IsBytes, and_then, many, each}
+use Rattle.cse_image_parts.specs.Reader.{Reader, IsBytes, and_then, many, each}
 use Rattle.cse_image.specs.Reading.{instr_at}
 use Rattle.cse_image.specs.Spelling.{instr, InstrFits}
 use Rattle.cse_image.specs.View.{value_of, code_in, IsCodeOf, program_instr, program_code}
-use Rattle.cse_image_codec.proofs.Algebra.{and_then_ok, each_laws}
+use Rattle.cse_image_parts.proofs.Algebra.{and_then_ok, each_laws}
 use Rattle.cse_image.proofs.Entries.{instr_laws}
 
 size : (xs : List Instr) → length (flat_map instr xs) ≡ 8 * length xs

@@ -3,18 +3,18 @@ use Rattle.std.proofs.Common.{◌≡◌, ℕ, Bool, true, false, cond, eqb, List
 use Rattle.std.proofs.lemmas.Bool.{eqb-true}
 use Rattle.std.proofs.lemmas.List.{append-nil, nil_from_length}
 use Rattle.cse_lemmas.proofs.Results.{ok_and_err}
-use Rattle.cse_image_codec.specs.declared.fault.FieldFault.{FieldFault}
-use Rattle.cse_image_codec.specs.declared.fault.Rule.TheVariants.{LeftOver}
-use Rattle.cse_image_codec.specs.declared.fault.ReadStop.{ReadStop}
-use Rattle.cse_image_codec.specs.declared.fault.ReadStop.TheVariants as stops
+use Rattle.cse_image_parts.specs.declared.fault.FieldFault.{FieldFault}
+use Rattle.cse_image_parts.specs.declared.fault.Rule.TheVariants.{LeftOver}
+use Rattle.cse_image_parts.specs.declared.fault.ReadStop.{ReadStop}
+use Rattle.cse_image_parts.specs.declared.fault.ReadStop.TheVariants as stops
 use Rattle.cse_image.specs.declared.error.ImageError.{ImageError}
 use Rattle.cse_image.specs.Place.{error_of, Answers}
 use Rattle.cse_image_parts.specs.Image.{Image}
-use Rattle.cse_image_codec.specs.Reader.{fault, without_rest, Fails}
+use Rattle.cse_image_parts.specs.Reader.{fault, without_rest, Fails}
 use Rattle.cse_image_parts.specs.declared.version.Version.{Version}
 use Rattle.cse_image.specs.Reading.{Edition, edition, edition_at, whole_edition, programs, reading}
 use Rattle.cse_image.specs.Spelling.{spelling_in, SpellsIn, program_in, StandFor}
-use Rattle.cse_image_codec.specs.Reader.{IsBytes}
+use Rattle.cse_image_parts.specs.Reader.{IsBytes}
 use Rattle.cse_image.proofs.ImageLaws.{edition_laws}
 
 ended_ok : {A : Type 0} (b : Bool) (f : FieldFault) (x y : A) → cond b (Ok x) (Err f) ≡ Ok y → (b ≡ true) × (x ≡ y)

@@ -1,10 +1,10 @@
 -- A fault's number and its place in all of the bytes.
 use Rattle.std.specs.Prelude.{◌≡◌, ◌-◌, ◌⊎◌, ℕ, Result, Ok, Err}
-use Rattle.cse_image_codec.specs.declared.fault.Rule.{Rule}
-use Rattle.cse_image_codec.specs.declared.fault.Rule.TheVariants as rules
-use Rattle.cse_image_codec.specs.declared.fault.FieldFault.{FieldFault}
-use Rattle.cse_image_codec.specs.declared.fault.ReadStop.{ReadStop}
-use Rattle.cse_image_codec.specs.declared.fault.ReadStop.TheVariants as stops
+use Rattle.cse_image_parts.specs.declared.fault.Rule.{Rule}
+use Rattle.cse_image_parts.specs.declared.fault.Rule.TheVariants as rules
+use Rattle.cse_image_parts.specs.declared.fault.FieldFault.{FieldFault}
+use Rattle.cse_image_parts.specs.declared.fault.ReadStop.{ReadStop}
+use Rattle.cse_image_parts.specs.declared.fault.ReadStop.TheVariants as stops
 use Rattle.cse_image.specs.declared.error.ImageError.{ImageError}
 
 abbrev pub number_of : Rule → ℕ

@@ -19,9 +19,9 @@ use Rattle.cse_image_parts.specs.Texts.{is_text, is_short, is_name, is_new}
 use Rattle.cse_image_parts.specs.Fields.{fits_global_length, fits_local_length, fits_owner, fits_kind, are_locals, is_limit, is_dimension_count, is_dimension, cells_in, is_room_for_cells, fits_cells, instructions_in, is_room_for_code, last_event, is_after}
 use Rattle.cse_image_parts.specs.Opcodes.{op_of, fits_a, fits_b, fits_c}
 use Rattle.cse_image_parts.specs.Placeholders.{has_few_placeholders}
-use Rattle.cse_image_codec.specs.declared.fault.Rule.TheVariants.{Header, Form, Limit}
-use Rattle.cse_image_codec.specs.declared.fault.FieldFault.{FieldFault}
-use Rattle.cse_image_codec.specs.Reader.{Reader, ◌>>=◌, done, some_bytes, number, signed, checked, decoded, many, each, counted, whole, without_rest}
+use Rattle.cse_image_parts.specs.declared.fault.Rule.TheVariants.{Header, Form, Limit}
+use Rattle.cse_image_parts.specs.declared.fault.FieldFault.{FieldFault}
+use Rattle.cse_image_parts.specs.Reader.{Reader, ◌>>=◌, done, some_bytes, number, signed, checked, decoded, many, each, counted, whole, without_rest}
 use Rattle.cse_image.specs.Spelling.{magic, program_in}
 
 -- a field of so many bytes that must be 0

@@ -1,7 +1,7 @@
 -- The two halves of the sections, in version 2.
 use Rattle.std.specs.Prelude.{ℕ, List}
 use Rattle.cse_image_parts.specs.Image.{Lists}
-use Rattle.cse_image_codec.specs.Spelling.{◌⧺◌, u32, i64, section}
+use Rattle.cse_image_parts.specs.Spelling.{◌⧺◌, u32, i64, section}
 use Rattle.cse_image.specs.Spelling.{record_shape, item_shape, set_shape, text, global, array, message, routine, event}
 
 -- from the records to the limits

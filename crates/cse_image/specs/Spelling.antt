@@ -22,8 +22,8 @@ use Rattle.cse_image_parts.specs.Texts.{is_text, is_short, is_name, is_new}
 use Rattle.cse_image_parts.specs.Fields.{fits_global_length, fits_local_length, fits_owner, fits_kind, are_locals, is_limit, is_dimension_count, is_dimension, cells_in, is_room_for_cells, fits_cells, instructions_in, is_room_for_code, last_event, is_after}
 use Rattle.cse_image_parts.specs.Opcodes.{op_code, fits_a, fits_b, fits_c}
 use Rattle.cse_image_parts.specs.Placeholders.{has_few_placeholders}
-use Rattle.cse_image_codec.specs.Reader.{AllAfter}
-use Rattle.cse_image_codec.specs.Spelling.{◌⧺◌, u8, u16, u32, i64, section, SectionFits}
+use Rattle.cse_image_parts.specs.Reader.{AllAfter}
+use Rattle.cse_image_parts.specs.Spelling.{◌⧺◌, u8, u16, u32, i64, section, SectionFits}
 
 -- ---- spellings
 

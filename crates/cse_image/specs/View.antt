@@ -1,8 +1,8 @@
 -- Instructions that lie in bytes, eight bytes each.
 use Rattle.std.specs.Prelude.{◌≡◌, ◌/◌, ℕ, List, [], map, length, Result, Ok, Err}
 use Rattle.std.specs.List.{flat_map, AllByRecursion}
-use Rattle.cse_image_codec.specs.declared.fault.FieldFault.{FieldFault}
-use Rattle.cse_image_codec.specs.Reader.{each}
+use Rattle.cse_image_parts.specs.declared.fault.FieldFault.{FieldFault}
+use Rattle.cse_image_parts.specs.Reader.{each}
 use Rattle.cse_image_parts.specs.declared.instruction.Instr.{Instr}
 use Rattle.cse_image_parts.specs.declared.version.Version.{Version}
 use Rattle.cse_image_parts.specs.declared.version.Version.TheVariants as versions

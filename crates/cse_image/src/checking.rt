@@ -5,7 +5,7 @@ ghost use Rattle.std.specs.Bool.{Decides};
 ghost use Rattle.std.specs.Int.{w64};
 ghost use Rattle.std.specs.List.{AllByRecursion};
 ghost use Rattle.std.specs.String.{string_bytes};
-ghost use Rattle.cse_image_codec.specs.Reader.{AllAfter};
+ghost use Rattle.cse_image_parts.specs.Reader.{AllAfter};
 ghost use Rattle.cse_image_parts.specs.Image.{array_lists, message_lists, routine_lists};
 ghost use Rattle.cse_image_parts.specs.declared.version.Version.TheVariants as versions;
 ghost use Rattle.cse_image_parts.specs.Fields.{cells_in, is_dimension_count, fits_cells};

@@ -4,7 +4,7 @@ ghost use Rattle.std.specs.Prelude.{◌≡◌};
 ghost use Rattle.cse_image.specs.Place.{number_of, error_of};
 
 use cse_fault_numbers::WANT_OF_MEMORY;
-use cse_image_codec::{ReadStop, Rule};
+use cse_image_parts::{ReadStop, Rule};
 use std::error::Error;
 use std::fmt;
 

@@ -2,27 +2,27 @@
 
 ghost use Rattle.std.specs.Prelude.{◌≡◌, ◌<◌, ◌≤◌, ◌+◌, ◌^◌, [], ◌∷◌, ◌++◌, IfOk, map, length};
 ghost use Rattle.std.specs.String.{string_bytes};
-ghost use Rattle.cse_image_codec.specs.Reader.{Gives, GivesFault, number, checked, many, counted};
-ghost use Rattle.cse_image_codec.specs.declared.fault.Rule.TheVariants.{Limit};
+ghost use Rattle.cse_image_parts.specs.Reader.{Gives, GivesFault, number, checked, many, counted};
+ghost use Rattle.cse_image_parts.specs.declared.fault.Rule.TheVariants.{Limit};
 ghost use Rattle.cse_image_parts.specs.Image.{array_lists};
 ghost use Rattle.cse_image_parts.specs.Fields.{product, cells_in, is_dimension_count, fits_cells};
 ghost use Rattle.cse_image.specs.Reading.{has_room_at_last, dimension_at, name_at, array_at};
 
 use crate::read_shape::flag_of;
-use cse_image_codec::{
-    FieldFault, ReadStop, Rule, broken, bytes_at, count_at, i64s_at, u8_at, u16_at, u32_at,
-    zero_u8_at,
-};
 use cse_image_parts::entries::Array;
 use cse_image_parts::limits::{MOST_ARRAYS, MOST_CELLS, MOST_DIMENSIONS};
 use cse_image_parts::rules::{
     cells_for, is_count_of_dimensions, is_right_cell_count, is_right_dimension,
 };
 use cse_image_parts::texts::{array_name, is_new_name};
+use cse_image_parts::{
+    FieldFault, ReadStop, Rule, broken, bytes_at, count_at, i64s_at, u8_at, u16_at, u32_at,
+    zero_u8_at,
+};
 use std::alloc::Global;
 
 /// How many dimensions an array has.
-#[tactic(auto, unfolding(cse_image_codec::specs::Reader::checked))]
+#[tactic(auto, unfolding(cse_image_parts::specs::Reader::checked))]
 fn rank_of(bytes: &[u8]) -> Result<(u8, &[u8]), FieldFault>
     ensures exact { GivesFault (λ x. (x.0, x.1.now)) result (checked Limit is_dimension_count (number 1) bytes.now) }
     ensures some { IfOk result (λ x. 0 < x.0) }
@@ -59,7 +59,7 @@ pub fn fits_last(cells: u64, rank: u8, before: &[u16], dimension: u16) -> bool
 }
 
 /// One of so many dimensions, after those before it, beside so many cells.
-#[tactic(auto, unfolding(cse_image_codec::specs::Reader::checked, crate::specs::Reading::dimension_at))]
+#[tactic(auto, unfolding(cse_image_parts::specs::Reader::checked, crate::specs::Reading::dimension_at))]
 fn dimension_of<'a>(
     cells: u64,
     rank: u8,
@@ -103,7 +103,7 @@ fn dimensions_in(
     Ok((dimensions, rest))
 }
 
-#[tactic(auto, unfolding(cse_image_codec::specs::Reader::checked, crate::specs::Reading::name_at))]
+#[tactic(auto, unfolding(cse_image_parts::specs::Reader::checked, crate::specs::Reading::name_at))]
 fn name_of<'a>(
     alloc: Global,
     before: &[Array],
@@ -122,7 +122,7 @@ fn name_of<'a>(
     Ok((String::from_str(alloc, text)?, rest))
 }
 
-#[tactic(auto, unfolding(cse_image_codec::specs::Reader::checked))]
+#[tactic(auto, unfolding(cse_image_parts::specs::Reader::checked))]
 fn cell_count_of<'a>(dimensions: &[u16], bytes: &'a [u8]) -> Result<(u32, &'a [u8]), FieldFault>
     requires { length dimensions.now ≤ MOST_DIMENSIONS }
     ensures { GivesFault (λ x. (x.0, x.1.now)) result (checked Limit (fits_cells dimensions.now) (number 4) bytes.now) }
@@ -182,7 +182,7 @@ fn arrays_in(alloc: Global, count: u32, bytes: &[u8]) -> Result<(Vec<Array>, &[u
 }
 
 /// The table of arrays: their count, then each; and the bytes after it.
-#[tactic(auto, unfolding(cse_image_codec::specs::Reader::then_at, cse_image_codec::specs::Reader::counted))]
+#[tactic(auto, unfolding(cse_image_parts::specs::Reader::then_at, cse_image_parts::specs::Reader::counted))]
 pub fn arrays_of(alloc: Global, bytes: &[u8]) -> Result<(Vec<Array>, &[u8]), ReadStop>
     ensures { Gives (λ x. (map array_lists x.0.items, x.1.now)) result (counted MOST_ARRAYS array_at bytes.now) }
 {

@@ -1,16 +1,16 @@
 //! An instruction, eight bytes.
 
-ghost use Rattle.cse_image_codec.specs.Reader.{GivesFault};
+ghost use Rattle.cse_image_parts.specs.Reader.{GivesFault};
 ghost use Rattle.cse_image.specs.Reading.{instr_at};
 
-use cse_image_codec::{FieldFault, Rule, broken, u8_at, u16_at, u32_at};
 use cse_image_parts::instruction::Instr;
 use cse_image_parts::opcodes::{is_right_a, is_right_b, is_right_c, op_named};
 use cse_image_parts::version::Version;
+use cse_image_parts::{FieldFault, Rule, broken, u8_at, u16_at, u32_at};
 
 /// An instruction, and the bytes after it: its opcode, then operands that this opcode may have in this version.
 #[inline]
-#[tactic(auto, unfolding(cse_image_codec::specs::Reader::checked, cse_image_codec::specs::Reader::decoded, cse_image_codec::specs::Reader::then_at, cse_image_codec::specs::Reader::done, crate::specs::Reading::instr_at))]
+#[tactic(auto, unfolding(cse_image_parts::specs::Reader::checked, cse_image_parts::specs::Reader::decoded, cse_image_parts::specs::Reader::then_at, cse_image_parts::specs::Reader::done, crate::specs::Reading::instr_at))]
 pub fn instr_of(version: Version, bytes: &[u8]) -> Result<(Instr, &[u8]), FieldFault>
     ensures { GivesFault (λ x. (x.0, x.1.now)) result (instr_at version bytes.now) }
 {

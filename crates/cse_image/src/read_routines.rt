@@ -1,17 +1,14 @@
 //! The sections of routines and events.
 
 ghost use Rattle.std.specs.Prelude.{◌≡◌, ◌≤◌, ◌+◌, [], IfOk, map, length};
-ghost use Rattle.cse_image_codec.specs.Reader.{Gives, GivesFault, number, checked, decoded, many, counted};
-ghost use Rattle.cse_image_codec.specs.declared.fault.Rule.TheVariants.{Form, Limit};
+ghost use Rattle.cse_image_parts.specs.Reader.{Gives, GivesFault, number, checked, decoded, many, counted};
+ghost use Rattle.cse_image_parts.specs.declared.fault.Rule.TheVariants.{Form, Limit};
 ghost use Rattle.cse_image_parts.specs.Versions.{may_give as spec_may_give};
 ghost use Rattle.cse_image_parts.specs.Codes.{ambient_of as spec_ambient_of, gift_of as spec_gift_of, event_code_of as spec_event_code_of, local_kind_of as spec_local_kind_of};
 ghost use Rattle.cse_image_parts.specs.Image.{routine_lists};
 ghost use Rattle.cse_image_parts.specs.Fields.{fits_kind, fits_owner, fits_local_length, are_locals, instructions_in, is_room_for_code, last_event, is_after};
 ghost use Rattle.cse_image.specs.Reading.{local_at, routine_at, event_at};
 
-use cse_image_codec::{
-    FieldFault, ReadStop, Rule, broken, count_at, u8_at, u16_at, u32_at, zero_u8_at,
-};
 use cse_image_parts::codes::{ambient_named, event_code_named, gift_named, local_kind_named};
 use cse_image_parts::entries::{Ambient, EventCode, EventEntry, Gift, Local, LocalKind, Routine};
 use cse_image_parts::limits::{MOST_EVENTS, MOST_INSTRUCTIONS, MOST_ROUTINES};
@@ -20,10 +17,13 @@ use cse_image_parts::rules::{
     is_right_owner, last_of,
 };
 use cse_image_parts::version::{Version, may_give};
+use cse_image_parts::{
+    FieldFault, ReadStop, Rule, broken, count_at, u8_at, u16_at, u32_at, zero_u8_at,
+};
 use std::alloc::Global;
 
 /// The kind of the local at this place, from 0, beside so many parameters.
-#[tactic(auto, unfolding(cse_image_codec::specs::Reader::checked, cse_image_codec::specs::Reader::decoded))]
+#[tactic(auto, unfolding(cse_image_parts::specs::Reader::checked, cse_image_parts::specs::Reader::decoded))]
 fn local_kind_of(parameters: u8, index: u8, bytes: &[u8]) -> Result<(LocalKind, &[u8]), FieldFault>
     ensures { GivesFault (λ x. (x.0, x.1.now)) result (checked Form (fits_kind parameters index) (decoded Form spec_local_kind_of (number 1)) bytes.now) }
 {
@@ -37,7 +37,7 @@ fn local_kind_of(parameters: u8, index: u8, bytes: &[u8]) -> Result<(LocalKind, 
     Ok((kind, rest))
 }
 
-#[tactic(auto, unfolding(cse_image_codec::specs::Reader::checked))]
+#[tactic(auto, unfolding(cse_image_parts::specs::Reader::checked))]
 fn owner_of(kind: LocalKind, bytes: &[u8]) -> Result<(u8, &[u8]), FieldFault>
     ensures { GivesFault (λ x. (x.0, x.1.now)) result (checked Form (fits_owner kind) (number 1) bytes.now) }
 {
@@ -48,7 +48,7 @@ fn owner_of(kind: LocalKind, bytes: &[u8]) -> Result<(u8, &[u8]), FieldFault>
     Ok((owner, rest))
 }
 
-#[tactic(auto, unfolding(cse_image_codec::specs::Reader::checked))]
+#[tactic(auto, unfolding(cse_image_parts::specs::Reader::checked))]
 fn local_length_of(kind: LocalKind, bytes: &[u8]) -> Result<(u16, &[u8]), FieldFault>
     ensures { GivesFault (λ x. (x.0, x.1.now)) result (checked Form (fits_local_length kind) (number 2) bytes.now) }
 {
@@ -59,7 +59,7 @@ fn local_length_of(kind: LocalKind, bytes: &[u8]) -> Result<(u16, &[u8]), FieldF
     Ok((length, rest))
 }
 
-#[tactic(auto, unfolding(cse_image_codec::specs::Reader::then_at, cse_image_codec::specs::Reader::done, crate::specs::Reading::local_at))]
+#[tactic(auto, unfolding(cse_image_parts::specs::Reader::then_at, cse_image_parts::specs::Reader::done, crate::specs::Reading::local_at))]
 fn local_of(parameters: u8, index: u8, bytes: &[u8]) -> Result<(Local, &[u8]), FieldFault>
     ensures { GivesFault (λ x. (x.0, x.1.now)) result (local_at parameters index bytes.now) }
 {
@@ -94,7 +94,7 @@ fn locals_in(
     Ok((locals, rest))
 }
 
-#[tactic(auto, unfolding(cse_image_codec::specs::Reader::decoded))]
+#[tactic(auto, unfolding(cse_image_parts::specs::Reader::decoded))]
 fn ambient_of(bytes: &[u8]) -> Result<(Ambient, &[u8]), FieldFault>
     ensures { GivesFault (λ x. (x.0, x.1.now)) result (decoded Form spec_ambient_of (number 1) bytes.now) }
 {
@@ -106,7 +106,7 @@ fn ambient_of(bytes: &[u8]) -> Result<(Ambient, &[u8]), FieldFault>
 }
 
 /// What a routine gives: a text from version 2 on.
-#[tactic(auto, unfolding(cse_image_codec::specs::Reader::checked, cse_image_codec::specs::Reader::decoded))]
+#[tactic(auto, unfolding(cse_image_parts::specs::Reader::checked, cse_image_parts::specs::Reader::decoded))]
 fn gift_of(version: Version, bytes: &[u8]) -> Result<(Gift, &[u8]), FieldFault>
     ensures { GivesFault (λ x. (x.0, x.1.now)) result (checked Form (spec_may_give version) (decoded Form spec_gift_of (number 1)) bytes.now) }
 {
@@ -121,7 +121,7 @@ fn gift_of(version: Version, bytes: &[u8]) -> Result<(Gift, &[u8]), FieldFault>
 }
 
 /// The count of the locals, among which are so many parameters.
-#[tactic(auto, unfolding(cse_image_codec::specs::Reader::checked))]
+#[tactic(auto, unfolding(cse_image_parts::specs::Reader::checked))]
 fn local_count_of(parameters: u8, bytes: &[u8]) -> Result<(u8, &[u8]), FieldFault>
     ensures { GivesFault (λ x. (x.0, x.1.now)) result (checked Form (are_locals parameters) (number 1) bytes.now) }
 {
@@ -133,7 +133,7 @@ fn local_count_of(parameters: u8, bytes: &[u8]) -> Result<(u8, &[u8]), FieldFaul
 }
 
 /// The count of a routine's instructions, after routines of so many together.
-#[tactic(auto, unfolding(cse_image_codec::specs::Reader::checked))]
+#[tactic(auto, unfolding(cse_image_parts::specs::Reader::checked))]
 fn instruction_count_of(before: u32, bytes: &[u8]) -> Result<(u32, &[u8]), FieldFault>
     requires { before ≤ MOST_INSTRUCTIONS }
     ensures exact { GivesFault (λ x. (x.0, x.1.now)) result (checked Limit (is_room_for_code before) (number 4) bytes.now) }
@@ -147,7 +147,7 @@ fn instruction_count_of(before: u32, bytes: &[u8]) -> Result<(u32, &[u8]), Field
 }
 
 /// A routine, after routines of so many instructions together.
-#[tactic(auto, unfolding(cse_image_codec::specs::Reader::then_at, cse_image_codec::specs::Reader::done, crate::specs::Reading::routine_at))]
+#[tactic(auto, unfolding(cse_image_parts::specs::Reader::then_at, cse_image_parts::specs::Reader::done, crate::specs::Reading::routine_at))]
 fn routine_of(
     alloc: Global,
     version: Version,
@@ -200,7 +200,7 @@ fn routines_in(
 
 /// The table of routines: their count, then each; and the bytes after it. Together they have no
 /// more instructions than a program may.
-#[tactic(auto, unfolding(cse_image_codec::specs::Reader::then_at, cse_image_codec::specs::Reader::counted))]
+#[tactic(auto, unfolding(cse_image_parts::specs::Reader::then_at, cse_image_parts::specs::Reader::counted))]
 pub fn routines_of(
     alloc: Global,
     version: Version,
@@ -214,7 +214,7 @@ pub fn routines_of(
     routines_in(alloc, version, count, rest)
 }
 
-#[tactic(auto, unfolding(cse_image_codec::specs::Reader::decoded))]
+#[tactic(auto, unfolding(cse_image_parts::specs::Reader::decoded))]
 fn event_code_of(bytes: &[u8]) -> Result<(EventCode, &[u8]), FieldFault>
     ensures { GivesFault (λ x. (x.0, x.1.now)) result (decoded Form spec_event_code_of (number 1) bytes.now) }
 {
@@ -226,7 +226,7 @@ fn event_code_of(bytes: &[u8]) -> Result<(EventCode, &[u8]), FieldFault>
 }
 
 /// The index of an event with this code, after the event that was last.
-#[tactic(auto, unfolding(cse_image_codec::specs::Reader::checked))]
+#[tactic(auto, unfolding(cse_image_parts::specs::Reader::checked))]
 fn event_index_of(
     last: Option<EventEntry>,
     code: EventCode,
@@ -242,7 +242,7 @@ fn event_index_of(
 }
 
 /// An event, after the event that was last.
-#[tactic(auto, unfolding(cse_image_codec::specs::Reader::then_at, cse_image_codec::specs::Reader::done, crate::specs::Reading::zero_at, crate::specs::Reading::event_at))]
+#[tactic(auto, unfolding(cse_image_parts::specs::Reader::then_at, cse_image_parts::specs::Reader::done, crate::specs::Reading::zero_at, crate::specs::Reading::event_at))]
 fn event_of(last: Option<EventEntry>, bytes: &[u8]) -> Result<(EventEntry, &[u8]), FieldFault>
     ensures { GivesFault (λ x. (x.0, x.1.now)) result (event_at last bytes.now) }
 {
@@ -274,7 +274,7 @@ fn events_in(alloc: Global, count: u32, bytes: &[u8]) -> Result<(Vec<EventEntry>
 }
 
 /// The table of events: their count, then each, behind the one before it in order; and the bytes after it.
-#[tactic(auto, unfolding(cse_image_codec::specs::Reader::then_at, cse_image_codec::specs::Reader::counted))]
+#[tactic(auto, unfolding(cse_image_parts::specs::Reader::then_at, cse_image_parts::specs::Reader::counted))]
 pub fn events_of(alloc: Global, bytes: &[u8]) -> Result<(Vec<EventEntry>, &[u8]), ReadStop>
     ensures { Gives (λ x. (x.0.items, x.1.now)) result (counted MOST_EVENTS (λ before. event_at (last_event before)) bytes.now) }
 {

@@ -1,23 +1,23 @@
 //! The header, and the sections that tell a dictionary's shape: records, items and value sets.
 
 ghost use Rattle.std.specs.Prelude.{[]};
-ghost use Rattle.cse_image_codec.specs.Reader.{Gives, GivesFault, number, decoded, many, counted};
-ghost use Rattle.cse_image_codec.specs.declared.fault.Rule.TheVariants.{Form};
+ghost use Rattle.cse_image_parts.specs.Reader.{Gives, GivesFault, number, decoded, many, counted};
+ghost use Rattle.cse_image_parts.specs.declared.fault.Rule.TheVariants.{Form};
 ghost use Rattle.cse_image_parts.specs.Codes.{item_kind_of as kind_of};
 ghost use Rattle.cse_image.specs.Reading.{flag_at, header_at, record_at, item_at, set_at};
 
-use cse_image_codec::{
-    FieldFault, ReadStop, Rule, broken, bytes_at, count_at, ended, u8_at, u16_at, u32_at,
-    zero_u16_at, zero_u24_at,
-};
 use cse_image_parts::codes::{flag_named, item_kind_named};
 use cse_image_parts::limits::{MOST_ITEMS, MOST_RECORDS, MOST_SETS};
 use cse_image_parts::version::{Version, version_named};
+use cse_image_parts::{
+    FieldFault, ReadStop, Rule, broken, bytes_at, count_at, ended, u8_at, u16_at, u32_at,
+    zero_u16_at, zero_u24_at,
+};
 use cse_value::shape::{ItemKind, ItemShape, RecordShape, SetShape};
 use std::alloc::Global;
 
 /// A byte that is 0 or 1.
-#[tactic(auto, unfolding(cse_image_codec::specs::Reader::decoded, crate::specs::Reading::flag_at))]
+#[tactic(auto, unfolding(cse_image_parts::specs::Reader::decoded, crate::specs::Reading::flag_at))]
 pub fn flag_of(bytes: &[u8]) -> Result<(bool, &[u8]), FieldFault>
     ensures { GivesFault (λ x. (x.0, x.1.now)) result (flag_at bytes.now) }
 {
@@ -29,7 +29,7 @@ pub fn flag_of(bytes: &[u8]) -> Result<(bool, &[u8]), FieldFault>
 }
 
 /// The version.
-#[tactic(auto, unfolding(cse_image_codec::specs::Reader::checked, cse_image_codec::specs::Reader::decoded, cse_image_codec::specs::Reader::then_at, cse_image_codec::specs::Reader::done, cse_image_codec::specs::Reader::whole, crate::specs::Reading::zero_at, crate::specs::Reading::header_at))]
+#[tactic(auto, unfolding(cse_image_parts::specs::Reader::checked, cse_image_parts::specs::Reader::decoded, cse_image_parts::specs::Reader::then_at, cse_image_parts::specs::Reader::done, cse_image_parts::specs::Reader::whole, crate::specs::Reading::zero_at, crate::specs::Reading::header_at))]
 pub fn header_of(bytes: &[u8]) -> Result<(Version, &[u8]), FieldFault>
     ensures { GivesFault (λ x. (x.0, x.1.now)) result (header_at bytes.now) }
 {
@@ -48,7 +48,7 @@ pub fn header_of(bytes: &[u8]) -> Result<(Version, &[u8]), FieldFault>
     Ok((version, rest))
 }
 
-#[tactic(auto, unfolding(cse_image_codec::specs::Reader::then_at, cse_image_codec::specs::Reader::done, crate::specs::Reading::zero_at, crate::specs::Reading::record_at))]
+#[tactic(auto, unfolding(cse_image_parts::specs::Reader::then_at, cse_image_parts::specs::Reader::done, crate::specs::Reading::zero_at, crate::specs::Reading::record_at))]
 fn record_of(bytes: &[u8]) -> Result<(RecordShape, &[u8]), FieldFault>
     ensures { GivesFault (λ x. (x.0, x.1.now)) result (record_at bytes.now) }
 {
@@ -82,7 +82,7 @@ fn records_in(
 }
 
 /// The table of records: their count, then each; and the bytes after it.
-#[tactic(auto, unfolding(cse_image_codec::specs::Reader::then_at, cse_image_codec::specs::Reader::counted))]
+#[tactic(auto, unfolding(cse_image_parts::specs::Reader::then_at, cse_image_parts::specs::Reader::counted))]
 pub fn records_of(alloc: Global, bytes: &[u8]) -> Result<(Vec<RecordShape>, &[u8]), ReadStop>
     ensures { Gives (λ x. (x.0.items, x.1.now)) result (counted MOST_RECORDS (λ _. record_at) bytes.now) }
 {
@@ -90,7 +90,7 @@ pub fn records_of(alloc: Global, bytes: &[u8]) -> Result<(Vec<RecordShape>, &[u8
     records_in(alloc, count, rest)
 }
 
-#[tactic(auto, unfolding(cse_image_codec::specs::Reader::decoded))]
+#[tactic(auto, unfolding(cse_image_parts::specs::Reader::decoded))]
 fn item_kind_of(bytes: &[u8]) -> Result<(ItemKind, &[u8]), FieldFault>
     ensures { GivesFault (λ x. (x.0, x.1.now)) result (decoded Form kind_of (number 1) bytes.now) }
 {
@@ -101,7 +101,7 @@ fn item_kind_of(bytes: &[u8]) -> Result<(ItemKind, &[u8]), FieldFault>
     }
 }
 
-#[tactic(auto, unfolding(cse_image_codec::specs::Reader::then_at, cse_image_codec::specs::Reader::done, crate::specs::Reading::item_at))]
+#[tactic(auto, unfolding(cse_image_parts::specs::Reader::then_at, cse_image_parts::specs::Reader::done, crate::specs::Reading::item_at))]
 fn item_of(bytes: &[u8]) -> Result<(ItemShape, &[u8]), FieldFault>
     ensures { GivesFault (λ x. (x.0, x.1.now)) result (item_at bytes.now) }
 {
@@ -134,7 +134,7 @@ fn items_in(alloc: Global, count: u32, bytes: &[u8]) -> Result<(Vec<ItemShape>, 
 }
 
 /// The table of items: their count, then each; and the bytes after it.
-#[tactic(auto, unfolding(cse_image_codec::specs::Reader::then_at, cse_image_codec::specs::Reader::counted))]
+#[tactic(auto, unfolding(cse_image_parts::specs::Reader::then_at, cse_image_parts::specs::Reader::counted))]
 pub fn items_of(alloc: Global, bytes: &[u8]) -> Result<(Vec<ItemShape>, &[u8]), ReadStop>
     ensures { Gives (λ x. (x.0.items, x.1.now)) result (counted MOST_ITEMS (λ _. item_at) bytes.now) }
 {
@@ -142,7 +142,7 @@ pub fn items_of(alloc: Global, bytes: &[u8]) -> Result<(Vec<ItemShape>, &[u8]), 
     items_in(alloc, count, rest)
 }
 
-#[tactic(auto, unfolding(cse_image_codec::specs::Reader::then_at, cse_image_codec::specs::Reader::done, crate::specs::Reading::zero_at, crate::specs::Reading::set_at))]
+#[tactic(auto, unfolding(cse_image_parts::specs::Reader::then_at, cse_image_parts::specs::Reader::done, crate::specs::Reading::zero_at, crate::specs::Reading::set_at))]
 fn set_of(bytes: &[u8]) -> Result<(SetShape, &[u8]), FieldFault>
     ensures { GivesFault (λ x. (x.0, x.1.now)) result (set_at bytes.now) }
 {
@@ -174,7 +174,7 @@ fn sets_in(alloc: Global, count: u32, bytes: &[u8]) -> Result<(Vec<SetShape>, &[
 }
 
 /// The table of value sets: their count, then each; and the bytes after it.
-#[tactic(auto, unfolding(cse_image_codec::specs::Reader::then_at, cse_image_codec::specs::Reader::counted))]
+#[tactic(auto, unfolding(cse_image_parts::specs::Reader::then_at, cse_image_parts::specs::Reader::counted))]
 pub fn sets_of(alloc: Global, bytes: &[u8]) -> Result<(Vec<SetShape>, &[u8]), ReadStop>
     ensures { Gives (λ x. (x.0.items, x.1.now)) result (counted MOST_SETS (λ _. set_at) bytes.now) }
 {

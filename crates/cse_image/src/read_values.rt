@@ -2,18 +2,14 @@
 
 ghost use Rattle.std.specs.Prelude.{◌≡◌, [], map};
 ghost use Rattle.std.specs.String.{string_bytes};
-ghost use Rattle.cse_image_codec.specs.Reader.{Gives, GivesFault, number, signed, checked, decoded, many, counted};
-ghost use Rattle.cse_image_codec.specs.declared.fault.Rule.TheVariants.{Form};
+ghost use Rattle.cse_image_parts.specs.Reader.{Gives, GivesFault, number, signed, checked, decoded, many, counted};
+ghost use Rattle.cse_image_parts.specs.declared.fault.Rule.TheVariants.{Form};
 ghost use Rattle.cse_image_parts.specs.Codes.{global_kind_of as kind_of};
 ghost use Rattle.cse_image_parts.specs.Fields.{fits_global_length};
 ghost use Rattle.cse_image_parts.specs.Image.{message_lists};
 ghost use Rattle.cse_image.specs.Reading.{limit_at, limits_at, characters_at, text_at, global_at, message_at};
 
 use crate::read_shape::flag_of;
-use cse_image_codec::{
-    FieldFault, ReadStop, Rule, broken, bytes_at, count_at, i64s_at, u8_at, u16_at, u32_at,
-    u32s_at, zero_u8_at,
-};
 use cse_image_parts::codes::global_kind_named;
 use cse_image_parts::entries::{GlobalKind, GlobalVariable, Message};
 use cse_image_parts::limits::{
@@ -23,10 +19,14 @@ use cse_image_parts::placeholders::are_few_placeholders;
 use cse_image_parts::rules::{is_right_global_length, is_right_limit};
 use cse_image_parts::texts::{is_short_text, plain_text};
 use cse_image_parts::version::Version;
+use cse_image_parts::{
+    FieldFault, ReadStop, Rule, broken, bytes_at, count_at, i64s_at, u8_at, u16_at, u32_at,
+    u32s_at, zero_u8_at,
+};
 use std::alloc::Global;
 
 /// The table of the edit order: how many records, then the place of each; and the bytes after it.
-#[tactic(auto, unfolding(cse_image_codec::specs::Reader::then_at, cse_image_codec::specs::Reader::counted))]
+#[tactic(auto, unfolding(cse_image_parts::specs::Reader::then_at, cse_image_parts::specs::Reader::counted))]
 pub fn order_of(alloc: Global, bytes: &[u8]) -> Result<(Vec<u32>, &[u8]), ReadStop>
     ensures { Gives (λ x. (x.0.items, x.1.now)) result (counted MOST_ORDER (λ _. number 4) bytes.now) }
 {
@@ -35,7 +35,7 @@ pub fn order_of(alloc: Global, bytes: &[u8]) -> Result<(Vec<u32>, &[u8]), ReadSt
 }
 
 /// The table of constants: their count, then each; and the bytes after it.
-#[tactic(auto, unfolding(cse_image_codec::specs::Reader::then_at, cse_image_codec::specs::Reader::counted))]
+#[tactic(auto, unfolding(cse_image_parts::specs::Reader::then_at, cse_image_parts::specs::Reader::counted))]
 pub fn constants_of(alloc: Global, bytes: &[u8]) -> Result<(Vec<i64>, &[u8]), ReadStop>
     ensures { Gives (λ x. (x.0.items, x.1.now)) result (counted MOST_CONSTANTS (λ _. signed) bytes.now) }
 {
@@ -44,7 +44,7 @@ pub fn constants_of(alloc: Global, bytes: &[u8]) -> Result<(Vec<i64>, &[u8]), Re
 }
 
 /// A limit of a counting loop.
-#[tactic(auto, unfolding(cse_image_codec::specs::Reader::checked, crate::specs::Reading::limit_at))]
+#[tactic(auto, unfolding(cse_image_parts::specs::Reader::checked, crate::specs::Reading::limit_at))]
 fn limit_of(bytes: &[u8]) -> Result<(u32, &[u8]), FieldFault>
     ensures { GivesFault (λ x. (x.0, x.1.now)) result (limit_at bytes.now) }
 {
@@ -69,7 +69,7 @@ fn limits_in(alloc: Global, count: u32, bytes: &[u8]) -> Result<(Vec<u32>, &[u8]
 }
 
 /// The table of limits, which version 1 has not.
-#[tactic(auto, unfolding(cse_image_codec::specs::Reader::then_at, cse_image_codec::specs::Reader::done, cse_image_codec::specs::Reader::counted, crate::specs::Reading::limits_at))]
+#[tactic(auto, unfolding(cse_image_parts::specs::Reader::then_at, cse_image_parts::specs::Reader::done, cse_image_parts::specs::Reader::counted, crate::specs::Reading::limits_at))]
 pub fn limits_of(
     alloc: Global,
     version: Version,
@@ -87,7 +87,7 @@ pub fn limits_of(
 }
 
 /// The characters of a text.
-#[tactic(auto, unfolding(cse_image_codec::specs::Reader::checked, crate::specs::Reading::characters_at))]
+#[tactic(auto, unfolding(cse_image_parts::specs::Reader::checked, crate::specs::Reading::characters_at))]
 fn characters_of(len: u16, bytes: &[u8]) -> Result<(&str, &[u8]), FieldFault>
     ensures { GivesFault (λ x. (x.0.now, x.1.now)) result (characters_at len bytes.now) }
 {
@@ -101,7 +101,7 @@ fn characters_of(len: u16, bytes: &[u8]) -> Result<(&str, &[u8]), FieldFault>
     Ok((text, rest))
 }
 
-#[tactic(auto, unfolding(cse_image_codec::specs::Reader::then_at, cse_image_codec::specs::Reader::done, crate::specs::Reading::text_at))]
+#[tactic(auto, unfolding(cse_image_parts::specs::Reader::then_at, cse_image_parts::specs::Reader::done, crate::specs::Reading::text_at))]
 fn text_of(alloc: Global, bytes: &[u8]) -> Result<(String, &[u8]), ReadStop>
     ensures { Gives (λ x. (string_bytes x.0, x.1.now)) result (text_at bytes.now) }
 {
@@ -124,7 +124,7 @@ fn texts_in(alloc: Global, count: u32, bytes: &[u8]) -> Result<(Vec<String>, &[u
 }
 
 /// The table of texts: their count, then each; and the bytes after it.
-#[tactic(auto, unfolding(cse_image_codec::specs::Reader::then_at, cse_image_codec::specs::Reader::counted))]
+#[tactic(auto, unfolding(cse_image_parts::specs::Reader::then_at, cse_image_parts::specs::Reader::counted))]
 pub fn texts_of(alloc: Global, bytes: &[u8]) -> Result<(Vec<String>, &[u8]), ReadStop>
     ensures { Gives (λ x. (map string_bytes x.0.items, x.1.now)) result (counted MOST_TEXTS (λ _. text_at) bytes.now) }
 {
@@ -132,7 +132,7 @@ pub fn texts_of(alloc: Global, bytes: &[u8]) -> Result<(Vec<String>, &[u8]), Rea
     texts_in(alloc, count, rest)
 }
 
-#[tactic(auto, unfolding(cse_image_codec::specs::Reader::decoded))]
+#[tactic(auto, unfolding(cse_image_parts::specs::Reader::decoded))]
 fn global_kind_of(bytes: &[u8]) -> Result<(GlobalKind, &[u8]), FieldFault>
     ensures { GivesFault (λ x. (x.0, x.1.now)) result (decoded Form kind_of (number 1) bytes.now) }
 {
@@ -143,7 +143,7 @@ fn global_kind_of(bytes: &[u8]) -> Result<(GlobalKind, &[u8]), FieldFault>
     }
 }
 
-#[tactic(auto, unfolding(cse_image_codec::specs::Reader::checked))]
+#[tactic(auto, unfolding(cse_image_parts::specs::Reader::checked))]
 fn global_length_of(kind: GlobalKind, bytes: &[u8]) -> Result<(u16, &[u8]), FieldFault>
     ensures { GivesFault (λ x. (x.0, x.1.now)) result (checked Form (fits_global_length kind) (number 2) bytes.now) }
 {
@@ -154,7 +154,7 @@ fn global_length_of(kind: GlobalKind, bytes: &[u8]) -> Result<(u16, &[u8]), Fiel
     Ok((length, rest))
 }
 
-#[tactic(auto, unfolding(cse_image_codec::specs::Reader::then_at, cse_image_codec::specs::Reader::done, crate::specs::Reading::zero_at, crate::specs::Reading::global_at))]
+#[tactic(auto, unfolding(cse_image_parts::specs::Reader::then_at, cse_image_parts::specs::Reader::done, crate::specs::Reading::zero_at, crate::specs::Reading::global_at))]
 fn global_of(bytes: &[u8]) -> Result<(GlobalVariable, &[u8]), FieldFault>
     ensures { GivesFault (λ x. (x.0, x.1.now)) result (global_at bytes.now) }
 {
@@ -182,7 +182,7 @@ fn globals_in(
 }
 
 /// The table of globals: their count, then each; and the bytes after it.
-#[tactic(auto, unfolding(cse_image_codec::specs::Reader::then_at, cse_image_codec::specs::Reader::counted))]
+#[tactic(auto, unfolding(cse_image_parts::specs::Reader::then_at, cse_image_parts::specs::Reader::counted))]
 pub fn globals_of(alloc: Global, bytes: &[u8]) -> Result<(Vec<GlobalVariable>, &[u8]), ReadStop>
     ensures { Gives (λ x. (x.0.items, x.1.now)) result (counted MOST_GLOBALS (λ _. global_at) bytes.now) }
 {
@@ -190,7 +190,7 @@ pub fn globals_of(alloc: Global, bytes: &[u8]) -> Result<(Vec<GlobalVariable>, &
     globals_in(alloc, count, rest)
 }
 
-#[tactic(auto, unfolding(cse_image_codec::specs::Reader::then_at, cse_image_codec::specs::Reader::done, cse_image_codec::specs::Reader::checked, crate::specs::Reading::zero_at, crate::specs::Reading::message_at))]
+#[tactic(auto, unfolding(cse_image_parts::specs::Reader::then_at, cse_image_parts::specs::Reader::done, cse_image_parts::specs::Reader::checked, crate::specs::Reading::zero_at, crate::specs::Reading::message_at))]
 fn message_of(alloc: Global, bytes: &[u8]) -> Result<(Message, &[u8]), ReadStop>
     ensures { Gives (λ x. (message_lists x.0, x.1.now)) result (message_at bytes.now) }
 {
@@ -226,7 +226,7 @@ fn messages_in(alloc: Global, count: u32, bytes: &[u8]) -> Result<(Vec<Message>,
 }
 
 /// The table of messages: their count, then each; and the bytes after it.
-#[tactic(auto, unfolding(cse_image_codec::specs::Reader::then_at, cse_image_codec::specs::Reader::counted))]
+#[tactic(auto, unfolding(cse_image_parts::specs::Reader::then_at, cse_image_parts::specs::Reader::counted))]
 pub fn messages_of(alloc: Global, bytes: &[u8]) -> Result<(Vec<Message>, &[u8]), ReadStop>
     ensures { Gives (λ x. (map message_lists x.0.items, x.1.now)) result (counted MOST_MESSAGES (λ _. message_at) bytes.now) }
 {

@@ -1,7 +1,7 @@
 //! The tables of an image: all sections but the code.
 
 ghost use Rattle.std.specs.Prelude.{◌≡◌, ◌≤◌, IfOk, map};
-ghost use Rattle.cse_image_codec.specs.Reader.{Gives};
+ghost use Rattle.cse_image_parts.specs.Reader.{Gives};
 ghost use Rattle.cse_image_parts.specs.Image.{routine_lists, lists_of};
 ghost use Rattle.cse_image_parts.specs.Fields.{instructions_in};
 ghost use Rattle.cse_image.specs.Reading.{lists_at};
@@ -10,7 +10,7 @@ use crate::read_arrays::arrays_of;
 use crate::read_routines::{events_of, routines_of};
 use crate::read_shape::{items_of, records_of, sets_of};
 use crate::read_values::{constants_of, globals_of, limits_of, messages_of, order_of, texts_of};
-use cse_image_codec::ReadStop;
+use cse_image_parts::ReadStop;
 use cse_image_parts::entries::{Routine, Tables};
 use cse_image_parts::limits::MOST_INSTRUCTIONS;
 use cse_image_parts::version::Version;

@@ -2,18 +2,18 @@
 
 ghost use Rattle.std.specs.Prelude.{◌≡◌, ◌<◌, ◌^◌, ◌++◌, length, OnOk};
 ghost use Rattle.std.specs.List.{All};
-ghost use Rattle.cse_image_codec.specs.Spelling.{section, u32 as u32_spelling, i64 as i64_spelling};
+ghost use Rattle.cse_image_parts.specs.Spelling.{section, u32 as u32_spelling, i64 as i64_spelling};
 ghost use Rattle.cse_image_parts.specs.declared.version.Version.TheVariants as versions;
 ghost use Rattle.cse_image_parts.specs.Image.{lists_of};
 ghost use Rattle.cse_image.specs.Spelling.{ListsFit, lists as lists_spelling};
 ghost use Rattle.cse_image.specs.Sections.{early_lists, late_lists};
 
 use crate::writing::{Entry, put_entries};
-use cse_image_codec::{put_i64s, put_u32, put_u32s};
 use cse_image_parts::entries::Tables;
+use cse_image_parts::{put_i64s, put_u32, put_u32s};
 use std::alloc::AllocError;
 
-#[tactic(auto, unfolding(cse_image_codec::specs::Spelling::section))]
+#[tactic(auto, unfolding(cse_image_parts::specs::Spelling::section))]
 fn section_of<E: Entry>(out: &mut Vec<u8>, entries: &[E]) -> Result<(), AllocError>
     requires count { length entries.now < 2 ^ 32 }
     requires each { All E.fits entries.now }
@@ -23,7 +23,7 @@ fn section_of<E: Entry>(out: &mut Vec<u8>, entries: &[E]) -> Result<(), AllocErr
     put_entries(out, entries)
 }
 
-#[tactic(auto, unfolding(cse_image_codec::specs::Spelling::section))]
+#[tactic(auto, unfolding(cse_image_parts::specs::Spelling::section))]
 fn section_of_u32s(out: &mut Vec<u8>, numbers: &[u32]) -> Result<(), AllocError>
     requires { length numbers.now < 2 ^ 32 }
     ensures { OnOk result (out.new.items ≡ out.old.items ++ section u32_spelling numbers.now) }
@@ -32,7 +32,7 @@ fn section_of_u32s(out: &mut Vec<u8>, numbers: &[u32]) -> Result<(), AllocError>
     put_u32s(out, numbers)
 }
 
-#[tactic(auto, unfolding(cse_image_codec::specs::Spelling::section))]
+#[tactic(auto, unfolding(cse_image_parts::specs::Spelling::section))]
 fn section_of_i64s(out: &mut Vec<u8>, numbers: &[i64]) -> Result<(), AllocError>
     requires { length numbers.now < 2 ^ 32 }
     ensures { OnOk result (out.new.items ≡ out.old.items ++ section i64_spelling numbers.now) }

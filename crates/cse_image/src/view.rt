@@ -2,7 +2,7 @@
 //! it is read.
 
 ghost use Rattle.std.specs.Prelude.{◌≡◌, ◌<◌, ◌≤◌, take, ◌-◌, List, Some, Ok, IfOk, length, map, slice_get};
-ghost use Rattle.cse_image_codec.specs.Reader.{Gives, GivesFault, each};
+ghost use Rattle.cse_image_parts.specs.Reader.{Gives, GivesFault, each};
 ghost use Rattle.cse_image_parts.specs.declared.instruction.Instr.{Instr as AnInstr};
 ghost use Rattle.cse_image_parts.specs.declared.version.Version.TheVariants as versions;
 ghost use Rattle.cse_image_parts.specs.Fields.{instructions_in};
@@ -19,11 +19,11 @@ use crate::program::Program;
 use crate::read_code::instr_of;
 use crate::read_shape::header_of;
 use crate::reading::{tables_of, total_of};
-use cse_image_codec::{FieldFault, ReadStop, Rule, broken};
 use cse_image_parts::entries::{Routine, Tables};
 use cse_image_parts::instruction::Instr;
 use cse_image_parts::limits::MOST_INSTRUCTIONS;
 use cse_image_parts::version::{Version, is_counting_loop};
+use cse_image_parts::{FieldFault, ReadStop, Rule, broken};
 use std::alloc::{AllocError, Global};
 use std::marker::Model;
 
@@ -220,7 +220,7 @@ fn view_code_of<'a>(
 }
 
 /// The version, the tables and the code that the bytes begin with, and what follows them.
-#[tactic(auto, unfolding(cse_image_codec::specs::Reader::then_at, cse_image_codec::specs::Reader::done, crate::specs::Reading::edition_at))]
+#[tactic(auto, unfolding(cse_image_parts::specs::Reader::then_at, cse_image_parts::specs::Reader::done, crate::specs::Reading::edition_at))]
 fn parts_of(alloc: Global, bytes: &[u8]) -> Result<((Version, Tables, &[u8]), &[u8]), ReadStop>
     ensures exact { Gives (λ x. (edition x.0.0 (image_with x.0.1 (code_in x.0.0 x.0.2.now)), x.1.now)) result (edition_at bytes.now) }
     ensures code { IfOk result (λ x. IsCodeOf x.0.0 (code_in x.0.0 x.0.2.now) x.0.2.now) }

@@ -3,12 +3,11 @@
 ghost use Rattle.std.specs.Prelude.{◌≡◌, ◌<◌, ◌^◌, ◌++◌, ℕ, List, length, OnOk, ⊤};
 ghost use Rattle.std.specs.List.{flat_map, All};
 ghost use Rattle.std.specs.String.{string_bytes};
-ghost use Rattle.cse_image_codec.specs.Spelling.{u16 as u16_spelling};
+ghost use Rattle.cse_image_parts.specs.Spelling.{u16 as u16_spelling};
 ghost use Rattle.cse_image_parts.specs.declared.version.Version.TheVariants as versions;
 ghost use Rattle.cse_image_parts.specs.Image.{array_lists, message_lists, routine_lists};
 ghost use Rattle.cse_image.specs.Spelling.{header, record_shape, item_shape, set_shape, text as text_spelling, global as global_spelling, array as array_spelling, message as message_spelling, local as local_spelling, routine as routine_spelling, event as event_spelling, instr as instr_spelling};
 
-use cse_image_codec::{put_bytes, put_i64s, put_u8, put_u16, put_u32};
 use cse_image_parts::codes::{
     ambient_number, event_code_number, flag_number, gift_number, global_kind_number,
     item_kind_number, local_kind_number,
@@ -17,6 +16,7 @@ use cse_image_parts::entries::{Array, EventEntry, GlobalVariable, Local, Message
 use cse_image_parts::instruction::Instr;
 use cse_image_parts::opcodes::op_number;
 use cse_image_parts::version::{Version, version_number};
+use cse_image_parts::{put_bytes, put_i64s, put_u8, put_u16, put_u32};
 use cse_value::shape::{ItemShape, RecordShape, SetShape};
 use std::alloc::AllocError;
 

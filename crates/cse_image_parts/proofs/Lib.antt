@@ -1,3 +1,6 @@
+pub mod Algebra
+pub mod Loop
+pub mod Places
 pub mod Names
 pub mod CodeLaws
 pub mod OpcodeLaws

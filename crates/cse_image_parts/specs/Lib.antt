@@ -1,3 +1,5 @@
+pub mod Reader
+pub mod Spelling
 pub mod Image
 pub mod Limits
 pub mod Codes

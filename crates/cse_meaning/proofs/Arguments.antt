@@ -13,7 +13,7 @@ use Rattle.cse_case.specs.Case.{CaseText}
 use Rattle.cse_code_typing.specs.declared.kind.Kind.TheVariants as kind
 use Rattle.cse_code_typing.specs.Kinds.{kind_by}
 use Rattle.cse_code_typing.specs.Order.{is_run}
-use Rattle.cse_compile_code.specs.Wide.{with_c}
+use Rattle.cse_compile.specs.Wide.{with_c}
 use Rattle.cse_steps.specs.Cell.{Cell, Number}
 use Rattle.cse_steps.specs.State.{Call, World}
 use Rattle.cse_steps.specs.Operands.{taken_by_kind, arguments_onto, arguments_taken}

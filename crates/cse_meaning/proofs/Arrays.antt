@@ -14,9 +14,9 @@ use Rattle.cse_image_parts.specs.Image.{ArrayLists}
 use Rattle.cse_case.specs.Case.{CaseText}
 use Rattle.cse_decks.specs.Store.{cells_of, cell_count, with_cell}
 use Rattle.cse_decks.proofs.StoreLaws.{cell_stays}
-use Rattle.cse_compile_code.specs.Wide.{with_a, with_c, pops}
-use Rattle.cse_compile_code.specs.Setting.{Setting, size_at}
-use Rattle.cse_compile_code.specs.Numbers.{count, behind}
+use Rattle.cse_compile.specs.Wide.{with_a, with_c, pops}
+use Rattle.cse_compile.specs.Setting.{Setting, size_at}
+use Rattle.cse_compile.specs.Expressions.{count, behind}
 use Rattle.cse_logic_tree.specs.Typed.{Numbers, no_number, number_and}
 use Rattle.cse_steps.specs.Cell.{Cell, Number, Index}
 use Rattle.cse_steps.specs.State.{Call, World, in_store}

@@ -17,10 +17,10 @@ use Rattle.cse_code_typing.specs.declared.kind.Kind.TheVariants as kind
 use Rattle.cse_code_typing.specs.Signature.{local_at}
 use Rattle.cse_logic_tree.specs.declared.tree.Variable.{Variable}
 use Rattle.cse_logic_tree.specs.declared.tree.Variable.TheVariants as v
-use Rattle.cse_compile_code.specs.Setting.{Setting, result_local}
-use Rattle.cse_compile_code.specs.Wide.{with_c}
-use Rattle.cse_compile_code.specs.Numbers.{store, number_size, number_code}
-use Rattle.cse_compile_code.specs.Statements.{statement_size, statement_code}
+use Rattle.cse_compile.specs.Setting.{Setting, result_local}
+use Rattle.cse_compile.specs.Wide.{with_c}
+use Rattle.cse_compile.specs.Expressions.{store, number_size, number_code}
+use Rattle.cse_compile.specs.Statements.{statement_size, statement_code}
 use Rattle.cse_meaning.specs.Fit.{IsNumberVariable}
 use Rattle.cse_meaning.proofs.Lengths.{number_length}
 use Rattle.cse_code_typing.specs.Code.{code_of}

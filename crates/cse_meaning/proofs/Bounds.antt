@@ -17,7 +17,7 @@ use Rattle.cse_code_typing.specs.Signature.{is_record}
 use Rattle.cse_logic_tree.specs.Typed.{Tree}
 use Rattle.cse_logic_names.specs.MessageFile.{MessageText}
 use Rattle.cse_verify.specs.Bound.{bound, bounds_below}
-use Rattle.cse_compile_code.specs.Outline.{Outline}
+use Rattle.cse_compile.specs.Outline.{Outline}
 use Rattle.cse_compile.specs.Program.{outlines, sizes}
 use Rattle.cse_meaning.specs.Checked.{IsCompiled, spot_for}
 use Rattle.cse_meaning.specs.Cost.{cost_by, costs_below, cost_of, HasFewDimensions, BoundsAreCosts}

@@ -27,7 +27,7 @@ use Rattle.cse_logic_names.specs.MessageFile.{MessageText}
 use Rattle.cse_verify.specs.Bound.{partial, bounds_below, bound}
 use Rattle.cse_verify.specs.Bounded.{IsBounded}
 use Rattle.cse_verify.specs.EventBound.{most_of_item as most_in, times_in_case, case_bound}
-use Rattle.cse_compile_code.specs.Outline.{Outline}
+use Rattle.cse_compile.specs.Outline.{Outline}
 use Rattle.cse_compile.specs.Program.{entry_of, outlines, sizes}
 use Rattle.cse_meaning.specs.Checked.{IsCompiled}
 use Rattle.cse_meaning.specs.Cost.{cost_of}

@@ -15,9 +15,9 @@ use Rattle.cse_logic_tree.specs.declared.tree.Found.{Found}
 use Rattle.cse_logic_tree.specs.declared.tree.Found.TheVariants as h
 use Rattle.cse_logic_tree.specs.declared.tree.Present.{Present}
 use Rattle.cse_logic_tree.specs.declared.tree.Present.TheVariants as p
-use Rattle.cse_compile_code.specs.Wide as w
-use Rattle.cse_compile_code.specs.Wide.{Wide, with_a, with_b, with_c, jump, undefined, occurrence, pops}
-use Rattle.cse_compile_code.specs.Numbers.{guarded, here_code, here_size, present_size, number_of_item, text_of_item}
+use Rattle.cse_compile.specs.Wide as w
+use Rattle.cse_compile.specs.Wide.{Wide, with_a, with_b, with_c, jump, undefined, occurrence, pops}
+use Rattle.cse_compile.specs.Expressions.{guarded, here_code, here_size, present_size, number_of_item, text_of_item}
 use Rattle.cse_meaning.specs.Fit.{Spot, IsFound, IsNumberPresent, IsTextPresent}
 use Rattle.cse_meaning.proofs.At.{HasAt, has_front, has_back}
 use Rattle.cse_meaning.proofs.WideRule.{Stack, wide_control, wide_skeleton, wide_rule, wide_in_loop}

@@ -11,8 +11,8 @@ use Rattle.cse_logic_tree.specs.Typed.{Which, Here, At, Argument, OfNumber, OfWo
 use Rattle.cse_logic_tree.specs.Typed.{Empty, Set, SetText, SetItem, SetTextItem, SetCell, CallOf, If, For, Do, Jump', Impute, PutDeck, ErrMsg, no_statement, statement_and, no_arm, else_of, arm}
 use Rattle.cse_logic_tree.specs.Erase.{erase_counting}
 use Rattle.cse_logic_tree.specs.Tokens.{counting_tokens}
-use Rattle.cse_compile_code.specs.Statements.{as_limit, head_size, known, turn_limit, statement_size, arms_size}
-use Rattle.cse_compile_code.proofs.Small.{exit_small, jump_code_small, jump_small, turns_small, entry_small}
+use Rattle.cse_compile.specs.Statements.{as_limit, head_size, known, turn_limit, statement_size, arms_size}
+use Rattle.cse_compile.proofs.Small.{exit_small, jump_code_small, jump_small, turns_small, entry_small}
 use Rattle.cse_meaning.specs.Fit.{Spot, over, StatementFits, BlockFits, ArmsFit}
 use Rattle.cse_meaning.specs.Steps.{number_calls, words_calls, numbers_calls, operations_calls, which_calls, argument_calls, arguments_calls, loop_steps, statement_steps, block_steps, arms_steps, routine_steps}
 use Rattle.cse_meaning.proofs.Standing.{within_may}

@@ -9,10 +9,10 @@ use Rattle.cse_case.specs.Case.{CaseText}
 use Rattle.cse_code_typing.specs.Code.{code_of}
 use Rattle.cse_code_typing.specs.Signature.{rows_of}
 use Rattle.cse_logic_tree.specs.declared.tree.Pick.{Pick}
-use Rattle.cse_compile_code.specs.Wide as wide
-use Rattle.cse_compile_code.specs.Wide.{Wide, pops}
-use Rattle.cse_compile_code.specs.Setting.{Setting}
-use Rattle.cse_compile_code.specs.Numbers.{present_size, number_of_item, can_fail, deepest, picks_size, picks_code}
+use Rattle.cse_compile.specs.Wide as wide
+use Rattle.cse_compile.specs.Wide.{Wide, pops}
+use Rattle.cse_compile.specs.Setting.{Setting}
+use Rattle.cse_compile.specs.Expressions.{present_size, number_of_item, can_fail, deepest, picks_size, picks_code}
 use Rattle.cse_meaning.specs.Fit.{row_count, ArePicks}
 use Rattle.cse_meaning.proofs.Lengths.{item_length, pops_length}
 use Rattle.cse_steps.specs.Cell.{Cell, Number}

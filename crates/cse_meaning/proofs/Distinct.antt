@@ -19,9 +19,9 @@ use Rattle.cse_logic_tree.specs.declared.tree.Owner.{Owner}
 use Rattle.cse_logic_tree.specs.declared.tree.Owner.TheVariants as owners
 use Rattle.cse_logic_tree.specs.Erase.{erase_body}
 use Rattle.cse_logic_tree.specs.Typed.{Statements, Body, Plain, Preproc, Both, Postproc, Procedure}
-use Rattle.cse_compile_code.specs.declared.outlines.RoutineSort.TheVariants as sorts
-use Rattle.cse_compile_code.specs.Outline.{Handler, is_idle, event_of, handler_of, handlers_of_body, handlers_in}
-use Rattle.cse_compile_code.specs.Events.{is_key}
+use Rattle.cse_compile.specs.declared.outlines.RoutineSort.TheVariants as sorts
+use Rattle.cse_compile.specs.Outline.{Handler, is_idle, event_of, handler_of, handlers_of_body, handlers_in}
+use Rattle.cse_compile.specs.Events.{is_key}
 use Rattle.cse_logic_names.specs.declared.meaning.Meaning.{Meaning}
 use Rattle.cse_logic_names.specs.declared.meaning.Meaning.TheVariants as m
 use Rattle.cse_logic_names.specs.Scope.{Scope, first_of, in_dictionary, kind_and_owner}

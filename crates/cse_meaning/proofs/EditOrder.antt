@@ -9,7 +9,7 @@ use Rattle.std.proofs.lemmas.List.Sums.{sum_by-cons, sum_by-append}
 use Rattle.std.proofs.lemmas.Option.{none-some}
 use Rattle.cse_dict.specs.Dictionary.{DictionaryText, RecordText, shape_of, record_names}
 use Rattle.cse_dict.specs.Keys.{kept_name}
-use Rattle.cse_compile_code.specs.Order.{is_named, unless_named, edit_order}
+use Rattle.cse_compile.specs.Order.{is_named, unless_named, edit_order}
 use Rattle.cse_logic_names.specs.OrderFile.{record_in, is_there}
 use Rattle.cse_code_typing.specs.Order.{NamesEachOnce}
 use Rattle.cse_meaning.specs.Sound.{OrdersNameAll}

@@ -21,12 +21,12 @@ use Rattle.cse_logic_tree.specs.declared.tree.Owner.{Owner}
 use Rattle.cse_logic_tree.specs.declared.tree.Owner.TheVariants as owners
 use Rattle.cse_logic_tree.specs.declared.tree.Field.{Field}
 use Rattle.cse_logic_tree.specs.Typed.{Statements, Tree}
-use Rattle.cse_compile_code.specs.declared.outlines.RoutineSort.TheVariants as sorts
-use Rattle.cse_compile_code.specs.Outline.{Outline, event_of, routine_of as routine_for}
-use Rattle.cse_compile_code.specs.Tables.{functions_in}
-use Rattle.cse_compile_code.specs.Setting.{Setting}
-use Rattle.cse_compile_code.specs.Routines.{no_loop, routine_code}
-use Rattle.cse_compile_code.specs.Statements.{block_size, block_code, exit_code}
+use Rattle.cse_compile.specs.declared.outlines.RoutineSort.TheVariants as sorts
+use Rattle.cse_compile.specs.Outline.{Outline, event_of, routine_of as routine_for}
+use Rattle.cse_compile.specs.Tables.{functions_in}
+use Rattle.cse_compile.specs.Setting.{Setting}
+use Rattle.cse_compile.specs.Routines.{no_loop, routine_code}
+use Rattle.cse_compile.specs.Statements.{block_size, block_code, exit_code}
 use Rattle.cse_meaning.proofs.TypedBlocks.{block_length}
 use Rattle.cse_steps.specs.Cell.{Cell, Occurrence}
 use Rattle.cse_steps.specs.State.{Call, World, State}

@@ -17,7 +17,7 @@ use Rattle.cse_code_typing.specs.Kinds.{global_kind}
 use Rattle.cse_code_typing.specs.Order.{is_run}
 use Rattle.cse_code_typing.specs.Signature.{global_at}
 use Rattle.cse_verify.specs.Verified.{VerifiedProgram}
-use Rattle.cse_compile_code.specs.Setting.{Setting}
+use Rattle.cse_compile.specs.Setting.{Setting}
 use Rattle.cse_steps.specs.Cell.{Number}
 use Rattle.cse_steps.specs.State.{World}
 use Rattle.cse_steps.specs.Fits.{FitsWorld, occurrences_in}

@@ -19,11 +19,11 @@ use Rattle.cse_code_typing.specs.Order.{is_run}
 use Rattle.cse_verify.specs.Verified.{VerifiedProgram}
 use Rattle.cse_logic_tree.specs.declared.tree.Variable.TheVariants as v
 use Rattle.cse_logic_tree.specs.Typed.{Function}
-use Rattle.cse_compile_code.specs.Outline.{outline_of, routine_of, numbers, number_local}
-use Rattle.cse_compile_code.proofs.SectionLists.{result_there}
-use Rattle.cse_compile_code.specs.Setting.{Setting}
-use Rattle.cse_compile_code.specs.Routines.{no_loop, routine_code}
-use Rattle.cse_compile_code.specs.Statements.{block_size, block_code, exit_code}
+use Rattle.cse_compile.specs.Outline.{outline_of, routine_of, numbers, number_local}
+use Rattle.cse_compile.proofs.SectionLists.{result_there}
+use Rattle.cse_compile.specs.Setting.{Setting}
+use Rattle.cse_compile.specs.Routines.{no_loop, routine_code}
+use Rattle.cse_compile.specs.Statements.{block_size, block_code, exit_code}
 use Rattle.cse_meaning.proofs.TypedBlocks.{block_length}
 use Rattle.cse_steps.specs.Cell.{Cell, Number}
 use Rattle.cse_steps.specs.State.{Call, World}

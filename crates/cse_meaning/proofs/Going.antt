@@ -19,9 +19,9 @@ use Rattle.cse_syntax_tree.specs.declared.tree.Relation.{Relation}
 use Rattle.cse_syntax_tree.specs.declared.tree.Relation.TheVariants as relations
 use Rattle.cse_syntax_tree.specs.declared.tree.Special.{Special}
 use Rattle.cse_syntax_tree.specs.declared.tree.Special.TheVariants as specials
-use Rattle.cse_compile_code.specs.Wide as wide
-use Rattle.cse_compile_code.specs.Wide.{Wide, bare, with_a, with_c}
-use Rattle.cse_compile_code.specs.Numbers.{special_number, relation_number, operation_of}
+use Rattle.cse_compile.specs.Wide as wide
+use Rattle.cse_compile.specs.Wide.{Wide, bare, with_a, with_c}
+use Rattle.cse_compile.specs.Expressions.{special_number, relation_number, operation_of}
 use Rattle.cse_steps.specs.Cell.{Cell, Number, Words}
 use Rattle.cse_steps.specs.State.{Call, World, State}
 use Rattle.cse_steps.specs.Operands as operands

@@ -15,7 +15,7 @@ use Rattle.cse_code_typing.specs.Signature.{local_at}
 use Rattle.cse_verify.specs.Verified.{VerifiedProgram}
 use Rattle.cse_logic_tree.specs.declared.tree.Variable.{Variable}
 use Rattle.cse_logic_tree.specs.declared.tree.Variable.TheVariants as v
-use Rattle.cse_compile_code.specs.Setting.{Setting, result_local}
+use Rattle.cse_compile.specs.Setting.{Setting, result_local}
 use Rattle.cse_meaning.specs.Fit.{IsNumberVariable}
 use Rattle.cse_steps.specs.Cell.{Cell, Number}
 use Rattle.cse_steps.specs.State.{World, in_store}

@@ -13,8 +13,8 @@ use Rattle.cse_syntax_tree.specs.Grammar.{Spells, Each, AreGlobals, AreStmts, Is
 use Rattle.cse_logic_tree.specs.declared.tree.Owner.{Owner}
 use Rattle.cse_logic_tree.specs.Typed.{Statements, Declaration, Numeric, Alpha, Array', Function', Body, Plain, Preproc, Both, Postproc, Procedure, Tree}
 use Rattle.cse_logic_tree.specs.Erase.{erase_block, erase_array, erase_declaration, erase_body, erase_procedure, erase_tree}
-use Rattle.cse_compile_code.specs.declared.outlines.RoutineSort.TheVariants as sorts
-use Rattle.cse_compile_code.specs.Outline.{Outline, Handler, functions_in, is_idle, event_of, handler_of, handlers_of_body, handlers_in}
+use Rattle.cse_compile.specs.declared.outlines.RoutineSort.TheVariants as sorts
+use Rattle.cse_compile.specs.Outline.{Outline, Handler, functions_in, is_idle, event_of, handler_of, handlers_of_body, handlers_in}
 use Rattle.cse_logic_names.specs.MessageFile.{MessageText}
 use Rattle.cse_logic_names.specs.Scope.{Scope}
 use Rattle.cse_logic_names.specs.WellTyped.{AreStatements, AreDeclared, AreProcedures, IsBody, IsWell, all_declarations, typed_declarations, function_scope, with_function, procedure_scope, messages_of, declared_messages, procedure_messages, body_messages, tree_messages, first_scope, with_functions}

@@ -12,9 +12,9 @@ use Rattle.cse_case.specs.Case.{CaseText, places_of, place_of, number_at, text_a
 use Rattle.cse_code_typing.specs.Signature.{id_number, id_text, number_item, text_item, is_record}
 use Rattle.cse_logic_tree.specs.declared.tree.Found.{Found}
 use Rattle.cse_logic_tree.specs.declared.tree.Found.TheVariants as h
-use Rattle.cse_compile_code.specs.Wide.{Wide, with_a, with_c}
-use Rattle.cse_compile_code.specs.Setting.{Setting}
-use Rattle.cse_compile_code.specs.Numbers.{guarded, here_size, here_code}
+use Rattle.cse_compile.specs.Wide.{Wide, with_a, with_c}
+use Rattle.cse_compile.specs.Setting.{Setting}
+use Rattle.cse_compile.specs.Expressions.{guarded, here_size, here_code}
 use Rattle.cse_meaning.specs.Fit.{IsFound}
 use Rattle.cse_steps.specs.Cell.{Cell, Number, Words, Occurrence}
 use Rattle.cse_steps.specs.State.{Call, World}

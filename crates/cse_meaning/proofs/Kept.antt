@@ -10,8 +10,8 @@ use Rattle.cse_value.specs.Number.{fits_i64, is_zero}
 use Rattle.cse_value.specs.Occurrences.{most_occurrences}
 use Rattle.cse_syntax_tree.specs.declared.tree.Count.TheVariants as counts
 use Rattle.cse_logic_tree.specs.Typed.{Limit, Fixed, Counted, Counting}
-use Rattle.cse_compile_code.specs.Statements as emit
-use Rattle.cse_compile_code.specs.Statements.{as_limit, least, greatest}
+use Rattle.cse_compile.specs.Statements as emit
+use Rattle.cse_compile.specs.Statements.{as_limit, least, greatest}
 use Rattle.cse_meaning.specs.Statements.{no_less, turns}
 use Rattle.cse_meaning.specs.Plain.{MayBe, KeepsTurns}
 use Rattle.cse_meaning.proofs.Turns.{uncut}

@@ -17,11 +17,11 @@ use Rattle.cse_logic_tree.specs.declared.tree.Variable.TheVariants as v
 use Rattle.cse_logic_tree.specs.Typed as tree
 use Rattle.cse_logic_tree.specs.Typed.{Limit, Fixed, Counted, Counting, Which, Statement, Statements, Arms}
 use Rattle.cse_logic_tree.specs.Typed.{Empty, Set, SetText, SetItem, SetTextItem, SetCell, CallOf, If, For, Do, Jump', Impute, PutDeck, ErrMsg, no_statement, statement_and, no_arm, else_of, arm}
-use Rattle.cse_compile_code.specs.Wide.{Wide, with_c, jump, jump_size, jump_over}
-use Rattle.cse_compile_code.specs.Setting.{Setting, result_local}
-use Rattle.cse_compile_code.specs.declared.setting.Loop.{Loop}
-use Rattle.cse_compile_code.specs.Numbers.{store, number_size, number_code}
-use Rattle.cse_compile_code.specs.Statements.{exit_code_by, front_size, front_code, guard_size, guard_code}
+use Rattle.cse_compile.specs.Wide.{Wide, with_c, jump, jump_size, jump_over}
+use Rattle.cse_compile.specs.Setting.{Setting, result_local}
+use Rattle.cse_compile.specs.declared.setting.Loop.{Loop}
+use Rattle.cse_compile.specs.Expressions.{store, number_size, number_code}
+use Rattle.cse_compile.specs.Statements.{exit_code_by, front_size, front_code, guard_size, guard_code}
 use Rattle.cse_meaning.specs.Fit.{IsExit, IsNumberVariable, NumberFits}
 use Rattle.cse_meaning.proofs.Lengths.{number_length}
 use Rattle.cse_meaning.proofs.TypedBlocks.{front_length}

@@ -12,9 +12,9 @@ use Rattle.cse_logic_tree.specs.declared.tree.Pick.{Pick}
 use Rattle.cse_logic_tree.specs.Typed.{Number, Words, Numbers, Operations, Constant, Special', Variable', Item, ItemAt, Cell, Call, Group, Int, IsSpecial, Deck, TotOcc, MaxOcc, CurOcc, InSet, Minus, Not, Compare, CompareTexts, Chain}
 use Rattle.cse_logic_tree.specs.Typed.{Quoted, TextGlobal, TextItem, TextItemAt, TextGroup, no_number, number_and, no_operation, operation_and}
 use Rattle.cse_image_parts.specs.declared.instruction.Op.TheVariants as ops
-use Rattle.cse_compile_code.specs.Wide.{Wide, pops, undefined, with_c, jump}
-use Rattle.cse_compile_code.specs.Setting.{Setting}
-use Rattle.cse_compile_code.specs.Numbers.{here_code, here_size, present_size, number_of_item, text_of_item, can_fail, deepest, row, picks_size, picks_code, deck_size, deck_code, count, behind, number_size, words_size, numbers_size, indexes_size, operations_size, number_code, words_code, numbers_code, indexes_code, operations_code}
+use Rattle.cse_compile.specs.Wide.{Wide, pops, undefined, with_c, jump}
+use Rattle.cse_compile.specs.Setting.{Setting}
+use Rattle.cse_compile.specs.Expressions.{here_code, here_size, present_size, number_of_item, text_of_item, can_fail, deepest, row, picks_size, picks_code, deck_size, deck_code, count, behind, number_size, words_size, numbers_size, indexes_size, operations_size, number_code, words_code, numbers_code, indexes_code, operations_code}
 use Rattle.cse_meaning.specs.Fit.{Spot}
 use Rattle.cse_meaning.proofs.WideRule.{Stack}
 use Rattle.cse_meaning.proofs.Stacks.{here_stacks, present_stacks, pick_index, picks_stacks, picks_after, picks_left, deck_stacks, indexes_after, cell_index, left_behind, indexes_left, number_stacks, words_stacks, numbers_stacks, indexes_stacks, operations_stacks}

@@ -14,12 +14,12 @@ use Rattle.cse_logic_tree.specs.declared.tree.Variable.TheVariants as v
 use Rattle.cse_logic_tree.specs.Typed as tree
 use Rattle.cse_logic_tree.specs.Typed.{Limit, Fixed, Counted, Counting, Which, Statement, Statements, Arms}
 use Rattle.cse_logic_tree.specs.Typed.{Empty, Set, SetText, SetItem, SetTextItem, SetCell, CallOf, If, For, Do, Jump', Impute, PutDeck, ErrMsg, no_statement, statement_and, no_arm, else_of, arm}
-use Rattle.cse_compile_code.specs.Wide as wide
-use Rattle.cse_compile_code.specs.Wide.{pops, Wide, bare, with_a, with_c, jump, jump_size, jump_over}
-use Rattle.cse_compile_code.specs.Setting.{Setting}
-use Rattle.cse_compile_code.specs.declared.setting.Loop.{Loop}
-use Rattle.cse_compile_code.specs.Numbers.{store, number_size, number_code}
-use Rattle.cse_compile_code.specs.Statements.{step_code, loop_to}
+use Rattle.cse_compile.specs.Wide as wide
+use Rattle.cse_compile.specs.Wide.{pops, Wide, bare, with_a, with_c, jump, jump_size, jump_over}
+use Rattle.cse_compile.specs.Setting.{Setting}
+use Rattle.cse_compile.specs.declared.setting.Loop.{Loop}
+use Rattle.cse_compile.specs.Expressions.{store, number_size, number_code}
+use Rattle.cse_compile.specs.Statements.{step_code, loop_to}
 use Rattle.cse_meaning.specs.Fit.{IsNumberVariable}
 use Rattle.cse_steps.specs.Cell.{Cell, Number}
 use Rattle.cse_steps.specs.State.{Open, Call, World}

@@ -16,9 +16,9 @@ use Rattle.cse_code_typing.specs.Kinds.{argument_kind}
 use Rattle.cse_code_typing.specs.Code.{code_of}
 use Rattle.cse_verify.specs.Verified.{VerifiedProgram}
 use Rattle.cse_logic_tree.specs.Typed.{Argument, OfNumber, OfWords}
-use Rattle.cse_compile_code.specs.Wide.{with_c}
-use Rattle.cse_compile_code.specs.Setting.{Setting}
-use Rattle.cse_compile_code.specs.Statements.{argument_size, argument_code, arguments_size, arguments_code}
+use Rattle.cse_compile.specs.Wide.{with_c}
+use Rattle.cse_compile.specs.Setting.{Setting}
+use Rattle.cse_compile.specs.Statements.{argument_size, argument_code, arguments_size, arguments_code}
 use Rattle.cse_meaning.specs.Fit.{kind_of, ArgumentFits, ArgumentsFit}
 use Rattle.cse_meaning.proofs.TypedBlocks.{argument_length}
 use Rattle.cse_steps.specs.Cell.{Cell, Number, Words}

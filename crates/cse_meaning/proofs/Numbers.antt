@@ -32,7 +32,7 @@ use Rattle.cse_logic_names.specs.Scope.{Scope, Facts, meant, variable_named, var
 use Rattle.cse_logic_names.specs.Uses.{Use, Calls, facts_need, needs_case, uses, uses_words, uses_all, uses_operations}
 use Rattle.cse_logic_names.specs.WellTyped as t
 use Rattle.cse_logic_names.specs.WellTyped.{IsField, IsPresent, IsNumberSet, set_kind, kind_of, whole_set, AreDeckPicks, dimensions_of, may_call, suits, IsNumber, IsWords, AreNumbers, AreOperands}
-use Rattle.cse_compile_code.specs.Numbers.{count}
+use Rattle.cse_compile.specs.Expressions.{count}
 use Rattle.cse_meaning.specs.Fit.{Spot, HasCase, IsFound, IsEntry, IsNumberVariable, IsNumberField, IsTextField, IsNumberPresent, IsTextPresent, IsArray, ArePicks, row_count, IsDeck, numbers_kinds, IsFunction, NumberFits, WordsFit, NumbersFit, OperationsFit}
 use Rattle.cse_meaning.proofs.Agrees.{MeaningFits, SizesFit, FunctionFits, Agrees, Cased, cased_left, cased_right, cased_call, cased_tail, cased_here}
 

@@ -8,8 +8,8 @@ use Rattle.cse_code_typing.specs.declared.kind.Kind.TheVariants as k
 use Rattle.cse_code_typing.specs.Kinds.{below}
 use Rattle.cse_logic_tree.specs.declared.tree.Pick.{Pick}
 use Rattle.cse_logic_tree.specs.Typed.{Numbers, no_number, number_and}
-use Rattle.cse_compile_code.specs.Setting.{size_at}
-use Rattle.cse_compile_code.specs.Numbers.{count}
+use Rattle.cse_compile.specs.Setting.{size_at}
+use Rattle.cse_compile.specs.Expressions.{count}
 use Rattle.cse_meaning.specs.Fit.{Spot, ArePicks, numbers_kinds, row_count}
 use Rattle.cse_meaning.proofs.WideRule.{Stack}
 use Rattle.cse_meaning.proofs.Rules.{below_one, piled}

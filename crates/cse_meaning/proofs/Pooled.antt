@@ -8,13 +8,13 @@ use Rattle.cse_image_parts.specs.declared.instruction.Op.TheVariants as ops
 use Rattle.cse_image_parts.specs.declared.instruction.Instr.{Instr}
 use Rattle.cse_image_parts.specs.declared.version.Version.TheVariants as versions
 use Rattle.cse_image.specs.Spelling.{InstrFits, LimitFits, TextFits}
-use Rattle.cse_compile_code.specs.Pools.{PoolLists, PoolsFit}
-use Rattle.cse_compile_code.specs.Wide.{Wide, Constant, Chars, Turns, Plain}
+use Rattle.cse_compile.specs.Pools.{PoolLists, PoolsFit}
+use Rattle.cse_compile.specs.Wide.{Wide, Constant, Chars, Turns, Plain}
 use Rattle.cse_meaning.proofs.At.{HasAt, has_self}
 use Rattle.cse_compile.specs.Stands.{AllStand, instr}
 use Rattle.cse_compile.proofs.Spelled.{constant_fits, text_fits, turns_fit}
 use Rattle.cse_meaning.specs.Entries.{Table, Constants, Limits, Texts, entries}
-use Rattle.cse_image_codec.proofs.Algebra.{each_after}
+use Rattle.cse_image_parts.proofs.Algebra.{each_after}
 
 abbrev pub constants_of : List Wide → List ℤ
 constants_of [] = []

@@ -13,10 +13,10 @@ use Rattle.cse_logic_tree.specs.declared.tree.Field.{Field}
 use Rattle.cse_logic_tree.specs.declared.tree.Found.{Found}
 use Rattle.cse_logic_tree.specs.declared.tree.Present.{Present}
 use Rattle.cse_logic_tree.specs.declared.tree.Present.TheVariants as present
-use Rattle.cse_compile_code.specs.Wide as wide
-use Rattle.cse_compile_code.specs.Wide.{with_a, with_b, with_c, undefined}
-use Rattle.cse_compile_code.specs.Setting.{Setting}
-use Rattle.cse_compile_code.specs.Numbers.{guarded, here_size, here_code, present_size, number_of_item, text_of_item}
+use Rattle.cse_compile.specs.Wide as wide
+use Rattle.cse_compile.specs.Wide.{with_a, with_b, with_c, undefined}
+use Rattle.cse_compile.specs.Setting.{Setting}
+use Rattle.cse_compile.specs.Expressions.{guarded, here_size, here_code, present_size, number_of_item, text_of_item}
 use Rattle.cse_meaning.specs.Fit.{IsEntry, IsRecord, IsFound, IsNumberField, IsTextField, IsNumberPresent, IsTextPresent}
 use Rattle.cse_steps.specs.Cell.{Cell, Number, Words, Occurrence}
 use Rattle.cse_steps.specs.State.{Call, World}

@@ -15,8 +15,8 @@ use Rattle.cse_image_parts.specs.declared.entries.EventCode.TheVariants as codes
 use Rattle.cse_dict.specs.Dictionary.{DictionaryText, RecordText, ItemText, shape_of}
 use Rattle.cse_code_typing.specs.Handlers.{is_of, routine_of}
 use Rattle.cse_code_typing.proofs.HandlerLaws.{one_code}
-use Rattle.cse_compile_code.specs.Outline.{Handler}
-use Rattle.cse_compile_code.specs.Events.{Table, is_key, with_event, table_from, routine_at, entry_of, entry_at, entries_below, entries_in}
+use Rattle.cse_compile.specs.Outline.{Handler}
+use Rattle.cse_compile.specs.Events.{Table, is_key, with_event, table_from, routine_at, entry_of, entry_at, entries_below, entries_in}
 use Rattle.cse_compile.specs.Numbers.{key_of}
 use Rattle.cse_compile.proofs.NumberLaws.{key_other}
 use Rattle.cse_meaning.specs.Means.{IsEventOf}

@@ -15,13 +15,13 @@ use Rattle.cse_verify.specs.Verified.{VerifiedProgram}
 use Rattle.cse_logic_tree.specs.declared.tree.Owner.{Owner}
 use Rattle.cse_logic_tree.specs.Typed.{Statements, Function, Declaration, Numeric, Alpha, Array', Function', Body, Plain, Preproc, Both, Postproc, Procedure, Tree}
 use Rattle.cse_logic_names.specs.MessageFile.{MessageText}
-use Rattle.cse_compile_code.specs.declared.outlines.RoutineSort.TheVariants as sorts
-use Rattle.cse_compile_code.specs.Tables as tables
-use Rattle.cse_compile_code.specs.Tables.{arrays_in}
-use Rattle.cse_compile_code.specs.Outline as outline
-use Rattle.cse_compile_code.specs.Outline.{Outline, Handler, outline_of, is_idle, event_of, handler_of, handlers_of_body, handlers_in, routine_of}
-use Rattle.cse_compile_code.specs.Routines.{routine_size}
-use Rattle.cse_compile_code.specs.Wide.{Wide}
+use Rattle.cse_compile.specs.declared.outlines.RoutineSort.TheVariants as sorts
+use Rattle.cse_compile.specs.Tables as tables
+use Rattle.cse_compile.specs.Tables.{arrays_in}
+use Rattle.cse_compile.specs.Outline as outline
+use Rattle.cse_compile.specs.Outline.{Outline, Handler, outline_of, is_idle, event_of, handler_of, handlers_of_body, handlers_in, routine_of}
+use Rattle.cse_compile.specs.Routines.{routine_size}
+use Rattle.cse_compile.specs.Wide.{Wide}
 use Rattle.cse_meaning.specs.Stands.{AllStand}
 use Rattle.cse_compile.specs.Program as program
 use Rattle.cse_compile.specs.Program.{outlines, sizes, setting_for, entry_of, handlers}

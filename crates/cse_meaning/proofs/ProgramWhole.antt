@@ -25,10 +25,10 @@ use Rattle.cse_logic_tree.specs.declared.tree.Owner.TheVariants as owners
 use Rattle.cse_logic_tree.specs.Typed.{Tree}
 use Rattle.cse_logic_names.specs.MessageFile.{MessageText}
 use Rattle.cse_logic_names.specs.WellTyped.{with_functions, first_scope, typed_declarations}
-use Rattle.cse_compile_code.specs.declared.outlines.RoutineSort.TheVariants as sorts
-use Rattle.cse_compile_code.specs.Outline as outline
-use Rattle.cse_compile_code.specs.Outline.{Outline, Handler, event_of}
-use Rattle.cse_compile_code.specs.Events.{Table, is_key, table_from, routine_at}
+use Rattle.cse_compile.specs.declared.outlines.RoutineSort.TheVariants as sorts
+use Rattle.cse_compile.specs.Outline as outline
+use Rattle.cse_compile.specs.Outline.{Outline, Handler, event_of}
+use Rattle.cse_compile.specs.Events.{Table, is_key, table_from, routine_at}
 use Rattle.cse_compile.specs.Numbers.{key_of}
 use Rattle.cse_compile.specs.Program as program
 use Rattle.cse_compile.specs.Program.{handlers}

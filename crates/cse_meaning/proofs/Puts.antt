@@ -16,10 +16,10 @@ use Rattle.cse_code_typing.specs.Signature.{number_item, text_item, is_record}
 use Rattle.cse_logic_tree.specs.declared.tree.Field.{Field}
 use Rattle.cse_logic_tree.specs.declared.tree.Found.TheVariants as h
 use Rattle.cse_logic_tree.specs.Typed.{Which, Here, At}
-use Rattle.cse_compile_code.specs.Wide.{with_c, occurrence}
-use Rattle.cse_compile_code.specs.Setting.{Setting}
-use Rattle.cse_compile_code.specs.Numbers.{number_size, number_code}
-use Rattle.cse_compile_code.specs.Statements.{which_size, which_code}
+use Rattle.cse_compile.specs.Wide.{with_c, occurrence}
+use Rattle.cse_compile.specs.Setting.{Setting}
+use Rattle.cse_compile.specs.Expressions.{number_size, number_code}
+use Rattle.cse_compile.specs.Statements.{which_size, which_code}
 use Rattle.cse_meaning.specs.Fit.{IsEntry, IsRecord, WhichFits}
 use Rattle.cse_meaning.proofs.Lengths.{number_length}
 use Rattle.cse_steps.specs.Cell.{Cell, Number, Words, Occurrence}

@@ -13,7 +13,7 @@ use Rattle.cse_image_parts.specs.Fields.{product, cells_in}
 use Rattle.cse_image_parts.specs.Image.{ArrayLists}
 use Rattle.cse_image_parts.specs.Limits.{most_cells}
 use Rattle.cse_image_parts.specs.Texts.{is_name, is_new}
-use Rattle.cse_image_codec.specs.Reader.{AllAfter}
+use Rattle.cse_image_parts.specs.Reader.{AllAfter}
 use Rattle.cse_image.specs.Spelling.{ArrayFits, DimensionFits}
 use Rattle.cse_dict.specs.Dictionary.{SetText as ValueSet}
 use Rattle.cse_syntax_tree.specs.Grammar.{Each, IsSome, IsDeclaration}
@@ -22,7 +22,7 @@ use Rattle.cse_syntax_tree.specs.Tree.{Spelling}
 use Rattle.cse_syntax_tree.proofs.Digits.{number_within}
 use Rattle.cse_logic_tree.specs.Typed.{Whole, Dimension, Sized, Rows, Declaration, Numeric, Alpha, Array', Function'}
 use Rattle.cse_logic_tree.specs.Erase.{erase_block, erase_dimension, erase_declaration}
-use Rattle.cse_compile_code.specs.Tables.{size_of, cell_of, arrays_in}
+use Rattle.cse_compile.specs.Tables.{size_of, cell_of, arrays_in}
 use Rattle.cse_logic_names.specs.Scope.{Scope}
 use Rattle.cse_logic_names.specs.WellTyped as t
 use Rattle.cse_logic_names.specs.WellTyped.{IsWhole, IsDimension, AreDeclared, one_if, rows_of, size_in, with_function, messages_of}

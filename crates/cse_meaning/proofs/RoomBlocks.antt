@@ -13,12 +13,12 @@ use Rattle.cse_logic_tree.specs.declared.tree.Found.TheVariants as h
 use Rattle.cse_logic_tree.specs.Typed.{Which, Here, At, Argument, OfNumber, OfWords, Limit, Fixed, Counted, Counting, Statement, Statements, Arms}
 use Rattle.cse_logic_tree.specs.Typed.{Empty, Set, SetText, SetItem, SetTextItem, SetCell, CallOf, If, For, Do, Jump', Impute, PutDeck, ErrMsg, no_statement, statement_and, no_arm, else_of, arm}
 use Rattle.cse_code_typing.specs.declared.kind.Kind.TheVariants as kind
-use Rattle.cse_compile_code.specs.Wide.{Wide, with_c, pops, jump_size, jump_over}
-use Rattle.cse_compile_code.specs.declared.setting.Loop.{Loop}
-use Rattle.cse_compile_code.specs.Numbers.{behind, deepest, count, number_size, words_size, numbers_size, indexes_size, picks_size, number_code, words_code, numbers_code, indexes_code, picks_code}
-use Rattle.cse_compile_code.specs.Statements.{which_size, which_code, drops_size, drops_code, argument_size, argument_code, arguments_size, arguments_code, known, limit_code, least, greatest, turns, turns_code_by, head_size, head_code, step_code, exit_code_by, exit_code, jump_code, front_size, guard_size, front_code, guard_code, loop_to, over_code, opener_at, turn_end_at, counted_code, statement_size, block_size, arms_size, statement_code, block_code, arms_code}
-use Rattle.cse_compile_code.specs.Routines.{no_loop, entry_size_by, entry_code_by, routine_size, routine_code}
-use Rattle.cse_compile_code.proofs.Small.{deepest_small}
+use Rattle.cse_compile.specs.Wide.{Wide, with_c, pops, jump_size, jump_over}
+use Rattle.cse_compile.specs.declared.setting.Loop.{Loop}
+use Rattle.cse_compile.specs.Expressions.{behind, deepest, count, number_size, words_size, numbers_size, indexes_size, picks_size, number_code, words_code, numbers_code, indexes_code, picks_code}
+use Rattle.cse_compile.specs.Statements.{which_size, which_code, drops_size, drops_code, argument_size, argument_code, arguments_size, arguments_code, known, limit_code, least, greatest, turns, turns_code_by, head_size, head_code, step_code, exit_code_by, exit_code, jump_code, front_size, guard_size, front_code, guard_code, loop_to, over_code, opener_at, turn_end_at, counted_code, statement_size, block_size, arms_size, statement_code, block_code, arms_code}
+use Rattle.cse_compile.specs.Routines.{no_loop, entry_size_by, entry_code_by, routine_size, routine_code}
+use Rattle.cse_compile.proofs.Small.{deepest_small}
 use Rattle.cse_meaning.specs.Fit as fit
 use Rattle.cse_meaning.specs.Fit.{Spot, IsRecord, IsNumberVariable, IsDeck, WhichFits, ArgumentFits, ArgumentsFit, CountingFits, over, StatementFits, BlockFits, ArmsFit}
 use Rattle.cse_meaning.proofs.Standing.{inside}

@@ -9,9 +9,9 @@ use Rattle.cse_image_parts.specs.declared.entries.EventEntry.{EventEntry}
 use Rattle.cse_image_parts.specs.Codes.{event_code}
 use Rattle.cse_image_parts.specs.Fields.{last_event, is_after}
 use Rattle.cse_image_parts.proofs.EventLaws.{last_is}
-use Rattle.cse_image_codec.specs.Reader.{AllAfter}
+use Rattle.cse_image_parts.specs.Reader.{AllAfter}
 use Rattle.cse_image.specs.Spelling.{EventFits}
-use Rattle.cse_compile_code.specs.Events.{Table, routine_at, entry_of, entry_at, entries_below, entries_in}
+use Rattle.cse_compile.specs.Events.{Table, routine_at, entry_of, entry_at, entries_below, entries_in}
 
 -- ---- entries in order
 

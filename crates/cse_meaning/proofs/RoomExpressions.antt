@@ -13,11 +13,11 @@ use Rattle.cse_logic_tree.specs.Typed.{Quoted, TextGlobal, TextItem, TextItemAt,
 use Rattle.cse_value.specs.Occurrences.{most_occurrences}
 use Rattle.cse_image_parts.specs.declared.instruction.Op.TheVariants as ops
 use Rattle.cse_code_typing.specs.declared.kind.Kind.TheVariants as kind
-use Rattle.cse_compile_code.specs.Wide as w
-use Rattle.cse_compile_code.specs.Wide.{Wide, with_a, with_c, jump, undefined, pops, jump_over}
-use Rattle.cse_compile_code.specs.Setting.{size_at}
-use Rattle.cse_compile_code.specs.Numbers.{special_number, relation_number, guarded, here_size, here_code, present_size, number_of_item, text_of_item, can_fail, deepest, row, picks_size, picks_code, deck_code, count, behind, number_size, words_size, numbers_size, indexes_size, operations_size, number_code, words_code, numbers_code, indexes_code, operations_code}
-use Rattle.cse_compile_code.proofs.Small.{deepest_small}
+use Rattle.cse_compile.specs.Wide as w
+use Rattle.cse_compile.specs.Wide.{Wide, with_a, with_c, jump, undefined, pops, jump_over}
+use Rattle.cse_compile.specs.Setting.{size_at}
+use Rattle.cse_compile.specs.Expressions.{special_number, relation_number, guarded, here_size, here_code, present_size, number_of_item, text_of_item, can_fail, deepest, row, picks_size, picks_code, deck_code, count, behind, number_size, words_size, numbers_size, indexes_size, operations_size, number_code, words_code, numbers_code, indexes_code, operations_code}
+use Rattle.cse_compile.proofs.Small.{deepest_small}
 use Rattle.cse_meaning.specs.Fit.{Spot, IsNumberPresent, IsTextPresent, IsArray, ArePicks, IsDeck, IsFunction, NumberFits, WordsFit, NumbersFit, OperationsFit}
 use Rattle.cse_meaning.proofs.SoundSizes.{picks_many}
 use Rattle.cse_meaning.proofs.RoomPlain.{current_fits, number_of_fits, total_fits, occurrence_fits, load_local, load_global, load_cell, jump_fits, id_number_fits, id_text_fits, item_number, item_text, call_fits, row_or_place, row_or_leftover, in_set, index_fits, special_fits, pop_fits, compare_fits, compare_text_fits, negate_fits, not_fits, is_special_fits, operation_fits, relation_small, special_small}

@@ -22,10 +22,10 @@ use Rattle.cse_code_typing.specs.declared.kind.Kind.TheVariants as kind
 use Rattle.cse_code_typing.specs.Signature.{Scene, item_where, rows_by, rows_of, is_record}
 use Rattle.cse_logic_tree.specs.declared.tree.Variable.{Variable}
 use Rattle.cse_logic_tree.specs.declared.tree.Variable.TheVariants as v
-use Rattle.cse_compile_code.specs.Wide.{value}
-use Rattle.cse_compile_code.specs.Setting.{Setting, size_at}
-use Rattle.cse_compile_code.specs.Numbers.{load, store}
-use Rattle.cse_compile_code.specs.Statements.{as_limit}
+use Rattle.cse_compile.specs.Wide.{value}
+use Rattle.cse_compile.specs.Setting.{Setting, size_at}
+use Rattle.cse_compile.specs.Expressions.{load, store}
+use Rattle.cse_compile.specs.Statements.{as_limit}
 use Rattle.cse_meaning.specs.Fit.{Spot, IsNumberVariable, IsArray}
 use Rattle.cse_meaning.proofs.RoomPlain.{special_fits, load_local, store_local, load_global, store_global}
 use Rattle.cse_meaning.proofs.Pooled.{WideFits}

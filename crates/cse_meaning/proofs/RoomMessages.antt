@@ -13,7 +13,7 @@ use Rattle.cse_syntax_tree.specs.Tree as syntax
 use Rattle.cse_logic_tree.specs.Typed.{Declaration, Numeric, Alpha, Array', Function'}
 use Rattle.cse_logic_tree.specs.Erase.{erase_block, erase_declaration}
 use Rattle.cse_logic_tree.specs.Tokens.{all_tokens, list_tokens, each_tokens, one_token, declaration_tokens}
-use Rattle.cse_compile_code.specs.Tables.{number_global, text_global, globals_in, message_of}
+use Rattle.cse_compile.specs.Tables.{number_global, text_global, globals_in, message_of}
 use Rattle.cse_logic_names.specs.MessageFile.{MessageText}
 use Rattle.cse_logic_names.specs.Scope.{Scope}
 use Rattle.cse_logic_names.specs.WellTyped.{message_number, numbered, message_meant, no_message, entry_of, size_of, size_in, AreDeclared, with_function, messages_of}

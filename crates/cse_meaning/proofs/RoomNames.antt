@@ -16,7 +16,7 @@ use Rattle.cse_syntax_tree.specs.Leaf as leaf
 use Rattle.cse_syntax_tree.specs.Leaf.{starts_with_letter, is_word_byte, is_none, reserved, is_left_out}
 use Rattle.cse_logic_tree.specs.Typed.{Declaration, Numeric, Alpha, Array', Function'}
 use Rattle.cse_logic_tree.specs.Erase.{erase_declaration}
-use Rattle.cse_compile_code.specs.Tables.{arrays_in}
+use Rattle.cse_compile.specs.Tables.{arrays_in}
 use Rattle.cse_logic_names.specs.declared.meaning.Meaning.{Meaning}
 use Rattle.cse_logic_names.specs.declared.meaning.Meaning.TheVariants as m
 use Rattle.cse_logic_tree.specs.declared.tree.Variable.TheVariants as v

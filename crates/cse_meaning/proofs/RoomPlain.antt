@@ -13,7 +13,7 @@ use Rattle.cse_syntax_tree.specs.declared.tree.Relation.{Relation}
 use Rattle.cse_syntax_tree.specs.declared.tree.Relation.TheVariants as relations
 use Rattle.cse_syntax_tree.specs.declared.tree.Special.{Special}
 use Rattle.cse_syntax_tree.specs.declared.tree.Special.TheVariants as specials
-use Rattle.cse_compile_code.specs.Numbers.{operation_of, relation_number, special_number}
+use Rattle.cse_compile.specs.Expressions.{operation_of, relation_number, special_number}
 use Rattle.cse_compile.specs.Stands.{instr}
 
 abbrev pub Fit : Op → ℕ → ℕ → ℕ → Type 0

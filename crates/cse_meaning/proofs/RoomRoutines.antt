@@ -16,23 +16,23 @@ use Rattle.cse_image_parts.specs.declared.version.Version.TheVariants as version
 use Rattle.cse_image_parts.specs.Fields.{instructions_in}
 use Rattle.cse_image_parts.specs.Image.{RoutineLists}
 use Rattle.cse_image_parts.specs.Limits.{most_instructions}
-use Rattle.cse_image_codec.specs.Reader.{AllAfter}
+use Rattle.cse_image_parts.specs.Reader.{AllAfter}
 use Rattle.cse_image.specs.Spelling.{ItemFits, LocalFits, LocalsFit, RoutineFits}
 use Rattle.cse_dict.specs.Dictionary.{DictionaryText, ItemText, shape_of}
 use Rattle.cse_logic_tree.specs.declared.tree.Owner.{Owner}
 use Rattle.cse_logic_tree.specs.declared.tree.Owner.TheVariants as owners
 use Rattle.cse_logic_tree.specs.Typed.{Statements, Declaration, Numeric, Alpha, Array', Function', Body, Plain, Preproc, Both, Postproc, Procedure}
 use Rattle.cse_logic_tree.specs.Erase.{erase_body}
-use Rattle.cse_compile_code.specs.declared.outlines.RoutineSort.{RoutineSort}
-use Rattle.cse_compile_code.specs.declared.outlines.RoutineSort.TheVariants as sorts
-use Rattle.cse_compile_code.specs.Tables as tables
-use Rattle.cse_compile_code.specs.Outline.{Outline, Handler, parameters_of, number_local, numbers, locals_of, functions_in, is_idle, event_of, handler_of, handlers_of_body, handlers_in}
+use Rattle.cse_compile.specs.declared.outlines.RoutineSort.{RoutineSort}
+use Rattle.cse_compile.specs.declared.outlines.RoutineSort.TheVariants as sorts
+use Rattle.cse_compile.specs.Tables as tables
+use Rattle.cse_compile.specs.Outline.{Outline, Handler, parameters_of, number_local, numbers, locals_of, functions_in, is_idle, event_of, handler_of, handlers_of_body, handlers_in}
 use Rattle.cse_logic_names.specs.declared.meaning.Meaning.{Meaning}
 use Rattle.cse_logic_names.specs.declared.meaning.Meaning.TheVariants as m
 use Rattle.cse_logic_names.specs.Scope.{Scope, in_dictionary, kind_and_owner}
 use Rattle.cse_logic_names.specs.WellTyped.{item_owner, owner_meant, body_messages, AreProcedures}
-use Rattle.cse_compile_code.specs.Routines.{routine_size}
-use Rattle.cse_compile_code.proofs.Small.{exit_some}
+use Rattle.cse_compile.specs.Routines.{routine_size}
+use Rattle.cse_compile.proofs.Small.{exit_some}
 use Rattle.cse_meaning.proofs.TypedBlocks.{routine_length}
 use Rattle.cse_compile.specs.Program.{setting_for, code_of, all_code, entry_of}
 use Rattle.cse_meaning.specs.Within.{IsFunctionWithin}

@@ -27,19 +27,19 @@ use Rattle.cse_logic_tree.specs.Erase.{erase_declaration, erase_tree}
 use Rattle.cse_logic_tree.specs.Tokens.{all_tokens, declaration_tokens, globals_tokens}
 use Rattle.cse_code_typing.specs.Order.{NamesEachOnce, is_handled_by, fits_event, all_events_fit}
 use Rattle.cse_code_typing.specs.Typed.{scene_of}
-use Rattle.cse_compile_code.specs.declared.outlines.RoutineSort.{RoutineSort}
-use Rattle.cse_compile_code.specs.declared.outlines.RoutineSort.TheVariants as sorts
-use Rattle.cse_compile_code.specs.Events as event
-use Rattle.cse_compile_code.specs.Events.{table_from}
-use Rattle.cse_compile_code.specs.Order.{edit_order}
-use Rattle.cse_compile_code.specs.Outline.{Outline, Handler, functions_in, handlers_in, result_at}
-use Rattle.cse_compile_code.specs.Tables.{globals_in, arrays_in, message_of}
+use Rattle.cse_compile.specs.declared.outlines.RoutineSort.{RoutineSort}
+use Rattle.cse_compile.specs.declared.outlines.RoutineSort.TheVariants as sorts
+use Rattle.cse_compile.specs.Events as event
+use Rattle.cse_compile.specs.Events.{table_from}
+use Rattle.cse_compile.specs.Order.{edit_order}
+use Rattle.cse_compile.specs.Outline.{Outline, Handler, functions_in, handlers_in, result_at}
+use Rattle.cse_compile.specs.Tables.{globals_in, arrays_in, message_of}
 use Rattle.cse_logic_names.specs.declared.meaning.Meaning.{Meaning}
 use Rattle.cse_logic_names.specs.MessageFile.{MessageText}
 use Rattle.cse_logic_names.specs.Scope.{Scope, declared_from}
 use Rattle.cse_logic_names.specs.WellTyped.{IsTypedAs, AreDeclared, all_declarations, typed_declarations, declared_messages, tree_messages, entry_of as said, first_scope, with_functions}
-use Rattle.cse_compile_code.specs.Wide.{Wide}
-use Rattle.cse_compile_code.specs.Setting.{Setting}
+use Rattle.cse_compile.specs.Wide.{Wide}
+use Rattle.cse_compile.specs.Setting.{Setting}
 use Rattle.cse_meaning.specs.Fit.{BlockFits}
 use Rattle.cse_compile.specs.Program.{IsProgramOf, all_code, code_of, declarations_in, declarations, entry_of, events, handlers, outlines, setting_for, sizes}
 use Rattle.cse_compile.specs.Compiled.{HasNoRoom}
@@ -71,7 +71,7 @@ use Rattle.cse_meaning.proofs.RoomNames.{names_of, names_once}
 use Rattle.cse_meaning.proofs.RoomArrays.{IsGood, arrays_good, all_arrays_fit}
 use Rattle.cse_meaning.proofs.RoomRoutines.{SortFits, OutlineFits, outlines_fit, few_locals, size_of, total, code_length, instructions_are, all_routines_fit}
 use Rattle.cse_meaning.proofs.RoomEvents as order
-use Rattle.cse_image_codec.proofs.Algebra.{each_after}
+use Rattle.cse_image_parts.proofs.Algebra.{each_after}
 
 -- ---- declarations, if there are any
 

@@ -16,10 +16,10 @@ use Rattle.cse_code_typing.specs.Rule.{Edge, exits}
 use Rattle.cse_code_typing.proofs.Merges.{same_kind-refl}
 use Rattle.cse_logic_tree.specs.declared.tree.Variable.{Variable}
 use Rattle.cse_logic_tree.specs.declared.tree.Variable.TheVariants as v
-use Rattle.cse_compile_code.specs.Wide as w
-use Rattle.cse_compile_code.specs.Wide.{Wide, with_a, with_b, with_c, occurrence}
-use Rattle.cse_compile_code.specs.Setting.{result_local}
-use Rattle.cse_compile_code.specs.Numbers.{load, store}
+use Rattle.cse_compile.specs.Wide as w
+use Rattle.cse_compile.specs.Wide.{Wide, with_a, with_b, with_c, occurrence}
+use Rattle.cse_compile.specs.Setting.{result_local}
+use Rattle.cse_compile.specs.Expressions.{load, store}
 use Rattle.cse_meaning.specs.Fit.{Spot, IsNumberVariable, IsEntry}
 use Rattle.cse_meaning.proofs.WideRule.{Stack, wide_control, wide_signature, wide_rule, wide_in_loop, field_a}
 

@@ -8,12 +8,12 @@ use Rattle.cse_code_typing.specs.Skeleton.{control_by}
 use Rattle.cse_code_typing.specs.Signature.{Scene}
 use Rattle.cse_logic_tree.specs.Typed.{Statement, Statements, Arms}
 use Rattle.cse_logic_tree.specs.Typed.{Empty, Set, SetText, SetItem, SetTextItem, SetCell, CallOf, If, For, Do, Jump', Impute, PutDeck, ErrMsg, no_statement, statement_and, no_arm, else_of, arm}
-use Rattle.cse_compile_code.specs.Wide as w
-use Rattle.cse_compile_code.specs.Wide.{Wide, with_a, with_c, jump, jump_over, jump_size}
-use Rattle.cse_compile_code.specs.Setting.{Setting}
-use Rattle.cse_compile_code.specs.declared.setting.Loop.{Loop}
-use Rattle.cse_compile_code.specs.Numbers.{store, number_size, number_code}
-use Rattle.cse_compile_code.specs.Statements.{head_size, head_code, turn_limit, step_code, front_size, front_code, loop_to, statement_size, block_size, arms_size, statement_code, block_code, arms_code}
+use Rattle.cse_compile.specs.Wide as w
+use Rattle.cse_compile.specs.Wide.{Wide, with_a, with_c, jump, jump_over, jump_size}
+use Rattle.cse_compile.specs.Setting.{Setting}
+use Rattle.cse_compile.specs.declared.setting.Loop.{Loop}
+use Rattle.cse_compile.specs.Expressions.{store, number_size, number_code}
+use Rattle.cse_compile.specs.Statements.{head_size, head_code, turn_limit, step_code, front_size, front_code, loop_to, statement_size, block_size, arms_size, statement_code, block_code, arms_code}
 use Rattle.cse_meaning.proofs.At.{HasAt, has_front, has_back}
 use Rattle.cse_meaning.proofs.WideRule.{Stack, wide_control, wide_skeleton}
 use Rattle.cse_meaning.proofs.Spans.{IsSealed, sealed_join, sealed_none, loop_sealed}

@@ -13,10 +13,10 @@ use Rattle.cse_code_typing.specs.Signature.{signature_by, arguments_of}
 use Rattle.cse_logic_tree.specs.declared.tree.Found.TheVariants as h
 use Rattle.cse_logic_tree.specs.declared.tree.Pick.{Pick}
 use Rattle.cse_logic_tree.specs.Typed.{Number, Numbers, Which, Here, At, Argument, OfNumber, OfWords}
-use Rattle.cse_compile_code.specs.Wide as w
-use Rattle.cse_compile_code.specs.Wide.{Wide, bare, with_a, with_b, with_c, jump, jump_size, jump_over, occurrence, pops}
-use Rattle.cse_compile_code.specs.Numbers.{can_fail, deepest, picks_size, picks_code, behind, count, number_size, numbers_size, indexes_size, number_code, numbers_code, indexes_code}
-use Rattle.cse_compile_code.specs.Statements.{which_size, which_code, drops_size, drops_code, argument_size, argument_code, arguments_size, arguments_code}
+use Rattle.cse_compile.specs.Wide as w
+use Rattle.cse_compile.specs.Wide.{Wide, bare, with_a, with_b, with_c, jump, jump_size, jump_over, occurrence, pops}
+use Rattle.cse_compile.specs.Expressions.{can_fail, deepest, picks_size, picks_code, behind, count, number_size, numbers_size, indexes_size, number_code, numbers_code, indexes_code}
+use Rattle.cse_compile.specs.Statements.{which_size, which_code, drops_size, drops_code, argument_size, argument_code, arguments_size, arguments_code}
 use Rattle.cse_meaning.specs.Fit.{Spot, IsRecord, IsArray, IsDeck, IsFunction, IsMessage, kind_of, WhichFits, ArgumentFits, ArgumentsFit, NumberFits, NumbersFit}
 use Rattle.cse_meaning.specs.Steps.{number_calls, numbers_calls, which_calls, argument_calls, arguments_calls}
 use Rattle.cse_meaning.proofs.At.{HasAt, has_front, has_back}

@@ -24,10 +24,10 @@ use Rattle.cse_logic_tree.specs.declared.tree.Variable.TheVariants as v
 use Rattle.cse_logic_tree.specs.declared.tree.Pick.{Pick}
 use Rattle.cse_logic_tree.specs.Typed as tree
 use Rattle.cse_logic_tree.specs.Typed.{Numbers, Operations, no_number, number_and, no_operation, operation_and}
-use Rattle.cse_compile_code.specs.Wide as wide
-use Rattle.cse_compile_code.specs.Wide.{Wide, bare, with_a, with_b, with_c, jump, undefined, pops}
-use Rattle.cse_compile_code.specs.Setting.{Setting, size_at, result_local}
-use Rattle.cse_compile_code.specs.Numbers.{can_fail, deepest, picks_size, picks_code, deck_size, deck_code, load, present_size, number_of_item, number_size, number_code, words_size, words_code, operations_size, operations_code, indexes_size, indexes_code, numbers_size, numbers_code, count, behind}
+use Rattle.cse_compile.specs.Wide as wide
+use Rattle.cse_compile.specs.Wide.{Wide, bare, with_a, with_b, with_c, jump, undefined, pops}
+use Rattle.cse_compile.specs.Setting.{Setting, size_at, result_local}
+use Rattle.cse_compile.specs.Expressions.{can_fail, deepest, picks_size, picks_code, deck_size, deck_code, load, present_size, number_of_item, number_size, number_code, words_size, words_code, operations_size, operations_code, indexes_size, indexes_code, numbers_size, numbers_code, count, behind}
 use Rattle.cse_meaning.specs.Fit.{IsDeck, IsNumberVariable, numbers_kinds, NumberFits, WordsFit, NumbersFit, OperationsFit}
 use Rattle.cse_meaning.proofs.Lengths.{picks_length, item_length, pops_length, indexes_length, numbers_length, number_length, words_length}
 use Rattle.cse_steps.specs.Cell.{Cell, Number, Words, Index}

@@ -18,13 +18,13 @@ use Rattle.cse_logic_tree.specs.Typed.{Which, Here, At, Argument, OfNumber, OfWo
 use Rattle.cse_logic_tree.specs.Typed.{Empty, Set, SetText, SetItem, SetTextItem, SetCell, CallOf, If, For, Do, Jump', Impute, PutDeck, ErrMsg, no_statement, statement_and, no_arm, else_of, arm}
 use Rattle.cse_logic_tree.specs.Erase.{erase, erase_words, erase_all, erase_operations, erase_which, erase_argument, erase_arguments, erase_statement, erase_block, erase_arms}
 use Rattle.cse_logic_tree.specs.Tokens.{expr_tokens, exprs_tokens, others_tokens, operations_tokens, subscripts_tokens, stmt_tokens, stmts_tokens, arms_tokens}
-use Rattle.cse_compile_code.specs.Wide as w
-use Rattle.cse_compile_code.specs.Wide.{Wide, bare, with_a, with_b, with_c, jump, undefined, occurrence, value, pops, jump_size, jump_over}
-use Rattle.cse_compile_code.specs.declared.setting.Loop.{Loop}
-use Rattle.cse_compile_code.specs.Setting.{Setting, size_at}
-use Rattle.cse_compile_code.specs.Numbers.{relation_number, operation_of, load, store, here_code, present_size, number_of_item, text_of_item, guarded, can_fail, deepest, row, picks_size, picks_code, deck_code, count, behind, number_size, words_size, indexes_size, number_code, words_code, numbers_code, indexes_code, operations_code}
-use Rattle.cse_compile_code.specs.Statements.{known, limit_code, turns, which_size, which_code, drops_size, drops_code, argument_size, argument_code, arguments_code, turns_code_by, turn_limit, head_code, step_code, exit_code_by, exit_code, jump_code, guard_size, front_size, front_code, guard_code, over_code, counted_code, loop_to, opener_at, turn_end_at, statement_size, block_size, arms_size, statement_code, block_code, arms_code}
-use Rattle.cse_compile_code.specs.Routines.{no_loop, entry_size_by, entry_code_by, routine_code}
+use Rattle.cse_compile.specs.Wide as w
+use Rattle.cse_compile.specs.Wide.{Wide, bare, with_a, with_b, with_c, jump, undefined, occurrence, value, pops, jump_size, jump_over}
+use Rattle.cse_compile.specs.declared.setting.Loop.{Loop}
+use Rattle.cse_compile.specs.Setting.{Setting, size_at}
+use Rattle.cse_compile.specs.Expressions.{relation_number, operation_of, load, store, here_code, present_size, number_of_item, text_of_item, guarded, can_fail, deepest, row, picks_size, picks_code, deck_code, count, behind, number_size, words_size, indexes_size, number_code, words_code, numbers_code, indexes_code, operations_code}
+use Rattle.cse_compile.specs.Statements.{known, limit_code, turns, which_size, which_code, drops_size, drops_code, argument_size, argument_code, arguments_code, turns_code_by, turn_limit, head_code, step_code, exit_code_by, exit_code, jump_code, guard_size, front_size, front_code, guard_code, over_code, counted_code, loop_to, opener_at, turn_end_at, statement_size, block_size, arms_size, statement_code, block_code, arms_code}
+use Rattle.cse_compile.specs.Routines.{no_loop, entry_size_by, entry_code_by, routine_code}
 use Rattle.cse_meaning.specs.Few.{NumberIsFew, WordsAreFew, NumbersAreFew, OperationsAreFew, WhichIsFew, ArgumentIsFew, ArgumentsAreFew, StatementIsFew, BlockIsFew, ArmsAreFew}
 use Rattle.cse_meaning.specs.Entries.{Table, Constants, Limits, Texts, a_constant, a_text, named, entries}
 use Rattle.cse_meaning.specs.Measure.{tokens}

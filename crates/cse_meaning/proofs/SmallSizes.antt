@@ -9,11 +9,11 @@ use Rattle.cse_logic_tree.specs.Typed.{Which, Here, At, Argument, OfNumber, OfWo
 use Rattle.cse_logic_tree.specs.Typed.{Empty, Set, SetText, SetItem, SetTextItem, SetCell, CallOf, If, For, Do, Jump', Impute, PutDeck, ErrMsg, no_statement, statement_and, no_arm, else_of, arm}
 use Rattle.cse_logic_tree.specs.Erase.{erase, erase_words, erase_all, erase_operations, erase_which, erase_argument, erase_arguments, erase_statement, erase_block, erase_arms}
 use Rattle.cse_logic_tree.specs.Tokens.{expr_tokens, exprs_tokens, others_tokens, operations_tokens, subscripts_tokens, stmt_tokens, stmts_tokens, arms_tokens}
-use Rattle.cse_compile_code.specs.Setting.{Setting}
-use Rattle.cse_compile_code.specs.Numbers.{deepest, count, behind, number_size, words_size, numbers_size, indexes_size, operations_size}
-use Rattle.cse_compile_code.specs.Statements.{known, which_size, argument_size, arguments_size, head_size, statement_size, block_size, arms_size}
-use Rattle.cse_compile_code.specs.Routines.{routine_size}
-use Rattle.cse_compile_code.proofs.Small.{here_small, present_small, picks_small, deepest_small, deck_small, exit_small, jump_code_small, jump_small, turns_small, entry_small}
+use Rattle.cse_compile.specs.Setting.{Setting}
+use Rattle.cse_compile.specs.Expressions.{deepest, count, behind, number_size, words_size, numbers_size, indexes_size, operations_size}
+use Rattle.cse_compile.specs.Statements.{known, which_size, argument_size, arguments_size, head_size, statement_size, block_size, arms_size}
+use Rattle.cse_compile.specs.Routines.{routine_size}
+use Rattle.cse_compile.proofs.Small.{here_small, present_small, picks_small, deepest_small, deck_small, exit_small, jump_code_small, jump_small, turns_small, entry_small}
 use Rattle.cse_meaning.specs.Few.{NumberIsFew, WordsAreFew, NumbersAreFew, OperationsAreFew, WhichIsFew, ArgumentIsFew, ArgumentsAreFew, StatementIsFew, BlockIsFew, ArmsAreFew}
 use Rattle.cse_meaning.specs.Measure.{tokens}
 

@@ -15,9 +15,9 @@ use Rattle.cse_syntax_tree.specs.Grammar.{Each, AreStmts, IsDeclaration, IsProce
 use Rattle.cse_logic_tree.specs.declared.tree.Owner.{Owner}
 use Rattle.cse_logic_tree.specs.Typed.{Statements, Function, Declaration, Numeric, Alpha, Array', Function', Body, Plain, Preproc, Both, Postproc, Procedure, Tree}
 use Rattle.cse_logic_tree.specs.Erase.{erase_block, erase_body, erase_declaration, erase_procedure, erase_tree}
-use Rattle.cse_compile_code.specs.declared.outlines.RoutineSort.{RoutineSort}
-use Rattle.cse_compile_code.specs.declared.outlines.RoutineSort.TheVariants as sorts
-use Rattle.cse_compile_code.specs.Outline.{Outline, Handler, outline_of, functions_in, is_idle, event_of, handler_of, handlers_of_body, handlers_in}
+use Rattle.cse_compile.specs.declared.outlines.RoutineSort.{RoutineSort}
+use Rattle.cse_compile.specs.declared.outlines.RoutineSort.TheVariants as sorts
+use Rattle.cse_compile.specs.Outline.{Outline, Handler, outline_of, functions_in, is_idle, event_of, handler_of, handlers_of_body, handlers_in}
 use Rattle.cse_logic_names.specs.MessageFile.{MessageText}
 use Rattle.cse_logic_names.specs.Scope.{Scope}
 use Rattle.cse_logic_names.specs.WellTyped.{IsFunction, AreDeclared, AreStatements, IsBody, AreProcedures, function_scope, procedure_scope, with_function, with_functions, first_scope, typed_declarations, all_declarations, parameter_names, messages_of, body_messages}

@@ -6,7 +6,7 @@ use Rattle.std.proofs.lemmas.Bool.{and_parts, leb-true}
 use Rattle.std.proofs.lemmas.Option.{same_Some, none-some}
 use Rattle.cse_image_parts.specs.Image.{Image, ArrayLists}
 use Rattle.cse_image_parts.specs.Limits.{most_dimensions}
-use Rattle.cse_image_codec.specs.Reader.{AllAfter}
+use Rattle.cse_image_parts.specs.Reader.{AllAfter}
 use Rattle.cse_image.specs.Spelling.{ArrayFits, Fits}
 use Rattle.cse_dict.specs.Dictionary.{DictionaryText, shape_of}
 use Rattle.cse_dict.specs.Sound.{IsSound as IsSoundDictionary}
@@ -17,8 +17,8 @@ use Rattle.cse_logic_tree.specs.Typed.{Tree}
 use Rattle.cse_logic_tree.specs.Erase.{erase_tree}
 use Rattle.cse_code_typing.specs.Order.{NamesEachOnce}
 use Rattle.cse_code_typing.specs.Typed.{IsTyped}
-use Rattle.cse_compile_code.specs.Outline.{Outline, functions_in}
-use Rattle.cse_compile_code.specs.Routines.{routine_size}
+use Rattle.cse_compile.specs.Outline.{Outline, functions_in}
+use Rattle.cse_compile.specs.Routines.{routine_size}
 use Rattle.cse_logic_names.specs.MessageFile.{MessageText}
 use Rattle.cse_logic_names.specs.WellTyped.{IsTypedAs, all_declarations, declared_messages, typed_declarations, first_scope, with_functions}
 use Rattle.cse_logic_names.proofs.ScopeLaws.{same_dictionary}

@@ -18,7 +18,7 @@ use Rattle.cse_code_typing.specs.Signature.{is_record, global_at, local_at}
 use Rattle.cse_logic_tree.specs.declared.tree.Variable.TheVariants as v
 use Rattle.cse_logic_tree.specs.Typed.{Declaration, Numeric, Alpha, Array', Function'}
 use Rattle.cse_logic_tree.specs.Erase.{erase_declaration}
-use Rattle.cse_compile_code.specs.Tables.{number_global, text_global, globals_in}
+use Rattle.cse_compile.specs.Tables.{number_global, text_global, globals_in}
 use Rattle.cse_logic_names.specs.declared.meaning.Meaning.{Meaning}
 use Rattle.cse_logic_names.specs.declared.meaning.Meaning.TheVariants as m
 use Rattle.cse_logic_names.specs.Scope.{Scope, first_of, numbered_from, declared_from, in_dictionary, meant_in, meant}

@@ -8,10 +8,10 @@ use Rattle.std.proofs.lemmas.Option.{same_Some, none-some, slice_get-map}
 use Rattle.cse_value.specs.declared.shape.RecordShape.{RecordShape}
 use Rattle.cse_image_parts.specs.declared.instruction.Instr.{Instr}
 use Rattle.cse_image_parts.specs.Image.{Lists, Image, RoutineLists}
-use Rattle.cse_compile_code.specs.Outline.{Outline}
+use Rattle.cse_compile.specs.Outline.{Outline}
 use Rattle.cse_code_typing.specs.Code.{start_of, size_of, code_of}
-use Rattle.cse_compile_code.specs.Wide.{Wide, Constant, Chars, Turns, Plain}
-use Rattle.cse_compile_code.specs.Routines.{routine_size}
+use Rattle.cse_compile.specs.Wide.{Wide, Constant, Chars, Turns, Plain}
+use Rattle.cse_compile.specs.Routines.{routine_size}
 use Rattle.cse_compile.specs.Stands as pooled
 use Rattle.cse_compile.specs.Program.{setting_for, code_of as wide_code, all_code, entry_of, pools_of}
 use Rattle.cse_meaning.specs.Stands.{Stands, AllStand}

@@ -11,9 +11,9 @@ use Rattle.cse_logic_tree.specs.Typed.{Which, Here, At, Argument, OfNumber, OfWo
 use Rattle.cse_logic_tree.specs.Erase.{erase, erase_words, erase_all, erase_operations, erase_which, erase_argument, erase_arguments}
 use Rattle.cse_logic_tree.specs.Tokens.{expr_tokens, exprs_tokens, others_tokens, operations_tokens, subscripts_tokens}
 use Rattle.cse_value.specs.Occurrences.{most_occurrences}
-use Rattle.cse_compile_code.specs.Numbers.{deepest, picks_size, count, behind, number_size, words_size, numbers_size, indexes_size, operations_size}
-use Rattle.cse_compile_code.specs.Statements.{which_size, drops_size, argument_size, arguments_size}
-use Rattle.cse_compile_code.proofs.Small.{here_small, present_small, picks_small, deepest_small, deck_small, jump_small}
+use Rattle.cse_compile.specs.Expressions.{deepest, picks_size, count, behind, number_size, words_size, numbers_size, indexes_size, operations_size}
+use Rattle.cse_compile.specs.Statements.{which_size, drops_size, argument_size, arguments_size}
+use Rattle.cse_compile.proofs.Small.{here_small, present_small, picks_small, deepest_small, deck_small, jump_small}
 use Rattle.cse_meaning.specs.Fit.{Spot, ArePicks, IsDeck, NumberFits, WordsFit, NumbersFit, OperationsFit, WhichFits, ArgumentFits, ArgumentsFit, over}
 
 -- arrays have at most three dimensions, and each record can have an occurrence

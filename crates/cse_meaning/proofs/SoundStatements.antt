@@ -15,7 +15,7 @@ use Rattle.cse_code_typing.specs.Kinds as kinds
 use Rattle.cse_logic_tree.specs.Typed.{Which, Here, At, Argument, OfNumber, OfWords, Limit, Fixed, Counted, Statement, Statements, Arms}
 use Rattle.cse_logic_tree.specs.Typed.{Empty, Set, SetText, SetItem, SetTextItem, SetCell, CallOf, If, For, Do, Jump', Impute, PutDeck, ErrMsg, no_statement, statement_and, no_arm, else_of, arm}
 use Rattle.cse_logic_tree.specs.Erase.{erase_statement, erase_block, erase_arms}
-use Rattle.cse_compile_code.specs.Tables.{message_of}
+use Rattle.cse_compile.specs.Tables.{message_of}
 use Rattle.cse_logic_names.specs.declared.meaning.Meaning.TheVariants as meaning
 use Rattle.cse_logic_names.specs.MessageFile.{MessageText}
 use Rattle.cse_logic_names.specs.Scope.{Scope, Loops, within}

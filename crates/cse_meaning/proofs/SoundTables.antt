@@ -10,9 +10,9 @@ use Rattle.cse_dict.specs.Dictionary.{SetText as ValueSet, shape_of}
 use Rattle.cse_syntax_tree.specs.Grammar.{Each, IsSome, IsDeclaration}
 use Rattle.cse_logic_tree.specs.Typed.{Dimension, Sized, Rows, Declaration, Numeric, Alpha, Array', Function'}
 use Rattle.cse_logic_tree.specs.Erase.{erase_dimension, erase_declaration, erase_block}
-use Rattle.cse_compile_code.specs.declared.outlines.RoutineSort.TheVariants as sorts
-use Rattle.cse_compile_code.specs.Tables.{size_of, arrays_in}
-use Rattle.cse_compile_code.specs.Outline.{Outline}
+use Rattle.cse_compile.specs.declared.outlines.RoutineSort.TheVariants as sorts
+use Rattle.cse_compile.specs.Tables.{size_of, arrays_in}
+use Rattle.cse_compile.specs.Outline.{Outline}
 use Rattle.cse_logic_names.specs.Scope.{Scope, Facts}
 use Rattle.cse_logic_names.specs.WellTyped as t
 use Rattle.cse_logic_names.specs.WellTyped.{IsDimension, one_if, AreDeclared}

@@ -13,10 +13,10 @@ use Rattle.cse_code_typing.specs.Typed.{IsTypedRoutine}
 use Rattle.cse_code_typing.specs.Code.{code_of}
 use Rattle.cse_logic_tree.specs.Typed.{Tree}
 use Rattle.cse_logic_names.specs.MessageFile.{MessageText}
-use Rattle.cse_compile_code.specs.declared.outlines.RoutineSort.{RoutineSort}
-use Rattle.cse_compile_code.specs.declared.outlines.RoutineSort.TheVariants as sorts
-use Rattle.cse_compile_code.specs.Outline.{Outline, gives_of, locals_of, result_at}
-use Rattle.cse_compile_code.proofs.SectionLists.{result_there}
+use Rattle.cse_compile.specs.declared.outlines.RoutineSort.{RoutineSort}
+use Rattle.cse_compile.specs.declared.outlines.RoutineSort.TheVariants as sorts
+use Rattle.cse_compile.specs.Outline.{Outline, gives_of, locals_of, result_at}
+use Rattle.cse_compile.proofs.SectionLists.{result_there}
 use Rattle.cse_compile.specs.Program.{outlines, sizes, setting_for, entry_of}
 use Rattle.cse_meaning.specs.Fit.{Spot, IsExit}
 use Rattle.cse_meaning.specs.Emitted.{IsRoutine}

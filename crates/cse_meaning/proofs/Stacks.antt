@@ -11,8 +11,8 @@ use Rattle.cse_logic_tree.specs.declared.tree.Present.TheVariants as p
 use Rattle.cse_logic_tree.specs.declared.tree.Pick.{Pick}
 use Rattle.cse_logic_tree.specs.Typed.{Number, Words, Numbers, Operations, Constant, Special', Variable', Item, ItemAt, Cell, Call, Group, Int, IsSpecial, Deck, TotOcc, MaxOcc, CurOcc, InSet, Minus, Not, Compare, CompareTexts, Chain}
 use Rattle.cse_logic_tree.specs.Typed.{Quoted, TextGlobal, TextItem, TextItemAt, TextGroup, no_number, number_and, no_operation, operation_and}
-use Rattle.cse_compile_code.specs.Setting.{size_at}
-use Rattle.cse_compile_code.specs.Numbers.{can_fail}
+use Rattle.cse_compile.specs.Setting.{size_at}
+use Rattle.cse_compile.specs.Expressions.{can_fail}
 use Rattle.cse_meaning.specs.Fit.{Spot, row_count}
 use Rattle.cse_meaning.proofs.WideRule.{Stack}
 

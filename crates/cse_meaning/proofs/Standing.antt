@@ -29,12 +29,12 @@ use Rattle.cse_logic_tree.specs.Typed.{Number, Words, Numbers, Operations, Const
 use Rattle.cse_logic_tree.specs.Typed.{Quoted, TextGlobal, TextItem, TextItemAt, TextGroup, no_number, number_and, no_operation, operation_and}
 use Rattle.cse_logic_tree.specs.Typed.{Which, Here, At, Argument, OfNumber, OfWords, Limit, Fixed, Counted, Counting, Statement, Statements, Arms}
 use Rattle.cse_logic_tree.specs.Typed.{Empty, Set, SetText, SetItem, SetTextItem, SetCell, CallOf, If, For, Do, Jump', Impute, PutDeck, ErrMsg, no_statement, statement_and, no_arm, else_of, arm}
-use Rattle.cse_compile_code.specs.Wide as w
-use Rattle.cse_compile_code.specs.Wide.{Wide, bare, with_a, with_b, with_c, pops, undefined, jump, jump_over, value}
-use Rattle.cse_compile_code.specs.declared.setting.Loop.{Loop}
-use Rattle.cse_compile_code.specs.Numbers.{load, store, operation_of, guarded, here_code, present_size, number_of_item, text_of_item, can_fail, deepest, row, picks_size, picks_code, deck_code, behind, number_size, words_size, indexes_size, number_code, words_code, numbers_code, indexes_code, operations_code}
-use Rattle.cse_compile_code.specs.Statements.{limit_code, which_code, drops_size, drops_code, argument_size, argument_code, arguments_code, turns_code_by, head_code, step_code, exit_code_by, jump_code, front_code, loop_to, opener_at, turn_end_at, statement_size, block_size, arms_size, statement_code, block_code, arms_code}
-use Rattle.cse_compile_code.specs.Routines.{no_loop, entry_size_by, entry_code_by, routine_code}
+use Rattle.cse_compile.specs.Wide as w
+use Rattle.cse_compile.specs.Wide.{Wide, bare, with_a, with_b, with_c, pops, undefined, jump, jump_over, value}
+use Rattle.cse_compile.specs.declared.setting.Loop.{Loop}
+use Rattle.cse_compile.specs.Expressions.{load, store, operation_of, guarded, here_code, present_size, number_of_item, text_of_item, can_fail, deepest, row, picks_size, picks_code, deck_code, behind, number_size, words_size, indexes_size, number_code, words_code, numbers_code, indexes_code, operations_code}
+use Rattle.cse_compile.specs.Statements.{limit_code, which_code, drops_size, drops_code, argument_size, argument_code, arguments_code, turns_code_by, head_code, step_code, exit_code_by, jump_code, front_code, loop_to, opener_at, turn_end_at, statement_size, block_size, arms_size, statement_code, block_code, arms_code}
+use Rattle.cse_compile.specs.Routines.{no_loop, entry_size_by, entry_code_by, routine_code}
 use Rattle.cse_meaning.specs.Stands.{Stands}
 use Rattle.cse_meaning.specs.Emitted.{InstructionsMayStand}
 use Rattle.cse_meaning.proofs.At.{HasAt, has_self}

@@ -9,9 +9,9 @@ use Rattle.cse_logic_tree.specs.declared.tree.Found.TheVariants as h
 use Rattle.cse_logic_tree.specs.Typed.{Number}
 use Rattle.cse_logic_tree.specs.Typed.{Which, Here, At, Argument, OfNumber, OfWords, Counting, Statement, Statements, Arms}
 use Rattle.cse_logic_tree.specs.Typed.{Empty, Set, SetText, SetItem, SetTextItem, SetCell, CallOf, If, For, Do, Jump', Impute, PutDeck, ErrMsg, no_statement, statement_and, no_arm, else_of, arm}
-use Rattle.cse_compile_code.specs.Wide.{jump_size}
-use Rattle.cse_compile_code.specs.Numbers.{behind, deepest}
-use Rattle.cse_compile_code.specs.Statements.{known, which_size, drops_size, argument_size, arguments_size, turns_size_by, head_size, exit_size_by, jump_code_size, front_size, statement_size, block_size, arms_size}
+use Rattle.cse_compile.specs.Wide.{jump_size}
+use Rattle.cse_compile.specs.Expressions.{behind, deepest}
+use Rattle.cse_compile.specs.Statements.{known, which_size, drops_size, argument_size, arguments_size, turns_size_by, head_size, exit_size_by, jump_code_size, front_size, statement_size, block_size, arms_size}
 use Rattle.cse_meaning.specs.Fit.{Spot, over, kind_of}
 use Rattle.cse_meaning.proofs.At.{HasAt, has_front, has_back}
 use Rattle.cse_meaning.proofs.WideRule.{Stack}

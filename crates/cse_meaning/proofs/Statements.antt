@@ -16,12 +16,12 @@ use Rattle.cse_logic_tree.specs.declared.tree.Field.{Field}
 use Rattle.cse_logic_tree.specs.Typed as tree
 use Rattle.cse_logic_tree.specs.Typed.{Limit, Fixed, Counted, Counting, Which, Statement, Statements, Arms}
 use Rattle.cse_logic_tree.specs.Typed.{Empty, Set, SetText, SetItem, SetTextItem, SetCell, CallOf, If, For, Do, Jump', Impute, PutDeck, ErrMsg, no_statement, statement_and, no_arm, else_of, arm}
-use Rattle.cse_compile_code.specs.Wide as wide
-use Rattle.cse_compile_code.specs.Wide.{pops, Wide, bare, with_a, with_c, jump, jump_size, jump_over}
-use Rattle.cse_compile_code.specs.Setting.{Setting}
-use Rattle.cse_compile_code.specs.declared.setting.Loop.{Loop}
-use Rattle.cse_compile_code.specs.Numbers.{deepest, picks_size, picks_code, count, behind, indexes_size, indexes_code, number_size, number_code, words_size, words_code, numbers_size, numbers_code}
-use Rattle.cse_compile_code.specs.Statements.{turn_limit, turns_size, head_size, head_code, step_code, drops_size, drops_code, arguments_size, arguments_code, jump_code, which_size, which_code, front_size, guard_size, loop_to, statement_size, statement_code, block_size, block_code, arms_size, arms_code}
+use Rattle.cse_compile.specs.Wide as wide
+use Rattle.cse_compile.specs.Wide.{pops, Wide, bare, with_a, with_c, jump, jump_size, jump_over}
+use Rattle.cse_compile.specs.Setting.{Setting}
+use Rattle.cse_compile.specs.declared.setting.Loop.{Loop}
+use Rattle.cse_compile.specs.Expressions.{deepest, picks_size, picks_code, count, behind, indexes_size, indexes_code, number_size, number_code, words_size, words_code, numbers_size, numbers_code}
+use Rattle.cse_compile.specs.Statements.{turn_limit, turns_size, head_size, head_code, step_code, drops_size, drops_code, arguments_size, arguments_code, jump_code, which_size, which_code, front_size, guard_size, loop_to, statement_size, statement_code, block_size, block_code, arms_size, arms_code}
 use Rattle.cse_meaning.specs.Fit.{IsDeck, IsArray, IsMessage, ArgumentsFit, IsExit, JumpFits, IsNumberField, IsTextField, IsFunction, WhichFits, WordsFit, NumbersFit, NumberFits, StatementFits, BlockFits, ArmsFit}
 use Rattle.cse_meaning.proofs.Lengths.{picks_length, indexes_length, number_length, words_length, numbers_length}
 use Rattle.cse_meaning.proofs.TypedBlocks.{head_length, arguments_length, which_length, statement_length, block_length}

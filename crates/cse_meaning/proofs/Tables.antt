@@ -8,8 +8,8 @@ use Rattle.cse_image_parts.specs.declared.entries.EventCode.TheVariants as codes
 use Rattle.cse_logic_tree.specs.declared.tree.Owner.{Owner}
 use Rattle.cse_logic_tree.specs.declared.tree.Owner.TheVariants as owners
 use Rattle.cse_logic_tree.specs.Typed.{Statement, Statements, no_statement, statement_and, Body, Plain, Preproc, Both, Postproc, Procedure}
-use Rattle.cse_compile_code.specs.declared.outlines.RoutineSort.TheVariants as sorts
-use Rattle.cse_compile_code.specs.Outline.{Handler, is_empty, is_idle, event_of, handler_of, handlers_of_body, handlers_in}
+use Rattle.cse_compile.specs.declared.outlines.RoutineSort.TheVariants as sorts
+use Rattle.cse_compile.specs.Outline.{Handler, is_empty, is_idle, event_of, handler_of, handlers_of_body, handlers_in}
 use Rattle.cse_meaning.specs.Meaning.{before, after, is_before, is_after, part, is_semicolon, is_silent}
 use Rattle.cse_meaning.specs.Tables.{TablesAgree, is_same_event}
 

@@ -6,15 +6,15 @@ use Rattle.cse_logic_tree.specs.declared.tree.Owner.{Owner}
 use Rattle.cse_logic_tree.specs.Typed.{Statements, Declaration, Numeric, Alpha, Array', Function', Body, Plain, Preproc, Both, Postproc, Procedure, Tree}
 use Rattle.cse_logic_tree.specs.Erase.{erase_declaration, erase_body, erase_procedure}
 use Rattle.cse_logic_tree.specs.Tokens.{all_tokens, declaration_tokens, body_tokens, procedure_tokens, globals_tokens}
-use Rattle.cse_compile_code.specs.Setting.{Setting}
-use Rattle.cse_compile_code.specs.Routines.{routine_code}
+use Rattle.cse_compile.specs.Setting.{Setting}
+use Rattle.cse_compile.specs.Routines.{routine_code}
 use Rattle.cse_meaning.proofs.TypedBlocks.{routine_length}
 use Rattle.cse_meaning.specs.Entries.{Table, entries}
 use Rattle.cse_meaning.specs.Measure.{tokens}
 use Rattle.cse_meaning.proofs.SmallSizes.{routine_short}
 use Rattle.cse_meaning.proofs.SmallEntries.{both, routine_entries}
-use Rattle.cse_compile_code.specs.declared.outlines.RoutineSort.TheVariants as sorts
-use Rattle.cse_compile_code.specs.Outline.{Outline, Handler, event_of, function_of, functions_in, is_idle, handler_of, handlers_of_body, handlers_of, handlers_in}
+use Rattle.cse_compile.specs.declared.outlines.RoutineSort.TheVariants as sorts
+use Rattle.cse_compile.specs.Outline.{Outline, Handler, event_of, function_of, functions_in, is_idle, handler_of, handlers_of_body, handlers_of, handlers_in}
 use Rattle.cse_meaning.specs.Totals.{declarations_in, outlines, tokens_of, all_code, AreFew, AllCodeIsShort, AllEntriesAreFew}
 
 abbrev outline_of : Handler → Outline

@@ -18,8 +18,8 @@ use Rattle.cse_code_typing.specs.Skeleton.{control_by, control, skeleton}
 use Rattle.cse_code_typing.specs.Signature.{Scene, Signature, ◌⇒◌, provided, signature_by, loops_by, loops_over, is_in_loop}
 use Rattle.cse_code_typing.specs.Rule.{exits, rule}
 use Rattle.cse_code_typing.specs.Typing.{AgreesBelow, FollowsRule, IsLedTo, IsTypedCode}
-use Rattle.cse_compile_code.specs.Wide as w
-use Rattle.cse_compile_code.specs.Wide.{Wide, bare}
+use Rattle.cse_compile.specs.Wide as w
+use Rattle.cse_compile.specs.Wide.{Wide, bare}
 use Rattle.cse_meaning.specs.Stands.{Stands, AllStand}
 use Rattle.cse_meaning.proofs.At.{HasAt, has_self}
 use Rattle.cse_meaning.proofs.WideRule.{Stack, wide_control, wide_skeleton, wide_loops, wide_in_loop, wide_signature, wide_rule, field_a, IsLedBy}

@@ -15,11 +15,11 @@ use Rattle.cse_case.specs.Fit.{IsFit}
 use Rattle.cse_syntax_tree.specs.declared.tree.Count.TheVariants as counts
 use Rattle.cse_syntax_tree.specs.declared.tree.Special.TheVariants as specials
 use Rattle.cse_logic_tree.specs.Typed.{Limit, Fixed, Counted, Counting}
-use Rattle.cse_compile_code.specs.Wide as wide
-use Rattle.cse_compile_code.specs.Wide.{bare, with_a}
-use Rattle.cse_compile_code.specs.Setting.{Setting}
-use Rattle.cse_compile_code.specs.Statements as emit
-use Rattle.cse_compile_code.specs.Statements.{known, limit_code, turn_limit, turns_size_by, turns_code_by}
+use Rattle.cse_compile.specs.Wide as wide
+use Rattle.cse_compile.specs.Wide.{bare, with_a}
+use Rattle.cse_compile.specs.Setting.{Setting}
+use Rattle.cse_compile.specs.Statements as emit
+use Rattle.cse_compile.specs.Statements.{known, limit_code, turn_limit, turns_size_by, turns_code_by}
 use Rattle.cse_meaning.specs.Fit.{LimitFits}
 use Rattle.cse_steps.specs.Cell.{Cell, Number}
 use Rattle.cse_steps.specs.State.{World}

@@ -13,13 +13,13 @@ use Rattle.cse_code_typing.specs.Skeleton.{control_by}
 use Rattle.cse_logic_tree.specs.declared.tree.Found.TheVariants as h
 use Rattle.cse_logic_tree.specs.Typed.{Which, Here, At, Argument, OfNumber, OfWords, Limit, Fixed, Counted, Counting, Statement, Statements, Arms}
 use Rattle.cse_logic_tree.specs.Typed.{Empty, Set, SetText, SetItem, SetTextItem, SetCell, CallOf, If, For, Do, Jump', Impute, PutDeck, ErrMsg, no_statement, statement_and, no_arm, else_of, arm}
-use Rattle.cse_compile_code.specs.Wide as w
-use Rattle.cse_compile_code.specs.Wide.{Wide, bare, with_a, with_c, jump, value, pops, jump_size, jump_over}
-use Rattle.cse_compile_code.specs.Setting.{Setting}
-use Rattle.cse_compile_code.specs.declared.setting.Loop.{Loop}
-use Rattle.cse_compile_code.specs.Numbers.{behind, deepest}
-use Rattle.cse_compile_code.specs.Statements.{known, limit_code, which_size, which_code, drops_size, drops_code, argument_size, argument_code, arguments_size, arguments_code, turns_size_by, turns_code_by, turn_limit, head_size, head_code, step_code, exit_size_by, exit_code_by, jump_code_size, jump_code, front_size, front_code, loop_to, opener_at, turn_end_at, statement_size, block_size, arms_size, statement_code, block_code, arms_code}
-use Rattle.cse_compile_code.specs.Routines.{no_loop, entry_size_by, entry_code_by, routine_size, routine_code}
+use Rattle.cse_compile.specs.Wide as w
+use Rattle.cse_compile.specs.Wide.{Wide, bare, with_a, with_c, jump, value, pops, jump_size, jump_over}
+use Rattle.cse_compile.specs.Setting.{Setting}
+use Rattle.cse_compile.specs.declared.setting.Loop.{Loop}
+use Rattle.cse_compile.specs.Expressions.{behind, deepest}
+use Rattle.cse_compile.specs.Statements.{known, limit_code, which_size, which_code, drops_size, drops_code, argument_size, argument_code, arguments_size, arguments_code, turns_size_by, turns_code_by, turn_limit, head_size, head_code, step_code, exit_size_by, exit_code_by, jump_code_size, jump_code, front_size, front_code, loop_to, opener_at, turn_end_at, statement_size, block_size, arms_size, statement_code, block_code, arms_code}
+use Rattle.cse_compile.specs.Routines.{no_loop, entry_size_by, entry_code_by, routine_size, routine_code}
 use Rattle.cse_meaning.proofs.Lengths.{two, three, number_length, words_length, numbers_length, indexes_length, picks_length, pops_length}
 use Rattle.cse_meaning.proofs.StatementStacks.{jump_length}
 use Rattle.cse_meaning.proofs.TypedParts.{is_plain}

@@ -14,10 +14,10 @@ use Rattle.cse_code_typing.specs.Signature.{signature_by, indexes_of, parameters
 use Rattle.cse_logic_tree.specs.declared.tree.Pick.{Pick}
 use Rattle.cse_logic_tree.specs.Typed.{Number, Words, Numbers, Operations, Constant, Special', Variable', Item, ItemAt, Cell, Call, Group, Int, IsSpecial, Deck, TotOcc, MaxOcc, CurOcc, InSet, Minus, Not, Compare, CompareTexts, Chain}
 use Rattle.cse_logic_tree.specs.Typed.{Quoted, TextGlobal, TextItem, TextItemAt, TextGroup, no_number, number_and, no_operation, operation_and}
-use Rattle.cse_compile_code.specs.Wide as w
-use Rattle.cse_compile_code.specs.Wide.{Wide, bare, with_a, with_b, with_c, jump, undefined, occurrence, pops}
-use Rattle.cse_compile_code.specs.Setting.{size_at}
-use Rattle.cse_compile_code.specs.Numbers.{load, special_number, relation_number, operation_of, present_size, number_of_item, can_fail, deepest, row, picks_size, picks_code, deck_size, deck_code, count, behind, number_size, words_size, numbers_size, indexes_size, operations_size, number_code, words_code, numbers_code, indexes_code, operations_code}
+use Rattle.cse_compile.specs.Wide as w
+use Rattle.cse_compile.specs.Wide.{Wide, bare, with_a, with_b, with_c, jump, undefined, occurrence, pops}
+use Rattle.cse_compile.specs.Setting.{size_at}
+use Rattle.cse_compile.specs.Expressions.{load, special_number, relation_number, operation_of, present_size, number_of_item, can_fail, deepest, row, picks_size, picks_code, deck_size, deck_code, count, behind, number_size, words_size, numbers_size, indexes_size, operations_size, number_code, words_code, numbers_code, indexes_code, operations_code}
 use Rattle.cse_meaning.specs.Fit.{Spot, IsArray, IsDeck, ArePicks, IsFunction, row_count, numbers_kinds, NumberFits, WordsFit, NumbersFit, OperationsFit}
 use Rattle.cse_meaning.specs.Steps.{number_calls, words_calls, numbers_calls, operations_calls}
 use Rattle.cse_meaning.proofs.At.{HasAt, has_front, has_back}

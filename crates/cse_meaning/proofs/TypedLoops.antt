@@ -16,10 +16,10 @@ use Rattle.cse_code_typing.specs.Kinds.{gift_kinds}
 use Rattle.cse_code_typing.specs.Skeleton.{control_by}
 use Rattle.cse_code_typing.specs.Signature.{◌⇒◌, provided, signature_by, loops_by, is_record}
 use Rattle.cse_logic_tree.specs.Typed.{Limit, Fixed, Counted, Counting}
-use Rattle.cse_compile_code.specs.Wide as w
-use Rattle.cse_compile_code.specs.Wide.{Wide, bare, with_a, with_c, jump, jump_size, jump_over, value}
-use Rattle.cse_compile_code.specs.Numbers.{load, store}
-use Rattle.cse_compile_code.specs.Statements.{known, limit_code, turns, turns_size_by, turns_code_by, head_size, head_code, step_code, exit_size_by, exit_code_by, front_size, guard_size}
+use Rattle.cse_compile.specs.Wide as w
+use Rattle.cse_compile.specs.Wide.{Wide, bare, with_a, with_c, jump, jump_size, jump_over, value}
+use Rattle.cse_compile.specs.Expressions.{load, store}
+use Rattle.cse_compile.specs.Statements.{known, limit_code, turns, turns_size_by, turns_code_by, head_size, head_code, step_code, exit_size_by, exit_code_by, front_size, guard_size}
 use Rattle.cse_meaning.specs.Fit.{Spot, IsExit, LimitFits, CountingFits, over}
 use Rattle.cse_meaning.proofs.At.{HasAt}
 use Rattle.cse_meaning.proofs.Spans.{joined, single, IsSealed, sealed_join, sealed_one, sealed_around, jump_fine, loop_sealed, opener_fine}

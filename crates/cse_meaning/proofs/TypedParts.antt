@@ -13,7 +13,7 @@ use Rattle.cse_code_typing.specs.Signature.{Scene, signature_by}
 use Rattle.cse_code_typing.specs.Rule.{Edge}
 use Rattle.cse_code_typing.specs.Typing.{AgreesBelow, LeadsTo}
 use Rattle.cse_verify.specs.Bound.{cost}
-use Rattle.cse_compile_code.specs.Wide.{Wide, jump}
+use Rattle.cse_compile.specs.Wide.{Wide, jump}
 use Rattle.cse_meaning.proofs.At.{HasAt}
 use Rattle.cse_meaning.proofs.TypedCounts.{Counts, counts_join, counts_one, counts_none}
 use Rattle.cse_meaning.proofs.Spans.{Span, joined, single, IsSealed, sealed_join, sealed_none, sealed_one, jump_fine}

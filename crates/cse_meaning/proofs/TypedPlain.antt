@@ -18,9 +18,9 @@ use Rattle.cse_logic_tree.specs.declared.tree.Present.TheVariants as p
 use Rattle.cse_logic_tree.specs.declared.tree.Pick.{Pick}
 use Rattle.cse_logic_tree.specs.Typed.{Number, Words, Numbers, Operations, Constant, Special', Variable', Item, ItemAt, Cell, Call, Group, Int, IsSpecial, Deck, TotOcc, MaxOcc, CurOcc, InSet, Minus, Not, Compare, CompareTexts, Chain}
 use Rattle.cse_logic_tree.specs.Typed.{Quoted, TextGlobal, TextItem, TextItemAt, TextGroup, no_number, number_and, no_operation, operation_and}
-use Rattle.cse_compile_code.specs.Wide.{Wide, bare, with_c, pops, undefined, jump}
-use Rattle.cse_compile_code.specs.Setting.{Setting}
-use Rattle.cse_compile_code.specs.Numbers.{load, store, operation_of, here_code, present_size, number_of_item, text_of_item, can_fail, deepest, row, picks_size, picks_code, deck_code, behind, number_size, words_size, indexes_size, number_code, words_code, numbers_code, indexes_code, operations_code}
+use Rattle.cse_compile.specs.Wide.{Wide, bare, with_c, pops, undefined, jump}
+use Rattle.cse_compile.specs.Setting.{Setting}
+use Rattle.cse_compile.specs.Expressions.{load, store, operation_of, here_code, present_size, number_of_item, text_of_item, can_fail, deepest, row, picks_size, picks_code, deck_code, behind, number_size, words_size, indexes_size, number_code, words_code, numbers_code, indexes_code, operations_code}
 use Rattle.cse_meaning.proofs.TypedParts.{is_plain}
 
 module _ (x : Lists) where

@@ -14,11 +14,11 @@ use Rattle.cse_code_typing.specs.Skeleton.{control_by}
 use Rattle.cse_code_typing.specs.Signature.{signature_by}
 use Rattle.cse_logic_tree.specs.Typed.{Number, Statement, Statements, Arms}
 use Rattle.cse_logic_tree.specs.Typed.{Empty, Set, SetText, SetItem, SetTextItem, SetCell, CallOf, If, For, Do, Jump', Impute, PutDeck, ErrMsg, no_statement, statement_and, no_arm, else_of, arm}
-use Rattle.cse_compile_code.specs.Wide as w
-use Rattle.cse_compile_code.specs.Wide.{Wide, with_a, with_c, jump, jump_size, jump_over}
-use Rattle.cse_compile_code.specs.declared.setting.Loop.{Loop}
-use Rattle.cse_compile_code.specs.Numbers.{store, number_size, words_size, number_code, words_code}
-use Rattle.cse_compile_code.specs.Statements.{which_size, head_size, head_code, turn_limit, step_code, front_size, front_code, guard_size, guard_code, loop_to, jump_code, jump_code_size, statement_size, block_size, arms_size, statement_code, block_code, arms_code}
+use Rattle.cse_compile.specs.Wide as w
+use Rattle.cse_compile.specs.Wide.{Wide, with_a, with_c, jump, jump_size, jump_over}
+use Rattle.cse_compile.specs.declared.setting.Loop.{Loop}
+use Rattle.cse_compile.specs.Expressions.{store, number_size, words_size, number_code, words_code}
+use Rattle.cse_compile.specs.Statements.{which_size, head_size, head_code, turn_limit, step_code, front_size, front_code, guard_size, guard_code, loop_to, jump_code, jump_code_size, statement_size, block_size, arms_size, statement_code, block_code, arms_code}
 use Rattle.cse_meaning.specs.Fit.{Spot, NumberFits, IsSettled, JumpFits, Within, over, StatementFits, BlockFits, ArmsFit}
 use Rattle.cse_meaning.specs.Steps.{number_calls, statement_steps, block_steps, arms_steps}
 use Rattle.cse_meaning.proofs.At.{HasAt, has_front, has_back}

@@ -18,10 +18,10 @@ use Rattle.cse_verify.specs.Weight.{product, weight}
 use Rattle.cse_code_typing.specs.Code.{code_of}
 use Rattle.cse_verify.specs.Bound.{partial, bounds_below}
 use Rattle.cse_logic_tree.specs.Typed.{Statements}
-use Rattle.cse_compile_code.specs.Wide.{Wide, bare, with_c, undefined}
-use Rattle.cse_compile_code.specs.Statements.{block_size, block_code, exit_size_by, exit_code_by}
-use Rattle.cse_compile_code.specs.Routines.{no_loop, entry_size_by, entry_code_by, routine_code}
-use Rattle.cse_compile_code.proofs.Small.{exit_some}
+use Rattle.cse_compile.specs.Wide.{Wide, bare, with_c, undefined}
+use Rattle.cse_compile.specs.Statements.{block_size, block_code, exit_size_by, exit_code_by}
+use Rattle.cse_compile.specs.Routines.{no_loop, entry_size_by, entry_code_by, routine_code}
+use Rattle.cse_compile.proofs.Small.{exit_some}
 use Rattle.cse_meaning.specs.Stands.{AllStand}
 use Rattle.cse_meaning.specs.Fit.{Spot, IsExit, IsSettled, BlockFits}
 use Rattle.cse_meaning.specs.Steps.{block_steps, routine_steps}

@@ -12,8 +12,8 @@ use Rattle.cse_code_typing.specs.Skeleton.{control_by}
 use Rattle.cse_code_typing.specs.Signature.{Scene, Signature, ◌⇒◌, signature_by, loops_by}
 use Rattle.cse_code_typing.specs.Rule.{Edge, exits}
 use Rattle.cse_code_typing.specs.Typing.{AgreesBelow, LeadsTo}
-use Rattle.cse_compile_code.specs.Wide as w
-use Rattle.cse_compile_code.specs.Wide.{Wide}
+use Rattle.cse_compile.specs.Wide as w
+use Rattle.cse_compile.specs.Wide.{Wide}
 
 abbrev pub Stack : Type 0
 Stack = List Kind

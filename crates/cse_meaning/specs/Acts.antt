@@ -8,11 +8,11 @@ use Rattle.cse_syntax_tree.specs.Tree.{Spelling}
 use Rattle.cse_logic_tree.specs.declared.tree.Variable.{Variable}
 use Rattle.cse_logic_tree.specs.declared.tree.Variable.TheVariants as v
 use Rattle.cse_logic_tree.specs.Typed as tree
-use Rattle.cse_compile_code.specs.Wide.{with_c}
-use Rattle.cse_compile_code.specs.Setting.{Setting, result_local}
-use Rattle.cse_compile_code.specs.Numbers.{number_size, number_code}
-use Rattle.cse_compile_code.specs.declared.setting.Loop.{Loop}
-use Rattle.cse_compile_code.specs.Statements.{statement_size, statement_code}
+use Rattle.cse_compile.specs.Wide.{with_c}
+use Rattle.cse_compile.specs.Setting.{Setting, result_local}
+use Rattle.cse_compile.specs.Expressions.{number_size, number_code}
+use Rattle.cse_compile.specs.declared.setting.Loop.{Loop}
+use Rattle.cse_compile.specs.Statements.{statement_size, statement_code}
 use Rattle.cse_meaning.specs.Fit.{IsNumberVariable, NumberFits}
 use Rattle.cse_steps.specs.Cell.{Number}
 use Rattle.cse_steps.specs.State.{World}

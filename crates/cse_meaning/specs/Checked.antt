@@ -12,7 +12,7 @@ use Rattle.cse_logic_names.specs.WellTyped.{IsTypedAs}
 use Rattle.cse_code_typing.specs.Shapes as image
 use Rattle.cse_code_typing.specs.Typed.{IsTypedRoutine}
 use Rattle.cse_verify.specs.Bound.{bound, bounds_below}
-use Rattle.cse_compile_code.specs.Outline.{Outline}
+use Rattle.cse_compile.specs.Outline.{Outline}
 use Rattle.cse_compile.specs.Program.{IsProgramOf, entry_of, outlines, setting_for, sizes}
 use Rattle.cse_meaning.specs.Fit.{Spot, BlockFits}
 use Rattle.cse_meaning.specs.Steps.{routine_steps}

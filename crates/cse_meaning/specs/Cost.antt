@@ -12,10 +12,10 @@ use Rattle.cse_logic_tree.specs.Erase.{erase, erase_counting, erase_statement}
 use Rattle.cse_logic_tree.specs.Tokens.{expr_tokens, counting_tokens, stmt_tokens}
 use Rattle.cse_logic_names.specs.MessageFile.{MessageText}
 use Rattle.cse_verify.specs.Bound.{bound}
-use Rattle.cse_compile_code.specs.Outline.{Outline}
+use Rattle.cse_compile.specs.Outline.{Outline}
 use Rattle.cse_compile.specs.Program.{outlines, setting_for, sizes}
-use Rattle.cse_compile_code.specs.Setting.{Setting}
-use Rattle.cse_compile_code.specs.Statements.{turn_limit}
+use Rattle.cse_compile.specs.Setting.{Setting}
+use Rattle.cse_compile.specs.Statements.{turn_limit}
 use Rattle.cse_meaning.specs.Steps.{number_calls, words_calls, numbers_calls, which_calls, arguments_calls}
 use Rattle.cse_meaning.specs.Checked.{IsCompiled}
 

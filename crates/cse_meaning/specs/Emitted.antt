@@ -12,8 +12,8 @@ use Rattle.cse_code_typing.specs.Code.{code_of}
 use Rattle.cse_code_typing.specs.Typed.{scene_of, IsTypedRoutine}
 use Rattle.cse_verify.specs.Bound.{partial, bounds_below, bound}
 use Rattle.cse_logic_tree.specs.Typed.{Statements}
-use Rattle.cse_compile_code.specs.Setting.{Setting}
-use Rattle.cse_compile_code.specs.Routines.{routine_code}
+use Rattle.cse_compile.specs.Setting.{Setting}
+use Rattle.cse_compile.specs.Routines.{routine_code}
 use Rattle.cse_meaning.specs.Stands.{AllStand}
 use Rattle.cse_meaning.specs.Fit.{Spot, IsSettled, BlockFits}
 use Rattle.cse_meaning.specs.Steps.{routine_steps}

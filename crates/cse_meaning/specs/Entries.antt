@@ -1,6 +1,6 @@
 -- How many entries of tables a code names: constants, loop limits and texts, each as often as it stands there.
 use Rattle.std.specs.Prelude.{ℕ, ◌+◌, List, [], ◌∷◌}
-use Rattle.cse_compile_code.specs.Wide.{Wide, Constant, Chars, Turns, Plain}
+use Rattle.cse_compile.specs.Wide.{Wide, Constant, Chars, Turns, Plain}
 
 pub data Table : Type 0 where
   Constants : Table

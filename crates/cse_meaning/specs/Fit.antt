@@ -28,8 +28,8 @@ use Rattle.cse_logic_tree.specs.Typed.{Number, Words, Numbers, Operations, Const
 use Rattle.cse_logic_tree.specs.Typed.{Quoted, TextGlobal, TextItem, TextItemAt, TextGroup, no_number, number_and, no_operation, operation_and}
 use Rattle.cse_logic_tree.specs.Typed.{Which, Here, At, Argument, OfNumber, OfWords, Limit, Fixed, Counted, Counting, Statement, Statements, Arms}
 use Rattle.cse_logic_tree.specs.Typed.{Empty, Set, SetText, SetItem, SetTextItem, SetCell, CallOf, If, For, Do, Jump', Impute, PutDeck, ErrMsg, no_statement, statement_and, no_arm, else_of, arm}
-use Rattle.cse_compile_code.specs.Setting.{Setting, result_local}
-use Rattle.cse_compile_code.specs.Numbers.{count}
+use Rattle.cse_compile.specs.Setting.{Setting, result_local}
+use Rattle.cse_compile.specs.Expressions.{count}
 
 -- a place of a routine: what stands around its instructions, its number, what its code depends on, and the records of the `for`s around
 pub record Spot : Type 0 where

@@ -9,7 +9,7 @@ use Rattle.cse_code_typing.specs.declared.kind.Kind.TheVariants as kind
 use Rattle.cse_code_typing.specs.Order.{is_run}
 use Rattle.cse_code_typing.specs.Signature.{local_at, rows_of}
 use Rattle.cse_code_typing.specs.Typed.{scene_of}
-use Rattle.cse_compile_code.specs.Setting.{Setting, result_local}
+use Rattle.cse_compile.specs.Setting.{Setting, result_local}
 use Rattle.cse_meaning.specs.Fit as fit
 use Rattle.cse_steps.specs.Cell.{Cell, Number, Occurrence}
 use Rattle.cse_steps.specs.State.{Open, World}

@@ -4,9 +4,9 @@ use Rattle.cse_case.specs.Case.{CaseText}
 use Rattle.cse_dict.specs.Sound.{IsSound}
 use Rattle.cse_code_typing.specs.Code.{code_of}
 use Rattle.cse_logic_tree.specs.Typed.{Statement}
-use Rattle.cse_compile_code.specs.Setting.{Setting}
-use Rattle.cse_compile_code.specs.declared.setting.Loop.{Loop}
-use Rattle.cse_compile_code.specs.Statements.{statement_size, statement_code}
+use Rattle.cse_compile.specs.Setting.{Setting}
+use Rattle.cse_compile.specs.declared.setting.Loop.{Loop}
+use Rattle.cse_compile.specs.Statements.{statement_size, statement_code}
 use Rattle.cse_meaning.specs.Fit.{IsExit, StatementFits}
 use Rattle.cse_steps.specs.Cell.{Cell, Number}
 use Rattle.cse_steps.specs.State.{Open, World}

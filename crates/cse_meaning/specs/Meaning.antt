@@ -11,7 +11,7 @@ use Rattle.cse_verify.specs.CaseEvents.{Moment}
 use Rattle.cse_logic_tree.specs.declared.tree.Owner.{Owner}
 use Rattle.cse_logic_tree.specs.declared.tree.Owner.TheVariants as owners
 use Rattle.cse_logic_tree.specs.Typed.{Statement, Statements, Empty, no_statement, statement_and, Body, Plain, Preproc, Both, Postproc, Procedure, Function, Declaration, Tree}
-use Rattle.cse_compile_code.specs.Tables.{arrays_in, functions_in}
+use Rattle.cse_compile.specs.Tables.{arrays_in, functions_in}
 use Rattle.cse_steps.specs.State.{World}
 use Rattle.cse_meaning.specs.Setting.{Context, Locals, Valued, Functions}
 use Rattle.cse_meaning.specs.Statements.{Flow, Fell, Broke, Skipped, Left, all_do}

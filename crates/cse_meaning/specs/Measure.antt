@@ -3,8 +3,8 @@ use Rattle.std.specs.Prelude.{◌≤◌, ℕ, ◌+◌, ◌*◌}
 use Rattle.cse_logic_tree.specs.Typed.{Statements}
 use Rattle.cse_logic_tree.specs.Erase.{erase_block}
 use Rattle.cse_logic_tree.specs.Tokens.{stmts_tokens}
-use Rattle.cse_compile_code.specs.Setting.{Setting}
-use Rattle.cse_compile_code.specs.Routines.{routine_size, routine_code}
+use Rattle.cse_compile.specs.Setting.{Setting}
+use Rattle.cse_compile.specs.Routines.{routine_size, routine_code}
 use Rattle.cse_meaning.specs.Few.{BlockIsFew}
 use Rattle.cse_meaning.specs.Entries.{Table, entries}
 

@@ -7,7 +7,7 @@ use Rattle.cse_syntax_tree.specs.declared.tree.Count.TheVariants as counts
 use Rattle.cse_logic_tree.specs.declared.tree.Variable.{Variable}
 use Rattle.cse_logic_tree.specs.declared.tree.Variable.TheVariants as v
 use Rattle.cse_logic_tree.specs.Typed as tree
-use Rattle.cse_compile_code.specs.Statements.{turn_limit}
+use Rattle.cse_compile.specs.Statements.{turn_limit}
 use Rattle.cse_meaning.specs.Statements.{turns}
 use Rattle.cse_logic_tree.specs.Typed.{Which, Here, At, Limit, Fixed, Counted, Counting, Argument, OfNumber, OfWords, Statement, Statements, Arms}
 use Rattle.cse_logic_tree.specs.Typed.{Empty, Set, SetText, SetItem, SetTextItem, SetCell, CallOf, If, For, Do, Jump', Impute, PutDeck, ErrMsg, no_statement, statement_and, no_arm, else_of, arm}

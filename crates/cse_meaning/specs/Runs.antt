@@ -4,7 +4,7 @@ use Rattle.cse_image_parts.specs.declared.instruction.Instr.{Instr}
 use Rattle.cse_image_parts.specs.Image.{Lists, RoutineLists}
 use Rattle.cse_code_typing.specs.Code.{code_of}
 use Rattle.cse_verify.specs.Verified.{VerifiedProgram}
-use Rattle.cse_compile_code.specs.Wide.{Wide}
+use Rattle.cse_compile.specs.Wide.{Wide}
 use Rattle.cse_meaning.specs.Stands.{Stands}
 use Rattle.cse_steps.specs.Cell.{Cell}
 use Rattle.cse_steps.specs.State.{Open, Call, World, State}

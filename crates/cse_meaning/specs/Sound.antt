@@ -12,8 +12,8 @@ use Rattle.cse_logic_names.specs.MessageFile.{MessageText}
 use Rattle.cse_logic_names.specs.OrderFile.{IsOrder}
 use Rattle.cse_logic_names.specs.WellTyped.{IsTypedAs}
 use Rattle.cse_verify.specs.Bound.{bound}
-use Rattle.cse_compile_code.specs.Order.{edit_order}
-use Rattle.cse_compile_code.specs.Outline.{Outline}
+use Rattle.cse_compile.specs.Order.{edit_order}
+use Rattle.cse_compile.specs.Outline.{Outline}
 use Rattle.cse_code_typing.specs.Order.{NamesEachOnce}
 use Rattle.cse_compile.specs.Program.{outlines}
 use Rattle.cse_compile.specs.Compiled.{IsSound}

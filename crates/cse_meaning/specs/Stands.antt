@@ -4,7 +4,7 @@ use Rattle.cse_image_parts.specs.declared.instruction.Op.TheVariants as ops
 use Rattle.cse_image_parts.specs.declared.instruction.Instr.{Instr}
 use Rattle.cse_image_parts.specs.Image.{Lists}
 use Rattle.cse_image_parts.specs.Turns.{limit_of}
-use Rattle.cse_compile_code.specs.Wide.{Wide, Constant, Chars, Turns, Plain}
+use Rattle.cse_compile.specs.Wide.{Wide, Constant, Chars, Turns, Plain}
 
 abbrev pub Stands : Lists → Instr → Wide → Type 0
 Stands x i (Constant z) = (i.op ≡ ops.Number) × (slice_get x.constants i.c ≡ Some z)

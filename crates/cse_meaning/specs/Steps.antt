@@ -6,11 +6,11 @@ use Rattle.cse_logic_tree.specs.Typed.{Number, Words, Numbers, Operations, Const
 use Rattle.cse_logic_tree.specs.Typed.{Quoted, TextGlobal, TextItem, TextItemAt, TextGroup, no_number, number_and, no_operation, operation_and}
 use Rattle.cse_logic_tree.specs.Typed.{Which, Here, At, Argument, OfNumber, OfWords, Statement, Statements, Arms}
 use Rattle.cse_logic_tree.specs.Typed.{Empty, Set, SetText, SetItem, SetTextItem, SetCell, CallOf, If, For, Do, Jump', Impute, PutDeck, ErrMsg, no_statement, statement_and, no_arm, else_of, arm}
-use Rattle.cse_compile_code.specs.Wide.{jump_size}
-use Rattle.cse_compile_code.specs.Setting.{Setting}
-use Rattle.cse_compile_code.specs.Numbers.{number_size}
-use Rattle.cse_compile_code.specs.Statements.{statement_size, arms_size, head_size, turn_limit, exit_size}
-use Rattle.cse_compile_code.specs.Routines.{entry_size_by}
+use Rattle.cse_compile.specs.Wide.{jump_size}
+use Rattle.cse_compile.specs.Setting.{Setting}
+use Rattle.cse_compile.specs.Expressions.{number_size}
+use Rattle.cse_compile.specs.Statements.{statement_size, arms_size, head_size, turn_limit, exit_size}
+use Rattle.cse_compile.specs.Routines.{entry_size_by}
 
 -- ---- the steps of the routines that are called
 

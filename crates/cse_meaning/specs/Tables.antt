@@ -3,7 +3,7 @@ use Rattle.std.specs.Prelude.{◌≡◌, ◌==◌, Bool, ◌&&◌, find, Option,
 use Rattle.cse_image_parts.specs.Codes.{event_code}
 use Rattle.cse_image_parts.specs.declared.entries.Event.{Event}
 use Rattle.cse_logic_tree.specs.Typed.{Tree}
-use Rattle.cse_compile_code.specs.Outline.{Handler, handlers_in}
+use Rattle.cse_compile.specs.Outline.{Handler, handlers_in}
 use Rattle.cse_meaning.specs.Meaning.{statements_of}
 
 abbrev pub is_same_event : Event → Event → Bool

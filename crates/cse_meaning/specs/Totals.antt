@@ -4,10 +4,10 @@ use Rattle.std.specs.List.{flat_map, AllByRecursion}
 use Rattle.cse_logic_tree.specs.Typed.{Declaration, Tree}
 use Rattle.cse_logic_tree.specs.Erase.{erase_tree}
 use Rattle.cse_logic_tree.specs.Tokens.{tree_tokens}
-use Rattle.cse_compile_code.specs.Wide.{Wide}
-use Rattle.cse_compile_code.specs.Setting.{Setting}
-use Rattle.cse_compile_code.specs.Routines.{routine_code}
-use Rattle.cse_compile_code.specs.Outline.{Outline, functions_in, handlers_in}
+use Rattle.cse_compile.specs.Wide.{Wide}
+use Rattle.cse_compile.specs.Setting.{Setting}
+use Rattle.cse_compile.specs.Routines.{routine_code}
+use Rattle.cse_compile.specs.Outline.{Outline, functions_in, handlers_in}
 use Rattle.cse_meaning.specs.Few.{BlockIsFew}
 use Rattle.cse_meaning.specs.Entries.{Table, entries}
 

@@ -3,8 +3,8 @@
 use Rattle.std.specs.Prelude.{ℕ, ◌+◌, List, length, Option}
 use Rattle.cse_case.specs.Case.{CaseText}
 use Rattle.cse_logic_tree.specs.Typed as tree
-use Rattle.cse_compile_code.specs.Setting.{Setting}
-use Rattle.cse_compile_code.specs.Numbers.{number_size, number_code, words_size, words_code}
+use Rattle.cse_compile.specs.Setting.{Setting}
+use Rattle.cse_compile.specs.Expressions.{number_size, number_code, words_size, words_code}
 use Rattle.cse_meaning.specs.Fit.{NumberFits, WordsFit}
 use Rattle.cse_steps.specs.Cell.{Cell, Number, Words}
 use Rattle.cse_steps.specs.State.{World}

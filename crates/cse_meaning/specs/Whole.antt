@@ -18,11 +18,11 @@ use Rattle.cse_logic_tree.specs.declared.tree.Field.{Field}
 use Rattle.cse_logic_tree.specs.declared.tree.Owner.{Owner}
 use Rattle.cse_logic_tree.specs.declared.tree.Owner.TheVariants as owners
 use Rattle.cse_logic_tree.specs.Typed.{Statements, Function, Tree}
-use Rattle.cse_compile_code.specs.declared.outlines.RoutineSort.TheVariants as sorts
-use Rattle.cse_compile_code.specs.Outline.{Outline, outline_of, result_at, event_of, routine_of as routine_for}
-use Rattle.cse_compile_code.specs.Tables.{functions_in}
-use Rattle.cse_compile_code.specs.Setting.{Setting}
-use Rattle.cse_compile_code.specs.Routines.{routine_code}
+use Rattle.cse_compile.specs.declared.outlines.RoutineSort.TheVariants as sorts
+use Rattle.cse_compile.specs.Outline.{Outline, outline_of, result_at, event_of, routine_of as routine_for}
+use Rattle.cse_compile.specs.Tables.{functions_in}
+use Rattle.cse_compile.specs.Setting.{Setting}
+use Rattle.cse_compile.specs.Routines.{routine_code}
 use Rattle.cse_meaning.specs.Fit.{BlockFits}
 use Rattle.cse_meaning.specs.Emitted.{spot_of}
 use Rattle.cse_meaning.specs.Setting.{Context}

@@ -7,7 +7,7 @@ use Rattle.cse_image_parts.specs.Limits.{most_arrays, most_cells, most_dimension
 use Rattle.cse_image_parts.specs.Placeholders.{has_few_placeholders}
 use Rattle.cse_image_parts.specs.Texts.{is_short}
 use Rattle.cse_logic_tree.specs.Typed.{Function, MessageEntry, Tree}
-use Rattle.cse_compile_code.specs.Tables.{arrays_in, functions_in}
+use Rattle.cse_compile.specs.Tables.{arrays_in, functions_in}
 use Rattle.cse_compile.specs.Program.{declarations, outlines}
 use Rattle.cse_meaning.specs.Totals.{tokens_of}
 

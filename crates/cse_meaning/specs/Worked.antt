@@ -6,7 +6,7 @@ use Rattle.cse_value.specs.declared.shape.ItemKind.TheVariants as kinds
 use Rattle.cse_image_parts.specs.declared.entries.EventCode.TheVariants as events
 use Rattle.cse_dict.specs.declared.rows.NumberSpan.{NumberSpan}
 use Rattle.cse_dict.specs.Dictionary.{DictionaryText, ItemText}
-use Rattle.cse_lines.specs.Columns.{LineText, no_line}
+use Rattle.cse_case.specs.Columns.{LineText, no_line}
 use Rattle.cse_case.specs.Case.{CaseText}
 use Rattle.cse_verify.specs.CaseEvents.{Moment, moment}
 use Rattle.cse_decks.specs.Store.{Kept}

@@ -1,2 +1,4 @@
+pub mod Changes
+pub mod Files
 pub mod Apart
 pub mod Roles

@@ -5,16 +5,16 @@ ghost use Rattle.cse_office.specs.Roles.{uses};
 ghost use Rattle.cse_office.specs.declared.words.Command.TheVariants.{Diff as DiffCommand};
 
 use crate::files::{opened, print_text, sheet_of, write_text, written};
+use crate::names::Names;
 use crate::stop::Stop;
+use crate::text::Text;
 use crate::words::{Asked, Slot};
-use cse_changes::{
+use crate::{
     Area, CompareFault, Diff, SeenFault, Watching, compare_watched, put_diff, put_page, put_sheet,
 };
 use cse_dict::Dictionary;
 use cse_fault_numbers::UNKNOWN_NAME;
 use cse_value::shape::ID_OWNER;
-use cse_views::names::Names;
-use cse_views::text::Text;
 use std::alloc::Global;
 use std::rt::Files;
 

@@ -1,14 +1,14 @@
 //! Files, and what is printed.
 
+use crate::names::Names;
+use crate::sheet::Sheet;
 use crate::stop::Stop;
+use crate::text::Text;
 use crate::words::{Asked, Slot};
 use cse_dict::Dictionary;
 use cse_fault_numbers::{TOO_MANY, WRITE_FAILED};
 use cse_files::{OpenedInput, WholeFile, open_input, read_whole, replace};
 use cse_value::{Writes, write_all};
-use cse_views::names::Names;
-use cse_views::sheet::Sheet;
-use cse_views::text::Text;
 use std::alloc::Global;
 use std::io::BufReader;
 use std::rt::Files;

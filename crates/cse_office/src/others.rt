@@ -9,15 +9,15 @@ use crate::files::{
     bytes_of, dict_text, dictionary_of, names_of, opened, print_text, sheet_of, source_of,
     write_text, written,
 };
+use crate::names::Names;
 use crate::stop::Stop;
+use crate::text::Text;
 use crate::words::{Asked, Slot};
-use cse_image::{Program, read_image};
-use cse_views::names::Names;
-use cse_views::text::Text;
-use cse_views::{
+use crate::{
     NO_FREQUENCIES, NO_LISTING, Report, look_at, put_image, put_look, put_report, put_report_page,
     put_report_sheet,
 };
+use cse_image::{Program, read_image};
 use std::rt::Files;
 
 /// The most bytes of an image.

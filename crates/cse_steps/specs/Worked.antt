@@ -10,7 +10,7 @@ use Rattle.cse_image_parts.specs.declared.instruction.Instr.{Instr}
 use Rattle.cse_image_parts.specs.declared.instruction.Op.{Op}
 use Rattle.cse_image_parts.specs.declared.instruction.Op.TheVariants as ops
 use Rattle.cse_dict.specs.Dictionary.{DictionaryText}
-use Rattle.cse_lines.specs.Columns.{no_line}
+use Rattle.cse_case.specs.Columns.{no_line}
 use Rattle.cse_case.specs.Case.{CaseText}
 use Rattle.cse_verify.specs.Verified.{VerifiedProgram}
 use Rattle.cse_steps.specs.Cell.{Cell, Index, Occurrence, Words}

@@ -7,7 +7,7 @@ use Rattle.cse_image_parts.specs.declared.entries.Gift.TheVariants as gifts
 use Rattle.cse_image_parts.specs.declared.instruction.Instr.{Instr}
 use Rattle.cse_image_parts.specs.declared.instruction.Op.TheVariants as ops
 use Rattle.cse_dict.specs.Dictionary.{DictionaryText}
-use Rattle.cse_lines.specs.Columns.{LineText, no_line}
+use Rattle.cse_case.specs.Columns.{LineText, no_line}
 use Rattle.cse_case.specs.Case.{CaseText}
 use Rattle.cse_verify.specs.CaseEvents.{moment}
 use Rattle.cse_verify.specs.Verified.{VerifiedProgram}

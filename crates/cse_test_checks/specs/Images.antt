@@ -2,7 +2,7 @@
 use Rattle.std.specs.Prelude.{◌≡◌, ℕ, ◌+◌, List, [], ◌∷◌, ◌++◌, length, map, take, drop, codes, replicate, Option, Some, None, Result, Ok, Err}
 use Rattle.std.specs.List.{flat_map, range_with_len}
 use Rattle.byteorder.specs.Endian.{little_bytes}
-use Rattle.cse_image_codec.specs.declared.fault.FieldFault.{FieldFault}
+use Rattle.cse_image_parts.specs.declared.fault.FieldFault.{FieldFault}
 use Rattle.cse_image_parts.specs.Image.{Image}
 use Rattle.cse_image.specs.Place.{placed}
 use Rattle.cse_image.specs.Reading.{reading}

@@ -3,10 +3,10 @@ use Rattle.std.specs.Prelude.{◌≡◌, ℕ, true, List, [], ◌∷◌, ◌++�
 use Rattle.std.specs.Str.{encode_utf8_all}
 use Rattle.cse_dict.specs.Dictionary.{DictionaryText, dictionary_of}
 use Rattle.cse_sections.specs.Sections.{sections_of}
-use Rattle.cse_lines.specs.Columns.{LineText, line_text}
-use Rattle.cse_lines.specs.Runs.{fault_in, given_runs}
-use Rattle.cse_lines.specs.declared.line.Ending.{Ending}
-use Rattle.cse_lines.specs.declared.line.Ending.TheVariants.{FileEnd, Feed, ReturnFeed}
+use Rattle.cse_case.specs.Columns.{LineText, line_text}
+use Rattle.cse_case.specs.Runs.{fault_in, given_runs}
+use Rattle.cse_case.specs.declared.line.Ending.{Ending}
+use Rattle.cse_case.specs.declared.line.Ending.TheVariants.{FileEnd, Feed, ReturnFeed}
 use Rattle.cse_test_checks.specs.Rows.{Gives}
 
 -- the type in column 1, the household in columns 2 to 4; a person has six columns

@@ -1,8 +1,8 @@
 //! Rows that were worked by hand: two files, and what is told of them. A comparison that gives up is refused by no clause, so each
 //! way through it has a row.
 
-use cse_changes::{CompareFault, Count, compare};
 use cse_dict::Dictionary;
+use cse_office::{CompareFault, Count, compare};
 use cse_value::Reads;
 use std::alloc::Global;
 

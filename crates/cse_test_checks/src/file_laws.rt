@@ -1,4 +1,4 @@
-//! Rows of the files that a run reads and writes. Of cse_lines: the runs that `RunReader::next` gives, and the first fault.
+//! Rows of the files that a run reads and writes. Of cse_case: the runs that `RunReader::next` gives, and the first fault.
 //! Of cse_decks: `Store::new`, `load`, `save` and `set_text`, but for want of memory. Of cse_report: what reports list, and
 //! what frequencies are written.
 

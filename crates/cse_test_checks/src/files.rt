@@ -2,8 +2,8 @@
 //! `file_laws`.
 
 use crate::persons::persons;
+use cse_case::RunReader;
 use cse_dict::Dictionary;
-use cse_lines::RunReader;
 use cse_value::Reads;
 use std::alloc::Global;
 use std::io;

@@ -18,8 +18,8 @@ use Rattle.cse_image_parts.specs.declared.version.Version.TheVariants as version
 use Rattle.cse_image_parts.specs.Fields.{instructions_in, last_event, is_after}
 use Rattle.cse_image_parts.specs.Image.{Image, RoutineLists}
 use Rattle.cse_image_parts.proofs.EventLaws.{last_is}
-use Rattle.cse_image_codec.specs.Reader.{AllAfter}
-use Rattle.cse_image_codec.proofs.Algebra.{after_at}
+use Rattle.cse_image_parts.specs.Reader.{AllAfter}
+use Rattle.cse_image_parts.proofs.Algebra.{after_at}
 use Rattle.cse_image.specs.Spelling.{RoutineFits, EventFits, Fits}
 use Rattle.cse_code_typing.specs.Code.{start_of, part, code_of}
 use Rattle.cse_code_typing.specs.Shapes.{shape_of}

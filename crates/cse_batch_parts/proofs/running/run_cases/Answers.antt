@@ -1,7 +1,7 @@
 use Rattle.std.proofs.Common.{◌∙◌, ap, length, refl, inl, inr}
 use Rattle.cse_lemmas.proofs.Booleans.{bool_byte-cond}
 use Rattle.cse_value.proofs.GatherLaws.{Gathering-none}
-use Rattle.cse_lines.specs.Reader.{ReaderText}
+use Rattle.cse_case.specs.Reader.{ReaderText}
 use Rattle.cse_report.specs.Held.{Held}
 use Rattle.cse_report.specs.declared.reports.Reports.{Reports}
 use Rattle.cse_batch_parts.proofs.OutputLaws.{left_then, same_then}

@@ -2,11 +2,11 @@ use Rattle.std.proofs.Common.{refl}
 use Rattle.std.specs.Str.{chars, is_utf8}
 use lib.Utf8.{encode}
 use Rattle.cse_value.specs.Field.{put}
-use Rattle.cse_lines.specs.Columns.{line_text, id_of}
-use Rattle.cse_lines.specs.Field.{ids_of, least_width, record_of, width_of}
-use Rattle.cse_lines.specs.Line.{lines_in}
-use Rattle.cse_lines.specs.Runs.{line_fault, given_of, fault_in}
-use Rattle.cse_lines.specs.Written.{written_line}
+use Rattle.cse_case.specs.Columns.{line_text, id_of}
+use Rattle.cse_case.specs.NamedColumns.{ids_of, least_width, record_of, width_of}
+use Rattle.cse_case.specs.Line.{lines_in}
+use Rattle.cse_case.specs.Runs.{line_fault, given_of, fault_in}
+use Rattle.cse_case.specs.Written.{written_line}
 use Rattle.cse_case.specs.Case.{places_of, place_of, with_number}
 use Rattle.cse_case.specs.Seen.{occurrence_places, unseen_of, is_case}
 use Rattle.cse_code_typing.specs.Bracket.{around, around_below}

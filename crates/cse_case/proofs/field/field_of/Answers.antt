@@ -1,5 +1,5 @@
 use Rattle.std.proofs.Common.{◌-◌, ◌∙◌, min, ap}
-use Rattle.cse_lines.specs.Bytes.{columns_lent}
+use Rattle.cse_case.specs.Bytes.{columns_lent}
 use Rattle.cse_case.proofs.FieldLaws.{field_here}
 use Rattle.cse_case.proofs.field.field_of.Goals as goal
 

@@ -1,7 +1,7 @@
 use Rattle.std.proofs.Common.{arith}
-use Rattle.cse_lines.specs.Bytes.{beside_lent}
-use Rattle.cse_lines.proofs.BytesLaws.{length-columns_by}
-use Rattle.cse_lines.specs.Bytes.{columns_lent}
+use Rattle.cse_case.specs.Bytes.{beside_lent}
+use Rattle.cse_case.proofs.BytesLaws.{length-columns_by}
+use Rattle.cse_case.specs.Bytes.{columns_lent}
 use Rattle.cse_case.proofs.FieldLaws.{whole_behind}
 use Rattle.cse_case.proofs.field.whole_field.Goals as goal
 

@@ -1,6 +1,6 @@
 use Rattle.std.proofs.Common.{◌≡◌, ◌<◌, ◌+◌, ◌++◌, ◌∷◌, [], ◌∙◌, length, set, take, drop, get_or, ap, sym, arith, append_assoc, append-nil, length-append, length-drop, length-take-le, take-append-drop}
 use Rattle.std.proofs.lemmas.List.{get_or_read, take_all, take_more}
-use Rattle.cse_lines.proofs.DecodeLaws.{set_behind}
+use Rattle.cse_case.proofs.DecodeLaws.{set_behind}
 use Rattle.cse_case.proofs.field.write_characters.Goals as goal
 
 pub columns-init : goal.columns-init

@@ -1,7 +1,7 @@
 use Rattle.std.proofs.Common.{◌+◌, ◌-◌, length, replicate, ap, ◌∙◌, arith, length-take-le, take}
 use Rattle.cse_value.specs.Field.{put_text}
-use Rattle.cse_lines.specs.Run.{with_columns}
-use Rattle.cse_lines.proofs.LaidLaws.{length-with_columns}
+use Rattle.cse_case.specs.Run.{with_columns}
+use Rattle.cse_case.proofs.LaidLaws.{length-with_columns}
 use Rattle.cse_case.proofs.FieldLaws.{text_written}
 use Rattle.cse_case.proofs.field.write_text.Goals as goal
 

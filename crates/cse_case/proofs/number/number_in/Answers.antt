@@ -1,11 +1,11 @@
 use Rattle.std.proofs.Common.{◌≡◌, length, drop, ap, sym, ◌∙◌, arith, w64}
 use Rattle.std.proofs.lemmas.Int.{to_z_pos}
-use Rattle.cse_lines.specs.Bytes.{beside_lent}
+use Rattle.cse_case.specs.Bytes.{beside_lent}
 use Rattle.cse_value.specs.declared.number.Num.TheVariants.{Whole}
 use Rattle.cse_value.specs.Field.{field}
 use Rattle.cse_dict.specs.Dictionary.{code_at}
-use Rattle.cse_lines.specs.Bytes.{columns_by}
-use Rattle.cse_lines.proofs.BytesLaws.{length-columns_by, part-columns_by}
+use Rattle.cse_case.specs.Bytes.{columns_by}
+use Rattle.cse_case.proofs.BytesLaws.{length-columns_by, part-columns_by}
 use Rattle.cse_case.proofs.FieldLaws.{length-piece}
 use Rattle.cse_case.proofs.NumberLaws.{plain_value}
 use Rattle.cse_case.proofs.number.number_in.Goals as goal

@@ -1,9 +1,9 @@
 use Rattle.std.proofs.Common.{◌^◌, ◌<◌, ap, sym, ◌∙◌, arith, w64}
 use Rattle.std.proofs.lemmas.Int.{to_z_pos}
-use Rattle.cse_lines.specs.Bytes.{beside_lent}
+use Rattle.cse_case.specs.Bytes.{beside_lent}
 use Rattle.cse_value.specs.declared.number.Num.TheVariants.{Whole}
 use Rattle.cse_value.specs.Field.{digits_number}
-use Rattle.cse_lines.proofs.BytesLaws.{length-columns_by}
+use Rattle.cse_case.proofs.BytesLaws.{length-columns_by}
 use Rattle.cse_case.proofs.NumberLaws.{blanks_low, digits_are_ascii, empty_is, field_of_ascii, field_of_blanks, no_code, the_code}
 use Rattle.cse_case.proofs.number.number_in_columns.Goals as goal
 

@@ -1,6 +1,6 @@
 use Rattle.std.proofs.Common.{◌≡◌, ◌+◌, ◌++◌, ◌∷◌, [], None, Some, ap, arith, get_or, length, length-append, refl, sym, ◌∙◌}
-use Rattle.cse_lines.specs.declared.line.Line.{Line}
-use Rattle.cse_lines.specs.declared.line.Ending.TheVariants.{FileEnd}
+use Rattle.cse_case.specs.declared.line.Line.{Line}
+use Rattle.cse_case.specs.declared.line.Ending.TheVariants.{FileEnd}
 use Rattle.cse_case.specs.declared.seen.OccurrenceSpan.{OccurrenceSpan}
 use Rattle.cse_case.specs.Seen.{is_of}
 use Rattle.cse_case.specs.Table.{first_at, type_at}

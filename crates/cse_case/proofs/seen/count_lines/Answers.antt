@@ -1,6 +1,6 @@
 use Rattle.std.proofs.Common.{◌≡◌, ◌+◌, ◌++◌, ◌∷◌, [], length, take, drop, ap, sym, ◌∙◌, append_assoc, append-nil, arith, subst, refl, add-zero, replicate, rules, None}
-use Rattle.cse_lines.specs.declared.line.Line.{Line}
-use Rattle.cse_lines.specs.declared.line.Ending.TheVariants.{FileEnd}
+use Rattle.cse_case.specs.declared.line.Line.{Line}
+use Rattle.cse_case.specs.declared.line.Ending.TheVariants.{FileEnd}
 use Rattle.std.specs.Vec.{with_items}
 use Rattle.std.proofs.lemmas.List.{drop_all, length-map, take_all, with_items_is}
 use Rattle.cse_case.specs.Seen.{onto_unseen, unseen_from, unseen_of}

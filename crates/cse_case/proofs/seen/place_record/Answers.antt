@@ -1,7 +1,7 @@
 use Rattle.std.proofs.Common.{◌≡◌, ◌≤◌, ◌+◌, ◌++◌, ◌∷◌, [], length, map, take, get_or, ap, sym, ◌∙◌, arith, append_assoc, append-nil, length-append, None, true, false, refl}
 use Rattle.std.proofs.lemmas.List.{take_all, length-take, map-append}
-use Rattle.cse_lines.specs.declared.line.Line.{Line}
-use Rattle.cse_lines.specs.declared.line.Ending.TheVariants.{FileEnd}
+use Rattle.cse_case.specs.declared.line.Line.{Line}
+use Rattle.cse_case.specs.declared.line.Ending.TheVariants.{FileEnd}
 use Rattle.cse_case.specs.Seen.{places_from, is_of}
 use Rattle.cse_case.specs.Table.{first_at, types_in}
 use Rattle.cse_case.proofs.SeenLaws.{enough, places_from-next}

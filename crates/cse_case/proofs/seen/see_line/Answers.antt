@@ -1,9 +1,9 @@
 use Rattle.std.proofs.Common.{subst, sym, ◌≡◌, ◌<◌, ◌≤◌, ◌+◌, length, map, take, get_or, None, Some, ap, ◌∙◌, ◌∷◌, [], arith, length-append}
 use Rattle.cse_value.specs.declared.shape.RecordShape.{RecordShape}
 use Rattle.cse_value.specs.Occurrences.{most_occurrences}
-use Rattle.cse_lines.specs.declared.line.Line.{Line}
+use Rattle.cse_case.specs.declared.line.Line.{Line}
 use Rattle.cse_case.specs.declared.seen.OccurrenceSpan.{OccurrenceSpan}
-use Rattle.cse_lines.specs.declared.line.Ending.TheVariants.{FileEnd}
+use Rattle.cse_case.specs.declared.line.Ending.TheVariants.{FileEnd}
 use Rattle.std.proofs.lemmas.List.{length-map}
 use Rattle.cse_case.specs.Seen.{unseen_after}
 use Rattle.cse_case.specs.Table.{first_at, type_at, types_in}

@@ -1,7 +1,7 @@
 use Rattle.std.proofs.Common.{length, refl, add-zero, arith, ◌+◌, ◌++◌, ◌∷◌, [], None, take, drop, ap, sym, ◌∙◌, append_assoc, append-nil}
 use Rattle.std.proofs.lemmas.List.{drop_all, length-map}
-use Rattle.cse_lines.specs.declared.line.Line.{Line}
-use Rattle.cse_lines.specs.declared.line.Ending.TheVariants.{FileEnd}
+use Rattle.cse_case.specs.declared.line.Line.{Line}
+use Rattle.cse_case.specs.declared.line.Ending.TheVariants.{FileEnd}
 use Rattle.cse_case.proofs.SeenLaws.{type_is, unseen_from-next}
 use Rattle.cse_case.specs.Seen.{onto_unseen, unseen_after, unseen_from, unseen_of}
 use Rattle.cse_case.specs.Table.{types_in}

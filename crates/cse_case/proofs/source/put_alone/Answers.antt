@@ -1,8 +1,8 @@
 use Rattle.std.proofs.Common.{◌≡◌, ◌+◌, ◌≤◌, length, take, drop, ap, sym, ◌∙◌, arith, subst}
 use Rattle.std.specs.Str.{IsAscii}
 use Rattle.std.proofs.lemmas.List.{take_at}
-use Rattle.cse_lines.specs.Bytes.{beside_lent, columns_by}
-use Rattle.cse_lines.proofs.BytesLaws.{ascii-columns_by, length-columns_by, part-columns_by}
+use Rattle.cse_case.specs.Bytes.{beside_lent, columns_by}
+use Rattle.cse_case.proofs.BytesLaws.{ascii-columns_by, length-columns_by, part-columns_by}
 use Rattle.cse_case.proofs.FieldLaws.{length-piece}
 use Rattle.cse_case.proofs.source.put_alone.Goals as goal
 

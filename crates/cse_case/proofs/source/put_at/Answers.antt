@@ -1,6 +1,6 @@
 use Rattle.std.proofs.Common.{arith}
-use Rattle.cse_lines.specs.Bytes.{beside_lent}
-use Rattle.cse_lines.proofs.BytesLaws.{length-columns_by}
+use Rattle.cse_case.specs.Bytes.{beside_lent}
+use Rattle.cse_case.proofs.BytesLaws.{length-columns_by}
 use Rattle.cse_case.proofs.source.put_at.Goals as goal
 
 pub overflow_add-end : goal.overflow_add-end

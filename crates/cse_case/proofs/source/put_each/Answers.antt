@@ -1,7 +1,7 @@
 use Rattle.std.proofs.Common.{◌++◌, ap, ◌∙◌, get_or}
-use Rattle.cse_lines.specs.Bytes.{columns_lent}
-use Rattle.cse_lines.specs.Field.{field_at}
-use Rattle.cse_lines.specs.declared.layout.ColumnSpan.{ColumnSpan}
+use Rattle.cse_case.specs.Bytes.{columns_lent}
+use Rattle.cse_case.specs.NamedColumns.{field_at}
+use Rattle.cse_case.specs.declared.layout.ColumnSpan.{ColumnSpan}
 use Rattle.cse_case.proofs.IdLaws.{fields_at-more}
 use Rattle.cse_case.proofs.source.put_each.Goals as goal
 

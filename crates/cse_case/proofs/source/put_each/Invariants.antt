@@ -1,6 +1,6 @@
 use Rattle.std.proofs.Common.{◌≡◌, ◌≤◌, length, take}
-use Rattle.cse_lines.specs.Bytes.{columns_lent}
-use Rattle.cse_lines.specs.Field.{fields_at}
+use Rattle.cse_case.specs.Bytes.{columns_lent}
+use Rattle.cse_case.specs.NamedColumns.{fields_at}
 use Rattle.cse_case.proofs.source.put_each.Given as goal
 
 abbrev pub invariant-spans : goal.invariant-spans

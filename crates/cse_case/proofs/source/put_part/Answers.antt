@@ -1,7 +1,7 @@
 use Rattle.std.proofs.Common.{length, drop, ap, sym, ◌∙◌, arith}
-use Rattle.cse_lines.specs.Bytes.{beside_lent}
-use Rattle.cse_lines.specs.Bytes.{columns_by}
-use Rattle.cse_lines.proofs.BytesLaws.{ascii-columns_by, length-columns_by, part-columns_by}
+use Rattle.cse_case.specs.Bytes.{beside_lent}
+use Rattle.cse_case.specs.Bytes.{columns_by}
+use Rattle.cse_case.proofs.BytesLaws.{ascii-columns_by, length-columns_by, part-columns_by}
 use Rattle.cse_case.proofs.FieldLaws.{length-piece}
 use Rattle.cse_case.proofs.source.put_part.Goals as goal
 

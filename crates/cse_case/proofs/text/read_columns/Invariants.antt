@@ -1,5 +1,5 @@
 use Rattle.std.proofs.Common.{◌≡◌, take}
-use Rattle.cse_lines.specs.Bytes.{columns_lent}
+use Rattle.cse_case.specs.Bytes.{columns_lent}
 use Rattle.cse_case.proofs.text.read_columns.Given as goal
 
 abbrev pub invariant-columns : goal.invariant-columns

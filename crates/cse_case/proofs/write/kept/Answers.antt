@@ -1,6 +1,6 @@
 use Rattle.std.proofs.Common.{◌<◌, ◌-◌, length, arith, ◌∙◌, sym}
 use Rattle.std.proofs.lemmas.Grind.{common_steps}
-use Rattle.cse_lines.specs.Bytes.{columns_lent}
+use Rattle.cse_case.specs.Bytes.{columns_lent}
 use Rattle.cse_case.proofs.WriteLaws.{Trimmed-less, kept_at}
 use Rattle.cse_case.proofs.write.kept.Goals as goal
 use Rattle.cse_case.proofs.write.kept.Goals.{then-blanks-test+else-at-eq32, else-blanks-test}

@@ -1,4 +1,4 @@
-use Rattle.cse_lines.specs.Bytes.{columns_lent}
+use Rattle.cse_case.specs.Bytes.{columns_lent}
 use Rattle.cse_case.proofs.WriteLaws.{Trimmed}
 use Rattle.cse_case.proofs.write.kept.Given as goal
 

@@ -2,10 +2,10 @@ use Rattle.std.proofs.Common.{◌≡◌, ◌≤◌, ◌-◌, ◌++◌, length, t
 use Rattle.std.specs.Prelude.{encode_utf8_all}
 use Rattle.std.proofs.lemmas.List.{take-append-drop, take_rest}
 use Rattle.std.proofs.lemmas.Str.{encodes-append}
-use Rattle.cse_lines.specs.Bytes.{columns_lent}
-use Rattle.cse_lines.specs.Laid.{laid_line}
-use Rattle.cse_lines.specs.Line.{end_bytes}
-use Rattle.cse_lines.specs.Written.{kept_columns, written_line}
+use Rattle.cse_case.specs.Bytes.{columns_lent}
+use Rattle.cse_case.specs.Laid.{laid_line}
+use Rattle.cse_case.specs.Line.{end_bytes}
+use Rattle.cse_case.specs.Written.{kept_columns, written_line}
 use Rattle.cse_value.proofs.GatherLaws.{Puts-then, Puts-as}
 use Rattle.cse_case.proofs.WriteLaws.{length-rest, put_after}
 use Rattle.cse_case.proofs.write.put_line.Goals as goal

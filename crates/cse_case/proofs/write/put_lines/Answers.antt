@@ -1,13 +1,13 @@
 use Rattle.std.proofs.Common.{take, sym, get_or, None}
 use Rattle.std.proofs.lemmas.List.{get_or_default}
-use Rattle.cse_lines.specs.declared.line.Line.{Line}
-use Rattle.cse_lines.specs.declared.line.Ending.TheVariants.{FileEnd}
+use Rattle.cse_case.specs.declared.line.Line.{Line}
+use Rattle.cse_case.specs.declared.line.Ending.TheVariants.{FileEnd}
 use Rattle.std.specs.List.{flat_map}
-use Rattle.cse_lines.specs.Laid.{laid_line, laid_lines}
-use Rattle.cse_lines.specs.Written.{written_line}
-use Rattle.cse_lines.proofs.LaidLaws.{laid_within, laid_fits}
+use Rattle.cse_case.specs.Laid.{laid_line, laid_lines}
+use Rattle.cse_case.specs.Written.{written_line}
+use Rattle.cse_case.proofs.LaidLaws.{laid_within, laid_fits}
 use Rattle.cse_value.proofs.GatherLaws.{Puts-then, Puts-as}
-use Rattle.cse_lines.specs.Bytes.{columns_lent}
+use Rattle.cse_case.specs.Bytes.{columns_lent}
 use Rattle.cse_case.proofs.CaseLaws.{written-more}
 use Rattle.cse_case.proofs.write.put_lines.Goals as goal
 

@@ -1,9 +1,9 @@
 use Rattle.std.proofs.Common.{take}
 use Rattle.std.specs.List.{flat_map}
-use Rattle.cse_lines.specs.Laid.{laid_lines}
-use Rattle.cse_lines.specs.Written.{written_line}
+use Rattle.cse_case.specs.Laid.{laid_lines}
+use Rattle.cse_case.specs.Written.{written_line}
 use Rattle.cse_value.specs.Gathering.{behind, Puts}
-use Rattle.cse_lines.specs.Bytes.{columns_lent}
+use Rattle.cse_case.specs.Bytes.{columns_lent}
 use Rattle.cse_case.proofs.write.put_lines.Given as goal
 
 abbrev pub invariant-lines : goal.invariant-lines

@@ -1,6 +1,6 @@
 use Rattle.std.proofs.Common.{◌≤◌, ◌-◌, take, length}
 use Rattle.std.specs.Prelude.{encode_utf8_all}
-use Rattle.cse_lines.specs.Bytes.{columns_lent}
+use Rattle.cse_case.specs.Bytes.{columns_lent}
 use Rattle.cse_value.specs.Gathering.{behind, Puts}
 use Rattle.cse_case.proofs.write.put_parts.Given as goal
 

@@ -1,8 +1,8 @@
 use Rattle.std.proofs.Common.{◌≡◌, ◌<◌, ◌≤◌, ℕ, length, get_or, refl, subst, arith}
 use Rattle.std.proofs.lemmas.Bool.{ltb-true}
 use Rattle.cse_lemmas.proofs.Numbers.{bit_or_bounds_more}
-use Rattle.cse_lines.specs.Bytes.{beside_lent}
-use Rattle.cse_lines.proofs.BytesLaws.{length-columns_by}
+use Rattle.cse_case.specs.Bytes.{beside_lent}
+use Rattle.cse_case.proofs.BytesLaws.{length-columns_by}
 use Rattle.cse_case.proofs.WriteLaws.{bytes_more, own_bytes}
 use Rattle.cse_case.proofs.write.write_ascii.Goals as goal
 

@@ -2,7 +2,7 @@ use Rattle.std.proofs.Common.{◌≡◌, ◌<◌, ◌-◌, ◌++◌, length, tak
 use Rattle.std.specs.Prelude.{encode_utf8_all}
 use Rattle.std.proofs.lemmas.List.{get_or_default}
 use Rattle.cse_lemmas.proofs.Texts.{encodes_take_more}
-use Rattle.cse_lines.specs.Bytes.{columns_lent}
+use Rattle.cse_case.specs.Bytes.{columns_lent}
 use Rattle.cse_case.proofs.WriteLaws.{length-rest, put_after}
 use Rattle.cse_case.proofs.write.write_utf8.Goals as goal
 

@@ -2,7 +2,7 @@ use Rattle.std.proofs.Common.{Result, inl, inr, refl, subst}
 use Rattle.std.proofs.lemmas.Result.{err_from_is_err_and}
 use Rattle.cse_batch_parts.specs.declared.totals.Totals.{Totals}
 use Rattle.cse_command_parts.specs.declared.outcome.Stop.{Stop}
-use Rattle.cse_command_runs.specs.RunDoes.{PrintsTotals}
+use Rattle.cse_commands.specs.RunDoes.{PrintsTotals}
 use Rattle.cse_commands.proofs.commands.edit_and_tell.Goals as goal
 
 pub returns-in_err-edited : goal.returns-in_err-edited

@@ -2,7 +2,7 @@ use Rattle.std.proofs.Common.{option_copied}
 use Rattle.std.proofs.lemmas.Result.{IfOk-weaker}
 use Rattle.cse_value.specs.contracts.device.ReadsInput.TheImpl as reads
 use Rattle.cse_value.specs.contracts.device.WritesOutput.TheImpl as writes
-use Rattle.cse_command_runs.specs.Ran.{have_failed, took}
+use Rattle.cse_commands.specs.Ran.{have_failed, took}
 use Rattle.cse_command_parts.specs.Told.{told_by}
 use Rattle.cse_commands.proofs.EditedLaws.{tells_edit}
 use Rattle.cse_commands.proofs.edit_data.edit_over.Goals as goal

@@ -1,5 +1,5 @@
 use Rattle.std.proofs.Common.{map}
-use Rattle.cse_compile_code.specs.Setting.{sizes_of}
+use Rattle.cse_compile.specs.Setting.{sizes_of}
 use Rattle.cse_compile.specs.Room.{IsSmall}
 use Rattle.cse_compile.proofs.Room.{small_at, too_long, longer}
 use Rattle.cse_compile.proofs.coding.code_all.Goals as goal

@@ -1,7 +1,7 @@
 use Rattle.std.proofs.Common.{◌≡◌, ◌++◌, drop, map}
 use Rattle.cse_image_parts.specs.Image.{routine_lists}
-use Rattle.cse_compile_code.specs.Setting.{sizes_of}
-use Rattle.cse_compile_code.specs.Outline.{outline}
+use Rattle.cse_compile.specs.Setting.{sizes_of}
+use Rattle.cse_compile.specs.Outline.{outline}
 use Rattle.cse_compile.specs.Program.{all_code, entry_of}
 use Rattle.cse_compile.proofs.coding.code_all.Given as goal
 

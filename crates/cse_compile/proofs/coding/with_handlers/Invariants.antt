@@ -1,5 +1,5 @@
 use Rattle.std.proofs.Common.{◌≡◌, ◌++◌, drop, map}
-use Rattle.cse_compile_code.specs.Outline.{outline, handler}
+use Rattle.cse_compile.specs.Outline.{outline, handler}
 use Rattle.cse_compile.proofs.coding.with_handlers.Given as goal
 
 abbrev pub invariant-all : goal.invariant-all

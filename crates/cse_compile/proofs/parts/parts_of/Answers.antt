@@ -1,9 +1,9 @@
 use Rattle.std.proofs.Common.{sym, ap, subst, ◌∙◌}
 use Rattle.cse_image_parts.specs.Image.{Image}
-use Rattle.cse_compile_code.specs.Pools.{PoolsFit}
+use Rattle.cse_compile.specs.Pools.{PoolsFit}
 use Rattle.cse_compile.specs.Program.{pools_of}
 use Rattle.cse_logic_tree.specs.Typed.{tree}
-use Rattle.cse_compile_code.specs.Tables.{arrays_in}
+use Rattle.cse_compile.specs.Tables.{arrays_in}
 use Rattle.cse_compile.proofs.Joined.{program_is, no_room}
 use Rattle.cse_compile.proofs.parts.parts_of.Goals as goal
 

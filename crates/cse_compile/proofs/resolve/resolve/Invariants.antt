@@ -1,6 +1,6 @@
 use Rattle.std.proofs.Common.{take, drop}
-use Rattle.cse_compile_code.specs.Wide.{all_wide}
-use Rattle.cse_compile_code.specs.Pools.{PoolLists}
+use Rattle.cse_compile.specs.Wide.{all_wide}
+use Rattle.cse_compile.specs.Pools.{PoolLists}
 use Rattle.cse_compile.specs.Room.{AreParts, Hold}
 use Rattle.cse_compile.specs.Stands.{AllStand}
 use Rattle.cse_compile.proofs.Room.{Stay}

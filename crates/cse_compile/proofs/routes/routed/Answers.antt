@@ -1,7 +1,7 @@
 use Rattle.std.proofs.Common.{List, ◌++◌, map, sym, ap, subst, ◌∙◌}
-use Rattle.cse_compile_code.specs.Setting.{sizes_of}
-use Rattle.cse_compile_code.specs.Wide.{Wide}
-use Rattle.cse_compile_code.specs.Outline.{outline}
+use Rattle.cse_compile.specs.Setting.{sizes_of}
+use Rattle.cse_compile.specs.Wide.{Wide}
+use Rattle.cse_compile.specs.Outline.{outline}
 use Rattle.cse_compile.specs.Program.{all_code}
 use Rattle.cse_compile.specs.Room.{AreSmall}
 use Rattle.cse_compile.proofs.Spelled.{small_routines, cannot_fit}

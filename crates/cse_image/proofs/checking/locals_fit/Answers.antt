@@ -3,7 +3,7 @@ use Rattle.std.specs.Bool.{Decides}
 use Rattle.std.proofs.lemmas.List.{get_or_default, length-take}
 use Rattle.cse_image_parts.specs.declared.entries.Local.{Local}
 use Rattle.cse_image.specs.Spelling.{LocalFits}
-use Rattle.cse_image_codec.proofs.Places.{grow_plain, refuse_plain}
+use Rattle.cse_image_parts.proofs.Places.{grow_plain, refuse_plain}
 use Rattle.cse_image.proofs.checking.locals_fit.Goals as goal
 
 -- the place is how many locals stand before

@@ -1,5 +1,5 @@
 use Rattle.std.proofs.Common.{[], take, length}
-use Rattle.cse_image_codec.specs.Reader.{AllAfter}
+use Rattle.cse_image_parts.specs.Reader.{AllAfter}
 use Rattle.cse_image.specs.Spelling.{LocalFits}
 use Rattle.cse_image.proofs.checking.locals_fit.Given as goal
 

@@ -1,7 +1,7 @@
 use Rattle.std.proofs.Common.{refl}
 use Rattle.std.specs.Prelude.{FitsSigned}
 use Rattle.std.specs.Int.{w64}
-use Rattle.cse_image_codec.proofs.Places.{section_decided}
+use Rattle.cse_image_parts.proofs.Places.{section_decided}
 use Rattle.cse_image.proofs.fitting.constants_fit.Goals as goal
 
 pub returns : goal.returns

@@ -3,7 +3,7 @@ use Rattle.std.proofs.lemmas.Bool.{leb-true}
 use Rattle.cse_image_parts.specs.Image.{array_lists}
 use Rattle.cse_image_parts.specs.Fields.{product, cells_in}
 use Rattle.cse_image.specs.Spelling.{ArrayFits}
-use Rattle.cse_image_codec.proofs.Places.{grow, refuse}
+use Rattle.cse_image_parts.proofs.Places.{grow, refuse}
 use Rattle.cse_image.proofs.Totals.{sum_next}
 use Rattle.cse_image.proofs.fitting.each_array_fits.Goals as goal
 

@@ -1,6 +1,6 @@
 use Rattle.cse_image.specs.Spelling.{EventFits}
 use Rattle.cse_image_parts.specs.Fields.{last_event}
-use Rattle.cse_image_codec.proofs.Places.{grow_plain, refuse_plain}
+use Rattle.cse_image_parts.proofs.Places.{grow_plain, refuse_plain}
 use Rattle.std.proofs.lemmas.List.{get_or_default}
 use Rattle.cse_image.proofs.fitting.each_event_fits.Goals as goal
 

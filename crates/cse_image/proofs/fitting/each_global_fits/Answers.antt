@@ -1,6 +1,6 @@
 use Rattle.std.proofs.lemmas.List.{get_or_default}
 use Rattle.cse_image.specs.Spelling.{GlobalFits}
-use Rattle.cse_image_codec.proofs.Places.{grow_plain, refuse_plain}
+use Rattle.cse_image_parts.proofs.Places.{grow_plain, refuse_plain}
 use Rattle.cse_image.proofs.fitting.each_global_fits.Goals as goal
 
 pub returns-then-not-global_fits : goal.returns-then-not-global_fits

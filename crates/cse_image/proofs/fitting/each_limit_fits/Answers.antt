@@ -1,6 +1,6 @@
 use Rattle.std.proofs.lemmas.List.{get_or_default}
 use Rattle.cse_image.specs.Spelling.{LimitFits}
-use Rattle.cse_image_codec.proofs.Places.{grow_plain, refuse_plain}
+use Rattle.cse_image_parts.proofs.Places.{grow_plain, refuse_plain}
 use Rattle.cse_image.proofs.fitting.each_limit_fits.Goals as goal
 
 pub returns-then-not-limit_fits : goal.returns-then-not-limit_fits

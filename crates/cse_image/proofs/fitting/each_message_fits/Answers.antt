@@ -1,6 +1,6 @@
 use Rattle.cse_image.specs.Spelling.{MessageFits}
 use Rattle.cse_image_parts.specs.Image.{message_lists}
-use Rattle.cse_image_codec.proofs.Places.{grow, refuse}
+use Rattle.cse_image_parts.proofs.Places.{grow, refuse}
 use Rattle.cse_image.proofs.fitting.each_message_fits.Goals as goal
 
 pub returns-then-not-message_fits : goal.returns-then-not-message_fits

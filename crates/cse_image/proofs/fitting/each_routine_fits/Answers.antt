@@ -4,7 +4,7 @@ use Rattle.cse_image.specs.Spelling.{RoutineFits}
 use Rattle.cse_image_parts.specs.Image.{routine_lists}
 use Rattle.cse_image_parts.specs.Fields.{instructions_in}
 use Rattle.cse_image.proofs.Totals.{sum_next, room_left}
-use Rattle.cse_image_codec.proofs.Places.{grow, refuse}
+use Rattle.cse_image_parts.proofs.Places.{grow, refuse}
 use Rattle.cse_image.proofs.fitting.each_routine_fits.Goals as goal
 
 pub returns-then-not-routine_fits : goal.returns-then-not-routine_fits

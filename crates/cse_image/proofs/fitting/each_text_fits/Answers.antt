@@ -1,6 +1,6 @@
 use Rattle.cse_image.specs.Spelling.{TextFits}
 use Rattle.std.specs.String.{string_bytes}
-use Rattle.cse_image_codec.proofs.Places.{grow, refuse}
+use Rattle.cse_image_parts.proofs.Places.{grow, refuse}
 use Rattle.cse_image.proofs.fitting.each_text_fits.Goals as goal
 
 pub returns-then-not-text_fits : goal.returns-then-not-text_fits

@@ -1,6 +1,6 @@
 use Rattle.std.proofs.Common.{refl}
 use Rattle.cse_image.specs.Spelling.{SetFits}
-use Rattle.cse_image_codec.proofs.Places.{section_decided}
+use Rattle.cse_image_parts.proofs.Places.{section_decided}
 use Rattle.cse_image.proofs.fitting.sets_fit.Goals as goal
 
 pub returns : goal.returns

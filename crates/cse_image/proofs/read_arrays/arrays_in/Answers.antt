@@ -5,7 +5,7 @@ use Rattle.std.proofs.lemmas.List.Sums.{sum_by_push}
 use Rattle.cse_image_parts.specs.Image.{array_lists}
 use Rattle.cse_image_parts.specs.Fields.{product}
 use Rattle.cse_image.specs.Reading.{array_at}
-use Rattle.cse_image_codec.proofs.Loop.{many_step, many_done, many_ends}
+use Rattle.cse_image_parts.proofs.Loop.{many_step, many_done, many_ends}
 use Rattle.cse_image.proofs.read_arrays.arrays_in.Goals as goal
 
 pub returns-in_err-array : goal.returns-in_err-array

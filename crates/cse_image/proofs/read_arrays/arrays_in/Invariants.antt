@@ -1,5 +1,5 @@
 use Rattle.std.proofs.Common.{◌≡◌, ◌-◌, ◌≤◌, [], map}
-use Rattle.cse_image_codec.specs.Reader.{many}
+use Rattle.cse_image_parts.specs.Reader.{many}
 use Rattle.cse_image_parts.specs.Image.{array_lists}
 use Rattle.cse_image_parts.specs.Fields.{cells_in}
 use Rattle.cse_image.specs.Reading.{array_at}

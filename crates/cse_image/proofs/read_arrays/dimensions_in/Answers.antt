@@ -2,7 +2,7 @@ use Rattle.std.proofs.Common.{◌≡◌, ◌≤◌, ◌+◌, ◌++◌, arith, le
 use Rattle.std.proofs.lemmas.Result.{err_from_is_err_and}
 use Rattle.cse_image_parts.specs.Fields.{product}
 use Rattle.cse_image.specs.Reading.{dimension_at}
-use Rattle.cse_image_codec.proofs.Loop.{many_step, many_done, many_faults}
+use Rattle.cse_image_parts.proofs.Loop.{many_step, many_done, many_faults}
 use Rattle.cse_image.proofs.read_arrays.dimensions_in.Goals as goal
 
 pub returns-in_err-dimension-clause-exact : goal.returns-in_err-dimension-clause-exact

@@ -2,7 +2,7 @@ use Rattle.std.proofs.Common.{◌≡◌, ◌∙◌, ap}
 use Rattle.std.proofs.lemmas.Result.{err_from_is_err_and}
 use Rattle.cse_image_parts.specs.Fields.{last_event}
 use Rattle.cse_image.specs.Reading.{event_at}
-use Rattle.cse_image_codec.proofs.Loop.{many_step, many_done, many_faults}
+use Rattle.cse_image_parts.proofs.Loop.{many_step, many_done, many_faults}
 use Rattle.cse_image.proofs.read_routines.events_in.Goals as goal
 
 pub returns-in_err-event : goal.returns-in_err-event

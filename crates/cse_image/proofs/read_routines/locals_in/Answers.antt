@@ -1,7 +1,7 @@
 use Rattle.std.proofs.Common.{arith, length, length-append, ◌∷◌, []}
 use Rattle.std.proofs.lemmas.Result.{err_from_is_err_and}
 use Rattle.cse_image.specs.Reading.{local_at}
-use Rattle.cse_image_codec.proofs.Loop.{many_step, many_done, many_faults}
+use Rattle.cse_image_parts.proofs.Loop.{many_step, many_done, many_faults}
 use Rattle.cse_image.proofs.read_routines.locals_in.Goals as goal
 
 pub returns-in_err-local : goal.returns-in_err-local

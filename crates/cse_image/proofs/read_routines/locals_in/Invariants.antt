@@ -1,5 +1,5 @@
 use Rattle.std.proofs.Common.{◌≡◌, ◌-◌, [], length}
-use Rattle.cse_image_codec.specs.Reader.{many}
+use Rattle.cse_image_parts.specs.Reader.{many}
 use Rattle.cse_image.specs.Reading.{local_at}
 use Rattle.cse_image.proofs.read_routines.locals_in.Given as goal
 

@@ -5,7 +5,7 @@ use Rattle.std.proofs.lemmas.List.Sums.{sum_by_push}
 use Rattle.cse_image_parts.specs.Image.{routine_lists}
 use Rattle.cse_image_parts.specs.Fields.{instructions_in}
 use Rattle.cse_image.specs.Reading.{routine_at}
-use Rattle.cse_image_codec.proofs.Loop.{many_step, many_done, many_ends}
+use Rattle.cse_image_parts.proofs.Loop.{many_step, many_done, many_ends}
 use Rattle.cse_image.proofs.read_routines.routines_in.Goals as goal
 
 pub returns-in_err-routine-clause-exact : goal.returns-in_err-routine-clause-exact

@@ -1,6 +1,6 @@
 use Rattle.std.proofs.lemmas.Result.{err_from_is_err_and}
 use Rattle.cse_image.specs.Reading.{item_at}
-use Rattle.cse_image_codec.proofs.Loop.{many_step, many_done, many_faults}
+use Rattle.cse_image_parts.proofs.Loop.{many_step, many_done, many_faults}
 use Rattle.cse_image.proofs.read_shape.items_in.Goals as goal
 
 pub returns-in_err-item : goal.returns-in_err-item

@@ -1,5 +1,5 @@
 use Rattle.std.proofs.Common.{◌≡◌, ◌-◌, []}
-use Rattle.cse_image_codec.specs.Reader.{many}
+use Rattle.cse_image_parts.specs.Reader.{many}
 use Rattle.cse_image.specs.Reading.{item_at}
 use Rattle.cse_image.proofs.read_shape.items_in.Given as goal
 

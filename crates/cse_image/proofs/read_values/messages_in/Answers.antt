@@ -3,7 +3,7 @@ use Rattle.std.proofs.Common.{map}
 use Rattle.std.proofs.lemmas.List.{map_push}
 use Rattle.cse_image_parts.specs.Image.{message_lists}
 use Rattle.cse_image.specs.Reading.{message_at}
-use Rattle.cse_image_codec.proofs.Loop.{many_step, many_done, many_ends}
+use Rattle.cse_image_parts.proofs.Loop.{many_step, many_done, many_ends}
 use Rattle.cse_image.proofs.read_values.messages_in.Goals as goal
 
 pub returns-in_err-message : goal.returns-in_err-message

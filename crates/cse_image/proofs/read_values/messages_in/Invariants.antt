@@ -1,5 +1,5 @@
 use Rattle.std.proofs.Common.{◌≡◌, ◌-◌, map, []}
-use Rattle.cse_image_codec.specs.Reader.{many}
+use Rattle.cse_image_parts.specs.Reader.{many}
 use Rattle.cse_image_parts.specs.Image.{message_lists}
 use Rattle.cse_image.specs.Reading.{message_at}
 use Rattle.cse_image.proofs.read_values.messages_in.Given as goal

@@ -1,5 +1,5 @@
 use Rattle.std.proofs.Common.{◌≡◌, ◌-◌, map, []}
-use Rattle.cse_image_codec.specs.Reader.{many}
+use Rattle.cse_image_parts.specs.Reader.{many}
 use Rattle.std.specs.String.{string_bytes}
 use Rattle.cse_image.specs.Reading.{text_at}
 use Rattle.cse_image.proofs.read_values.texts_in.Given as goal

@@ -3,7 +3,7 @@ use Rattle.std.specs.Prelude.{IsTrue, nat_le}
 use Rattle.std.specs.String.{string_bytes}
 use Rattle.std.proofs.lemmas.Bool.{leb-true}
 use Rattle.std.proofs.lemmas.List.{length-map}
-use Rattle.cse_image_codec.specs.Spelling.{section}
+use Rattle.cse_image_parts.specs.Spelling.{section}
 use Rattle.cse_image_parts.specs.Fields.{instructions_in}
 use Rattle.cse_image_parts.specs.Image.{array_lists, message_lists, routine_lists}
 use Rattle.cse_image_parts.specs.declared.version.Version.TheVariants as versions

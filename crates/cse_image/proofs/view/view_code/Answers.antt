@@ -1,6 +1,6 @@
 use Rattle.std.proofs.Common.{◌≡◌, ◌++◌, ◌∷◌, [], arith, refl, add-one}
 use Rattle.std.proofs.lemmas.Result.{err_from_is_err_and}
-use Rattle.cse_image_codec.specs.Reader.{many}
+use Rattle.cse_image_parts.specs.Reader.{many}
 use Rattle.cse_image.specs.Reading.{instr_at}
 use Rattle.cse_image.proofs.Views.{many_snoc, many_stop, was_code, code_is, rest_shorter}
 use Rattle.cse_image.proofs.view.view_code.Goals as goal

@@ -1,7 +1,7 @@
 use Rattle.std.proofs.Common.{◌++◌, List, ap, ◌∙◌}
 use Rattle.std.specs.List.{flat_map}
 use Rattle.std.proofs.lemmas.List.{take_all}
-use Rattle.cse_image_codec.proofs.Loop.{put_more}
+use Rattle.cse_image_parts.proofs.Loop.{put_more}
 use Rattle.cse_image.proofs.writing.put_entries.Goals as goal
 
 pub loop-entry-preserved : goal.loop-entry-preserved

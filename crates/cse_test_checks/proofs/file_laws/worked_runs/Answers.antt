@@ -14,10 +14,10 @@ use Rattle.cse_dict.specs.Fields.{columns_of, field_of, share_column, is_opaque,
 use Rattle.cse_dict.specs.Context.{owner_after, context_after, id_columns_at, covered_by}
 use Rattle.cse_dict.specs.Faults.{number_faults, optional_faults, name_faults, names_after, type_faults, twice_faults, types_after, record_number_faults, record_head_faults, record_faults, is_too_far, has_bad_code, code_faults, columns_faults, form_faults, field_faults, item_limit_faults, item_place_faults, item_head_faults, item_faults, filled_after, value_faults_at, set_head_faults, set_faults, faults_at, seen_after, start_faults, first_faults, is_level, read_part, unread_part, rest_faults, faults_behind, faults_of}
 use Rattle.cse_dict.specs.Dictionary.{text_name, name_at, record_shape_at, record_in, field_or_none, item_shape_at, item_in, set_at, set_in, level_name_of, dictionary_of}
-use Rattle.cse_lines.specs.Line.{lines_in}
-use Rattle.cse_lines.specs.Columns.{line_text, id_of}
-use Rattle.cse_lines.specs.Field.{ids_of, least_width, record_of, width_of}
-use Rattle.cse_lines.specs.Runs.{line_fault, given_of, fault_in}
+use Rattle.cse_case.specs.Line.{lines_in}
+use Rattle.cse_case.specs.Columns.{line_text, id_of}
+use Rattle.cse_case.specs.NamedColumns.{ids_of, least_width, record_of, width_of}
+use Rattle.cse_case.specs.Runs.{line_fault, given_of, fault_in}
 use Rattle.cse_test_checks.proofs.file_laws.worked_runs.Goals as goal
 
 pub returns : goal.returns

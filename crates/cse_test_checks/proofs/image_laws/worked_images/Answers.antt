@@ -1,8 +1,8 @@
 use Rattle.std.proofs.Common.{refl}
 use Rattle.std.specs.Str.{chars, is_utf8}
 use lib.Utf8.{encode}
-use Rattle.cse_image_codec.specs.Reader.{then_at, done, some_bytes, number, signed, checked, decoded, many, counted, whole}
-use Rattle.cse_image_codec.specs.Spelling.{section}
+use Rattle.cse_image_parts.specs.Reader.{then_at, done, some_bytes, number, signed, checked, decoded, many, counted, whole}
+use Rattle.cse_image_parts.specs.Spelling.{section}
 use Rattle.cse_image_parts.specs.Placeholders.{pieces_after}
 use Rattle.cse_image_parts.specs.Opcodes.{shape, op_of}
 use Rattle.cse_image_parts.specs.Texts.{is_text, is_short, is_name, is_new}

@@ -1,9 +1,9 @@
 use Rattle.std.proofs.Common.{◌≡◌, length, get_or, ap, sym, ◌∙◌, arith}
 use Rattle.std.proofs.lemmas.List.{length-map}
-use Rattle.cse_lines.specs.Laid.{laid_line}
-use Rattle.cse_lines.specs.declared.run.Lines.{Lines}
-use Rattle.cse_lines.proofs.LaidLaws.{laid_within}
-use Rattle.cse_lines.specs.Bytes.{columns_lent}
+use Rattle.cse_case.specs.Laid.{laid_line}
+use Rattle.cse_case.specs.declared.run.Lines.{Lines}
+use Rattle.cse_case.proofs.LaidLaws.{laid_within}
+use Rattle.cse_case.specs.Bytes.{columns_lent}
 use Rattle.cse_case.proofs.FieldLaws.{short_field}
 use Rattle.cse_case.proofs.SetLaws.{number_short, text_short}
 use Rattle.cse_case.proofs.case.Case.columns_at.Goals as goal

@@ -2,7 +2,7 @@ use Rattle.std.proofs.Common.{ap, ◌∙◌, length, nat_lt, map}
 use Rattle.cse_dict.specs.Dictionary.{shape_of}
 use Rattle.cse_case.specs.Seen.{is_case, unseen_of}
 use Rattle.cse_case.specs.Case.{CaseText, records_of, types_of}
-use Rattle.cse_lines.specs.declared.run.Lines.{Lines}
+use Rattle.cse_case.specs.declared.run.Lines.{Lines}
 use Rattle.cse_case.specs.declared.seen.Table.{Table}
 use Rattle.cse_case.proofs.CaseLaws.{is_case_by_count}
 use Rattle.cse_case.proofs.case.Case.is_case.Goals as goal

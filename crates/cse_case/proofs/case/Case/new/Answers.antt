@@ -1,10 +1,10 @@
 use Rattle.std.proofs.Common.{◌≡◌, ℕ, Bool, List, ap, subst, sym, ◌∙◌, rules}
 use Rattle.std.specs.List.{flat_map}
-use Rattle.cse_lines.specs.Written.{written_line}
-use Rattle.cse_lines.specs.Columns.{LineText}
-use Rattle.cse_lines.specs.Laid.{IsLaid, laid_lines}
-use Rattle.cse_lines.specs.Lines.{bytes_in, columns_kept, lines_in}
-use Rattle.cse_lines.specs.Run.{RunText}
+use Rattle.cse_case.specs.Written.{written_line}
+use Rattle.cse_case.specs.Columns.{LineText}
+use Rattle.cse_case.specs.Laid.{IsLaid, laid_lines}
+use Rattle.cse_case.specs.Lines.{bytes_in, columns_kept, lines_in}
+use Rattle.cse_case.specs.Run.{RunText}
 use Rattle.cse_case.specs.Case.{CaseText}
 use Rattle.cse_case.specs.declared.seen.Table.{Table}
 use Rattle.cse_case.proofs.FitLaws.{some_from, wide_from}

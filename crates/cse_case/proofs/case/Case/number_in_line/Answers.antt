@@ -1,7 +1,7 @@
 use Rattle.std.proofs.Common.{drop, take, ap, sym, ◌∙◌, arith}
 use Rattle.cse_value.specs.Field.{field}
 use Rattle.cse_dict.specs.Dictionary.{DictionaryText, code_at}
-use Rattle.cse_lines.specs.Bytes.{columns_lent}
+use Rattle.cse_case.specs.Bytes.{columns_lent}
 use Rattle.cse_case.specs.Case.{CaseText, items_of, number_at}
 use Rattle.cse_case.specs.Field.{item_at}
 use Rattle.cse_case.proofs.FieldLaws.{whole_here}

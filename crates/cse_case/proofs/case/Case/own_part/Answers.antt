@@ -1,9 +1,9 @@
 use Rattle.std.proofs.Common.{◌≤◌, ◌+◌, ◌-◌, length, drop, ap, sym, ◌∙◌, arith, subst}
 use Rattle.std.proofs.lemmas.List.{get_or_read}
 use Rattle.cse_value.specs.declared.shape.ItemShape.{ItemShape}
-use Rattle.cse_lines.specs.Columns.{LineText}
-use Rattle.cse_lines.specs.Bytes.{columns_lent}
-use Rattle.cse_lines.specs.declared.run.Lines.{Lines}
+use Rattle.cse_case.specs.Columns.{LineText}
+use Rattle.cse_case.specs.Bytes.{columns_lent}
+use Rattle.cse_case.specs.declared.run.Lines.{Lines}
 use Rattle.cse_case.specs.Field.{field_of, item_at}
 use Rattle.cse_case.specs.Case.{items_of}
 use Rattle.cse_case.proofs.FieldLaws.{field_from}

@@ -2,11 +2,11 @@ use Rattle.std.proofs.Common.{◌≡◌, ◌≤◌, ◌+◌, ◌-◌, length, se
 use Rattle.std.proofs.lemmas.Bool.{true≢false}
 use Rattle.std.proofs.lemmas.List.{get_or_read}
 use Rattle.cse_value.specs.declared.shape.ItemShape.{ItemShape}
-use Rattle.cse_lines.specs.Columns.{LineText}
-use Rattle.cse_lines.specs.Laid.{laid_line, laid_lines}
-use Rattle.cse_lines.specs.Run.{line_at, with_columns}
-use Rattle.cse_lines.specs.declared.run.Lines.{Lines}
-use Rattle.cse_lines.proofs.LaidLaws.{IsLaid-len, laid_lines-with, length-with_columns}
+use Rattle.cse_case.specs.Columns.{LineText}
+use Rattle.cse_case.specs.Laid.{laid_line, laid_lines}
+use Rattle.cse_case.specs.Run.{line_at, with_columns}
+use Rattle.cse_case.specs.declared.run.Lines.{Lines}
+use Rattle.cse_case.proofs.LaidLaws.{IsLaid-len, laid_lines-with, length-with_columns}
 use Rattle.cse_case.specs.Field.{item_at}
 use Rattle.cse_case.specs.ItemEntry.{IsShort, entry_columns}
 use Rattle.cse_case.specs.Case.{CaseText, items_of, place_of}

@@ -1,4 +1,4 @@
-use Rattle.cse_lines.specs.Run.{written_run}
+use Rattle.cse_case.specs.Run.{written_run}
 use Rattle.cse_value.proofs.GatherLaws.{Gathering-none}
 use Rattle.cse_case.proofs.case.Case.write_to.Goals as goal
 

@@ -1,9 +1,9 @@
 use Rattle.std.proofs.Common.{List, ap, ◌∙◌, Result, Ok, Err}
 use Rattle.std.specs.Result.{OnOk}
-use Rattle.cse_lines.specs.declared.layout.ColumnSpan.{ColumnSpan}
-use Rattle.cse_lines.specs.Bytes.{columns_lent}
-use Rattle.cse_lines.specs.Field.{HaveSame, fields_at, id_spans, ids_of}
-use Rattle.cse_lines.proofs.FieldLaws.{HaveSame-refl, HaveSame-trans}
+use Rattle.cse_case.specs.declared.layout.ColumnSpan.{ColumnSpan}
+use Rattle.cse_case.specs.Bytes.{columns_lent}
+use Rattle.cse_case.specs.NamedColumns.{HaveSame, fields_at, id_spans, ids_of}
+use Rattle.cse_case.proofs.NamedColumnLaws.{HaveSame-refl, HaveSame-trans}
 use Rattle.cse_case.proofs.source.Source.put_ids.Goals as goal
 use Rattle.cse_case.proofs.source.Source.put_ids.Goals.{then-not-self+in_ok-self-inside, else-not-self}
 

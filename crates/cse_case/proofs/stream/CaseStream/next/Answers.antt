@@ -1,5 +1,5 @@
 use Rattle.std.proofs.Common.{◌≡◌, ap, ◌∙◌, subst, None, Ok, Some, arith, rules}
-use Rattle.cse_lines.specs.Reader.{ReaderText}
+use Rattle.cse_case.specs.Reader.{ReaderText}
 use Rattle.cse_case.specs.Reading.{NextCase}
 use Rattle.std.proofs.lemmas.Grind.{common_steps}
 use Rattle.cse_case.proofs.ReadLaws.{next_case, run_wide}

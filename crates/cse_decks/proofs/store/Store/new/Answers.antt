@@ -1,7 +1,7 @@
 use Rattle.std.proofs.Common.{◌≡◌, ◌≤◌, [], List, length, ap, sym, subst, rules}
 use Rattle.std.specs.Prelude.{map}
 use Rattle.std.specs.List.{AllByRecursion}
-use Rattle.cse_image_codec.specs.Reader.{AllAfter}
+use Rattle.cse_image_parts.specs.Reader.{AllAfter}
 use Rattle.cse_image_parts.specs.declared.entries.Array.{Array}
 use Rattle.cse_image_parts.specs.Image.{Lists, ArrayLists, array_lists}
 use Rattle.cse_image.specs.Spelling.{ArrayFits}

@@ -1,0 +1,164 @@
+//! One call of the reader, over its parts.
+
+ghost use Rattle.std.specs.Prelude.{◌≡◌, ◌≢◌, ◌≤◌, ◌+◌, ◌<◌, ◌^◌, ◌⊎◌, true, length, Some, IfErr, OnErr, OnOk};
+ghost use Rattle.cse_value.specs.Device.{IsAtEnd, FailsOnce, IsUnfailing};
+ghost use Rattle.cse_case.specs.NamedColumns.{layout_of};
+ghost use Rattle.cse_case.specs.Reader.{Next, given_lines};
+ghost use Rattle.cse_case.specs.Resting.{IsLayoutOf, IsResting, TakesRest, reader_of};
+
+use crate::buffer::{Buffer, ReadFault};
+use crate::decode::LineStop;
+use crate::error::DataError;
+use crate::gather::gather;
+use crate::layout::Layout;
+use crate::run::{Lines, Run, keep_lines};
+use cse_dict::Dictionary;
+use cse_fault_numbers::{READ_FAILED, WANT_OF_MEMORY};
+use cse_value::Input;
+use std::alloc::{AllocError, Global};
+use std::mem;
+
+/// The most reads that give bytes.
+pub const MOST_READS: u64 = 1 << 40;
+
+/// The error of this number without a line.
+fn error(number: u8) -> DataError
+    ensures number { result.number ≡ number }
+    ensures line { result.line ≡ 0 }
+{
+    DataError { number, line: 0 }
+}
+
+/// What is left of a run at the end of the file, if it has a line.
+fn take_rest(alloc: Global, run: &mut Run) -> Option<Run>
+    requires { run.old.first_line + length run.old.lines < 2 ^ 64 }
+    ensures { TakesRest run.old run.new result }
+{
+    let len = run.len();
+    if len == 0 {
+        return None;
+    }
+    let next = Run::new(alloc, run.first_line() + len as u64);
+    Some(mem::replace(run, next))
+}
+
+/// The next run of what is held and read. It reads where these have no answer, and only there it ends in
+/// 70.
+fn next_run<R: Input>(
+    alloc: Global,
+    dictionary: &Dictionary,
+    layout: &Layout,
+    input: &mut R,
+    run: &mut Run,
+    room: &mut Option<Box<Lines>>,
+    read: &mut Box<Lines>,
+    buffer: &mut Buffer,
+    ended: &mut bool,
+    reads: &mut u64,
+    lines: u64,
+) -> Result<Option<Run>, DataError>
+    requires layout { layout.now ≡ layout_of dictionary.now }
+    requires rests { IsResting (reader_of dictionary.now run.old buffer.old ended.old reads.old lines) }
+    requires end { ended.old ≡ true → IsAtEnd (R.given input.old) }
+    ensures next { Next (R.given input.old) (R.given input.new) (reader_of dictionary.now run.old buffer.old ended.old reads.old lines)
+        (reader_of dictionary.now run.new buffer.new ended.new reads.new (lines + length (given_lines result))) result }
+    ensures rests { OnOk result (IsResting (reader_of dictionary.now run.new buffer.new ended.new reads.new (lines + length (given_lines result)))) }
+    ensures few_reads { reads.new ≤ 2 ^ 40 }
+    ensures end { ended.new ≡ true → IsAtEnd (R.given input.new) }
+    ensures failed { IfErr result (λ error. error.number ≡ 70 → FailsOnce (R.given input.old) (R.given input.new) ⊎ (reads.new ≡ 2 ^ 40)) }
+    ensures works { OnOk result (IsUnfailing (R.given input.old) (R.given input.new)) }
+    ensures sound { IfErr result (λ error. error.number ≢ 70 → IsUnfailing (R.given input.old) (R.given input.new)) }
+{
+    'reads: loop {
+        match gather(
+            alloc,
+            dictionary,
+            layout,
+            run,
+            room,
+            read,
+            buffer,
+            lines == 0,
+            *ended,
+        ) {
+            Ok(Some(given)) => return Ok(Some(given)),
+            Ok(None) if *ended => return Ok(take_rest(alloc, run)),
+            Ok(None) => {}
+            Err(LineStop::Memory) => return Err(error(WANT_OF_MEMORY)),
+            Err(LineStop::Fault(number)) => return Err(DataError {
+                number,
+                line: lines + run.len() as u64 + 1,
+            }),
+        }
+        if *reads == MOST_READS {
+            return Err(error(READ_FAILED));
+        }
+        match buffer.read_from(alloc, input) {
+            Ok(0) => *ended = true,
+            Ok(_) => *reads += 1,
+            Err(ReadFault::Device) => return Err(error(READ_FAILED)),
+            Err(ReadFault::Memory) => return Err(error(WANT_OF_MEMORY)),
+        }
+    }
+}
+
+/// Reads the layout of the dictionary, where none is kept.
+fn keep_layout(
+    alloc: Global,
+    dictionary: &Dictionary,
+    kept: &mut Option<Layout>,
+) -> Result<(), AllocError>
+    requires { IsLayoutOf dictionary.now kept.old }
+    ensures ok { OnOk result (kept.new ≡ Some (layout_of dictionary.now)) }
+    ensures err { OnErr result (kept.new ≡ kept.old) }
+{
+    match kept {
+        Some(_) => {}
+        None => *kept = Some(Layout::read(alloc, dictionary)?),
+    }
+    Ok(())
+}
+
+/// The next run of what is held and read. The layout is read in the first call.
+pub fn next_by_layout<R: Input>(
+    alloc: Global,
+    dictionary: &Dictionary,
+    layout: &mut Option<Layout>,
+    input: &mut R,
+    run: &mut Run,
+    room: &mut Option<Box<Lines>>,
+    read: &mut Option<Box<Lines>>,
+    buffer: &mut Buffer,
+    ended: &mut bool,
+    reads: &mut u64,
+    lines: u64,
+) -> Result<Option<Run>, DataError>
+    requires layout { IsLayoutOf dictionary.now layout.old }
+    requires rests { IsResting (reader_of dictionary.now run.old buffer.old ended.old reads.old lines) }
+    requires end { ended.old ≡ true → IsAtEnd (R.given input.old) }
+    ensures layout { IsLayoutOf dictionary.now layout.new }
+    ensures next { Next (R.given input.old) (R.given input.new) (reader_of dictionary.now run.old buffer.old ended.old reads.old lines)
+        (reader_of dictionary.now run.new buffer.new ended.new reads.new (lines + length (given_lines result))) result }
+    ensures rests { OnOk result (IsResting (reader_of dictionary.now run.new buffer.new ended.new reads.new (lines + length (given_lines result)))) }
+    ensures few_reads { reads.new ≤ 2 ^ 40 }
+    ensures end { ended.new ≡ true → IsAtEnd (R.given input.new) }
+    ensures failed { IfErr result (λ error. error.number ≡ 70 → FailsOnce (R.given input.old) (R.given input.new) ⊎ (reads.new ≡ 2 ^ 40)) }
+    ensures works { OnOk result (IsUnfailing (R.given input.old) (R.given input.new)) }
+    ensures sound { IfErr result (λ error. error.number ≢ 70 → IsUnfailing (R.given input.old) (R.given input.new)) }
+{
+    let Ok(()) = keep_layout(alloc, dictionary, layout) else {
+        return Err(error(WANT_OF_MEMORY));
+    };
+    let Some(known) = layout else {
+        unreachable!();
+    };
+    let Ok(()) = keep_lines(alloc, read) else {
+        return Err(error(WANT_OF_MEMORY));
+    };
+    let Some(read) = read else {
+        unreachable!();
+    };
+    next_run(
+        alloc, dictionary, known, input, run, room, read, buffer, ended, reads, lines,
+    )
+}

@@ -1,7 +1,0 @@
-pub mod ChangeLaws
-pub mod FileLaws
-pub mod CompareLaws
-pub mod AlikeLaws
-pub mod SumLaws
-pub mod PartLaws
-pub mod CountLaws

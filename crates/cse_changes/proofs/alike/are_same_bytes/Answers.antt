@@ -1,6 +1,0 @@
-use Rattle.std.proofs.lemmas.Bool.Decides.{Decides-eqb}
-use Rattle.std.proofs.lemmas.Slice.Eq.{slice_eq-Decides}
-use Rattle.cse_changes.proofs.alike.are_same_bytes.Goals as goal
-
-pub returns : goal.returns
-returns c = (slice_eq-Decides Decides-eqb _ _ _ c.eq.ensures).0

@@ -1,6 +1,0 @@
-use Rattle.std.proofs.Common.{◌∙◌}
-use Rattle.cse_changes.proofs.CountLaws.{seen_is}
-use Rattle.cse_changes.proofs.seen.seen_of.Goals as goal
-
-pub returns-clause-is : goal.returns-clause-is
-returns-clause-is c = c.seen_lines.ensures.is ∙ seen_is c.args.records.now c.args.number c.most_of.result c.args.lines.now c.most_of.ensures

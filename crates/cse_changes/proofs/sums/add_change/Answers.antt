@@ -1,9 +1,0 @@
-use Rattle.std.proofs.Common.{get_or, cond, ap, sym, ◌∙◌}
-use Rattle.cse_changes.specs.Changes.{no_count, with_changes}
-use Rattle.cse_changes.proofs.SumLaws.{with_none}
-use Rattle.cse_changes.proofs.sums.add_change.Goals as goal
-
-pub returns-then-not-is_changed-clause-here : goal.returns-then-not-is_changed-clause-here
-returns-then-not-is_changed-clause-here c =
-    let old = get_or c.args.counts.now c.args.n no_count in
-    sym (ap (λ t. with_changes old (cond t 1 0)) c.if-not-is_changed.true ∙ with_none old)

@@ -1,4 +1,0 @@
-pub mod Counted
-pub mod Ran
-pub mod RunDoes
-pub mod Telling

@@ -1,7 +1,0 @@
-use Rattle.std.proofs.Common.{◌≡◌, ◌++◌, [], drop, map}
-use Rattle.cse_logic_tree.specs.Typed.{dimension}
-use Rattle.cse_compile_code.specs.Tables.{size_of}
-use Rattle.cse_compile_code.proofs.arrays.sizes_of.Given as goal
-
-abbrev pub invariant-all : goal.invariant-all
-invariant-all l = l.sizes.items ++ map size_of (map dimension (drop l.written-index l.dimensions)) ≡ map size_of (map dimension l.dimensions)

@@ -1,5 +1,0 @@
-use Rattle.std.proofs.Common.{length}
-use Rattle.cse_compile_code.proofs.emitter.Emitter.+picks.Given as goal
-
-abbrev pub decreases-picks : goal.decreases-picks
-decreases-picks l = length l.picks.now

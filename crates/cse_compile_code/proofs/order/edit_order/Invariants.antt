@@ -1,7 +1,0 @@
-use Rattle.std.proofs.Common.{◌≡◌, ◌++◌}
-use Rattle.std.specs.List.{flat_map, range_with_len}
-use Rattle.cse_compile_code.specs.Order.{unless_named}
-use Rattle.cse_compile_code.proofs.order.edit_order.Given as goal
-
-abbrev pub invariant-numbers : goal.invariant-numbers
-invariant-numbers l = l.order.items ≡ l.named ++ flat_map (unless_named l.named) (range_with_len 0 l.number)

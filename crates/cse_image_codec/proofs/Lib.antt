@@ -1,3 +1,0 @@
-pub mod Algebra
-pub mod Loop
-pub mod Places

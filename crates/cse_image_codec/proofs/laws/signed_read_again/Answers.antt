@@ -1,5 +1,0 @@
-use Rattle.cse_image_codec.proofs.Algebra.{signed_laws}
-use Rattle.cse_image_codec.proofs.laws.signed_read_again.Goals as goal
-
-pub returns : goal.returns
-returns c = λ z rest fits. signed_laws.again z rest fits

@@ -1,7 +1,0 @@
-use Rattle.std.proofs.Common.{◌≡◌, ◌++◌, take}
-use Rattle.std.specs.List.{flat_map}
-use Rattle.cse_image_codec.specs.Spelling.{u32}
-use Rattle.cse_image_codec.proofs.writing.put_u32s.Given as goal
-
-abbrev pub invariant-loop-n : goal.invariant-loop-n
-invariant-loop-n l = l.out.items ≡ l.fn.out.items ++ flat_map u32 (take l.n-index l.numbers)

@@ -1,0 +1,7 @@
+use Rattle.std.proofs.Common.{◌≡◌, ◌++◌, take}
+use Rattle.std.specs.List.{flat_map}
+use Rattle.cse_image_parts.specs.Spelling.{u32}
+use Rattle.cse_image_parts.proofs.writing.put_u32s.Given as goal
+
+abbrev pub invariant-loop-n : goal.invariant-loop-n
+invariant-loop-n l = l.out.items ≡ l.fn.out.items ++ flat_map u32 (take l.n-index l.numbers)

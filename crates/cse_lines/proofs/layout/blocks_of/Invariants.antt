@@ -1,6 +1,0 @@
-use Rattle.std.proofs.Common.{take}
-use Rattle.cse_lines.specs.Field.{HaveSame}
-use Rattle.cse_lines.proofs.layout.blocks_of.Given as goal
-
-abbrev pub invariant-spans : goal.invariant-spans
-invariant-spans l = HaveSame l.blocks.items (take l.span-index l.spans)

@@ -1,8 +1,0 @@
-use Rattle.std.proofs.Common.{refl, arith}
-use Rattle.cse_lines.proofs.FieldLaws.{HaveSame-joined}
-use Rattle.cse_lines.proofs.layout.join.Goals as goal
-
-pub returns : goal.returns
-returns c =
-    HaveSame-joined _ c.args.first c.args.second (omega (arith, c.if-first-eq0.false)) refl
-    (omega (arith, c.in_ok-len.ensures)) (omega (arith, c.in_ok-end.ensures, c.if-end-second.false))

@@ -1,6 +1,0 @@
-use Rattle.std.proofs.Common.{◌≡◌, drop, max}
-use Rattle.cse_lines.specs.Field.{last_column}
-use Rattle.cse_lines.proofs.layout.last_column.Given as goal
-
-abbrev pub invariant-spans : goal.invariant-spans
-invariant-spans l = max l.last (last_column (drop l.span-index l.spans)) ≡ last_column l.spans

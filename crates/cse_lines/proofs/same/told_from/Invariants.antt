@@ -1,5 +1,0 @@
-use Rattle.cse_lines.specs.Same.{IsSameFront}
-use Rattle.cse_lines.proofs.same.told_from.Given as goal
-
-abbrev pub invariant-bytes : goal.invariant-bytes
-invariant-bytes l = IsSameFront l.a l.b l.i

@@ -1,6 +1,0 @@
-use Rattle.std.proofs.Common.{◌≡◌, true}
-use Rattle.cse_value.specs.Device.{IsAtEnd}
-use Rattle.cse_views.proofs.look.look_at_all.Given as goal
-
-abbrev pub invariant-runs : goal.invariant-runs
-invariant-runs g l = l.reader.ended ≡ true → IsAtEnd (g.R.Input.given l.input)
