@@ -186,6 +186,15 @@ SAID = [
     ("a text cannot be read", SPOILT, {}, ["put", ["count", "half"]]),
     ("a text cannot be read, and goals are open", SPOILT.partition("rattle")[0] + PUT + END, {}, ["put", ["count", "half"]]),
 ]
+# (what the check of one edit said, and how it ended by that; nothing where it does not count)
+COVERED = "fn cse_high::rows::Row::put: no proof: expected `put_spec` in ./proofs/rows/Row/put/Proof.antt; the borrow checker {} this function yet\n"
+OUTCOMES = [
+    ("a goal is open", PUT + END, REFUSED_PUT),
+    ("a goal is open at a limit", PUT_LIMIT + END, ["limit", "rows::Row::put", "returns"]),
+    ("an answer does not fit", COUNT + END, REFUSED_COUNT),
+    ("the prover does not cover what was turned", COVERED.format("does not cover") + END, None),
+    ("it cannot be read", SPOILT, None),
+]
 # (how an edit ended by the record, and the paths of the function where)
 PLACES = [
     (["refused", "rows::Row::put", "returns"], ["rows::Row::put"]),
@@ -268,7 +277,11 @@ def main():
             if (found[0], names(found[1])) != (ended, left):
                 print(f"{what}: {found[0]}, left {names(found[1])}")
                 bad += 1
-    print(f"{len(ALONE) + len(PAIRS) + len(SAID) + len(PLACES) + len(AIMED) + 6} rows, {bad} fail")
+    for what, said, ended in OUTCOMES:
+        if trying.outcome(said, 1, texts)[0] != ended:
+            print(f"{what}: {trying.outcome(said, 1, texts)}")
+            bad += 1
+    print(f"{len(ALONE) + len(PAIRS) + len(SAID) + len(PLACES) + len(AIMED) + len(OUTCOMES) + 6} rows, {bad} fail")
     return int(bad > 0)
 
 

@@ -211,5 +211,8 @@ def outcome(said, status, changed):
         return ["limit", *open_goals[0][:2]], ""
     if any(ERROR.match(it) for it in lines):
         return ["name", next(ERROR.match(it)[1] for it in lines if ERROR.match(it))], ""
+    beyond = next((it for it in lines if "does not cover this function" in it), "")
+    if beyond:
+        return None, f"the prover does not cover the edited text: {beyond[:300]}"
     first = next((it for it in lines if re.match(r"fn .*: n(o|ot) ", it)), "")
     return ["refused", *(re.findall(r"fn (\S+):", first) or ["somewhere"])], ""
