@@ -62,13 +62,28 @@ fn right_below<R: Files + Print + AllocGlobal + Clone + Drop, C: Commands>(
 ) -> usize {
     let mut right = 0usize;
     for own in rows.split("\n\n") {
-        if is_row(own) && has_words(shared.part) && is_right_by(rt, own, shared, commands) {
-            right = right.saturating_add(1);
-        } else {
-            let _ = println!(rt; "{}: not as it should be", own.lines().next().unwrap_or(""));
-        }
+        right = right.saturating_add(usize::from(is_well(rt, own, shared, commands)));
     }
     right
+}
+
+/// Whether a block is a row that is as it should be. Prints its first line where it isn't.
+fn is_well<R: Files + Print + AllocGlobal + Clone + Drop, C: Commands>(
+    rt: &R,
+    own: &str,
+    shared: Shared<'_>,
+    commands: &C,
+) -> bool {
+    let well = is_row(own) && has_words(shared.part) && is_right_by(rt, own, shared, commands);
+    if !well {
+        tell_row(rt, own);
+    }
+    well
+}
+
+/// Prints that a row is not as it should be.
+fn tell_row<R: Print>(rt: &R, own: &str) {
+    let _ = println!(rt; "{}: not as it should be", own.lines().next().unwrap_or(""));
 }
 
 /// Whether a row is as it should be, by its lines and what it shares.
