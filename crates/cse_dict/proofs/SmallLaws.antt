@@ -1,7 +1,9 @@
 -- Laws of the table of small numbers' rows.
-use Rattle.std.proofs.Common.{◌≡◌, ℕ, zero, suc, ◌<◌, List, [], ◌∷◌, ◌++◌, length, Option, Some, refl, ap, sym, ◌∙◌, pos, inl, inr, ⊎_elim, arith}
+use Rattle.std.proofs.Common.{◌≡◌, ℕ, zero, suc, ◌<◌, List, [], ◌∷◌, ◌++◌, length, Option, Some, refl, ap, sym, ◌∙◌, pos, negsuc, ℤ, ◌≤ℤ◌, nat_abs, get_or, inl, inr, ⊎_elim, arith}
 use Rattle.std.specs.Prelude.{◌⊎◌}
+use Rattle.std.proofs.lemmas.Int.{ints}
 use Rattle.std.proofs.lemmas.List.{length_push}
+use Rattle.std.proofs.lemmas.Option.{get_or_from_slice_get}
 use Rattle.cse_lemmas.proofs.Lists.{slice_get_push, slice_get_push_below}
 use Rattle.cse_value.specs.declared.number.Num.TheVariants.{Whole}
 use Rattle.cse_dict.specs.declared.rows.NumberSpan.{NumberSpan}
@@ -25,3 +27,8 @@ tells_more rows spans row before is number lt =
     by zero (suc m) h = inl (omega arith)
     by (suc n) zero h = absurd (omega (arith, h))
     by (suc n) (suc m) h = ⊎_elim (λ (a : n < m). inl (omega (arith, a))) (λ (b : n ≡ m). inr (ap suc b)) (by n m (omega (arith, h)))
+
+-- the row that stands at the place of a number from 0 on
+pub told_row : (rows : List (Option ℕ)) (spans : List NumberSpan) (z : ℤ) (other : Option ℕ) → TellsRows rows spans → pos 0 ≤ℤ z → nat_abs z < length rows → get_or rows (nat_abs z) other ≡ row_in (Whole z) spans
+told_row rows spans (pos n) other told from_0 lt = get_or_from_slice_get rows n (row_in (Whole (pos n)) spans) other (told n lt)
+told_row rows spans (negsuc n) other told from_0 lt = absurd (omega (arith, ints, from_0))
