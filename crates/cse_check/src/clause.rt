@@ -1,7 +1,7 @@
 //! The statements of a procedure or a function that is at fault: the heads of those that hold others, and the others whole.
 
 use crate::gathered::Gathered;
-use crate::token::{Role, Sort, Token};
+use crate::token::{Role, Sort, Token, tokens_in};
 use std::alloc::{AllocError, Global};
 
 /// What a clause is.
@@ -168,6 +168,17 @@ impl Reader {
             self.close(form, at.saturating_add(1));
         }
     }
+
+    /// The tokens from `first` up to `last`, behind which a clause ends.
+    fn take_all(&mut self, tokens: &[Token], first: usize, last: usize) {
+        let mut at = first;
+        for token in tokens_in(tokens, first, last) {
+            self.take(at, token);
+            at = at.saturating_add(1);
+        }
+        let form = form_before(self.state);
+        self.close(form, last);
+    }
 }
 
 /// The clauses of the tokens from `first` up to `last`.
@@ -183,11 +194,7 @@ pub fn clauses_of(
         first,
         may_end: false,
     };
-    for (at, token) in tokens.iter().enumerate().take(last).skip(first) {
-        reader.take(at, token);
-    }
-    let form = form_before(reader.state);
-    reader.close(form, last);
+    reader.take_all(tokens, first, last);
     let Reader { clauses, .. } = reader;
     clauses.finish()
 }

@@ -71,8 +71,8 @@ pub fn is_always_false(spot: &Spot<'_>) -> bool {
 /// Whether an `else` or another `elseif` stands behind this one.
 fn has_else(spot: &Spot<'_>) -> bool {
     let mut depth = 0usize;
-    let behind = spot.tokens.iter().skip(spot.index.saturating_add(1));
-    for token in behind {
+    let first = spot.index.saturating_add(1);
+    for token in tokens_in(spot.tokens, first, spot.tokens.len()) {
         match token.role {
             Role::If => depth = depth.saturating_add(1),
             Role::Else | Role::ElseIf if depth == 0 => return true,
@@ -88,9 +88,9 @@ fn has_else(spot: &Spot<'_>) -> bool {
 fn condition_before(spot: &Spot<'_>) -> usize {
     let mut depth = 0usize;
     let mut index = spot.index;
-    for token in tokens_in(spot.tokens, 0, spot.index).iter().rev() {
+    for count in 0..spot.index {
         index = index.saturating_sub(1);
-        match token.role {
+        match spot.role_before(count.saturating_add(1)) {
             Role::EndIf => depth = depth.saturating_add(1),
             Role::If | Role::ElseIf if depth == 0 => return index,
             Role::If => depth = depth.saturating_sub(1),

@@ -47,14 +47,19 @@ pub fn cell(said: &'static [u8], count: usize) -> &'static [u8] {
     }
 }
 
-/// What docs/FAULTS.md says of a number; nothing where no fault has it.
-pub fn section_of(number: &[u8]) -> &'static [u8] {
+/// Whether a section is that of a number.
+fn is_of(section: &[u8], number: &[u8]) -> bool {
+    matches!(section.strip_prefix(number), Some([b' ', ..]))
+}
+
+/// The section of a number; nothing where there is none.
+fn section_in(sections: &'static [u8], number: &[u8]) -> &'static [u8] {
     let mut start = 0usize;
     let mut is_end = false;
-    for (at, byte) in SECTIONS.iter().enumerate() {
+    for (at, byte) in sections.iter().enumerate() {
         if *byte == b'\n' && is_end {
-            let section = part(SECTIONS, start, at);
-            if let Some([b' ', ..]) = section.strip_prefix(number) {
+            let section = part(sections, start, at);
+            if is_of(section, number) {
                 return section;
             }
             start = at.saturating_add(1);
@@ -62,4 +67,9 @@ pub fn section_of(number: &[u8]) -> &'static [u8] {
         is_end = *byte == b'\n';
     }
     b""
+}
+
+/// What docs/FAULTS.md says of a number; nothing where no fault has it.
+pub fn section_of(number: &[u8]) -> &'static [u8] {
+    section_in(SECTIONS, number)
 }

@@ -6,7 +6,7 @@ use crate::gathered::Gathered;
 use crate::line::lines_of;
 use crate::token::{Role, Token, part, tokens_in};
 use std::alloc::{AllocError, Global};
-use std::collections::{HashMap, HashSet};
+use std::collections::HashMap;
 
 /// The first and the last token of a name.
 #[derive(Clone, Copy)]
@@ -134,19 +134,33 @@ fn digits_of(line: &[u8]) -> &[u8] {
     part(line, start, end)
 }
 
-/// The numbers of messages that logic names.
+/// Numbers in their order as texts.
+fn in_order(numbers: Gathered<&[u8]>) -> Result<Vec<&[u8]>, AllocError> {
+    let mut numbers = numbers.finish()?;
+    numbers.sort()?;
+    Ok(numbers)
+}
+
+/// The numbers of messages that logic names, in order.
 fn numbers_of<'a>(
     alloc: Global,
     logic: &'a [u8],
     tokens: &[Token],
-) -> Result<HashSet<&'a [u8]>, AllocError> {
-    let mut numbers = HashSet::new(alloc);
-    for (first, token) in tokens.iter().zip(tokens.iter().skip(2)) {
-        if first.is(logic, b"errmsg") {
-            numbers.insert(digits_of(token.of(logic)))?;
+) -> Result<Vec<&'a [u8]>, AllocError> {
+    let mut numbers = Gathered::new(alloc);
+    for (at, token) in tokens.iter().enumerate() {
+        if token.is(logic, b"errmsg") {
+            if let Some(token) = tokens.get(at.saturating_add(2)) {
+                numbers.add(digits_of(token.of(logic)));
+            }
         }
     }
-    Ok(numbers)
+    in_order(numbers)
+}
+
+/// Whether a number is among some that are in order.
+fn is_named(numbers: &[&[u8]], number: &[u8]) -> bool {
+    numbers.binary_search(&number).is_ok()
 }
 
 /// Messages of a message file whose number no logic has.
@@ -161,7 +175,7 @@ pub fn unused_messages(
     let mut found = Gathered::new(alloc);
     for line in &lines {
         let digits = digits_of(part(text, line.start, line.end));
-        if !digits.is_empty() && !numbers.contains(&digits) {
+        if !digits.is_empty() && !is_named(&numbers, digits) {
             found.add(Finding {
                 start: line.start,
                 number: 103,

@@ -26,12 +26,9 @@ enum Next {
 /// The words so far.
 #[derive(Clone, Copy)]
 struct Reader<'a> {
-    dict: Option<&'a str>,
-    logic: Option<&'a str>,
-    messages: Option<&'a str>,
-    order: Option<&'a str>,
-    is_json: bool,
-    has_warnings: bool,
+    words: CheckWords<'a>,
+    /// How many paths there are that have to be given.
+    paths: usize,
     next: Next,
     /// Whether these are no words of `check`.
     is_wrong: bool,
@@ -45,25 +42,25 @@ fn is_option(word: &str) -> bool {
 impl<'a> Reader<'a> {
     /// A path of the two that have to be given.
     fn put_path(&mut self, path: &'a str) {
-        if self.dict.is_none() {
-            self.dict = Some(path);
-        } else {
-            self.is_wrong = self.is_wrong || self.logic.is_some();
-            self.logic = Some(path);
+        match self.paths {
+            0 => self.words.dict = path,
+            1 => self.words.logic = path,
+            _ => self.is_wrong = true,
         }
+        self.paths = self.paths.saturating_add(1);
     }
 
     /// The path of the messages.
     fn put_messages(&mut self, path: &'a str) {
-        self.is_wrong = self.is_wrong || self.messages.is_some();
-        self.messages = Some(path);
+        self.is_wrong = self.is_wrong || self.words.messages.is_some();
+        self.words.messages = Some(path);
         self.next = Next::Any;
     }
 
     /// The path of the order.
     fn put_order(&mut self, path: &'a str) {
-        self.is_wrong = self.is_wrong || self.order.is_some();
-        self.order = Some(path);
+        self.is_wrong = self.is_wrong || self.words.order.is_some();
+        self.words.order = Some(path);
         self.next = Next::Any;
     }
 
@@ -74,12 +71,12 @@ impl<'a> Reader<'a> {
             "--order" => self.next = Next::Order,
             "--" => self.next = Next::Path,
             "--json" => {
-                self.is_wrong = self.is_wrong || self.is_json;
-                self.is_json = true;
+                self.is_wrong = self.is_wrong || self.words.is_json;
+                self.words.is_json = true;
             }
             "--warnings" => {
-                self.is_wrong = self.is_wrong || self.has_warnings;
-                self.has_warnings = true;
+                self.is_wrong = self.is_wrong || self.words.has_warnings;
+                self.words.has_warnings = true;
             }
             _ => self.put_other(word),
         }
@@ -110,35 +107,26 @@ impl<'a> Reader<'a> {
 
     /// What the words name; none where they are no words of `check`.
     fn finish(&self) -> Option<CheckWords<'a>> {
-        let is_open = match self.next {
-            Next::Messages | Next::Order => true,
-            Next::Any | Next::Path => false,
-        };
-        if self.is_wrong || is_open {
+        let is_open = matches!(self.next, Next::Messages | Next::Order);
+        if self.is_wrong || is_open || self.paths < 2 {
             return None;
         }
-        let dict = self.dict?;
-        let logic = self.logic?;
-        Some(CheckWords {
-            dict,
-            logic,
-            messages: self.messages,
-            order: self.order,
-            is_json: self.is_json,
-            has_warnings: self.has_warnings,
-        })
+        Some(self.words)
     }
 }
 
 /// What the words behind `check` name; none where they are no words of it.
 pub fn check_words(words: &[String]) -> Option<CheckWords<'_>> {
     let mut reader = Reader {
-        dict: None,
-        logic: None,
-        messages: None,
-        order: None,
-        is_json: false,
-        has_warnings: false,
+        words: CheckWords {
+            dict: "",
+            logic: "",
+            messages: None,
+            order: None,
+            is_json: false,
+            has_warnings: false,
+        },
+        paths: 0,
         next: Next::Any,
         is_wrong: false,
     };
