@@ -88,6 +88,14 @@ pub fn put_field(out: &mut Text, item: &ItemShape, columns: Columns<'_>) {
     }
 }
 
+/// Writes a value of an item, with its label.
+fn put_told(out: &mut Text, names: &Names<'_>, item: usize, value: &str) {
+    out.put(value);
+    let label = names.value(item, value);
+    out.put(if label.is_empty() { "" } else { " " });
+    out.put(label);
+}
+
 /// The key of a thing that is counted of an area.
 fn key_of(area: usize, thing: usize) -> u64 {
     (area as u64)
@@ -198,15 +206,14 @@ impl Areas {
 
     /// Writes what an area is called: its values, with their labels.
     fn put_name(&self, out: &mut Text, names: &Names<'_>, values: &str) {
-        for (place, value) in values.split('\n').enumerate() {
-            let Some(item) = self.items.get(place) else {
-                break;
-            };
-            out.put(if place > 0 { " " } else { "" });
-            out.put(value);
-            let label = names.value(*item, value);
-            out.put(if label.is_empty() { "" } else { " " });
-            out.put(label);
+        let mut rest = values;
+        let mut blank = "";
+        for item in &self.items {
+            let (value, behind) = rest.split_once('\n').unwrap_or((rest, ""));
+            out.put(blank);
+            put_told(out, names, *item, value);
+            rest = behind;
+            blank = " ";
         }
     }
 
@@ -221,19 +228,35 @@ impl Areas {
         })
     }
 
+    /// Adds an area, as it is told. Answers whether memory lacks.
+    fn add_told(&self, told: &mut Vec<Area>, name: &str, place: usize) -> bool {
+        match self.area(name, place) {
+            Ok(area) => told.push(area).is_err(),
+            Err(_) => true,
+        }
+    }
+
+    /// Adds the areas that are told apart, whose names are written one after the other. Answers whether memory lacks.
+    fn add_all(&self, told: &mut Vec<Area>, name: &mut Text, names: &Names<'_>) -> bool {
+        for (values, place) in self.places.iter() {
+            name.clear();
+            self.put_name(name, names, text_of(values));
+            if self.add_told(told, name.as_str(), *place) {
+                return true;
+            }
+        }
+        name.has_given_up()
+    }
+
     /// All areas that have lines, by their values; the one of all others is the first.
     pub fn told(&self, names: &Names<'_>) -> Result<Vec<Area>, AllocError> {
         let mut told = Vec::new(self.alloc);
+        let mut lacks_memory = false;
         if self.times(0, LINES) > 0 {
-            told.push(self.area("all others", 0)?)?;
+            lacks_memory = self.add_told(&mut told, "all others", 0);
         }
         let mut name = Text::new(self.alloc);
-        for (values, place) in self.places.iter() {
-            name.clear();
-            self.put_name(&mut name, names, text_of(values));
-            told.push(self.area(name.as_str(), *place)?)?;
-        }
-        if name.has_given_up() {
+        if lacks_memory || self.add_all(&mut told, &mut name, names) {
             return Err(AllocError);
         }
         Ok(told)

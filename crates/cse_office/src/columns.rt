@@ -1,16 +1,6 @@
-//! What stands in the columns of a line; past the end of a line stand blanks.
+//! The columns of a line.
 
 use cse_case::{Columns, Lines};
-
-/// A column, by its place from 0: a blank past the last.
-#[inline(always)]
-pub fn column_at(columns: Columns<'_>, place: usize) -> char {
-    if place < columns.len() {
-        columns.at(place)
-    } else {
-        ' '
-    }
-}
 
 /// The columns and the record of a line of a run, by its place from 0.
 #[inline(always)]

@@ -1,7 +1,7 @@
 //! What stands in the fields of an item: blanks, an unreadable value, the code of `missing`, a value of its first set or
 //! another one.
 
-use crate::columns::column_at;
+use crate::item::column_at;
 use crate::names::Names;
 use cse_case::Columns;
 use cse_dict::Dictionary;

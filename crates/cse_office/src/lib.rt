@@ -10,7 +10,7 @@
 //! What is there:
 //!
 //! - `look`: what a data file is. `record`: the lines of a record. `field`: what stands in the fields of an item.
-//!   `columns`: what stands in the columns of a line. `look_text`: how it is told.
+//!   `columns`: the columns of a line. `look_text`: how it is told.
 //! - `dict_text`: what was read of a dictionary. `sets_text`: its value sets.
 //! - `report`: what a listing and frequencies tell. `report_text`, `report_sheet`, `report_page`: how it is told.
 //! - `show`: the tables of a program, and its routines with their instructions. `fields`: what the fields of an instruction

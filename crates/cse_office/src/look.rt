@@ -3,8 +3,9 @@
 ghost use Rattle.std.specs.Prelude.{◌≡◌, true};
 ghost use Rattle.cse_value.specs.Device.{IsAtEnd};
 
-use crate::columns::{column_at, line_at};
+use crate::columns::line_at;
 use crate::field::Found;
+use crate::item::column_at;
 use crate::names::Names;
 use crate::record::Record;
 use cse_case::layout::{ColumnSpan, id_blocks};

@@ -51,6 +51,19 @@ pub fn is_set(section: &Section<'_>) -> bool {
     is_same(section.heading, b"ValueSet")
 }
 
+/// The first value set, if no item stands before it.
+fn set_before_item<'s, 'a>(sections: &'s [Section<'a>]) -> Option<&'s Section<'a>> {
+    for section in sections {
+        if is_set(section) {
+            return Some(section);
+        }
+        if is_same(section.heading, b"Item") {
+            return None;
+        }
+    }
+    None
+}
+
 impl<'a> Names<'a> {
     /// The names and labels of a dictionary with its text.
     pub fn read(
@@ -128,16 +141,14 @@ impl<'a> Names<'a> {
 
     /// The first value set of an item, which stands behind it.
     pub fn first_set(&self, item: usize) -> Option<&Section<'a>> {
-        let place = *self.items.get(item)?;
-        for section in self.sections.get(place.saturating_add(1)..)? {
-            if is_set(section) {
-                return Some(section);
-            }
-            if is_same(section.heading, b"Item") {
-                return None;
-            }
+        let place = match self.items.get(item) {
+            Some(place) => place.saturating_add(1),
+            None => usize::MAX,
+        };
+        match self.sections.get(place..) {
+            Some(sections) => set_before_item(sections),
+            None => None,
         }
-        None
     }
 
     /// The number of a value set.

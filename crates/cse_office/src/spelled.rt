@@ -14,8 +14,10 @@ pub fn text_of(bytes: &[u8]) -> &str {
 /// The first of the languages of a label.
 pub fn first_language(label: &[u8]) -> &str {
     let text = text_of(label);
-    let (first, _) = text.split_once('|').unwrap_or((text, ""));
-    first.trim_ascii()
+    match text.split_once('|') {
+        Some((first, _)) => first.trim_ascii(),
+        None => text.trim_ascii(),
+    }
 }
 
 /// The value of a row's line: its pairs, as they stand, and its label, which stands behind the first `;` outside quotes.
