@@ -4,7 +4,7 @@ use crate::known::Known;
 use crate::said::{cell, said_of};
 use crate::spot::Spot;
 use crate::table::{NUMBERS, SIGNS, WORDS};
-use crate::token::{Role, Sort, tokens_in};
+use crate::token::{Role, Sort};
 use itoa::Buffer;
 
 /// How many tokens before a fault are looked at.
@@ -51,8 +51,10 @@ impl<'a> Advice<'a> {
 
 /// What the statement begins with that a token stands in, if it is near.
 fn opening(spot: &Spot<'_>) -> Role {
-    let front = tokens_in(spot.tokens, spot.index.saturating_sub(NEAR), spot.index);
-    for token in front.iter().rev() {
+    for count in 0..NEAR {
+        let Some(token) = spot.before(count.saturating_add(1)) else {
+            return Role::Other;
+        };
         match token.role {
             Role::Semicolon | Role::Declares | Role::Do | Role::Function => return token.role,
             Role::Begins if token.is(spot.text, b"errmsg") => return Role::Begins,

@@ -156,7 +156,8 @@ pub fn names_others(dictionary: &Dictionary, text: &[u8], own: &[Token]) -> bool
     };
     let mut is_in_loop = false;
     let mut has_others = false;
-    for (token, next) in body.iter().zip(body.iter().skip(1)) {
+    for place in 1..body.len() {
+        let (token, next) = (&body[place - 1], &body[place]);
         match token.role {
             Role::For => is_in_loop = true,
             Role::EndDo => is_in_loop = false,
