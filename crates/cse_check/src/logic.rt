@@ -23,16 +23,24 @@ pub struct Beside<'a> {
     pub lacks_messages: bool,
 }
 
+/// How many parentheses are open behind a token, where so many are before it.
+fn open_behind(tokens: &[Read<'_>], place: usize, depth: usize) -> usize {
+    match tokens.get(place) {
+        Some(token) => match token.kind {
+            Kind::Mark(Mark::Open) => depth.saturating_add(1),
+            Kind::Mark(Mark::Close) => depth.saturating_sub(1),
+            _ => depth,
+        },
+        None => depth,
+    }
+}
+
 /// Where the parenthesis closes that opens behind a name; the name itself where none opens.
 fn arguments_end(tokens: &[Read<'_>], name: usize) -> usize {
     let behind = name.saturating_add(1);
     let mut depth = 0usize;
-    for (place, token) in tokens.iter().enumerate().skip(behind) {
-        match token.kind {
-            Kind::Mark(Mark::Open) => depth = depth.saturating_add(1),
-            Kind::Mark(Mark::Close) => depth = depth.saturating_sub(1),
-            _ => {}
-        }
+    for place in behind..tokens.len() {
+        depth = open_behind(tokens, place, depth);
         if depth == 0 {
             return if place == behind { name } else { place };
         }
