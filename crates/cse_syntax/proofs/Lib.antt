@@ -14,5 +14,6 @@ pub mod Words
 pub mod Whole
 pub mod LongestToken
 pub mod FirstToken
+pub mod FirstWords
 pub mod QuotedText
 pub mod SkippedText

@@ -1,8 +1,8 @@
 //! From tokens to declarations and procedures, one method a rule of the grammar.
 
-ghost use Rattle.std.specs.Prelude.{◌≡◌, ◌<◌, IfOk, length, map};
+ghost use Rattle.std.specs.Prelude.{◌≡◌, ◌<◌, IfOk, List, ◌∷◌, length, map};
 ghost use Rattle.std.specs.Option.{option_map};
-ghost use Rattle.cse_syntax_tree.specs.Word.{words};
+ghost use Rattle.cse_syntax_tree.specs.Word.{Word, Sign, words};
 ghost use Rattle.cse_syntax_tree.specs.Tree as tree;
 ghost use Rattle.cse_syntax_tree.specs.Tree.{written};
 ghost use Rattle.cse_syntax.specs.Reading as spec;
@@ -22,6 +22,16 @@ use cse_syntax_tree::{
 const ALPHA_MOST: u64 = 255;
 
 const DIMENSION_MOST: u64 = 65_535;
+
+/// Whether a declaration begins with this mark.
+fn declares(mark: Mark) -> bool
+    ensures { (ws : List Word) → result ≡ rule.starts_declaration (Sign mark ∷ ws) }
+{
+    matches!(
+        mark,
+        Mark::Numeric | Mark::Alpha | Mark::Array | Mark::Function
+    )
+}
 
 impl<'t, 'a> Parser<'t, 'a> {
     /// Names with commas between them.
@@ -211,10 +221,10 @@ impl<'t, 'a> Parser<'t, 'a> {
     {
         match self.rest.first() {
             None => false,
-            Some(token) => matches!(
-                token.kind,
-                Kind::Mark(Mark::Numeric | Mark::Alpha | Mark::Array | Mark::Function)
-            ),
+            Some(token) => match token.kind {
+                Kind::Mark(mark) => declares(mark),
+                _ => false,
+            },
         }
     }
 

@@ -3,7 +3,7 @@ use Rattle.std.proofs.lemmas.List.{map_push}
 use Rattle.cse_syntax_tree.specs.Word.{words}
 use Rattle.cse_syntax_tree.specs.Tree.{expr, operation_tree, Compare}
 use Rattle.cse_syntax.specs.Reading as spec
-use Rattle.cse_syntax.specs.Reading.{relation, related, sum}
+use Rattle.cse_syntax.specs.Reading.{marked, relation, related, sum}
 use Rattle.cse_syntax.proofs.Loops.{made_gives, one_operation, list_ends, awaits_first, awaits_next, awaits_last}
 use Rattle.cse_syntax.proofs.parser.Parser.+expression.Goals as goal
 
@@ -47,3 +47,32 @@ relation-returns t c = record {
   value = made_gives expr c.compare.result (Compare c.in-Some.relation (expr c.in_ok-left.left) (expr c.in_ok-right.right)) (relation c.args.room (spec.nested c.args.room) (words c.args.self.now.rest.now)) (words c.chain-2.new.self.rest.now) c.compare.ensures (rw (c.in_ok-left.ensures.value, ← c.in-Some.ensures.found, ← c.in-Some.ensures.after, c.in_ok-right.ensures.value) refl);
   shorter = omega (arith, c.in_ok-left.ensures.shorter, c.in-Some.ensures.shorter, c.in_ok-right.ensures.shorter);
 }
+
+-- What begins with a mark: the definition is opened at each mark alone.
+pub marked-returns-in-Int : goal.marked-returns-in-Int
+unfolding marked
+marked-returns-in-Int t c = rw c.in-Int.is c.apply.ensures
+
+pub marked-returns-in-Special : goal.marked-returns-in-Special
+unfolding marked
+marked-returns-in-Special t c = rw c.in-Special.is c.apply-in-Special.ensures
+
+pub marked-returns-in-GetDeck : goal.marked-returns-in-GetDeck
+unfolding marked
+marked-returns-in-GetDeck t c = rw c.in-GetDeck.is c.query.ensures
+
+pub marked-returns-in-TotOcc : goal.marked-returns-in-TotOcc
+unfolding marked
+marked-returns-in-TotOcc t c = rw c.in-TotOcc.is c.query-in-TotOcc.ensures
+
+pub marked-returns-in-MaxOcc : goal.marked-returns-in-MaxOcc
+unfolding marked
+marked-returns-in-MaxOcc t c = rw c.in-MaxOcc.is c.query-in-MaxOcc.ensures
+
+pub marked-returns-in-CurOcc : goal.marked-returns-in-CurOcc
+unfolding marked
+marked-returns-in-CurOcc t c = rw c.in-CurOcc.is c.query-in-CurOcc.ensures
+
+pub marked-returns-in-InValueSet : goal.marked-returns-in-InValueSet
+unfolding marked
+marked-returns-in-InValueSet t c = rw c.in-InValueSet.is c.member.ensures

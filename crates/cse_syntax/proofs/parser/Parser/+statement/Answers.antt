@@ -6,7 +6,7 @@ use Rattle.cse_syntax_tree.specs.Word.{words}
 use Rattle.cse_syntax_tree.specs.Tree.{stmt, arm_tree}
 use Rattle.cse_syntax.specs.Reading as spec
 use Rattle.cse_syntax.specs.ReadingStmt as rule
-use Rattle.cse_syntax.specs.ReadingStmt.{alternatives}
+use Rattle.cse_syntax.specs.ReadingStmt.{alternatives, marked_stmt}
 use Rattle.cse_syntax.proofs.Loops.{one_item, after_mark, after_not, list_ends, step_fails}
 use Rattle.cse_syntax.proofs.parser.Parser.+statement.Goals as goal
 
@@ -41,3 +41,24 @@ alternatives-returns-in_err-otherwise t c =
       value = rw (p.1, p.2, others) (step_fails _ _ _ c.in_err-otherwise.ensures.value);
       shorter = omega (arith, c.eat.ensures.shorter, c.in_err-otherwise.ensures.shorter);
     }
+
+-- What begins with a mark: the definition is opened at each mark alone.
+pub marked_statement-returns-in-Semicolon : goal.marked_statement-returns-in-Semicolon
+unfolding marked_stmt
+marked_statement-returns-in-Semicolon t c = rw c.in-Semicolon.is c.statement_of.ensures
+
+pub marked_statement-returns-in-If : goal.marked_statement-returns-in-If
+unfolding marked_stmt
+marked_statement-returns-in-If t c = rw c.in-If.is c.conditional.ensures
+
+pub marked_statement-returns-in-Impute : goal.marked_statement-returns-in-Impute
+unfolding marked_stmt
+marked_statement-returns-in-Impute t c = rw c.in-Impute.is c.impute.ensures
+
+pub marked_statement-returns-in-PutDeck : goal.marked_statement-returns-in-PutDeck
+unfolding marked_stmt
+marked_statement-returns-in-PutDeck t c = rw c.in-PutDeck.is c.putdeck.ensures
+
+pub marked_statement-returns-in-ErrMsg : goal.marked_statement-returns-in-ErrMsg
+unfolding marked_stmt
+marked_statement-returns-in-ErrMsg t c = rw c.in-ErrMsg.is c.errmsg.ensures
