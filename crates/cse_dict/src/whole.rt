@@ -1,7 +1,9 @@
 //! The faults of all sections, and the least of them.
-ghost use Rattle.std.specs.Prelude.{◌≡◌, ◌≤◌, ◌++◌, [], false, None, OnOk, IfOk, length};
+ghost use Rattle.std.specs.Prelude.{◌≡◌, ◌≤◌, ◌++◌, [], false, codes, None, OnOk, IfOk, length};
 ghost use Rattle.std.specs.List.{list_any};
-ghost use Rattle.cse_dict.specs.Faults.{faults_behind, faults_from, faults_of, first_faults, is_level, level_lacks, names_after, note_all, read_len, read_part, rest_faults, second_level, seen_first, start_faults, unread_part};
+ghost use Rattle.cse_dict.specs.Context.{no_context};
+ghost use Rattle.cse_dict.specs.Types.{type_len_of};
+ghost use Rattle.cse_dict.specs.Faults.{faults_behind, faults_from, faults_of, first_faults, is_level, level_lacks, name_faults, names_after, note_all, optional_faults, read_len, read_part, rest_faults, second_level, seen_first, start_faults, unread_part};
 
 use crate::check::check_section;
 use crate::context::{covered_by, no_context};
@@ -71,8 +73,7 @@ fn check_first(
     names: &mut Names,
     found: &mut Option<DictError>,
 ) -> Result<(), AllocError>
-    requires { names.old ≡ [] }
-    ensures found { OnOk result (found.new ≡ note_all found.old (first_faults first.now)) }
+    ensures found { OnOk result (found.new ≡ note_all found.old (name_faults names.old first.now ++ optional_faults first.now (codes "RecordTypeLen") 0 16 ++ start_faults (type_len_of first.now) first.now)) }
     ensures names { OnOk result (names.new ≡ names_after names.old first.now) }
 {
     check_name(alloc, first, names, found)?;
@@ -131,6 +132,40 @@ fn check_second(unread: &[Section<'_>], found: &mut Option<DictError>)
     }
 }
 
+/// The first section and those that are read, by nothing that was seen before.
+fn check_read(
+    alloc: Global,
+    first: &Section<'_>,
+    read: &[Section<'_>],
+    seen: &mut Seen,
+    found: &mut Option<DictError>,
+) -> Result<(), AllocError>
+    requires { seen.old ≡ record { names = []; types = []; context = no_context; pairs = 0 } }
+    ensures { OnOk result (found.new ≡ note_all found.old (first_faults first.now ++ (level_lacks first.now read.now ++ rest_faults first.now read.now))) }
+{
+    check_first(alloc, first, &mut seen.names, found)?;
+    note_if(found, !has_level(read), first.line, KEY_LACKS);
+    check_rest(alloc, first, read, seen, found)
+}
+
+/// The first section and those that are read.
+fn check_all_read(
+    alloc: Global,
+    first: &Section<'_>,
+    read: &[Section<'_>],
+    found: &mut Option<DictError>,
+) -> Result<(), AllocError>
+    ensures { OnOk result (found.new ≡ note_all found.old (first_faults first.now ++ (level_lacks first.now read.now ++ rest_faults first.now read.now))) }
+{
+    let mut seen = Seen {
+        names: Names::new(alloc),
+        types: Types::new(alloc),
+        context: no_context(),
+        pairs: 0,
+    };
+    check_read(alloc, first, read, &mut seen, found)
+}
+
 /// The first section and those behind it.
 #[tactic(auto, unfolding(crate::specs::Faults::faults_behind, crate::specs::Faults::read_part, crate::specs::Faults::unread_part))]
 fn check_behind(
@@ -141,17 +176,8 @@ fn check_behind(
 ) -> Result<(), AllocError>
     ensures { OnOk result (found.new ≡ note_all found.old (faults_behind first.now rest.now)) }
 {
-    let mut names = Names::new(alloc);
-    check_first(alloc, first, &mut names, found)?;
-    let mut seen = Seen {
-        names,
-        types: Types::new(alloc),
-        context: no_context(),
-        pairs: 0,
-    };
     let len = read_len(rest);
-    note_if(found, !has_level(&rest[..len]), first.line, KEY_LACKS);
-    check_rest(alloc, first, &rest[..len], &mut seen, found)?;
+    check_all_read(alloc, first, &rest[..len], found)?;
     check_second(&rest[len..], found);
     Ok(())
 }
