@@ -1,7 +1,8 @@
 -- Reading entries one after the other, as a loop does: what is left to read, after those before, gives the whole result. And writing them.
 use Rattle.std.proofs.Common.{◌≡◌, ℕ, suc, ◌-◌, ◌+◌, ◌≤◌, ◌<◌, List, [], ◌∷◌, ◌++◌, Result, Ok, Err, refl, sym, ap, ◌∙◌, arith, length, take, get_or}
 use Rattle.std.specs.List.{flat_map}
-use Rattle.std.proofs.lemmas.List.{flat_map_more, take_more}
+use Rattle.std.proofs.lemmas.List.{flat_map_more, take_all, take_more}
+use Rattle.std.proofs.Math.Seq.{take-append_seam}
 use Rattle.cse_image_parts.specs.declared.fault.FieldFault.{FieldFault}
 use Rattle.cse_image_parts.specs.declared.fault.ReadStop.{ReadStop}
 use Rattle.cse_image_parts.specs.declared.fault.ReadStop.TheVariants as stops
@@ -46,3 +47,12 @@ pub put_more : {X : Type 0} (entry : X → List ℕ) (old : List ℕ) (xs : List
 put_more {X} entry old xs i d so_far new lt is before =
     is ∙ ap (λ (z : List ℕ). z ++ entry (get_or xs i d)) before ∙ flat_map_more entry old (take i xs) (get_or xs i d)
     ∙ ap (λ (ys : List X). old ++ flat_map entry ys) (sym (take_more xs i d lt))
+
+-- a loop that has written all entries, and one that takes back what it has written
+pub put_all : {X : Type 0} (entry : X → List ℕ) (old : List ℕ) (xs : List X) (i : ℕ) (so_far : List ℕ)
+    → length xs ≤ i → so_far ≡ old ++ flat_map entry (take i xs) → so_far ≡ old ++ flat_map entry xs
+put_all {X} entry old xs i so_far past before = before ∙ ap (λ (ys : List X). old ++ flat_map entry ys) (take_all i xs past)
+
+pub taken_back : (old more so_far after : List ℕ) (len : ℕ) → len ≡ length old → after ≡ so_far → so_far ≡ old ++ more → take len after ≡ old
+taken_back old more so_far after len is same before =
+    ap (λ (n : ℕ). take n after) is ∙ ap (take (length old)) (same ∙ before) ∙ take-append_seam old more
