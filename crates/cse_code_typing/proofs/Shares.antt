@@ -1,6 +1,6 @@
 -- Equal stacks have equal numbers.
 use Rattle.std.proofs.Common.{◌≡◌, ℕ, zero, suc, ◌+◌, ◌-◌, ◌<◌, ◌≤◌, true, false, eqb, List, [], ◌∷◌, ◌++◌, length, reverse, get_or, Some, None, refl, sym, ap, ◌∙◌, subst, ⊎_elim, arith}
-use Rattle.std.specs.Prelude.{slice_get, if◌then◌else◌, Result, Ok, Err, is_err, is_ok, OnOk}
+use Rattle.std.specs.Prelude.{slice_get, if◌then◌else◌}
 use Rattle.std.proofs.lemmas.Bool.{cond-true, cond-false, eq-eqb, eqb-true, ne_eqb, cases_eq, cases_lt, cases_Bool, and_parts, and_from}
 use Rattle.std.proofs.lemmas.Option.{same_Some, slice_get-get_or}
 use Rattle.std.proofs.lemmas.List.{get_or-reverse, length-reverse, length-append, reverse-append}
@@ -213,11 +213,3 @@ shared_push items longer table depths more numbers next e d n is so le new deep 
     let back : reverse longer ≡ e ∷ table = ap reverse grew ∙ reverse-append items (e ∷ []) ∙ ap (λ l. e ∷ l) is in
     let again : reverse more ≡ d ∷ reverse depths = ap reverse counted ∙ reverse-append depths (d ∷ []) in
     subst (λ (l : List Depth). IsShared (reverse longer) l next) (sym again) (subst (λ (t : List PileEntry). IsShared t (d ∷ reverse depths) next) (sym back) went)
-
-pub ok_told : {X E : Type 0} (r : Result X E) (P : Type 0) → is_err r ≡ false → OnOk r P → P
-ok_told (Ok x) P h p = p
-ok_told (Err e) P h p = cc
-
-pub ok_taken : {X E L : Type 0} (r : Result X E) (new a b : L) → is_err r ≡ false → new ≡ (if is_ok r then a else b) → new ≡ a
-ok_taken (Ok x) new a b h p = p
-ok_taken (Err e) new a b h p = cc

@@ -91,17 +91,12 @@ impl Piles {
         ensures added { OnOk result (self.new ≡ entry ∷ self.old) }
         ensures err { OnErr result (self.new ≡ self.old) }
     {
-        self.depths.push(depth)?;
-        if self.entries.push(entry).is_err() {
-            self.depths.pop();
-            return Err(AllocError);
-        }
-        let number = self.entries.len();
-        if self.numbers.put(entry, number).is_err() {
-            self.entries.pop();
-            self.depths.pop();
-            return Err(AllocError);
-        }
+        self.depths.reserve(1)?;
+        self.entries.reserve(1)?;
+        let number = self.entries.len() + 1;
+        self.numbers.put(entry, number)?;
+        self.depths.push_reserved(depth);
+        self.entries.push_reserved(entry);
         Ok(())
     }
 
