@@ -95,6 +95,16 @@ halved_start events order from to first last = record {
   there = omega arith;
 }
 
+pub halved_at : (events : List EventEntry) (order place : ℕ) {wanted : ℕ} → order ≡ wanted
+    → ((k : ℕ) (a : EventEntry) → slice_get events k ≡ Some a → k < place → order_at a < order) → ((k : ℕ) (a : EventEntry) → slice_get events k ≡ Some a → place ≤ k → order ≤ order_at a)
+    → place ≤ length events → Halved events wanted place place
+halved_at events order place is before after inside = subst (λ (n : ℕ). Halved events n place place) is (record {
+  below = before;
+  above = after;
+  within = omega arith;
+  there = inside;
+})
+
 pub upper_half : (events : List EventEntry) (order from to middle next : ℕ) (m : EventEntry) → Ascends events → Halved events order from to → slice_get events middle ≡ Some m → middle < to → order_at m < order → next ≡ middle + 1 → Halved events order next to
 upper_half events order from to middle next m up h at lt before is = record {
   below = λ k a there small.

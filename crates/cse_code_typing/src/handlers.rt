@@ -1,6 +1,7 @@
 //! Which routine an event runs.
 
-ghost use Rattle.std.specs.Prelude.{◌≡◌, slice_get};
+ghost use Rattle.std.specs.Prelude.{◌≡◌, ◌<◌, ◌≤◌, ℕ, Some, length, slice_get};
+ghost use Rattle.cse_image_parts.specs.declared.entries.EventEntry.{EventEntry as Entry_};
 ghost use Rattle.cse_code_typing.specs.Handlers.{is_of, routine_of, event_order};
 
 use cse_image::{Code, Program};
@@ -26,14 +27,14 @@ fn entry_at(events: &[EventEntry], i: usize) -> Option<EventEntry>
     events.get(i).copied()
 }
 
-/// The routine that an event of a program runs; none, where the program has none for it. Takes no
-/// memory, and time that grows with the logarithm of how many events there are.
-pub fn routine_of<C: Code>(program: &Program<C>, event: Event) -> Option<u32>
-    ensures { result ≡ routine_of program.now.lists.events event }
+/// How many of the entries, which ascend, stand before this order. Takes time that grows with the
+/// logarithm of how many there are.
+fn place_of(events: &[EventEntry], order: u32) -> usize
+    requires { (j k : ℕ) (a b : Entry_) → slice_get events.now j ≡ Some a → slice_get events.now k ≡ Some b → j < k → event_order a.code a.index < event_order b.code b.index }
+    ensures before { (k : ℕ) (a : Entry_) → slice_get events.now k ≡ Some a → k < result → event_order a.code a.index < order }
+    ensures after { (k : ℕ) (a : Entry_) → slice_get events.now k ≡ Some a → result ≤ k → order ≤ event_order a.code a.index }
+    ensures within { result ≤ length events.now }
 {
-    let _ascend = program.tables();
-    let events = program.events();
-    let wanted = event_order(event.code, event.index);
     let mut from = 0;
     let mut to = events.len();
     'halves: while from < to {
@@ -41,13 +42,24 @@ pub fn routine_of<C: Code>(program: &Program<C>, event: Event) -> Option<u32>
         let Some(entry) = entry_at(events, middle) else {
             unreachable!()
         };
-        if event_order(entry.code, entry.index) < wanted {
+        if event_order(entry.code, entry.index) < order {
             from = middle + 1;
         } else {
             to = middle;
         }
     }
-    let entry = entry_at(events, from)?;
+    from
+}
+
+/// The routine that an event of a program runs; none, where the program has none for it. Takes no
+/// memory, and time that grows with the logarithm of how many events there are.
+pub fn routine_of<C: Code>(program: &Program<C>, event: Event) -> Option<u32>
+    ensures { result ≡ routine_of program.now.lists.events event }
+{
+    let _ascend = program.tables();
+    let events = program.events();
+    let place = place_of(events, event_order(event.code, event.index));
+    let entry = entry_at(events, place)?;
     if is_of(event, entry) {
         Some(entry.routine)
     } else {
