@@ -1,7 +1,7 @@
 //! Which routine an event runs.
 
 ghost use Rattle.std.specs.Prelude.{◌≡◌, ◌<◌, ◌≤◌, ℕ, Some, length, slice_get};
-ghost use Rattle.cse_image_parts.specs.declared.entries.EventEntry.{EventEntry as Entry_};
+ghost use Rattle.cse_image_parts.specs.declared.entries.EventEntry.{EventEntry as Entry};
 ghost use Rattle.cse_code_typing.specs.Handlers.{is_of, routine_of, event_order};
 
 use cse_image::{Code, Program};
@@ -30,9 +30,10 @@ fn entry_at(events: &[EventEntry], i: usize) -> Option<EventEntry>
 /// How many of the entries, which ascend, stand before this order. Takes time that grows with the
 /// logarithm of how many there are.
 fn place_of(events: &[EventEntry], order: u32) -> usize
-    requires { (j k : ℕ) (a b : Entry_) → slice_get events.now j ≡ Some a → slice_get events.now k ≡ Some b → j < k → event_order a.code a.index < event_order b.code b.index }
-    ensures before { (k : ℕ) (a : Entry_) → slice_get events.now k ≡ Some a → k < result → event_order a.code a.index < order }
-    ensures after { (k : ℕ) (a : Entry_) → slice_get events.now k ≡ Some a → result ≤ k → order ≤ event_order a.code a.index }
+    requires { (j k : ℕ) (a b : Entry) → slice_get events.now j ≡ Some a → slice_get events.now k ≡ Some b → j < k
+        → event_order a.code a.index < event_order b.code b.index }
+    ensures before { (k : ℕ) (a : Entry) → slice_get events.now k ≡ Some a → k < result → event_order a.code a.index < order }
+    ensures after { (k : ℕ) (a : Entry) → slice_get events.now k ≡ Some a → result ≤ k → order ≤ event_order a.code a.index }
     ensures within { result ≤ length events.now }
 {
     let mut from = 0;

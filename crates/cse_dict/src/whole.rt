@@ -73,7 +73,8 @@ fn check_first(
     names: &mut Names,
     found: &mut Option<DictError>,
 ) -> Result<(), AllocError>
-    ensures found { OnOk result (found.new ≡ note_all found.old (name_faults names.old first.now ++ optional_faults first.now (codes "RecordTypeLen") 0 16 ++ start_faults (type_len_of first.now) first.now)) }
+    ensures found { OnOk result (found.new ≡ note_all found.old
+        (name_faults names.old first.now ++ optional_faults first.now (codes "RecordTypeLen") 0 16 ++ start_faults (type_len_of first.now) first.now)) }
     ensures names { OnOk result (names.new ≡ names_after names.old first.now) }
 {
     check_name(alloc, first, names, found)?;
@@ -141,7 +142,8 @@ fn check_read(
     found: &mut Option<DictError>,
 ) -> Result<(), AllocError>
     requires { seen.old ≡ record { names = []; types = []; context = no_context; pairs = 0 } }
-    ensures { OnOk result (found.new ≡ note_all found.old (first_faults first.now ++ (level_lacks first.now read.now ++ rest_faults first.now read.now))) }
+    ensures { OnOk result (found.new ≡ note_all found.old
+        (first_faults first.now ++ (level_lacks first.now read.now ++ rest_faults first.now read.now))) }
 {
     check_first(alloc, first, &mut seen.names, found)?;
     note_if(found, !has_level(read), first.line, KEY_LACKS);
@@ -155,7 +157,8 @@ fn check_all_read(
     read: &[Section<'_>],
     found: &mut Option<DictError>,
 ) -> Result<(), AllocError>
-    ensures { OnOk result (found.new ≡ note_all found.old (first_faults first.now ++ (level_lacks first.now read.now ++ rest_faults first.now read.now))) }
+    ensures { OnOk result (found.new ≡ note_all found.old
+        (first_faults first.now ++ (level_lacks first.now read.now ++ rest_faults first.now read.now))) }
 {
     let mut seen = Seen {
         names: Names::new(alloc),

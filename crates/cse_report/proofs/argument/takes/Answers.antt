@@ -17,6 +17,7 @@ no_arguments (first ∷ rest) none = absurd (omega (arith, ap length none))
 pub returns : goal.returns
 returns c =
     let rest = c.kinds.rest.now in
-    let left = c.in_default.ensures.steps.0 in
-    (λ none. c.kinds.invariant.0 (no_kinds rest (sym c.is_empty.ensures ∙ none) ∙ sym left),
-    λ has. c.is_empty.ensures ∙ no_arguments rest (c.kinds.invariant.1 has ∙ left))
+    let left = c.in_default.ensures.steps.0 in (
+      λ none. c.kinds.invariant.0 (no_kinds rest (sym c.is_empty.ensures ∙ none) ∙ sym left),
+      λ has. c.is_empty.ensures ∙ no_arguments rest (c.kinds.invariant.1 has ∙ left),
+    )
