@@ -4,11 +4,11 @@
 #![tactic(auto)]
 
 use cse_check::command::carry_out as carry_out_check;
+use cse_command_parts::meter::{Meter, Told};
+use cse_command_parts::watched::{watched_paths, words_if};
+use cse_command_parts::watched_runtime::Watched;
 use cse_commands::start::{USAGE, carry_out_and_tell};
 use cse_office::command::carry_out as carry_out_office;
-use cse_progress::meter::{Meter, Told};
-use cse_progress::runtime::Watched;
-use cse_progress::watched::{watched_paths, words_if};
 use cse_value::{Output, Writes};
 use std::io::IsTerminal;
 use std::process::ExitCode;

@@ -1,6 +1,6 @@
 -- What `compile` comes to: what its files gave and took, and what it printed.
 use Rattle.std.specs.Prelude.{◌⊎◌, ℕ, List, Result}
-use Rattle.cse_command_line.specs.declared.plan.CompilePaths.{CompilePaths}
+use Rattle.cse_command_parts.specs.declared.plan.CompilePaths.{CompilePaths}
 use Rattle.cse_command_parts.specs.declared.outcome.Stop.{Stop}
 use Rattle.cse_command_parts.specs.Printed.{compiled_line}
 use Rattle.cse_command_parts.specs.Prints.{Halts, Prints}

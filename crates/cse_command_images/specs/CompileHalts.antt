@@ -6,7 +6,7 @@ use Rattle.cse_dict.specs.Dictionary.{DictionaryText}
 use Rattle.cse_build.specs.declared.error.BuildFault.{BuildFault}
 use Rattle.cse_build.specs.Build.{AreSound, IsBuilt, IsFault}
 use Rattle.cse_build.specs.Fault.{IsReason}
-use Rattle.cse_command_line.specs.declared.plan.CompilePaths.{CompilePaths}
+use Rattle.cse_command_parts.specs.declared.plan.CompilePaths.{CompilePaths}
 use Rattle.cse_command_parts.specs.declared.outcome.Stop.{Stop}
 use Rattle.cse_command_parts.specs.declared.outcome.Stop.TheVariants.{Refused}
 use Rattle.cse_command_parts.specs.Apart.{TellsOneFile}

@@ -5,7 +5,7 @@ use Rattle.cse_dict.specs.Dictionary.{DictionaryText}
 use Rattle.cse_build.specs.Build.{IsBuilt}
 use Rattle.cse_build.specs.Meant.{MeansLogic}
 use Rattle.cse_command_images.specs.declared.compiled.CompiledFiles.{CompiledFiles}
-use Rattle.cse_command_line.specs.declared.plan.CompilePaths.{CompilePaths}
+use Rattle.cse_command_parts.specs.declared.plan.CompilePaths.{CompilePaths}
 use Rattle.cse_command_parts.specs.TextsGiven.{EndsWhereNamed, text_given}
 use Rattle.cse_command_parts.specs.Told.{Told}
 use Rattle.cse_command_parts.specs.Vetted.{IsReadAs}

@@ -9,11 +9,11 @@ ghost use Rattle.cse_command_images.specs.CompileHalts.{StopsCompile, TellsBuild
 
 use crate::compiled::CompiledFiles;
 use cse_build::build;
-use cse_command_line::plan::CompilePaths;
 use cse_command_parts::apart::{see_apart, uses_of_compile};
 use cse_command_parts::fault::Fault;
 use cse_command_parts::files::{text_of, write_file};
 use cse_command_parts::outcome::Stop;
+use cse_command_parts::plan::CompilePaths;
 use cse_command_parts::texts::{dict_file, logic_files};
 use cse_dict::Dictionary;
 use cse_value::{Input, Output, Reads, Writes};

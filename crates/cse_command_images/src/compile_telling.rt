@@ -4,8 +4,8 @@ ghost use Rattle.cse_command_images.specs.CompileDoes.{DoesCompile};
 ghost use Rattle.cse_command_parts.specs.Told.{told_by};
 
 use crate::compile_image::compile_files;
-use cse_command_line::plan::CompilePaths;
 use cse_command_parts::outcome::Stop;
+use cse_command_parts::plan::CompilePaths;
 use cse_command_parts::printing::write_compiled;
 use cse_command_parts::telling::printed;
 use cse_value::{Input, Output, Reads, Writes};

@@ -7,3 +7,4 @@ pub mod PrintLaws
 pub mod PrintsLaws
 pub mod VerdictLaws
 pub mod VettedLaws
+pub mod WordLaws

@@ -14,7 +14,7 @@ use Rattle.cse_verify.specs.declared.image.CheckFault.{CheckFault}
 use Rattle.cse_verify.specs.Checked.{IsAccepted, IsNoFault, IsRefused}
 use Rattle.cse_command_parts.specs.declared.outcome.Stop.{Stop}
 use Rattle.cse_command_parts.specs.declared.outcome.Stop.TheVariants.{Refused}
-use Rattle.cse_command_line.specs.declared.plan.RunPaths.{RunPaths}
+use Rattle.cse_command_parts.specs.declared.plan.RunPaths.{RunPaths}
 use Rattle.cse_command_parts.specs.declared.verify_image.VerifyFault.{VerifyFault}
 use Rattle.cse_command_parts.specs.Allowed.{steps_allowed}
 use Rattle.cse_command_parts.specs.Apart.{TellsOneFile}

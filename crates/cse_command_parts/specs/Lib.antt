@@ -14,3 +14,4 @@ pub mod Told
 pub mod Unread
 pub mod Verdict
 pub mod Vetted
+pub mod Words

@@ -4,9 +4,9 @@ use Rattle.std.specs.Borrow.{Bor}
 use Rattle.cse_command_parts.specs.declared.role.Role.{Role}
 use Rattle.cse_command_parts.specs.declared.role.Role.TheVariants.{Dictionary, Image, Logic, Messages, Order, Data, Out, Listing, Frequencies, Decks}
 use Rattle.cse_command_parts.specs.declared.role.Use.{Use}
-use Rattle.cse_command_line.specs.declared.plan.CompilePaths.{CompilePaths}
-use Rattle.cse_command_line.specs.declared.plan.EditPaths.{EditPaths}
-use Rattle.cse_command_line.specs.declared.plan.RunPaths.{RunPaths}
+use Rattle.cse_command_parts.specs.declared.plan.CompilePaths.{CompilePaths}
+use Rattle.cse_command_parts.specs.declared.plan.EditPaths.{EditPaths}
+use Rattle.cse_command_parts.specs.declared.plan.RunPaths.{RunPaths}
 
 -- the word that the usage has for it
 abbrev pub word_of : Role → List ℕ

@@ -6,8 +6,8 @@ ghost use Rattle.cse_command_parts.specs.declared.role.Use.{Use};
 ghost use Rattle.cse_command_parts.specs.Roles.{compile_uses, edit_uses, edited_uses, reads_named, run_uses};
 
 use crate::outcome::Stop;
+use crate::plan::{CompilePaths, EditPaths, RunPaths};
 use crate::role::{Role, Use};
-use cse_command_line::plan::{CompilePaths, EditPaths, RunPaths};
 use cse_fault_numbers::WANT_OF_MEMORY;
 use cse_files::{Named, first_clash, place_of};
 use std::alloc::{AllocError, Global};

@@ -3,9 +3,9 @@ use Rattle.std.specs.Prelude.{◌≡◌, ◌⊎◌, ℕ, List, [], Result, Ok, E
 use Rattle.cse_commands.specs.declared.edited.EditedFiles.{EditedFiles}
 use Rattle.cse_command_parts.specs.declared.outcome.Stop.{Stop}
 use Rattle.cse_command_parts.specs.declared.outcome.Stop.TheVariants.{Usage, Refused}
-use Rattle.cse_command_line.specs.declared.plan.Command.{Command}
-use Rattle.cse_command_line.specs.declared.plan.Command.TheVariants as commands
-use Rattle.cse_command_line.specs.declared.plan.EditPaths.{EditPaths}
+use Rattle.cse_command_parts.specs.declared.plan.Command.{Command}
+use Rattle.cse_command_parts.specs.declared.plan.Command.TheVariants as commands
+use Rattle.cse_command_parts.specs.declared.plan.EditPaths.{EditPaths}
 use Rattle.cse_command_parts.specs.declared.printing.TheConstants.{VERSION}
 use Rattle.cse_command_images.specs.CompileDoes.{DoesCompile}
 use Rattle.cse_commands.specs.Edited.{AreEditPaths, EditsFiles}
@@ -16,7 +16,7 @@ use Rattle.cse_command_images.specs.TryFiles.{DoesTry}
 use Rattle.cse_commands.specs.EditHalts.{StopsEdit}
 use Rattle.cse_command_parts.specs.Printed.{version_line}
 use Rattle.cse_command_parts.specs.Told.{Told}
-use Rattle.cse_command_line.specs.Words.{IsAsked}
+use Rattle.cse_command_parts.specs.Words.{IsAsked}
 
 -- ---- the commands
 

@@ -9,8 +9,8 @@ use Rattle.cse_build.specs.Build.{IsBuilt}
 use Rattle.cse_edit.specs.declared.fault.EditFault.{EditFault}
 use Rattle.cse_edit.specs.declared.fault.EditFault.TheVariants as edits
 use Rattle.cse_edit.specs.Edit.{IsNoStartOf, IsStartOf}
-use Rattle.cse_command_line.specs.declared.plan.EditPaths.{EditPaths}
-use Rattle.cse_command_line.specs.declared.plan.RunPaths.{RunPaths}
+use Rattle.cse_command_parts.specs.declared.plan.EditPaths.{EditPaths}
+use Rattle.cse_command_parts.specs.declared.plan.RunPaths.{RunPaths}
 use Rattle.cse_command_parts.specs.declared.fault.Fault.{Fault}
 use Rattle.cse_command_parts.specs.declared.outcome.Stop.{Stop}
 use Rattle.cse_command_parts.specs.declared.outcome.Stop.TheVariants.{Refused}

@@ -10,7 +10,7 @@ use Rattle.cse_edit.specs.declared.fault.EditFault.TheVariants as faults
 use Rattle.cse_edit.specs.Edit.{EditsWhole, EditStops, devices}
 use Rattle.cse_commands.specs.declared.edited.EditedFiles.{EditedFiles}
 use Rattle.cse_command_parts.specs.declared.outcome.Stop.{Stop}
-use Rattle.cse_command_line.specs.declared.plan.EditPaths.{EditPaths}
+use Rattle.cse_command_parts.specs.declared.plan.EditPaths.{EditPaths}
 use Rattle.cse_commands.specs.declared.ran.Ran.{Ran}
 use Rattle.cse_commands.specs.declared.ran.RanFrom.{RanFrom}
 use Rattle.cse_commands.specs.Ran.{AreOpenedFrom, have_failed, none_taken, took, unread}

@@ -11,7 +11,7 @@ use Rattle.cse_batch_parts.specs.declared.totals.Totals.{Totals}
 use Rattle.cse_verify.specs.Checked.{IsAccepted}
 use Rattle.cse_batch_parts.specs.RunClauses.{Contents, Failures, RunsWhole, contents, failures}
 use Rattle.cse_command_parts.specs.declared.outcome.Stop.{Stop}
-use Rattle.cse_command_line.specs.declared.plan.RunPaths.{RunPaths}
+use Rattle.cse_command_parts.specs.declared.plan.RunPaths.{RunPaths}
 use Rattle.cse_commands.specs.declared.ran.Ran.{Ran}
 use Rattle.cse_commands.specs.declared.ran.RanFrom.{RanFrom}
 use Rattle.cse_commands.specs.declared.ran.RanImage.{RanImage}

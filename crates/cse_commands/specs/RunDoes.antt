@@ -1,7 +1,7 @@
 -- What `run` comes to: what its files gave and took, and what it printed.
 use Rattle.std.specs.Prelude.{◌≡◌, ◌⊎◌, ℕ, List, Result, Ok, Err}
 use Rattle.cse_batch_parts.specs.declared.totals.Totals.{Totals}
-use Rattle.cse_command_line.specs.declared.plan.RunPaths.{RunPaths}
+use Rattle.cse_command_parts.specs.declared.plan.RunPaths.{RunPaths}
 use Rattle.cse_command_parts.specs.declared.outcome.Stop.{Stop}
 use Rattle.cse_command_parts.specs.Halts.{StopsRun}
 use Rattle.cse_command_parts.specs.Prints.{Halts, Prints}

@@ -15,13 +15,13 @@ ghost use Rattle.cse_command_parts.specs.Allowed.{KeepsToSteps, steps_allowed};
 use crate::ran::{Ran, RanFiles, RanFrom, RanImage};
 use crate::telling::of_run;
 use cse_batch::{Totals, run};
-use cse_command_line::plan::RunPaths;
 use cse_command_parts::apart::{see_apart, uses_of_run};
 use cse_command_parts::fault::Fault;
 use cse_command_parts::files::{
     MOST_DECKS, MOST_IMAGE, bytes_of, bytes_where_there, created, file_bytes, opened, write_file,
 };
 use cse_command_parts::outcome::Stop;
+use cse_command_parts::plan::RunPaths;
 use cse_command_parts::texts::dict_file;
 use cse_decks::{Store, load};
 use cse_dict::Dictionary;

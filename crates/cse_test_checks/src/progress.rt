@@ -1,8 +1,8 @@
 //! Rows that were worked by hand: the bytes of a data file, and how many of its lines that ended begin a case. What counts them is
 //! under no clause, so each rule has a row, whose bytes come at once, and one by one.
 
+use cse_command_parts::counted_cases::Cases;
 use cse_dict::Dictionary;
-use cse_progress::cases::Cases;
 use std::alloc::Global;
 
 /// Two id items, with two columns between them.

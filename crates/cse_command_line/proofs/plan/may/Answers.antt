@@ -1,5 +1,0 @@
-use Rattle.cse_command_line.proofs.WordLaws.{word_is}
-use Rattle.cse_command_line.proofs.plan.may.Goals as goal
-
-pub returns : goal.returns
-returns c = word_is c.args.matches.now c.args.name.now c.get_str.result c.get_str.ensures

@@ -1,6 +1,0 @@
-use Rattle.cse_command_line.specs.Words.{program}
-use Rattle.cse_command_line.proofs.words.program_words.Goals as goal
-
-pub returns : goal.returns
-unfolding program
-returns c = c.commands_of.ensures
