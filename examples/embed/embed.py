@@ -21,7 +21,7 @@ import sys
 HERE = os.path.dirname(os.path.realpath(__file__))
 ROOT = os.path.dirname(os.path.dirname(HERE))
 KIT = os.path.dirname(os.path.dirname(os.path.realpath(shutil.which("rt") or "rt")))
-USES = "cse_value cse_image cse_dict cse_decks cse_verify cse_build cse_batch"
+USES = "cse_value cse_image cse_dict cse_decks cse_verify cse_meaning cse_batch"
 CRATE = "embedded"
 
 

@@ -1,8 +1,8 @@
 -- What `compile` made, of the texts that its files gave.
 use Rattle.std.proofs.Common.{◌≡◌, ℕ, List, subst}
 use Rattle.cse_dict.specs.Dictionary.{DictionaryText}
-use Rattle.cse_build.specs.Build.{IsBuilt}
-use Rattle.cse_build.specs.Meant.{MeansLogic}
+use Rattle.cse_meaning.specs.Build.{IsBuilt}
+use Rattle.cse_meaning.specs.BuiltMeant.{MeansLogic}
 use Rattle.cse_command_images.specs.Compiled.{IsImageOf}
 use Rattle.cse_command_parts.specs.Vetted.{IsReadAs}
 

@@ -3,9 +3,9 @@ use Rattle.std.specs.Prelude.{◌≡◌, ◌⊎◌, ℕ, List, option_map}
 use Rattle.cse_value.specs.Device.{Given}
 use Rattle.cse_value.specs.declared.device.Reads.{Reads}
 use Rattle.cse_dict.specs.Dictionary.{DictionaryText}
-use Rattle.cse_build.specs.declared.error.BuildFault.{BuildFault}
-use Rattle.cse_build.specs.Build.{AreSound, IsBuilt, IsFault}
-use Rattle.cse_build.specs.Fault.{IsReason}
+use Rattle.cse_meaning.specs.declared.error.BuildFault.{BuildFault}
+use Rattle.cse_meaning.specs.Build.{AreSound, IsBuilt, IsFault}
+use Rattle.cse_meaning.specs.Fault.{IsReason}
 use Rattle.cse_command_parts.specs.declared.plan.CompilePaths.{CompilePaths}
 use Rattle.cse_command_parts.specs.declared.outcome.Stop.{Stop}
 use Rattle.cse_command_parts.specs.declared.outcome.Stop.TheVariants.{Refused}

@@ -2,8 +2,8 @@
 use Rattle.std.specs.Prelude.{◌≡◌, ℕ, List, length, option_map}
 use Rattle.cse_value.specs.Device.{IsAtEnd}
 use Rattle.cse_dict.specs.Dictionary.{DictionaryText}
-use Rattle.cse_build.specs.Build.{IsBuilt}
-use Rattle.cse_build.specs.Meant.{MeansLogic}
+use Rattle.cse_meaning.specs.Build.{IsBuilt}
+use Rattle.cse_meaning.specs.BuiltMeant.{MeansLogic}
 use Rattle.cse_command_images.specs.declared.compiled.CompiledFiles.{CompiledFiles}
 use Rattle.cse_command_parts.specs.declared.plan.CompilePaths.{CompilePaths}
 use Rattle.cse_command_parts.specs.TextsGiven.{EndsWhereNamed, text_given}

@@ -1,14 +1,13 @@
 //! `compile`: logic to an image, from the files of its words to that of the image.
 
 ghost use Rattle.std.specs.Prelude.{IfOk, IfErr};
-ghost use Rattle.cse_build.specs.Build.{IsBuilt};
-ghost use Rattle.cse_build.specs.Meant.{MeansLogic};
+ghost use Rattle.cse_meaning.specs.Build.{IsBuilt};
+ghost use Rattle.cse_meaning.specs.BuiltMeant.{MeansLogic};
 ghost use Rattle.cse_command_parts.specs.Told.{told_by};
 ghost use Rattle.cse_command_images.specs.Compiled.{AreCompilePaths, CompilesFiles};
 ghost use Rattle.cse_command_images.specs.CompileHalts.{StopsCompile, TellsBuildFault};
 
 use crate::compiled::CompiledFiles;
-use cse_build::build;
 use cse_command_parts::apart::{see_apart, uses_of_compile};
 use cse_command_parts::fault::Fault;
 use cse_command_parts::files::{text_of, write_file};
@@ -16,6 +15,7 @@ use cse_command_parts::outcome::Stop;
 use cse_command_parts::plan::CompilePaths;
 use cse_command_parts::texts::{dict_file, logic_files};
 use cse_dict::Dictionary;
+use cse_meaning::build;
 use cse_value::{Input, Output, Reads, Writes};
 use std::alloc::Global;
 use std::rt::Files;

@@ -2,7 +2,7 @@
 use Rattle.std.proofs.Common.{◌≡◌, ℕ, Bool, List, [], Option, Result, Ok, Err, subst}
 use Rattle.cse_value.specs.Device.{Given}
 use Rattle.cse_image.specs.Spelling.{StandFor}
-use Rattle.cse_build.specs.Build.{IsBuilt}
+use Rattle.cse_meaning.specs.Build.{IsBuilt}
 use Rattle.cse_verify.specs.Verified.{VerifiedProgram}
 use Rattle.cse_decks.specs.Store.{Kept, StoreFits}
 use Rattle.cse_batch_parts.specs.declared.totals.Totals.{Totals}

@@ -5,7 +5,7 @@ use Rattle.cse_value.specs.declared.device.Reads.{Reads}
 use Rattle.cse_image_parts.specs.Image.{Image}
 use Rattle.cse_dict.specs.Dictionary.{DictionaryText}
 use Rattle.cse_decks.specs.Store.{Kept}
-use Rattle.cse_build.specs.Build.{IsBuilt}
+use Rattle.cse_meaning.specs.Build.{IsBuilt}
 use Rattle.cse_edit.specs.declared.fault.EditFault.{EditFault}
 use Rattle.cse_edit.specs.declared.fault.EditFault.TheVariants as edits
 use Rattle.cse_edit.specs.Edit.{IsNoStartOf, IsStartOf}

@@ -3,7 +3,7 @@
 ghost use Rattle.std.specs.Prelude.{◌≡◌, IfOk, IfErr};
 ghost use Rattle.std.specs.Option.{option_copied};
 ghost use Rattle.cse_image.specs.Spelling.{StandFor};
-ghost use Rattle.cse_build.specs.Build.{IsBuilt};
+ghost use Rattle.cse_meaning.specs.Build.{IsBuilt};
 ghost use Rattle.cse_decks.specs.Store.{StoreFits};
 ghost use Rattle.cse_edit.specs.Edit.{IsRead, IsStartOf};
 ghost use Rattle.cse_commands.specs.Edited.{AreEditPaths, EditsFiles, EditsFrom, EditsTexts};

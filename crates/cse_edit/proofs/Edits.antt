@@ -3,7 +3,7 @@ use Rattle.std.proofs.Common.{ℕ, Bool, true, List, Option, None, Some, Result,
 use Rattle.cse_dict.specs.Dictionary.{DictionaryText}
 use Rattle.cse_image.specs.Spelling.{StandFor}
 use Rattle.cse_logic_tree.specs.Typed.{Tree}
-use Rattle.cse_build.specs.Build.{IsBuilt}
+use Rattle.cse_meaning.specs.Build.{IsBuilt}
 use Rattle.cse_decks.specs.Store.{Kept, StoreFits}
 use Rattle.cse_verify.specs.Verified.{VerifiedProgram}
 use Rattle.cse_batch_parts.specs.declared.totals.Totals.{Totals}

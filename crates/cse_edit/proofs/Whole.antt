@@ -36,8 +36,8 @@ use Rattle.cse_meaning.specs.Meaning.{declarations, meaning}
 use Rattle.cse_meaning.specs.Means.{IsEventOf, Means, begins}
 use Rattle.cse_meaning.specs.Meant.{ProgramsMean}
 use Rattle.cse_image.specs.Spelling.{StandFor}
-use Rattle.cse_build.specs.Build.{IsBuilt}
-use Rattle.cse_build.proofs.Meant.{NoneBegins, built_means, one_program}
+use Rattle.cse_meaning.specs.Build.{IsBuilt}
+use Rattle.cse_meaning.proofs.Meant.{NoneBegins, built_means, one_program}
 use Rattle.cse_batch_parts.specs.declared.totals.Totals.{Totals}
 use Rattle.cse_batch_parts.specs.Totals.{totals_of}
 use Rattle.cse_batch_parts.specs.Events.{after_moment, after_moments, edited, end_of, events_of, told_more, unedited}

@@ -8,8 +8,8 @@ use Rattle.cse_case.specs.Line.{FileLine}
 use Rattle.cse_case.specs.Runs.{given_runs, fault_in}
 use Rattle.cse_image_parts.specs.Image.{Image}
 use Rattle.cse_logic_tree.specs.Typed.{Tree}
-use Rattle.cse_build.specs.Build.{AreSound, IsFault}
-use Rattle.cse_build.specs.Fault.{IsReason}
+use Rattle.cse_meaning.specs.Build.{AreSound, IsFault}
+use Rattle.cse_meaning.specs.Fault.{IsReason}
 use Rattle.cse_decks.specs.Loading.{loaded}
 use Rattle.cse_decks.specs.declared.error.DeckError.{DeckError}
 use Rattle.cse_decks.specs.Store.{Kept, first_kept}

@@ -5,7 +5,7 @@ use Rattle.cse_logic_tree.specs.Typed.{Tree}
 use Rattle.cse_verify.specs.Verified.{VerifiedProgram}
 use Rattle.cse_decks.specs.Loading.{loaded}
 use Rattle.cse_decks.specs.Store.{Kept, StoreFits, first_kept}
-use Rattle.cse_build.specs.Build.{IsBuilt}
+use Rattle.cse_meaning.specs.Build.{IsBuilt}
 use Rattle.cse_batch_parts.specs.declared.totals.Totals.{Totals}
 use Rattle.cse_batch_parts.specs.declared.totals.RunFault.{RunFault}
 use Rattle.cse_verify.specs.Checked.{IsAccepted}

@@ -8,7 +8,7 @@ use Rattle.cse_verify.specs.Verified.{VerifiedProgram}
 use Rattle.cse_decks.specs.Loading.{loaded}
 use Rattle.cse_decks.specs.Store.{Kept, StoreFits, first_kept}
 use Rattle.cse_batch_parts.specs.Batch.{after_runs, batch, begun}
-use Rattle.cse_build.specs.Build.{IsBuilt}
+use Rattle.cse_meaning.specs.Build.{IsBuilt}
 use Rattle.cse_edit.specs.Logic.{after_runs_meant, batch_meant, begun_meant, first_meant, loaded_meant}
 
 -- The batch of a program is what the logic means, folded over the data: whatever bytes it reads, to their end or not, from whatever store that

@@ -10,7 +10,7 @@ use Rattle.cse_case.specs.Field.{HasColumn, item_at}
 use Rattle.cse_logic_tree.specs.Typed.{Tree}
 use Rattle.cse_edit.specs.Items.{items_written}
 use Rattle.cse_decks.specs.Store.{Kept}
-use Rattle.cse_build.specs.Build.{AreSound}
+use Rattle.cse_meaning.specs.Build.{AreSound}
 use Rattle.cse_batch_parts.specs.declared.totals.Totals.{Totals}
 use Rattle.cse_batch_parts.specs.declared.totals.RunFault.{RunFault}
 use Rattle.cse_batch_parts.specs.RunClauses.{Failures}

@@ -2,7 +2,7 @@
 
 ghost use Rattle.std.specs.Prelude.{◌≡◌, IfOk, IfErr};
 ghost use Rattle.std.specs.Option.{option_copied};
-ghost use Rattle.cse_build.specs.Build.{IsBuilt};
+ghost use Rattle.cse_meaning.specs.Build.{IsBuilt};
 ghost use Rattle.cse_image.specs.Spelling.{StandFor};
 ghost use Rattle.cse_batch_parts.specs.RunClauses.{contents, failures};
 ghost use Rattle.cse_decks.specs.Store.{StoreFits};
@@ -12,10 +12,10 @@ use crate::fault::EditFault;
 use crate::laws::batches_mean;
 use crate::texts::Texts;
 use cse_batch::{Totals, run};
-use cse_build::build;
 use cse_decks::{Store, load};
 use cse_dict::Dictionary;
 use cse_image::{Code, Program};
+use cse_meaning::build;
 use cse_value::{Input, Output};
 use cse_verify::{Verified, check_image};
 use std::alloc::Global;

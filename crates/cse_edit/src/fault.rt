@@ -1,9 +1,9 @@
 //! Why an edit stops.
 
 use cse_batch::RunFault;
-use cse_build::BuildFault;
 use cse_decks::DeckError;
 use cse_dict::DictError;
+use cse_meaning::BuildFault;
 use thiserror::Error;
 
 /// Why an edit stops. A text is judged only where those before it are sound, in the order of these.

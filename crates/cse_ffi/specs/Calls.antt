@@ -10,9 +10,9 @@ use Rattle.cse_dict.specs.Reading.{IsAnswer, text_faults}
 use Rattle.cse_dict.specs.declared.fault.DictError.{DictError}
 use Rattle.cse_verify.specs.EventBound.{case_bound, run_bound}
 use Rattle.cse_verify.specs.Verified.{VerifiedProgram}
-use Rattle.cse_build.specs.declared.error.BuildFault.{BuildFault}
-use Rattle.cse_build.specs.Build.{IsBuilt, IsFault}
-use Rattle.cse_build.specs.Meant.{MeansLogic}
+use Rattle.cse_meaning.specs.declared.error.BuildFault.{BuildFault}
+use Rattle.cse_meaning.specs.Build.{IsBuilt, IsFault}
+use Rattle.cse_meaning.specs.BuiltMeant.{MeansLogic}
 use Rattle.cse_decks.specs.declared.error.DeckError.{DeckError}
 use Rattle.cse_decks.specs.Loading.{loaded}
 use Rattle.cse_decks.specs.Store.{Kept, first_kept}

@@ -7,10 +7,10 @@ ghost use Rattle.cse_ffi.specs.Calls.{HasNoStart, IsDictionaryFault, IsImageFaul
 
 use crate::fault::{CsbFault, fault_at, of_check};
 use cse_batch::{Totals, run};
-use cse_build::build;
 use cse_decks::{Store, load};
 use cse_dict::Dictionary;
 use cse_image::{Code, Program};
+use cse_meaning::build;
 use cse_value::{FromSlice, Gathered, Input, Output};
 use cse_verify::{Verified, check_image};
 use std::alloc::Global;

@@ -90,3 +90,7 @@ pub mod Kept
 pub mod ProgramLoops
 pub mod ProgramWhole
 pub mod Alone
+mod Promises
+mod Layers
+mod Whole
+pub mod Meant

@@ -31,3 +31,6 @@ pub mod Within
 pub mod Given
 pub mod Room
 pub mod Meant
+pub mod Fault
+pub mod Build
+pub mod BuiltMeant

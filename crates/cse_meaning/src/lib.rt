@@ -1,6 +1,10 @@
-//! What typed logic means, by its structure, without stack, places or code, and that its code does what it means (own).
+//! What typed logic means, by its structure, without stack, places or code, and that its code does what it means (own); and from
+//! the bytes of logic to an image that does what they mean.
 //!
-//! Definitions and laws, and no code that runs. A law is a function that does nothing: its contract is the law.
+//! - `building`: the image of logic, its message file and its order file. `compiling`: the program of a checked source. `error`: why
+//!   there is no image. `reading`: what the types of what is read hold. Their worked rows are those of csbatch.
+//!
+//! All else is definitions and laws, and no code that runs. A law is a function that does nothing: its contract is the law.
 //!
 //! - `laws`, `worked`: the meaning. `specs/Setting.antt` says what the meaning of a tree depends on, `specs/Reading.antt` what is
 //!   read of a case and a store and `specs/Writing.antt` what is put there, `specs/Expressions.antt` what numbers and texts mean,
@@ -24,14 +28,21 @@
 //!   and `Alone` a dictionary and an image without a value that `verify` gave.
 #![tactic(auto)]
 
+mod building;
+mod compiling;
+mod error;
 mod laws;
 mod programs;
+mod reading;
 mod room;
 mod small;
 mod sources;
 mod typed;
 mod worked;
 
+pub use building::build;
+pub use compiling::compile;
+pub use error::BuildFault;
 pub use laws::{
     assignments_go, conditions_go, events_mean, functions_follow, meaning_is_the_outcome,
     numbers_go, runs_join, statements_land, tables_agree, words_go,

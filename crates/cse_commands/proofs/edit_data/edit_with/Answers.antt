@@ -1,6 +1,6 @@
 use Rattle.std.proofs.Common.{inl, inr, subst, sym, ℕ, List}
 use Rattle.std.proofs.lemmas.Result.{IfErr-weaker}
-use Rattle.cse_build.specs.Build.{IsBuilt}
+use Rattle.cse_meaning.specs.Build.{IsBuilt}
 use Rattle.cse_command_parts.proofs.HaltLaws.{check_fault}
 use Rattle.cse_commands.proofs.edit_data.edit_with.Goals as goal
 

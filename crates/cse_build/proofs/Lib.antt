@@ -1,4 +1,0 @@
-mod Promises
-mod Layers
-mod Whole
-pub mod Meant

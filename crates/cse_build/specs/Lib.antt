@@ -1,3 +1,0 @@
-pub mod Fault
-pub mod Build
-pub mod Meant
