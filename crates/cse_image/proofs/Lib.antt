@@ -3,6 +3,7 @@ pub mod Sizes
 pub mod Totals
 pub mod Codes
 pub mod Chains
+pub mod TableLaws
 pub mod Entries
 pub mod ImageLaws
 pub mod Views

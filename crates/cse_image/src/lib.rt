@@ -11,6 +11,7 @@ mod laws;
 mod program;
 mod read_arrays;
 mod read_code;
+mod read_entries;
 mod read_routines;
 mod read_shape;
 mod read_values;

@@ -1,6 +1,6 @@
 //! The section of arrays.
 
-ghost use Rattle.std.specs.Prelude.{◌≡◌, ◌<◌, ◌≤◌, ◌+◌, ◌^◌, [], ◌∷◌, ◌++◌, IfOk, map, length};
+ghost use Rattle.std.specs.Prelude.{◌≡◌, ◌<◌, ◌≤◌, ◌+◌, ◌^◌, [], ◌∷◌, ◌++◌, Err, IfOk, IfErr, OnOk, map, length};
 ghost use Rattle.std.specs.String.{string_bytes};
 ghost use Rattle.cse_image_parts.specs.Reader.{Gives, GivesFault, number, checked, many, counted};
 ghost use Rattle.cse_image_parts.specs.declared.fault.Rule.TheVariants.{Limit};
@@ -81,36 +81,37 @@ fn dimension_of<'a>(
     Ok((dimension, rest))
 }
 
-fn dimensions_in(
-    alloc: Global,
+fn dimensions_in<'a>(
+    dimensions: &mut Vec<u16>,
     cells: u64,
     rank: u8,
-    bytes: &[u8],
-) -> Result<(Vec<u16>, &[u8]), ReadStop>
+    bytes: &'a [u8],
+) -> Result<&'a [u8], ReadStop>
+    requires empty { dimensions.old.items ≡ [] }
     requires few { rank ≤ MOST_DIMENSIONS }
     requires small { cells ≤ MOST_CELLS }
-    ensures exact { Gives (λ x. (x.0.items, x.1.now)) result (many (dimension_at cells rank) [] rank bytes.now) }
-    ensures count { IfOk result (λ x. length x.0.items ≡ rank) }
-    ensures room { IfOk result (λ x. 0 < rank → cells + product x.0.items ≤ MOST_CELLS) }
+    ensures exact { Gives (λ x. (dimensions.new.items, x.now)) result (many (dimension_at cells rank) [] rank bytes.now) }
+    ensures count { OnOk result (length dimensions.new.items ≡ rank) }
+    ensures room { OnOk result (0 < rank → cells + product dimensions.new.items ≤ MOST_CELLS) }
 {
-    let mut dimensions = Vec::new(alloc);
     let mut rest = bytes;
     for _ in 0..rank {
-        let (dimension, after) = dimension_of(cells, rank, &dimensions, rest)?;
+        let (dimension, after) = dimension_of(cells, rank, dimensions, rest)?;
         dimensions.push(dimension)?;
         rest = after;
     }
-    Ok((dimensions, rest))
+    Ok(rest)
 }
 
 #[tactic(auto, unfolding(cse_image_parts::specs::Reader::checked, crate::specs::Reading::name_at))]
 fn name_of<'a>(
-    alloc: Global,
+    out: &mut String,
     before: &[Array],
     len: u8,
     bytes: &'a [u8],
-) -> Result<(String, &'a [u8]), ReadStop>
-    ensures { Gives (λ x. (string_bytes x.0, x.1.now)) result (name_at (map array_lists before.now) len bytes.now) }
+) -> Result<&'a [u8], ReadStop>
+    requires { string_bytes out.old ≡ [] }
+    ensures { Gives (λ x. (string_bytes out.new, x.now)) result (name_at (map array_lists before.now) len bytes.now) }
 {
     let (name, rest) = bytes_at(len as usize, bytes)?;
     let Some(text) = array_name(name) else {
@@ -119,7 +120,8 @@ fn name_of<'a>(
     if !is_new_name(before, name) {
         return Err(ReadStop::from(broken(Rule::Form, bytes)));
     }
-    Ok((String::from_str(alloc, text)?, rest))
+    out.push_str(text)?;
+    Ok(rest)
 }
 
 #[tactic(auto, unfolding(cse_image_parts::specs::Reader::checked))]
@@ -132,6 +134,35 @@ fn cell_count_of<'a>(dimensions: &[u16], bytes: &'a [u8]) -> Result<(u32, &'a [u
         return Err(broken(Rule::Limit, bytes));
     }
     Ok((count, rest))
+}
+
+/// Reads an array into one that has nothing yet, after arrays that have so many cells.
+fn fill_array<'a>(
+    alloc: Global,
+    array: &mut Array,
+    before: &[Array],
+    cells: u64,
+    bytes: &'a [u8],
+) -> Result<&'a [u8], ReadStop>
+    requires no_dimensions { array.old.dimensions.items ≡ [] }
+    requires no_name { string_bytes array.old.name ≡ [] }
+    requires cells { cells ≡ cells_in (map array_lists before.now) }
+    requires small { cells ≤ MOST_CELLS }
+    ensures exact { Gives (λ x. (array_lists array.new, x.now)) result (array_at (map array_lists before.now) bytes.now) }
+    ensures few { OnOk result (length array.new.dimensions.items ≤ MOST_DIMENSIONS) }
+    ensures room { OnOk result (cells + product array.new.dimensions.items ≤ MOST_CELLS) }
+{
+    let (saved, rest) = flag_of(bytes)?;
+    let (rank, rest) = rank_of(rest)?;
+    let (len, rest) = u8_at(rest)?;
+    let (_, rest) = zero_u8_at(rest)?;
+    let at_name = dimensions_in(&mut array.dimensions, cells, rank, rest)?;
+    let at_count = name_of(&mut array.name, before, len, at_name)?;
+    let (count, rest) = cell_count_of(&array.dimensions, at_count)?;
+    let (cells, rest) = i64s_at(alloc, count, rest)?;
+    array.saved = saved;
+    array.cells = cells;
+    Ok(rest)
 }
 
 /// An array, after arrays that have so many cells.
@@ -147,45 +178,50 @@ fn array_of<'a>(
     ensures few { IfOk result (λ x. length x.0.dimensions.items ≤ MOST_DIMENSIONS) }
     ensures room { IfOk result (λ x. cells + product x.0.dimensions.items ≤ MOST_CELLS) }
 {
-    let (saved, rest) = flag_of(bytes)?;
-    let (rank, rest) = rank_of(rest)?;
-    let (len, rest) = u8_at(rest)?;
-    let (_, rest) = zero_u8_at(rest)?;
-    let (dimensions, rest) = dimensions_in(alloc, cells, rank, rest)?;
-    let (name, rest) = name_of(alloc, before, len, rest)?;
-    let (count, rest) = cell_count_of(&dimensions, rest)?;
-    let (cells, rest) = i64s_at(alloc, count, rest)?;
-    Ok((
-        Array {
-            saved,
-            dimensions,
-            name,
-            cells,
-        },
-        rest,
-    ))
+    let mut array = Array {
+        saved: false,
+        dimensions: Vec::new(alloc),
+        name: String::new(alloc),
+        cells: Vec::new(alloc),
+    };
+    match fill_array(alloc, &mut array, before, cells, bytes) {
+        Ok(rest) => Ok((array, rest)),
+        Err(stop) => Err(stop),
+    }
 }
 
-fn arrays_in(alloc: Global, count: u32, bytes: &[u8]) -> Result<(Vec<Array>, &[u8]), ReadStop>
-    ensures { Gives (λ x. (map array_lists x.0.items, x.1.now)) result (many array_at [] count bytes.now) }
+fn arrays_in<'a>(
+    alloc: Global,
+    arrays: &mut Vec<Array>,
+    count: u32,
+    bytes: &'a [u8],
+) -> Result<&'a [u8], ReadStop>
+    requires { arrays.old.items ≡ [] }
+    ensures { Gives (λ x. (map array_lists arrays.new.items, x.now)) result (many array_at [] count bytes.now) }
 {
-    let mut arrays = Vec::new(alloc);
     let mut cells = 0;
     let mut rest = bytes;
     for _ in 0..count {
-        let (array, after) = array_of(alloc, &arrays, cells, rest)?;
+        let (array, after) = array_of(alloc, arrays, cells, rest)?;
         cells += cells_for(&array.dimensions);
         arrays.push(array)?;
         rest = after;
     }
-    Ok((arrays, rest))
+    Ok(rest)
 }
 
-/// The table of arrays: their count, then each; and the bytes after it.
+/// The table of arrays, from where the bytes before it end, into a list that has none yet: their count, then each; and
+/// the bytes after it.
 #[tactic(auto, unfolding(cse_image_parts::specs::Reader::then_at, cse_image_parts::specs::Reader::counted))]
-pub fn arrays_of(alloc: Global, bytes: &[u8]) -> Result<(Vec<Array>, &[u8]), ReadStop>
-    ensures { Gives (λ x. (map array_lists x.0.items, x.1.now)) result (counted MOST_ARRAYS array_at bytes.now) }
+pub fn arrays_of<'a>(
+    alloc: Global,
+    arrays: &mut Vec<Array>,
+    bytes: Result<&'a [u8], ReadStop>,
+) -> Result<&'a [u8], ReadStop>
+    requires { arrays.old.items ≡ [] }
+    ensures exact { IfOk bytes.entry (λ b. Gives (λ x. (map array_lists arrays.new.items, x.now)) result (counted MOST_ARRAYS array_at b.now)) }
+    ensures stopped { IfErr bytes.entry (λ e. result ≡ Err e) }
 {
-    let (count, rest) = count_at(MOST_ARRAYS, bytes)?;
-    arrays_in(alloc, count, rest)
+    let (count, rest) = count_at(MOST_ARRAYS, bytes?)?;
+    arrays_in(alloc, arrays, count, rest)
 }

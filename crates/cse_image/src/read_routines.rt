@@ -1,6 +1,6 @@
-//! The sections of routines and events.
+//! The section of routines, and events.
 
-ghost use Rattle.std.specs.Prelude.{◌≡◌, ◌≤◌, ◌+◌, [], IfOk, map, length};
+ghost use Rattle.std.specs.Prelude.{◌≡◌, ◌≤◌, ◌+◌, [], Err, IfOk, IfErr, OnOk, map, length};
 ghost use Rattle.cse_image_parts.specs.Reader.{Gives, GivesFault, number, checked, decoded, many, counted};
 ghost use Rattle.cse_image_parts.specs.declared.fault.Rule.TheVariants.{Form, Limit};
 ghost use Rattle.cse_image_parts.specs.Versions.{may_give as spec_may_give};
@@ -9,9 +9,10 @@ ghost use Rattle.cse_image_parts.specs.Image.{routine_lists};
 ghost use Rattle.cse_image_parts.specs.Fields.{fits_kind, fits_owner, fits_local_length, are_locals, instructions_in, is_room_for_code, last_event, is_after};
 ghost use Rattle.cse_image.specs.Reading.{local_at, routine_at, event_at};
 
+use crate::read_entries::Readable;
 use cse_image_parts::codes::{ambient_named, event_code_named, gift_named, local_kind_named};
 use cse_image_parts::entries::{Ambient, EventCode, EventEntry, Gift, Local, LocalKind, Routine};
-use cse_image_parts::limits::{MOST_EVENTS, MOST_INSTRUCTIONS, MOST_ROUTINES};
+use cse_image_parts::limits::{MOST_INSTRUCTIONS, MOST_ROUTINES};
 use cse_image_parts::rules::{
     comes_after, has_parameters, has_room_for_code, is_right_kind, is_right_local_length,
     is_right_owner, last_of,
@@ -176,17 +177,18 @@ fn routine_of(
     ))
 }
 
-fn routines_in(
+fn routines_in<'a>(
     alloc: Global,
     version: Version,
+    routines: &mut Vec<Routine>,
     count: u32,
-    bytes: &[u8],
-) -> Result<(Vec<Routine>, &[u8]), ReadStop>
-    ensures exact { Gives (λ x. (map routine_lists x.0.items, x.1.now)) result
+    bytes: &'a [u8],
+) -> Result<&'a [u8], ReadStop>
+    requires { routines.old.items ≡ [] }
+    ensures exact { Gives (λ x. (map routine_lists routines.new.items, x.now)) result
         (many (λ before. routine_at version (instructions_in before)) [] count bytes.now) }
-    ensures room { IfOk result (λ x. instructions_in (map routine_lists x.0.items) ≤ MOST_INSTRUCTIONS) }
+    ensures room { OnOk result (instructions_in (map routine_lists routines.new.items) ≤ MOST_INSTRUCTIONS) }
 {
-    let mut routines = Vec::new(alloc);
     let mut so_far = 0;
     let mut rest = bytes;
     for _ in 0..count {
@@ -195,23 +197,26 @@ fn routines_in(
         routines.push(routine)?;
         rest = after;
     }
-    Ok((routines, rest))
+    Ok(rest)
 }
 
-/// The table of routines: their count, then each; and the bytes after it. Together they have no
-/// more instructions than a program may.
+/// The table of routines, from where the bytes before it end, into a list that has none yet: their count, then each; and
+/// the bytes after it. Together they have no more instructions than a program may.
 #[tactic(auto, unfolding(cse_image_parts::specs::Reader::then_at, cse_image_parts::specs::Reader::counted))]
-pub fn routines_of(
+pub fn routines_of<'a>(
     alloc: Global,
     version: Version,
-    bytes: &[u8],
-) -> Result<(Vec<Routine>, &[u8]), ReadStop>
-    ensures exact { Gives (λ x. (map routine_lists x.0.items, x.1.now)) result
-        (counted MOST_ROUTINES (λ before. routine_at version (instructions_in before)) bytes.now) }
-    ensures room { IfOk result (λ x. instructions_in (map routine_lists x.0.items) ≤ MOST_INSTRUCTIONS) }
+    routines: &mut Vec<Routine>,
+    bytes: Result<&'a [u8], ReadStop>,
+) -> Result<&'a [u8], ReadStop>
+    requires { routines.old.items ≡ [] }
+    ensures exact { IfOk bytes.entry (λ b. Gives (λ x. (map routine_lists routines.new.items, x.now)) result
+        (counted MOST_ROUTINES (λ before. routine_at version (instructions_in before)) b.now)) }
+    ensures stopped { IfErr bytes.entry (λ e. result ≡ Err e) }
+    ensures room { OnOk result (instructions_in (map routine_lists routines.new.items) ≤ MOST_INSTRUCTIONS) }
 {
-    let (count, rest) = count_at(MOST_ROUTINES, bytes)?;
-    routines_in(alloc, version, count, rest)
+    let (count, rest) = count_at(MOST_ROUTINES, bytes?)?;
+    routines_in(alloc, version, routines, count, rest)
 }
 
 #[tactic(auto, unfolding(cse_image_parts::specs::Reader::decoded))]
@@ -260,24 +265,19 @@ fn event_of(last: Option<EventEntry>, bytes: &[u8]) -> Result<(EventEntry, &[u8]
     ))
 }
 
-fn events_in(alloc: Global, count: u32, bytes: &[u8]) -> Result<(Vec<EventEntry>, &[u8]), ReadStop>
-    ensures { Gives (λ x. (x.0.items, x.1.now)) result (many (λ before. event_at (last_event before)) [] count bytes.now) }
-{
-    let mut events = Vec::new(alloc);
-    let mut rest = bytes;
-    for _ in 0..count {
-        let (event, after) = event_of(last_of(&events), rest)?;
-        events.push(event)?;
-        rest = after;
-    }
-    Ok((events, rest))
-}
+/// An event: eight bytes.
+impl Readable for EventEntry {
+    ghost Seen = { Self };
 
-/// The table of events: their count, then each, behind the one before it in order; and the bytes after it.
-#[tactic(auto, unfolding(cse_image_parts::specs::Reader::then_at, cse_image_parts::specs::Reader::counted))]
-pub fn events_of(alloc: Global, bytes: &[u8]) -> Result<(Vec<EventEntry>, &[u8]), ReadStop>
-    ensures { Gives (λ x. (x.0.items, x.1.now)) result (counted MOST_EVENTS (λ before. event_at (last_event before)) bytes.now) }
-{
-    let (count, rest) = count_at(MOST_EVENTS, bytes)?;
-    events_in(alloc, count, rest)
+    ghost seen = { λ x. x };
+
+    ghost reader = { λ before. event_at (last_event before) };
+
+    fn read<'a>(
+        _alloc: Global,
+        before: &[Self],
+        bytes: &'a [u8],
+    ) -> Result<(Self, &'a [u8]), ReadStop> {
+        Ok(event_of(last_of(before), bytes)?)
+    }
 }

@@ -1,17 +1,16 @@
-//! The header, and the sections that tell a dictionary's shape: records, items and value sets.
+//! The header, and the entries that tell a dictionary's shape: records, items and value sets.
 
-ghost use Rattle.std.specs.Prelude.{[]};
-ghost use Rattle.cse_image_parts.specs.Reader.{Gives, GivesFault, number, decoded, many, counted};
+ghost use Rattle.cse_image_parts.specs.Reader.{GivesFault, number, decoded};
 ghost use Rattle.cse_image_parts.specs.declared.fault.Rule.TheVariants.{Form};
 ghost use Rattle.cse_image_parts.specs.Codes.{item_kind_of as kind_of};
 ghost use Rattle.cse_image.specs.Reading.{flag_at, header_at, record_at, item_at, set_at};
 
+use crate::read_entries::Readable;
 use cse_image_parts::codes::{flag_named, item_kind_named};
-use cse_image_parts::limits::{MOST_ITEMS, MOST_RECORDS, MOST_SETS};
 use cse_image_parts::version::{Version, version_named};
 use cse_image_parts::{
-    FieldFault, ReadStop, Rule, broken, bytes_at, count_at, ended, u8_at, u16_at, u32_at,
-    zero_u16_at, zero_u24_at,
+    FieldFault, ReadStop, Rule, broken, bytes_at, ended, u8_at, u16_at, u32_at, zero_u16_at,
+    zero_u24_at,
 };
 use cse_value::shape::{ItemKind, ItemShape, RecordShape, SetShape};
 use std::alloc::Global;
@@ -48,46 +47,31 @@ pub fn header_of(bytes: &[u8]) -> Result<(Version, &[u8]), FieldFault>
     Ok((version, rest))
 }
 
-#[tactic(auto, unfolding(cse_image_parts::specs::Reader::then_at, cse_image_parts::specs::Reader::done, crate::specs::Reading::zero_at, crate::specs::Reading::record_at))]
-fn record_of(bytes: &[u8]) -> Result<(RecordShape, &[u8]), FieldFault>
-    ensures { GivesFault (λ x. (x.0, x.1.now)) result (record_at bytes.now) }
-{
-    let (max_records, rest) = u16_at(bytes)?;
-    let (_, rest) = zero_u16_at(rest)?;
-    let (record_len, rest) = u32_at(rest)?;
-    Ok((
-        RecordShape {
-            max_records,
-            record_len,
-        },
-        rest,
-    ))
-}
+/// A record: eight bytes.
+impl Readable for RecordShape {
+    ghost Seen = { Self };
 
-fn records_in(
-    alloc: Global,
-    count: u32,
-    bytes: &[u8],
-) -> Result<(Vec<RecordShape>, &[u8]), ReadStop>
-    ensures { Gives (λ x. (x.0.items, x.1.now)) result (many (λ _. record_at) [] count bytes.now) }
-{
-    let mut records = Vec::new(alloc);
-    let mut rest = bytes;
-    for _ in 0..count {
-        let (record, after) = record_of(rest)?;
-        records.push(record)?;
-        rest = after;
+    ghost seen = { λ x. x };
+
+    ghost reader = { λ _. record_at };
+
+    #[tactic(auto, unfolding(cse_image_parts::specs::Reader::then_at, cse_image_parts::specs::Reader::done, crate::specs::Reading::zero_at, crate::specs::Reading::record_at))]
+    fn read<'a>(
+        _alloc: Global,
+        _before: &[Self],
+        bytes: &'a [u8],
+    ) -> Result<(Self, &'a [u8]), ReadStop> {
+        let (max_records, rest) = u16_at(bytes)?;
+        let (_, rest) = zero_u16_at(rest)?;
+        let (record_len, rest) = u32_at(rest)?;
+        Ok((
+            RecordShape {
+                max_records,
+                record_len,
+            },
+            rest,
+        ))
     }
-    Ok((records, rest))
-}
-
-/// The table of records: their count, then each; and the bytes after it.
-#[tactic(auto, unfolding(cse_image_parts::specs::Reader::then_at, cse_image_parts::specs::Reader::counted))]
-pub fn records_of(alloc: Global, bytes: &[u8]) -> Result<(Vec<RecordShape>, &[u8]), ReadStop>
-    ensures { Gives (λ x. (x.0.items, x.1.now)) result (counted MOST_RECORDS (λ _. record_at) bytes.now) }
-{
-    let (count, rest) = count_at(MOST_RECORDS, bytes)?;
-    records_in(alloc, count, rest)
 }
 
 #[tactic(auto, unfolding(cse_image_parts::specs::Reader::decoded))]
@@ -101,83 +85,61 @@ fn item_kind_of(bytes: &[u8]) -> Result<(ItemKind, &[u8]), FieldFault>
     }
 }
 
-#[tactic(auto, unfolding(cse_image_parts::specs::Reader::then_at, cse_image_parts::specs::Reader::done, crate::specs::Reading::item_at))]
-fn item_of(bytes: &[u8]) -> Result<(ItemShape, &[u8]), FieldFault>
-    ensures { GivesFault (λ x. (x.0, x.1.now)) result (item_at bytes.now) }
-{
-    let (owner, rest) = u8_at(bytes)?;
-    let (kind, rest) = item_kind_of(rest)?;
-    let (len, rest) = u16_at(rest)?;
-    let (start, rest) = u32_at(rest)?;
-    Ok((
-        ItemShape {
-            owner,
-            kind,
-            len,
-            start,
-        },
-        rest,
-    ))
-}
+/// An item: eight bytes.
+impl Readable for ItemShape {
+    ghost Seen = { Self };
 
-fn items_in(alloc: Global, count: u32, bytes: &[u8]) -> Result<(Vec<ItemShape>, &[u8]), ReadStop>
-    ensures { Gives (λ x. (x.0.items, x.1.now)) result (many (λ _. item_at) [] count bytes.now) }
-{
-    let mut items = Vec::new(alloc);
-    let mut rest = bytes;
-    for _ in 0..count {
-        let (item, after) = item_of(rest)?;
-        items.push(item)?;
-        rest = after;
+    ghost seen = { λ x. x };
+
+    ghost reader = { λ _. item_at };
+
+    #[tactic(auto, unfolding(cse_image_parts::specs::Reader::then_at, cse_image_parts::specs::Reader::done, crate::specs::Reading::item_at))]
+    fn read<'a>(
+        _alloc: Global,
+        _before: &[Self],
+        bytes: &'a [u8],
+    ) -> Result<(Self, &'a [u8]), ReadStop> {
+        let (owner, rest) = u8_at(bytes)?;
+        let (kind, rest) = item_kind_of(rest)?;
+        let (len, rest) = u16_at(rest)?;
+        let (start, rest) = u32_at(rest)?;
+        Ok((
+            ItemShape {
+                owner,
+                kind,
+                len,
+                start,
+            },
+            rest,
+        ))
     }
-    Ok((items, rest))
 }
 
-/// The table of items: their count, then each; and the bytes after it.
-#[tactic(auto, unfolding(cse_image_parts::specs::Reader::then_at, cse_image_parts::specs::Reader::counted))]
-pub fn items_of(alloc: Global, bytes: &[u8]) -> Result<(Vec<ItemShape>, &[u8]), ReadStop>
-    ensures { Gives (λ x. (x.0.items, x.1.now)) result (counted MOST_ITEMS (λ _. item_at) bytes.now) }
-{
-    let (count, rest) = count_at(MOST_ITEMS, bytes)?;
-    items_in(alloc, count, rest)
-}
+/// A value set: eight bytes.
+impl Readable for SetShape {
+    ghost Seen = { Self };
 
-#[tactic(auto, unfolding(cse_image_parts::specs::Reader::then_at, cse_image_parts::specs::Reader::done, crate::specs::Reading::zero_at, crate::specs::Reading::set_at))]
-fn set_of(bytes: &[u8]) -> Result<(SetShape, &[u8]), FieldFault>
-    ensures { GivesFault (λ x. (x.0, x.1.now)) result (set_at bytes.now) }
-{
-    let (item, rest) = u16_at(bytes)?;
-    let (rows, rest) = u16_at(rest)?;
-    let (partial, rest) = flag_of(rest)?;
-    let (_, rest) = zero_u24_at(rest)?;
-    Ok((
-        SetShape {
-            item,
-            rows,
-            partial,
-        },
-        rest,
-    ))
-}
+    ghost seen = { λ x. x };
 
-fn sets_in(alloc: Global, count: u32, bytes: &[u8]) -> Result<(Vec<SetShape>, &[u8]), ReadStop>
-    ensures { Gives (λ x. (x.0.items, x.1.now)) result (many (λ _. set_at) [] count bytes.now) }
-{
-    let mut sets = Vec::new(alloc);
-    let mut rest = bytes;
-    for _ in 0..count {
-        let (set, after) = set_of(rest)?;
-        sets.push(set)?;
-        rest = after;
+    ghost reader = { λ _. set_at };
+
+    #[tactic(auto, unfolding(cse_image_parts::specs::Reader::then_at, cse_image_parts::specs::Reader::done, crate::specs::Reading::zero_at, crate::specs::Reading::set_at))]
+    fn read<'a>(
+        _alloc: Global,
+        _before: &[Self],
+        bytes: &'a [u8],
+    ) -> Result<(Self, &'a [u8]), ReadStop> {
+        let (item, rest) = u16_at(bytes)?;
+        let (rows, rest) = u16_at(rest)?;
+        let (partial, rest) = flag_of(rest)?;
+        let (_, rest) = zero_u24_at(rest)?;
+        Ok((
+            SetShape {
+                item,
+                rows,
+                partial,
+            },
+            rest,
+        ))
     }
-    Ok((sets, rest))
-}
-
-/// The table of value sets: their count, then each; and the bytes after it.
-#[tactic(auto, unfolding(cse_image_parts::specs::Reader::then_at, cse_image_parts::specs::Reader::counted))]
-pub fn sets_of(alloc: Global, bytes: &[u8]) -> Result<(Vec<SetShape>, &[u8]), ReadStop>
-    ensures { Gives (λ x. (x.0.items, x.1.now)) result (counted MOST_SETS (λ _. set_at) bytes.now) }
-{
-    let (count, rest) = count_at(MOST_SETS, bytes)?;
-    sets_in(alloc, count, rest)
 }

@@ -1,46 +1,61 @@
-//! The sections of plain values: the records' order, constants, limits, texts, globals and messages.
+//! Plain values: the sections of the records' order, of constants and limits, and texts, globals and messages.
 
-ghost use Rattle.std.specs.Prelude.{◌≡◌, [], map};
+ghost use Rattle.std.specs.Prelude.{◌≡◌, ℕ, ℤ, List, [], Err, IfOk, IfErr};
 ghost use Rattle.std.specs.String.{string_bytes};
 ghost use Rattle.cse_image_parts.specs.Reader.{Gives, GivesFault, number, signed, checked, decoded, many, counted};
 ghost use Rattle.cse_image_parts.specs.declared.fault.Rule.TheVariants.{Form};
 ghost use Rattle.cse_image_parts.specs.Codes.{global_kind_of as kind_of};
 ghost use Rattle.cse_image_parts.specs.Fields.{fits_global_length};
-ghost use Rattle.cse_image_parts.specs.Image.{message_lists};
+ghost use Rattle.cse_image_parts.specs.Image.{MessageLists, message_lists};
 ghost use Rattle.cse_image.specs.Reading.{limit_at, limits_at, characters_at, text_at, global_at, message_at};
 
+use crate::read_entries::Readable;
 use crate::read_shape::flag_of;
 use cse_image_parts::codes::global_kind_named;
 use cse_image_parts::entries::{GlobalKind, GlobalVariable, Message};
-use cse_image_parts::limits::{
-    MOST_CONSTANTS, MOST_GLOBALS, MOST_LIMITS, MOST_MESSAGES, MOST_ORDER, MOST_TEXTS,
-};
+use cse_image_parts::limits::MOST_LIMITS;
 use cse_image_parts::placeholders::are_few_placeholders;
 use cse_image_parts::rules::{is_right_global_length, is_right_limit};
 use cse_image_parts::texts::{is_short_text, plain_text};
 use cse_image_parts::version::Version;
 use cse_image_parts::{
-    FieldFault, ReadStop, Rule, broken, bytes_at, count_at, i64s_at, u8_at, u16_at, u32_at,
-    u32s_at, zero_u8_at,
+    FieldFault, ReadStop, Rule, broken, bytes_at, count_at, i64_at, u8_at, u16_at, u32_at,
+    zero_u8_at,
 };
 use std::alloc::Global;
 
-/// The table of the edit order: how many records, then the place of each; and the bytes after it.
-#[tactic(auto, unfolding(cse_image_parts::specs::Reader::then_at, cse_image_parts::specs::Reader::counted))]
-pub fn order_of(alloc: Global, bytes: &[u8]) -> Result<(Vec<u32>, &[u8]), ReadStop>
-    ensures { Gives (λ x. (x.0.items, x.1.now)) result (counted MOST_ORDER (λ _. number 4) bytes.now) }
-{
-    let (count, rest) = count_at(MOST_ORDER, bytes)?;
-    u32s_at(alloc, count, rest)
+/// A place in the edit order: four bytes.
+impl Readable for u32 {
+    ghost Seen = { ℕ };
+
+    ghost seen = { λ n. n };
+
+    ghost reader = { λ _. number 4 };
+
+    fn read<'a>(
+        _alloc: Global,
+        _before: &[Self],
+        bytes: &'a [u8],
+    ) -> Result<(Self, &'a [u8]), ReadStop> {
+        Ok(u32_at(bytes)?)
+    }
 }
 
-/// The table of constants: their count, then each; and the bytes after it.
-#[tactic(auto, unfolding(cse_image_parts::specs::Reader::then_at, cse_image_parts::specs::Reader::counted))]
-pub fn constants_of(alloc: Global, bytes: &[u8]) -> Result<(Vec<i64>, &[u8]), ReadStop>
-    ensures { Gives (λ x. (x.0.items, x.1.now)) result (counted MOST_CONSTANTS (λ _. signed) bytes.now) }
-{
-    let (count, rest) = count_at(MOST_CONSTANTS, bytes)?;
-    i64s_at(alloc, count, rest)
+/// A constant: eight bytes.
+impl Readable for i64 {
+    ghost Seen = { ℤ };
+
+    ghost seen = { λ n. n };
+
+    ghost reader = { λ _. signed };
+
+    fn read<'a>(
+        _alloc: Global,
+        _before: &[Self],
+        bytes: &'a [u8],
+    ) -> Result<(Self, &'a [u8]), ReadStop> {
+        Ok(i64_at(bytes)?)
+    }
 }
 
 /// A limit of a counting loop.
@@ -55,33 +70,34 @@ fn limit_of(bytes: &[u8]) -> Result<(u32, &[u8]), FieldFault>
     Ok((limit, rest))
 }
 
-fn limits_in(alloc: Global, count: u32, bytes: &[u8]) -> Result<(Vec<u32>, &[u8]), ReadStop>
-    ensures { Gives (λ x. (x.0.items, x.1.now)) result (many (λ _. limit_at) [] count bytes.now) }
+fn limits_in<'a>(limits: &mut Vec<u32>, count: u32, bytes: &'a [u8]) -> Result<&'a [u8], ReadStop>
+    ensures { Gives (λ x. (limits.new.items, x.now)) result (many (λ _. limit_at) limits.old.items count bytes.now) }
 {
-    let mut limits = Vec::new(alloc);
     let mut rest = bytes;
     for _ in 0..count {
         let (limit, after) = limit_of(rest)?;
         limits.push(limit)?;
         rest = after;
     }
-    Ok((limits, rest))
+    Ok(rest)
 }
 
-/// The table of limits, which version 1 has not.
+/// The table of limits, which version 1 has not, from where the bytes before it end, into a list that has none yet.
 #[tactic(auto, unfolding(cse_image_parts::specs::Reader::then_at, cse_image_parts::specs::Reader::done, cse_image_parts::specs::Reader::counted, crate::specs::Reading::limits_at))]
-pub fn limits_of(
-    alloc: Global,
+pub fn limits_of<'a>(
     version: Version,
-    bytes: &[u8],
-) -> Result<(Vec<u32>, &[u8]), ReadStop>
-    ensures { Gives (λ x. (x.0.items, x.1.now)) result (limits_at version bytes.now) }
+    limits: &mut Vec<u32>,
+    bytes: Result<&'a [u8], ReadStop>,
+) -> Result<&'a [u8], ReadStop>
+    requires { limits.old.items ≡ [] }
+    ensures exact { IfOk bytes.entry (λ b. Gives (λ x. (limits.new.items, x.now)) result (limits_at version b.now)) }
+    ensures stopped { IfErr bytes.entry (λ e. result ≡ Err e) }
 {
     match version {
-        Version::One => Ok((Vec::new(alloc), bytes)),
+        Version::One => bytes,
         Version::Two => {
-            let (count, rest) = count_at(MOST_LIMITS, bytes)?;
-            limits_in(alloc, count, rest)
+            let (count, rest) = count_at(MOST_LIMITS, bytes?)?;
+            limits_in(limits, count, rest)
         }
     }
 }
@@ -101,35 +117,24 @@ fn characters_of(len: u16, bytes: &[u8]) -> Result<(&str, &[u8]), FieldFault>
     Ok((text, rest))
 }
 
-#[tactic(auto, unfolding(cse_image_parts::specs::Reader::then_at, cse_image_parts::specs::Reader::done, crate::specs::Reading::text_at))]
-fn text_of(alloc: Global, bytes: &[u8]) -> Result<(String, &[u8]), ReadStop>
-    ensures { Gives (λ x. (string_bytes x.0, x.1.now)) result (text_at bytes.now) }
-{
-    let (len, rest) = u16_at(bytes)?;
-    let (text, rest) = characters_of(len, rest)?;
-    Ok((String::from_str(alloc, text)?, rest))
-}
+/// A text: its length in bytes, in two, then the bytes of its UTF-8.
+impl Readable for String {
+    ghost Seen = { List ℕ };
 
-fn texts_in(alloc: Global, count: u32, bytes: &[u8]) -> Result<(Vec<String>, &[u8]), ReadStop>
-    ensures { Gives (λ x. (map string_bytes x.0.items, x.1.now)) result (many (λ _. text_at) [] count bytes.now) }
-{
-    let mut texts = Vec::new(alloc);
-    let mut rest = bytes;
-    for _ in 0..count {
-        let (text, after) = text_of(alloc, rest)?;
-        texts.push(text)?;
-        rest = after;
+    ghost seen = { string_bytes };
+
+    ghost reader = { λ _. text_at };
+
+    #[tactic(auto, unfolding(cse_image_parts::specs::Reader::then_at, cse_image_parts::specs::Reader::done, crate::specs::Reading::text_at))]
+    fn read<'a>(
+        alloc: Global,
+        _before: &[Self],
+        bytes: &'a [u8],
+    ) -> Result<(Self, &'a [u8]), ReadStop> {
+        let (len, rest) = u16_at(bytes)?;
+        let (text, rest) = characters_of(len, rest)?;
+        Ok((String::from_str(alloc, text)?, rest))
     }
-    Ok((texts, rest))
-}
-
-/// The table of texts: their count, then each; and the bytes after it.
-#[tactic(auto, unfolding(cse_image_parts::specs::Reader::then_at, cse_image_parts::specs::Reader::counted))]
-pub fn texts_of(alloc: Global, bytes: &[u8]) -> Result<(Vec<String>, &[u8]), ReadStop>
-    ensures { Gives (λ x. (map string_bytes x.0.items, x.1.now)) result (counted MOST_TEXTS (λ _. text_at) bytes.now) }
-{
-    let (count, rest) = count_at(MOST_TEXTS, bytes)?;
-    texts_in(alloc, count, rest)
 }
 
 #[tactic(auto, unfolding(cse_image_parts::specs::Reader::decoded))]
@@ -154,82 +159,56 @@ fn global_length_of(kind: GlobalKind, bytes: &[u8]) -> Result<(u16, &[u8]), Fiel
     Ok((length, rest))
 }
 
-#[tactic(auto, unfolding(cse_image_parts::specs::Reader::then_at, cse_image_parts::specs::Reader::done, crate::specs::Reading::zero_at, crate::specs::Reading::global_at))]
-fn global_of(bytes: &[u8]) -> Result<(GlobalVariable, &[u8]), FieldFault>
-    ensures { GivesFault (λ x. (x.0, x.1.now)) result (global_at bytes.now) }
-{
-    let (kind, rest) = global_kind_of(bytes)?;
-    let (_, rest) = zero_u8_at(rest)?;
-    let (length, rest) = global_length_of(kind, rest)?;
-    Ok((GlobalVariable { kind, length }, rest))
-}
+/// A global: four bytes.
+impl Readable for GlobalVariable {
+    ghost Seen = { Self };
 
-fn globals_in(
-    alloc: Global,
-    count: u32,
-    bytes: &[u8],
-) -> Result<(Vec<GlobalVariable>, &[u8]), ReadStop>
-    ensures { Gives (λ x. (x.0.items, x.1.now)) result (many (λ _. global_at) [] count bytes.now) }
-{
-    let mut globals = Vec::new(alloc);
-    let mut rest = bytes;
-    for _ in 0..count {
-        let (global, after) = global_of(rest)?;
-        globals.push(global)?;
-        rest = after;
+    ghost seen = { λ x. x };
+
+    ghost reader = { λ _. global_at };
+
+    #[tactic(auto, unfolding(cse_image_parts::specs::Reader::then_at, cse_image_parts::specs::Reader::done, crate::specs::Reading::zero_at, crate::specs::Reading::global_at))]
+    fn read<'a>(
+        _alloc: Global,
+        _before: &[Self],
+        bytes: &'a [u8],
+    ) -> Result<(Self, &'a [u8]), ReadStop> {
+        let (kind, rest) = global_kind_of(bytes)?;
+        let (_, rest) = zero_u8_at(rest)?;
+        let (length, rest) = global_length_of(kind, rest)?;
+        Ok((GlobalVariable { kind, length }, rest))
     }
-    Ok((globals, rest))
 }
 
-/// The table of globals: their count, then each; and the bytes after it.
-#[tactic(auto, unfolding(cse_image_parts::specs::Reader::then_at, cse_image_parts::specs::Reader::counted))]
-pub fn globals_of(alloc: Global, bytes: &[u8]) -> Result<(Vec<GlobalVariable>, &[u8]), ReadStop>
-    ensures { Gives (λ x. (x.0.items, x.1.now)) result (counted MOST_GLOBALS (λ _. global_at) bytes.now) }
-{
-    let (count, rest) = count_at(MOST_GLOBALS, bytes)?;
-    globals_in(alloc, count, rest)
-}
+/// A message: its number, whether it is a summary, then its text.
+impl Readable for Message {
+    ghost Seen = { MessageLists };
 
-#[tactic(auto, unfolding(cse_image_parts::specs::Reader::then_at, cse_image_parts::specs::Reader::done, cse_image_parts::specs::Reader::checked, crate::specs::Reading::zero_at, crate::specs::Reading::message_at))]
-fn message_of(alloc: Global, bytes: &[u8]) -> Result<(Message, &[u8]), ReadStop>
-    ensures { Gives (λ x. (message_lists x.0, x.1.now)) result (message_at bytes.now) }
-{
-    let (number, rest) = u32_at(bytes)?;
-    let (summary, rest) = flag_of(rest)?;
-    let (_, rest) = zero_u8_at(rest)?;
-    let (len, rest) = u16_at(rest)?;
-    let (text, after) = characters_of(len, rest)?;
-    if !are_few_placeholders(text.as_bytes()) {
-        return Err(ReadStop::from(broken(Rule::Limit, rest)));
+    ghost seen = { message_lists };
+
+    ghost reader = { λ _. message_at };
+
+    #[tactic(auto, unfolding(cse_image_parts::specs::Reader::then_at, cse_image_parts::specs::Reader::done, cse_image_parts::specs::Reader::checked, crate::specs::Reading::zero_at, crate::specs::Reading::message_at))]
+    fn read<'a>(
+        alloc: Global,
+        _before: &[Self],
+        bytes: &'a [u8],
+    ) -> Result<(Self, &'a [u8]), ReadStop> {
+        let (number, rest) = u32_at(bytes)?;
+        let (summary, rest) = flag_of(rest)?;
+        let (_, rest) = zero_u8_at(rest)?;
+        let (len, rest) = u16_at(rest)?;
+        let (text, after) = characters_of(len, rest)?;
+        if !are_few_placeholders(text.as_bytes()) {
+            return Err(ReadStop::from(broken(Rule::Limit, rest)));
+        }
+        Ok((
+            Message {
+                number,
+                summary,
+                text: String::from_str(alloc, text)?,
+            },
+            after,
+        ))
     }
-    Ok((
-        Message {
-            number,
-            summary,
-            text: String::from_str(alloc, text)?,
-        },
-        after,
-    ))
-}
-
-fn messages_in(alloc: Global, count: u32, bytes: &[u8]) -> Result<(Vec<Message>, &[u8]), ReadStop>
-    ensures { Gives (λ x. (map message_lists x.0.items, x.1.now)) result (many (λ _. message_at) [] count bytes.now) }
-{
-    let mut messages = Vec::new(alloc);
-    let mut rest = bytes;
-    for _ in 0..count {
-        let (message, after) = message_of(alloc, rest)?;
-        messages.push(message)?;
-        rest = after;
-    }
-    Ok((messages, rest))
-}
-
-/// The table of messages: their count, then each; and the bytes after it.
-#[tactic(auto, unfolding(cse_image_parts::specs::Reader::then_at, cse_image_parts::specs::Reader::counted))]
-pub fn messages_of(alloc: Global, bytes: &[u8]) -> Result<(Vec<Message>, &[u8]), ReadStop>
-    ensures { Gives (λ x. (map message_lists x.0.items, x.1.now)) result (counted MOST_MESSAGES (λ _. message_at) bytes.now) }
-{
-    let (count, rest) = count_at(MOST_MESSAGES, bytes)?;
-    messages_in(alloc, count, rest)
 }

@@ -1,55 +1,68 @@
 //! The tables of an image: all sections but the code.
 
-ghost use Rattle.std.specs.Prelude.{◌≡◌, ◌≤◌, IfOk, map};
+ghost use Rattle.std.specs.Prelude.{◌≡◌, ◌≤◌, OnOk, map};
 ghost use Rattle.cse_image_parts.specs.Reader.{Gives};
 ghost use Rattle.cse_image_parts.specs.Image.{routine_lists, lists_of};
 ghost use Rattle.cse_image_parts.specs.Fields.{instructions_in};
-ghost use Rattle.cse_image.specs.Reading.{lists_at};
+ghost use Rattle.cse_image.specs.Reading.{lists_at, no_lists};
 
 use crate::read_arrays::arrays_of;
-use crate::read_routines::{events_of, routines_of};
-use crate::read_shape::{items_of, records_of, sets_of};
-use crate::read_values::{constants_of, globals_of, limits_of, messages_of, order_of, texts_of};
+use crate::read_entries::section_of;
+use crate::read_routines::routines_of;
+use crate::read_values::limits_of;
 use cse_image_parts::ReadStop;
 use cse_image_parts::entries::{Routine, Tables};
-use cse_image_parts::limits::MOST_INSTRUCTIONS;
+use cse_image_parts::limits::{
+    MOST_CONSTANTS, MOST_EVENTS, MOST_GLOBALS, MOST_INSTRUCTIONS, MOST_ITEMS, MOST_MESSAGES,
+    MOST_ORDER, MOST_RECORDS, MOST_SETS, MOST_TEXTS,
+};
 use cse_image_parts::version::Version;
 use std::alloc::Global;
 
-/// All tables behind the header, in the order of the format, and the bytes of the code after them.
-pub fn tables_of(alloc: Global, version: Version, bytes: &[u8]) -> Result<(Tables, &[u8]), ReadStop>
-    ensures exact { Gives (λ x. (lists_of x.0, x.1.now)) result (lists_at version bytes.now) }
-    ensures room { IfOk result (λ x. instructions_in (map routine_lists x.0.routines.items) ≤ MOST_INSTRUCTIONS) }
+/// Tables that have nothing.
+pub fn no_tables(alloc: Global) -> Tables
+    ensures { lists_of result ≡ no_lists }
 {
-    let (records, rest) = records_of(alloc, bytes)?;
-    let (items, rest) = items_of(alloc, rest)?;
-    let (sets, rest) = sets_of(alloc, rest)?;
-    let (order, rest) = order_of(alloc, rest)?;
-    let (constants, rest) = constants_of(alloc, rest)?;
-    let (limits, rest) = limits_of(alloc, version, rest)?;
-    let (texts, rest) = texts_of(alloc, rest)?;
-    let (globals, rest) = globals_of(alloc, rest)?;
-    let (arrays, rest) = arrays_of(alloc, rest)?;
-    let (messages, rest) = messages_of(alloc, rest)?;
-    let (routines, rest) = routines_of(alloc, version, rest)?;
-    let (events, rest) = events_of(alloc, rest)?;
-    Ok((
-        Tables {
-            records,
-            items,
-            sets,
-            order,
-            constants,
-            limits,
-            texts,
-            globals,
-            arrays,
-            messages,
-            routines,
-            events,
-        },
-        rest,
-    ))
+    Tables {
+        records: Vec::new(alloc),
+        items: Vec::new(alloc),
+        sets: Vec::new(alloc),
+        order: Vec::new(alloc),
+        constants: Vec::new(alloc),
+        limits: Vec::new(alloc),
+        texts: Vec::new(alloc),
+        globals: Vec::new(alloc),
+        arrays: Vec::new(alloc),
+        messages: Vec::new(alloc),
+        routines: Vec::new(alloc),
+        events: Vec::new(alloc),
+    }
+}
+
+/// All tables behind the header, in the order of the format, into tables that have nothing yet; and the bytes of the
+/// code after them.
+pub fn tables_of<'a>(
+    alloc: Global,
+    version: Version,
+    tables: &mut Tables,
+    bytes: &'a [u8],
+) -> Result<&'a [u8], ReadStop>
+    requires { lists_of tables.old ≡ no_lists }
+    ensures exact { Gives (λ x. (lists_of tables.new, x.now)) result (lists_at version bytes.now) }
+    ensures room { OnOk result (instructions_in (map routine_lists tables.new.routines.items) ≤ MOST_INSTRUCTIONS) }
+{
+    let at_items = section_of(alloc, MOST_RECORDS, &mut tables.records, Ok(bytes));
+    let at_sets = section_of(alloc, MOST_ITEMS, &mut tables.items, at_items);
+    let at_order = section_of(alloc, MOST_SETS, &mut tables.sets, at_sets);
+    let at_constants = section_of(alloc, MOST_ORDER, &mut tables.order, at_order);
+    let at_limits = section_of(alloc, MOST_CONSTANTS, &mut tables.constants, at_constants);
+    let at_texts = limits_of(version, &mut tables.limits, at_limits);
+    let at_globals = section_of(alloc, MOST_TEXTS, &mut tables.texts, at_texts);
+    let at_arrays = section_of(alloc, MOST_GLOBALS, &mut tables.globals, at_globals);
+    let at_messages = arrays_of(alloc, &mut tables.arrays, at_arrays);
+    let at_routines = section_of(alloc, MOST_MESSAGES, &mut tables.messages, at_messages);
+    let at_events = routines_of(alloc, version, &mut tables.routines, at_routines);
+    section_of(alloc, MOST_EVENTS, &mut tables.events, at_events)
 }
 
 /// How many instructions these routines have.

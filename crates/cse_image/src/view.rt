@@ -1,7 +1,7 @@
 //! A program whose code is read in place, from bytes that are borrowed. Code of version 1 is upgraded as
 //! it is read.
 
-ghost use Rattle.std.specs.Prelude.{◌≡◌, ◌<◌, ◌≤◌, take, ◌-◌, List, Some, Ok, IfOk, length, map, slice_get};
+ghost use Rattle.std.specs.Prelude.{◌≡◌, ◌<◌, ◌≤◌, take, ◌-◌, List, Some, Ok, IfOk, OnOk, length, map, slice_get};
 ghost use Rattle.cse_image_parts.specs.Reader.{Gives, GivesFault, each};
 ghost use Rattle.cse_image_parts.specs.declared.instruction.Instr.{Instr as AnInstr};
 ghost use Rattle.cse_image_parts.specs.declared.version.Version.TheVariants as versions;
@@ -9,7 +9,7 @@ ghost use Rattle.cse_image_parts.specs.Fields.{instructions_in};
 ghost use Rattle.cse_image_parts.specs.Image.{Image, lists_of, image_with, routine_lists};
 ghost use Rattle.cse_image_parts.specs.Upgrade.{greater, own_limit, greatest_limit, one_to};
 ghost use Rattle.cse_image.specs.Place.{Answers, placed};
-ghost use Rattle.cse_image.specs.Reading.{instr_at, edition, edition_at, whole_edition as spec_whole_edition, reading};
+ghost use Rattle.cse_image.specs.Reading.{instr_at, edition, edition_at, whole_edition as spec_whole_edition, reading, no_lists};
 ghost use Rattle.cse_image.specs.Spelling.{program_in, StandFor};
 ghost use Rattle.cse_image.specs.View.{code_in, IsCodeOf, program_instr, program_code};
 
@@ -18,7 +18,7 @@ use crate::error::{ImageError, error_within};
 use crate::program::Program;
 use crate::read_code::instr_of;
 use crate::read_shape::header_of;
-use crate::reading::{tables_of, total_of};
+use crate::reading::{no_tables, tables_of, total_of};
 use cse_image_parts::entries::{Routine, Tables};
 use cse_image_parts::instruction::Instr;
 use cse_image_parts::limits::MOST_INSTRUCTIONS;
@@ -165,22 +165,23 @@ fn limits_to(alloc: Global, n: u16) -> Result<Vec<u32>, AllocError>
     Ok(limits)
 }
 
-/// The tables of the program, whose limits in version 1 are those that the code holds.
-fn program_tables(
+/// The tables of an image become those of its program, whose limits in version 1 are those that the code holds.
+fn set_limits(
     alloc: Global,
     version: Version,
-    mut tables: Tables,
+    tables: &mut Tables,
     code: &[u8],
-) -> Result<Tables, AllocError>
+) -> Result<(), AllocError>
     requires { IsCodeOf version (code_in version code.now) code.now }
-    ensures { IfOk result (λ t. lists_of t ≡ (program_in version (image_with tables (code_in version code.now))).lists) }
+    ensures { OnOk result (lists_of tables.new ≡ (program_in version (image_with tables.old (code_in version code.now))).lists) }
 {
     match version {
         Version::One => {
-            tables.limits = limits_to(alloc, greatest_in(code))?;
-            Ok(tables)
+            let limits = limits_to(alloc, greatest_in(code))?;
+            tables.limits = limits;
+            Ok(())
         }
-        Version::Two => Ok(tables),
+        Version::Two => Ok(()),
     }
 }
 
@@ -219,57 +220,67 @@ fn view_code_of<'a>(
     view_code(version, count, bytes)
 }
 
-/// The version, the tables and the code that the bytes begin with, and what follows them.
+/// The version and the code of what the bytes begin with, and what follows it. Its tables are read into those that are lent.
 #[tactic(auto, unfolding(cse_image_parts::specs::Reader::then_at, cse_image_parts::specs::Reader::done, crate::specs::Reading::edition_at))]
-fn parts_of(alloc: Global, bytes: &[u8]) -> Result<((Version, Tables, &[u8]), &[u8]), ReadStop>
-    ensures exact { Gives (λ x. (edition x.0.0 (image_with x.0.1 (code_in x.0.0 x.0.2.now)), x.1.now)) result (edition_at bytes.now) }
-    ensures code { IfOk result (λ x. IsCodeOf x.0.0 (code_in x.0.0 x.0.2.now) x.0.2.now) }
+fn parts_of<'a>(
+    alloc: Global,
+    tables: &mut Tables,
+    bytes: &'a [u8],
+) -> Result<((Version, &'a [u8]), &'a [u8]), ReadStop>
+    requires { lists_of tables.old ≡ no_lists }
+    ensures exact { Gives (λ x. (edition x.0.0 (image_with tables.new (code_in x.0.0 x.0.1.now)), x.1.now)) result (edition_at bytes.now) }
+    ensures code { IfOk result (λ x. IsCodeOf x.0.0 (code_in x.0.0 x.0.1.now) x.0.1.now) }
 {
     let (version, rest) = header_of(bytes)?;
-    let (tables, rest) = tables_of(alloc, version, rest)?;
+    let rest = tables_of(alloc, version, tables, rest)?;
     let (code, rest) = view_code_of(version, &tables.routines, rest)?;
-    Ok(((version, tables, code), rest))
+    Ok(((version, code), rest))
 }
 
 /// All of the bytes are one image.
 #[tactic(auto, unfolding(crate::specs::Reading::whole_edition))]
-fn whole_edition(alloc: Global, bytes: &[u8]) -> Result<(Version, Tables, &[u8]), ReadStop>
-    ensures exact { Gives (λ x. edition x.0 (image_with x.1 (code_in x.0 x.2.now))) result (spec_whole_edition bytes.now) }
-    ensures code { IfOk result (λ x. IsCodeOf x.0 (code_in x.0 x.2.now) x.2.now) }
+fn whole_edition<'a>(
+    alloc: Global,
+    tables: &mut Tables,
+    bytes: &'a [u8],
+) -> Result<(Version, &'a [u8]), ReadStop>
+    requires { lists_of tables.old ≡ no_lists }
+    ensures exact { Gives (λ x. edition x.0 (image_with tables.new (code_in x.0 x.1.now))) result (spec_whole_edition bytes.now) }
+    ensures code { IfOk result (λ x. IsCodeOf x.0 (code_in x.0 x.1.now) x.1.now) }
 {
-    let (parts, rest) = parts_of(alloc, bytes)?;
+    let (parts, rest) = parts_of(alloc, tables, bytes)?;
     if !rest.is_empty() {
         return Err(ReadStop::from(broken(Rule::LeftOver, rest)));
     }
     Ok(parts)
 }
 
-/// The program of tables and code.
-fn as_view<'a>(
+/// The code of the program, whose tables are read into those that are lent.
+#[tactic(auto, unfolding(crate::specs::Reading::reading))]
+fn code_of<'a>(
     alloc: Global,
-    version: Version,
-    tables: Tables,
-    code: &'a [u8],
-) -> Result<(Tables, CodeView<'a>), AllocError>
-    requires { IsCodeOf version (code_in version code.now) code.now }
-    ensures { IfOk result (λ x. image_with x.0 x.1 ≡ program_in version (image_with tables (code_in version code.now))) }
+    tables: &mut Tables,
+    bytes: &'a [u8],
+) -> Result<CodeView<'a>, ReadStop>
+    requires { lists_of tables.old ≡ no_lists }
+    ensures { Gives (λ x. image_with tables.new x) result (reading bytes.now) }
 {
-    let tables = program_tables(alloc, version, tables, code)?;
-    Ok((
-        tables,
-        CodeView {
-            version,
-            bytes: code,
-        },
-    ))
+    let (version, code) = whole_edition(alloc, tables, bytes)?;
+    set_limits(alloc, version, tables, code)?;
+    Ok(CodeView {
+        version,
+        bytes: code,
+    })
 }
 
-#[tactic(auto, unfolding(crate::specs::Reading::reading))]
 fn whole_view(alloc: Global, bytes: &[u8]) -> Result<(Tables, CodeView), ReadStop>
     ensures { Gives (λ x. image_with x.0 x.1) result (reading bytes.now) }
 {
-    let (version, tables, code) = whole_edition(alloc, bytes)?;
-    Ok(as_view(alloc, version, tables, code)?)
+    let mut tables = no_tables(alloc);
+    match code_of(alloc, &mut tables, bytes) {
+        Ok(code) => Ok((tables, code)),
+        Err(stop) => Err(stop),
+    }
 }
 
 /// The program that the bytes spell, with its code read in place: what `read_image` gives. The bytes
