@@ -26,7 +26,7 @@ use crate::{Columns, Lines, Run};
 use cse_dict::Unseen;
 use cse_value::shape::{ID_OWNER, ItemKind, ItemShape};
 use cse_value::{Failed, Gatherer, Num, Output, Text};
-use std::alloc::{AllocError, Global};
+use std::alloc::AllocError;
 use std::marker::Model;
 
 /// A case: consecutive lines with equal id columns (CSPro Users Guide, data files), with the occurrences of
@@ -85,7 +85,6 @@ impl<'a> Case<'a> {
     /// The case of a run, of which the id columns lie with the table. Its occurrences are counted in `counts`, and its table
     /// is filled anew.
     pub(crate) fn new(
-        alloc: Global,
         items: Items<'a>,
         counts: &mut Vec<u16>,
         table: Box<Table>,
@@ -102,7 +101,6 @@ impl<'a> Case<'a> {
         };
         let mut table = table;
         fill_table(
-            alloc,
             &mut table,
             counts,
             &items.dictionary().shape().records,

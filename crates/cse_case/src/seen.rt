@@ -1,6 +1,6 @@
 //! Which lines of a run are seen, and as which occurrence of their record.
 
-ghost use Rattle.std.specs.Prelude.{◌≡◌, ◌≤◌, ◌<◌, ◌+◌, ◌++◌, ◌∷◌, [], ◌^◌, ℕ, List, Option, IfOk, IfSome, OnOk, map, replicate, take, length, slice_index, true, false, vec_len};
+ghost use Rattle.std.specs.Prelude.{◌≡◌, ◌≤◌, ◌<◌, ◌+◌, ◌++◌, ◌∷◌, [], ◌^◌, ℕ, List, Option, IfOk, IfSome, OnOk, map, replicate, take, length, slice_index, true, false};
 ghost use Rattle.cse_case.specs.Seen.{is_of, places_from, unseen_after, unseen_of};
 ghost use Rattle.cse_case.specs.Table.{AreCounts, AreSeen, AreSpans, IsTable, first_at, type_at, types_in};
 ghost use Rattle.cse_case.specs.Found.{GoesOnWith, IsFound, IsLonger};
@@ -9,16 +9,6 @@ use crate::Line;
 use cse_dict::Unseen;
 use cse_value::shape::RecordShape;
 use std::alloc::{AllocError, Global};
-use std::mem;
-
-/// The vector without its elements, in the memory that it has.
-fn emptied<T: Drop>(mut room: Vec<T>) -> Vec<T>
-    ensures items { result.items ≡ [] }
-    ensures len { vec_len result ≡ 0 }
-{
-    room.clear();
-    room
-}
 
 /// The occurrences of a record: where they begin in the table, and how many there are.
 #[derive(Clone, Copy)]
@@ -44,29 +34,29 @@ fn count_line(records: &[RecordShape], counts: &mut [u16], line: Option<u16>) ->
     Some(Unseen::Extra)
 }
 
-/// Counts how many occurrences each record has, in place of what was counted before, and tells the unseen
-/// lines, in this room; the first of all lines has this number.
+/// Counts how many occurrences each record has, in place of what was counted before, and lists the unseen
+/// lines, in place of others; the first of all lines has this number.
 fn count_lines(
-    room: Vec<(u64, Unseen)>,
+    unseen: &mut Vec<(u64, Unseen)>,
     counts: &mut Vec<u16>,
     records: &[RecordShape],
     lines: &[Line],
     number: u64,
-) -> Result<Vec<(u64, Unseen)>, AllocError>
+) -> Result<(), AllocError>
     requires { number + length lines.now < 2 ^ 64 }
     ensures counts { OnOk result (AreCounts records.now (types_in lines.now) counts.new.items) }
-    ensures unseen { IfOk result (λ v. v.items ≡ unseen_of records.now number (types_in lines.now)) }
+    ensures unseen { OnOk result (unseen.new.items ≡ unseen_of records.now number (types_in lines.now)) }
 {
     counts.clear();
     counts.resize(records.len(), 0)?;
-    let mut unseen = emptied(room);
-    'lines: for (i, line) in lines.iter().enumerate() {
-        match count_line(records, counts, line.record_number) {
+    unseen.clear();
+    'lines: for i in 0..lines.len() {
+        match count_line(records, counts, lines[i].record_number) {
             Some(why) => unseen.push((number + i as u64, why))?,
             None => {}
         }
     }
-    Ok(unseen)
+    Ok(())
 }
 
 /// Whether the line is one of the record's.
@@ -101,28 +91,26 @@ fn place_record(
     Ok(())
 }
 
-/// Where the occurrences of each record begin, in this room.
+/// Lists where the occurrences of each record begin, in place of others.
 fn place_lines(
-    span_room: Vec<OccurrenceSpan>,
-    first_room: Vec<usize>,
+    spans: &mut Vec<OccurrenceSpan>,
+    firsts: &mut Vec<usize>,
     lines: &[Line],
     counts: &[u16],
-) -> Result<(Vec<OccurrenceSpan>, Vec<usize>), AllocError>
+) -> Result<(), AllocError>
     requires { (r : ℕ) → r < length counts.now → slice_index counts.now r ≤ length (places_from 0 r (types_in lines.now)) }
-    ensures size { IfOk result (λ p. length p.0.items ≡ length counts.now) }
-    ensures spans { IfOk result (λ p. AreSpans lines.now counts.now p.1.items p.0.items) }
+    ensures size { OnOk result (length spans.new.items ≡ length counts.now) }
+    ensures spans { OnOk result (AreSpans lines.now counts.now firsts.new.items spans.new.items) }
 {
-    let mut spans = emptied(span_room);
-    let mut firsts = emptied(first_room);
-    'records: for (number, count) in counts.iter().enumerate() {
+    spans.clear();
+    firsts.clear();
+    'records: for number in 0..counts.len() {
         let start = firsts.len();
-        place_record(&mut firsts, lines, number, *count)?;
-        spans.push(OccurrenceSpan {
-            start,
-            count: *count,
-        })?;
+        let count = counts[number];
+        place_record(firsts, lines, number, count)?;
+        spans.push(OccurrenceSpan { start, count })?;
     }
-    Ok((spans, firsts))
+    Ok(())
 }
 
 /// What a line is found to be in the table of its run.
@@ -288,7 +276,6 @@ impl Table {
 /// the lines of each record together, and are gone through once. For the others the lines are counted first, anew
 /// in the memory that the counts have.
 pub fn fill_table(
-    alloc: Global,
     table: &mut Table,
     counts: &mut Vec<u16>,
     records: &[RecordShape],
@@ -309,19 +296,6 @@ pub fn fill_table(
     if see_lines(spans, firsts, unseen, records, lines, number)? {
         return Ok(());
     }
-    let Table {
-        spans,
-        firsts,
-        unseen,
-        ids,
-    } = mem::replace(table, Table::new(alloc));
-    let unseen = count_lines(unseen, counts, records, lines, number)?;
-    let (spans, firsts) = place_lines(spans, firsts, lines, counts)?;
-    *table = Table {
-        spans,
-        firsts,
-        unseen,
-        ids,
-    };
-    Ok(())
+    count_lines(unseen, counts, records, lines, number)?;
+    place_lines(spans, firsts, lines, counts)
 }

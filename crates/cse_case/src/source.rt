@@ -188,6 +188,6 @@ impl<'a> Source<'a> {
             None => Box::new(alloc, Table::new(alloc))?,
         };
         self.put_ids(alloc, &mut table.ids, run.columns(0))?;
-        Case::new(alloc, self.items.again(), &mut self.counts, table, run)
+        Case::new(self.items.again(), &mut self.counts, table, run)
     }
 }

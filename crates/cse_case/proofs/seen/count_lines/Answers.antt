@@ -9,15 +9,14 @@ use Rattle.cse_case.specs.Table.{AreCounts, types_in}
 use Rattle.cse_case.proofs.seen.count_lines.Goals as goal
 use Rattle.cse_case.proofs.seen.count_lines.Goals.{in-Some+in_ok-push-in-Some, in-None}
 
-zeros : (c : goal.After-emptied-unseen) → c.resize.new.self.items ≡ replicate (length c.args.records.now) 0
-zeros c = search rules
-
 pub lines-init : goal.lines-init
 unfolding unseen_of
-lines-init c = record {
-  counts = rw (zeros c) (AreCounts-none c.args.records.now (length c.args.records.now) refl);
-  unseen = rw (c.emptied-unseen.ensures.items, add-zero) refl;
-}
+lines-init c =
+    let zeros : c.resize.new.self.items ≡ replicate (length c.args.records.now) 0 = search rules in
+    record {
+      counts = rw zeros (AreCounts-none c.args.records.now (length c.args.records.now) refl);
+      unseen = rw (c.clear-2.ensures.items, add-zero) refl;
+    }
 
 pub lines-preserved : goal.lines-preserved
 lines-preserved c =
