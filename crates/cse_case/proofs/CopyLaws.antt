@@ -1,10 +1,28 @@
 -- Laws of lists that are written over in two pieces that overlap.
 use Rattle.std.proofs.Common.{◌≡◌, ℕ, ◌+◌, ◌-◌, ◌≤◌, List, [], ◌++◌, length, take, drop, ap, sym, ◌∙◌, arith, append-nil, drop-drop, length-append, length-drop, length-take-le, take-append-drop}
-use Rattle.std.proofs.lemmas.List.{drop_at, take-append-le, take_all}
+use Rattle.std.specs.Global.{Vec}
+use Rattle.std.specs.Vec.{with_items}
+use Rattle.std.proofs.lemmas.List.{drop_at, take-append-le, take_all, with_items_is}
 use Rattle.std.proofs.Math.ListN.{drop_of_length-le}
 use Rattle.cse_case.specs.Bytes.{reaching}
 use Rattle.cse_case.specs.Run.{with_columns}
+use Rattle.cse_case.proofs.LaidLaws.{length-with_columns}
 use Rattle.cse_case.proofs.ShortLaws.{with_further}
+
+-- a part that was written over
+pub put_there : (at end : ℕ) (columns new field : List ℕ) → new ≡ field → end ≡ at + length field → take at columns ++ (new ++ drop (end - at) (drop at columns)) ≡ with_columns at field columns
+put_there at end columns new field is ends =
+    let n : end - at ≡ length field = omega (arith, ends) in
+    ap (λ l. take at columns ++ (l ++ drop (end - at) (drop at columns))) is
+    ∙ ap (λ k. take at columns ++ (field ++ drop k (drop at columns))) n
+    ∙ ap (λ l. take at columns ++ (field ++ l)) (drop-drop (length field) at columns)
+
+-- the same of a vector
+pub put_there_in : (v : Vec ℕ) (at end : ℕ) (lent new field : List ℕ) → lent ≡ v.items → new ≡ field → end ≡ at + length field → end ≤ length v.items
+    → (with_items v (take at lent ++ (new ++ drop (end - at) (drop at lent)))).items ≡ with_columns at field v.items
+put_there_in v at end lent new field same is ends fits =
+    let e = put_there at end lent new field is ends ∙ ap (with_columns at field) same in
+    with_items_is v (take at lent ++ (new ++ drop (end - at) (drop at lent))) (ap length e ∙ length-with_columns at field v.items (omega (arith, ends, fits)) ∙ sym v.ok.0) ∙ e
 
 -- the last ones, and then the first ones
 pub two_ends : (n last : ℕ) (text columns : List ℕ) → last ≡ length text - n → n ≤ length text → length text ≤ n + n → length columns ≡ length text

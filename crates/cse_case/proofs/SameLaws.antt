@@ -21,6 +21,10 @@ ascii_mask text n mask len m none k = elim (cases_lt k n) [
   | inr h ↦ rw (get_or_past text k 0 (omega (arith, len))) (omega arith)
 ]
 
+-- the same of bytes that are looked at all at once
+pub all_ascii : (text : List ℕ) (n mask : ℕ) → length text ≡ n → mask ≡ mask_l (map is_set (take n text)) → eqb mask 0 ≡ true → IsAscii text
+all_ascii text n mask len m none = ascii_mask text n mask len (m ∙ ap (λ l. mask_l (map is_set l)) (take_all n text (omega (arith, len)))) (eqb-true _ _ none)
+
 -- so many bytes here, and as many there
 abbrev pub both : ℕ → List ℕ → List ℕ → List ℕ
 both n a b = zip2 bit_or (take n a) (take n b)

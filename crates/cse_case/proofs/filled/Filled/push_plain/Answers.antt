@@ -1,4 +1,5 @@
-use Rattle.std.proofs.Common.{◌≡◌, ◌≤◌, ◌+◌, ◌-◌, ◌++◌, ◌∙◌, max, ap, sym, take, length, arith}
+use Rattle.std.proofs.lemmas.Bool.{false≢true}
+use Rattle.std.proofs.Common.{◌≡◌, ◌≤◌, ◌+◌, ◌-◌, ◌++◌, ◌∙◌, max, ap, sym, take, length, arith, refl}
 use Rattle.cse_case.specs.Bytes.{columns_by}
 use Rattle.cse_case.specs.NamedColumns.{padded}
 use Rattle.cse_case.specs.Run.{with_columns}
@@ -38,3 +39,27 @@ returns-else-is_plain-clause-same c plain =
     sym (take-columns_by at new beside)
     ∙ ap (λ l. columns_by l beside) (ap (take at) c.put_between-is_plain.ensures.bytes ∙ take_before at _ bytes (omega (arith, c.self.invariant.0, c.fill_up.ensures.wide)))
     ∙ take-columns_by at bytes beside ∙ c.fill_up.ensures.same at c.self.invariant.0 ∙ c.self.view_is
+
+pub returns-in_default-clause-pushed : goal.returns-in_default-clause-pushed
+returns-in_default-clause-pushed c = λ e. absurd (false≢true e)
+
+pub returns-in_default-clause-plain : goal.returns-in_default-clause-plain
+returns-in_default-clause-plain c = λ e. absurd (false≢true e)
+
+pub returns-in_default-fill_up-clause-pushed : goal.returns-in_default-fill_up-clause-pushed
+returns-in_default-fill_up-clause-pushed c = λ e. absurd (false≢true e)
+
+pub returns-in_default-fill_up-clause-plain : goal.returns-in_default-fill_up-clause-plain
+returns-in_default-fill_up-clause-plain c = λ e. absurd (false≢true e)
+
+pub returns-in_default-clause-same : goal.returns-in_default-clause-same
+returns-in_default-clause-same c = λ _. refl
+
+pub fill_up-requires : goal.fill_up-requires
+fill_up-requires c = c.self.invariant.1
+
+pub returns-in_default-fill_up-clause-same : goal.returns-in_default-fill_up-clause-same
+returns-in_default-fill_up-clause-same c = λ _. c.fill_up.ensures.same c.self.inside.len c.self.invariant.0 ∙ c.self.view_is
+
+pub put_between-is_plain-requires-clause-room : goal.put_between-is_plain-requires-clause-room
+put_between-is_plain-requires-clause-room c = c.in-Ok.ensures.room

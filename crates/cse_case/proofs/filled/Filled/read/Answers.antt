@@ -1,3 +1,4 @@
+use Rattle.std.proofs.lemmas.Result.{IfOk-from_err}
 use Rattle.std.proofs.Common.{◌≡◌, ◌≤◌, ◌+◌, ◌-◌, ◌∙◌, max, ap, sym, take, length, arith}
 use Rattle.std.proofs.lemmas.Str.{IsUtf8-from_ascii, chars-IsAscii, is_utf8-from_IsUtf8}
 use Rattle.std.specs.Str.{chars}
@@ -38,3 +39,15 @@ put_between-requires-clause-wide c =
 pub put_beyond_in-requires-clause-fits : goal.put_beyond_in-requires-clause-fits
 put_beyond_in-requires-clause-fits c =
     omega (arith, c.in_ok-reach.ensures, ap length c.self.view_is, taken_len c.self.inside.len c.self.inside.own.bytes.items c.self.inside.own.beside.items c.self.invariant.0)
+
+pub returns-in_err-reach-clause-columns : goal.returns-in_err-reach-clause-columns
+returns-in_err-reach-clause-columns c = IfOk-from_err c.from_residual.result _ c.from_residual.ensures.0
+
+pub returns-in_err-reach-clause-utf8 : goal.returns-in_err-reach-clause-utf8
+returns-in_err-reach-clause-utf8 c = IfOk-from_err c.from_residual.result _ c.from_residual.ensures.0
+
+pub returns-clause-utf8 : goal.returns-clause-utf8
+returns-clause-utf8 c = c.put_beyond_in.ensures.utf8
+
+pub returns-clause-err : goal.returns-clause-err
+returns-clause-err c = c.put_beyond_in.ensures.err

@@ -1,0 +1,41 @@
+use Rattle.std.proofs.Common.{arith}
+use Rattle.cse_case.proofs.next.next_by_layout.Goals as goal
+
+pub returns-clause-next : goal.returns-clause-next
+returns-clause-next g c = c.next_run.ensures.next
+
+pub returns-clause-rests : goal.returns-clause-rests
+returns-clause-rests g c = c.next_run.ensures.rests
+
+pub returns-clause-few_reads : goal.returns-clause-few_reads
+returns-clause-few_reads g c = c.next_run.ensures.few_reads
+
+pub returns-clause-end : goal.returns-clause-end
+returns-clause-end g c = c.next_run.ensures.end
+
+pub returns-clause-failed : goal.returns-clause-failed
+returns-clause-failed g c = c.next_run.ensures.failed
+
+pub returns-clause-works : goal.returns-clause-works
+returns-clause-works g c = c.next_run.ensures.works
+
+pub returns-clause-sound : goal.returns-clause-sound
+returns-clause-sound g c = c.next_run.ensures.sound
+
+pub next_run-requires-clause-rests : goal.next_run-requires-clause-rests
+next_run-requires-clause-rests g c = c.requires.rests
+
+pub next_run-requires-clause-end : goal.next_run-requires-clause-end
+next_run-requires-clause-end g c = c.requires.end
+
+pub keep_layout-requires : goal.keep_layout-requires
+keep_layout-requires g c = c.requires.layout
+
+pub returns-in_default-clause-end : goal.returns-in_default-clause-end
+returns-in_default-clause-end g c = c.requires.end
+
+pub returns-in_default-keep_lines-clause-end : goal.returns-in_default-keep_lines-clause-end
+returns-in_default-keep_lines-clause-end g c = c.requires.end
+
+pub returns-in_default-keep_lines-clause-failed : goal.returns-in_default-keep_lines-clause-failed
+returns-in_default-keep_lines-clause-failed g c = λ e. absurd (omega (arith, c.error-in_default-keep_lines.ensures.number, e))
