@@ -2,3 +2,4 @@ pub mod Changes
 pub mod Files
 pub mod Apart
 pub mod Roles
+pub mod Readers

@@ -1,7 +1,9 @@
 //! Two files, side by side.
 
 ghost use Rattle.std.specs.Prelude.{true, ◌≡◌, ◌<◌, ◌≤◌, ◌+◌, ◌*◌, ◌^◌, None, IfErr, IfOk, OnOk, length, replicate};
+ghost use Rattle.cse_dict.specs.Dictionary.{shape_of};
 ghost use Rattle.cse_office.specs.Changes.{AreAlike, AreChanges, AreFew, AreLikes, AreSeen, first_apart, no_count};
+ghost use Rattle.cse_office.specs.Readers.{IsNew};
 ghost use Rattle.cse_office.specs.Files.{IfApart, IfSeenApart, IsApartIn, IsCompared, Stops, StopsSeen};
 
 use crate::alike::{MOST_KNOWN, are_alike};
@@ -138,6 +140,65 @@ fn see_runs<W: Watch>(
     }
 }
 
+/// Counts the runs of both files, by new readers and from counts of nothing, as `compare_seen` tells it.
+fn count_runs<R: Input, S: Input, W: Watch>(
+    records: &[RecordShape],
+    items: &[ItemShape],
+    read: &mut R,
+    written: &mut S,
+    watcher: &mut W,
+    reader: &mut RunReader<'_>,
+    other: &mut RunReader<'_>,
+    seen: &mut [u64],
+    counts: &mut [Count],
+) -> Result<(), SeenFault<W::Fault>>
+    requires reader { IsNew reader.old }
+    requires other { IsNew other.old }
+    requires same { other.old.dictionary ≡ reader.old.dictionary }
+    requires records { records.now ≡ (shape_of reader.old.dictionary).records }
+    requires items { items.now ≡ (shape_of reader.old.dictionary).items }
+    requires seen { seen.old ≡ replicate (length records.now) 0 }
+    requires counts { counts.old ≡ replicate (length items.now) no_count }
+    ensures ok { OnOk result
+        (IsCompared reader.old.dictionary (R.given read.old) (R.given read.new) (S.given written.old) (S.given written.new) counts.new) }
+    ensures stops { IfErr result
+        (StopsSeen reader.old.dictionary (R.given read.old) (R.given read.new) (S.given written.old) (S.given written.new)) }
+{
+    let mut lines = 0u64;
+    'runs: loop {
+        match reader.next(read) {
+            Err(error) => return Err(SeenFault::Compare(CompareFault::Data(error))),
+            Ok(None) => match other.next(written) {
+                Err(error) => return Err(SeenFault::Compare(CompareFault::Out(error))),
+                Ok(None) => {
+                    put_occurrences(items, seen, lines, counts);
+                    return Ok(());
+                }
+                Ok(Some(_)) => {
+                    let line = lines + 1;
+                    return Err(SeenFault::Compare(CompareFault::Apart { line }));
+                }
+            },
+            Ok(Some(before)) => match other.next(written) {
+                Err(error) => return Err(SeenFault::Compare(CompareFault::Out(error))),
+                Ok(None) => {
+                    let line = lines + 1;
+                    return Err(SeenFault::Compare(CompareFault::Apart { line }));
+                }
+                Ok(Some(after)) => {
+                    let added = see_runs(
+                        records, items, before, after, lines, seen, counts, watcher, reader, other,
+                    );
+                    match added {
+                        Ok(len) => lines += len,
+                        Err(fault) => return Err(fault),
+                    }
+                }
+            },
+        }
+    }
+}
+
 /// Counts each item in a file that was read and one that was written in its place, as `compare` does, and lets a watcher see
 /// each two runs whose lines pair up, once they are counted. Its own fault stops the comparison.
 pub fn compare_seen<R: Input, S: Input, W: Watch>(
@@ -156,47 +217,20 @@ pub fn compare_seen<R: Input, S: Input, W: Watch>(
     let mut seen = no_numbers(alloc, shape.records.len())?;
     let mut reader = RunReader::new(alloc, dictionary);
     let mut other = RunReader::new(alloc, dictionary);
-    let mut lines = 0u64;
-    'runs: loop {
-        match reader.next(read) {
-            Err(error) => return Err(SeenFault::Compare(CompareFault::Data(error))),
-            Ok(None) => match other.next(written) {
-                Err(error) => return Err(SeenFault::Compare(CompareFault::Out(error))),
-                Ok(None) => {
-                    put_occurrences(&shape.items, &seen, lines, &mut counts);
-                    return Ok(counts);
-                }
-                Ok(Some(_)) => {
-                    let line = lines + 1;
-                    return Err(SeenFault::Compare(CompareFault::Apart { line }));
-                }
-            },
-            Ok(Some(before)) => match other.next(written) {
-                Err(error) => return Err(SeenFault::Compare(CompareFault::Out(error))),
-                Ok(None) => {
-                    let line = lines + 1;
-                    return Err(SeenFault::Compare(CompareFault::Apart { line }));
-                }
-                Ok(Some(after)) => {
-                    let added = see_runs(
-                        &shape.records,
-                        &shape.items,
-                        before,
-                        after,
-                        lines,
-                        &mut seen,
-                        &mut counts,
-                        watcher,
-                        &mut reader,
-                        &mut other,
-                    );
-                    match added {
-                        Ok(len) => lines += len,
-                        Err(fault) => return Err(fault),
-                    }
-                }
-            },
-        }
+    let outcome = count_runs(
+        &shape.records,
+        &shape.items,
+        read,
+        written,
+        watcher,
+        &mut reader,
+        &mut other,
+        &mut seen,
+        &mut counts,
+    );
+    match outcome {
+        Ok(()) => Ok(counts),
+        Err(fault) => Err(fault),
     }
 }
 
