@@ -1,5 +1,7 @@
 //! How often each change was made: from which value of an item to which.
 
+ghost use Rattle.std.specs.Prelude.{◌≤◌, length};
+
 use std::alloc::{AllocError, Global};
 use std::collections::HashMap;
 
@@ -9,6 +11,9 @@ const MOST_BYTES: usize = 8_388_608;
 
 /// What a kind takes beside its values.
 const BESIDE: usize = 64;
+
+/// How many bytes of a key are the item.
+const ITEM: usize = 8;
 
 /// How often each change was made. Its key is the item, in 8 bytes, and the values with a line feed between them, which no value
 /// has.
@@ -33,6 +38,15 @@ impl Drop for Kinds {
     }
 }
 
+/// A kind of a key and a count: the item, how far the count is from the greatest number, and the values.
+fn kind_of(key: &[u8], times: u64) -> (u64, u64, &[u8])
+    requires { 8 ≤ length key.now }
+{
+    let mut item = [0u8; ITEM];
+    item.copy_from_slice(&key[..ITEM]);
+    (u64::from_be_bytes(item), u64::MAX - times, &key[ITEM..])
+}
+
 impl Kinds {
     /// No changes.
     pub fn new(alloc: Global) -> Kinds {
@@ -45,17 +59,18 @@ impl Kinds {
         }
     }
 
+    /// Adds to the key.
+    fn put(&mut self, part: &[u8]) {
+        self.lacks_memory |= self.key.extend_from_slice(part).is_err();
+    }
+
     /// Makes the key of a change.
     fn make_key(&mut self, item: usize, before: &str, after: &str) {
         self.key.clear();
-        for part in [
-            (item as u64).to_be_bytes().as_slice(),
-            before.as_bytes(),
-            b"\n",
-            after.as_bytes(),
-        ] {
-            self.lacks_memory |= self.key.extend_from_slice(part).is_err();
-        }
+        self.put(&(item as u64).to_be_bytes());
+        self.put(before.as_bytes());
+        self.put(b"\n");
+        self.put(after.as_bytes());
     }
 
     /// Adds the kind of the key.
@@ -81,17 +96,24 @@ impl Kinds {
         }
     }
 
+    /// Adds all kinds. Answers whether memory lacks.
+    fn add_all<'s>(&'s self, all: &mut Vec<(u64, u64, &'s [u8])>) -> bool {
+        let mut lacks_memory = false;
+        for (key, times) in self.times.iter() {
+            if key.len() >= ITEM {
+                lacks_memory |= all.push(kind_of(key, *times)).is_err();
+            }
+        }
+        lacks_memory
+    }
+
     /// All kinds, by item, and of each item the most frequent first: the item, how far its count is from the greatest number,
     /// and the values.
     pub fn sorted(&self) -> Result<Vec<(u64, u64, &[u8])>, AllocError> {
         let mut sorted = Vec::new(self.alloc);
-        for (key, times) in self.times.iter() {
-            if let [a, b, c, d, e, f, g, h, values @ ..] = key.as_slice() {
-                let item = u64::from_be_bytes([*a, *b, *c, *d, *e, *f, *g, *h]);
-                sorted.push((item, u64::MAX - *times, values))?;
-            }
+        if self.add_all(&mut sorted) || sorted.sort().is_err() {
+            return Err(AllocError);
         }
-        sorted.sort()?;
         Ok(sorted)
     }
 }

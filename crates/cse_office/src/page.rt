@@ -12,6 +12,23 @@ th,td{padding:.12rem .5rem;vertical-align:middle}td{border-bottom:1px solid #e3e
 .b .o{background:#b9b9b9}.b div+div{margin-top:1px}.t{color:#555}summary{cursor:pointer;font-weight:600;margin:.5rem 0}
 .two{display:grid;grid-template-columns:repeat(auto-fill,minmax(min(26rem,100%),1fr));gap:1.5rem}";
 
+/// How a cell of a table begins.
+fn opening_of(cell: Cell<'_>) -> &'static str {
+    match cell {
+        Cell::Number(_) | Cell::Percent(_) => "<td class=n>",
+        Cell::Bar(_) | Cell::Bars(..) => "<td class=b>",
+        _ => "<td>",
+    }
+}
+
+/// How it ends.
+fn closing_of(cell: Cell<'_>) -> &'static str {
+    match cell {
+        Cell::Percent(_) => " %</td>",
+        _ => "</td>",
+    }
+}
+
 impl Text {
     /// Writes the head of a page.
     pub fn put_head(&mut self, title: &str) {
@@ -63,15 +80,10 @@ impl Text {
     /// Writes cells of a table, side by side.
     pub fn put_cells(&mut self, cells: &[Cell<'_>]) {
         for cell in cells {
-            let (before, behind) = match cell {
-                Cell::Number(_) => ("<td class=n>", "</td>"),
-                Cell::Percent(_) => ("<td class=n>", " %</td>"),
-                Cell::Bar(_) | Cell::Bars(..) => ("<td class=b>", "</td>"),
-                _ => ("<td>", "</td>"),
-            };
-            self.put(before);
-            self.put_inside(*cell);
-            self.put(behind);
+            let cell = *cell;
+            self.put(opening_of(cell));
+            self.put_inside(cell);
+            self.put(closing_of(cell));
         }
     }
 

@@ -34,6 +34,23 @@ impl Drop for Given {
     }
 }
 
+impl Given {
+    /// Whether it is the message of a number and, without a number, of a text.
+    fn is_message(&self, number: u64, text: &str) -> bool {
+        self.number == number && (number > 0 || self.text.as_str() == text)
+    }
+}
+
+/// The place of a message among those that were given; of one that was not the place behind the last.
+fn message_place(messages: &[Given], number: u64, text: &str) -> usize {
+    for place in 0..messages.len() {
+        if messages[place].is_message(number, text) {
+            return place;
+        }
+    }
+    messages.len()
+}
+
 /// An item that was imputed: its name, how often, and its values with how often each, in order. A value is told by whether
 /// it is special, by its number, and as it stands.
 pub struct Imputed {
@@ -61,6 +78,43 @@ enum Part {
     FrequenciesHeading,
     Frequencies,
     Ended,
+}
+
+/// What a line between the heading and the summary is.
+#[derive(Clone, Copy)]
+enum Body {
+    /// The heading of the summary.
+    Summary,
+    /// A line of no record.
+    Unknown,
+    /// A line past the most occurrences of its record.
+    Extra,
+    /// Another one that may stand there.
+    Told,
+    /// One that may not.
+    Wrong,
+}
+
+/// What a line is that tells an unseen line.
+fn unseen_of(line: &str) -> Body {
+    if line.ends_with(" unknown") {
+        Body::Unknown
+    } else if line.ends_with(" extra") {
+        Body::Extra
+    } else {
+        Body::Wrong
+    }
+}
+
+/// What a line between the heading and the summary is.
+fn body_of(line: &str) -> Body {
+    match line {
+        "SUMMARY" => Body::Summary,
+        "RUN" => Body::Told,
+        _ if line.starts_with("U ") => unseen_of(line),
+        _ if line.starts_with("CASE [") || line.starts_with("M ") => Body::Told,
+        _ => Body::Wrong,
+    }
 }
 
 /// What was read so far.
@@ -103,8 +157,13 @@ fn count_of(text: &str) -> Option<u64> {
 
 /// A word, and a count behind a blank.
 fn word_and_count(line: &str) -> Option<(&str, u64)> {
-    let (word, times) = line.split_once(' ')?;
-    Some((word, count_of(times)?))
+    let Some((word, times)) = line.split_once(' ') else {
+        return None;
+    };
+    let Some(count) = count_of(times) else {
+        return None;
+    };
+    Some((word, count))
 }
 
 /// A line can't be read: want of memory, bytes that are no text, or a device that failed.
@@ -140,20 +199,14 @@ impl Report {
 
     /// Reads a line between the heading and the summary. Tells whether it may stand there.
     fn read_body(&mut self, line: &str) -> bool {
-        if line == "SUMMARY" {
-            self.part = Part::Totals;
-            return true;
+        match body_of(line) {
+            Body::Summary => self.part = Part::Totals,
+            Body::Unknown => self.unknown = self.unknown.saturating_add(1),
+            Body::Extra => self.extra = self.extra.saturating_add(1),
+            Body::Told => {}
+            Body::Wrong => return false,
         }
-        let is_unseen = line.starts_with("U ");
-        let is_unknown = is_unseen && line.ends_with(" unknown");
-        let is_extra = is_unseen && line.ends_with(" extra");
-        self.unknown = self.unknown.saturating_add(u64::from(is_unknown));
-        self.extra = self.extra.saturating_add(u64::from(is_extra));
-        is_unknown
-            || is_extra
-            || line == "RUN"
-            || line.starts_with("CASE [")
-            || line.starts_with("M ")
+        true
     }
 
     /// Adds a message.
@@ -169,13 +222,11 @@ impl Report {
 
     /// Counts a message: those of one number and, without a number, of one text are one.
     fn count_message(&mut self, number: u64, times: u64, text: &str) {
-        for given in self.messages.iter_mut() {
-            if given.number == number && (number > 0 || given.text.as_str() == text) {
-                given.times = given.times.saturating_add(times);
-                return;
-            }
+        let place = message_place(&self.messages, number, text);
+        match self.messages.get_mut(place) {
+            Some(given) => given.times = given.times.saturating_add(times),
+            None => self.lacks_memory |= self.add_message(number, times, text).is_err(),
         }
-        self.lacks_memory |= self.add_message(number, times, text).is_err();
     }
 
     /// Reads what stands behind the word `message`: a number, a count, and a text or none. Tells whether it does.
@@ -193,22 +244,31 @@ impl Report {
         }
     }
 
-    /// Reads a line of the summary. Tells whether it may stand there.
-    fn read_total(&mut self, line: &str) -> bool {
-        if line == "END" {
-            self.part = Part::Ended;
-            return true;
-        }
-        if let Some(rest) = line.strip_prefix("message ") {
-            return self.read_message(rest);
-        }
+    /// Reads a total. Tells whether it is one.
+    fn read_count(&mut self, line: &str) -> bool {
         match word_and_count(line) {
-            Some(("cases", count)) => self.cases = count,
-            Some(("lines", count)) => self.lines = count,
-            Some(("unseen", _)) => {}
+            Some((word, count)) => self.put_total(word, count),
+            None => false,
+        }
+    }
+
+    /// Takes a total. Tells whether it is one.
+    fn put_total(&mut self, word: &str, count: u64) -> bool {
+        match word {
+            "cases" => self.cases = count,
+            "lines" => self.lines = count,
+            "unseen" => {}
             _ => return false,
         }
         true
+    }
+
+    /// Reads a line of the summary. Tells whether it may stand there.
+    fn read_total(&mut self, line: &str) -> bool {
+        match line.strip_prefix("message ") {
+            Some(rest) => self.read_message(rest),
+            None => self.read_count(line),
+        }
     }
 
     /// Adds an item that was imputed.
@@ -240,10 +300,6 @@ impl Report {
 
     /// Reads a line of frequencies. Tells whether it may stand there.
     fn read_frequency(&mut self, line: &str) -> bool {
-        if line == "END" {
-            self.part = Part::Ended;
-            return true;
-        }
         let item = line.strip_prefix("ITEM ");
         let Some((word, times)) = word_and_count(item.unwrap_or(line)) else {
             return false;
@@ -263,6 +319,10 @@ impl Report {
                 line == "CSEB LISTING 1"
             }
             Part::Body => self.read_body(line),
+            Part::Totals | Part::Frequencies if line == "END" => {
+                self.part = Part::Ended;
+                true
+            }
             Part::Totals => self.read_total(line),
             Part::FrequenciesHeading => {
                 self.part = Part::Frequencies;
@@ -290,7 +350,9 @@ impl Report {
         let mut number = 0u64;
         for line in input.lines(self.alloc) {
             number = number.saturating_add(1);
-            self.take(line, form, number)?;
+            if let Err(trouble) = self.take(line, form, number) {
+                return Err(trouble);
+            }
         }
         Ok(number)
     }

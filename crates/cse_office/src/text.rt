@@ -33,6 +33,17 @@ pub fn share(part: u64, whole: u64) -> u64 {
     part.saturating_mul(10_000).saturating_add(whole / 2) / whole
 }
 
+/// How a character is written that has a meaning in HTML; of another one nothing.
+fn escaped(character: char) -> &'static str {
+    match character {
+        '&' => "&amp;",
+        '<' => "&lt;",
+        '>' => "&gt;",
+        '"' => "&quot;",
+        _ => "",
+    }
+}
+
 /// A text. Where memory lacks the rest is given up, and `finish` tells it.
 pub struct Text {
     text: String,
@@ -123,12 +134,11 @@ impl Text {
     /// Writes a text, with what has a meaning in HTML written so that it has none.
     pub fn put_escaped(&mut self, text: &str) {
         for character in text.chars() {
-            match character {
-                '&' => self.put("&amp;"),
-                '<' => self.put("&lt;"),
-                '>' => self.put("&gt;"),
-                '"' => self.put("&quot;"),
-                _ => self.put_char(character),
+            let escaped = escaped(character);
+            if escaped.is_empty() {
+                self.put_char(character);
+            } else {
+                self.put(escaped);
             }
         }
     }

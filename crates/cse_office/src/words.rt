@@ -61,6 +61,9 @@ impl<'a> Asked<'a> {
     }
 }
 
+/// How many options there are.
+const OPTIONS: usize = 4;
+
 /// What the next word is.
 #[derive(Clone, Copy)]
 enum Next {
@@ -77,7 +80,7 @@ struct Reader<'a> {
     paths: [&'a str; 3],
     count: usize,
     /// What stands behind `--by`, `--cases`, `--html` and `--csv`.
-    options: [Option<&'a str>; 4],
+    options: [Option<&'a str>; OPTIONS],
     /// The first of these that the command has.
     first_option: usize,
     next: Next,
@@ -97,7 +100,7 @@ fn option_of(word: &str) -> usize {
         "--cases" => 1,
         "--html" => 2,
         "--csv" => 3,
-        _ => 4,
+        _ => OPTIONS,
     }
 }
 
@@ -125,10 +128,10 @@ impl<'a> Reader<'a> {
 
     /// What stands behind an option.
     fn put_value(&mut self, option: usize, value: &'a str) {
-        self.is_wrong |= option < self.first_option;
-        match self.options.get_mut(option) {
-            Some(place) if place.is_none() => *place = Some(value),
-            _ => self.is_wrong = true,
+        if option < self.first_option || option >= OPTIONS || self.options[option].is_some() {
+            self.is_wrong = true;
+        } else {
+            self.options[option] = Some(value);
         }
         self.next = Next::Any;
     }
@@ -169,7 +172,7 @@ pub(crate) fn asked_of<'a>(command: Command, words: &'a [String]) -> Option<Aske
     let mut reader = Reader {
         paths: [""; 3],
         count: 0,
-        options: [None; 4],
+        options: [None; OPTIONS],
         first_option,
         next: Next::Any,
         is_wrong: false,
