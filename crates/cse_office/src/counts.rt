@@ -1,6 +1,6 @@
 //! Lines and cases.
 
-use cse_value::shape::Shape;
+use cse_value::shape::{ItemShape, Shape};
 use std::alloc::{AllocError, Global};
 
 /// The items of a record, from one to behind another; how many of its lines the run has so far, and the most that it may have.
@@ -41,6 +41,23 @@ impl Drop for Counts {
     }
 }
 
+/// Adds an item to its record.
+fn put_item(lots: &mut [Lot], owner: usize, number: usize) {
+    if owner < lots.len() {
+        if lots[owner].end == 0 {
+            lots[owner].first = number;
+        }
+        lots[owner].end = number.saturating_add(1);
+    }
+}
+
+/// Adds the items to their records.
+fn put_items(lots: &mut [Lot], items: &[ItemShape]) {
+    for number in 0..items.len() {
+        put_item(lots, items[number].owner as usize, number);
+    }
+}
+
 /// The items of each record, which stand together.
 fn lots_of(alloc: Global, shape: &Shape) -> Result<Vec<Lot>, AllocError> {
     let mut lots = Vec::new(alloc);
@@ -52,14 +69,7 @@ fn lots_of(alloc: Global, shape: &Shape) -> Result<Vec<Lot>, AllocError> {
             most: record.max_records,
         })?;
     }
-    for (number, item) in shape.items.iter().enumerate() {
-        if let Some(lot) = lots.get_mut(item.owner as usize) {
-            if lot.end == 0 {
-                lot.first = number;
-            }
-            lot.end = number.saturating_add(1);
-        }
-    }
+    put_items(&mut lots, &shape.items);
     Ok(lots)
 }
 
@@ -79,8 +89,8 @@ impl Counts {
 
     /// Begins a run.
     pub fn begin_run(&mut self) {
-        for lot in self.lots.iter_mut() {
-            lot.seen = 0;
+        for record in 0..self.lots.len() {
+            self.lots[record].seen = 0;
         }
         self.has_seen = false;
         self.has_changed = false;
@@ -97,7 +107,12 @@ impl Counts {
     /// Counts a line. If it is seen, tells the first item of its record, the one behind the last, and its occurrence, from 1.
     pub fn see(&mut self, record: Option<u16>) -> Option<(usize, usize, u16)> {
         self.lines = self.lines.saturating_add(1);
-        let lot = self.lots.get_mut(record? as usize)?;
+        let Some(record) = record else {
+            return None;
+        };
+        let Some(lot) = self.lots.get_mut(record as usize) else {
+            return None;
+        };
         if lot.seen >= lot.most {
             return None;
         }

@@ -83,6 +83,16 @@ fn put_item(out: &mut Text, rows: &mut Rows, names: &Names<'_>, item: usize, sha
     );
 }
 
+/// Writes the rows of the items of a record, or of the id items.
+fn put_items_of(out: &mut Text, rows: &mut Rows, names: &Names<'_>, owner: usize) {
+    let items = names.dictionary.shape().items.as_slice();
+    for item in 0..items.len() {
+        if items[item].owner as usize == owner {
+            put_item(out, rows, names, item, &items[item]);
+        }
+    }
+}
+
 /// Writes the items of a record, or the id items.
 fn put_items(out: &mut Text, names: &Names<'_>, owner: usize) {
     let mut rows = Rows::new();
@@ -100,11 +110,7 @@ fn put_items(out: &mut Text, names: &Names<'_>, owner: usize) {
                 Cell::Text("why opaque"),
             ],
         );
-        for (item, shape) in names.dictionary.shape().items.iter().enumerate() {
-            if shape.owner as usize == owner {
-                put_item(out, &mut rows, names, item, shape);
-            }
-        }
+        put_items_of(out, &mut rows, names, owner);
     }
 }
 
@@ -129,6 +135,26 @@ fn put_record(out: &mut Text, names: &Names<'_>, record: usize, shape: &RecordSh
     put_label(out, names.record_label(record));
 }
 
+/// Writes the records with their items.
+fn put_records(out: &mut Text, names: &Names<'_>) {
+    let records = names.dictionary.shape().records.as_slice();
+    for record in 0..records.len() {
+        put_record(out, names, record, &records[record]);
+        put_items(out, names, record);
+    }
+}
+
+/// Writes the sets with their rows.
+fn put_sets(out: &mut Text, names: &Names<'_>) {
+    let mut number = 0usize;
+    for section in &names.sections {
+        if is_set(section) {
+            put_set(out, names, section, number);
+            number = number.saturating_add(1);
+        }
+    }
+}
+
 /// Writes what was read: the name, the level, the columns of the record type, ids, records with their items, and sets with their
 /// rows.
 pub fn put_dict(out: &mut Text, names: &Names<'_>) {
@@ -145,15 +171,6 @@ pub fn put_dict(out: &mut Text, names: &Names<'_>) {
     }
     out.put("\n\nids\n");
     put_items(out, names, ID_OWNER as usize);
-    for (record, shape) in names.dictionary.shape().records.iter().enumerate() {
-        put_record(out, names, record, shape);
-        put_items(out, names, record);
-    }
-    let mut number = 0usize;
-    for section in &names.sections {
-        if is_set(section) {
-            put_set(out, names, section, number);
-            number = number.saturating_add(1);
-        }
-    }
+    put_records(out, names);
+    put_sets(out, names);
 }

@@ -53,13 +53,17 @@ impl Drop for Look {
     }
 }
 
-/// The records, of which no line was looked at.
-fn records_of(alloc: Global, names: &Names<'_>) -> Result<Vec<Record>, AllocError> {
-    let mut records = Vec::new(alloc);
-    for (number, shape) in names.dictionary.shape().records.iter().enumerate() {
-        records.push(Record::new(alloc, names, number, shape)?)?;
+/// Adds the records, of which no line was looked at.
+fn add_records(
+    records: &mut Vec<Record>,
+    alloc: Global,
+    names: &Names<'_>,
+) -> Result<(), AllocError> {
+    let shapes = names.dictionary.shape().records.as_slice();
+    for number in 0..shapes.len() {
+        records.push(Record::new(alloc, names, number, &shapes[number])?)?;
     }
-    Ok(records)
+    Ok(())
 }
 
 /// A sum of the columns of the ids: other ids have another one, but for one of 18,446,744,073,709,551,616 pairs.
@@ -84,19 +88,21 @@ const LACKS_MEMORY: DataError = DataError {
 impl Look {
     /// Nothing is read so far.
     fn new(alloc: Global, names: &Names<'_>) -> Result<Look, AllocError> {
-        let ids = id_blocks(alloc, names.dictionary)?;
-        let records = records_of(alloc, names)?;
-        Ok(Look {
+        let mut look = Look {
             lines: 0,
             cases: 0,
-            records,
+            records: Vec::new(alloc),
             unknown: Found::NONE,
             extra: Found::NONE,
             returns: Found::NONE,
-            ids,
+            ids: id_blocks(alloc, names.dictionary)?,
             known: HashSet::new(alloc),
             lacks_memory: false,
-        })
+        };
+        match add_records(&mut look.records, alloc, names) {
+            Ok(()) => Ok(look),
+            Err(error) => Err(error),
+        }
     }
 
     /// Begins a run, whose ids are a sum.

@@ -29,12 +29,12 @@ fn put_records(out: &mut Text, names: &Names<'_>, look: &Look) {
                 Cell::Text("label"),
             ],
         );
-        for (number, record) in look.records.iter().enumerate() {
+        for number in 0..look.records.len() {
             rows.row(
                 out,
                 &[
                     Cell::Text(names.record_name(number)),
-                    Cell::Number(record.lines),
+                    Cell::Number(look.records[number].lines),
                     Cell::Text(names.record_label(number)),
                 ],
             );

@@ -31,19 +31,16 @@ impl<'a> Drop for Names<'a> {
     }
 }
 
-/// Where the sections with a heading stand.
-fn places_of(
-    alloc: Global,
-    sections: &[Section<'_>],
-    heading: &[u8],
-) -> Result<Vec<usize>, AllocError> {
-    let mut places = Vec::new(alloc);
-    for (place, section) in sections.iter().enumerate() {
+/// Finds where the sections with a heading stand. Answers whether memory lacks.
+fn find_places(places: &mut Vec<usize>, sections: &[Section<'_>], heading: &[u8]) -> bool {
+    let mut lacks_memory = false;
+    for place in 0..sections.len() {
+        let section = &sections[place];
         if is_same(section.heading, heading) {
-            places.push(place)?;
+            lacks_memory |= places.push(place).is_err();
         }
     }
-    Ok(places)
+    lacks_memory
 }
 
 /// Whether a section is a value set.
@@ -71,15 +68,22 @@ impl<'a> Names<'a> {
         dictionary: &'a Dictionary,
         text: &'a [u8],
     ) -> Result<Names<'a>, AllocError> {
-        let sections = sections_of(alloc, text)?;
-        let records = places_of(alloc, &sections, b"Record")?;
-        let items = places_of(alloc, &sections, b"Item")?;
-        Ok(Names {
+        let mut names = Names {
             dictionary,
-            sections,
-            records,
-            items,
-        })
+            sections: sections_of(alloc, text)?,
+            records: Vec::new(alloc),
+            items: Vec::new(alloc),
+        };
+        if names.find_all() {
+            return Err(AllocError);
+        }
+        Ok(names)
+    }
+
+    /// Finds where records and items stand. Answers whether memory lacks.
+    fn find_all(&mut self) -> bool {
+        find_places(&mut self.records, &self.sections, b"Record")
+            || find_places(&mut self.items, &self.sections, b"Item")
     }
 
     /// What stands at a key of the section that one of these places has.
@@ -161,8 +165,13 @@ impl<'a> Names<'a> {
 
     /// The row of a number in a value set.
     fn row_in(&self, section: &Section<'_>, number: i64) -> Option<usize> {
-        let set = self.set_number(section)?;
-        Some(self.dictionary.row_of(set, Num::Whole(number))? as usize)
+        let Some(set) = self.set_number(section) else {
+            return None;
+        };
+        match self.dictionary.row_of(set, Num::Whole(number)) {
+            Some(row) => Some(row as usize),
+            None => None,
+        }
     }
 
     /// The label of a value of an item in its first value set: of a number, of blanks, or of a text.

@@ -30,15 +30,21 @@ impl Drop for Record {
     }
 }
 
-/// The items of a record. Id items have none.
-fn fields_of(alloc: Global, names: &Names<'_>, owner: usize) -> Result<Vec<Field>, AllocError> {
-    let mut fields = Vec::new(alloc);
-    for (item, shape) in names.dictionary.shape().items.iter().enumerate() {
+/// Adds the items of a record. Id items have none.
+fn add_fields(
+    fields: &mut Vec<Field>,
+    alloc: Global,
+    names: &Names<'_>,
+    owner: usize,
+) -> Result<(), AllocError> {
+    let items = names.dictionary.shape().items.as_slice();
+    for item in 0..items.len() {
+        let shape = &items[item];
         if shape.owner as usize == owner && shape.owner != ID_OWNER {
             fields.push(Field::new(alloc, names, item, shape)?)?;
         }
     }
-    Ok(fields)
+    Ok(())
 }
 
 impl Record {
@@ -49,12 +55,16 @@ impl Record {
         number: usize,
         shape: &RecordShape,
     ) -> Result<Record, AllocError> {
-        Ok(Record {
+        let mut record = Record {
             lines: 0,
-            fields: fields_of(alloc, names, number)?,
+            fields: Vec::new(alloc),
             seen: 0,
             most: shape.max_records,
-        })
+        };
+        match add_fields(&mut record.fields, alloc, names, number) {
+            Ok(()) => Ok(record),
+            Err(error) => Err(error),
+        }
     }
 
     /// Begins a run.

@@ -101,8 +101,8 @@ impl Rows {
     /// Measures a row, or writes it once all are measured, without blanks at its end.
     pub fn row(&mut self, out: &mut Text, cells: &[Cell<'_>]) {
         let mut blanks = 0usize;
-        for (column, cell) in cells.iter().enumerate() {
-            let cell = shown(*cell);
+        for column in 0..cells.len() {
+            let cell = shown(cells[column]);
             let (width, is_right) = room_of(cell);
             let room = self.widest(column, width).saturating_sub(width);
             let (before, behind) = if is_right { (room, 0) } else { (0, room) };

@@ -12,19 +12,19 @@ use cse_sections::text::{is_same, trimmed};
 /// The first piece of pairs, and those behind it: a piece ends at a blank outside quotes.
 fn first_piece(pairs: &[u8]) -> (&[u8], &[u8]) {
     let mut is_open = false;
-    for (place, byte) in pairs.iter().enumerate() {
-        if *byte == b' ' && !is_open {
+    for place in 0..pairs.len() {
+        if pairs[place] == b' ' && !is_open {
             return (&pairs[..place], &pairs[place..]);
         }
-        is_open = is_open != (*byte == b'\'');
+        is_open = is_open != (pairs[place] == b'\'');
     }
     (pairs, b"")
 }
 
 /// Whether a piece is a number, or two with `:` between them, the second at least the first.
 fn is_range(piece: &[u8]) -> bool {
-    for (place, byte) in piece.iter().enumerate() {
-        if *byte == b':' {
+    for place in 0..piece.len() {
+        if piece[place] == b':' {
             let (low, high) = (&piece[..place], &piece[place + 1..]);
             return match (whole_of(low), whole_of(high)) {
                 (Some(low), Some(high)) => low <= high,
@@ -59,23 +59,28 @@ fn has_skipped(pairs: &[u8], data_type: &[u8]) -> bool {
     false
 }
 
-/// Writes the rows of a set, and of a partial one what makes a row so.
+/// Writes a row of a set, and of a partial one what makes the row so.
+fn put_row(out: &mut Text, rows: &mut Rows, value: &[u8], data_type: &[u8], is_partial: bool) {
+    let (pairs, label) = row_of(value);
+    let is_why = is_partial && has_skipped(pairs, data_type);
+    rows.row(
+        out,
+        &[
+            Cell::Text(text_of(pairs)),
+            Cell::Text(first_language(label)),
+            Cell::Text(if is_why { "no pair of numbers" } else { "" }),
+        ],
+    );
+}
+
+/// Writes the rows of a set.
 fn put_rows(out: &mut Text, set: &Section<'_>, data_type: &[u8], is_partial: bool) {
     let mut rows = Rows::new();
     for pass in 0..2 {
         rows.are_measured = pass > 0;
         for entry in &set.entries {
             if is_same(entry.key, b"Value") {
-                let (pairs, label) = row_of(entry.value);
-                let is_why = is_partial && has_skipped(pairs, data_type);
-                rows.row(
-                    out,
-                    &[
-                        Cell::Text(text_of(pairs)),
-                        Cell::Text(first_language(label)),
-                        Cell::Text(if is_why { "no pair of numbers" } else { "" }),
-                    ],
-                );
+                put_row(out, &mut rows, entry.value, data_type, is_partial);
             }
         }
     }

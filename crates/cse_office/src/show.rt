@@ -110,7 +110,8 @@ fn put_routine(
 
 /// Writes the messages.
 fn put_messages(out: &mut Text, tables: &Tables) {
-    for (number, message) in tables.messages.iter().enumerate() {
+    for number in 0..tables.messages.len() {
+        let message = &tables.messages[number];
         out.put_all(&[
             Cell::Text("message "),
             Cell::Number(number as u64),
@@ -132,9 +133,9 @@ fn put_variables(out: &mut Text, tables: &Tables) {
         }
         out.put(if array.saved { " saved\n" } else { "\n" });
     }
-    for (number, global) in tables.globals.iter().enumerate() {
+    for number in 0..tables.globals.len() {
         out.put_all(&[Cell::Text("global "), Cell::Number(number as u64)]);
-        out.put(match global.kind {
+        out.put(match tables.globals[number].kind {
             GlobalKind::Number => " number\n",
             GlobalKind::Text => " text\n",
         });
@@ -147,7 +148,9 @@ pub fn put_image(out: &mut Text, alloc: Global, program: &Program, names: Option
     put_variables(out, program.tables());
     let mut steps = Steps::new(alloc);
     let mut first = 0usize;
-    for (number, routine) in program.routines().iter().enumerate() {
+    let routines = program.routines();
+    for number in 0..routines.len() {
+        let routine = &routines[number];
         let count = routine.instructions as usize;
         let most = steps.add(program, first, count);
         put_routine(out, names, program.events(), number, routine, most);

@@ -23,11 +23,11 @@ pub fn first_language(label: &[u8]) -> &str {
 /// The value of a row's line: its pairs, as they stand, and its label, which stands behind the first `;` outside quotes.
 pub fn row_of(value: &[u8]) -> (&[u8], &[u8]) {
     let mut is_open = false;
-    for (place, byte) in value.iter().enumerate() {
-        if *byte == b';' && !is_open {
+    for place in 0..value.len() {
+        if value[place] == b';' && !is_open {
             return (trimmed(&value[..place]), &value[place + 1..]);
         }
-        is_open = is_open != (*byte == b'\'');
+        is_open = is_open != (value[place] == b'\'');
     }
     (value, b"")
 }

@@ -53,8 +53,8 @@ impl<'w, 'a, W: Drop> Drop for Watching<'w, 'a, W> {
 /// The place behind the last id item.
 fn ids_end(items: &[ItemShape]) -> usize {
     let mut end = 0usize;
-    for (number, item) in items.iter().enumerate() {
-        if item.owner == ID_OWNER {
+    for number in 0..items.len() {
+        if items[number].owner == ID_OWNER {
             end = number.saturating_add(1);
         }
     }
