@@ -104,8 +104,15 @@ impl Drop for Field {
 
 /// The first value set of an item, where that is whole and has rows.
 fn whole_set(names: &Names<'_>, item: usize) -> Option<u16> {
-    let number = names.set_number(names.first_set(item)?)?;
-    let shape = names.dictionary.shape().sets.get(number as usize)?;
+    let Some(set) = names.first_set(item) else {
+        return None;
+    };
+    let Some(number) = names.set_number(set) else {
+        return None;
+    };
+    let Some(shape) = names.dictionary.shape().sets.get(number as usize) else {
+        return None;
+    };
     if shape.partial || shape.rows == 0 {
         return None;
     }
@@ -114,8 +121,10 @@ fn whole_set(names: &Names<'_>, item: usize) -> Option<u16> {
 
 /// The code of `missing` of an item.
 fn code_of(names: &Names<'_>, item: usize) -> Option<i64> {
-    let number = names.dictionary.find_item(names.item_name(item))?;
-    names.dictionary.code(number)
+    match names.dictionary.find_item(names.item_name(item)) {
+        Some(number) => names.dictionary.code(number),
+        None => None,
+    }
 }
 
 /// How many bytes of one column, or numbers of so many columns, are looked up once each.

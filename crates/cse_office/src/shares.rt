@@ -102,7 +102,7 @@ impl Shares {
 
     /// Where the cells of an item begin, if it has some.
     fn first_of(&self, item: usize) -> Option<usize> {
-        *self.firsts.get(item)?
+        self.firsts.get(item).copied().unwrap_or(None)
     }
 
     /// Counts the value of an item in a line that was written.

@@ -25,11 +25,14 @@ impl Drop for Steps {
 /// The most turns of the bracket that an instruction opens.
 fn turns_of(tables: &Tables, instr: Instr) -> Option<u64> {
     match instr.op {
-        Op::LoopCount => Some(u64::from(*tables.limits.get(instr.b as usize)?)),
-        Op::LoopOccurrences => {
-            let record = tables.records.get(instr.a as usize)?;
-            Some(u64::from(record.max_records))
-        }
+        Op::LoopCount => match tables.limits.get(instr.b as usize) {
+            Some(limit) => Some(u64::from(*limit)),
+            None => None,
+        },
+        Op::LoopOccurrences => match tables.records.get(instr.a as usize) {
+            Some(record) => Some(u64::from(record.max_records)),
+            None => None,
+        },
         _ => None,
     }
 }
