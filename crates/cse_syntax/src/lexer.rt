@@ -181,11 +181,24 @@ fn inside_len(quote: u8, bytes: &[u8]) -> usize
     n
 }
 
+/// Whether a character begins with this byte.
+fn is_start(byte: u8) -> bool
+    ensures { result ≡ spec.is_start byte }
+{
+    byte < 128 || byte >= 192
+}
+
 /// How many characters are in the bytes of a text.
 pub fn characters(bytes: &[u8]) -> usize
     ensures { result ≡ count_by spec.is_start bytes.now }
 {
-    bytes.iter().filter(|b| **b < 128 || **b >= 192).count()
+    let mut count = 0;
+    'bytes: for i in 0..bytes.len() {
+        if is_start(bytes[i]) {
+            count += 1;
+        }
+    }
+    count
 }
 
 /// The length of a text with its quotes, where these bytes come after the first one.

@@ -34,7 +34,13 @@ fn before(text: &str, place: usize) -> &[u8]
 fn lines(bytes: &[u8]) -> usize
     ensures { result ≡ count_by spec.is_line_end bytes.now }
 {
-    bytes.iter().filter(|b| **b == b'\n').count()
+    let mut count = 0;
+    'bytes: for i in 0..bytes.len() {
+        if bytes[i] == b'\n' {
+            count += 1;
+        }
+    }
+    count
 }
 
 /// Where the last line begins, behind this byte.
