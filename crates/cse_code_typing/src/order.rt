@@ -100,23 +100,36 @@ pub fn fits_event(shape: &Shape, tables: &Tables, event: EventEntry) -> bool
 pub fn all_events_fit(shape: &Shape, tables: &Tables) -> bool
     ensures { result ≡ all_events_fit (shape_lists shape.now) (lists_of tables.now) }
 {
-    tables
-        .events
-        .iter()
-        .all(|event| fits_event(shape, tables, *event))
+    'events: for i in 0..tables.events.len() {
+        if !fits_event(shape, tables, tables.events[i]) {
+            return false;
+        }
+    }
+    true
 }
 
 /// How often a record is named.
 fn count_of(order: &[u32], number: u32) -> usize
     ensures { result ≡ count_by (λ o. o == number) order.now }
 {
-    order.iter().filter(|o| **o == number).count()
+    let mut count = 0;
+    'order: for i in 0..order.len() {
+        if order[i] == number {
+            count += 1;
+        }
+    }
+    count
 }
 
 fn are_below(order: &[u32], count: u32) -> bool
     ensures { result ≡ list_all (λ o. nat_lt o count) order.now }
 {
-    order.iter().all(|o| *o < count)
+    'order: for i in 0..order.len() {
+        if order[i] >= count {
+            return false;
+        }
+    }
+    true
 }
 
 /// Whether the order names each of so many records exactly once, and nothing else. Takes no memory;
