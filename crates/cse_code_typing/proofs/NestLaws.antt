@@ -1,5 +1,5 @@
 -- A stack whose topmost entry is the last one of those that are in use.
-use Rattle.std.proofs.Common.{◌≡◌, ℕ, zero, suc, ◌+◌, ◌-◌, ◌<◌, ◌≤◌, List, [], ◌∷◌, ◌++◌, length, take, drop, set, reverse, get_or, Some, refl, sym, ap, ◌∙◌, arith}
+use Rattle.std.proofs.Common.{◌≡◌, ℕ, zero, suc, ◌+◌, ◌-◌, ◌<◌, ◌≤◌, List, [], ◌∷◌, ◌++◌, length, take, drop, set, reverse, get_or, Some, None, refl, sym, ap, ◌∙◌, arith}
 use Rattle.std.specs.Prelude.{slice_get}
 use Rattle.cse_code_typing.specs.Bracket.{first}
 use Rattle.std.proofs.lemmas.Option.{slice_get-get_or}
@@ -45,3 +45,12 @@ top_there (x ∷ xs) some = omega arith
 pub top_is : {A : Type 0} (shown : List A) (x : A) → slice_get shown 0 ≡ Some x → first shown ≡ Some x
 top_is [] x at = cc
 top_is (y ∷ ys) x at = at
+
+pub no_top : {A : Type 0} (entries shown : List A) (len : ℕ) → reverse (take len entries) ≡ shown → len ≤ length entries → len ≡ 0 → None ≡ first shown
+no_top entries [] len is le none = refl
+no_top entries (x ∷ xs) len is le none = absurd (omega (arith, height entries (x ∷ xs) len is le))
+
+pub top_read : {A : Type 0} (entries shown : List A) (len : ℕ) (x : A) → reverse (take len entries) ≡ shown → len ≤ length entries → 0 < len → x ≡ get_or entries (len - 1) x → Some x ≡ first shown
+top_read entries shown len x is le some read =
+    let place : len - 1 ≡ len - 1 - 0 = omega arith in
+    sym (top_is shown x (shown_at entries shown len 0 x is le (omega (arith, height entries shown len is le)) (read ∙ ap (λ k. get_or entries k x) place)))

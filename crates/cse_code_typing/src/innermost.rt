@@ -26,8 +26,8 @@ fn begins_bracket<C: Code>(code: &RoutineCode<'_, C>, place: u32) -> bool
 fn opener_in(table: &[Option<u32>], place: u32) -> Option<u32>
     ensures { (o : Option ℕ) → slice_get table.now place ≡ Some o → result ≡ o }
 {
-    match table.get(place as usize).copied() {
-        Some(opener) => opener,
+    match table.get(place as usize) {
+        Some(opener) => *opener,
         None => None,
     }
 }

@@ -46,9 +46,9 @@ fn stands_at(piles: &Piles, there: Expected, stack: usize) -> bool
 pub fn expected_at(known: &[Expected], place: usize) -> Expected
     ensures { result ≡ expected_in known.now place }
 {
-    match known.get(place).copied() {
+    match known.get(place) {
         None => Expected::Free,
-        Some(there) => there,
+        Some(there) => *there,
     }
 }
 

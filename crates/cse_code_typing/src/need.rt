@@ -136,7 +136,7 @@ fn is_numeric(item: Option<ItemShape>) -> bool
 fn rows_of(shape: &Shape, set: u16) -> Option<u16>
     ensures { result ≡ rows_of (shape_lists shape.now) set }
 {
-    match shape.sets.get(set as usize).copied() {
+    match shape.sets.get(set as usize) {
         None => None,
         Some(found) => {
             if !found.partial && is_numeric(item_at(shape, found.item as u32)) {
@@ -151,7 +151,7 @@ fn rows_of(shape: &Shape, set: u16) -> Option<u16>
 fn global_at(tables: &Tables, global: u32) -> Option<Kind>
     ensures { result ≡ global_at (lists_of tables.now) global }
 {
-    match tables.globals.get(global as usize).copied() {
+    match tables.globals.get(global as usize) {
         None => None,
         Some(found) => Some(kind_of_global(found.kind)),
     }
@@ -160,9 +160,9 @@ fn global_at(tables: &Tables, global: u32) -> Option<Kind>
 fn local_at(routine: &Routine, local: u32) -> Option<Kind>
     ensures { result ≡ local_at (routine_lists routine.now) local }
 {
-    match routine.locals.get(local as usize).copied() {
+    match routine.locals.get(local as usize) {
         None => None,
-        Some(found) => Some(kind_of_local(found)),
+        Some(found) => Some(kind_of_local(*found)),
     }
 }
 

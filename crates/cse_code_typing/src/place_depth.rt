@@ -40,9 +40,9 @@ fn depth_at(depths: &[Depth], routine: u32) -> Depth
     ensures value { result ≡ depth_at depths.now routine }
     ensures few { IsAtMost (most_kept * length depths.now) result }
 {
-    match depths.get(routine as usize).copied() {
+    match depths.get(routine as usize) {
         None => Depth::NONE,
-        Some(depth) => depth,
+        Some(depth) => *depth,
     }
 }
 
