@@ -4,6 +4,7 @@ use Rattle.cse_syntax_tree.specs.Tree as syntax
 use Rattle.cse_logic_tree.specs.Typed as typed
 use Rattle.cse_types.specs.JudgeTree as spec
 use Rattle.cse_logic_names.proofs.Walks.{at_end, walk_made}
+use Rattle.cse_types.proofs.ArrayLaws.{made_turn}
 use Rattle.cse_types.proofs.array.dimensions.Goals as goal
 
 pub returns-then-is_sound : goal.returns-then-is_sound
@@ -21,3 +22,8 @@ returns c =
     let le : length items ≤ c.all.x-index = subst (λ (xs : List Dimension). length xs ≤ c.all.x-index) c.deref-x-items.ensures.value c.all-test.false in
     let e = at_end (λ (x : Dimension) (rest : List Dimension). spec.dimension_judged s (syntax.dimension x)) items c.all.x-index c.all.is_sound (map typed.dimension c.all.found.items) _ le c.all.invariant in
     sym (walk_made (λ d. spec.dimension_judged s d) syntax.dimension items ∙ e.1 c.if-is_sound.false)
+
+pub all-preserved : goal.all-preserved
+all-preserved c =
+    made_turn (λ (y : Dimension). spec.dimension_judged c.args.scope.now (syntax.dimension y)) typed.dimension c.deref-x-items.result.now c.args.all.now.items c.deref-x-items.ensures.value c.all.x-index _ c.all-test.true c.all.is_sound _ c.in_ok-is_there.is_there c.all.found.items _ c.dimension-next.result _
+    c.all.invariant c.dimension-next.ensures c.in_ok-is_there.ensures.found c.in_ok-is_there.ensures.there c.both_hold-is_sound.ensures
