@@ -1,5 +1,6 @@
 pub mod Spelling
 pub mod Reading
+pub mod Empty
 pub mod Sections
 pub mod Place
 pub mod View

@@ -155,10 +155,6 @@ instr_at version = do
   c ← checked Form (fits_c op a) (number 4)
   done (record { op = op; a = a; b = b; c = c })
 
--- tables without an entry
-abbrev pub no_lists : Lists
-no_lists = record { records = []; items = []; sets = []; order = []; constants = []; limits = []; texts = []; globals = []; arrays = []; messages = []; routines = []; events = [] }
-
 unfoldable pub lists_at : Version → Reader Lists
 lists_at version = do
   records ← counted MOST_RECORDS (λ _. record_at)

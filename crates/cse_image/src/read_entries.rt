@@ -7,7 +7,7 @@ use cse_image_parts::{ReadStop, count_at};
 use std::alloc::Global;
 
 /// An entry that is read from the front of bytes.
-pub trait Readable: Drop {
+pub(crate) trait Readable: Drop {
     // What is seen of an entry.
     ghost Seen: { Type 0 };
 
@@ -46,7 +46,7 @@ fn entries_of<'a, E: Readable>(
 /// A section, from where the bytes before it end, into a list that has no entry yet: their count, then each; and the
 /// bytes after it.
 #[tactic(auto, unfolding(cse_image_parts::specs::Reader::then_at, cse_image_parts::specs::Reader::counted))]
-pub fn section_of<'a, E: Readable>(
+pub(crate) fn section_of<'a, E: Readable>(
     alloc: Global,
     limit: usize,
     entries: &mut Vec<E>,

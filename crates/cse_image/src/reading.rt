@@ -4,7 +4,8 @@ ghost use Rattle.std.specs.Prelude.{◌≡◌, ◌≤◌, OnOk, map};
 ghost use Rattle.cse_image_parts.specs.Reader.{Gives};
 ghost use Rattle.cse_image_parts.specs.Image.{routine_lists, lists_of};
 ghost use Rattle.cse_image_parts.specs.Fields.{instructions_in};
-ghost use Rattle.cse_image.specs.Reading.{lists_at, no_lists};
+ghost use Rattle.cse_image.specs.Reading.{lists_at};
+ghost use Rattle.cse_image.specs.Empty.{no_lists};
 
 use crate::read_arrays::arrays_of;
 use crate::read_entries::section_of;

@@ -9,7 +9,8 @@ ghost use Rattle.cse_image_parts.specs.Fields.{instructions_in};
 ghost use Rattle.cse_image_parts.specs.Image.{Image, lists_of, image_with, routine_lists};
 ghost use Rattle.cse_image_parts.specs.Upgrade.{greater, own_limit, greatest_limit, one_to};
 ghost use Rattle.cse_image.specs.Place.{Answers, placed};
-ghost use Rattle.cse_image.specs.Reading.{instr_at, edition, edition_at, whole_edition as spec_whole_edition, reading, no_lists};
+ghost use Rattle.cse_image.specs.Reading.{instr_at, edition, edition_at, whole_edition as spec_whole_edition, reading};
+ghost use Rattle.cse_image.specs.Empty.{no_lists};
 ghost use Rattle.cse_image.specs.Spelling.{program_in, StandFor};
 ghost use Rattle.cse_image.specs.View.{code_in, IsCodeOf, program_instr, program_code};
 
