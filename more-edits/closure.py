@@ -13,23 +13,28 @@ HERE = os.path.dirname(os.path.realpath(__file__))
 
 
 class Library:
-    """A crate as the crates above it see it: the public items of its .rt files, the files of specs/, the statements of proofs/."""
+    """A crate as the crates above it see it: the items of its .rt files that they can name, the files of specs/, the statements of proofs/."""
 
     def __init__(self, root, name):
         self.name, self.folder = name, os.path.join(root, "crates", name)
         self.items, self.imports, self.handed_on = {}, {}, {}
         found = []
-        for path in sources.files(os.path.join(self.folder, "src"), ".rt"):
-            text = sources.read(path)
+        texts = {path: sources.read(path) for path in sources.files(os.path.join(self.folder, "src"), ".rt")}
+        shown = sources.shown_by(texts)
+        for path, text in texts.items():
             imports = sources.rust_imports(text)
             for bound, paths in imports.items():
                 for it in paths:
                     if it.startswith("cse_"):
                         self.handed_on.setdefault(bound, set()).add(it)
-            found += [(it, imports) for it in sources.items_of(sources.rust_tokens(text))]
+            module = os.path.basename(path)[: -len(".rt")]
+            found += [(it, imports) for it in sources.items_of(sources.rust_tokens(text)) if it.kind != "fn" or module in shown or it.name in shown]
         # (of a type with a value the crates above know the value)
         valued = {it.owner for it, _ in found if it.ghost_of("Model") == "Value"}
+        own_traits = {it.name for it, _ in found if it.is_own() and it.kind == "type" and "trait" in it.tokens[it.start:it.head]}
         for item, imports in found:
+            if item.is_own() or item.trait in own_traits:
+                continue
             if item.kind == "other" or item.kind in ("fn", "method", "member") and not item.is_public:
                 continue
             if item.owner in valued and item.ghost_of("Model") in ("view", "invariant") or item.is_plain_drop():
@@ -155,7 +160,7 @@ class Closure:
         for part, ending in (("src", ".rt"), ("specs", ".antt"), ("proofs", ".antt")):
             for path in sources.files(os.path.join(folder, part), ending):
                 text = sources.read(path)
-                plain = sources.rust_text(text) if ending == ".rt" else sources.antt_text(text)
+                plain = sources.with_uses_in_order(text) if ending == ".rt" else sources.antt_text(text)
                 imports = sources.rust_imports(text) if ending == ".rt" else sources.antt_imports(plain)
                 paths.update(*imports.values())
                 paths.update(re.findall(r"\bcse_\w+(?:::\w+)+", plain))

@@ -8,6 +8,7 @@ RUST = re.compile(r'''//[^\n]*|/\*.*?\*/|b?r(\#*)".*?"\1|[bc]?"(?:[^"\\]|\\.)*"|
 ANTT = re.compile(r'("(?:[^"\\\n]|\\.)*")|\{-.*?-\}|(?<!\S)--[^\n]*', re.S)
 WORD = re.compile(r"[^\W\d][\w']*")
 CLAUSE = ("requires", "ensures", "ghost")
+USE = re.compile(r"(?m)^(pub(?:\([\w ]+\))? )?(ghost )?use\s+([^;]*);")
 PAIRS = "([{"
 MARKS = {"pub", "abbrev", "unfoldable", "record", "data", "opaque", "ruleset"}
 SIGNATURE = re.compile(r"\S+(?: \{[^{}]*\})*\s:\s")
@@ -105,6 +106,10 @@ class Item:
         """Whether this is the drop of a type, written out, of which no clause tells, or its impl."""
         clauses = any(it in CLAUSE for it in self.tokens[self.start:self.head])
         return self.trait == "Drop" and (self.kind == "impl" or self.kind == "member" and not clauses)
+
+    def is_own(self):
+        """Whether this is `pub(crate)`, so that its crate keeps it for itself."""
+        return [it for it in self.tokens[self.start:self.head] if it.strip()][:3] == ["pub", "(", "crate"]
 
     def ghost_of(self, trait):
         """The name of the ghost member that this is, of an impl of a trait; nothing where it is none."""
@@ -252,6 +257,18 @@ def items_of(tokens, at=0, stop=None, holder=None):
             attributes = ""
 
 
+def shown_by(texts):
+    """The modules whose functions other crates can name, and the names that a crate hands on; of a program all its modules."""
+    root = next((text for path, text in texts.items() if path.endswith("/lib.rt")), None)
+    modules = {os.path.basename(path)[: -len(".rt")] for path in texts}
+    shown = modules if root is None else {"lib"} | modules & set(re.findall(r"(?m)^pub mod (\w+)", root))
+    for text in texts.values():
+        for used in re.findall(r"(?m)^pub use ([^;]*);", text):
+            shown.update(path.removesuffix("::*").split("::")[-1] for path, _ in unfolded(re.sub(r"\s+", " ", used).strip(), "::"))
+    return shown
+
+
+
 def rust_imports(text):
     """The names that the use lines of a .rt file bind, each with the whole path that it stands for."""
     found = {}
@@ -259,6 +276,15 @@ def rust_imports(text):
         for path, bound in unfolded(re.sub(r"\s+", " ", item).strip(), "." if ghost else "::"):
             found.setdefault(bound, set()).add(path)
     return found
+
+
+def with_uses_in_order(text):
+    """A .rt text whose imports stand in front, by the names that they bind."""
+    uses = []
+    for front, ghost, item in USE.findall(text):
+        paths = unfolded(re.sub(r"\s+", " ", item).strip(), "." if ghost else "::")
+        uses += [f"{front}{ghost}{bound}={path}" for path, bound in paths]
+    return "\n".join([*sorted(uses), rust_text(USE.sub("", text))])
 
 
 def unfolded(item, mark):

@@ -21,6 +21,8 @@ import closure
 FILES = {
     "crates.txt": "cse_low:\ncse_high: cse_low arrayvec\n",
     "crates/cse_low/src/lib.rt": """#![tactic(auto)]
+mod hidden;
+pub mod shown;
 ghost use Rattle.cse_low.specs.Low.{low_of, other_low};
 /// A low row.
 pub struct Low { pub size: u32, pub seen: Seen }
@@ -44,6 +46,8 @@ pub fn other(x: &Low) -> u32
     x.size
 }
 """,
+    "crates/cse_low/src/hidden.rt": "pub fn half(x: u32) -> u32\n    ensures { result ≡ x }\n{\n    x\n}\n",
+    "crates/cse_low/src/shown.rt": "pub fn twice(x: u32) -> u32\n    ensures { result ≡ x }\n{\n    x\n}\npub(crate) fn half(x: u32) -> u32\n    ensures { result ≡ x }\n{\n    x\n}\n",
     "crates/cse_low/specs/Low.antt": "use Rattle.cse_low.specs.declared.Low.{Low}\n\nabbrev pub low_of : Low → ℕ\nlow_of x = x.size\n",
     "crates/cse_high/src/lib.rt": """#![tactic(auto)]
 mod rows;
@@ -240,6 +244,11 @@ ROWS = [
     ("a clause of the crate below", "crates/cse_low/src/lib.rt", "result ≡ low_of x.now", "result ≡ 1", CHANGES),
     ("a definition of the crate below", "crates/cse_low/specs/Low.antt", "low_of x = x.size", "low_of x = 1", CHANGES),
     ("a drop of a type of the crate below that is derived", "crates/cse_low/src/lib.rt", "/// A low row.\n", "/// A low row.\n#[derive(Drop)]\n", STAYS),
+    ("a clause of a function of a private module below that bears a name which is said", "crates/cse_low/src/hidden.rt", "result ≡ x", "result ≤ x", STAYS),
+    ("one that a crate keeps for itself, in a public module", "crates/cse_low/src/shown.rt", "fn half(x: u32) -> u32\n    ensures { result ≡ x }", "fn half(x: u32) -> u32\n    ensures { result ≤ x }", STAYS),
+    ("one in a public module", "crates/cse_low/src/shown.rt", "pub(crate) fn half", "pub fn half", CHANGES),
+    ("what a trait that others can name has for a type of the crate below", "crates/cse_low/src/lib.rt", "/// A low row.\n", "pub trait Weighs {\n    ghost weight: { Self → ℕ };\n}\nimpl Weighs for Low {\n    ghost weight = { λ x. x.size };\n}\n/// A low row.\n", CHANGES),
+    ("what a trait that its crate keeps for itself has", "crates/cse_low/src/lib.rt", "/// A low row.\n", "pub(crate) trait Weighs {\n    ghost weight: { Self → ℕ };\n}\nimpl Weighs for Low {\n    ghost weight = { λ x. x.size };\n}\n/// A low row.\n", STAYS),
     ("one that is written out", "crates/cse_low/src/lib.rt", "/// A low row.\n", "impl Drop for Low {\n    fn drop(self) {\n        let Low { size: _, seen: _ } = self;\n    }\n}\n/// A low row.\n", STAYS),
     ("one with a clause", "crates/cse_low/src/lib.rt", "/// A low row.\n", "impl Drop for Low {\n    fn drop(self)\n        ensures { self.size ≡ 1 }\n    {\n        let Low { size: _, seen: _ } = self;\n    }\n}\n/// A low row.\n", CHANGES),
     ("a field of a type of the crate below", "crates/cse_low/src/lib.rt", "pub struct Low { pub size: u32,", "pub struct Low { pub size: u64,", CHANGES),
