@@ -14,6 +14,7 @@ use crate::{
 };
 use cse_dict::Dictionary;
 use cse_fault_numbers::UNKNOWN_NAME;
+use cse_value::Input;
 use cse_value::shape::ID_OWNER;
 use std::alloc::Global;
 use std::rt::Files;
@@ -63,6 +64,31 @@ fn stop_of(fault: SeenFault<u8>) -> Stop {
     }
 }
 
+/// Compares what was read with what was written, and writes each change as a row, if these are asked for.
+fn compared_with<'n, R: Files + AllocGlobal, D: Input, O: Input>(
+    rt: &R,
+    asked: &Asked<'_>,
+    names: &Names<'n>,
+    diff: Diff<'n>,
+    data: &mut D,
+    out: &mut O,
+) -> Result<Diff<'n>, Stop> {
+    let rows = match sheet_of(rt, asked, Slot::Cases) {
+        Ok(rows) => rows,
+        Err(stop) => return Err(stop),
+    };
+    let mut watching = Watching::new(rt.alloc(), names, diff, rows);
+    let outcome = compare_watched(rt.alloc(), names.dictionary, data, out, &mut watching);
+    let (diff, failure) = watching.finish();
+    match outcome {
+        Ok(()) => match written(failure, Slot::Cases) {
+            Ok(()) => Ok(diff),
+            Err(stop) => Err(stop),
+        },
+        Err(fault) => Err(stop_of(fault)),
+    }
+}
+
 /// Compares the files.
 fn compared<'n, R: Files + AllocGlobal>(
     rt: &R,
@@ -72,23 +98,7 @@ fn compared<'n, R: Files + AllocGlobal>(
 ) -> Result<Diff<'n>, Stop> {
     let mut data = opened(rt, asked, Slot::Second)?;
     let mut out = opened(rt, asked, Slot::Third)?;
-    let rows = sheet_of(rt, asked, Slot::Cases)?;
-    let mut watching = Watching::new(rt.alloc(), names, diff, rows);
-    let outcome = compare_watched(
-        rt.alloc(),
-        names.dictionary,
-        &mut data.device,
-        &mut out.device,
-        &mut watching,
-    );
-    let (diff, failure) = watching.finish();
-    match outcome {
-        Ok(()) => {
-            written(failure, Slot::Cases)?;
-            Ok(diff)
-        }
-        Err(fault) => Err(stop_of(fault)),
-    }
+    compared_with(rt, asked, names, diff, &mut data.device, &mut out.device)
 }
 
 /// Writes what was changed: the page, the table, and what is printed.
@@ -115,6 +125,22 @@ fn tell_changes<'v, R: Files + Print + AllocGlobal>(
     print_text(rt, text)
 }
 
+/// Tells what was changed.
+fn tell_diff<R: Files + Print + AllocGlobal>(
+    rt: &R,
+    asked: &Asked<'_>,
+    names: &Names<'_>,
+    diff: &Diff<'_>,
+) -> Result<(), Stop> {
+    let Ok(kinds) = diff.kinds() else {
+        return Err(Stop::of_memory());
+    };
+    let Ok(areas) = diff.areas(names) else {
+        return Err(Stop::of_memory());
+    };
+    tell_changes(rt, asked, &*names, diff, &kinds, &areas)
+}
+
 /// `diff`, where no file that is written is one of the others.
 pub(crate) fn diff_files<R: Files + Print + AllocGlobal>(
     rt: &R,
@@ -129,11 +155,5 @@ pub(crate) fn diff_files<R: Files + Print + AllocGlobal>(
         return Err(Stop::of_memory());
     };
     let diff = compared(rt, asked, names, diff)?;
-    let Ok(kinds) = diff.kinds() else {
-        return Err(Stop::of_memory());
-    };
-    let Ok(areas) = diff.areas(names) else {
-        return Err(Stop::of_memory());
-    };
-    tell_changes(rt, asked, &*names, &diff, &kinds, &areas)
+    tell_diff(rt, asked, names, &diff)
 }
