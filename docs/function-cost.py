@@ -34,9 +34,9 @@ ROOT = os.path.dirname(os.path.dirname(os.path.realpath(__file__)))
 KIT = os.path.dirname(os.path.dirname(os.path.realpath(shutil.which("rt") or "rt")))
 KINDS = {"Lts": "paths", "Tie": "tie", "Proof": "proof"}
 COLUMNS = *KINDS.values(), "rest"
-# The other modules that the compiler makes of one function.
+# The other modules that the compiler makes of one function. (A type of such a name has the name of a method behind it.)
 PARTS = re.compile(
-    r"\.(Lts|Tie|Proof|Code|Met|Statement|Symbol|Key|Kinds|Carried|Layout|Reads|View|TheLink|Goals|Given|Invariants|Answers|TheLinks)\b"
+    r"\.((?:Lts|Tie|Proof|Code|Met|Statement|Symbol|Key|Kinds|Carried|Layout|Reads|View|TheLink|Goals|Given|Invariants|Answers)\b(?!\.[a-z])|TheLinks\b)"
     r"(?:-(?!requires|ensures)([^.]*?)(?:-\d+)*)?(\..*)?$"
 )
 # Where a check writes nothing for so long it was another check that wrote the file before.
