@@ -110,10 +110,10 @@ def look(root, checks, seconds, clock):
         below.update(path if pid in below else [])
     for pid in below & there.keys():
         _, began, name, used = there[pid]
-        # (the name changes where a process becomes another program)
+        # (the name changes where a process becomes another program, and its words are there a moment later)
         key = pid, began, name
-        if key not in checks:
-            checks[key] = check_of(pid)
+        if not checks.get(key):
+            checks[key] = check_of(pid) if name == "rattle" else None
         if checks[key]:
             seconds[key] = used
             now = time.monotonic()
