@@ -1,11 +1,10 @@
 //! The bytes that were read and aren't cut into lines yet.
 
-ghost use Rattle.std.specs.Prelude.{◌≡◌, ◌≤◌, [], drop, length, IfOk, OnOk, OnErr, true, IsErrOf};
+ghost use Rattle.std.specs.Prelude.{◌≡◌, ◌≤◌, ◌+◌, ◌++◌, ℕ, List, [], drop, length, take, IfOk, OnOk, OnErr, true, IsErrOf, vec_capacity, vec_len};
 ghost use Rattle.cse_value.specs.Device.{Keeps, IsUnfailing, FailsOnce};
 ghost use Rattle.cse_case.specs.RunReading.{ReadsMore};
-ghost use Rattle.cse_case.specs.declared.buffer.ReadFault.TheVariants.{Device, Memory};
 
-use cse_value::{Failed, Input};
+use cse_value::Input;
 use std::alloc::{AllocError, Global};
 use std::marker::Model;
 
@@ -19,19 +18,33 @@ pub enum ReadFault {
     Memory,
 }
 
-impl From<Failed> for ReadFault {
-    ghost from_gives = { λ _ e. e ≡ Device };
-
-    fn from(_failed: Failed) -> ReadFault {
-        ReadFault::Device
+/// A copy of bytes, with room for what one read gives.
+fn copy_of(alloc: Global, held: &[u8]) -> Result<Vec<u8>, AllocError>
+    ensures items { IfOk result (λ bytes. bytes.items ≡ held.now) }
+    ensures room { IfOk result (λ bytes. vec_len bytes + 65536 ≤ vec_capacity bytes) }
+{
+    let mut bytes = Vec::from_slice(alloc, held)?;
+    match bytes.reserve(CHUNK) {
+        Ok(()) => Ok(bytes),
+        Err(refused) => Err(refused),
     }
 }
 
-impl From<AllocError> for ReadFault {
-    ghost from_gives = { λ _ e. e ≡ Memory };
-
-    fn from(_refused: AllocError) -> ReadFault {
-        ReadFault::Memory
+/// Reads once, into the front of a chunk.
+fn read_chunk<R: Input>(chunk: &mut Vec<u8>, input: &mut R) -> Result<usize, ReadFault>
+    ensures fits { IfOk result (λ n. n ≤ length chunk.new.items) }
+    ensures more { IfOk result (λ n. (held : List ℕ) → ReadsMore (R.given input.old) (R.given input.new) held (held ++ take n chunk.new.items) n) }
+    ensures kept { OnErr result (Keeps (R.given input.old) (R.given input.new)) }
+    ensures works { OnOk result (IsUnfailing (R.given input.old) (R.given input.new)) }
+    ensures failed { IsErrOf result ReadFault.Device → FailsOnce (R.given input.old) (R.given input.new) }
+    ensures sound { IsErrOf result ReadFault.Memory → IsUnfailing (R.given input.old) (R.given input.new) }
+{
+    let Ok(()) = chunk.resize(CHUNK, 0) else {
+        return Err(ReadFault::Memory);
+    };
+    match input.read(chunk) {
+        Ok(n) => Ok(n),
+        Err(_) => Err(ReadFault::Device),
     }
 }
 
@@ -97,11 +110,16 @@ impl Buffer {
         ensures failed { IsErrOf result ReadFault.Device → FailsOnce (R.given input.old) (R.given input.new) }
         ensures sound { IsErrOf result ReadFault.Memory → IsUnfailing (R.given input.old) (R.given input.new) }
     {
-        let mut bytes = Vec::from_slice(alloc, self.as_slice())?;
-        bytes.reserve(CHUNK)?;
-        self.chunk.resize(CHUNK, 0)?;
-        let n = input.read(&mut self.chunk)?;
-        bytes.extend_from_slice(&self.chunk[..n])?;
+        let Ok(mut bytes) = copy_of(alloc, self.as_slice()) else {
+            return Err(ReadFault::Memory);
+        };
+        let n = match read_chunk(&mut self.chunk, input) {
+            Ok(n) => n,
+            Err(fault) => return Err(fault),
+        };
+        let Ok(()) = bytes.extend_from_slice(&self.chunk[..n]) else {
+            unreachable!();
+        };
         self.bytes = bytes;
         self.at = 0;
         Ok(n)

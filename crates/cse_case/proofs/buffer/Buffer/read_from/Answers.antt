@@ -1,94 +1,45 @@
-use Rattle.cse_case.specs.declared.buffer.ReadFault.TheVariants.{Device, Memory}
-use Rattle.cse_case.specs.declared.buffer.ReadFault.{ReadFault}
+use Rattle.std.proofs.Common.{◌≡◌, ℕ, Result, Ok, Err, refl}
 use Rattle.cse_value.proofs.ReadLaws.{Keeps-refl}
-use Rattle.std.proofs.lemmas.Result.{IfOk-from_err, err_from_is_err_and}
-use Rattle.std.specs.Result.{OnErr}
-use Rattle.std.proofs.Common.{Result, Ok, Err, refl, ◌≡◌}
+use Rattle.cse_case.specs.declared.buffer.ReadFault.{ReadFault}
+use Rattle.cse_case.specs.declared.buffer.ReadFault.TheVariants.{Device, Memory}
 use Rattle.cse_case.proofs.buffer.Buffer.read_from.Goals as goal
 
--- what holds of any error
-on_err : {T E : Type 0} (r : Result T E) (P : Type 0) → P → OnErr r P
-on_err (Ok x) P p = tt
-on_err (Err e) P p = p
+-- want of memory is no fault of a device, and what was read is no error
+not_device : (r : Result ℕ ReadFault) → r ≡ Err Memory → r ≡ Err Device → ⊥
+not_device r memory device = cc
 
-pub returns-in_err-bytes-clause-more : goal.returns-in_err-bytes-clause-more
-returns-in_err-bytes-clause-more g c = IfOk-from_err c.from_residual.result _ c.from_residual.ensures.0
+no_error : (r : Result ℕ ReadFault) (n : ℕ) (e : ReadFault) → r ≡ Ok n → r ≡ Err e → ⊥
+no_error r n e ok err = cc
 
-pub returns-in_err-bytes-clause-same : goal.returns-in_err-bytes-clause-same
-returns-in_err-bytes-clause-same g c = on_err c.from_residual.result _ refl
+pub returns-in_default-clause-same : goal.returns-in_default-clause-same
+returns-in_default-clause-same g c = refl
 
-pub returns-in_err-bytes-clause-kept : goal.returns-in_err-bytes-clause-kept
-returns-in_err-bytes-clause-kept g c = on_err c.from_residual.result _ (Keeps-refl _)
+pub returns-in_default-clause-kept : goal.returns-in_default-clause-kept
+returns-in_default-clause-kept g c = Keeps-refl _
 
-pub returns-in_err-bytes-clause-works : goal.returns-in_err-bytes-clause-works
-returns-in_err-bytes-clause-works g c = IfOk-from_err c.from_residual.result _ c.from_residual.ensures.0
+pub returns-in_default-clause-failed : goal.returns-in_default-clause-failed
+returns-in_default-clause-failed g c = λ e. absurd (not_device _ refl e)
 
-pub returns-in_err-reserve-clause-more : goal.returns-in_err-reserve-clause-more
-returns-in_err-reserve-clause-more g c = IfOk-from_err c.from_residual-in_err-reserve.result _ c.from_residual-in_err-reserve.ensures.0
-
-pub returns-in_err-reserve-clause-same : goal.returns-in_err-reserve-clause-same
-returns-in_err-reserve-clause-same g c = on_err c.from_residual-in_err-reserve.result _ refl
-
-pub returns-in_err-reserve-clause-kept : goal.returns-in_err-reserve-clause-kept
-returns-in_err-reserve-clause-kept g c = on_err c.from_residual-in_err-reserve.result _ (Keeps-refl _)
-
-pub returns-in_err-reserve-clause-works : goal.returns-in_err-reserve-clause-works
-returns-in_err-reserve-clause-works g c = IfOk-from_err c.from_residual-in_err-reserve.result _ c.from_residual-in_err-reserve.ensures.0
-
-pub returns-in_err-resize-clause-more : goal.returns-in_err-resize-clause-more
-returns-in_err-resize-clause-more g c = IfOk-from_err c.from_residual-in_err-resize.result _ c.from_residual-in_err-resize.ensures.0
-
-pub returns-in_err-resize-clause-same : goal.returns-in_err-resize-clause-same
-returns-in_err-resize-clause-same g c = on_err c.from_residual-in_err-resize.result _ c.self.view_is
-
-pub returns-in_err-resize-clause-kept : goal.returns-in_err-resize-clause-kept
-returns-in_err-resize-clause-kept g c = on_err c.from_residual-in_err-resize.result _ (Keeps-refl _)
-
-pub returns-in_err-resize-clause-works : goal.returns-in_err-resize-clause-works
-returns-in_err-resize-clause-works g c = IfOk-from_err c.from_residual-in_err-resize.result _ c.from_residual-in_err-resize.ensures.0
-
-pub returns-in_err-n-clause-more : goal.returns-in_err-n-clause-more
-returns-in_err-n-clause-more g c = IfOk-from_err c.from_residual-in_err-n.result _ c.from_residual-in_err-n.ensures.0
-
-pub returns-in_err-n-clause-same : goal.returns-in_err-n-clause-same
-returns-in_err-n-clause-same g c = on_err c.from_residual-in_err-n.result _ c.self.view_is
-
-pub returns-in_err-n-clause-works : goal.returns-in_err-n-clause-works
-returns-in_err-n-clause-works g c = IfOk-from_err c.from_residual-in_err-n.result _ c.from_residual-in_err-n.ensures.0
+pub returns-in_default-clause-sound : goal.returns-in_default-clause-sound
+returns-in_default-clause-sound g c = λ _. refl
 
 pub invariant_of-self : goal.invariant_of-self
 invariant_of-self g c = c.self.invariant
 
-pub invariant_of-self-in_err-n : goal.invariant_of-self-in_err-n
-invariant_of-self-in_err-n g c = c.self.invariant
+pub returns-in-Err-clause-same : goal.returns-in-Err-clause-same
+returns-in-Err-clause-same g c = c.self.view_is
 
-pub invariant_of-self-in_err-extend_from_slice : goal.invariant_of-self-in_err-extend_from_slice
-invariant_of-self-in_err-extend_from_slice g c = c.self.invariant
+pub returns-in-Err-clause-kept : goal.returns-in-Err-clause-kept
+returns-in-Err-clause-kept g c = c.in-Err.ensures.kept
 
--- an error is one of the two
-not_device : {T : Type 0} (r : Result T ReadFault) (y : ReadFault) → r ≡ Err y → y ≡ Memory → r ≡ Err Device → ⊥
-not_device r y is memory device = cc
+pub returns-in-Err-clause-failed : goal.returns-in-Err-clause-failed
+returns-in-Err-clause-failed g c = c.in-Err.ensures.failed
 
-not_memory : {T : Type 0} (r : Result T ReadFault) (y : ReadFault) → r ≡ Err y → y ≡ Device → r ≡ Err Memory → ⊥
-not_memory r y is device memory = cc
+pub returns-in-Err-clause-sound : goal.returns-in-Err-clause-sound
+returns-in-Err-clause-sound g c = c.in-Err.ensures.sound
 
-pub returns-in_err-bytes-clause-failed : goal.returns-in_err-bytes-clause-failed
-returns-in_err-bytes-clause-failed g c = let p = err_from_is_err_and c.from_residual.result c.from_residual.ensures.1 in λ e. absurd (not_device c.from_residual.result p.0 p.1 p.2 e)
+pub returns-clause-failed : goal.returns-clause-failed
+returns-clause-failed g c = λ e. absurd (no_error _ _ _ refl e)
 
-pub returns-in_err-bytes-clause-sound : goal.returns-in_err-bytes-clause-sound
-returns-in_err-bytes-clause-sound g c = λ _. refl
-
-pub returns-in_err-reserve-clause-failed : goal.returns-in_err-reserve-clause-failed
-returns-in_err-reserve-clause-failed g c = let p = err_from_is_err_and c.from_residual-in_err-reserve.result c.from_residual-in_err-reserve.ensures.1 in λ e. absurd (not_device c.from_residual-in_err-reserve.result p.0 p.1 p.2 e)
-
-pub returns-in_err-reserve-clause-sound : goal.returns-in_err-reserve-clause-sound
-returns-in_err-reserve-clause-sound g c = λ _. refl
-
-pub returns-in_err-resize-clause-failed : goal.returns-in_err-resize-clause-failed
-returns-in_err-resize-clause-failed g c = let p = err_from_is_err_and c.from_residual-in_err-resize.result c.from_residual-in_err-resize.ensures.1 in λ e. absurd (not_device c.from_residual-in_err-resize.result p.0 p.1 p.2 e)
-
-pub returns-in_err-resize-clause-sound : goal.returns-in_err-resize-clause-sound
-returns-in_err-resize-clause-sound g c = λ _. refl
-
-pub returns-in_err-n-clause-sound : goal.returns-in_err-n-clause-sound
-returns-in_err-n-clause-sound g c = let p = err_from_is_err_and c.from_residual-in_err-n.result c.from_residual-in_err-n.ensures.1 in λ e. absurd (not_memory c.from_residual-in_err-n.result p.0 p.1 p.2 e)
+pub returns-clause-sound : goal.returns-clause-sound
+returns-clause-sound g c = λ e. absurd (no_error _ _ _ refl e)
