@@ -4,16 +4,20 @@ use Rattle.cse_value.proofs.ReadLaws.{Consumes-kept, Consumes-nil, Consumes-tran
 use Rattle.std.proofs.lemmas.Bool.{eqb-true, false≢true, false_from_ne_true}
 use Rattle.std.proofs.lemmas.List.{length-map, nil_from_length, take_at}
 use Rattle.cse_value.specs.Device.{Consumes, IsAtEnd, IsUnfailing, Keeps, Given}
+use Rattle.cse_case.specs.declared.decode.LineStop.{LineStop}
+use Rattle.cse_case.specs.declared.decode.LineStop.TheVariants.{Memory, Fault}
 use Rattle.cse_dict.specs.Dictionary.{DictionaryText}
 use Rattle.cse_case.specs.declared.error.DataError.{DataError}
 use Rattle.cse_case.specs.Line.{FileLine, lines_in}
 use Rattle.cse_case.specs.Columns.{line_text}
 use Rattle.cse_case.specs.Cutting.{HasNoFeed}
+use Rattle.cse_case.specs.Decoding.{IfFault}
 use Rattle.cse_case.specs.RunReading.{ReadsMore}
 use Rattle.cse_case.specs.Run.{RunText, run_text, written_run}
 use Rattle.cse_case.specs.Runs.{MayFollow, fault_in, first_fault, given_runs, given_of, later_by}
 use Rattle.cse_case.specs.Reader.{GivesRun, IsError, NeedsMore, Next, ReaderText, given_lines, held_of, is_front}
 use Rattle.cse_case.specs.Gathering.{Gathered, IsRunOf, bytes_of, first_id, front_after}
+use Rattle.cse_case.specs.Refusing.{IsReadError, IsRefusal}
 use Rattle.cse_case.specs.Resting.{GivesRest, HasNoRest, IsResting, TakesRest, reader_of}
 use Rattle.cse_case.specs.Taking.{GathersAll, GivesFirst, RefusesAt}
 use Rattle.cse_case.proofs.GatherLaws.{are_sound, held_bytes, length-done}
@@ -328,6 +332,24 @@ pub HasRead-memory : (before now after : Given) (old : ReaderText) (run : RunTex
 HasRead-memory before now after old run uncut ended reads h k new rest error n l =
     HasRead-kept before now after old run uncut ended reads h k new rest error (IsError-memory old.dictionary (held_of old ++ h.taken) (is_front old) ended old.lines error n l)
 
+-- a line isn't taken
+pub Next-refused : (before now : Given) (old : ReaderText) (run : RunText) (uncut : List ℕ) (ended : Bool) (reads : ℕ)
+    → HasRead before now old run uncut ended reads → (new : RunText) (rest : List ℕ) (n : ℕ) (stop : LineStop) (error : DataError)
+    → IfFault (RefusesAt old.dictionary (is_front old) ended run uncut new) stop → n ≡ length new.lines → IsRefusal old.lines n stop error
+    → Next before now old (reader_of old.dictionary new rest ended reads (old.lines + 0)) (Err error)
+Next-refused before now old run uncut ended reads h new rest n Memory error f e r =
+    HasRead-memory before now now old run uncut ended reads h (Keeps-refl now) new rest error r.0 r.1
+Next-refused before now old run uncut ended reads h new rest n (Fault number) error f e r =
+    let fault = subst (RefusesAt old.dictionary (is_front old) ended run uncut new) (sym r.0) f in
+    Next-error before now old run uncut ended reads h new rest ended error refl
+    (IsError-fault before now old run uncut ended reads h new error fault (r.1 ∙ ap (λ k. old.lines + k + 1) e))
+
+-- and no read failed
+pub refused_low : (d : DictionaryText) (front ended : Bool) (run : RunText) (uncut : List ℕ) (new : RunText) (lines n : ℕ) (stop : LineStop) (error : DataError)
+    → IfFault (RefusesAt d front ended run uncut new) stop → IsRefusal lines n stop error → error.number ≡ 70 → ⊥
+refused_low d front ended run uncut new lines n Memory error f r e = omega (arith, r.0)
+refused_low d front ended run uncut new lines n (Fault number) error f r e = omega (arith, r.0, f.low)
+
 module _ (before now : Given) (old : ReaderText) (run : RunText) (uncut : List ℕ) (ended : Bool) (reads : ℕ)
     (h : HasRead before now old run uncut ended reads) (open' : ended ≡ false) (new : RunText) (rest : List ℕ)
     (a : GathersAll old.dictionary (is_front old) ended run uncut new rest) where
@@ -355,6 +377,14 @@ module _ (before now : Given) (old : ReaderText) (run : RunText) (uncut : List �
   HasRead-needed after k new' rest' error n l =
       HasRead-kept before now after old run uncut ended reads h k new' rest' error
       (IsError-needed old.dictionary (held_of old ++ h.taken) (is_front old) ended old.lines error needs_more n l)
+
+  -- the read that was needed gave nothing
+  pub Next-unread : (after : Given) (error : DataError) → IsReadError now after reads error → (new' : RunText) (rest' : List ℕ)
+      → Next before after old (reader_of old.dictionary new' rest' ended reads (old.lines + 0)) (Err error)
+  Next-unread after error e new' rest' = elim e.number [
+    | inl n ↦ HasRead-needed after e.kept new' rest' error n e.line
+    | inr n ↦ HasRead-memory before now after old run uncut ended reads h e.kept new' rest' error n e.line
+  ]
 
 -- what the end of the file gives
 module _ (before now : Given) (old : ReaderText) (run : RunText) (uncut : List ℕ) (ended : Bool) (reads : ℕ)

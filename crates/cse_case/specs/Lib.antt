@@ -9,6 +9,7 @@ pub mod Run
 pub mod Runs
 pub mod Untouched
 pub mod Reader
+pub mod Refusing
 pub mod Resting
 pub mod Gathering
 pub mod Cutting

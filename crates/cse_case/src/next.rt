@@ -1,10 +1,13 @@
 //! One call of the reader, over its parts.
 
-ghost use Rattle.std.specs.Prelude.{◌≡◌, ◌≢◌, ◌≤◌, ◌+◌, ◌<◌, ◌^◌, ◌⊎◌, true, length, Some, IfErr, OnErr, OnOk};
+ghost use Rattle.std.specs.Prelude.{◌≡◌, ◌≢◌, ◌≤◌, ◌+◌, ◌<◌, ◌^◌, ◌⊎◌, true, length, Some, IfErr, IfOk, OnErr, OnOk};
 ghost use Rattle.cse_value.specs.Device.{IsAtEnd, FailsOnce, IsUnfailing};
+ghost use Rattle.cse_case.specs.Decoding.{IfFault};
 ghost use Rattle.cse_case.specs.NamedColumns.{layout_of};
 ghost use Rattle.cse_case.specs.Reader.{Next, given_lines};
+ghost use Rattle.cse_case.specs.Refusing.{IsReadError, IsRefusal};
 ghost use Rattle.cse_case.specs.Resting.{IsLayoutOf, IsResting, TakesRest, reader_of};
+ghost use Rattle.cse_case.specs.RunReading.{ReadsMore};
 
 use crate::buffer::{Buffer, ReadFault};
 use crate::decode::LineStop;
@@ -40,6 +43,42 @@ fn take_rest(alloc: Global, run: &mut Run) -> Option<Run>
     }
     let next = Run::new(alloc, run.first_line() + len as u64);
     Some(mem::replace(run, next))
+}
+
+/// Why a line behind so many given ones and so many of the run isn't taken.
+fn refusal(stop: LineStop, lines: u64, len: u64) -> DataError
+    requires { IfFault (λ number. lines + len + 1 < 2 ^ 64) stop }
+    ensures { IsRefusal lines len stop result }
+{
+    match stop {
+        LineStop::Memory => error(WANT_OF_MEMORY),
+        LineStop::Fault(number) => DataError {
+            number,
+            line: lines + len + 1,
+        },
+    }
+}
+
+/// Reads once more behind what is held, unless so many reads gave bytes as may.
+fn read_more<R: Input>(
+    alloc: Global,
+    input: &mut R,
+    buffer: &mut Buffer,
+    reads: u64,
+) -> Result<usize, DataError>
+    ensures more { IfOk result (λ n. ReadsMore (R.given input.old) (R.given input.new) buffer.old buffer.new n) }
+    ensures few { OnOk result (reads ≡ 2 ^ 40 → ⊥) }
+    ensures err { IfErr result (IsReadError (R.given input.old) (R.given input.new) reads) }
+    ensures works { OnOk result (IsUnfailing (R.given input.old) (R.given input.new)) }
+{
+    if reads == MOST_READS {
+        return Err(error(READ_FAILED));
+    }
+    match buffer.read_from(alloc, input) {
+        Ok(n) => Ok(n),
+        Err(ReadFault::Device) => Err(error(READ_FAILED)),
+        Err(ReadFault::Memory) => Err(error(WANT_OF_MEMORY)),
+    }
 }
 
 /// The next run of what is held and read. It reads where these have no answer, and only there it ends in
@@ -84,20 +123,12 @@ fn next_run<R: Input>(
             Ok(Some(given)) => return Ok(Some(given)),
             Ok(None) if *ended => return Ok(take_rest(alloc, run)),
             Ok(None) => {}
-            Err(LineStop::Memory) => return Err(error(WANT_OF_MEMORY)),
-            Err(LineStop::Fault(number)) => return Err(DataError {
-                number,
-                line: lines + run.len() as u64 + 1,
-            }),
+            Err(stop) => return Err(refusal(stop, lines, run.len() as u64)),
         }
-        if *reads == MOST_READS {
-            return Err(error(READ_FAILED));
-        }
-        match buffer.read_from(alloc, input) {
+        match read_more(alloc, input, buffer, *reads) {
             Ok(0) => *ended = true,
             Ok(_) => *reads += 1,
-            Err(ReadFault::Device) => return Err(error(READ_FAILED)),
-            Err(ReadFault::Memory) => return Err(error(WANT_OF_MEMORY)),
+            Err(failure) => return Err(failure),
         }
     }
 }

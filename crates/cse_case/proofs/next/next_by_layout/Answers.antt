@@ -1,4 +1,5 @@
 use Rattle.std.proofs.Common.{arith}
+use Rattle.cse_case.proofs.RunReadLaws.{Next-memory}
 use Rattle.cse_case.proofs.next.next_by_layout.Goals as goal
 
 pub returns-clause-next : goal.returns-clause-next
@@ -39,3 +40,19 @@ returns-in_default-keep_lines-clause-end g c = c.requires.end
 
 pub returns-in_default-keep_lines-clause-failed : goal.returns-in_default-keep_lines-clause-failed
 returns-in_default-keep_lines-clause-failed g c = λ e. absurd (omega (arith, c.error-in_default-keep_lines.ensures.number, e))
+
+pub returns-in_default-clause-next : goal.returns-in_default-clause-next
+returns-in_default-clause-next g c = Next-memory _ _ c.error.result c.requires.rests c.requires.end c.error.ensures.number c.error.ensures.line
+
+pub returns-in_default-clause-few_reads : goal.returns-in_default-clause-few_reads
+returns-in_default-clause-few_reads g c = c.requires.rests.few_reads
+
+pub returns-in_default-clause-failed : goal.returns-in_default-clause-failed
+returns-in_default-clause-failed g c = λ e. absurd (omega (arith, c.error.ensures.number, e))
+
+pub returns-in_default-keep_lines-clause-next : goal.returns-in_default-keep_lines-clause-next
+returns-in_default-keep_lines-clause-next g c =
+    Next-memory _ _ c.error-in_default-keep_lines.result c.requires.rests c.requires.end c.error-in_default-keep_lines.ensures.number c.error-in_default-keep_lines.ensures.line
+
+pub returns-in_default-keep_lines-clause-few_reads : goal.returns-in_default-keep_lines-clause-few_reads
+returns-in_default-keep_lines-clause-few_reads g c = c.requires.rests.few_reads
