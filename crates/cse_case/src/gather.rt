@@ -53,18 +53,24 @@ pub fn gather(
     ensures err { IfErr result (IfFault (λ number. RefusesAt dictionary.now first ended run.old buffer.old run.new number)) }
 {
     'lines: loop {
-        take_alike(layout, run, buffer)?;
+        let Ok(()) = take_alike(layout, run, buffer) else {
+            return Err(LineStop::Memory);
+        };
         let front = is_front(first, run);
         let Some(line) = first_line(buffer.as_slice(), front, ended) else {
             return Ok(None);
         };
         let len = line.len();
-        let last = take_line(dictionary, layout, run, &mut read.columns, line, front)?;
-        if let Some(head) = last {
-            let given = end_run(alloc, run, room, read, head, line)?;
-            buffer.drop_front(len);
-            return Ok(Some(given));
+        match take_line(dictionary, layout, run, &mut read.columns, line, front) {
+            Ok(None) => buffer.drop_front(len),
+            Ok(Some(head)) => {
+                let Ok(given) = end_run(alloc, run, room, read, head, line) else {
+                    return Err(LineStop::Memory);
+                };
+                buffer.drop_front(len);
+                return Ok(Some(given));
+            }
+            Err(stop) => return Err(stop),
         }
-        buffer.drop_front(len);
     }
 }

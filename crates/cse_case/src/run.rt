@@ -140,18 +140,19 @@ fn push_line(
 }
 
 impl Lines {
-    /// One line alone, which these columns are, with its bytes.
+    /// One line alone, which these columns are, with its bytes and the mark.
     #[inline(always)]
-    fn begin(&mut self, head: Head, bytes: &[u8]) -> Result<(), AllocError>
+    pub(crate) fn begin(&mut self, head: Head, line: &[u8]) -> Result<(), AllocError>
+        requires { line.now ≡ mark_bytes head.marked ++ written_line (line_with self.old.columns head) }
         ensures columns { self.new.columns ≡ self.old.columns }
         ensures lines { OnOk result (self.new.lines.items ≡ line_behind [] self.old.columns head ∷ []) }
-        ensures bytes { OnOk result (self.new.bytes ≡ bytes.now) }
+        ensures bytes { OnOk result (self.new.bytes ≡ written_line (line_with self.old.columns head)) }
     {
         self.lines.clear();
         self.bytes.truncate(0);
-        let line = line_from(0, self.columns.len(), head);
-        self.bytes.push(bytes)?;
-        self.lines.push(line)?;
+        let first = line_from(0, self.columns.len(), head);
+        self.bytes.push(behind_mark(line, head.marked))?;
+        self.lines.push(first)?;
         self.is_ascii = head.is_ascii;
         Ok(())
     }
@@ -220,27 +221,20 @@ impl Run {
         }
     }
 
-    /// The run of one line, of which these are the columns, with its bytes and the mark.
+    /// The run of one line, which is the only one of these.
     #[inline(always)]
-    pub(crate) fn beginning(
-        alloc: Global,
-        own: Box<Lines>,
-        first_line: u64,
-        head: Head,
-        line: &[u8],
-    ) -> Result<Run, AllocError>
+    pub(crate) fn beginning(alloc: Global, own: Box<Lines>, first_line: u64, head: Head) -> Run
         requires fits { head.len ≤ length own.value.columns }
-        requires bytes { line.now ≡ mark_bytes head.marked ++ written_line (line_with own.value.columns head) }
-        ensures { IfOk result (λ run. run ≡ run_of first_line head.marked (line_with own.value.columns head)) }
+        requires lines { own.value.lines.items ≡ line_behind [] own.value.columns head ∷ [] }
+        requires bytes { own.value.bytes ≡ written_line (line_with own.value.columns head) }
+        ensures { result ≡ run_of first_line head.marked (line_with own.value.columns head) }
     {
-        let mut kept = own;
-        kept.begin(head, behind_mark(line, head.marked))?;
-        Ok(Run {
+        Run {
             alloc,
-            lines: Some(kept),
+            lines: Some(own),
             marked: head.marked,
             first_line,
-        })
+        }
     }
 
     /// Appends a line that was read: its columns and its bytes, with the mark.

@@ -75,6 +75,22 @@ pub fn take_line(
     Ok(None)
 }
 
+/// Memory for lines: that of lines that were given back, of which so many columns are left at most, or new memory.
+#[inline(always)]
+fn take_room(
+    alloc: Global,
+    room: &mut Option<Box<Lines>>,
+    len: usize,
+) -> Result<Box<Lines>, AllocError> {
+    match room.take() {
+        Some(mut lines) => {
+            lines.columns.shorten(len);
+            Ok(lines)
+        }
+        None => new_lines(alloc),
+    }
+}
+
 /// Gives the run that a line ended. The next one begins with that line, where it was read; from then on lines are read
 /// over others, which may be those of a run that was given back.
 #[inline(always)]
@@ -93,12 +109,9 @@ pub fn end_run(
     ensures next { OnOk result (run.new ≡ run_of (run.old.first_line + length run.old.lines) head.marked (line_with read.old.value.columns head)) }
 {
     let number = run.first_line() + run.len() as u64;
-    let mut others = match room.take() {
-        Some(others) => others,
-        None => new_lines(alloc)?,
-    };
-    others.columns.shorten(read.columns.len());
+    read.begin(head, line)?;
+    let others = take_room(alloc, room, read.columns.len())?;
     let own = mem::replace(read, others);
-    let next = Run::beginning(alloc, own, number, head, line)?;
+    let next = Run::beginning(alloc, own, number, head);
     Ok(mem::replace(run, next))
 }
