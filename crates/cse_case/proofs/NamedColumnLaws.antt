@@ -1,13 +1,15 @@
 -- Laws of the columns that a dictionary names.
-use Rattle.std.proofs.Common.{◌≡◌, ℕ, ◌+◌, ◌-◌, ◌<◌, ◌≤◌, max, false, List, [], ◌∷◌, ◌++◌, length, get_or, take, drop, refl, ap, sym, ◌∙◌, arith, append_assoc, append-nil, length-drop, subst, take-add}
+use Rattle.std.proofs.Common.{◌≡◌, ℕ, ◌+◌, ◌-◌, ◌<◌, ◌≤◌, max, Bool, true, false, cond, eqb, filter, map, List, [], ◌∷◌, ◌++◌, length, get_or, take, drop, refl, ap, sym, ◌∙◌, arith, append_assoc, append-nil, length-drop, subst, take-add}
 use Rattle.std.specs.Str.{bytes_eq}
 use Rattle.std.proofs.lemmas.Slice.Eq.{bytes_eq-Decides}
-use Rattle.std.proofs.lemmas.List.{drop-drop, drop_more, take_at, drop_at, length-take-le}
-use Rattle.std.proofs.lemmas.Bool.{false_from_ne_true}
+use Rattle.std.proofs.lemmas.List.{map-append, drop-drop, drop_more, take_at, drop_at, length-take-le}
+use Rattle.std.proofs.lemmas.List.Elements.{filter_more}
+use Rattle.std.proofs.lemmas.Bool.{eqb-true, false_from_ne_true}
 use Rattle.cse_lemmas.proofs.Booleans.{same_from_both}
 use Rattle.cse_dict.specs.Dictionary.{DictionaryText}
+use Rattle.cse_value.specs.declared.shape.ItemShape.{ItemShape}
 use Rattle.cse_case.specs.declared.layout.ColumnSpan.{ColumnSpan}
-use Rattle.cse_case.specs.NamedColumns.{AreFront, HaveSame, LayoutText, TellApart, field_at, fields_at, id_spans, last_column, layout_of, least_width}
+use Rattle.cse_case.specs.NamedColumns.{AreFront, HaveSame, LayoutText, TellApart, field_at, fields_at, id_spans, last_column, layout_of, least_width, span_of}
 
 front_same : (x y r s : List ℕ) → length x ≡ length y → x ++ r ≡ y ++ s → x ≡ y
 front_same x y r s len e = sym (take_at x r (length x) refl) ∙ ap (take (length x)) e ∙ take_at y s (length x) (sym len)
@@ -137,3 +139,21 @@ four_more a b at same next =
     let four : at + 4 - at ≡ 4 = omega arith in
     let next_four : take 4 (drop at a) ≡ take 4 (drop at b) = subst (λ n. take n (drop at a) ≡ take n (drop at b)) four next in
     take-add at 4 a ∙ (ap (λ l. l ++ take 4 (drop at a)) same ∙ (ap (λ l. take at b ++ l) next_four ∙ sym (take-add at 4 b)))
+
+-- the columns of the id items among one item more
+abbrev is_id : ItemShape → Bool
+is_id item = eqb item.owner 255
+
+more_spans : (items : List ItemShape) (i : ℕ) (d : ItemShape) (own : Bool) → i < length items → is_id (get_or items i d) ≡ own
+    → map span_of (filter is_id (take (i + 1) items)) ≡ map span_of (filter is_id (take i items)) ++ map span_of (cond own (get_or items i d ∷ []) [])
+more_spans items i d own h e = ap (map span_of) (filter_more is_id items i d h)
+    ∙ map-append span_of (filter is_id (take i items)) (cond (is_id (get_or items i d)) (get_or items i d ∷ []) [])
+    ∙ ap (λ b. map span_of (filter is_id (take i items)) ++ map span_of (cond b (get_or items i d ∷ []) [])) e
+
+pub id_spans-own : (items : List ItemShape) (i : ℕ) (d : ItemShape) → i < length items → (get_or items i d).owner ≡ 255
+    → map span_of (filter (λ item. eqb item.owner 255) (take (i + 1) items)) ≡ map span_of (filter (λ item. eqb item.owner 255) (take i items)) ++ span_of (get_or items i d) ∷ []
+id_spans-own items i d h e = more_spans items i d true h (ap (λ n. eqb n 255) e)
+
+pub id_spans-other : (items : List ItemShape) (i : ℕ) (d : ItemShape) → i < length items → ((get_or items i d).owner ≡ 255 → ⊥)
+    → map span_of (filter (λ item. eqb item.owner 255) (take (i + 1) items)) ≡ map span_of (filter (λ item. eqb item.owner 255) (take i items))
+id_spans-other items i d h e = more_spans items i d false h (false_from_ne_true _ (λ t. e (eqb-true _ _ t))) ∙ append-nil _

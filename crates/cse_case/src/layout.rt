@@ -58,11 +58,13 @@ fn span_of(item: &ItemShape) -> ColumnSpan
 fn id_spans(alloc: Global, items: &[ItemShape]) -> Result<Vec<ColumnSpan>, AllocError>
     ensures { IfOk result (λ v. v.items ≡ map span_of (filter (λ item. item.owner == 255) items.now)) }
 {
-    items
-        .iter()
-        .filter(|item| item.owner == ID_OWNER)
-        .map(span_of)
-        .collect(alloc)
+    let mut spans = Vec::new(alloc);
+    'items: for item in items {
+        if item.owner == ID_OWNER {
+            spans.push(span_of(item))?;
+        }
+    }
+    Ok(spans)
 }
 
 /// The last column of a place.
@@ -87,11 +89,15 @@ fn last_column(spans: &[ColumnSpan]) -> usize
 fn join(first: ColumnSpan, second: ColumnSpan) -> Option<ColumnSpan>
     ensures { IfSome result (λ both. HaveSame (both ∷ []) (first ∷ second ∷ [])) }
 {
-    let end = first.start.checked_add(first.len)?;
+    let Some(end) = first.start.checked_add(first.len) else {
+        return None;
+    };
     if first.start == 0 || end != second.start {
         return None;
     }
-    let len = first.len.checked_add(second.len)?;
+    let Some(len) = first.len.checked_add(second.len) else {
+        return None;
+    };
     Some(ColumnSpan {
         start: first.start,
         len,
