@@ -75,7 +75,9 @@ fn short_char(text: &[u8], at: usize) -> Option<(char, usize)>
     if text.len() - at < 2 {
         return None;
     }
-    let column = char_of(byte, text[at + 1])?;
+    let Some(column) = char_of(byte, text[at + 1]) else {
+        return None;
+    };
     Some((column, 2))
 }
 
@@ -153,7 +155,9 @@ fn put_short_chars(
     let mut at = front;
     let mut len = front;
     'chars: while at < text.len() {
-        let (column, size) = short_char(text, at)?;
+        let Some((column, size)) = short_char(text, at) else {
+            return None;
+        };
         put_at(bytes, beside, len, column);
         len += 1;
         at += size;
@@ -229,7 +233,9 @@ fn put_short_beyond(bytes: &mut [u8], beside: &mut [char], text: &[u8]) -> Optio
     ensures columns { IfSome result (λ len. Holds (columns_by bytes.new beside.new) (chars text.now) len) }
 {
     let front = ascii_front(text);
-    let len = put_short_chars(bytes, beside, text, front)?;
+    let Some(len) = put_short_chars(bytes, beside, text, front) else {
+        return None;
+    };
     put_blanks_between(bytes, len, text.len());
     Some(len)
 }

@@ -83,9 +83,15 @@ fn three_columns(first: u8, second: u8, last: u8) -> Option<u32>
     if first == b' ' {
         return two_columns(second, last);
     }
-    let hundreds = digit(first)?;
-    let tens = digit(second)?;
-    let ones = digit(last)?;
+    let Some(hundreds) = digit(first) else {
+        return None;
+    };
+    let Some(tens) = digit(second) else {
+        return None;
+    };
+    let Some(ones) = digit(last) else {
+        return None;
+    };
     Some(100 * hundreds + 10 * tens + ones)
 }
 
@@ -95,11 +101,15 @@ fn two_columns(first: u8, last: u8) -> Option<u32>
     ensures number { IfSome result (λ n. digits_number (without_blanks (first ∷ last ∷ [])) ≡ Some n) }
     ensures low { IfSome result (λ n. n < 100) }
 {
-    let ones = digit(last)?;
+    let Some(ones) = digit(last) else {
+        return None;
+    };
     if first == b' ' {
         return Some(ones);
     }
-    let tens = digit(first)?;
+    let Some(tens) = digit(first) else {
+        return None;
+    };
     Some(10 * tens + ones)
 }
 

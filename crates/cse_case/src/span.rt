@@ -24,7 +24,9 @@ impl ItemSpan {
         ensures span { IfSome result (λ span. IsSpanOf (shape_of dictionary.now).items span) }
     {
         let shape = dictionary.shape();
-        let found = shape.items.get(item as usize)?;
+        let Some(found) = shape.items.get(item as usize) else {
+            return None;
+        };
         Some(ItemSpan {
             item,
             start: found.start.saturating_sub(1),

@@ -15,7 +15,7 @@ put_short_chars-requires-clause-over c =
 
 pub put_blanks_between-requires-clause-order : goal.put_blanks_between-requires-clause-order
 put_blanks_between-requires-clause-order c =
-    omega (arith, chars_fit c.args.text.now (IsUtf8-from_is_utf8 c.args.text.now c.in_ok-len.ensures.utf8), c.in_ok-len.ensures.count)
+    omega (arith, chars_fit c.args.text.now (IsUtf8-from_is_utf8 c.args.text.now c.in-Some.ensures.utf8), c.in-Some.ensures.count)
 
 pub returns-clause-columns : goal.returns-clause-columns
 returns-clause-columns c =
@@ -23,16 +23,16 @@ returns-clause-columns c =
     let first = columns_by c.args.bytes.now c.args.beside.now in
     let bytes = c.put_short_chars.new.bytes in
     let beside = c.put_short_chars.new.beside in
-    let n = c.in_ok-len.len in
+    let n = c.in-Some.len in
     let blanks = replicate (length text - n) 32 in
-    let fit = chars_fit text (IsUtf8-from_is_utf8 text c.in_ok-len.ensures.utf8) in
+    let fit = chars_fit text (IsUtf8-from_is_utf8 text c.in-Some.ensures.utf8) in
     let wide = length-columns_by c.args.bytes.now c.args.beside.now in
-    let few : n ≤ length text = omega (arith, fit, c.in_ok-len.ensures.count) in
+    let few : n ≤ length text = omega (arith, fit, c.in-Some.ensures.count) in
     let is : columns_by c.put_blanks_between.new.columns beside ≡ with_columns n blanks (columns_by bytes beside) =
     ap (λ l. columns_by l beside) c.put_blanks_between.ensures
-    ∙ with_ascii n blanks bytes beside (IsAscii-blanks (length text - n)) (omega (arith, few, length-replicate {A = ℕ} (length text - n) 32, c.requires.fits, c.in_ok-len.ensures.len)) in
+    ∙ with_ascii n blanks bytes beside (IsAscii-blanks (length text - n)) (omega (arith, few, length-replicate {A = ℕ} (length text - n) 32, c.requires.fits, c.in-Some.ensures.len)) in
     let room : length text ≤ length first = omega (arith, wide, c.requires.fits) in
     let held : Holds (with_columns n blanks (columns_by bytes beside)) (chars text) n =
     Holds-blanked first text (chars text) (columns_by bytes beside) n (behind_bytes c.args.bytes.now c.args.beside.now text c.requires.over c.requires.fits)
-    room c.in_ok-len.ensures.count few (c.in_ok-len.ensures.columns ∙ ap (λ k. chars text ++ drop k first) (sym c.in_ok-len.ensures.count)) in
+    room c.in-Some.ensures.count few (c.in-Some.ensures.columns ∙ ap (λ k. chars text ++ drop k first) (sym c.in-Some.ensures.count)) in
     subst (λ l. Holds l (chars text) n) (sym is) held

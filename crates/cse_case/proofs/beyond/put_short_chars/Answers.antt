@@ -30,8 +30,8 @@ put_at-requires c =
     let few = chars_fit front (IsUtf8-from_is_utf8 front c.chars.invariant.utf8) in
     let len = length-take-le c.chars.at c.args.text.now c.chars.invariant.fits in
     record {
-      bytes = omega (arith, few, len, c.chars.invariant.count, c.chars.invariant.wide, c.requires.bytes, c.in_ok-column.ensures.fits, c.in_ok-column.ensures.some);
-      beside = omega (arith, few, len, c.chars.invariant.count, c.chars.invariant.room, c.requires.bytes, c.requires.beside, c.in_ok-column.ensures.fits, c.in_ok-column.ensures.some);
+      bytes = omega (arith, few, len, c.chars.invariant.count, c.chars.invariant.wide, c.requires.bytes, c.in-Some.ensures.fits, c.in-Some.ensures.some);
+      beside = omega (arith, few, len, c.chars.invariant.count, c.chars.invariant.room, c.requires.bytes, c.requires.beside, c.in-Some.ensures.fits, c.in-Some.ensures.some);
     }
 
 pub overflow_add-len : goal.overflow_add-len
@@ -42,12 +42,12 @@ overflow_add-len c =
 pub put_eights-count-requires-clause-len : goal.put_eights-count-requires-clause-len
 put_eights-count-requires-clause-len c =
     let front = take c.chars.at c.args.text.now in
-    omega (arith, chars_fit front (IsUtf8-from_is_utf8 front c.chars.invariant.utf8), length-take-le c.chars.at c.args.text.now c.chars.invariant.fits, c.chars.invariant.count, c.in_ok-column.ensures.some)
+    omega (arith, chars_fit front (IsUtf8-from_is_utf8 front c.chars.invariant.utf8), length-take-le c.chars.at c.args.text.now c.chars.invariant.fits, c.chars.invariant.count, c.in-Some.ensures.some)
 
 pub overflow_add-len-then-size-eq2 : goal.overflow_add-len-then-size-eq2
 overflow_add-len-then-size-eq2 c =
     let front = take c.chars.at c.args.text.now in
-    omega (arith, chars_fit front (IsUtf8-from_is_utf8 front c.chars.invariant.utf8), length-take-le c.chars.at c.args.text.now c.chars.invariant.fits, c.chars.invariant.count, c.in_ok-column.ensures.some, c.put_eights-count.ensures.fits, c.type_inv)
+    omega (arith, chars_fit front (IsUtf8-from_is_utf8 front c.chars.invariant.utf8), length-take-le c.chars.at c.args.text.now c.chars.invariant.fits, c.chars.invariant.count, c.in-Some.ensures.some, c.put_eights-count.ensures.fits, c.type_inv)
 
 pub chars-preserved : goal.chars-preserved
 chars-preserved c =
@@ -58,11 +58,11 @@ chars-preserved c =
     let first = columns_by c.args.bytes.now c.args.beside.now in
     let few = chars_fit front (IsUtf8-from_is_utf8 front c.chars.invariant.utf8) in
     let room : len < length first =
-    omega (arith, few, length-take-le at text c.chars.invariant.fits, c.chars.invariant.count, c.requires.bytes, length-columns_by c.args.bytes.now c.args.beside.now, c.in_ok-column.ensures.fits, c.in_ok-column.ensures.some) in
-    let one = one_char text first (columns_by c.chars.bytes c.chars.beside) (columns_by c.put_at.new.bytes c.put_at.new.beside) at len _ c.in_ok-column.column c.chars.invariant.utf8 c.chars.invariant.count
-    c.chars.invariant.columns room c.in_ok-column.ensures.scalar c.in_ok-column.ensures.written c.put_at.ensures.columns in
+    omega (arith, few, length-take-le at text c.chars.invariant.fits, c.chars.invariant.count, c.requires.bytes, length-columns_by c.args.bytes.now c.args.beside.now, c.in-Some.ensures.fits, c.in-Some.ensures.some) in
+    let one = one_char text first (columns_by c.chars.bytes c.chars.beside) (columns_by c.put_at.new.bytes c.put_at.new.beside) at len _ c.in-Some.column c.chars.invariant.utf8 c.chars.invariant.count
+    c.chars.invariant.columns room c.in-Some.ensures.scalar c.in-Some.ensures.written c.put_at.ensures.columns in
     record {
-      fits = c.in_ok-column.ensures.fits;
+      fits = c.in-Some.ensures.fits;
       utf8 = one.0;
       count = one.1;
       wide = c.put_at.ensures.len ∙ c.chars.invariant.wide;
@@ -75,18 +75,18 @@ chars-preserved-then-size-eq2 c =
     let text = c.args.text.now in
     let at = c.chars.at in
     let len = c.chars.len in
-    let behind = at + c.in_ok-column.size in
+    let behind = at + c.in-Some.size in
     let front = take at text in
     let first = columns_by c.args.bytes.now c.args.beside.now in
     let few = chars_fit front (IsUtf8-from_is_utf8 front c.chars.invariant.utf8) in
     let here = length-take-le at text c.chars.invariant.fits in
     let wide : length c.put_at.new.bytes ≡ length c.args.bytes.now = c.put_at.ensures.len ∙ c.chars.invariant.wide in
     let room : len < length first =
-    omega (arith, few, here, c.chars.invariant.count, c.requires.bytes, length-columns_by c.args.bytes.now c.args.beside.now, c.in_ok-column.ensures.fits, c.in_ok-column.ensures.some) in
-    let one = one_char text first (columns_by c.chars.bytes c.chars.beside) (columns_by c.put_at.new.bytes c.put_at.new.beside) at len _ c.in_ok-column.column c.chars.invariant.utf8 c.chars.invariant.count
-    c.chars.invariant.columns room c.in_ok-column.ensures.scalar c.in_ok-column.ensures.written c.put_at.ensures.columns in
+    omega (arith, few, here, c.chars.invariant.count, c.requires.bytes, length-columns_by c.args.bytes.now c.args.beside.now, c.in-Some.ensures.fits, c.in-Some.ensures.some) in
+    let one = one_char text first (columns_by c.chars.bytes c.chars.beside) (columns_by c.put_at.new.bytes c.put_at.new.beside) at len _ c.in-Some.column c.chars.invariant.utf8 c.chars.invariant.count
+    c.chars.invariant.columns room c.in-Some.ensures.scalar c.in-Some.ensures.written c.put_at.ensures.columns in
     let fits : len + 1 + c.put_eights-count.result ≤ length c.put_at.new.bytes =
-    omega (arith, few, here, wide, c.chars.invariant.count, c.requires.bytes, c.in_ok-column.ensures.some, c.put_eights-count.ensures.fits) in
+    omega (arith, few, here, wide, c.chars.invariant.count, c.requires.bytes, c.in-Some.ensures.some, c.put_eights-count.ensures.fits) in
     let more = more_bytes text first c.put_at.new.bytes c.put_at.new.beside c.put_eights-count.new.bytes _ (len + 1) c.put_eights-count.result one.0 one.1 one.2 c.put_eights-count.ensures.fits c.put_eights-count.ensures.ascii fits c.put_eights-count.ensures.bytes in
     let long : length (take c.put_eights-count.result (drop behind text)) ≡ c.put_eights-count.result = length-take-le c.put_eights-count.result (drop behind text) (omega (arith, c.put_eights-count.ensures.fits, length-drop behind text)) in
     record {

@@ -14,4 +14,4 @@ returns-clause-written c =
     let at = c.args.at in
     take-add at 2 text ∙ ap (λ (l : List ℕ). take at text ++ take 2 l) (drop_more text at 0 c.requires)
     ∙ ap (λ (l : List ℕ). take at text ++ (get_or text at 0 ∷ take 1 l)) (drop_more text (at + 1) 0 (omega arith))
-    ∙ ap (λ (l : List ℕ). take at text ++ l) (sym c.in_ok-column.ensures.written)
+    ∙ ap (λ (l : List ℕ). take at text ++ l) (sym c.in-Some.ensures.written)

@@ -5,11 +5,11 @@ use Rattle.cse_case.proofs.number.two_columns.Goals as goal
 
 pub returns-then-first-eq32-clause-number : goal.returns-then-first-eq32-clause-number
 returns-then-first-eq32-clause-number c =
-    let ones = c.in_ok-ones.ensures.digit in
+    let ones = c.in-Some.ensures.digit in
     ap digits_number (blank_before c.args.first (c.args.last ∷ []) c.if-first-eq32.true) ∙ one_digit c.args.last ones.0 ∙ ap Some (sym ones.1)
 
 pub returns-clause-number : goal.returns-clause-number
 returns-clause-number c =
-    let ones = c.in_ok-ones.ensures.digit in
-    let tens = c.in_ok-tens.ensures.digit in
+    let ones = c.in-Some.ensures.digit in
+    let tens = c.in-Some-digit.ensures.digit in
     two_digits c.args.first c.args.last tens.0 ones.0 ∙ ap Some (omega (arith, ones.1, tens.1))
