@@ -1,7 +1,7 @@
 //! How the lines of a run are written: each as its columns without trailing blanks past its length in the
 //! file, and its own end.
 
-ghost use Rattle.std.specs.Prelude.{◌≡◌, ◌≤◌, ◌+◌, ◌-◌, ◌*◌, length, take, encode_utf8, encode_utf8_all, true};
+ghost use Rattle.std.specs.Prelude.{◌≡◌, ◌≤◌, ◌+◌, ◌-◌, ◌*◌, ◌++◌, length, take, encode_utf8, encode_utf8_all, true};
 ghost use Rattle.std.specs.List.{flat_map};
 ghost use Rattle.cse_value.specs.Gathering.{behind, Puts};
 ghost use Rattle.cse_case.specs.Bytes.{columns_lent};
@@ -129,6 +129,23 @@ fn put_parts<W: Output>(
     at
 }
 
+/// Puts the last columns of a line in UTF-8, and its end.
+fn put_last<W: Output>(
+    gatherer: &mut Gatherer,
+    out: &mut W,
+    columns: Columns<'_>,
+    ending: Ending,
+    bytes: &mut [u8; ROOM],
+)
+    requires { length (columns_lent columns) ≤ 127 }
+    ensures { Puts (behind W.taken W.has_failed out.old gatherer.old) (behind W.taken W.has_failed out.new gatherer.new)
+        (encode_utf8_all (columns_lent columns.entry) ++ end_bytes ending) }
+{
+    let n = write_columns(columns, bytes);
+    let end = write_end(ending, &mut bytes[n..]);
+    gatherer.put(out, &bytes[..n + end]);
+}
+
 /// Puts a line that lies in these columns.
 fn put_line<W: Output>(
     gatherer: &mut Gatherer,
@@ -144,9 +161,8 @@ fn put_line<W: Output>(
 {
     let kept = kept(line_columns(columns, line), line.len);
     let at = put_parts(gatherer, out, kept, bytes);
-    let n = write_columns(kept.part(at, kept.len() - at), bytes);
-    let end = write_end(line.ending, &mut bytes[n..]);
-    gatherer.put(out, &bytes[..n + end]);
+    let rest = kept.part(at, kept.len() - at);
+    put_last(gatherer, out, rest, line.ending, bytes);
 }
 
 /// Puts lines that lie one after the other in these columns.
