@@ -6,6 +6,7 @@ use Rattle.cse_case.specs.Laid.{laid_lines}
 use Rattle.cse_case.specs.Line.{before_end}
 use Rattle.cse_case.specs.Written.{written_line}
 use Rattle.cse_case.proofs.AlikeLaws.{GathersOn-like, IsLastOf-push, bytes_like, keeps_front, laid_like}
+use Rattle.cse_case.proofs.GatherLaws.{Gathers-none}
 use Rattle.cse_case.proofs.LaidLaws.{laid_fits, laid_within}
 use Rattle.cse_case.proofs.alike.push_lines.Goals as goal
 
@@ -68,7 +69,7 @@ lines-init c = record {
   whole = ap (λ (l : List ℕ). c.args.last.len + length l) c.bytes.ensures;
   some = search rules;
   written = sym (append-nil (flat_map written_line (laid_lines c.args.columns.now c.args.lines.now.items)));
-  more = search rules;
+  more = λ marked number d first ended same gathered. Gathers-none _ _ _ _ _ gathered;
   keeps_columns = take_all (length c.args.columns.now) c.args.columns.now (omega arith);
   keeps_lines = take_all (length c.args.lines.now.items) c.args.lines.now.items (omega arith);
 }
@@ -78,3 +79,79 @@ push_like-requires-clause-whole c =
     let i = c.lines.invariant in
     let len = c.args.last.len + length c.bytes.result.now in
     omega (arith, i.whole, i.fits, ap length c.piece.ensures, length-take-le len (drop c.lines.at c.args.bytes.now) (omega (arith, i.fits, c.if-len-bytes.true, length-drop c.lines.at c.args.bytes.now)))
+
+pub returns-then-last-width-clause-laid : goal.returns-then-last-width-clause-laid
+returns-then-last-width-clause-laid c = c.requires.laid
+
+pub returns-then-last-width-clause-written : goal.returns-then-last-width-clause-written
+returns-then-last-width-clause-written c = sym (append-nil (flat_map written_line (laid_lines c.args.columns.now c.args.lines.now.items)))
+
+pub returns-then-last-width-clause-more : goal.returns-then-last-width-clause-more
+returns-then-last-width-clause-more c = λ marked number d first ended same gathered. Gathers-none _ _ _ _ _ gathered
+
+pub returns-then-bytes-len-clause-laid : goal.returns-then-bytes-len-clause-laid
+returns-then-bytes-len-clause-laid c = c.requires.laid
+
+pub returns-then-bytes-len-clause-written : goal.returns-then-bytes-len-clause-written
+returns-then-bytes-len-clause-written c = sym (append-nil (flat_map written_line (laid_lines c.args.columns.now c.args.lines.now.items)))
+
+pub returns-then-bytes-len-clause-more : goal.returns-then-bytes-len-clause-more
+returns-then-bytes-len-clause-more c = λ marked number d first ended same gathered. Gathers-none _ _ _ _ _ gathered
+
+pub returns-then-last-width-clause-keeps_columns : goal.returns-then-last-width-clause-keeps_columns
+returns-then-last-width-clause-keeps_columns c = take_all (length c.args.columns.now) c.args.columns.now (omega arith)
+
+pub returns-then-not-push_like-clause-laid : goal.returns-then-not-push_like-clause-laid
+returns-then-not-push_like-clause-laid c =
+    rw (c.push_like.ensures.same_columns c.if-not-push_like.true, c.push_like.ensures.same_lines c.if-not-push_like.true) c.lines.invariant.laid
+
+pub returns-then-not-push_like-clause-written : goal.returns-then-not-push_like-clause-written
+returns-then-not-push_like-clause-written c =
+    rw (c.push_like.ensures.same_columns c.if-not-push_like.true, c.push_like.ensures.same_lines c.if-not-push_like.true) c.lines.invariant.written
+
+pub returns-then-not-push_like-clause-keeps_columns : goal.returns-then-not-push_like-clause-keeps_columns
+returns-then-not-push_like-clause-keeps_columns c =
+    rw (c.push_like.ensures.same_columns c.if-not-push_like.true) c.lines.invariant.keeps_columns
+
+pub returns-then-not-push_like-clause-keeps_lines : goal.returns-then-not-push_like-clause-keeps_lines
+returns-then-not-push_like-clause-keeps_lines c =
+    rw (c.push_like.ensures.same_lines c.if-not-push_like.true) c.lines.invariant.keeps_lines
+
+pub returns-then-not-push_like-clause-fits : goal.returns-then-not-push_like-clause-fits
+returns-then-not-push_like-clause-fits c = c.lines.invariant.fits
+
+pub returns-else-len-bytes-clause-fits : goal.returns-else-len-bytes-clause-fits
+returns-else-len-bytes-clause-fits c = c.lines.invariant.fits
+
+pub returns-else-len-bytes-clause-laid : goal.returns-else-len-bytes-clause-laid
+returns-else-len-bytes-clause-laid c = c.lines.invariant.laid
+
+pub returns-else-len-bytes-clause-written : goal.returns-else-len-bytes-clause-written
+returns-else-len-bytes-clause-written c = c.lines.invariant.written
+
+pub returns-else-len-bytes-clause-more : goal.returns-else-len-bytes-clause-more
+returns-else-len-bytes-clause-more c = c.lines.invariant.more
+
+pub returns-else-len-bytes-clause-keeps_columns : goal.returns-else-len-bytes-clause-keeps_columns
+returns-else-len-bytes-clause-keeps_columns c = c.lines.invariant.keeps_columns
+
+pub returns-else-len-bytes-clause-keeps_lines : goal.returns-else-len-bytes-clause-keeps_lines
+returns-else-len-bytes-clause-keeps_lines c = c.lines.invariant.keeps_lines
+
+pub returns-after-lines-clause-fits : goal.returns-after-lines-clause-fits
+returns-after-lines-clause-fits c = c.lines.invariant.fits
+
+pub returns-after-lines-clause-laid : goal.returns-after-lines-clause-laid
+returns-after-lines-clause-laid c = c.lines.invariant.laid
+
+pub returns-after-lines-clause-written : goal.returns-after-lines-clause-written
+returns-after-lines-clause-written c = c.lines.invariant.written
+
+pub returns-after-lines-clause-more : goal.returns-after-lines-clause-more
+returns-after-lines-clause-more c = c.lines.invariant.more
+
+pub returns-after-lines-clause-keeps_columns : goal.returns-after-lines-clause-keeps_columns
+returns-after-lines-clause-keeps_columns c = c.lines.invariant.keeps_columns
+
+pub returns-after-lines-clause-keeps_lines : goal.returns-after-lines-clause-keeps_lines
+returns-after-lines-clause-keeps_lines c = c.lines.invariant.keeps_lines

@@ -1,4 +1,5 @@
-use Rattle.std.proofs.Common.{◌∙◌, ◌-◌, ◌++◌, length, replicate, ap, arith, sym}
+use Rattle.std.proofs.Common.{◌∙◌, ◌-◌, ◌++◌, length, refl, replicate, ap, arith, sym}
+use Rattle.std.proofs.lemmas.Bool.{false≢true}
 use Rattle.std.specs.Fmt.{decimal}
 use Rattle.cse_case.proofs.FewLaws.{four_digits, one_column, one_has_room, three_digits, three_set, two_digits, two_set}
 use Rattle.cse_case.proofs.few.put_few.Goals as goal
@@ -29,3 +30,69 @@ returns-then-number-ge100-clause-some c some few room = absurd (omega (arith, ro
 
 pub returns-then-number-ge10-clause-some : goal.returns-then-number-ge10-clause-some
 returns-then-number-ge10-clause-some c some few room = absurd (omega (arith, room, c.in-1.is, two_digits c.args.number c.if-number-ge10.true c.ranges.number.fits))
+
+pub returns-then-number-ge1000-clause-low : goal.returns-then-number-ge1000-clause-low
+returns-then-number-ge1000-clause-low c = λ e. absurd (false≢true e)
+
+pub returns-then-number-ge1000-clause-room : goal.returns-then-number-ge1000-clause-room
+returns-then-number-ge1000-clause-room c = λ e. absurd (false≢true e)
+
+pub returns-then-number-ge1000-clause-columns : goal.returns-then-number-ge1000-clause-columns
+returns-then-number-ge1000-clause-columns c = λ e. absurd (false≢true e)
+
+pub returns-then-number-ge1000-clause-same : goal.returns-then-number-ge1000-clause-same
+returns-then-number-ge1000-clause-same c = λ _. refl
+
+pub returns-else-number-ge1000-clause-same : goal.returns-else-number-ge1000-clause-same
+returns-else-number-ge1000-clause-same c = λ e. absurd (false≢true (sym e))
+
+pub returns-else-number-ge1000-clause-some : goal.returns-else-number-ge1000-clause-some
+returns-else-number-ge1000-clause-some c = λ _ _ _. refl
+
+pub returns-then-number-ge100-clause-low : goal.returns-then-number-ge100-clause-low
+returns-then-number-ge100-clause-low c = λ e. absurd (false≢true e)
+
+pub returns-then-number-ge100-clause-room : goal.returns-then-number-ge100-clause-room
+returns-then-number-ge100-clause-room c = λ e. absurd (false≢true e)
+
+pub returns-then-number-ge100-clause-columns : goal.returns-then-number-ge100-clause-columns
+returns-then-number-ge100-clause-columns c = λ e. absurd (false≢true e)
+
+pub returns-then-number-ge100-clause-same : goal.returns-then-number-ge100-clause-same
+returns-then-number-ge100-clause-same c = λ _. refl
+
+pub returns-else-number-ge100-clause-same : goal.returns-else-number-ge100-clause-same
+returns-else-number-ge100-clause-same c = λ e. absurd (false≢true (sym e))
+
+pub returns-else-number-ge100-clause-some : goal.returns-else-number-ge100-clause-some
+returns-else-number-ge100-clause-some c = λ _ _ _. refl
+
+pub returns-then-number-ge10-clause-low : goal.returns-then-number-ge10-clause-low
+returns-then-number-ge10-clause-low c = λ e. absurd (false≢true e)
+
+pub returns-then-number-ge10-clause-room : goal.returns-then-number-ge10-clause-room
+returns-then-number-ge10-clause-room c = λ e. absurd (false≢true e)
+
+pub returns-then-number-ge10-clause-columns : goal.returns-then-number-ge10-clause-columns
+returns-then-number-ge10-clause-columns c = λ e. absurd (false≢true e)
+
+pub returns-then-number-ge10-clause-same : goal.returns-then-number-ge10-clause-same
+returns-then-number-ge10-clause-same c = λ _. refl
+
+pub returns-else-number-ge10-clause-same : goal.returns-else-number-ge10-clause-same
+returns-else-number-ge10-clause-same c = λ e. absurd (false≢true (sym e))
+
+pub returns-else-number-ge10-clause-some : goal.returns-else-number-ge10-clause-some
+returns-else-number-ge10-clause-some c = λ _ _ _. refl
+
+pub returns-in_default-clause-low : goal.returns-in_default-clause-low
+returns-in_default-clause-low c = λ e. absurd (false≢true e)
+
+pub returns-in_default-clause-room : goal.returns-in_default-clause-room
+returns-in_default-clause-room c = λ e. absurd (false≢true e)
+
+pub returns-in_default-clause-columns : goal.returns-in_default-clause-columns
+returns-in_default-clause-columns c = λ e. absurd (false≢true e)
+
+pub returns-in_default-clause-same : goal.returns-in_default-clause-same
+returns-in_default-clause-same c = λ _. refl

@@ -51,3 +51,9 @@ returns-clause-utf8 c = c.put_beyond_in.ensures.utf8
 
 pub returns-clause-err : goal.returns-clause-err
 returns-clause-err c = c.put_beyond_in.ensures.err
+
+pub put_between-requires-clause-fits : goal.put_between-requires-clause-fits
+put_between-requires-clause-fits c = omega arith
+
+pub put_between-requires-clause-room : goal.put_between-requires-clause-room
+put_between-requires-clause-room c = c.self.invariant.0
