@@ -1,7 +1,7 @@
 //! What the fields of an instruction stand for.
 
 use crate::names::Names;
-use crate::text::{Cell, Text};
+use crate::text::Text;
 use cse_image::{Instr, Op, Tables};
 
 /// The special values, by their codes.
@@ -17,9 +17,15 @@ static TAKEN: [&str; 3] = [" number", " text", " place"];
 #[derive(Clone, Copy)]
 enum Field {
     Nothing,
-    Word(&'static str),
-    /// A number behind a word.
-    Numbered(&'static str, u64),
+    /// A code that has a word: a special value, a relation, or what is taken from a stack.
+    Special(u8),
+    Relation(u8),
+    Taken(u8),
+    /// The size of a dimension.
+    Size(usize),
+    Local(usize),
+    Global(usize),
+    Routine(usize),
     Constant(usize),
     Text(usize),
     Limit(usize),
@@ -30,25 +36,17 @@ enum Field {
     Set(usize),
 }
 
-/// The word of a code.
-fn word_at(words: &[&'static str], code: u8) -> Field {
-    match words.get(code as usize) {
-        Some(word) => Field::Word(word),
-        None => Field::Numbered(" ", u64::from(code)),
-    }
-}
-
 /// What an instruction names, but for the place that it leads to.
 fn field_of(instr: Instr) -> Field {
     let (a, b, c) = (instr.a as usize, instr.b as usize, instr.c as usize);
     match instr.op {
         Op::Number => Field::Constant(c),
-        Op::Special => word_at(&SPECIALS, instr.a),
+        Op::Special => Field::Special(instr.a),
         Op::Text => Field::Text(c),
-        Op::LoadLocal | Op::StoreLocal => Field::Numbered(" local ", c as u64),
-        Op::LoadGlobal | Op::StoreGlobal => Field::Numbered(" global ", c as u64),
-        Op::Compare | Op::CompareText => word_at(&RELATIONS, instr.a),
-        Op::Index => Field::Numbered(" ", b as u64),
+        Op::LoadLocal | Op::StoreLocal => Field::Local(c),
+        Op::LoadGlobal | Op::StoreGlobal => Field::Global(c),
+        Op::Compare | Op::CompareText => Field::Relation(instr.a),
+        Op::Index => Field::Size(b),
         Op::CurrentOccurrence
         | Op::OccurrenceNumber
         | Op::TotalOccurrences
@@ -64,9 +62,9 @@ fn field_of(instr: Instr) -> Field {
         Op::LoadCell | Op::StoreCell => Field::Array(c),
         Op::InSet | Op::Row => Field::Set(b),
         Op::Message => Field::Message(c),
-        Op::Call => Field::Numbered(" routine ", c as u64),
+        Op::Call => Field::Routine(c),
         Op::LoopCount => Field::Limit(b),
-        Op::Pop => word_at(&TAKEN, instr.a),
+        Op::Pop => Field::Taken(instr.a),
         _ => Field::Nothing,
     }
 }
@@ -83,9 +81,10 @@ pub fn put_quoted(out: &mut Text, text: &str) {
 /// Writes a name behind a blank; where there is none, a word and a number.
 fn put_named(out: &mut Text, name: &str, word: &str, number: usize) {
     if name.is_empty() {
-        out.put_all(&[Cell::Text(word), Cell::Number(number as u64)]);
+        out.put_counted(word, number as u64);
     } else {
-        out.put_all(&[Cell::Text(" "), Cell::Text(name)]);
+        out.put(" ");
+        out.put(name);
     }
 }
 
@@ -116,34 +115,71 @@ fn put_set(out: &mut Text, names: Option<&Names<'_>>, number: usize) {
     put_named(out, name, " set ", number);
 }
 
+/// Writes the word of a code; where there is none, the code.
+fn put_word(out: &mut Text, words: &[&'static str], code: u8) {
+    match words.get(code as usize) {
+        Some(word) => out.put(word),
+        None => out.put_counted(" ", u64::from(code)),
+    }
+}
+
+/// Writes a constant.
+fn put_constant(out: &mut Text, tables: &Tables, number: usize) {
+    out.put(" ");
+    out.put_signed(tables.constants.get(number).copied().unwrap_or(0));
+}
+
+/// Writes a text.
+fn put_text(out: &mut Text, tables: &Tables, number: usize) {
+    if let Some(text) = tables.texts.get(number) {
+        put_quoted(out, text.as_str());
+    }
+}
+
+/// Writes the most turns of a loop.
+fn put_limit(out: &mut Text, tables: &Tables, number: usize) {
+    let limit = tables.limits.get(number).copied().unwrap_or(0);
+    out.put_counted(" ", u64::from(limit));
+}
+
+/// Writes the name of an array, or its number.
+fn put_array(out: &mut Text, tables: &Tables, number: usize) {
+    if let Some(array) = tables.arrays.get(number) {
+        put_named(out, array.name.as_str(), " array ", number);
+    }
+}
+
+/// Writes the number of a message, and its text.
+fn put_message(out: &mut Text, tables: &Tables, number: usize) {
+    out.put_counted(" ", number as u64);
+    if let Some(message) = tables.messages.get(number) {
+        put_quoted(out, message.text.as_str());
+    }
+}
+
 /// Writes a field that stands for an entry of a table.
 fn put_entry(out: &mut Text, tables: &Tables, field: Field) {
     match field {
-        Field::Constant(number) => {
-            let constant = tables.constants.get(number).copied().unwrap_or(0);
-            out.put_all(&[Cell::Text(" "), Cell::Signed(constant)]);
-        }
-        Field::Text(number) => {
-            if let Some(text) = tables.texts.get(number) {
-                put_quoted(out, text.as_str());
-            }
-        }
-        Field::Limit(number) => {
-            let limit = tables.limits.get(number).copied().unwrap_or(0);
-            out.put_all(&[Cell::Text(" "), Cell::Number(u64::from(limit))]);
-        }
-        Field::Array(number) => {
-            if let Some(array) = tables.arrays.get(number) {
-                put_named(out, array.name.as_str(), " array ", number);
-            }
-        }
-        Field::Message(number) => {
-            out.put_all(&[Cell::Text(" "), Cell::Number(number as u64)]);
-            if let Some(message) = tables.messages.get(number) {
-                put_quoted(out, message.text.as_str());
-            }
-        }
+        Field::Constant(number) => put_constant(out, tables, number),
+        Field::Text(number) => put_text(out, tables, number),
+        Field::Limit(number) => put_limit(out, tables, number),
+        Field::Array(number) => put_array(out, tables, number),
+        Field::Message(number) => put_message(out, tables, number),
         _ => {}
+    }
+}
+
+/// Writes a field that stands for a code or for a number, or for an entry of a table.
+fn put_field(out: &mut Text, tables: &Tables, field: Field) {
+    match field {
+        Field::Special(code) => put_word(out, &SPECIALS, code),
+        Field::Relation(code) => put_word(out, &RELATIONS, code),
+        Field::Taken(code) => put_word(out, &TAKEN, code),
+        Field::Size(number) => out.put_counted(" ", number as u64),
+        Field::Local(number) => out.put_counted(" local ", number as u64),
+        Field::Global(number) => out.put_counted(" global ", number as u64),
+        Field::Routine(number) => out.put_counted(" routine ", number as u64),
+        _ => put_entry(out, tables, field),
     }
 }
 
@@ -167,14 +203,12 @@ fn leads(instr: Instr) -> bool {
 pub fn put_fields(out: &mut Text, tables: &Tables, names: Option<&Names<'_>>, instr: Instr) {
     let field = field_of(instr);
     match field {
-        Field::Word(word) => out.put(word),
-        Field::Numbered(word, number) => out.put_all(&[Cell::Text(word), Cell::Number(number)]),
         Field::Item(number) => put_item(out, names, number),
         Field::Record(number) => put_record(out, names, number),
         Field::Set(number) => put_set(out, names, number),
-        _ => put_entry(out, tables, field),
+        _ => put_field(out, tables, field),
     }
     if leads(instr) {
-        out.put_all(&[Cell::Text(" to "), Cell::Number(u64::from(instr.c))]);
+        out.put_counted(" to ", u64::from(instr.c));
     }
 }

@@ -87,20 +87,17 @@ fn put_rows(out: &mut Text, set: &Section<'_>, data_type: &[u8], is_partial: boo
 }
 
 /// Writes a set with its rows, by its section and its number.
-pub fn put_set<'v>(out: &mut Text, names: &Names<'v>, section: &Section<'v>, number: usize) {
+pub fn put_set(out: &mut Text, names: &Names<'_>, section: &Section<'_>, number: usize) {
     let Some(set) = names.dictionary.shape().sets.get(number) else {
         return;
     };
     let item = set.item as usize;
-    out.put_all(&[
-        Cell::Text("\nset "),
-        Cell::Text(text_of(value_at(section, b"Name"))),
-        Cell::Text(" of "),
-        Cell::Text(names.item_name(item)),
-        Cell::Text(" rows "),
-        Cell::Number(u64::from(set.rows)),
-        Cell::Text(if set.partial { " partial" } else { "" }),
-    ]);
+    out.put("\nset ");
+    out.put(text_of(value_at(section, b"Name")));
+    out.put(" of ");
+    out.put(names.item_name(item));
+    out.put_counted(" rows ", u64::from(set.rows));
+    out.put(if set.partial { " partial" } else { "" });
     put_label(out, label_of(section));
     put_rows(out, section, names.item_key(item, b"DataType"), set.partial);
 }

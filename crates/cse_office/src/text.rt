@@ -109,6 +109,12 @@ impl Text {
         self.put(buffer.format(number));
     }
 
+    /// Writes words, and a number behind them.
+    pub(crate) fn put_counted(&mut self, words: &str, number: u64) {
+        self.put(words);
+        self.put_number(number);
+    }
+
     /// Writes hundredths with a point.
     fn put_percent(&mut self, hundredths: u64) {
         self.put_number(hundredths / 100);
@@ -117,7 +123,7 @@ impl Text {
     }
 
     /// Writes a whole number.
-    fn put_signed(&mut self, number: i64) {
+    pub(crate) fn put_signed(&mut self, number: i64) {
         self.put(if number < 0 { "-" } else { "" });
         self.put_number(number.unsigned_abs());
     }
