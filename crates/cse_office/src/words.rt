@@ -116,6 +116,18 @@ fn form_of(command: Command) -> (usize, usize, usize) {
 }
 
 impl<'a> Reader<'a> {
+    /// No words, of a command with the options from this one on.
+    fn new(first_option: usize) -> Reader<'a> {
+        Reader {
+            paths: [""; 3],
+            count: 0,
+            options: [None; OPTIONS],
+            first_option,
+            next: Next::Any,
+            is_wrong: false,
+        }
+    }
+
     /// A path.
     fn put_path(&mut self, path: &'a str) {
         let count = self.count;
@@ -152,6 +164,38 @@ impl<'a> Reader<'a> {
             },
         }
     }
+
+    /// Whether the words may end here: none of them is wrong, nothing is to stand behind the last, and there are as many paths as
+    /// there may be.
+    fn is_well(&self, least: usize, most: usize) -> bool {
+        match self.next {
+            Next::Value(_) => false,
+            _ => !self.is_wrong && least <= self.count && self.count <= most,
+        }
+    }
+
+    /// What the words name.
+    fn asked(self) -> Asked<'a> {
+        let [first, second, third] = self.paths;
+        let [by, cases, html, csv] = self.options;
+        Asked {
+            count: self.count,
+            first,
+            second,
+            third,
+            by,
+            cases,
+            html,
+            csv,
+        }
+    }
+}
+
+/// Reads words.
+fn read_words<'a>(reader: &mut Reader<'a>, words: &'a [String]) {
+    for word in words {
+        reader.take(word.as_str());
+    }
 }
 
 /// The command of a word, if it is one.
@@ -169,31 +213,11 @@ pub(crate) fn command_of(word: &str) -> Option<Command> {
 /// What the words behind a command name; none where they are no words of it.
 pub(crate) fn asked_of<'a>(command: Command, words: &'a [String]) -> Option<Asked<'a>> {
     let (least, most, first_option) = form_of(command);
-    let mut reader = Reader {
-        paths: [""; 3],
-        count: 0,
-        options: [None; OPTIONS],
-        first_option,
-        next: Next::Any,
-        is_wrong: false,
-    };
-    for word in words {
-        reader.take(word.as_str());
+    let mut reader = Reader::new(first_option);
+    read_words(&mut reader, words);
+    if reader.is_well(least, most) {
+        Some(reader.asked())
+    } else {
+        None
     }
-    let is_open = matches!(reader.next, Next::Value(_));
-    if reader.is_wrong || is_open || reader.count < least || reader.count > most {
-        return None;
-    }
-    let [first, second, third] = reader.paths;
-    let [by, cases, html, csv] = reader.options;
-    Some(Asked {
-        count: reader.count,
-        first,
-        second,
-        third,
-        by,
-        cases,
-        html,
-        csv,
-    })
 }
