@@ -52,13 +52,14 @@ impl<'a> Diff<'a> {
     ) -> Result<Diff<'a>, AllocError> {
         let counts = Counts::new(alloc, shape)?;
         let items: &[ItemShape] = if has_shares { &shape.items } else { &[] };
+        let shares = Shares::new(alloc, items)?;
         Ok(Diff {
             shape,
             items: Vec::new(alloc),
             counts,
             kinds: Kinds::new(alloc),
             areas: Areas::new(alloc, by),
-            shares: Shares::new(alloc, items)?,
+            shares,
         })
     }
 

@@ -24,27 +24,39 @@ const APART: u8 = 23;
 
 /// The id item of a name.
 fn id_item(dictionary: &Dictionary, name: &str) -> Option<usize> {
-    let number = dictionary.find_item(name)? as usize;
+    let Some(number) = dictionary.find_item(name) else {
+        return None;
+    };
+    let number = number as usize;
     match dictionary.shape().items.get(number) {
         Some(item) if item.owner == ID_OWNER => Some(number),
         _ => None,
     }
 }
 
-/// The id items of names with commas between them: 40 where a name is none's.
-fn id_items(alloc: Global, dictionary: &Dictionary, by: Option<&str>) -> Result<Vec<usize>, Stop> {
-    let mut items = Vec::new(alloc);
-    if let Some(by) = by {
-        for name in by.split(',') {
-            let Some(number) = id_item(dictionary, name) else {
-                return Err(Stop::of_number(UNKNOWN_NAME));
-            };
-            if items.push(number).is_err() {
-                return Err(Stop::of_memory());
-            }
+/// Adds the id items of names with commas between them: 40 where a name is none's.
+fn add_id_items(items: &mut Vec<usize>, dictionary: &Dictionary, by: &str) -> Result<(), Stop> {
+    for name in by.split(',') {
+        let Some(number) = id_item(dictionary, name) else {
+            return Err(Stop::of_number(UNKNOWN_NAME));
+        };
+        if items.push(number).is_err() {
+            return Err(Stop::of_memory());
         }
     }
-    Ok(items)
+    Ok(())
+}
+
+/// The id items of names, if there are some.
+fn id_items(alloc: Global, dictionary: &Dictionary, by: Option<&str>) -> Result<Vec<usize>, Stop> {
+    let mut items = Vec::new(alloc);
+    let Some(by) = by else {
+        return Ok(items);
+    };
+    match add_id_items(&mut items, dictionary, by) {
+        Ok(()) => Ok(items),
+        Err(stop) => Err(stop),
+    }
 }
 
 /// Why a comparison stopped, with the file.
@@ -64,6 +76,14 @@ fn stop_of(fault: SeenFault<u8>) -> Stop {
     }
 }
 
+/// Why a comparison, or the rows of its changes, did not come to the end.
+fn ended(outcome: Result<(), SeenFault<u8>>, failure: Option<u8>) -> Result<(), Stop> {
+    match outcome {
+        Ok(()) => written(failure, Slot::Cases),
+        Err(fault) => Err(stop_of(fault)),
+    }
+}
+
 /// Compares what was read with what was written, and writes each change as a row, if these are asked for.
 fn compared_with<'n, R: Files + AllocGlobal, D: Input, O: Input>(
     rt: &R,
@@ -80,12 +100,9 @@ fn compared_with<'n, R: Files + AllocGlobal, D: Input, O: Input>(
     let mut watching = Watching::new(rt.alloc(), names, diff, rows);
     let outcome = compare_watched(rt.alloc(), names.dictionary, data, out, &mut watching);
     let (diff, failure) = watching.finish();
-    match outcome {
-        Ok(()) => match written(failure, Slot::Cases) {
-            Ok(()) => Ok(diff),
-            Err(stop) => Err(stop),
-        },
-        Err(fault) => Err(stop_of(fault)),
+    match ended(outcome, failure) {
+        Ok(()) => Ok(diff),
+        Err(stop) => Err(stop),
     }
 }
 
@@ -101,8 +118,8 @@ fn compared<'n, R: Files + AllocGlobal>(
     compared_with(rt, asked, names, diff, &mut data.device, &mut out.device)
 }
 
-/// Writes what was changed: the page, the table, and what is printed.
-fn tell_changes<'v, R: Files + Print + AllocGlobal>(
+/// Writes what was changed as a page, if one is asked for.
+fn write_page<'v, R: Files + AllocGlobal>(
     rt: &R,
     asked: &Asked<'_>,
     names: &Names<'v>,
@@ -114,12 +131,35 @@ fn tell_changes<'v, R: Files + Print + AllocGlobal>(
     if asked.html.is_some() {
         put_page(&mut page, rt.alloc(), names, diff, kinds, areas);
     }
-    write_text(rt, asked, Slot::Page, page)?;
+    write_text(rt, asked, Slot::Page, page)
+}
+
+/// Writes it as a table, if one is asked for.
+fn write_table<'v, R: Files + AllocGlobal>(
+    rt: &R,
+    asked: &Asked<'_>,
+    names: &Names<'v>,
+    diff: &Diff<'_>,
+    areas: &'v [Area],
+) -> Result<(), Stop> {
     let mut sheet = sheet_of(rt, asked, Slot::Table)?;
     if asked.csv.is_some() {
         put_sheet(&mut sheet, names, diff, areas);
     }
-    written(sheet.finish(), Slot::Table)?;
+    written(sheet.finish(), Slot::Table)
+}
+
+/// Tells what was changed: the page, the table, and what is printed.
+fn tell_changes<'v, R: Files + Print + AllocGlobal>(
+    rt: &R,
+    asked: &Asked<'_>,
+    names: &Names<'v>,
+    diff: &Diff<'_>,
+    kinds: &[(u64, u64, &'v [u8])],
+    areas: &'v [Area],
+) -> Result<(), Stop> {
+    write_page(rt, asked, names, diff, kinds, areas)?;
+    write_table(rt, asked, names, diff, areas)?;
     let mut text = Text::new(rt.alloc());
     put_diff(&mut text, names, diff, kinds, areas);
     print_text(rt, text)

@@ -238,6 +238,17 @@ fn has_row(dictionary: &Dictionary, set: u16, number: i64) -> bool {
         && dictionary.row_of(set, Num::Whole(number)).is_some()
 }
 
+/// What is kept of an item, of which nothing is looked up so far.
+fn kinds_of(alloc: Global, shape: &ItemShape) -> Result<Vec<FieldKind>, AllocError> {
+    let count = match shape.kind {
+        ItemKind::Number => most_kept(shape.len),
+        _ => 0,
+    };
+    let mut kinds = Vec::new(alloc);
+    kinds.resize(count, FieldKind::Unknown)?;
+    Ok(kinds)
+}
+
 impl Field {
     /// How the fields of an item are looked at.
     pub fn new(
@@ -246,18 +257,14 @@ impl Field {
         item: usize,
         shape: &ItemShape,
     ) -> Result<Field, AllocError> {
-        let is_number = shape.kind == ItemKind::Number;
-        let mut kinds = Vec::new(alloc);
-        if is_number {
-            kinds.resize(most_kept(shape.len), FieldKind::Unknown)?;
-        }
+        let kinds = kinds_of(alloc, shape)?;
         let place = (shape.start as usize).saturating_sub(1);
         Ok(Field {
             item,
             place,
             end: place.saturating_add(shape.len as usize),
             len: shape.len as usize,
-            is_number,
+            is_number: shape.kind == ItemKind::Number,
             code: code_of(names, item),
             set: whole_set(names, item),
             kinds,

@@ -88,6 +88,7 @@ const LACKS_MEMORY: DataError = DataError {
 impl Look {
     /// Nothing is read so far.
     fn new(alloc: Global, names: &Names<'_>) -> Result<Look, AllocError> {
+        let ids = id_blocks(alloc, names.dictionary)?;
         let mut look = Look {
             lines: 0,
             cases: 0,
@@ -95,7 +96,7 @@ impl Look {
             unknown: Found::NONE,
             extra: Found::NONE,
             returns: Found::NONE,
-            ids: id_blocks(alloc, names.dictionary)?,
+            ids,
             known: HashSet::new(alloc),
             lacks_memory: false,
         };

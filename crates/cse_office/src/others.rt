@@ -14,8 +14,8 @@ use crate::stop::Stop;
 use crate::text::Text;
 use crate::words::{Asked, Slot};
 use crate::{
-    NO_FREQUENCIES, NO_LISTING, Report, look_at, put_image, put_look, put_report, put_report_page,
-    put_report_sheet,
+    Look, NO_FREQUENCIES, NO_LISTING, Report, look_at, put_image, put_look, put_report,
+    put_report_page, put_report_sheet,
 };
 use cse_image::{Program, read_image};
 use std::rt::Files;
@@ -23,7 +23,19 @@ use std::rt::Files;
 /// The most bytes of an image.
 const MOST_IMAGE: u64 = 156_358_936;
 
-/// `look`. The status is 1 where no line is seen or ids come back.
+/// Prints what a data file is. The status is 1 where no line is seen or ids come back.
+fn tell_look<R: Print + AllocGlobal>(rt: &R, names: &Names<'_>, look: &Look) -> Result<u8, Stop>
+    ensures { IfOk result (λ status. status ≤ 1) }
+{
+    let mut text = Text::new(rt.alloc());
+    put_look(&mut text, names, look);
+    match print_text(rt, text) {
+        Ok(()) => Ok(u8::from(look.is_amiss())),
+        Err(stop) => Err(stop),
+    }
+}
+
+/// `look`.
 pub(crate) fn look_files<R: Files + Print + AllocGlobal>(
     rt: &R,
     asked: &Asked<'_>,
@@ -32,14 +44,10 @@ pub(crate) fn look_files<R: Files + Print + AllocGlobal>(
     ensures { IfOk result (λ status. status ≤ 1) }
 {
     let mut input = opened(rt, asked, Slot::Second)?;
-    let look = match look_at(rt.alloc(), names, &mut input.device) {
-        Ok(look) => look,
-        Err(error) => return Err(Stop::at_line(error.number, error.line, Slot::Second)),
-    };
-    let mut text = Text::new(rt.alloc());
-    put_look(&mut text, names, &look);
-    print_text(rt, text)?;
-    Ok(u8::from(look.is_amiss()))
+    match look_at(rt.alloc(), names, &mut input.device) {
+        Ok(look) => tell_look(rt, names, &look),
+        Err(error) => Err(Stop::at_line(error.number, error.line, Slot::Second)),
+    }
 }
 
 /// Reads a listing or frequencies, by the number of a line of another form.
@@ -57,6 +65,67 @@ fn read<R: Files + AllocGlobal>(
     }
 }
 
+/// Reads the listing and the frequencies.
+fn read_both<R: Files + AllocGlobal>(
+    rt: &R,
+    report: &mut Report,
+    asked: &Asked<'_>,
+) -> Result<(), Stop> {
+    read(rt, report, asked, Slot::Second, NO_LISTING)?;
+    read(rt, report, asked, Slot::Third, NO_FREQUENCIES)
+}
+
+/// Writes what the outputs of a run tell as a page, if one is asked for.
+fn write_page<R: Files + AllocGlobal>(
+    rt: &R,
+    asked: &Asked<'_>,
+    names: &Names<'_>,
+    report: &Report,
+) -> Result<(), Stop> {
+    let mut page = Text::new(rt.alloc());
+    if asked.html.is_some() {
+        put_report_page(&mut page, &*names, report);
+    }
+    write_text(rt, asked, Slot::Page, page)
+}
+
+/// Writes it as a table, if one is asked for.
+fn write_table<R: Files + AllocGlobal>(
+    rt: &R,
+    asked: &Asked<'_>,
+    names: &Names<'_>,
+    report: &Report,
+) -> Result<(), Stop> {
+    let mut sheet = sheet_of(rt, asked, Slot::Table)?;
+    if asked.csv.is_some() {
+        put_report_sheet(&mut sheet, &*names, report);
+    }
+    written(sheet.finish(), Slot::Table)
+}
+
+/// Prints it.
+fn print_report<R: Print + AllocGlobal>(
+    rt: &R,
+    names: &Names<'_>,
+    report: &Report,
+) -> Result<(), Stop> {
+    let mut text = Text::new(rt.alloc());
+    put_report(&mut text, &*names, report);
+    print_text(rt, text)
+}
+
+/// Tells what the outputs of a run tell: the page, the table, and what is printed.
+fn tell_report<R: Files + Print + AllocGlobal>(
+    rt: &R,
+    asked: &Asked<'_>,
+    names: &Names<'_>,
+    report: &Report,
+) -> Result<(), Stop> {
+    write_page(rt, asked, names, report)?;
+    write_table(rt, asked, names, report)?;
+    print_report(rt, names, report)
+}
+
 /// `report`, where no file that is written is one of the others.
 pub(crate) fn report_files<R: Files + Print + AllocGlobal>(
     rt: &R,
@@ -66,21 +135,10 @@ pub(crate) fn report_files<R: Files + Print + AllocGlobal>(
     requires apart { AreApart (uses ReportCommand asked.now) }
 {
     let mut report = Report::new(rt.alloc());
-    read(rt, &mut report, asked, Slot::Second, NO_LISTING)?;
-    read(rt, &mut report, asked, Slot::Third, NO_FREQUENCIES)?;
-    let mut page = Text::new(rt.alloc());
-    if asked.html.is_some() {
-        put_report_page(&mut page, &*names, &report);
+    match read_both(rt, &mut report, asked) {
+        Ok(()) => tell_report(rt, asked, names, &report),
+        Err(stop) => Err(stop),
     }
-    write_text(rt, asked, Slot::Page, page)?;
-    let mut sheet = sheet_of(rt, asked, Slot::Table)?;
-    if asked.csv.is_some() {
-        put_report_sheet(&mut sheet, &*names, &report);
-    }
-    written(sheet.finish(), Slot::Table)?;
-    let mut text = Text::new(rt.alloc());
-    put_report(&mut text, &*names, &report);
-    print_text(rt, text)
 }
 
 /// The program of an image.
