@@ -86,7 +86,44 @@ fn add_runs(
     Ok(len)
 }
 
-/// Counts the next runs of both files, as `add_runs` does, and lets the watcher see them. Then their memory goes back to the
+/// Counts the next runs of both files, as `add_runs` does, and lets the watcher see them.
+fn see_lines<W: Watch>(
+    records: &[RecordShape],
+    items: &[ItemShape],
+    before: &RunLines,
+    after: &RunLines,
+    lines: u64,
+    seen: &mut [u64],
+    counts: &mut [Count],
+    watcher: &mut W,
+) -> Result<u64, SeenFault<W::Fault>>
+    requires seen { length seen.old ≡ length records.now }
+    requires counts { length counts.old ≡ length items.now }
+    requires room { lines + length before.now ≤ 2 ^ 40 * 65536 }
+    requires few { AreFew seen.old counts.old lines }
+    ensures len_seen { length seen.new ≡ length seen.old }
+    ensures len { length counts.new ≡ length counts.old }
+    ensures lines { IfOk result (λ n. n ≡ length before.now) }
+    ensures pairs { OnOk result (first_apart items.now 0 before.now after.now ≡ None) }
+    ensures seen { OnOk result (AreSeen records.now before.now seen.old seen.new) }
+    ensures changes { OnOk result (AreChanges records.now items.now before.now after.now counts.old counts.new) }
+    ensures few { OnOk result (AreFew seen.new counts.new (lines + length before.now)) }
+    ensures apart { IfErr result (IfSeenApart (IsApartIn items.now before.now after.now lines)) }
+{
+    let mut likes = [false; MOST_KNOWN];
+    let is_alike = are_alike(before, after, &mut likes);
+    match add_runs(
+        records, items, before, after, &likes, is_alike, lines, seen, counts,
+    ) {
+        Err(fault) => Err(SeenFault::Compare(fault)),
+        Ok(len) => match watcher.see_runs(before, after, &likes, is_alike) {
+            Err(fault) => Err(SeenFault::Seen(fault)),
+            Ok(()) => Ok(len),
+        },
+    }
+}
+
+/// Counts the next runs of both files, and lets the watcher see them, as `see_lines` does. Then their memory goes back to the
 /// readers.
 fn see_runs<W: Watch>(
     records: &[RecordShape],
@@ -123,21 +160,12 @@ fn see_runs<W: Watch>(
     let Some(after) = RunLines::of(after) else {
         unreachable!();
     };
-    let mut likes = [false; MOST_KNOWN];
-    let is_alike = are_alike(&before, &after, &mut likes);
-    match add_runs(
-        records, items, &before, &after, &likes, is_alike, lines, seen, counts,
-    ) {
-        Err(fault) => Err(SeenFault::Compare(fault)),
-        Ok(len) => match watcher.see_runs(&before, &after, &likes, is_alike) {
-            Err(fault) => Err(SeenFault::Seen(fault)),
-            Ok(()) => {
-                reader.take_back(before.into_room());
-                other.take_back(after.into_room());
-                Ok(len)
-            }
-        },
-    }
+    let outcome = see_lines(
+        records, items, &before, &after, lines, seen, counts, watcher,
+    );
+    reader.take_back(before.into_room());
+    other.take_back(after.into_room());
+    outcome
 }
 
 /// Counts the runs of both files, by new readers and from counts of nothing, as `compare_seen` tells it.

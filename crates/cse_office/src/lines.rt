@@ -38,8 +38,10 @@ impl RunLines {
         ensures none { IfNone result (run.lines ≡ []) }
     {
         let (kept, _marked, _first_line) = run.into_parts();
-        let kept = kept?;
-        Some(RunLines { kept })
+        match kept {
+            Some(kept) => Some(RunLines { kept }),
+            None => None,
+        }
     }
 
     /// How many there are.

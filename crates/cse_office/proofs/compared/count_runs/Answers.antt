@@ -127,3 +127,15 @@ returns-in-Err-next-2-clause-stops g c =
     let next = rw c.in-Ok-Some.field-0-is at (c.in-Ok-Some.ensures.next inv.sound) in
     stops_written _ _ _ _ _ _ _ _ _ _ _ _ _ inv.comparing _ c.in-Err-next-2.error next (c.in-Err-next-2.ensures.next inv.sound_other) c.in-Ok-Some.ensures.works c.in-Ok-Some.ensures.end
     c.in-Err-next-2.ensures.end (c.in-Err-next-2.ensures.failed inv.sound_other) c.in-Err-next-2.ensures.sound
+
+pub next-requires : goal.next-requires
+next-requires g c = c.runs.invariant.end
+
+pub next-requires-in-Ok-None : goal.next-requires-in-Ok-None
+next-requires-in-Ok-None g c = c.runs.invariant.end_other
+
+pub next-requires-in-Ok-Some : goal.next-requires-in-Ok-Some
+next-requires-in-Ok-Some g c = c.runs.invariant.end_other
+
+pub see_runs-added-requires-clause-few : goal.see_runs-added-requires-clause-few
+see_runs-added-requires-clause-few g c = c.runs.invariant.are_few
