@@ -30,6 +30,14 @@ impl<W: Drop> Drop for Sheet<W> {
     }
 }
 
+/// A row without the comma before its first field.
+fn behind_comma(line: &[u8]) -> &[u8] {
+    match line {
+        [_, row @ ..] => row,
+        _ => line,
+    }
+}
+
 /// Whether a field stands in quotes.
 fn is_quoted(field: &str) -> bool {
     for byte in field.as_bytes() {
@@ -83,8 +91,9 @@ impl<W: Output> Sheet<W> {
     /// Writes the row.
     pub fn end_row(&mut self) {
         self.line.put("\n");
-        if let (Some(out), [_, row @ ..]) = (&mut self.out, self.line.as_str().as_bytes()) {
-            self.waiting.put(out, row);
+        if let Some(out) = &mut self.out {
+            self.waiting
+                .put(out, behind_comma(self.line.as_str().as_bytes()));
         }
         self.line.clear();
     }

@@ -128,16 +128,22 @@ impl<'w, 'a, W: Output + Drop> Watching<'w, 'a, W> {
         self.rows.add(&[Cell::Text(self.id.as_str())]);
     }
 
-    /// Writes a change as a row, whose values are held.
-    fn put_row(&mut self, item: usize, occurrence: u16, columns: Columns<'_>) {
-        self.put_number(self.diff.counts.lines);
+    /// Adds the ids of a line to the row.
+    fn put_ids(&mut self, columns: Columns<'_>) {
+        let shape = self.diff.shape;
         for id in 0..self.ids_end {
-            if let Some(shape) = self.diff.shape.items.get(id) {
+            if id < shape.items.len() {
                 self.id.clear();
-                put_field(&mut self.id, shape, columns);
+                put_field(&mut self.id, &shape.items[id], columns);
                 self.rows.add(&[Cell::Text(self.id.as_str())]);
             }
         }
+    }
+
+    /// Writes a change as a row, whose values are held.
+    fn put_row(&mut self, item: usize, occurrence: u16, columns: Columns<'_>) {
+        self.put_number(self.diff.counts.lines);
+        self.put_ids(columns);
         self.rows.add(&[Cell::Text(self.names.item_name(item))]);
         self.put_number(u64::from(occurrence));
         self.rows.add(&[Cell::Text(self.before.as_str())]);
