@@ -60,11 +60,9 @@ fn put_value(out: &mut Text, len: u16, cell: usize) {
         out.put_number(number);
     } else if cell != BLANK {
         let low = number.saturating_mul(10);
-        out.put_all(&[
-            Cell::Number(low),
-            Cell::Text("-"),
-            Cell::Number(low.saturating_add(9)),
-        ]);
+        out.put_number(low);
+        out.put("-");
+        out.put_number(low.saturating_add(9));
     }
 }
 
@@ -105,13 +103,11 @@ fn put_changed(
     item: usize,
     kinds: &[(u64, u64, &[u8])],
 ) {
-    out.put_all(&[
-        Cell::Text("<details open><summary>"),
-        Cell::Escaped(names.item_name(item)),
-        Cell::Text(" <span class=t>"),
-        Cell::Escaped(names.item_label(item)),
-        Cell::Text("</span></summary>\n<div class=two>\n"),
-    ]);
+    out.put("<details open><summary>");
+    out.put_escaped(names.item_name(item));
+    out.put(" <span class=t>");
+    out.put_escaped(names.item_label(item));
+    out.put("</span></summary>\n<div class=two>\n");
     put_kinds(out, names, diff, item, kinds);
     put_shares(out, scratch, names, diff, item);
     out.put("</div></details>\n");

@@ -117,21 +117,18 @@ fn put_items(out: &mut Text, names: &Names<'_>, owner: usize) {
 /// Writes a label behind a blank, if there is one, and ends the line.
 pub fn put_label(out: &mut Text, label: &str) {
     out.put(if label.is_empty() { "" } else { " " });
-    out.put_all(&[Cell::Text(label), Cell::Text("\n")]);
+    out.put(label);
+    out.put("\n");
 }
 
 /// Writes the line of a record.
 fn put_record(out: &mut Text, names: &Names<'_>, record: usize, shape: &RecordShape) {
-    out.put_all(&[
-        Cell::Text("\nrecord "),
-        Cell::Text(names.record_name(record)),
-        Cell::Text(" type "),
-        Cell::Text(names.record_key(record, b"RecordTypeValue")),
-        Cell::Text(" columns "),
-        Cell::Number(u64::from(shape.record_len)),
-        Cell::Text(" lines "),
-        Cell::Number(u64::from(shape.max_records)),
-    ]);
+    out.put("\nrecord ");
+    out.put(names.record_name(record));
+    out.put(" type ");
+    out.put(names.record_key(record, b"RecordTypeValue"));
+    out.put_counted(" columns ", u64::from(shape.record_len));
+    out.put_counted(" lines ", u64::from(shape.max_records));
     put_label(out, names.record_label(record));
 }
 
@@ -158,12 +155,10 @@ fn put_sets(out: &mut Text, names: &Names<'_>) {
 /// Writes what was read: the name, the level, the columns of the record type, ids, records with their items, and sets with their
 /// rows.
 pub fn put_dict(out: &mut Text, names: &Names<'_>) {
-    out.put_all(&[
-        Cell::Text("dictionary "),
-        Cell::Text(names.dictionary.name()),
-        Cell::Text("\nlevel "),
-        Cell::Text(names.dictionary.level_name()),
-    ]);
+    out.put("dictionary ");
+    out.put(names.dictionary.name());
+    out.put("\nlevel ");
+    out.put(names.dictionary.level_name());
     let (start, len) = names.dictionary.type_columns();
     if len > 0 {
         out.put("\nrecord type in columns ");

@@ -106,16 +106,20 @@ fn compared_with<'n, R: Files + AllocGlobal, D: Input, O: Input>(
     }
 }
 
-/// Compares the files.
+/// Compares the files, whose areas are told apart by these id items.
 fn compared<'n, R: Files + AllocGlobal>(
     rt: &R,
     asked: &Asked<'_>,
     names: &Names<'n>,
-    diff: Diff<'n>,
+    by: Vec<usize>,
 ) -> Result<Diff<'n>, Stop> {
     let mut data = opened(rt, asked, Slot::Second)?;
     let mut out = opened(rt, asked, Slot::Third)?;
-    compared_with(rt, asked, names, diff, &mut data.device, &mut out.device)
+    let shape = names.dictionary.shape();
+    match Diff::new(rt.alloc(), shape, by, asked.html.is_some()) {
+        Ok(diff) => compared_with(rt, asked, names, diff, &mut data.device, &mut out.device),
+        Err(_) => Err(Stop::of_memory()),
+    }
 }
 
 /// Writes what was changed as a page, if one is asked for.
@@ -190,10 +194,8 @@ pub(crate) fn diff_files<R: Files + Print + AllocGlobal>(
     requires apart { AreApart (uses DiffCommand asked.now) }
 {
     let by = id_items(rt.alloc(), names.dictionary, asked.by)?;
-    let shape = names.dictionary.shape();
-    let Ok(diff) = Diff::new(rt.alloc(), shape, by, asked.html.is_some()) else {
-        return Err(Stop::of_memory());
-    };
-    let diff = compared(rt, asked, names, diff)?;
-    tell_diff(rt, asked, names, &diff)
+    match compared(rt, asked, names, by) {
+        Ok(diff) => tell_diff(rt, asked, names, &diff),
+        Err(stop) => Err(stop),
+    }
 }

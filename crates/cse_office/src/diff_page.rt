@@ -73,17 +73,11 @@ pub fn put_page(
 ) {
     let counts = &diff.counts;
     out.put_head("What the run changed");
-    out.put_all(&[
-        Cell::Text("<p>Cases "),
-        Cell::Number(counts.cases),
-        Cell::Text(", changed "),
-        Cell::Number(counts.changed_cases),
-        Cell::Text(". Lines "),
-        Cell::Number(counts.lines),
-        Cell::Text(", changed "),
-        Cell::Number(counts.changed_lines),
-        Cell::Text(".</p>\n"),
-    ]);
+    out.put_counted("<p>Cases ", counts.cases);
+    out.put_counted(", changed ", counts.changed_cases);
+    out.put_counted(". Lines ", counts.lines);
+    out.put_counted(", changed ", counts.changed_lines);
+    out.put(".</p>\n");
     put_items(out, names, diff);
     if diff.has_areas() {
         put_areas(out, areas);

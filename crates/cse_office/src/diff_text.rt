@@ -164,17 +164,11 @@ pub fn put_diff<'v>(
     areas: &[Area],
 ) {
     let counts = &diff.counts;
-    out.put_all(&[
-        Cell::Text("cases "),
-        Cell::Number(counts.cases),
-        Cell::Text(" changed "),
-        Cell::Number(counts.changed_cases),
-        Cell::Text("\nlines "),
-        Cell::Number(counts.lines),
-        Cell::Text(" changed "),
-        Cell::Number(counts.changed_lines),
-        Cell::Text("\n"),
-    ]);
+    out.put_counted("cases ", counts.cases);
+    out.put_counted(" changed ", counts.changed_cases);
+    out.put_counted("\nlines ", counts.lines);
+    out.put_counted(" changed ", counts.changed_lines);
+    out.put("\n");
     if counts.changed_lines > 0 {
         out.put("\n");
         put_items(out, names, diff);

@@ -9,9 +9,9 @@ use crate::text::{Cell, Text};
 
 /// Writes how many there are, and the line of the first.
 fn put_found(out: &mut Text, word: &str, found: Found) {
-    out.put_all(&[Cell::Text(word), Cell::Number(found.count)]);
+    out.put_counted(word, found.count);
     if found.count > 0 {
-        out.put_all(&[Cell::Text(" first at line "), Cell::Number(found.first)]);
+        out.put_counted(" first at line ", found.first);
     }
     out.put("\n");
 }
@@ -98,13 +98,9 @@ fn put_items(out: &mut Text, names: &Names<'_>, look: &Look) {
 
 /// Writes what was found: totals, lines by record, unseen lines by kind, ids that come back, and the fields of each item.
 pub fn put_look(out: &mut Text, names: &Names<'_>, look: &Look) {
-    out.put_all(&[
-        Cell::Text("cases "),
-        Cell::Number(look.cases),
-        Cell::Text("\nlines "),
-        Cell::Number(look.lines),
-        Cell::Text("\n"),
-    ]);
+    out.put_counted("cases ", look.cases);
+    out.put_counted("\nlines ", look.lines);
+    out.put("\n");
     put_found(out, "unknown ", look.unknown);
     put_found(out, "extra ", look.extra);
     put_found(out, "ids that come back ", look.returns);

@@ -30,17 +30,14 @@ fn put_messages(out: &mut Text, report: &Report) {
 /// Writes an imputed item with its values.
 fn put_item<'v>(out: &mut Text, names: &Names<'v>, lines: u64, item: &'v Imputed) {
     let number = item_of(names, item.name.as_str());
-    out.put_all(&[
-        Cell::Text("<details open><summary>"),
-        Cell::Escaped(item.name.as_str()),
-        Cell::Text(" <span class=t>"),
-        Cell::Escaped(names.item_label(number)),
-        Cell::Text("</span> "),
-        Cell::Number(item.times),
-        Cell::Text(
-            "</summary>\n<table><tr><th>value<th>label<th class=n>times<th class=n>share<th></tr>\n",
-        ),
-    ]);
+    out.put("<details open><summary>");
+    out.put_escaped(item.name.as_str());
+    out.put(" <span class=t>");
+    out.put_escaped(names.item_label(number));
+    out.put_counted("</span> ", item.times);
+    out.put(
+        "</summary>\n<table><tr><th>value<th>label<th class=n>times<th class=n>share<th></tr>\n",
+    );
     for (_, _, value, times) in &item.values {
         let percent = share(*times, item.times);
         out.put_row(&[
@@ -51,27 +48,19 @@ fn put_item<'v>(out: &mut Text, names: &Names<'v>, lines: u64, item: &'v Imputed
             Cell::Bar(percent),
         ]);
     }
-    out.put_all(&[
-        Cell::Text("</table>\n<p class=t>of lines "),
-        Cell::Percent(share(item.times, lines)),
-        Cell::Text(" %</p></details>\n"),
-    ]);
+    out.put("</table>\n<p class=t>of lines ");
+    out.put_percent(share(item.times, lines));
+    out.put(" %</p></details>\n");
 }
 
 /// Writes the page.
 pub fn put_report_page<'v>(out: &mut Text, names: &Names<'v>, report: &'v Report) {
     out.put_head("What the run told");
-    out.put_all(&[
-        Cell::Text("<p>Cases "),
-        Cell::Number(report.cases),
-        Cell::Text(". Lines "),
-        Cell::Number(report.lines),
-        Cell::Text(". Unseen: unknown "),
-        Cell::Number(report.unknown),
-        Cell::Text(", extra "),
-        Cell::Number(report.extra),
-        Cell::Text(".</p>\n"),
-    ]);
+    out.put_counted("<p>Cases ", report.cases);
+    out.put_counted(". Lines ", report.lines);
+    out.put_counted(". Unseen: unknown ", report.unknown);
+    out.put_counted(", extra ", report.extra);
+    out.put(".</p>\n");
     put_messages(out, report);
     out.put("<h2>Imputed</h2>\n");
     for item in &report.items {

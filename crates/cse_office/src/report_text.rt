@@ -117,17 +117,11 @@ fn put_values<'v>(out: &mut Text, names: &Names<'v>, report: &'v Report) {
 
 /// Writes totals, messages, and imputed items with their values.
 pub fn put_report<'v>(out: &mut Text, names: &Names<'v>, report: &'v Report) {
-    out.put_all(&[
-        Cell::Text("cases "),
-        Cell::Number(report.cases),
-        Cell::Text("\nlines "),
-        Cell::Number(report.lines),
-        Cell::Text("\nunknown "),
-        Cell::Number(report.unknown),
-        Cell::Text("\nextra "),
-        Cell::Number(report.extra),
-        Cell::Text("\n\n"),
-    ]);
+    out.put_counted("cases ", report.cases);
+    out.put_counted("\nlines ", report.lines);
+    out.put_counted("\nunknown ", report.unknown);
+    out.put_counted("\nextra ", report.extra);
+    out.put("\n\n");
     put_messages(out, report);
     out.put("\n");
     put_items(out, names, report);

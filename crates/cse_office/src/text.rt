@@ -116,7 +116,7 @@ impl Text {
     }
 
     /// Writes hundredths with a point.
-    fn put_percent(&mut self, hundredths: u64) {
+    pub(crate) fn put_percent(&mut self, hundredths: u64) {
         self.put_number(hundredths / 100);
         self.put(if hundredths % 100 < 10 { ".0" } else { "." });
         self.put_number(hundredths % 100);
