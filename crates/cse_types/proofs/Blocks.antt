@@ -1,18 +1,27 @@
 -- What statements that hold others are judged to be, and the messages that stand in them.
 use Rattle.std.specs.Prelude.{Bool, false}
-use Rattle.std.proofs.Common.{◌≡◌, ℕ, ◌+◌, List, [], ◌∷◌, ◌++◌, length, map, Option, Some, None, refl, ap, sym, ◌∙◌, arith, option_map, append_assoc, length-append}
+use Rattle.std.proofs.Common.{◌≡◌, ℕ, ◌+◌, List, [], ◌∷◌, ◌++◌, length, map, Option, Some, None, Result, Ok, Err, IfOk, refl, ap, sym, ◌∙◌, arith, option_map, append_assoc, length-append}
+use Rattle.std.specs.Global.{Vec}
+use Rattle.cse_syntax_tree.specs.declared.tree.Expression as rustexpression
+use Rattle.cse_syntax_tree.specs.declared.tree.Jump.{Jump}
+use Rattle.cse_syntax_tree.specs.declared.tree.Lexeme.{Lexeme}
+use Rattle.cse_syntax_tree.specs.declared.tree.Place.{Place}
 use Rattle.cse_syntax_tree.specs.declared.tree.Statement as rusts
+use Rattle.cse_syntax_tree.specs.declared.tree.StatementKind.{StatementKind}
+use Rattle.cse_syntax_tree.specs.declared.tree.StatementKind.TheVariants as kind
 use Rattle.cse_syntax_tree.specs.declared.tree.Arm as rustarm
 use Rattle.cse_syntax_tree.specs.Tree as syntax
-use Rattle.cse_syntax_tree.specs.Tree.{Spelling, stmt, arm_tree}
+use Rattle.cse_syntax_tree.specs.Tree.{Spelling, expr, stmt, stmt_kind, arm_tree}
+use Rattle.cse_logic_tree.specs.declared.tree.Statement as typedstatement
 use Rattle.cse_logic_tree.specs.declared.tree.Variable.{Variable}
 use Rattle.cse_logic_tree.specs.Typed as typed
-use Rattle.cse_logic_tree.specs.Typed.{Number, Statement, Statements, Arms, Counting, If, Do, statement_and, statements, arms, no_arm, else_of}
+use Rattle.cse_logic_tree.specs.Typed.{Number, Statement, Statements, Arms, Counting, If, Do, statement, statement_and, statements, arms, no_arm, else_of}
 use Rattle.cse_logic_names.specs.Scope.{Scope}
-use Rattle.cse_logic_names.specs.WellTyped.{messages_in, messages_of, messages_behind, kinds_of}
+use Rattle.cse_logic_names.specs.WellTyped.{messages_in, messages_of, messages_behind, kinds_of, may_jump}
 use Rattle.cse_logic_expressions.specs.Judge.{as_number, judge}
-use Rattle.cse_logic_expressions.specs.JudgeStatement.{err_msg, if_of, arm_of, judge_statement, judge_block, judge_arms, guarded, judge_arm, judge_each, messages_each, chosen, opened, for_loop, do_loop, for_head, for_of, counting_judged}
-use Rattle.cse_logic_names.specs.Walk.{joined}
+use Rattle.cse_logic_expressions.specs.JudgeStatement.{assign, call_of, impute, put_deck, err_msg, if_of, arm_of, judge_statement, judge_block, judge_arms, guarded, judge_arm, judge_each, messages_each, chosen, opened, for_loop, do_loop, for_head, for_of, counting_judged}
+use Rattle.cse_logic_expressions.specs.Clauses.{by_name, by_name_with, by_place}
+use Rattle.cse_logic_names.specs.Walk.{joined, only_if}
 use Rattle.cse_types.proofs.Counted.{walk_from, gathered}
 
 -- ---- blocks and arms as walks
@@ -166,3 +175,36 @@ module _ (s : Scope) (n : ℕ) (x : syntax.Counting) (body : syntax.Stmts) (h : 
   do_judged =
       ap (λ o. joined Do h (judge_block (opened s o) n body)) l_is
       ∙ ap (λ o. joined Do o (judge_block (opened s (option_map do_loop o)) n body)) h_is
+
+-- ---- statements that hold no others
+
+module _ (s : Scope) (n : ℕ) where
+  pub assign_judged : (place : Place) (value : rustexpression.Expression) → by_place assign s place (judge s false (expr value)) ≡ judge_statement s n (stmt_kind (kind.Assign place value))
+  unfolding judge_statement
+  assign_judged place value = refl
+
+  pub call_judged : (name : Lexeme) (values : Vec rustexpression.Expression) → by_name_with call_of s name values.items ≡ judge_statement s n (stmt_kind (kind.Call name values))
+  unfolding judge_statement
+  call_judged name values = refl
+
+  pub jump_judged : (token : ℕ) (jump : Jump) → only_if (may_jump s.loops jump) (Some (typed.Jump' token jump)) ≡ judge_statement s n (stmt_kind (kind.Jump token jump))
+  unfolding judge_statement
+  jump_judged token jump = refl
+
+  pub impute_judged : (place : Place) (value : rustexpression.Expression) → by_place impute s place (as_number (judge s false (expr value))) ≡ judge_statement s n (stmt_kind (kind.Impute place value))
+  unfolding judge_statement
+  impute_judged place value = refl
+
+  pub put_judged : (deck : Lexeme) (value : rustexpression.Expression) → by_name put_deck s deck (as_number (judge s false (expr value))) ≡ judge_statement s n (stmt_kind (kind.PutDeck deck value))
+  unfolding judge_statement
+  put_judged deck value = refl
+
+  pub empty_judged : Some typed.Empty ≡ judge_statement s n (stmt_kind kind.Empty)
+  unfolding judge_statement
+  empty_judged = refl
+
+  -- what a call made of a statement of this kind
+  pub leaf_value : {E : Type 0} (r : Result (Option typedstatement.Statement) E) (k k' : StatementKind) (judged : Option Statement) → k ≡ k' → judged ≡ judge_statement s n (stmt_kind k) → IfOk r (λ x. option_map statement x ≡ judged)
+      → IfOk r (λ x. option_map statement x ≡ judge_statement s n (stmt_kind k'))
+  leaf_value (Ok x) k k' judged same e ok = ok ∙ e ∙ ap (λ k. judge_statement s n (stmt_kind k)) same
+  leaf_value (Err f) k k' judged same e ok = tt

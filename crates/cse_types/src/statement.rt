@@ -144,7 +144,6 @@ fn one_message<'a>(
 
 /// A statement, or none where it isn't sound.
 #[cycle(act)]
-#[tactic(auto, unfolding(cse_logic_expressions::specs::JudgeStatement::judge_statement))]
 fn statement<'a>(
     alloc: Global,
     scope: &mut Scope<'_>,
@@ -192,7 +191,6 @@ fn statement<'a>(
 /// Statements, or none where one isn't sound. All are judged, and each message of theirs is
 /// one more of the source.
 #[cycle(act)]
-#[tactic(auto, unfolding(cse_logic_expressions::specs::JudgeStatement::judge_block))]
 pub fn block<'a>(
     alloc: Global,
     scope: &mut Scope<'_>,
@@ -249,9 +247,14 @@ fn arm<'a>(
     ensures told { OnOk result (map told_of told.new.items ≡ map told_of told.old.items ++ messages_of (parsed_arm x.now).1) }
     ensures same { OnOk result (scope.new ≡ scope.old) }
 {
-    let condition = value(alloc, scope, false, &x.condition)?;
-    let body = block(alloc, scope, told, &x.body)?;
-    Ok(guarded(condition, body))
+    let condition = match value(alloc, scope, false, &x.condition) {
+        Err(fault) => return Err(fault),
+        Ok(condition) => condition,
+    };
+    match block(alloc, scope, told, &x.body) {
+        Err(fault) => Err(fault),
+        Ok(body) => Ok(guarded(condition, body)),
+    }
 }
 
 /// Arms, or none where one isn't sound.

@@ -14,7 +14,7 @@ use Rattle.cse_logic_expressions.specs.JudgeStatement.{judge_statement, judge_bl
 use Rattle.cse_types.specs.Told.{told_of}
 use Rattle.cse_logic_names.specs.Walk.{joined}
 use Rattle.cse_types.proofs.Counted.{from_step, from_end, told_step, told_end, told_count}
-use Rattle.cse_types.proofs.Blocks.{statement_at, messages_at, count_at, block_walked, block_gathered, arm_at, arm_messages, arm_count, arms_walked, arms_gathered, choice_value, choice_told, none_judged, else_judged, for_judged, do_judged}
+use Rattle.cse_types.proofs.Blocks.{statement_at, messages_at, count_at, block_walked, block_gathered, arm_at, arm_messages, arm_count, arms_walked, arms_gathered, choice_value, choice_told, none_judged, else_judged, for_judged, do_judged, assign_judged, call_judged, jump_judged, impute_judged, put_judged, empty_judged, leaf_value}
 use Rattle.cse_types.proofs.statement.+act.Goals as goal
 
 -- ---- blocks
@@ -209,6 +209,84 @@ statement-returns-in-Impute-clause-told t c = OnOk_from c.imputation.result _ (s
 
 pub statement-returns-in-PutDeck-clause-told : goal.statement-returns-in-PutDeck-clause-told
 statement-returns-in-PutDeck-clause-told t c = OnOk_from c.deck_value.result _ (sym (append-nil (map told_of c.args.told.now.items)) ∙ ap (λ y. map told_of c.args.told.now.items ++ messages_in (stmt_kind y)) (sym (sym c.deref.ensures ∙ c.in-PutDeck.is)))
+
+pub statement-returns-in-Empty-clause-value : goal.statement-returns-in-Empty-clause-value
+statement-returns-in-Empty-clause-value t c =
+    let s = c.args.scope.now in
+    let n = length c.args.told.now.items in
+    leaf_value s n c.statement_found.result _ _ _ (sym c.in-Empty.is ∙ c.deref.ensures) (empty_judged s n) c.statement_found.ensures
+
+pub statement-returns-in-Empty-clause-same : goal.statement-returns-in-Empty-clause-same
+statement-returns-in-Empty-clause-same t c = OnOk_from c.statement_found.result _ refl
+
+pub statement-returns-in-Assign-clause-value : goal.statement-returns-in-Assign-clause-value
+statement-returns-in-Assign-clause-value t c =
+    let s = c.args.scope.now in
+    let n = length c.args.told.now.items in
+    leaf_value s n c.assignment.result _ _ _ (sym c.in-Assign.is ∙ c.deref.ensures) (assign_judged s n c.in-Assign.place c.in-Assign.value) c.assignment.ensures
+
+pub statement-returns-in-Assign-clause-same : goal.statement-returns-in-Assign-clause-same
+statement-returns-in-Assign-clause-same t c = OnOk_from c.assignment.result _ refl
+
+pub statement-returns-in-Call-clause-value : goal.statement-returns-in-Call-clause-value
+statement-returns-in-Call-clause-value t c =
+    let s = c.args.scope.now in
+    let n = length c.args.told.now.items in
+    leaf_value s n c.alone.result _ _ _ (sym c.in-Call.is ∙ c.deref.ensures) (call_judged s n c.in-Call.name c.in-Call.arguments) c.alone.ensures
+
+pub statement-returns-in-Call-clause-same : goal.statement-returns-in-Call-clause-same
+statement-returns-in-Call-clause-same t c = OnOk_from c.alone.result _ refl
+
+pub statement-returns-in-Jump-clause-value : goal.statement-returns-in-Jump-clause-value
+statement-returns-in-Jump-clause-value t c =
+    let s = c.args.scope.now in
+    let n = length c.args.told.now.items in
+    leaf_value s n c.jump.result _ _ _ (sym c.in-Jump.is ∙ c.deref.ensures) (jump_judged s n c.in-Jump.token c.in-Jump.leaving) c.jump.ensures
+
+pub statement-returns-in-Jump-clause-same : goal.statement-returns-in-Jump-clause-same
+statement-returns-in-Jump-clause-same t c = OnOk_from c.jump.result _ refl
+
+pub statement-returns-in-Impute-clause-value : goal.statement-returns-in-Impute-clause-value
+statement-returns-in-Impute-clause-value t c =
+    let s = c.args.scope.now in
+    let n = length c.args.told.now.items in
+    leaf_value s n c.imputation.result _ _ _ (sym c.in-Impute.is ∙ c.deref.ensures) (impute_judged s n c.in-Impute.place c.in-Impute.value) c.imputation.ensures
+
+pub statement-returns-in-Impute-clause-same : goal.statement-returns-in-Impute-clause-same
+statement-returns-in-Impute-clause-same t c = OnOk_from c.imputation.result _ refl
+
+pub statement-returns-in-PutDeck-clause-value : goal.statement-returns-in-PutDeck-clause-value
+statement-returns-in-PutDeck-clause-value t c =
+    let s = c.args.scope.now in
+    let n = length c.args.told.now.items in
+    leaf_value s n c.deck_value.result _ _ _ (sym c.in-PutDeck.is ∙ c.deref.ensures) (put_judged s n c.in-PutDeck.deck c.in-PutDeck.value) c.deck_value.ensures
+
+pub statement-returns-in-PutDeck-clause-same : goal.statement-returns-in-PutDeck-clause-same
+statement-returns-in-PutDeck-clause-same t c = OnOk_from c.deck_value.result _ refl
+
+pub statement-returns-in-ErrMsg-clause-value : goal.statement-returns-in-ErrMsg-clause-value
+statement-returns-in-ErrMsg-clause-value t c =
+    leaf_value c.args.scope.now (length c.args.told.now.items) c.one_message.result _ _ _ (sym c.in-ErrMsg.is ∙ c.deref.ensures) refl c.one_message.ensures.value
+
+pub statement-returns-in-ErrMsg-clause-told : goal.statement-returns-in-ErrMsg-clause-told
+statement-returns-in-ErrMsg-clause-told t c =
+    let same = sym c.in-ErrMsg.is ∙ c.deref.ensures in
+    IfOk-weaker c.one_message.result _ _ (λ x p. p ∙ ap (λ y. map told_of c.args.told.now.items ++ messages_in (stmt_kind y)) same) c.one_message.ensures.told
+
+pub statement-returns-in-ErrMsg-clause-same : goal.statement-returns-in-ErrMsg-clause-same
+statement-returns-in-ErrMsg-clause-same t c = OnOk_from c.one_message.result _ refl
+
+pub statement-returns-in_ok-inner-in-For-clause-same : goal.statement-returns-in_ok-inner-in-For-clause-same
+statement-returns-in_ok-inner-in-For-clause-same t c = OnOk_from c.for_of.result _ c.in_ok-inner-in-For.ensures.same
+
+pub statement-returns-in_ok-inner-in-Do-clause-same : goal.statement-returns-in_ok-inner-in-Do-clause-same
+statement-returns-in_ok-inner-in-Do-clause-same t c = OnOk_from c.do_of.result _ c.in_ok-inner-in-Do.ensures.same
+
+pub statement-returns-in-None-clause-same : goal.statement-returns-in-None-clause-same
+statement-returns-in-None-clause-same t c = OnOk_from c.chosen.result _ (c.in_ok-middle-in-If.ensures.same ∙ c.in_ok-start-in-If.ensures.same)
+
+pub statement-returns-in_ok-last-in-Some-clause-same : goal.statement-returns-in_ok-last-in-Some-clause-same
+statement-returns-in_ok-last-in-Some-clause-same t c = OnOk_from c.chosen-in-Some.result _ (c.in_ok-last-in-Some.ensures.same ∙ c.in_ok-middle-in-If.ensures.same ∙ c.in_ok-start-in-If.ensures.same)
 
 -- ---- an arm, and the body of a loop
 
