@@ -1,14 +1,17 @@
 -- Procedures that are judged one after the other: what a loop over them keeps.
-use Rattle.std.proofs.Common.{◌≡◌, ℕ, ◌+◌, ◌<◌, List, ◌∷◌, ◌++◌, length, map, drop, get_or, Option, sym, ap, ◌∙◌, append_assoc, option_map}
-use Rattle.std.specs.Prelude.{Bool, ◌&&◌}
+use Rattle.std.proofs.Common.{◌≡◌, ℕ, ◌+◌, ◌<◌, List, ◌∷◌, ◌++◌, length, map, drop, get_or, Option, Some, None, refl, sym, ap, ◌∙◌, append_assoc, option_map}
+use Rattle.std.specs.Prelude.{Bool, ◌&&◌, unwrap_or}
 use Rattle.cse_lemmas.proofs.Lists.{drop_read}
 use Rattle.cse_syntax_tree.specs.Tree as syntax
 use Rattle.cse_syntax_tree.specs.declared.tree.Procedure as rust
+use Rattle.cse_logic_tree.specs.declared.tree.Owner.{Owner}
+use Rattle.cse_logic_tree.specs.declared.tree.Owner.TheVariants as o
+use Rattle.cse_logic_tree.specs.Typed.{Body}
 use Rattle.cse_types.specs.declared.told.Told.{Told}
 use Rattle.cse_types.specs.Told.{told_of}
 use Rattle.cse_logic_names.specs.Scope.{Scope}
-use Rattle.cse_logic_names.specs.WellTyped.{body_messages, procedure_messages}
-use Rattle.cse_types.specs.JudgeTree.{procedure_judged, procedures_judged}
+use Rattle.cse_logic_names.specs.WellTyped.{body_messages, procedure_messages, procedure_scope}
+use Rattle.cse_types.specs.JudgeTree.{body_judged, owned, procedure_judged, procedure_of, procedures_judged}
 use Rattle.cse_logic_names.specs.Walk.{is_there, joined, so_far, found_more}
 use Rattle.cse_logic_names.proofs.Walks.{turn_is, map_found, there_map}
 use Rattle.cse_types.proofs.MadeLaws.{told_count}
@@ -48,3 +51,12 @@ kept_made g xs xs' y judged k e = ap (map g) k ∙ map_found g xs y ∙ ap (foun
 
 pub made_there : {R B : Type 0} (g : R → B) (there : Bool) (y : Option R) (judged : Option B) → there ≡ is_there y → option_map g y ≡ judged → there ≡ is_there judged
 made_there g there y judged t e = t ∙ sym (there_map g y) ∙ ap is_there e
+
+-- a procedure of this owner, if it has one; else its body is judged as the level's
+pub owned_is : (s : Scope) (n : ℕ) (x : syntax.Procedure) (owner : Option Owner) → joined (procedure_of x.name) owner (body_judged (procedure_scope s (unwrap_or owner o.Level)) n x.body) ≡ owned s n x owner
+owned_is s n x None = refl
+owned_is s n x (Some owner) = by (body_judged (procedure_scope s owner) n x.body)
+  where
+    by : (y : Option Body) → joined (procedure_of x.name) (Some owner) y ≡ option_map (procedure_of x.name owner) y
+    by None = refl
+    by (Some y) = refl

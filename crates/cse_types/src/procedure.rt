@@ -122,16 +122,24 @@ fn body_of<'a>(
     found
 }
 
-fn owned<'a>(name: Lexeme<'a>, owner: Owner, body: Option<Body<'a>>) -> Option<Procedure<'a>>
-    ensures { option_map typed.procedure result ≡ option_map (spec.procedure_of (written name.entry) owner) (body_made body.entry) }
+/// A procedure of a known name and a sound body.
+fn owned<'a>(
+    name: Lexeme<'a>,
+    owner: Option<Owner>,
+    body: Option<Body<'a>>,
+) -> Option<Procedure<'a>>
+    ensures { option_map typed.procedure result ≡ joined (spec.procedure_of (written name.entry)) owner (body_made body.entry) }
 {
-    match body {
+    match owner {
         None => None,
-        Some(body) => Some(Procedure { name, owner, body }),
+        Some(owner) => match body {
+            None => None,
+            Some(body) => Some(Procedure { name, owner, body }),
+        },
     }
 }
 
-/// A procedure, or none where it isn't sound.
+/// A procedure, or none where it isn't sound. One of an unknown name is looked at as the level's, since its messages are counted.
 fn procedure<'a>(
     alloc: Global,
     scope: &mut Scope<'_>,
@@ -142,16 +150,10 @@ fn procedure<'a>(
     ensures told { OnOk result (map told_of told.new.items ≡ map told_of told.old.items ++ body_messages (syntax.body_tree x.now.body)) }
     ensures same { OnOk result (scope.new ≡ scope.old) }
 {
-    match owner_named(alloc, scope.dictionary, x.name)? {
-        None => {
-            // Its messages are counted.
-            let _found = body_of(alloc, scope, told, Owner::Level, &x.body)?;
-            Ok(None)
-        }
-        Some(owner) => {
-            let found = body_of(alloc, scope, told, owner, &x.body)?;
-            Ok(owned(x.name, owner, found))
-        }
+    let owner = owner_named(alloc, scope.dictionary, x.name)?;
+    match body_of(alloc, scope, told, owner.unwrap_or(Owner::Level), &x.body) {
+        Ok(found) => Ok(owned(x.name, owner, found)),
+        Err(fault) => Err(fault),
     }
 }
 
@@ -169,8 +171,10 @@ fn one_more<'a>(
     ensures told { OnOk result (map told_of told.new.items ≡ map told_of told.old.items ++ body_messages (syntax.body_tree x.now.body)) }
     ensures same { OnOk result (scope.new ≡ scope.old) }
 {
-    let next = procedure(alloc, scope, told, x)?;
-    keep(found, next)
+    match procedure(alloc, scope, told, x) {
+        Err(fault) => Err(fault),
+        Ok(next) => keep(found, next),
+    }
 }
 
 /// Procedures, or none where one isn't sound.
