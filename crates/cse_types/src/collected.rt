@@ -34,8 +34,8 @@ fn declared(
     ensures found { OnOk result (found.new ≡ found.old ++ all_faults counts.now scope.old (map syntax.declaration all.now.items)) }
     ensures behind { OnOk result (scope.new ≡ judge.behind_all scope.old 0 (map syntax.declaration all.now.items)) }
 {
-    let mut told = Vec::new(alloc);
     all_names(alloc, scope.dictionary, found, all)?;
+    let mut told = Vec::new(alloc);
     all_declarations(alloc, scope, counts, found, &mut told, all)
 }
 
@@ -109,8 +109,10 @@ fn found_in<'a>(
 ) -> Result<Found, AllocError>
     ensures { IfOk result (λ f. f ≡ spec.faults_of dictionary.now messages.now (syntax.tree tree.now)) }
 {
-    let counts = counts_of(alloc, tree)?;
-    found_counted(alloc, dictionary, messages, &counts, tree)
+    match counts_of(alloc, tree) {
+        Err(fault) => Err(fault),
+        Ok(counts) => found_counted(alloc, dictionary, messages, &counts, tree),
+    }
 }
 
 /// All faults of names and kinds of a source's tree, 40 to 49, for a dictionary and the messages of a message file.
@@ -122,6 +124,8 @@ pub fn faults<'a>(
 ) -> Result<Vec<Fault>, AllocError>
     ensures { IfOk result (λ v. map listed v.items ≡ spec.faults_of dictionary.now messages.now (syntax.tree tree.now)) }
 {
-    let found = found_in(alloc, dictionary, messages, tree)?;
-    Ok(found.list)
+    match found_in(alloc, dictionary, messages, tree) {
+        Err(fault) => Err(fault),
+        Ok(found) => Ok(found.list),
+    }
 }

@@ -5,19 +5,19 @@ ghost use Rattle.std.specs.Option.{option_map};
 ghost use Rattle.cse_syntax_tree.specs.Tree as syntax;
 ghost use Rattle.cse_syntax_tree.specs.Tree.{written};
 ghost use Rattle.cse_logic_tree.specs.Typed as typed;
-ghost use Rattle.cse_logic_names.specs.WellTyped.{declared_messages};
+ghost use Rattle.cse_logic_names.specs.WellTyped.{declared_messages, messages_of};
 ghost use Rattle.cse_types.specs.JudgeTree as spec;
 ghost use Rattle.cse_types.specs.Told.{told_of};
 ghost use Rattle.cse_logic_names.specs.Walk.{is_there};
-ghost use Rattle.cse_types.specs.SourceClauses.{declarations_made};
+ghost use Rattle.cse_types.specs.SourceClauses.{behind_judged, declarations_made, judged_function};
 
 use crate::array::{array, size_of};
 use crate::function::function;
 use crate::told::Told;
 use cse_logic_expressions::list::{both_hold, keep};
 use cse_logic_names::scope::Scope;
-use cse_logic_tree::{Array, Declaration, Function};
-use cse_syntax_tree::{Declaration as Parsed, Lexeme};
+use cse_logic_tree::Declaration;
+use cse_syntax_tree::{Array as ParsedArray, Declaration as Parsed, Lexeme, Parameter, Statement};
 use std::alloc::{AllocError, Global};
 
 /// Numbers.
@@ -27,7 +27,10 @@ fn numeric<'a>(
 ) -> Result<Option<Declaration<'a>>, AllocError>
     ensures { IfOk result (λ r. option_map typed.declaration r ≡ Some (typed.Numeric (map written names.now.items))) }
 {
-    Ok(Some(Declaration::Numeric(Vec::from_slice(alloc, names)?)))
+    match Vec::from_slice(alloc, names) {
+        Err(fault) => Err(fault),
+        Ok(names) => Ok(Some(Declaration::Numeric(names))),
+    }
 }
 
 /// Texts of a size.
@@ -41,25 +44,46 @@ fn alpha<'a>(
 {
     match size {
         None => Ok(None),
-        Some(size) => Ok(Some(Declaration::Alpha(digits, size, Vec::from_slice(alloc, names)?))),
+        Some(size) => match Vec::from_slice(alloc, names) {
+            Err(fault) => Err(fault),
+            Ok(names) => Ok(Some(Declaration::Alpha(digits, size, names))),
+        },
     }
 }
 
-fn of_array<'a>(x: Option<Array<'a>>) -> Option<Declaration<'a>>
-    ensures { option_map typed.declaration result ≡ option_map typed.Array' (option_map typed.array x.entry) }
+/// An array.
+fn array_declared<'a>(
+    alloc: Global,
+    scope: &Scope<'_>,
+    x: &ParsedArray<'a>,
+) -> Result<Option<Declaration<'a>>, AllocError>
+    ensures { IfOk result (λ r. option_map typed.declaration r ≡ option_map typed.Array' (spec.array_judged scope.now (syntax.array x.now))) }
 {
-    match x {
-        None => None,
-        Some(x) => Some(Declaration::Array(x)),
+    match array(alloc, scope, x) {
+        Ok(Some(x)) => Ok(Some(Declaration::Array(x))),
+        Ok(None) => Ok(None),
+        Err(fault) => Err(fault),
     }
 }
 
-fn of_function<'a>(x: Option<Function<'a>>) -> Option<Declaration<'a>>
-    ensures { option_map typed.declaration result ≡ option_map typed.Function' (option_map typed.function x.entry) }
+/// A function.
+fn function_declared<'a>(
+    alloc: Global,
+    scope: &mut Scope<'_>,
+    told: &mut Vec<Told<'a>>,
+    name: Lexeme<'a>,
+    parameters: &Vec<Parameter<'a>>,
+    body: &Vec<Statement<'a>>,
+) -> Result<Option<Declaration<'a>>, AllocError>
+    ensures value { IfOk result (λ r. option_map typed.declaration r
+        ≡ option_map typed.Function' (judged_function scope.old (length told.old.items) name.entry parameters.now.items body.now.items)) }
+    ensures behind { OnOk result (scope.new ≡ behind_judged scope.old (length told.old.items) name.entry parameters.now.items body.now.items) }
+    ensures told { OnOk result (map told_of told.new.items ≡ map told_of told.old.items ++ messages_of (syntax.block body.now.items)) }
 {
-    match x {
-        None => None,
-        Some(x) => Some(Declaration::Function(x)),
+    match function(alloc, scope, told, name, parameters, body) {
+        Ok(Some(x)) => Ok(Some(Declaration::Function(x))),
+        Ok(None) => Ok(None),
+        Err(fault) => Err(fault),
     }
 }
 
@@ -81,10 +105,9 @@ pub fn declaration<'a>(
             let size = size_of(255, *digits);
             alpha(alloc, *digits, names, size)
         }
-        Parsed::Array(x) => Ok(of_array(array(alloc, scope, x)?)),
+        Parsed::Array(x) => array_declared(alloc, scope, x),
         Parsed::Function(name, parameters, body) => {
-            let made = function(alloc, scope, told, *name, parameters, body)?;
-            Ok(of_function(made))
+            function_declared(alloc, scope, told, *name, parameters, body)
         }
     }
 }

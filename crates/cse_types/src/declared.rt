@@ -25,8 +25,10 @@ fn behind<'a>(
     ensures behind { OnOk result (scope.new ≡ judge.behind scope.old (length told.old.items) (syntax.declaration x.now)) }
     ensures told { OnOk result (map told_of told.new.items ≡ map told_of told.old.items ++ judge.messages_with (syntax.declaration x.now)) }
 {
-    let _judged = declaration(alloc, scope, told, x)?;
-    Ok(())
+    match declaration(alloc, scope, told, x) {
+        Err(fault) => Err(fault),
+        Ok(_judged) => Ok(()),
+    }
 }
 
 /// Declarations; behind them stands what is known of their functions.

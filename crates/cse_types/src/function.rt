@@ -109,7 +109,12 @@ pub fn function<'a>(
 {
     let fresh = parameters(alloc, scope, all)?;
     let is_sound = fresh.is_sound;
-    let found = body_in(alloc, scope, told, fresh.names, body)?;
-    let made = made(alloc, scope, is_sound, name, all, found)?;
-    ended(scope, made)
+    let found = match body_in(alloc, scope, told, fresh.names, body) {
+        Err(fault) => return Err(fault),
+        Ok(found) => found,
+    };
+    match made(alloc, scope, is_sound, name, all, found) {
+        Err(fault) => Err(fault),
+        Ok(made) => ended(scope, made),
+    }
 }

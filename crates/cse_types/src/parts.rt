@@ -62,7 +62,10 @@ fn globals<'a>(
 {
     match &tree.globals {
         None => Ok(Some(None)),
-        Some(all) => Ok(present(declarations(alloc, scope, told, all)?)),
+        Some(all) => match declarations(alloc, scope, told, all) {
+            Err(fault) => Err(fault),
+            Ok(found) => Ok(present(found)),
+        },
     }
 }
 
@@ -95,10 +98,15 @@ fn all_parts<'a>(
     ensures value { IfOk result (λ r. option_map parts_tree r ≡ parts_judged scope.old (syntax.tree tree.now)) }
     ensures told { OnOk result (map told_of told.new.items ≡ tree_messages (syntax.tree tree.now)) }
 {
-    let globals = globals(alloc, scope, told, tree)?;
+    let globals = match globals(alloc, scope, told, tree) {
+        Err(fault) => return Err(fault),
+        Ok(globals) => globals,
+    };
     let all = procedures_in(tree);
-    let procedures = procedures(alloc, scope, told, all)?;
-    Ok(parts_of(globals, procedures))
+    match procedures(alloc, scope, told, all) {
+        Err(fault) => Err(fault),
+        Ok(procedures) => Ok(parts_of(globals, procedures)),
+    }
 }
 
 /// The parts as a tree, with the messages of the source.
@@ -130,7 +138,10 @@ fn tree_of<'a>(
 {
     match parts {
         None => Ok(None),
-        Some(parts) => Ok(Some(whole_tree(alloc, messages, told, parts)?)),
+        Some(parts) => match whole_tree(alloc, messages, told, parts) {
+            Err(fault) => Err(fault),
+            Ok(tree) => Ok(Some(tree)),
+        },
     }
 }
 
@@ -140,6 +151,24 @@ fn are_apart(alloc: Global, tree: &Parsed<'_>) -> Result<bool, AllocError>
 {
     let fresh = owners(alloc, procedures_in(tree))?;
     Ok(fresh.is_sound)
+}
+
+/// The typed tree of a source's tree in this scope of what is known before the first function ends.
+fn tree_in<'a>(
+    alloc: Global,
+    scope: &mut Scope<'_>,
+    messages: &'a Messages,
+    tree: &Parsed<'a>,
+) -> Result<Option<Tree<'a>>, AllocError>
+    requires { are_said (tree_messages (syntax.tree tree.now)) ≡ true }
+    ensures { IfOk result (λ r. option_map typed.tree r
+        ≡ option_map (with_entries messages.now (tree_messages (syntax.tree tree.now))) (parts_judged scope.old (syntax.tree tree.now))) }
+{
+    let mut told = Vec::new(alloc);
+    match all_parts(alloc, scope, &mut told, tree) {
+        Err(fault) => Err(fault),
+        Ok(parts) => tree_of(alloc, messages, &told, parts),
+    }
 }
 
 /// The typed tree of a source's tree whose declarations have these names, or none where a part isn't sound.
@@ -153,10 +182,10 @@ fn tree_with<'a>(
     requires { are_said (tree_messages (syntax.tree tree.now)) ≡ true }
     ensures { IfOk result (λ r. option_map typed.tree r ≡ tree_over dictionary.now messages.now names (syntax.tree tree.now)) }
 {
-    let mut scope = start(alloc, dictionary, messages, names, tree)?;
-    let mut told = Vec::new(alloc);
-    let parts = all_parts(alloc, &mut scope, &mut told, tree)?;
-    tree_of(alloc, messages, &told, parts)
+    match start(alloc, dictionary, messages, names, tree) {
+        Err(fault) => Err(fault),
+        Ok(mut scope) => tree_in(alloc, &mut scope, messages, tree),
+    }
 }
 
 /// The typed tree of a source's tree, or none where a rule is broken.
@@ -169,8 +198,8 @@ pub fn judged<'a>(
     requires { are_said (tree_messages (syntax.tree tree.now)) ≡ true }
     ensures { IfOk result (λ r. option_map typed.tree r ≡ judge.typed_of dictionary.now messages.now (syntax.tree tree.now)) }
 {
-    let table = declared_names(alloc, dictionary, tree)?;
     let are_apart = are_apart(alloc, tree)?;
+    let table = declared_names(alloc, dictionary, tree)?;
     let is_sound = both_hold(table.is_sound, are_apart);
     if is_sound {
         tree_with(alloc, dictionary, messages, table.names, tree)

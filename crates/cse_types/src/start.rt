@@ -78,8 +78,13 @@ pub fn start<'a>(
     ensures { IfOk result (λ s. s ≡ spec.start_of dictionary.now messages.now declared (globals_of tree.now)) }
 {
     let mut scope = first_scope(alloc, dictionary, messages, declared);
-    scope.arrays = all_arrays(alloc, &scope, tree)?;
-    Ok(scope)
+    match all_arrays(alloc, &scope, tree) {
+        Err(fault) => Err(fault),
+        Ok(arrays) => {
+            scope.arrays = arrays;
+            Ok(scope)
+        }
+    }
 }
 
 /// The procedures of a tree.
