@@ -2,36 +2,13 @@
 
 ghost use Rattle.std.specs.Prelude.{◌≡◌, Some, IfOk};
 ghost use Rattle.std.specs.Option.{option_map};
-ghost use Rattle.cse_logic_tree.specs.Typed.{number, number_kind, words, words_kind, statement, statement_kind};
+ghost use Rattle.cse_logic_tree.specs.Typed.{number_kind, words_kind, statement, statement_kind};
 ghost use Rattle.cse_logic_expressions.specs.Judge as spec;
 ghost use Rattle.cse_logic_expressions.specs.Judge.{judged};
 
 use crate::judged::Judged;
 use cse_logic_tree::{Number, NumberKind, Statement, StatementKind, Words, WordsKind};
 use std::alloc::{AllocError, Global};
-
-/// A number that is sound.
-pub fn number_found<'a>(
-    alloc: Global,
-    kind: NumberKind<'a>,
-) -> Result<Option<Number<'a>>, AllocError>
-    ensures { IfOk result (λ r. option_map number r ≡ Some (number_kind kind.entry)) }
-{
-    match Number::new(alloc, kind) {
-        Ok(x) => Ok(Some(x)),
-        Err(fault) => Err(fault),
-    }
-}
-
-/// A text that is sound.
-pub fn words_found<'a>(alloc: Global, kind: WordsKind<'a>) -> Result<Option<Words<'a>>, AllocError>
-    ensures { IfOk result (λ r. option_map words r ≡ Some (words_kind kind.entry)) }
-{
-    match Words::new(alloc, kind) {
-        Ok(x) => Ok(Some(x)),
-        Err(fault) => Err(fault),
-    }
-}
 
 /// A statement that is sound.
 pub fn statement_found<'a>(

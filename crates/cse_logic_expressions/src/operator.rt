@@ -9,7 +9,7 @@ ghost use Rattle.cse_logic_expressions.specs.Judge.{judged, compared};
 ghost use Rattle.cse_logic_names.specs.Walk.{joined};
 
 use crate::judged::Judged;
-use crate::made::{number_found, number_judged, words_found};
+use crate::made::{number_judged, words_judged};
 use cse_logic_tree::{Number, NumberKind, Operation, Words, WordsKind};
 use cse_syntax_tree::Relation;
 use std::alloc::{AllocError, Global};
@@ -54,21 +54,21 @@ pub fn is_special<'a>(alloc: Global, x: Option<Number<'a>>) -> Result<Judged<'a>
     }
 }
 
-fn number_group<'a>(alloc: Global, x: Option<Number<'a>>) -> Result<Option<Number<'a>>, AllocError>
-    ensures { IfOk result (λ r. option_map number r ≡ option_map typed.Group (option_map number x.entry)) }
+fn number_group<'a>(alloc: Global, x: Option<Number<'a>>) -> Result<Judged<'a>, AllocError>
+    ensures { IfOk result (λ r. judged r ≡ spec.AsNumber (option_map typed.Group (option_map number x.entry))) }
 {
     match x {
-        None => Ok(None),
-        Some(x) => number_found(alloc, NumberKind::Group(x)),
+        None => Ok(Judged::Number(None)),
+        Some(x) => number_judged(alloc, NumberKind::Group(x)),
     }
 }
 
-fn text_group<'a>(alloc: Global, x: Option<Words<'a>>) -> Result<Option<Words<'a>>, AllocError>
-    ensures { IfOk result (λ r. option_map words r ≡ option_map typed.TextGroup (option_map words x.entry)) }
+fn text_group<'a>(alloc: Global, x: Option<Words<'a>>) -> Result<Judged<'a>, AllocError>
+    ensures { IfOk result (λ r. judged r ≡ spec.AsWords (option_map typed.TextGroup (option_map words x.entry))) }
 {
     match x {
-        None => Ok(None),
-        Some(x) => words_found(alloc, WordsKind::Group(x)),
+        None => Ok(Judged::Words(None)),
+        Some(x) => words_judged(alloc, WordsKind::Group(x)),
     }
 }
 
@@ -77,8 +77,8 @@ pub fn grouped<'a>(alloc: Global, x: Judged<'a>) -> Result<Judged<'a>, AllocErro
     ensures { IfOk result (λ r. judged r ≡ spec.grouped (judged x.entry)) }
 {
     match x {
-        Judged::Number(x) => Ok(Judged::Number(number_group(alloc, x)?)),
-        Judged::Words(x) => Ok(Judged::Words(text_group(alloc, x)?)),
+        Judged::Number(x) => number_group(alloc, x),
+        Judged::Words(x) => text_group(alloc, x),
         Judged::Unknown => Ok(Judged::Unknown),
     }
 }
