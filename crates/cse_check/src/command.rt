@@ -19,15 +19,24 @@ const MOST_TEXT: u64 = 268_435_456;
 /// What is told where memory lacks for the words, so that it isn't known what they ask for.
 const NO_MEMORY: &[u8] = b"refused 90\n";
 
+/// A file of `check`.
+#[derive(Clone, Copy)]
+enum Which {
+    Dictionary,
+    Logic,
+    Messages,
+    Order,
+}
+
 /// Why a command has not printed all.
 #[derive(Clone, Copy)]
-enum Stop<'a> {
+enum Stop {
     /// The words are no command.
     Usage,
     /// A file was not read.
-    NotRead(&'a str, ReadFault),
+    NotRead(Which, ReadFault),
     /// A file has more bytes than are read.
-    TooLong(&'a str),
+    TooLong(Which),
     /// Standard output took no more.
     NotWritten,
     /// Want of memory.
@@ -35,58 +44,86 @@ enum Stop<'a> {
 }
 
 /// What stops a command where a file can't be opened.
-fn not_opened(path: &str, kind: ErrorKind) -> Stop<'_> {
+fn not_opened(file: Which, kind: ErrorKind) -> Stop {
     match kind {
         ErrorKind::OutOfMemory => Stop::Memory,
-        _ => Stop::NotRead(path, ReadFault::NotOpened),
+        _ => Stop::NotRead(file, ReadFault::NotOpened),
     }
 }
 
 /// What stops it where one can't be read.
-fn not_read(path: &str, fault: ReadFault) -> Stop<'_> {
+fn not_read(file: Which, fault: ReadFault) -> Stop {
     match fault {
         ReadFault::Memory => Stop::Memory,
-        fault => Stop::NotRead(path, fault),
+        fault => Stop::NotRead(file, fault),
     }
 }
 
 /// The bytes that a file gives.
-fn bytes_given<'a, I: Input>(
-    alloc: Global,
-    path: &'a str,
-    input: &mut I,
-) -> Result<Vec<u8>, Stop<'a>> {
+fn bytes_given<I: Input>(alloc: Global, file: Which, input: &mut I) -> Result<Vec<u8>, Stop> {
     match read_all(alloc, input, MOST_TEXT) {
-        Ok(bytes) if bytes.len() as u64 > MOST_TEXT => Err(Stop::TooLong(path)),
+        Ok(bytes) if bytes.len() as u64 > MOST_TEXT => Err(Stop::TooLong(file)),
         Ok(bytes) => Ok(bytes),
-        Err(fault) => Err(not_read(path, fault)),
+        Err(fault) => Err(not_read(file, fault)),
     }
 }
 
 /// The bytes of a file.
-fn bytes_of<'a, R: Opens + AllocGlobal>(rt: &R, path: &'a str) -> Result<Vec<u8>, Stop<'a>> {
+fn bytes_of<R: Opens + AllocGlobal>(rt: &R, file: Which, path: &str) -> Result<Vec<u8>, Stop> {
     match open_input(rt, path) {
-        Ok(mut input) => bytes_given(rt.alloc(), path, &mut input.device),
-        Err(error) => Err(not_opened(path, error.kind())),
+        Ok(mut input) => bytes_given(rt.alloc(), file, &mut input.device),
+        Err(error) => Err(not_opened(file, error.kind())),
     }
 }
 
-/// The bytes of the files, none of one that isn't named.
-fn all_bytes<'a, R: Opens + AllocGlobal>(
-    rt: &R,
-    paths: [Option<&'a str>; 4],
-) -> Result<Vec<Vec<u8>>, Stop<'a>> {
-    let mut all = Vec::new(rt.alloc());
-    for path in paths {
-        let bytes = match path {
-            Some(path) => bytes_of(rt, path)?,
-            None => Vec::new(rt.alloc()),
-        };
-        if all.push(bytes).is_err() {
-            return Err(Stop::Memory);
-        }
+/// The path of a file, if it is named.
+fn path_of<'a>(words: &CheckWords<'a>, file: Which) -> Option<&'a str> {
+    match file {
+        Which::Dictionary => Some(words.dict),
+        Which::Logic => Some(words.logic),
+        Which::Messages => words.messages,
+        Which::Order => words.order,
     }
-    Ok(all)
+}
+
+/// The bytes of a file, none of one that isn't named.
+fn bytes_if<R: Opens + AllocGlobal>(
+    rt: &R,
+    words: &CheckWords<'_>,
+    file: Which,
+) -> Result<Vec<u8>, Stop> {
+    match path_of(words, file) {
+        Some(path) => bytes_of(rt, file, path),
+        None => Ok(Vec::new(rt.alloc())),
+    }
+}
+
+/// Adds the bytes of a file.
+fn add_bytes<R: Opens + AllocGlobal>(
+    rt: &R,
+    words: &CheckWords<'_>,
+    file: Which,
+    all: &mut Vec<Vec<u8>>,
+) -> Result<(), Stop> {
+    match bytes_if(rt, words, file) {
+        Ok(bytes) => match all.push(bytes) {
+            Ok(()) => Ok(()),
+            Err(_) => Err(Stop::Memory),
+        },
+        Err(stop) => Err(stop),
+    }
+}
+
+/// Adds the bytes of the files.
+fn add_all_bytes<R: Opens + AllocGlobal>(
+    rt: &R,
+    words: &CheckWords<'_>,
+    all: &mut Vec<Vec<u8>>,
+) -> Result<(), Stop> {
+    add_bytes(rt, words, Which::Dictionary, all)?;
+    add_bytes(rt, words, Which::Logic, all)?;
+    add_bytes(rt, words, Which::Messages, all)?;
+    add_bytes(rt, words, Which::Order, all)
 }
 
 /// A file that may be named, with its bytes.
@@ -97,19 +134,9 @@ fn file_if<'a>(path: Option<&'a str>, bytes: &'a [u8]) -> Option<File<'a>> {
     }
 }
 
-/// All faults of the files.
-fn report_files<'a, R: Opens + AllocGlobal>(
-    rt: &R,
-    words: &CheckWords<'a>,
-) -> Result<Report, Stop<'a>> {
-    let paths = [
-        Some(words.dict),
-        Some(words.logic),
-        words.messages,
-        words.order,
-    ];
-    let all = all_bytes(rt, paths)?;
-    let [dict, logic, messages, order] = all.as_slice() else {
+/// All faults of files that have these bytes.
+fn report_bytes(alloc: Global, words: &CheckWords<'_>, all: &[Vec<u8>]) -> Result<Report, Stop> {
+    let [dict, logic, messages, order] = all else {
         return Err(Stop::Memory);
     };
     let files = Files {
@@ -125,11 +152,20 @@ fn report_files<'a, R: Opens + AllocGlobal>(
         order: file_if(words.order, order),
         has_warnings: words.has_warnings,
     };
-    Ok(report_of(rt.alloc(), &files, words.is_json))
+    Ok(report_of(alloc, &files, words.is_json))
+}
+
+/// All faults of the files.
+fn report_files<R: Opens + AllocGlobal>(rt: &R, words: &CheckWords<'_>) -> Result<Report, Stop> {
+    let mut all = Vec::new(rt.alloc());
+    match add_all_bytes(rt, words, &mut all) {
+        Ok(()) => report_bytes(rt.alloc(), words, &all),
+        Err(stop) => Err(stop),
+    }
 }
 
 /// Prints bytes.
-fn print<R: Print>(rt: &R, bytes: &[u8]) -> Result<(), Stop<'static>> {
+fn print<R: Print>(rt: &R, bytes: &[u8]) -> Result<(), Stop> {
     let mut out = Writes::new(io::writer(rt));
     match write_all(&mut out, bytes) {
         Ok(()) => Ok(()),
@@ -138,7 +174,7 @@ fn print<R: Print>(rt: &R, bytes: &[u8]) -> Result<(), Stop<'static>> {
 }
 
 /// Prints bytes, and answers this status.
-fn print_with<'a, R: Print>(rt: &R, bytes: &[u8], status: u8) -> Result<u8, Stop<'a>>
+fn print_with<R: Print>(rt: &R, bytes: &[u8], status: u8) -> Result<u8, Stop>
     ensures { IfOk result (λ answer. answer ≡ status) }
 {
     match print(rt, bytes) {
@@ -148,7 +184,7 @@ fn print_with<'a, R: Print>(rt: &R, bytes: &[u8], status: u8) -> Result<u8, Stop
 }
 
 /// Prints what a report has, and answers the status.
-fn print_report<'a, R: Print>(rt: &R, report: Report) -> Result<u8, Stop<'a>>
+fn print_report<R: Print>(rt: &R, report: Report) -> Result<u8, Stop>
     ensures { IfOk result (λ status. status ≤ 1) }
 {
     let Report {
@@ -163,21 +199,18 @@ fn print_report<'a, R: Print>(rt: &R, report: Report) -> Result<u8, Stop<'a>>
     }
 }
 
-/// `check`. Answers the status.
-fn check<'a, R: Opens + Print + AllocGlobal>(rt: &R, words: &'a [String]) -> Result<u8, Stop<'a>>
+/// Prints all faults of the files. Answers the status.
+fn print_files<R: Opens + Print + AllocGlobal>(rt: &R, words: &CheckWords<'_>) -> Result<u8, Stop>
     ensures { IfOk result (λ status. status ≤ 1) }
 {
-    let Some(words) = check_words(words) else {
-        return Err(Stop::Usage);
-    };
-    match report_files(rt, &words) {
+    match report_files(rt, words) {
         Ok(report) => print_report(rt, report),
         Err(stop) => Err(stop),
     }
 }
 
-/// `explain`. Answers the status.
-fn explain<'a, R: Print>(rt: &R, words: &'a [String]) -> Result<u8, Stop<'a>>
+/// Prints what is known of a number. Answers the status.
+fn print_number<R: Print>(rt: &R, words: &[String]) -> Result<u8, Stop>
     ensures { IfOk result (λ status. status ≤ 1) }
 {
     let [word] = words else {
@@ -204,19 +237,27 @@ fn reason(fault: ReadFault) -> &'static [u8] {
     }
 }
 
-/// What is told of a command that has not printed all: words, and the path behind them.
-fn told<'a>(stop: Stop<'a>, usage: &'a str) -> (&'a [u8], &'a str) {
+/// What is told of a command that has not printed all, before the path.
+fn told(stop: Stop, usage: &str) -> &[u8] {
     match stop {
-        Stop::Usage => (usage.as_bytes(), ""),
-        Stop::NotRead(path, fault) => (reason(fault), path),
-        Stop::TooLong(path) => (b"error[64]: more than 268435456 bytes in ", path),
-        Stop::NotWritten => (b"error[71]: standard output takes no more", ""),
-        Stop::Memory => (b"error[90]: not enough memory", ""),
+        Stop::Usage => usage.as_bytes(),
+        Stop::NotRead(_, fault) => reason(fault),
+        Stop::TooLong(_) => b"error[64]: more than 268435456 bytes in ",
+        Stop::NotWritten => b"error[71]: standard output takes no more",
+        Stop::Memory => b"error[90]: not enough memory",
+    }
+}
+
+/// The path of the file that stopped `check`; none where it was another cause.
+fn path_told<'a>(stop: Stop, words: &CheckWords<'a>) -> &'a str {
+    match stop {
+        Stop::NotRead(file, _) | Stop::TooLong(file) => path_of(words, file).unwrap_or(""),
+        Stop::Usage | Stop::NotWritten | Stop::Memory => "",
     }
 }
 
 /// The status of a command that has not printed all.
-fn status_of(stop: Stop<'_>) -> u8
+fn status_of(stop: Stop) -> u8
     ensures { result ≤ 3 }
 {
     match stop {
@@ -226,20 +267,47 @@ fn status_of(stop: Stop<'_>) -> u8
     }
 }
 
-/// Tells why a command has not printed all, and answers the status.
-fn tell<W: Output>(stop: Stop<'_>, usage: &str, errors: &mut W) -> u8
+/// Tells why a command has not printed all, and of which file. Answers the status.
+fn tell<W: Output>(stop: Stop, path: &str, usage: &str, errors: &mut W) -> u8
     ensures { result ≤ 3 }
 {
-    let (words, path) = told(stop, usage);
     let status = status_of(stop);
     let end: &[u8] = if status == 2 { b"" } else { b"\n" };
-    let _ = write_all(errors, words);
+    let _ = write_all(errors, told(stop, usage));
     let _ = write_all(errors, path.as_bytes());
     let _ = write_all(errors, end);
     status
 }
 
-/// Does what the words ask for, if the first is `check` or `explain`. Answers the status.
+/// `check`. Answers the status.
+fn check<R: Opens + Print + AllocGlobal, W: Output>(
+    rt: &R,
+    words: &[String],
+    usage: &str,
+    errors: &mut W,
+) -> u8
+    ensures { result ≤ 3 }
+{
+    let Some(words) = check_words(words) else {
+        return tell(Stop::Usage, "", usage, errors);
+    };
+    match print_files(rt, &words) {
+        Ok(status) => status,
+        Err(stop) => tell(stop, path_told(stop, &words), usage, errors),
+    }
+}
+
+/// `explain`. Answers the status.
+fn explain<R: Print, W: Output>(rt: &R, words: &[String], usage: &str, errors: &mut W) -> u8
+    ensures { result ≤ 3 }
+{
+    match print_number(rt, words) {
+        Ok(status) => status,
+        Err(stop) => tell(stop, "", usage, errors),
+    }
+}
+
+/// Does what the words behind the program's name ask for, if the first is `check` or `explain`. Answers the status.
 fn carry_out_words<R: Opens + Print + AllocGlobal, W: Output>(
     rt: &R,
     words: &[String],
@@ -249,27 +317,25 @@ fn carry_out_words<R: Opens + Print + AllocGlobal, W: Output>(
     ensures status { IfSome result (λ status. status ≤ 3) }
     ensures nothing { IfNone result (W.taken errors.new ≡ W.taken errors.old) }
 {
-    let [first, rest @ ..] = words else {
+    let [_, first, rest @ ..] = words else {
         return None;
     };
-    let done = match first.as_str() {
-        "check" => check(rt, rest),
-        "explain" => explain(rt, rest),
-        _ => return None,
-    };
-    Some(match done {
-        Ok(status) => status,
-        Err(stop) => tell(stop, usage, errors),
-    })
+    match first.as_str() {
+        "check" => Some(check(rt, rest, usage, errors)),
+        "explain" => Some(explain(rt, rest, usage, errors)),
+        _ => None,
+    }
 }
 
-/// The words after the program's name.
+/// The program's name, and the words after it.
 fn words_given<R: Env + AllocGlobal>(rt: &R) -> io::Result<Vec<String>> {
-    let mut words = Vec::new(rt.alloc());
-    for word in env::args(rt)?.skip(1) {
-        words.push(word)?;
+    match env::args(rt) {
+        Ok(words) => match words.collect(rt.alloc()) {
+            Ok(words) => Ok(words),
+            Err(refused) => Err(io::Error::from(refused)),
+        },
+        Err(error) => Err(error),
     }
-    Ok(words)
 }
 
 /// Does what the words ask for, if the first is `check` or `explain`, and answers the exit status, 3 at most. Else nothing is done

@@ -119,6 +119,14 @@ impl Cutter {
             self.close(at.saturating_add(1), State::Between);
         }
     }
+
+    /// All tokens of a text.
+    fn take_all(&mut self, tokens: &[Token]) {
+        for at in 0..tokens.len() {
+            self.take(at, tokens[at].role);
+        }
+        self.close(tokens.len(), State::Front);
+    }
 }
 
 /// The pieces of a text.
@@ -128,10 +136,7 @@ pub fn pieces_of(alloc: Global, tokens: &[Token]) -> Result<Vec<Piece>, AllocErr
         state: State::Front,
         first: 0,
     };
-    for (at, token) in tokens.iter().enumerate() {
-        cutter.take(at, token.role);
-    }
-    cutter.close(tokens.len(), State::Front);
+    cutter.take_all(tokens);
     let Cutter { pieces, .. } = cutter;
     pieces.finish()
 }

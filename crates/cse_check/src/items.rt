@@ -45,8 +45,10 @@ fn put_of(dictionary: &Dictionary, spot: &Spot<'_>) -> Option<Put> {
     } else {
         (0, 2, Role::Semicolon)
     };
-    let item = item_of(dictionary, spot.word(name))?;
-    Some(Put { item, value, end })
+    match item_of(dictionary, spot.word(name)) {
+        Some(item) => Some(Put { item, value, end }),
+        None => None,
+    }
 }
 
 /// Whether the value of so many tokens is all that is put there.
@@ -98,8 +100,9 @@ fn lacks_code(dictionary: &Dictionary, spot: &Spot<'_>, put: &Put) -> bool {
 
 /// Whether the first set of an item has no 0.
 fn has_no_zero(dictionary: &Dictionary, item: u16) -> bool {
-    for (set, shape) in dictionary.shape().sets.iter().enumerate() {
-        if shape.item == item {
+    let sets = dictionary.shape().sets.as_slice();
+    for set in 0..sets.len() {
+        if sets[set].item == item {
             return dictionary.row_of(set as u16, Num::Whole(0)).is_none();
         }
     }
@@ -115,7 +118,9 @@ fn may_impute_zero(dictionary: &Dictionary, spot: &Spot<'_>, put: &Put, empty: &
 
 /// The number of the warning about what is put into an item here, if there is one.
 pub fn of_item(dictionary: &Dictionary, spot: &Spot<'_>, empty: &[&[u8]]) -> Option<u8> {
-    let put = put_of(dictionary, spot)?;
+    let Some(put) = put_of(dictionary, spot) else {
+        return None;
+    };
     if spot.is(put.value, spot.word(0)) && ends_with(spot, &put, 1) {
         Some(101)
     } else if is_too_wide(dictionary, spot, &put) {
@@ -131,13 +136,16 @@ pub fn of_item(dictionary: &Dictionary, spot: &Spot<'_>, empty: &[&[u8]]) -> Opt
 
 /// The record of an item, if it may have several occurrences.
 fn record_of(dictionary: &Dictionary, name: &[u8]) -> Option<u8> {
-    let item = item_of(dictionary, name)?;
+    let Some(item) = item_of(dictionary, name) else {
+        return None;
+    };
     let shape = dictionary.shape();
-    let owner = shape.items.get(usize::from(item))?.owner;
-    if shape.records.get(usize::from(owner))?.max_records > 1 {
-        Some(owner)
-    } else {
-        None
+    let Some(item) = shape.items.get(usize::from(item)) else {
+        return None;
+    };
+    match shape.records.get(usize::from(item.owner)) {
+        Some(record) if record.max_records > 1 => Some(item.owner),
+        _ => None,
     }
 }
 

@@ -26,13 +26,13 @@ fn add_dictionary<'a>(dictionary: &'a Dictionary, names: &mut Gathered<&'a [u8]>
     names.add(dictionary.name().as_bytes());
     names.add(dictionary.level_name().as_bytes());
     let shape = dictionary.shape();
-    for (number, _) in shape.records.iter().enumerate() {
+    for number in 0..shape.records.len() {
         names.add(dictionary.record_name(number as u16).as_bytes());
     }
-    for (number, _) in shape.items.iter().enumerate() {
+    for number in 0..shape.items.len() {
         names.add(dictionary.item_name(number as u16).as_bytes());
     }
-    for (number, _) in shape.sets.iter().enumerate() {
+    for number in 0..shape.sets.len() {
         names.add(dictionary.set_name(number as u16).as_bytes());
     }
 }

@@ -34,12 +34,11 @@ fn line_between(text: &[u8], start: usize, end: usize) -> Line {
     }
 }
 
-/// The lines of a text.
-pub fn lines_of(alloc: Global, text: &[u8]) -> Result<Vec<Line>, AllocError> {
-    let mut lines = Gathered::new(alloc);
+/// Adds the lines of a text.
+fn add_lines(text: &[u8], lines: &mut Gathered<Line>) {
     let mut start = mark_len(text);
-    for (at, byte) in text.iter().enumerate() {
-        if *byte == b'\n' {
+    for at in 0..text.len() {
+        if text[at] == b'\n' {
             lines.add(line_between(text, start, at));
             start = at.saturating_add(1);
         }
@@ -47,13 +46,19 @@ pub fn lines_of(alloc: Global, text: &[u8]) -> Result<Vec<Line>, AllocError> {
     if start < text.len() {
         lines.add(line_between(text, start, text.len()));
     }
+}
+
+/// The lines of a text.
+pub fn lines_of(alloc: Global, text: &[u8]) -> Result<Vec<Line>, AllocError> {
+    let mut lines = Gathered::new(alloc);
+    add_lines(text, &mut lines);
     lines.finish()
 }
 
 /// The first byte beyond ASCII behind a place; the place where there is none.
 fn first_beyond(bytes: &[u8], start: usize) -> usize {
-    for (at, byte) in bytes.iter().enumerate() {
-        if *byte >= 128 {
+    for at in 0..bytes.len() {
+        if bytes[at] >= 128 {
             return start.saturating_add(at);
         }
     }
@@ -61,13 +66,30 @@ fn first_beyond(bytes: &[u8], start: usize) -> usize {
 }
 
 /// Blanks in place of what is beyond ASCII.
-fn blank_beyond(text: &mut Vec<u8>, start: usize, end: usize) {
-    if let Some(part) = text.as_mut_slice().get_mut(start..end) {
-        for byte in part.iter_mut() {
-            if *byte >= 128 {
-                *byte = b' ';
-            }
+fn blank_beyond(text: &mut [u8], start: usize, end: usize) {
+    for at in start..end.min(text.len()) {
+        if text[at] >= 128 {
+            text[at] = b' ';
         }
+    }
+}
+
+/// Blanks in place of what is no UTF-8 in a line, which is told.
+fn blank_line(line: &Line, text: &mut [u8], found: &mut Gathered<Finding>) {
+    let bytes = part(text, line.start, line.end);
+    if !is_utf8(bytes) {
+        found.add(Finding {
+            start: first_beyond(bytes, line.start),
+            number: UNREADABLE,
+        });
+        blank_beyond(text, line.start, line.end);
+    }
+}
+
+/// Blanks in place of what is no UTF-8 in some lines, which are told.
+fn blank_lines(lines: &[Line], text: &mut [u8], found: &mut Gathered<Finding>) {
+    for line in lines {
+        blank_line(line, text, found);
     }
 }
 
@@ -79,16 +101,7 @@ pub fn as_utf8(
 ) -> Result<Vec<u8>, AllocError> {
     let lines = lines_of(alloc, if is_utf8(text) { b"" } else { text })?;
     let mut kept = Vec::from_slice(alloc, text)?;
-    for line in &lines {
-        let bytes = part(text, line.start, line.end);
-        if !is_utf8(bytes) {
-            found.add(Finding {
-                start: first_beyond(bytes, line.start),
-                number: UNREADABLE,
-            });
-            blank_beyond(&mut kept, line.start, line.end);
-        }
-    }
+    blank_lines(&lines, &mut kept, found);
     blank_beyond(&mut kept, 0, mark_len(text));
     Ok(kept)
 }

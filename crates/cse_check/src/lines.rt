@@ -17,6 +17,29 @@ fn fault_of(alloc: Global, line: &[u8]) -> u8 {
     }
 }
 
+/// Keeps a line.
+fn keep(kept: &mut Gathered<u8>, line: &[u8]) {
+    for byte in line {
+        kept.add(*byte);
+    }
+    kept.add(b'\n');
+}
+
+/// The fault of a line that begins here, which is kept if it has none.
+fn take_message(
+    alloc: Global,
+    line: &[u8],
+    start: usize,
+    kept: &mut Gathered<u8>,
+    found: &mut Gathered<Finding>,
+) {
+    match fault_of(alloc, line) {
+        0 => keep(kept, line),
+        WANT_OF_MEMORY => found.give_up(),
+        number => found.add(Finding { start, number }),
+    }
+}
+
 /// The faults of a message file, each line by itself; the others are kept.
 pub fn message_faults(
     alloc: Global,
@@ -27,19 +50,7 @@ pub fn message_faults(
     let mut found = Gathered::new(alloc);
     for line in &lines {
         let bytes = part(text, line.start, line.end);
-        match fault_of(alloc, bytes) {
-            0 => {
-                for byte in bytes {
-                    kept.add(*byte);
-                }
-                kept.add(b'\n');
-            }
-            WANT_OF_MEMORY => found.give_up(),
-            number => found.add(Finding {
-                start: line.start,
-                number,
-            }),
-        }
+        take_message(alloc, bytes, line.start, kept, &mut found);
     }
     found.finish()
 }
@@ -49,6 +60,24 @@ fn record_of(dictionary: &Dictionary, line: &[u8]) -> Option<u16> {
     match str::from_utf8(line) {
         Ok(name) => dictionary.find_record(name),
         Err(_) => None,
+    }
+}
+
+/// The fault of a line that begins here, or the record that it names.
+fn take_name(
+    dictionary: &Dictionary,
+    name: &[u8],
+    start: usize,
+    named: &mut Gathered<u16>,
+    found: &mut Gathered<Finding>,
+) {
+    match record_of(dictionary, name) {
+        Some(record) if !named.items().contains(&record) => named.add(record),
+        None if name.is_empty() => {}
+        _ => found.add(Finding {
+            start,
+            number: UNKNOWN_NAME,
+        }),
     }
 }
 
@@ -63,14 +92,7 @@ pub fn order_faults(
     let mut named = Gathered::new(alloc);
     for line in &lines {
         let name = part(text, line.start, line.end);
-        match record_of(dictionary, name) {
-            Some(record) if !named.items().contains(&record) => named.add(record),
-            None if name.is_empty() => {}
-            _ => found.add(Finding {
-                start: line.start,
-                number: UNKNOWN_NAME,
-            }),
-        }
+        take_name(dictionary, name, line.start, &mut named, &mut found);
     }
     found.finish()
 }

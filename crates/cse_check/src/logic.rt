@@ -63,6 +63,45 @@ fn follows(beside: &Beside<'_>, excused: &[&[u8]], number: u8, token: &Read<'_>)
     number == UNKNOWN_NAME && is_among(excused, token.text.as_bytes())
 }
 
+/// Adds a fault of a name or of a kind, if it follows from none of a declaration or a message.
+fn add_if_first(
+    beside: &Beside<'_>,
+    excused: &[&[u8]],
+    tokens: &[Read<'_>],
+    fault: &Finding,
+    found: &mut Gathered<Finding>,
+) {
+    let number = fault.number;
+    if let Some(token) = tokens.get(fault.start) {
+        if !follows(beside, excused, number, token) {
+            let start = token.start;
+            found.add(Finding { start, number });
+        }
+    }
+}
+
+/// Whether a fault is of an argument of a function that is not known, whose arguments end here, and follows from that.
+fn is_within(
+    dictionary: &Dictionary,
+    tokens: &[Read<'_>],
+    fault: &Finding,
+    unknown_end: usize,
+) -> bool {
+    match tokens.get(fault.start) {
+        Some(token) => { fault.start < unknown_end && is_argument(dictionary, fault.number, token) }
+        None => true,
+    }
+}
+
+/// Where the arguments of the last name end that is not known, behind a fault, where they ended here before it.
+fn end_behind(tokens: &[Read<'_>], fault: &Finding, unknown_end: usize) -> usize {
+    if fault.number == UNKNOWN_NAME && unknown_end <= fault.start {
+        arguments_end(tokens, fault.start)
+    } else {
+        unknown_end
+    }
+}
+
 /// Those faults of names and kinds that follow from no other. What stands for the place of each is its token.
 fn add_named(
     beside: &Beside<'_>,
@@ -74,20 +113,18 @@ fn add_named(
 ) {
     let mut unknown_end = 0;
     for fault in named {
-        let (place, number) = (fault.start, fault.number);
-        let Some(token) = tokens.get(place) else {
-            continue;
-        };
-        if place < unknown_end && is_argument(dictionary, number, token) {
-            continue;
+        if !is_within(dictionary, tokens, fault, unknown_end) {
+            unknown_end = end_behind(tokens, fault, unknown_end);
+            add_if_first(beside, excused, tokens, fault, found);
         }
-        if number == UNKNOWN_NAME && unknown_end <= place {
-            unknown_end = arguments_end(tokens, place);
-        }
-        if !follows(beside, excused, number, token) {
-            let start = token.start;
-            found.add(Finding { start, number });
-        }
+    }
+}
+
+/// All that was found, in order.
+fn all_in_order(found: Gathered<Finding>) -> Result<Vec<Finding>, AllocError> {
+    match found.finish() {
+        Ok(found) => in_order(found),
+        Err(refused) => Err(refused),
     }
 }
 
@@ -106,7 +143,7 @@ fn named_faults<'a>(
             number: fault.number,
         });
     }
-    in_order(named.finish()?)
+    all_in_order(named)
 }
 
 /// A fault of what was thought to be without one.
@@ -122,6 +159,21 @@ fn add_error(text: &[u8], error: SyntaxError, found: &mut Gathered<Finding>) {
     });
 }
 
+/// The faults of names and kinds of a source.
+fn add_of<'a>(
+    alloc: Global,
+    beside: &Beside<'a>,
+    dictionary: &'a Dictionary,
+    source: &Source<'a>,
+    excused: &[&[u8]],
+    found: &mut Gathered<Finding>,
+) {
+    match named_faults(alloc, beside, dictionary, source) {
+        Ok(named) => add_named(beside, dictionary, &source.tokens, excused, &named, found),
+        Err(_) => found.give_up(),
+    }
+}
+
 /// The faults of names and kinds of what can be read.
 fn add_names<'a>(
     alloc: Global,
@@ -135,10 +187,7 @@ fn add_names<'a>(
         return;
     };
     match parse(alloc, text) {
-        Ok(source) => match named_faults(alloc, beside, dictionary, &source) {
-            Ok(named) => add_named(beside, dictionary, &source.tokens, excused, &named, found),
-            Err(_) => found.give_up(),
-        },
+        Ok(source) => add_of(alloc, beside, dictionary, &source, excused, found),
         Err(error) => add_error(mended, error, found),
     }
 }

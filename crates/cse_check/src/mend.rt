@@ -43,6 +43,15 @@ fn odd_number(token: &Token, is_loop: bool) -> Option<u8> {
     }
 }
 
+/// Blanks in place of what stands from here up to there, but for line feeds.
+fn blank(text: &mut [u8], start: usize, end: usize) {
+    for at in start..end.min(text.len()) {
+        if text[at] != b'\n' {
+            text[at] = b' ';
+        }
+    }
+}
+
 impl<'a> Mending<'a> {
     /// A text with its tokens, of which nothing is left out yet.
     pub fn new(
@@ -112,13 +121,7 @@ impl<'a> Mending<'a> {
 
     /// Blanks in place of what stands from here up to there.
     pub(crate) fn blank(&mut self, start: usize, end: usize) {
-        if let Some(part) = self.mended.as_mut_slice().get_mut(start..end) {
-            for byte in part.iter_mut() {
-                if *byte != b'\n' {
-                    *byte = b' ';
-                }
-            }
-        }
+        blank(&mut self.mended, start, end);
     }
 
     /// Blanks in place of tokens.

@@ -8,12 +8,13 @@ pub fn said_of(table: &'static [u8], word: &[u8]) -> &'static [u8] {
     let mut start = 0usize;
     let mut is_head = true;
     let mut is_found = false;
-    for (at, byte) in table.iter().enumerate() {
+    for at in 0..table.len() {
         let behind = at.saturating_add(1);
-        match *byte {
+        let byte = table[at];
+        match byte {
             b' ' | b'~' if is_head => {
                 is_found = is_found || part(table, start, at).eq_ignore_ascii_case(word);
-                is_head = *byte == b' ';
+                is_head = byte == b' ';
                 start = behind;
             }
             b'\n' if is_found => return part(table, start, at),
@@ -31,8 +32,8 @@ pub fn said_of(table: &'static [u8], word: &[u8]) -> &'static [u8] {
 pub fn cell(said: &'static [u8], count: usize) -> &'static [u8] {
     let mut left = count;
     let mut start = 0usize;
-    for (at, byte) in said.iter().enumerate() {
-        if *byte == b'~' {
+    for at in 0..said.len() {
+        if said[at] == b'~' {
             if left == 0 {
                 return part(said, start, at);
             }
@@ -56,15 +57,16 @@ fn is_of(section: &[u8], number: &[u8]) -> bool {
 fn section_in(sections: &'static [u8], number: &[u8]) -> &'static [u8] {
     let mut start = 0usize;
     let mut is_end = false;
-    for (at, byte) in sections.iter().enumerate() {
-        if *byte == b'\n' && is_end {
+    for at in 0..sections.len() {
+        let byte = sections[at];
+        if byte == b'\n' && is_end {
             let section = part(sections, start, at);
             if is_of(section, number) {
                 return section;
             }
             start = at.saturating_add(1);
         }
-        is_end = *byte == b'\n';
+        is_end = byte == b'\n';
     }
     b""
 }

@@ -78,6 +78,14 @@ fn behind_brace(byte: u8, around: usize) -> State {
     }
 }
 
+/// The byte at a place; 0 behind the text.
+fn byte_at(text: &[u8], at: usize) -> u8 {
+    match text.get(at) {
+        Some(byte) => *byte,
+        None => 0,
+    }
+}
+
 impl Scanner<'_> {
     /// A token more, from the start up to here, and nothing has begun behind it.
     fn put(&mut self, sort: Sort, role: Role, end: usize) {
@@ -155,6 +163,15 @@ impl Scanner<'_> {
             _ => self.end_run(at),
         }
     }
+
+    /// All bytes of the text, and its end.
+    fn take_all(&mut self) {
+        let text = self.text;
+        for at in 0..text.len() {
+            self.take(at, text[at], byte_at(text, at.saturating_add(1)));
+        }
+        self.end(text.len());
+    }
 }
 
 /// The tokens of a text.
@@ -165,14 +182,7 @@ pub fn tokens_of(alloc: Global, text: &[u8]) -> Result<Vec<Token>, AllocError> {
         state: State::Between,
         start: 0,
     };
-    for (at, byte) in text.iter().enumerate() {
-        let next = match text.get(at.saturating_add(1)) {
-            Some(next) => *next,
-            None => 0,
-        };
-        scanner.take(at, *byte, next);
-    }
-    scanner.end(text.len());
+    scanner.take_all();
     let Scanner { tokens, .. } = scanner;
     tokens.finish()
 }

@@ -11,8 +11,8 @@ use std::alloc::{AllocError, Global};
 
 /// Whether a name is one of these, in any letter case.
 pub fn is_among(names: &[&[u8]], name: &[u8]) -> bool {
-    for known in names {
-        if known.eq_ignore_ascii_case(name) {
+    for place in 0..names.len() {
+        if names[place].eq_ignore_ascii_case(name) {
             return true;
         }
     }
@@ -34,7 +34,8 @@ fn has_quote(value: &[u8]) -> bool {
 /// The name of a set, if a value of it is quoted.
 fn add_blank<'a>(section: &Section<'a>, names: &mut Gathered<&'a [u8]>) {
     let mut name: &'a [u8] = b"";
-    for entry in &section.entries {
+    for place in 0..section.entries.len() {
+        let entry = &section.entries[place];
         if is_same(entry.key, b"Name") {
             name = entry.value;
         } else if is_same(entry.key, b"Value") && has_quote(entry.value) {
@@ -44,14 +45,21 @@ fn add_blank<'a>(section: &Section<'a>, names: &mut Gathered<&'a [u8]>) {
     }
 }
 
-/// The sets of a dictionary's text that have a quoted value. On a numeric item these are blanks.
-pub fn blank_sets(alloc: Global, text: &[u8]) -> Result<Vec<&[u8]>, AllocError> {
-    let mut names = Gathered::new(alloc);
-    for section in &sections_of(alloc, text)? {
+/// Adds the sets that have a quoted value.
+fn add_blanks<'a>(sections: &[Section<'a>], names: &mut Gathered<&'a [u8]>) {
+    for place in 0..sections.len() {
+        let section = &sections[place];
         if is_same(section.heading, b"ValueSet") {
-            add_blank(section, &mut names);
+            add_blank(section, names);
         }
     }
+}
+
+/// The sets of a dictionary's text that have a quoted value. On a numeric item these are blanks.
+pub fn blank_sets(alloc: Global, text: &[u8]) -> Result<Vec<&[u8]>, AllocError> {
+    let sections = sections_of(alloc, text)?;
+    let mut names = Gathered::new(alloc);
+    add_blanks(&sections, &mut names);
     names.finish()
 }
 
@@ -60,8 +68,9 @@ fn first_set<'a>(dictionary: &'a Dictionary, name: &[u8]) -> &'a [u8] {
     let Some(item) = item_of(dictionary, name) else {
         return b"";
     };
-    for (set, shape) in dictionary.shape().sets.iter().enumerate() {
-        if shape.item == item {
+    let sets = dictionary.shape().sets.as_slice();
+    for set in 0..sets.len() {
+        if sets[set].item == item {
             return dictionary.set_name(set as u16).as_bytes();
         }
     }

@@ -12,6 +12,39 @@ use crate::unused::unused_names;
 use cse_dict::Dictionary;
 use std::alloc::{AllocError, Global};
 
+/// Whether a declaration has a starting list.
+fn has_list(text: &[u8], own: &[Token]) -> bool {
+    for token in own {
+        if token.is(text, b"=") {
+            return true;
+        }
+    }
+    false
+}
+
+/// Adds the name of a declaration that has no starting list.
+fn add_empty<'a>(text: &'a [u8], own: &[Token], empty: &mut Gathered<&'a [u8]>) {
+    if let [_, name, ..] = own {
+        if !has_list(text, own) {
+            empty.add(name.of(text));
+        }
+    }
+}
+
+/// Adds the names of arrays that have no starting list.
+fn add_arrays<'a>(
+    text: &'a [u8],
+    tokens: &[Token],
+    pieces: &[Piece],
+    empty: &mut Gathered<&'a [u8]>,
+) {
+    for piece in pieces {
+        if piece.kind == Kind::Declaration {
+            add_empty(text, tokens_in(tokens, piece.first, piece.last), empty);
+        }
+    }
+}
+
 /// The names of arrays that have no starting list.
 fn empty_arrays<'a>(
     alloc: Global,
@@ -20,16 +53,7 @@ fn empty_arrays<'a>(
     pieces: &[Piece],
 ) -> Result<Vec<&'a [u8]>, AllocError> {
     let mut empty = Gathered::new(alloc);
-    for piece in pieces {
-        let own = tokens_in(tokens, piece.first, piece.last);
-        let mut has_list = piece.kind != Kind::Declaration;
-        for token in own {
-            has_list = has_list || token.is(text, b"=");
-        }
-        if let (false, [_, name, ..]) = (has_list, own) {
-            empty.add(name.of(text));
-        }
-    }
+    add_arrays(text, tokens, pieces, &mut empty);
     empty.finish()
 }
 
@@ -59,6 +83,22 @@ fn seen_at(
     }
 }
 
+/// The warning that is seen at a token, if there is one.
+fn add_seen_at(
+    dictionary: &Dictionary,
+    spot: &Spot<'_>,
+    empty: &[&[u8]],
+    blank: &[&[u8]],
+    found: &mut Gathered<Finding>,
+) {
+    if let Some((count, number)) = seen_at(dictionary, spot, empty, blank) {
+        if let Some(token) = spot.ahead(count) {
+            let start = token.start;
+            found.add(Finding { start, number });
+        }
+    }
+}
+
 /// The warnings that are seen at tokens.
 fn add_seen(
     dictionary: &Dictionary,
@@ -73,13 +113,25 @@ fn add_seen(
         tokens,
         index: 0,
     };
-    for (index, _) in tokens.iter().enumerate() {
+    for index in 0..tokens.len() {
         spot.index = index;
-        if let Some((count, number)) = seen_at(dictionary, &spot, empty, blank) {
-            if let Some(token) = spot.ahead(count) {
-                let start = token.start;
-                found.add(Finding { start, number });
-            }
+        add_seen_at(dictionary, &spot, empty, blank, found);
+    }
+}
+
+/// The warning at a procedure of an item that names other occurrences alone.
+fn add_procedure(
+    dictionary: &Dictionary,
+    text: &[u8],
+    own: &[Token],
+    found: &mut Gathered<Finding>,
+) {
+    if let [_, name, ..] = own {
+        if names_others(dictionary, text, own) {
+            found.add(Finding {
+                start: name.start,
+                number: 111,
+            });
         }
     }
 }
@@ -93,15 +145,26 @@ fn add_procedures(
     found: &mut Gathered<Finding>,
 ) {
     for piece in pieces {
-        let own = tokens_in(tokens, piece.first, piece.last);
-        if piece.kind == Kind::Procedure && names_others(dictionary, text, own) {
-            if let [_, name, ..] = own {
-                found.add(Finding {
-                    start: name.start,
-                    number: 111,
-                });
-            }
+        if piece.kind == Kind::Procedure {
+            let own = tokens_in(tokens, piece.first, piece.last);
+            add_procedure(dictionary, text, own, found);
         }
+    }
+}
+
+/// The warnings that are seen at tokens, by arrays without a starting list and a dictionary's own text.
+fn add_with(
+    alloc: Global,
+    dictionary: &Dictionary,
+    source: &[u8],
+    text: &[u8],
+    tokens: &[Token],
+    empty: &[&[u8]],
+    found: &mut Gathered<Finding>,
+) {
+    match blank_sets(alloc, source) {
+        Ok(blank) => add_seen(dictionary, text, tokens, empty, &blank, found),
+        Err(_) => found.give_up(),
     }
 }
 
@@ -115,11 +178,9 @@ pub fn warnings_of(
     pieces: &[Piece],
     found: &mut Gathered<Finding>,
 ) {
-    let empty = empty_arrays(alloc, text, tokens, pieces);
-    let blank = blank_sets(alloc, source);
-    match (empty, blank) {
-        (Ok(empty), Ok(blank)) => add_seen(dictionary, text, tokens, &empty, &blank, found),
-        _ => found.give_up(),
+    match empty_arrays(alloc, text, tokens, pieces) {
+        Ok(empty) => add_with(alloc, dictionary, source, text, tokens, &empty, found),
+        Err(_) => found.give_up(),
     }
     add_procedures(dictionary, text, tokens, pieces, found);
     unused_names(alloc, text, tokens, pieces, found);
