@@ -1,12 +1,13 @@
 //! What is amiss at a desk.
 
+use crate::cut::{before, behind};
 use std::alloc::Global;
 use std::fs;
 use std::os::unix::fs::symlink;
 use std::rt::Files;
 
 /// What may be amiss at a desk.
-#[derive(Clone, Copy, PartialEq, Eq)]
+#[derive(Clone, Copy)]
 enum Kind {
     Nothing,
     /// A file may not be opened.
@@ -29,12 +30,11 @@ enum Kind {
     Mute,
 }
 
-/// What is amiss at a desk, with the file that it is amiss of, and another one.
+/// What is amiss at a desk, with the file that it is amiss of, and another one behind a blank.
 #[derive(Drop)]
 pub struct Amiss {
     kind: Kind,
-    file: String,
-    other: String,
+    files: String,
 }
 
 /// What is amiss by its word; nothing where no word is known.
@@ -56,15 +56,12 @@ fn kind_of(word: &str) -> Option<Kind> {
 
 /// What is amiss, by a word and the files of it; nothing where no word is known, or memory lacks.
 pub fn amiss_of(alloc: Global, said: &str) -> Option<Amiss> {
-    let (word, files) = said.split_once(' ').unwrap_or((said, ""));
-    let (file, other) = files.split_once(' ').unwrap_or((files, ""));
-    match kind_of(word) {
-        Some(kind) => Some(Amiss {
-            kind,
-            file: String::from_str(alloc, file).ok()?,
-            other: String::from_str(alloc, other).ok()?,
-        }),
-        None => None,
+    let Some(kind) = kind_of(before(said, " ")) else {
+        return None;
+    };
+    match String::from_str(alloc, behind(said, " ")) {
+        Ok(files) => Some(Amiss { kind, files }),
+        Err(_) => None,
     }
 }
 
@@ -82,28 +79,38 @@ fn is_by(path: &str, file: &str) -> bool {
 }
 
 impl Amiss {
+    /// The file that it is amiss of.
+    fn file(&self) -> &str {
+        before(&self.files, " ")
+    }
+
+    /// The other file.
+    fn other(&self) -> &str {
+        behind(&self.files, " ")
+    }
+
     /// Makes the link, or the second name.
     pub fn tie<R: Files>(&self, rt: &R) -> bool {
         match self.kind {
-            Kind::Link => symlink(rt, &self.other, &self.file).is_ok(),
-            Kind::Name => fs::hard_link(rt, &self.other, &self.file).is_ok(),
+            Kind::Link => symlink(rt, self.other(), self.file()).is_ok(),
+            Kind::Name => fs::hard_link(rt, self.other(), self.file()).is_ok(),
             _ => true,
         }
     }
 
     /// Whether this is amiss of a file.
     fn is(&self, kind: Kind, path: &str) -> bool {
-        (self.kind == kind) & (path == self.file.as_str())
+        (self.kind == kind) & (path == self.file())
     }
 
     /// Whether this is amiss of a file that is written, or of the file that it is made beside.
     fn is_by(&self, kind: Kind, path: &str, writes: bool) -> bool {
-        (self.kind == kind) & writes & is_by(path, &self.file)
+        (self.kind == kind) & writes & is_by(path, self.file())
     }
 
     /// Whether a file may not be opened.
     pub fn denies(&self, path: &str, writes: bool) -> bool {
-        let is_alone = (self.kind == Kind::Alone) & is_beside(path, &self.file);
+        let is_alone = (self.kind == Kind::Alone) & is_beside(path, self.file());
         self.is(Kind::Closed, path) | (self.is(Kind::Kept, path) & writes) | is_alone
     }
 
@@ -125,7 +132,7 @@ impl Amiss {
     /// How many bytes can be printed.
     pub fn most_printed(&self) -> usize {
         match self.kind {
-            Kind::Mute => self.file.parse::<usize>().unwrap_or(0),
+            Kind::Mute => self.file().parse::<usize>().unwrap_or(0),
             _ => usize::MAX,
         }
     }

@@ -13,8 +13,8 @@
 //! `text DICT:` is a text, and `DICT` may stand for a stored file. Its lines are indented by four blanks and `|` (`text`).
 //! `text printed:` and `text told:` are what a row prints and tells, byte by byte.
 
-use std::alloc::{AllocError, Global};
-use std::str::SplitAsciiWhitespace;
+use crate::cut::{before, behind, parts, word_at, words};
+use std::alloc::Global;
 
 /// The heads of the blocks: what is stored before the commands of a row.
 pub const STORED: &str = "\nstored:";
@@ -45,15 +45,6 @@ pub const STATUS: &str = "\nstatus:";
 
 const TEXT: &str = "\ntext ";
 
-/// What rows share: the lines of a comment above them, and those of the text.
-#[derive(Clone, Copy)]
-pub struct Shared<'a> {
-    pub part: &'a str,
-    pub all: &'a str,
-    /// What `usage` stands for in what is told.
-    pub usage: &'a str,
-}
-
 /// The lines of a row, those that it shares with rows below a comment, and those that it shares with all. It keeps copies, since
 /// what holds a text by reference is proved at more cost wherever it is handed on.
 #[derive(Drop)]
@@ -64,59 +55,93 @@ pub struct Row {
     usage: String,
 }
 
-/// How many bytes a value has: its first line, and those behind it that are indented.
-fn value_len(behind: &str) -> usize {
-    let mut len = 0usize;
-    let mut goes_on = true;
-    for line in behind.split('\n') {
-        goes_on &= (len == 0) | line.starts_with("    ");
-        if goes_on {
-            len = len.saturating_add(line.len()).saturating_add(1);
-        }
-    }
-    len.saturating_sub(1)
+/// Makes a text another one. Answers whether there is memory for it.
+fn set(text: &mut String, other: &str) -> bool {
+    text.clear();
+    text.push_str(other).is_ok()
 }
 
-/// What stands behind a word of a block.
-fn said<'a>(block: &'a str, word: &str) -> Option<&'a str> {
-    match block.split_once(word) {
-        Some((_, behind)) => match behind.split_at_checked(value_len(behind)) {
-            Some((value, _)) => Some(value.trim()),
-            None => None,
-        },
-        None => None,
+/// How many bytes a value has that a text begins with: its first line, and those behind it that are indented.
+fn value_len(text: &str) -> usize {
+    let mut len = before(text, "\n").len();
+    let mut rest = behind(text, "\n");
+    for _ in 1..parts(text, "\n") {
+        if !rest.starts_with("    ") {
+            return len;
+        }
+        len = len
+            .saturating_add(before(rest, "\n").len())
+            .saturating_add(1);
+        rest = behind(rest, "\n");
+    }
+    len
+}
+
+/// The value that a text begins with.
+fn value_of(text: &str) -> &str {
+    match text.split_at_checked(value_len(text)) {
+        Some((value, _)) => value.trim(),
+        None => "",
     }
 }
 
 /// What stands behind the first line of a text of a block.
 fn text_in<'a>(block: &'a str, name: &str) -> Option<&'a str> {
-    for piece in block.split(TEXT) {
-        if let Some((found, lines)) = piece.split_once(':')
-            && found == name
-        {
-            return Some(lines);
+    let mut rest = block;
+    for _ in 1..parts(block, TEXT) {
+        rest = behind(rest, TEXT);
+        if before(rest, ":") == name {
+            return Some(behind(before(rest, TEXT), ":"));
         }
     }
     None
 }
 
 impl Row {
-    /// A row that has these lines of its own.
-    pub fn new(alloc: Global, own: &str, shared: Shared<'_>) -> Result<Row, AllocError> {
-        Ok(Row {
-            own: String::from_str(alloc, own)?,
-            part: String::from_str(alloc, shared.part)?,
-            all: String::from_str(alloc, shared.all)?,
-            usage: String::from_str(alloc, shared.usage)?,
-        })
+    /// A row without lines.
+    pub fn new(alloc: Global) -> Row {
+        Row {
+            own: String::new(alloc),
+            part: String::new(alloc),
+            all: String::new(alloc),
+            usage: String::new(alloc),
+        }
+    }
+
+    /// Takes lines that it shares with all rows, and what `usage` stands for. Answers whether there is memory for them.
+    pub fn set_all(&mut self, all: &str, usage: &str) -> bool {
+        set(&mut self.all, all) && set(&mut self.usage, usage)
+    }
+
+    /// Takes lines that it shares with rows below a comment. Answers whether there is memory for them.
+    pub fn set_part(&mut self, part: &str) -> bool {
+        set(&mut self.part, part)
+    }
+
+    /// Takes lines of its own. Answers whether there is memory for them.
+    pub fn set_own(&mut self, own: &str) -> bool {
+        set(&mut self.own, own)
+    }
+
+    /// Whether each line that it shares with rows below a comment begins as one of a block.
+    pub fn has_words(&self) -> bool {
+        has_words(&self.part)
+    }
+
+    /// The lines among which a word stands: those of the row, or else those that it shares.
+    fn lines_with(&self, word: &str) -> &str {
+        if self.own.contains(word) {
+            self.own.as_str()
+        } else if self.part.contains(word) {
+            self.part.as_str()
+        } else {
+            self.all.as_str()
+        }
     }
 
     /// What stands behind a word: that of the row, or else of what it shares.
     pub fn of(&self, word: &str) -> &str {
-        said(&self.own, word)
-            .or(said(&self.part, word))
-            .or(said(&self.all, word))
-            .unwrap_or("")
+        value_of(behind(self.lines_with(word), word))
     }
 
     /// What `usage` stands for in what is told.
@@ -124,16 +149,30 @@ impl Row {
         &self.usage
     }
 
-    /// The files behind a word.
-    pub fn files(&self, word: &str) -> SplitAsciiWhitespace<'_> {
-        self.of(word).split_ascii_whitespace()
+    /// How many files stand behind a word.
+    pub fn count(&self, word: &str) -> usize {
+        words(self.of(word))
+    }
+
+    /// The file at a place behind a word, from 0 on.
+    pub fn file(&self, word: &str, place: usize) -> &str {
+        word_at(self.of(word), place)
     }
 
     /// The text of a name: that of the row, or else of what it shares.
     pub fn text(&self, name: &str) -> Option<&str> {
-        text_in(&self.own, name)
-            .or(text_in(&self.part, name))
-            .or(text_in(&self.all, name))
+        match text_in(&self.own, name) {
+            Some(text) => Some(text),
+            None => self.shared_text(name),
+        }
+    }
+
+    /// The text of a name that it shares.
+    fn shared_text(&self, name: &str) -> Option<&str> {
+        match text_in(&self.part, name) {
+            Some(text) => Some(text),
+            None => text_in(&self.all, name),
+        }
     }
 
     /// The text of a name that the row alone has.
@@ -143,32 +182,32 @@ impl Row {
 
     /// Its first line.
     pub fn name(&self) -> &str {
-        self.own.lines().next().unwrap_or("")
+        before(&self.own, "\n")
     }
 
-    /// A file: its path there, and the stored file or the text that has its bytes.
-    pub fn kept<'a>(&'a self, file: &'a str) -> (&'a str, &'a str) {
-        match file.split_once('=') {
-            Some(kept) => kept,
-            None => (file, self.stored(file)),
-        }
-    }
-
-    /// The stored file or the text that has the bytes of a file for which none is named.
-    fn stored<'a>(&'a self, file: &'a str) -> &'a str {
-        match self.own_text(file) {
-            Some(_) => file,
-            None => stored_in(self.files(STORED), file),
+    /// The stored file or the text that has the bytes of a file.
+    pub fn stored<'a>(&'a self, file: &'a str) -> &'a str {
+        if file.contains('=') {
+            behind(file, "=")
+        } else if self.own_text(file).is_some() {
+            file
+        } else {
+            stored_in(self.of(STORED), file)
         }
     }
 }
 
+/// The path of a file of a row.
+pub fn path_of(file: &str) -> &str {
+    before(file, "=")
+}
+
 /// The stored file of a file among several; the file itself where none has its name.
-fn stored_in<'a>(files: SplitAsciiWhitespace<'a>, file: &'a str) -> &'a str {
-    for stored in files {
-        let (name, path) = stored.split_once('=').unwrap_or((stored, stored));
-        if name == file {
-            return path;
+fn stored_in<'a>(stored: &'a str, file: &'a str) -> &'a str {
+    for place in 0..words(stored) {
+        let named = word_at(stored, place);
+        if before(named, "=") == file && named.contains('=') {
+            return behind(named, "=");
         }
     }
     file
@@ -197,19 +236,24 @@ fn words_in(block: &str) -> usize {
     usize::from(kinds_in(block)).saturating_add(block.matches(TEXT).count())
 }
 
+/// Whether a line of a block is neither empty nor a comment, nor indented.
+fn is_own(line: &str) -> bool {
+    !line.is_empty() && !line.starts_with('#') && !line.starts_with("    ")
+}
+
 /// Whether each line of a block, but for its first, is a comment or indented, or begins with a word of rows, which no other does,
 /// or a text.
 pub fn has_words(block: &str) -> bool {
     let mut lines = 0usize;
-    for line in block.lines().skip(1) {
-        if !line.starts_with('#') && !line.starts_with("    ") {
-            lines = lines.saturating_add(1);
-        }
+    let mut rest = block;
+    for _ in 1..parts(block, "\n") {
+        rest = behind(rest, "\n");
+        lines = lines.saturating_add(usize::from(is_own(before(rest, "\n"))));
     }
     lines == words_in(block)
 }
 
 /// Whether a block is a row: a name, and words.
 pub fn is_row(block: &str) -> bool {
-    !block.starts_with(['\n', ' ']) && has_words(block)
+    !block.starts_with('\n') && !block.starts_with(' ') && has_words(block)
 }

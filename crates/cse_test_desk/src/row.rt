@@ -1,7 +1,8 @@
 //! A row is carried out: commands over the files of the folder in which the program runs, and what they come to.
 
 use crate::amiss::{Amiss, amiss_of};
-use crate::block::{AMISS, FILES, MADE, OPENED, PRINTED, Row, STATUS, TOLD, WORDS};
+use crate::block::{AMISS, FILES, MADE, OPENED, PRINTED, Row, STATUS, TOLD, WORDS, path_of};
+use crate::cut::{before, behind, parts};
 use crate::desk::{Desk, Notes};
 use crate::text::{put, put_lines, put_text};
 use cse_value::{Output, Writes};
@@ -25,14 +26,14 @@ pub fn is_right<R: Files + Print + AllocGlobal + Clone + Drop, C: Commands>(
     row: &Row,
     commands: &C,
 ) -> bool {
-    let before = files_in(rt);
+    let count = files_in(rt);
     let well = match amiss_of(rt.alloc(), row.of(AMISS)) {
         Some(amiss) => {
             lay_out(rt, row) && amiss.tie(rt) && is_carried_out(rt, row, &amiss, commands)
         }
         None => false,
     };
-    let well = has_its_files(rt, row, before) && well;
+    let well = has_its_files(rt, row, count) && well;
     clear(rt, row);
     well
 }
@@ -45,14 +46,21 @@ fn tell<R: Print>(rt: &R, row: &Row, what: &str, found: &[u8]) -> bool {
     false
 }
 
+/// Puts the bytes of a text or of a stored file.
+fn put_named<R: Files + AllocGlobal>(rt: &R, row: &Row, name: &str, into: &mut Vec<u8>) -> bool {
+    match row.text(name) {
+        Some(text) => put_text(into, text),
+        None => put_file(rt, name, into),
+    }
+}
+
 /// Puts the bytes of a file of a row: those of texts and stored files, with `+` between them.
 fn put_bytes<R: Files + AllocGlobal>(rt: &R, row: &Row, stored: &str, into: &mut Vec<u8>) -> bool {
     let mut well = true;
-    for name in stored.split('+') {
-        well &= match row.text(name) {
-            Some(text) => put_text(into, text),
-            None => put_file(rt, name, into),
-        };
+    let mut rest = stored;
+    for _ in 0..parts(stored, "+") {
+        well &= put_named(rt, row, before(rest, "+"), into);
+        rest = behind(rest, "+");
     }
     well
 }
@@ -66,21 +74,58 @@ fn put_file<R: Files + AllocGlobal>(rt: &R, path: &str, into: &mut Vec<u8>) -> b
 }
 
 /// Makes a file.
-fn make<R: Files + AllocGlobal>(rt: &R, row: &Row, path: &str, stored: &str) -> bool {
+fn make<R: Files + AllocGlobal>(rt: &R, row: &Row, file: &str) -> bool {
     let mut bytes = Vec::new(rt.alloc());
-    put_bytes(rt, row, stored, &mut bytes) && fs::write(rt, path, bytes.as_slice()).is_ok()
+    put_bytes(rt, row, row.stored(file), &mut bytes)
+        && fs::write(rt, path_of(file), bytes.as_slice()).is_ok()
 }
 
 /// Makes the files of a row.
 fn lay_out<R: Files + Print + AllocGlobal>(rt: &R, row: &Row) -> bool {
     let mut well = true;
-    for file in row.files(FILES) {
-        let (path, stored) = row.kept(file);
-        if !make(rt, row, path, stored) {
-            well = tell(rt, row, path, b"");
-        }
+    for place in 0..row.count(FILES) {
+        let file = row.file(FILES, place);
+        well &= make(rt, row, file) || tell(rt, row, path_of(file), b"");
     }
     well
+}
+
+/// Carries out a command, and answers its status.
+fn carry_out<R: Files + AllocGlobal, C: Commands>(
+    rt: &R,
+    words: &str,
+    amiss: &Amiss,
+    notes: &Notes,
+    errors: &mut Writes<Vec<u8>>,
+    commands: &C,
+) -> u8 {
+    let desk = Desk {
+        files: rt,
+        alloc: rt.alloc(),
+        words,
+        amiss,
+        notes,
+    };
+    commands.carry_out(&desk, errors)
+}
+
+/// Carries out commands, a line each, and answers the greatest status.
+fn carry_out_all<R: Files + AllocGlobal, C: Commands>(
+    rt: &R,
+    lines: &str,
+    amiss: &Amiss,
+    notes: &Notes,
+    errors: &mut Writes<Vec<u8>>,
+    commands: &C,
+) -> u8 {
+    let mut status = 0u8;
+    let mut rest = lines;
+    for _ in 0..parts(lines, "\n") {
+        let words = before(rest, "\n");
+        status = status.max(carry_out(rt, words, amiss, notes, errors, commands));
+        rest = behind(rest, "\n");
+    }
+    status
 }
 
 /// Carries out the commands, and answers whether the files were opened in their order, and the lines and the status are the row's.
@@ -95,22 +140,10 @@ fn is_carried_out<R: Files + Print + AllocGlobal, C: Commands>(
         printed: RefCell::new(Vec::new(rt.alloc())),
     };
     let mut errors = Writes::new(Vec::new(rt.alloc()));
-    let mut status = 0u8;
-    for words in row.of(WORDS).split('\n') {
-        let desk = Desk {
-            files: rt,
-            alloc: rt.alloc(),
-            words,
-            amiss,
-            notes: &notes,
-        };
-        status = status.max(commands.carry_out(&desk, &mut errors));
-    }
-    let mut well = is_opened(rt, row, &notes);
-    well &= is_printed(rt, row, &notes);
-    well &= is_said(rt, row, TOLD, "told", &errors.into_inner());
-    well &= has_status(rt, row, status);
-    well
+    let status = carry_out_all(rt, row.of(WORDS), amiss, &notes, &mut errors, commands);
+    let is_noted = is_opened(rt, row, &notes) & is_printed(rt, row, &notes);
+    let is_told = is_said(rt, row, TOLD, "told", &errors.into_inner());
+    is_noted & is_told & has_status(rt, row, status)
 }
 
 /// Whether this status is the row's.
@@ -119,13 +152,15 @@ fn has_status<R: Print>(rt: &R, row: &Row, status: u8) -> bool {
         || tell(rt, row, "status", &[b'0'.saturating_add(status)])
 }
 
+/// Whether the files that were opened, each behind a blank, are the row's.
+fn is_opened_as<R: Print>(rt: &R, row: &Row, opened: &[u8]) -> bool {
+    opened.trim_ascii_start() == row.of(OPENED).as_bytes() || tell(rt, row, "opened", opened)
+}
+
 /// Whether the files that were opened are the row's.
 fn is_opened<R: Print>(rt: &R, row: &Row, notes: &Notes) -> bool {
     match notes.opened.try_borrow() {
-        Ok(opened) => {
-            opened.as_slice().trim_ascii_start() == row.of(OPENED).as_bytes()
-                || tell(rt, row, "opened", &opened)
-        }
+        Ok(opened) => is_opened_as(rt, row, &opened),
         Err(_) => false,
     }
 }
@@ -164,8 +199,8 @@ fn is_said<R: Print + AllocGlobal>(
 
 /// Whether a file of a row is made anew.
 fn is_made(row: &Row, path: &str) -> bool {
-    for made in row.files(MADE) {
-        if row.kept(made).0 == path {
+    for place in 0..row.count(MADE) {
+        if path_of(row.file(MADE, place)) == path {
             return true;
         }
     }
@@ -173,18 +208,17 @@ fn is_made(row: &Row, path: &str) -> bool {
 }
 
 /// Whether a file has its bytes.
-fn has_bytes<R: Files + AllocGlobal>(rt: &R, row: &Row, path: &str, stored: &str) -> bool {
+fn has_bytes<R: Files + AllocGlobal>(rt: &R, row: &Row, file: &str) -> bool {
     let mut wanted = Vec::new(rt.alloc());
     let mut found = Vec::new(rt.alloc());
-    put_bytes(rt, row, stored, &mut wanted)
-        && put_file(rt, path, &mut found)
+    put_bytes(rt, row, row.stored(file), &mut wanted)
+        && put_file(rt, path_of(file), &mut found)
         && found.as_slice() == wanted.as_slice()
 }
 
 /// Whether a file is as it should be.
 fn is_file<R: Files + Print + AllocGlobal>(rt: &R, row: &Row, file: &str) -> bool {
-    let (path, stored) = row.kept(file);
-    has_bytes(rt, row, path, stored) || tell_file(rt, row, path)
+    has_bytes(rt, row, file) || tell_file(rt, row, path_of(file))
 }
 
 /// Prints a file that is not as it should be.
@@ -202,44 +236,55 @@ fn files_in<R: Files + AllocGlobal + Clone + Drop>(rt: &R) -> usize {
     }
 }
 
-/// Whether the files that a row makes are as they should be, and those that it leaves.
-fn are_files<R: Files + Print + AllocGlobal>(rt: &R, row: &Row) -> Option<usize> {
-    let mut count = 0usize;
-    for file in row.files(MADE) {
-        if !is_file(rt, row, file) {
-            return None;
-        }
-        count = count.saturating_add(1);
+/// Whether the files that a row makes are as they should be.
+fn are_made<R: Files + Print + AllocGlobal>(rt: &R, row: &Row) -> bool {
+    let mut well = true;
+    for place in 0..row.count(MADE) {
+        well &= is_file(rt, row, row.file(MADE, place));
     }
-    for file in row.files(FILES) {
-        if !is_made(row, row.kept(file).0) {
-            if !is_file(rt, row, file) {
-                return None;
-            }
-            count = count.saturating_add(1);
-        }
+    well
+}
+
+/// Whether the files that a row leaves are as they should be.
+fn are_left<R: Files + Print + AllocGlobal>(rt: &R, row: &Row) -> bool {
+    let mut well = true;
+    for place in 0..row.count(FILES) {
+        let file = row.file(FILES, place);
+        well &= is_made(row, path_of(file)) || is_file(rt, row, file);
     }
-    Some(count)
+    well
+}
+
+/// How many files there are that a row makes or leaves.
+fn count_files(row: &Row) -> usize {
+    let mut count = row.count(MADE);
+    for place in 0..row.count(FILES) {
+        let is_left = !is_made(row, path_of(row.file(FILES, place)));
+        count = count.saturating_add(usize::from(is_left));
+    }
+    count
 }
 
 /// Whether the folder has the files that it should have, and no other beside those that were there before.
 fn has_its_files<R: Files + Print + AllocGlobal + Clone + Drop>(
     rt: &R,
     row: &Row,
-    before: usize,
+    others: usize,
 ) -> bool {
-    match are_files(rt, row) {
-        Some(count) => files_in(rt) == before.saturating_add(count),
-        None => false,
+    are_made(rt, row)
+        && are_left(rt, row)
+        && files_in(rt) == others.saturating_add(count_files(row))
+}
+
+/// Removes the files behind a word.
+fn clear_behind<R: Files>(rt: &R, row: &Row, word: &str) {
+    for place in 0..row.count(word) {
+        let _ = fs::remove_file(rt, path_of(row.file(word, place)));
     }
 }
 
 /// Removes the files of a row.
 fn clear<R: Files>(rt: &R, row: &Row) {
-    for file in row.files(MADE) {
-        let _ = fs::remove_file(rt, row.kept(file).0);
-    }
-    for file in row.files(FILES) {
-        let _ = fs::remove_file(rt, row.kept(file).0);
-    }
+    clear_behind(rt, row, MADE);
+    clear_behind(rt, row, FILES);
 }

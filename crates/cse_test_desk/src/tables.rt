@@ -1,12 +1,19 @@
 //! Tables of rows, carried out.
 
-use crate::block::{Row, Shared, has_words, is_row};
+use crate::block::{Row, is_row};
+use crate::cut::{before, behind, parts};
 use crate::row::{Commands, is_right};
 use std::fs;
 use std::rt::Files;
 
 /// The tables, a path a line.
 const TABLES: &str = "rows/tables.txt";
+
+/// What stands between two blocks.
+const BLOCK: &str = "\n\n";
+
+/// What stands before a block whose first line is a comment.
+const PART: &str = "\n\n#";
 
 /// Carries out the rows of all tables. In these `usage` stands for a text.
 pub fn show_tables<R: Files + Print + AllocGlobal + Clone + Drop, C: Commands>(
@@ -15,9 +22,21 @@ pub fn show_tables<R: Files + Print + AllocGlobal + Clone + Drop, C: Commands>(
     commands: &C,
 ) {
     if let Ok(paths) = fs::read_to_string(rt, TABLES) {
-        for path in paths.lines() {
-            show_table(rt, path, usage, commands);
-        }
+        show_paths(rt, &paths, usage, commands);
+    }
+}
+
+/// Carries out the rows of tables with these paths, each with a line end.
+fn show_paths<R: Files + Print + AllocGlobal + Clone + Drop, C: Commands>(
+    rt: &R,
+    paths: &str,
+    usage: &str,
+    commands: &C,
+) {
+    let mut rest = paths;
+    for _ in 1..parts(paths, "\n") {
+        show_table(rt, before(rest, "\n"), usage, commands);
+        rest = behind(rest, "\n");
     }
 }
 
@@ -42,27 +61,46 @@ fn right_rows<R: Files + Print + AllocGlobal + Clone + Drop, C: Commands>(
     usage: &str,
     commands: &C,
 ) -> usize {
-    let (all, _) = text.split_once("\n\n").unwrap_or((text, ""));
+    let mut row = Row::new(rt.alloc());
+    if row.set_all(before(text, BLOCK), usage) {
+        right_in(rt, &mut row, text, commands)
+    } else {
+        0
+    }
+}
+
+/// How many rows of a text are as they should be, by what all share.
+fn right_in<R: Files + Print + AllocGlobal + Clone + Drop, C: Commands>(
+    rt: &R,
+    row: &mut Row,
+    text: &str,
+    commands: &C,
+) -> usize {
     let mut right = 0usize;
-    for rows in text.split("\n\n#") {
-        if let Some((part, rows)) = rows.split_once("\n\n") {
-            let shared = Shared { part, all, usage };
-            right = right.saturating_add(right_below(rt, shared, rows, commands));
-        }
+    let mut rest = text;
+    for _ in 0..parts(text, PART) {
+        right = right.saturating_add(right_below(rt, row, before(rest, PART), commands));
+        rest = behind(rest, PART);
     }
     right
 }
 
-/// How many rows below a comment are as they should be, by what they share.
+/// How many rows are as they should be of blocks of which the first says what the others share.
 fn right_below<R: Files + Print + AllocGlobal + Clone + Drop, C: Commands>(
     rt: &R,
-    shared: Shared<'_>,
-    rows: &str,
+    row: &mut Row,
+    blocks: &str,
     commands: &C,
 ) -> usize {
+    if !row.set_part(before(blocks, BLOCK)) {
+        return 0;
+    }
     let mut right = 0usize;
-    for own in rows.split("\n\n") {
-        right = right.saturating_add(usize::from(is_well(rt, own, shared, commands)));
+    let mut rest = blocks;
+    for _ in 1..parts(blocks, BLOCK) {
+        rest = behind(rest, BLOCK);
+        let well = is_well(rt, row, before(rest, BLOCK), commands);
+        right = right.saturating_add(usize::from(well));
     }
     right
 }
@@ -70,11 +108,11 @@ fn right_below<R: Files + Print + AllocGlobal + Clone + Drop, C: Commands>(
 /// Whether a block is a row that is as it should be. Prints its first line where it isn't.
 fn is_well<R: Files + Print + AllocGlobal + Clone + Drop, C: Commands>(
     rt: &R,
+    row: &mut Row,
     own: &str,
-    shared: Shared<'_>,
     commands: &C,
 ) -> bool {
-    let well = is_row(own) && has_words(shared.part) && is_right_by(rt, own, shared, commands);
+    let well = is_row(own) && row.has_words() && row.set_own(own) && is_right(rt, row, commands);
     if !well {
         tell_row(rt, own);
     }
@@ -83,18 +121,5 @@ fn is_well<R: Files + Print + AllocGlobal + Clone + Drop, C: Commands>(
 
 /// Prints that a row is not as it should be.
 fn tell_row<R: Print>(rt: &R, own: &str) {
-    let _ = println!(rt; "{}: not as it should be", own.lines().next().unwrap_or(""));
-}
-
-/// Whether a row is as it should be, by its lines and what it shares.
-fn is_right_by<R: Files + Print + AllocGlobal + Clone + Drop, C: Commands>(
-    rt: &R,
-    own: &str,
-    shared: Shared<'_>,
-    commands: &C,
-) -> bool {
-    match Row::new(rt.alloc(), own, shared) {
-        Ok(row) => is_right(rt, &row, commands),
-        Err(_) => false,
-    }
+    let _ = println!(rt; "{}: not as it should be", before(own, "\n"));
 }

@@ -4,7 +4,11 @@
 //! times, without these signs; `\#` in it is the number of the turn, from 0 on, and `\@` the same in two bytes, the lower one
 //! first. A line that begins with `\:` is bytes, two digits each with blanks between them, and has no line end.
 
+use crate::cut::{before, behind, parts, word_at, words};
 use itoa::Buffer;
+
+/// What a line of a text begins with, behind the end of the one before it.
+const LINE: &str = "\n    |";
 
 /// Puts a byte.
 fn put_byte(into: &mut Vec<u8>, byte: u8) -> bool {
@@ -47,36 +51,40 @@ fn put_code(into: &mut Vec<u8>, text: &str) -> bool {
 /// Puts bytes.
 fn put_bytes(into: &mut Vec<u8>, bytes: &str) -> bool {
     let mut well = true;
-    for digits in bytes.split_ascii_whitespace() {
-        well &= put_digits(into, digits);
+    for place in 0..words(bytes) {
+        well &= put_digits(into, word_at(bytes, place));
     }
     well
 }
 
+/// Puts what a sign behind a `\` stands for.
+fn put_sign(into: &mut Vec<u8>, sign: &str, turn: u32) -> bool {
+    match sign {
+        "r" => put_byte(into, b'\r'),
+        "n" => put_byte(into, b'\n'),
+        "t" => put_byte(into, b'\t'),
+        "#" => put_number(into, turn),
+        "@" => put_short(into, turn),
+        _ => false,
+    }
+}
+
 /// Puts what stands behind a `\`.
 fn put_escape(into: &mut Vec<u8>, text: &str, turn: u32) -> bool {
-    let Some((sign, rest)) = text.split_at_checked(1) else {
-        return false;
-    };
-    match sign {
-        "r" => put_byte(into, b'\r') && put(into, rest),
-        "n" => put_byte(into, b'\n') && put(into, rest),
-        "t" => put_byte(into, b'\t') && put(into, rest),
-        "#" => put_number(into, turn) && put(into, rest),
-        "@" => put_short(into, turn) && put(into, rest),
-        "x" => put_code(into, rest),
-        _ => false,
+    match text.split_at_checked(1) {
+        Some(("x", rest)) => put_code(into, rest),
+        Some((sign, rest)) => put_sign(into, sign, turn) && put(into, rest),
+        None => false,
     }
 }
 
 /// Puts a line without its end.
 fn put_pieces(into: &mut Vec<u8>, line: &str, turn: u32) -> bool {
-    let (front, escapes) = line.split_once('\\').unwrap_or((line, ""));
-    let mut well = put(into, front);
-    if !escapes.is_empty() {
-        for escape in escapes.split('\\') {
-            well &= put_escape(into, escape, turn);
-        }
+    let mut well = put(into, before(line, "\\"));
+    let mut rest = line;
+    for _ in 1..parts(line, "\\") {
+        rest = behind(rest, "\\");
+        well &= put_escape(into, before(rest, "\\"), turn);
     }
     well
 }
@@ -122,12 +130,19 @@ fn put_often(into: &mut Vec<u8>, times: u32, line: &str) -> bool {
     put_once(into, line, 0) && put_same(into, start, times)
 }
 
-/// Puts a line that stands there several times.
-fn put_repeated(into: &mut Vec<u8>, line: &str) -> bool {
-    let (times, line) = line.split_once(' ').unwrap_or(("", ""));
+/// Puts a line as often as digits say.
+fn put_times(into: &mut Vec<u8>, times: &str, line: &str) -> bool {
     match times.parse::<u32>() {
         Ok(times) => put_often(into, times, line),
         Err(_) => false,
+    }
+}
+
+/// Puts a line that stands there several times.
+fn put_repeated(into: &mut Vec<u8>, line: &str) -> bool {
+    match line.split_once(' ') {
+        Some((times, line)) => put_times(into, times, line),
+        None => false,
     }
 }
 
@@ -141,24 +156,23 @@ fn put_line(into: &mut Vec<u8>, line: &str) -> bool {
 
 /// Puts the line that a piece of a text begins with. Answers whether no indented line stands behind it.
 fn put_front(into: &mut Vec<u8>, piece: &str) -> bool {
-    let (line, rest) = piece.split_once('\n').unwrap_or((piece, ""));
-    put_line(into, line) & !rest.starts_with(' ')
+    put_line(into, before(piece, "\n")) && ends(piece)
 }
 
-/// Puts the lines of a text, which begins with the first of them.
-fn put_all(into: &mut Vec<u8>, text: &str) -> bool {
-    let mut well = true;
-    for piece in text.split("\n    |") {
-        well &= put_front(into, piece);
-    }
-    well
+/// Whether no indented line stands behind the line that a piece of a text begins with.
+fn ends(piece: &str) -> bool {
+    !behind(piece, "\n").starts_with(' ')
 }
 
 /// Puts the text that stands behind its first line, up to the next word. Answers whether it is one.
 pub fn put_text(into: &mut Vec<u8>, lines: &str) -> bool {
-    let (front, text) = lines.split_once("\n    |").unwrap_or((lines, ""));
-    let (_, rest) = front.split_once('\n').unwrap_or((front, ""));
-    !rest.starts_with(' ') && (front.len() == lines.len() || put_all(into, text))
+    let mut well = ends(before(lines, LINE));
+    let mut rest = lines;
+    for _ in 1..parts(lines, LINE) {
+        rest = behind(rest, LINE);
+        well &= put_front(into, before(rest, LINE));
+    }
+    well
 }
 
 /// Puts a line, perhaps indented, with a line end.
@@ -166,11 +180,22 @@ fn put_indented(into: &mut Vec<u8>, line: &str) -> bool {
     put(into, line.trim_start()) && put_byte(into, b'\n')
 }
 
+/// How many lines a text has that has no line end behind the last.
+fn count_lines(text: &str) -> usize {
+    if text.is_empty() {
+        0
+    } else {
+        parts(text, "\n")
+    }
+}
+
 /// Puts lines, perhaps indented, each with a line end.
 pub fn put_lines(into: &mut Vec<u8>, lines: &str) -> bool {
     let mut well = true;
-    for line in lines.lines() {
-        well &= put_indented(into, line);
+    let mut rest = lines;
+    for _ in 0..count_lines(lines) {
+        well &= put_indented(into, before(rest, "\n"));
+        rest = behind(rest, "\n");
     }
     well
 }
